@@ -1,0 +1,5 @@
+pub mod Places
+pub mod Addressed
+pub mod Openings
+pub mod LawProofs
+pub mod Examples

@@ -1,0 +1,31 @@
+//! What an RDS encoder keeps: one to eight data sets with the same one to eight programme services each, the texts of
+//! each service, and one queue of free-format groups.
+//!
+//! A store is changed by elements and by whole messages, and answers each with a code. It knows no frames, no
+//! counters and no replies, and it schedules no groups. `RdsStore` is the store; `Service`, `RadioText` and `Group`
+//! are what it lends. All memory is taken by `RdsStore::new`.
+//!
+//! The law to rely on: an element is put whole or not at all. Where the code is not 00 nothing has changed; where it
+//! is 00 each place that the element names has its content, and no other place has changed (`laws`).
+#![tactic(auto)]
+
+mod fault;
+mod group;
+pub mod laws;
+mod named;
+mod opening;
+mod putting;
+mod row;
+mod rules;
+mod service;
+mod store;
+mod text;
+
+pub use fault::StoreFault;
+pub use group::Group;
+pub use service::Service;
+pub use store::RdsStore;
+pub use text::RadioText;
+
+#[cfg(test)]
+mod tests;

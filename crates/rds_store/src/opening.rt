@@ -1,0 +1,55 @@
+//! The opening store: what is asked of its sets and services, and its rows. Source: profile.
+ghost use Rattle.std.specs.Prelude.{◌≡◌, ◌≤◌, map, replicate, IfOk, false};
+ghost use Rattle.rds_store.specs.Content.{opening_service};
+ghost use Rattle.rds_store.specs.Opening.{fault_of, has_twice};
+
+use crate::fault::StoreFault;
+use crate::row::Row;
+use indexmap::IndexMap;
+use std::alloc::{AllocError, Global};
+
+fn has_twice(numbers: &[u8]) -> bool
+    ensures { result ≡ has_twice numbers.now }
+{
+    match numbers {
+        [] => false,
+        [first, rest @ ..] => rest.contains(first) || has_twice(rest),
+    }
+}
+
+/// Why there is no store of these sets and services, if so.
+pub(crate) fn fault_of(sets: u8, services: &[u8]) -> Option<StoreFault>
+    ensures { result ≡ fault_of sets services.now }
+{
+    if sets == 0 || sets > 8 {
+        return Some(StoreFault::SetCount);
+    }
+    if services.is_empty() || services.len() > 8 {
+        return Some(StoreFault::ServiceCount);
+    }
+    if services.contains(&0) {
+        return Some(StoreFault::ServiceZero);
+    }
+    if has_twice(services) {
+        return Some(StoreFault::ServiceTwice);
+    }
+    None
+}
+
+/// A row for each service, in their order.
+pub(crate) fn opening_rows(
+    alloc: Global,
+    sets: u8,
+    services: &[u8],
+) -> Result<IndexMap<u8, Row>, AllocError>
+    requires few { sets ≤ 8 }
+    requires once { has_twice services.now ≡ false }
+    ensures { IfOk result (λ m. m.entries ≡ map (λ n. (n, replicate sets opening_service)) services.now) }
+{
+    let mut rows = IndexMap::with_capacity(alloc, services.len())?;
+    for number in services {
+        let row = Row::new(alloc, sets)?;
+        rows.insert(*number, row)?;
+    }
+    Ok(rows)
+}

@@ -1,0 +1,151 @@
+//! How an element is put into a store. Source: RDS Forum SPB 490 for what a DSN and a PSN name, profile for the
+//! refusals.
+ghost use Rattle.std.specs.Prelude.{◌≡◌, ◌&&◌, false, Some};
+ghost use Rattle.uecp_elements.specs.Grammar as grammar;
+ghost use Rattle.uecp_elements.specs.View.{element_of};
+ghost use Rattle.rds_store.specs.Names.{address, names_set, is_dsn, service_of};
+ghost use Rattle.rds_store.specs.Content.{taken};
+ghost use Rattle.rds_store.specs.Refusals.{adds_text, has_full_set};
+ghost use Rattle.rds_store.specs.Put.{change_where, put};
+ghost use Rattle.rds_store.specs.Rows.{at_service};
+
+use crate::group::Group;
+use crate::named::Named;
+use crate::row::change_row;
+use crate::rules::{adds, adds_text, is_out_of_range, is_wrong_rule};
+use crate::store::RdsStore;
+use uecp_elements::{Code, Element};
+
+impl RdsStore {
+    /// Whether an element may have that DSN.
+    fn is_dsn(&self, dsn: u8) -> bool
+        ensures { result ≡ is_dsn self.now.sets dsn }
+    {
+        dsn <= self.sets || dsn == 0xfe || dsn == 0xff
+    }
+
+    /// The number of the service that a PSN names.
+    fn service_of(&self, psn: u8) -> Option<u8>
+        ensures { result ≡ service_of self.now.services psn }
+    {
+        if psn == 0 {
+            self.service_number(0)
+        } else if self.services.contains_key(&psn) {
+            Some(psn)
+        } else {
+            None
+        }
+    }
+
+    /// Whether the service has no room for a text in one of the sets that a DSN names.
+    fn has_full_set(&self, dsn: u8, number: u8) -> bool
+        ensures { result ≡ has_full_set self.now dsn number }
+    {
+        let named = Named {
+            dsn,
+            current: self.current,
+        };
+        match self.services.get(&number) {
+            Some(row) => row.is_full(named),
+            None => false,
+        }
+    }
+
+    /// The service takes the element's content in each set that a DSN names.
+    fn change(&mut self, dsn: u8, number: u8, element: &Element<'_>)
+        requires short { grammar.IsElement (element_of element.now) }
+        requires room { (adds_text (element_of element.now) && has_full_set self.old dsn number) ≡ false }
+        ensures { self.new ≡ record self.old {
+          places = change_where (at_service (names_set dsn self.old.current) number) (taken (element_of element.now)) self.old.places;
+        } }
+    {
+        let named = Named {
+            dsn,
+            current: self.current,
+        };
+        change_row(&mut self.services, number, named, element);
+    }
+
+    /// Puts an element that has this DSN and PSN.
+    fn put_at(&mut self, dsn: u8, psn: u8, element: &Element<'_>) -> Code
+        requires addressed { address (element_of element.now) ≡ Some (dsn, psn) }
+        requires short { grammar.IsElement (element_of element.now) }
+        ensures { (self.new, result) ≡ put self.old (element_of element.now) }
+    {
+        if !self.is_dsn(dsn) {
+            return Code::DataSet;
+        }
+        let Some(number) = self.service_of(psn) else {
+            return Code::Service;
+        };
+        if is_out_of_range(element) {
+            return Code::OutOfRange;
+        }
+        if adds_text(element) && self.has_full_set(dsn, number) {
+            return Code::BufferFull;
+        }
+        self.change(dsn, number, element);
+        Code::Applied
+    }
+
+    /// Makes a set current; 00 keeps the one that is. There are at most 8 sets, so FE and FF are no set's numbers.
+    fn select(&mut self, dsn: u8) -> Code
+        ensures { (self.new, result) ≡ put self.old (grammar.Select dsn) }
+    {
+        if dsn > self.sets {
+            return Code::DataSet;
+        }
+        if dsn != 0 {
+            self.current = dsn;
+        }
+        Code::Applied
+    }
+
+    /// Queues a group by the buffer rule in its mode.
+    fn queue(&mut self, kind: u8, mode: u8, block3: u16, block4: u16) -> Code
+        ensures { (self.new, result) ≡ put self.old (grammar.Group kind mode block3 block4) }
+    {
+        if kind > 0x1f || is_wrong_rule(mode) {
+            return Code::OutOfRange;
+        }
+        if adds(mode) && self.groups.is_full() {
+            return Code::BufferFull;
+        }
+        if !adds(mode) {
+            self.groups.clear();
+        }
+        match self.groups.try_push(Group {
+            kind,
+            bits: mode % 32,
+            block3,
+            block4,
+        }) {
+            Ok(()) => {}
+            Err(_) => unreachable!(),
+        }
+        Code::Applied
+    }
+
+    /// Puts one element.
+    pub(crate) fn put(&mut self, element: &Element<'_>) -> Code
+        requires { grammar.IsElement (element_of element.now) }
+        ensures { (self.new, result) ≡ put self.old (element_of element.now) }
+    {
+        match *element {
+            Element::Ack { .. } => Code::NotHere,
+            Element::Select { dsn } => self.select(dsn),
+            Element::Group {
+                kind,
+                mode,
+                block3,
+                block4,
+            } => self.queue(kind, mode, block3, block4),
+            Element::Pi { dsn, psn, .. } => self.put_at(dsn, psn, element),
+            Element::Ps { dsn, psn, .. } => self.put_at(dsn, psn, element),
+            Element::TaTp { dsn, psn, .. } => self.put_at(dsn, psn, element),
+            Element::Ms { dsn, psn, .. } => self.put_at(dsn, psn, element),
+            Element::Pty { dsn, psn, .. } => self.put_at(dsn, psn, element),
+            Element::Rt { dsn, psn, .. } => self.put_at(dsn, psn, element),
+        }
+    }
+}

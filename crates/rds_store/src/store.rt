@@ -1,0 +1,160 @@
+//! The store. Source: RDS Forum SPB 490 for data sets and programme services, profile for the limits.
+ghost use Rattle.std.specs.Prelude.{◌≡◌, ◌==◌, ◌&&◌, nat_le, is_some, false, ◌≤◌, length, slice_get, IfOk, IfErr, unwrap_or, None};
+ghost use Rattle.std.specs.Option.{option_copied};
+ghost use Rattle.std.specs.List.{list_any};
+ghost use Rattle.std.specs.FinMap.{get};
+ghost use Rattle.uecp_elements.specs.Grammar as grammar;
+ghost use Rattle.uecp_elements.specs.View.{element_of};
+ghost use Rattle.rds_store.specs.Put.{put};
+ghost use Rattle.rds_store.specs.Step.{step};
+ghost use Rattle.rds_store.specs.Opening.{opening, fault_of};
+
+use crate::fault::StoreFault;
+use crate::group::Group;
+use crate::opening::{fault_of, opening_rows};
+use crate::row::Row;
+use crate::service::Service;
+use arrayvec::ArrayVec;
+use indexmap::IndexMap;
+use std::alloc::{AllocError, Global};
+use std::marker::Model;
+use uecp_elements::{Code, Element, elements};
+
+/// Data sets with the same services each, and one queue of groups.
+///
+/// A clause sees the number of sets, the services in configured order, the current set, what each service has in each
+/// set, as a map from both numbers, and the groups.
+#[derive(Drop)]
+pub struct RdsStore {
+    /// The number of data sets, 1 to 8.
+    pub(crate) sets: u8,
+    /// The current data set, counted from 1.
+    pub(crate) current: u8,
+    /// A row for each service, in configured order.
+    pub(crate) services: IndexMap<u8, Row>,
+    /// The groups that wait, first to go out first.
+    pub(crate) groups: ArrayVec<Group, 32>,
+}
+
+impl Model for RdsStore {
+    ghost use Rattle.indexmap.specs.IndexMap.{keys};
+    ghost use Rattle.std.specs.FinMap.{from_entries};
+    ghost use Rattle.rds_store.specs.Value.{Store, coded_store};
+    ghost use Rattle.rds_store.specs.Rows.{placed, HasShape};
+
+    ghost Value = { Store };
+
+    ghost coded = { coded_store };
+
+    ghost view = { λ r. record { sets = r.sets; services = keys r.services; current = r.current; places = from_entries (placed r.services.entries); groups = r.groups.items } };
+
+    ghost invariant = { λ r. HasShape r.sets r.services.entries };
+}
+
+impl RdsStore {
+    /// The opening store of 1 to 8 data sets and 1 to 8 services, whose numbers are listed with the main service first.
+    ///
+    /// All memory that a store ever has is taken here. The faults are looked for in the order in which `StoreFault`
+    /// lists them, and `OutOfMemory` is answered only where memory was refused.
+    pub fn new(alloc: Global, sets: u8, services: &[u8]) -> Result<RdsStore, StoreFault>
+        ensures allowed { IfOk result (λ v. fault_of sets services.now ≡ None) }
+        ensures opening { IfOk result (λ v. v ≡ opening sets services.now) }
+        ensures first_fault { IfErr result (λ f. f ≡ unwrap_or (fault_of sets services.now) StoreFault.OutOfMemory) }
+    {
+        if let Some(fault) = fault_of(sets, services) {
+            return Err(fault);
+        }
+        match RdsStore::opened(alloc, sets, services) {
+            Ok(store) => Ok(store),
+            Err(_) => Err(StoreFault::OutOfMemory),
+        }
+    }
+
+    fn opened(alloc: Global, sets: u8, services: &[u8]) -> Result<RdsStore, AllocError>
+        requires { fault_of sets services.now ≡ None }
+        ensures { IfOk result (λ v. v ≡ opening sets services.now) }
+    {
+        Ok(RdsStore {
+            sets,
+            current: 1,
+            services: opening_rows(alloc, sets, services)?,
+            groups: ArrayVec::new(),
+        })
+    }
+
+    /// Puts one element, whole or not at all, and answers its code.
+    ///
+    /// The refusals are asked in the order 09, 04, 05, 06, 0B, also where the DSN names no set. After a code but 00
+    /// nothing has changed. A text of the element has at most 64 bytes.
+    pub fn apply_element(&mut self, element: &Element<'_>) -> Code
+        requires { grammar.IsElement (element_of element.now) }
+        ensures { (self.new, result) ≡ put self.old (element_of element.now) }
+    {
+        self.put(element)
+    }
+
+    /// Puts the elements of a message in turn, up to the first that is refused or does not read, and answers the code
+    /// of that one, or 00. What came before it stays.
+    #[tactic(auto, unfolding(uecp_elements::specs::Folding::folded))]
+    pub fn apply(&mut self, message: &[u8]) -> Code
+        ensures { (self.new, result) ≡ step self.old message.now }
+    {
+        for item in elements(message) {
+            match item {
+                Ok(element) => match self.put(&element) {
+                    Code::Applied => {}
+                    refused => return refused,
+                },
+                Err(fault) => return fault.code,
+            }
+        }
+        Code::Applied
+    }
+
+    /// The current data set, counted from 1. It is 1 at the start.
+    pub fn current(&self) -> u8
+        ensures { result ≡ self.now.current }
+    {
+        self.current
+    }
+
+    /// How many data sets there are, 1 to 8.
+    pub fn set_count(&self) -> u8
+        ensures { result ≡ self.now.sets }
+    {
+        self.sets
+    }
+
+    /// The number of the service at a place of the configured order, counted from 0; None exactly from the number of
+    /// services on.
+    pub fn service_number(&self, place: usize) -> Option<u8>
+        ensures { result ≡ slice_get self.now.services place }
+    {
+        match self.services.get_index(place) {
+            Some((number, _)) => Some(*number),
+            None => None,
+        }
+    }
+
+    /// What the service of that number has in a data set, which is counted from 1.
+    ///
+    /// None for a set or a number that is not there. The numbers are not those of an element: 00 is neither the
+    /// current set nor the main service.
+    pub fn service(&self, set: u8, psn: u8) -> Option<&Service>
+        ensures value { option_copied result ≡ get self.now.places (set, psn) }
+        ensures there { is_some result ≡ (list_any (λ s. psn == s) self.now.services && (nat_le 1 set && nat_le set self.now.sets)) }
+        ensures zero { psn ≡ 0x00 → is_some result ≡ false }
+    {
+        match self.services.get(&psn) {
+            Some(row) => row.get(set),
+            None => None,
+        }
+    }
+
+    /// The groups that wait, at most 32, first to go out first.
+    pub fn groups(&self) -> &[Group]
+        ensures { result.now ≡ self.now.groups }
+    {
+        self.groups.as_slice()
+    }
+}

@@ -1,0 +1,213 @@
+use crate::{Group, RdsStore, Service, StoreFault};
+use std::process::Abort;
+use std::test::Fail;
+use uecp_elements::{Code, Element};
+
+/// A message, and the code with which it is answered.
+type Row<'a> = (&'a [u8], Code);
+
+/// Adds the text "HI" for the main service of the current set.
+const ADD: [u8; 7] = [0x0a, 0x00, 0x00, 0x03, 0x40, 0x48, 0x49];
+
+fn answers(rt: &impl Abort, store: &mut RdsStore, rows: &[Row<'_>]) {
+    for (message, code) in rows {
+        assert_eq!(rt; store.apply(message), *code);
+    }
+}
+
+/// How many texts service 01 has in a set; 99 where the set is not there.
+fn texts_of(store: &RdsStore, set: u8) -> usize {
+    store
+        .service(set, 0x01)
+        .map_or(99, |service| service.texts().len())
+}
+
+fn pi_of(store: &RdsStore, set: u8) -> Option<u16> {
+    store.service(set, 0x01).map(Service::pi)
+}
+
+#[test]
+fn one_full_set_refuses_a_text_for_all_sets(rt: HostRuntime) -> Result<(), Fail> {
+    let mut store = RdsStore::new(rt.alloc(), 2, &[0x01])?;
+    let to_set_2 = [0x0a, 0x02, 0x00, 0x03, 0x40, 0x48, 0x49];
+    for _ in 0..8 {
+        answers(&rt, &mut store, &[(&to_set_2, Code::Applied)]);
+    }
+    assert_eq!(rt; texts_of(&store, 2), 8);
+    let to_all = [0x0a, 0xff, 0x00, 0x03, 0x40, 0x48, 0x49];
+    answers(&rt, &mut store, &[(&to_all, Code::BufferFull)]);
+    assert_eq!(rt; texts_of(&store, 1), 0);
+    assert_eq!(rt; texts_of(&store, 2), 8);
+    Ok(())
+}
+
+#[test]
+fn all_but_the_current_of_one_set_is_no_set_and_no_refusal(rt: HostRuntime) -> Result<(), Fail> {
+    let mut store = RdsStore::new(rt.alloc(), 1, &[0x01])?;
+    let rows: [Row<'_>; 3] = [
+        (&[0x01, 0xfe, 0x00, 0x12, 0x34], Code::Applied),
+        (&[0x01, 0xfe, 0x05, 0x12, 0x34], Code::Service),
+        (&[0x07, 0xfe, 0x00, 0x20], Code::OutOfRange),
+    ];
+    answers(&rt, &mut store, &rows);
+    assert_eq!(rt; pi_of(&store, 1), Some(0));
+    Ok(())
+}
+
+#[test]
+fn what_came_before_an_unknown_element_stays(rt: HostRuntime) -> Result<(), Fail> {
+    let mut store = RdsStore::new(rt.alloc(), 1, &[0x01])?;
+    let message = [0x01, 0x00, 0x00, 0x12, 0x34, 0x99];
+    answers(&rt, &mut store, &[(&message, Code::UnknownElement)]);
+    assert_eq!(rt; pi_of(&store, 1), Some(0x1234));
+    Ok(())
+}
+
+#[test]
+fn texts_that_are_empty_removed_cut_or_of_a_wrong_rule(rt: HostRuntime) -> Result<(), Fail> {
+    let mut store = RdsStore::new(rt.alloc(), 1, &[0x01])?;
+    let rows: [(Row<'_>, usize); 7] = [
+        ((&[0x0a, 0x00, 0x00, 0x01, 0x00], Code::Applied), 1),
+        ((&[0x0a, 0x00, 0x00, 0x00], Code::Applied), 0),
+        ((&[0x0a, 0x00, 0x00, 0x42], Code::ElementLength), 0),
+        (
+            (&[0x0a, 0x00, 0x00, 0x03, 0x40, 0x48], Code::ElementLength),
+            0,
+        ),
+        ((&[0x0a, 0x00, 0x00, 0x01, 0x20], Code::OutOfRange), 0),
+        ((&[0x0a, 0x00, 0x00, 0x01, 0x60], Code::OutOfRange), 0),
+        ((&ADD, Code::Applied), 1),
+    ];
+    for (row, texts) in rows {
+        answers(&rt, &mut store, &[row]);
+        assert_eq!(rt; texts_of(&store, 1), texts);
+    }
+    Ok(())
+}
+
+#[test]
+fn groups_up_to_the_last_that_there_is_room_for(rt: HostRuntime) -> Result<(), Fail> {
+    let mut store = RdsStore::new(rt.alloc(), 1, &[0x01])?;
+    let add = [0x24, 0x00, 0x43, 0x12, 0x34, 0x56, 0x78];
+    let group = Group {
+        kind: 0x00,
+        bits: 0x03,
+        block3: 0x1234,
+        block4: 0x5678,
+    };
+    for count in 1..33 {
+        answers(&rt, &mut store, &[(&add, Code::Applied)]);
+        assert_eq!(rt; store.groups().len(), count);
+    }
+    assert_eq!(rt; store.groups().first().copied(), Some(group));
+    let late: [Row<'_>; 2] = [
+        (&add, Code::BufferFull),
+        (
+            &[0x24, 0x20, 0x40, 0x00, 0x00, 0x00, 0x00],
+            Code::OutOfRange,
+        ),
+    ];
+    answers(&rt, &mut store, &late);
+    assert_eq!(rt; store.groups().len(), 32);
+    let alone = [0x24, 0x00, 0x03, 0x12, 0x34, 0x56, 0x78];
+    answers(&rt, &mut store, &[(&alone, Code::Applied)]);
+    assert_eq!(rt; store.groups(), [group].as_slice());
+    Ok(())
+}
+
+#[test]
+fn sets_that_are_selected_named_or_not_there(rt: HostRuntime) -> Result<(), Fail> {
+    let mut store = RdsStore::new(rt.alloc(), 2, &[0x01])?;
+    let named: [Row<'_>; 3] = [
+        (&[0x1c, 0x02], Code::Applied),
+        (&[0x01, 0x00, 0x00, 0xab, 0xcd], Code::Applied),
+        (&[0x01, 0xfe, 0x00, 0x11, 0x11], Code::Applied),
+    ];
+    answers(&rt, &mut store, &named);
+    assert_eq!(rt; store.current(), 2);
+    assert_eq!(rt; pi_of(&store, 2), Some(0xabcd));
+    assert_eq!(rt; pi_of(&store, 1), Some(0x1111));
+    let refused: [Row<'_>; 7] = [
+        (&[0x1c, 0x03], Code::DataSet),
+        (&[0x1c, 0xfe], Code::DataSet),
+        (&[0x1c, 0x00], Code::Applied),
+        (&[0x07, 0x03, 0x05, 0xff], Code::DataSet),
+        (&[0x07, 0x01, 0x05, 0xff], Code::Service),
+        (&[0x07, 0x01, 0x00, 0x20], Code::OutOfRange),
+        (&[0x18, 0x00, 0x01], Code::NotHere),
+    ];
+    answers(&rt, &mut store, &refused);
+    assert_eq!(rt; store.current(), 2);
+    Ok(())
+}
+
+#[test]
+fn sets_and_services_that_make_no_store(rt: HostRuntime) -> Result<(), Fail> {
+    let rows: [(u8, &[u8], StoreFault, u8, &str); 4] = [
+        (9, &[], StoreFault::SetCount, 1, "SetCount"),
+        (1, &[], StoreFault::ServiceCount, 2, "ServiceCount"),
+        (1, &[1, 1, 0], StoreFault::ServiceZero, 3, "ServiceZero"),
+        (1, &[1, 1], StoreFault::ServiceTwice, 4, "ServiceTwice"),
+    ];
+    for (sets, services, fault, number, name) in rows {
+        assert_eq!(rt;
+            RdsStore::new(rt.alloc(), sets, services).err(),
+            Some(fault)
+        );
+        assert_eq!(rt; fault.number(), number);
+        assert_eq!(rt; fault.name(), name);
+    }
+    Ok(())
+}
+
+#[test]
+fn a_new_store_shows_its_sets_and_services(rt: HostRuntime) -> Result<(), Fail> {
+    let store = RdsStore::new(rt.alloc(), 8, &[0x05, 0x02])?;
+    assert_eq!(rt; store.set_count(), 8);
+    assert_eq!(rt;
+        (store.service_number(0), store.service_number(1)),
+        (Some(0x05), Some(0x02))
+    );
+    assert_eq!(rt; store.service_number(2), None);
+    assert!(rt; store.service(1, 0x00).is_none() && store.service(9, 0x02).is_none());
+    let Some(new) = store.service(8, 0x02) else {
+        return Err("no service".into());
+    };
+    assert_eq!(rt; (new.pi(), new.pty(), new.texts().len()), (0, 0, 0));
+    assert_eq!(rt; new.ps(), b"        ");
+    assert!(rt; !new.tp() && !new.ta() && !new.music() && store.groups().is_empty());
+    assert_eq!(rt; store.current(), 1);
+    Ok(())
+}
+
+#[test]
+fn a_service_shows_what_its_elements_told(rt: HostRuntime) -> Result<(), Fail> {
+    let mut store = RdsStore::new(rt.alloc(), 8, &[0x05, 0x02])?;
+    let rows: [Row<'_>; 4] = [
+        (b"\x02\x08\x02RADIO 1 ", Code::Applied),
+        (
+            &[0x03, 0x08, 0x02, 0xfd, 0x05, 0x08, 0x02, 0x01],
+            Code::Applied,
+        ),
+        (&[0x07, 0x08, 0x02, 0x1f], Code::Applied),
+        (&[0x0a, 0x08, 0x02, 0x03, 0x9f, 0x48, 0x49], Code::Applied),
+    ];
+    answers(&rt, &mut store, &rows);
+    let select = Element::Select { dsn: 0x08 };
+    assert_eq!(rt; store.apply_element(&select), Code::Applied);
+    assert_eq!(rt; store.current(), 8);
+    let Some(told) = store.service(8, 0x02) else {
+        return Err("no service".into());
+    };
+    assert_eq!(rt; told.ps(), b"RADIO 1 ");
+    assert_eq!(rt;
+        (told.tp(), told.ta(), told.music(), told.pty()),
+        (false, true, true, 0x1f)
+    );
+    let Some(text) = told.texts().first() else {
+        return Err("no text".into());
+    };
+    assert_eq!(rt; (text.toggle(), text.transmissions()), (true, 15));
+    assert_eq!(rt; text.text(), b"HI".as_slice());
+    Ok(())
+}

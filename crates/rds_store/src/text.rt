@@ -1,0 +1,68 @@
+//! RadioTexts. Source: RDS Forum SPB 490, RadioText; the bits of its first byte are the profile's.
+ghost use Rattle.std.specs.Prelude.{◌≡◌, ◌≤◌, ◌<◌, ◌/◌, ◌%◌, ◌==◌, ◌++◌, length};
+ghost use Rattle.rds_store.specs.Bits.{bit_0, bits_4_to_1};
+ghost use Rattle.rds_store.specs.Content.{text_told};
+
+use arrayvec::ArrayVec;
+use std::marker::Model;
+
+/// A text of a service, of at most 64 bytes. A clause sees its three parts.
+#[derive(Debug, Default, Drop)]
+pub struct RadioText {
+    /// Bit 0 of the first byte.
+    toggle: bool,
+    /// Bits 4 to 1 of the first byte.
+    transmissions: u8,
+    /// The bytes after the first.
+    text: ArrayVec<u8, 64>,
+}
+
+impl Model for RadioText {
+    ghost use Rattle.rds_store.specs.Value.{StoredText, coded_text};
+
+    ghost Value = { StoredText };
+
+    ghost coded = { coded_text };
+
+    ghost view = { λ t. record { toggle = t.toggle; transmissions = t.transmissions; bytes = t.text.items } };
+}
+
+impl RadioText {
+    /// The text that an element's first byte and the bytes after it tell.
+    pub(crate) fn new(head: u8, bytes: &[u8]) -> RadioText
+        requires { length bytes.now ≤ 64 }
+        ensures { result ≡ text_told head bytes.now }
+    {
+        let mut text = ArrayVec::new();
+        match text.try_extend_from_slice(bytes) {
+            Ok(()) => {}
+            Err(_) => unreachable!(),
+        }
+        RadioText {
+            toggle: head % 2 == 1,
+            transmissions: head / 2 % 16,
+            text,
+        }
+    }
+
+    /// The toggle, by which a receiver tells a new text from a repeated one.
+    pub fn toggle(&self) -> bool
+        ensures { result ≡ self.now.toggle }
+    {
+        self.toggle
+    }
+
+    /// How many times the text is to be sent, 0 to 15; 0 is without limit.
+    pub fn transmissions(&self) -> u8
+        ensures { result ≡ self.now.transmissions }
+    {
+        self.transmissions
+    }
+
+    /// The characters, 0 to 64 bytes of any value.
+    pub fn text(&self) -> &[u8]
+        ensures { result.now ≡ self.now.bytes }
+    {
+        self.text.as_slice()
+    }
+}

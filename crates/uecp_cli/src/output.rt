@@ -1,0 +1,125 @@
+//! The lines that a run writes (profile).
+ghost use Rattle.std.specs.Prelude.{◌≡◌, ◌==◌, ◌++◌, ◌↔◌, [], ◌∷◌, length, true, IsOk, OnOk, IsTrue, codes, decimal, if◌then◌else◌};
+ghost use Rattle.std.specs.Io.KnownBytes.{Appends};
+ghost use Rattle.hex.specs.Hex.{encode_upper};
+ghost use Rattle.uecp_frame.specs.Frame.{high_first};
+ghost use Rattle.uecp_cli.specs.Written.{Adds};
+
+use crate::run_fault::RunFault;
+use std::alloc::{AllocError, Global};
+use std::io::Write;
+
+/// What a run has to say, kept until it is written out. Once memory was refused it takes nothing more, so what it
+/// holds is always the beginning of the whole output.
+#[derive(Drop)]
+pub struct Output {
+    alloc: Global,
+    bytes: Vec<u8>,
+    is_whole: bool,
+}
+
+impl Output {
+    /// No output yet.
+    pub fn new(alloc: Global) -> Output
+        ensures empty { result.bytes.items ≡ [] }
+        ensures whole { result.is_whole ≡ true }
+    {
+        Output {
+            alloc,
+            bytes: Vec::new(alloc),
+            is_whole: true,
+        }
+    }
+
+    /// Adds the bytes as they are.
+    fn add(&mut self, bytes: &[u8])
+        ensures { Adds self.old self.new bytes.now }
+    {
+        if self.is_whole {
+            self.is_whole = self.bytes.extend_from_slice(bytes).is_ok();
+        }
+    }
+
+    /// Adds the text.
+    pub fn text(&mut self, text: &str)
+        ensures { Adds self.old self.new text.now }
+    {
+        self.add(text.as_bytes());
+    }
+
+    /// Adds two upper case digits for each byte, nothing for no bytes.
+    pub fn digits(&mut self, bytes: &[u8])
+        ensures { Adds self.old self.new (encode_upper bytes.now) }
+    {
+        match hex::encode_upper(self.alloc, bytes) {
+            Ok(digits) => self.add(digits.as_bytes()),
+            Err(_) => self.is_whole = false,
+        }
+    }
+
+    /// Adds a space and the two digits of the byte.
+    pub fn byte(&mut self, byte: u8)
+        ensures { Adds self.old self.new (codes " " ++ encode_upper (byte ∷ [])) }
+    {
+        self.text(" ");
+        self.digits(&[byte]);
+    }
+
+    /// Adds a space and the four digits of the number.
+    pub fn number(&mut self, number: u16)
+        ensures { Adds self.old self.new (codes " " ++ encode_upper (high_first number)) }
+    {
+        self.text(" ");
+        self.digits(&number.to_be_bytes());
+    }
+
+    /// Adds a space and the digits of the bytes, or `-` for no bytes.
+    pub fn row(&mut self, bytes: &[u8])
+        ensures { Adds self.old self.new (codes " " ++ (if length bytes.now == 0 then codes "-" else encode_upper bytes.now)) }
+    {
+        self.text(" ");
+        if bytes.is_empty() {
+            self.text("-");
+        } else {
+            self.digits(bytes);
+        }
+    }
+
+    /// Adds a space and the number in decimal.
+    pub fn decimal(&mut self, number: usize)
+        ensures { Adds self.old self.new (codes " " ++ decimal number) }
+    {
+        match format!(in self.alloc; " {number}") {
+            Ok(text) => self.text(text.as_str()),
+            Err(_) => self.is_whole = false,
+        }
+    }
+
+    /// Ends the line.
+    pub fn end(&mut self)
+        ensures { Adds self.old self.new (codes "\n") }
+    {
+        self.text("\n");
+    }
+
+    /// Whether all of the output so far was taken.
+    pub fn check(&self) -> Result<(), AllocError>
+        ensures { IsOk result ↔ IsTrue self.now.is_whole }
+    {
+        if self.is_whole {
+            Ok(())
+        } else {
+            Err(AllocError)
+        }
+    }
+
+    /// Writes out what was taken.
+    pub fn write_out<W: Write>(&self, writer: &mut W) -> Result<(), RunFault>
+        ensures { OnOk result (Appends (W.contents writer.old) (W.contents writer.new) self.now.bytes.items) }
+    {
+        match writer.write_all(self.bytes.as_slice()) {
+            Ok(()) => writer.flush().map_err(|_| RunFault::Writing),
+            Err(_) => Err(RunFault::Writing),
+        }
+    }
+}

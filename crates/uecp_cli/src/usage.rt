@@ -1,0 +1,37 @@
+//! Why a command line was refused (profile).
+use clap::Error;
+use clap::error::ErrorKind;
+use std::alloc::{AllocError, AllocFailed};
+
+/// Why a command line asks for no job.
+#[derive(Debug, Drop)]
+pub enum Usage {
+    /// The words are none of the program's, or ask for help or the version: the text is in the error.
+    Refused(Error),
+    /// The services are not two-digit hexadecimal numbers between single commas.
+    NotAList,
+    /// There was no memory to read the words.
+    OutOfMemory,
+}
+
+impl From<Error> for Usage {
+    fn from(error: Error) -> Usage {
+        if error.kind() == ErrorKind::OutOfMemory {
+            Usage::OutOfMemory
+        } else {
+            Usage::Refused(error)
+        }
+    }
+}
+
+impl From<AllocError> for Usage {
+    fn from(_error: AllocError) -> Usage {
+        Usage::OutOfMemory
+    }
+}
+
+impl<T: Drop> From<AllocFailed<T>> for Usage {
+    fn from(_error: AllocFailed<T>) -> Usage {
+        Usage::OutOfMemory
+    }
+}

@@ -1,0 +1,11 @@
+//! The fault that ends a reading. Source: profile.
+use crate::code::Code;
+
+/// Where no element could be read.
+#[derive(Clone, Copy, Debug, PartialEq, Eq)]
+pub struct ElementFault {
+    /// The place of the byte at which an element was to begin, counted from 0 in the message.
+    pub place: usize,
+    /// `UnknownElement` where no element begins with that byte, else `ElementLength`.
+    pub code: Code,
+}

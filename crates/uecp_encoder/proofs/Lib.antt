@@ -1,0 +1,4 @@
+pub mod Replies
+pub mod Feeding
+pub mod Repeating
+pub mod InPieces

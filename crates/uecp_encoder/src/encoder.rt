@@ -1,0 +1,125 @@
+//! The encoder's end of the line. Source: RDS Forum SPB 490, two-way mode; profile for the kept replies.
+ghost use Rattle.std.specs.Prelude.{◌≡◌, ◌<◌, ◌≤◌, ℕ, IsTrue, IfOk, IfErr, length, take};
+ghost use Rattle.std.specs.Borrow.{sem};
+ghost use Rattle.std.specs.Io.BufRead.{Rests};
+ghost use Rattle.uecp_frame.specs.Address.{is_exact};
+ghost use Rattle.uecp_frame.specs.Findings.{Closed};
+ghost use Rattle.uecp_encoder.specs.State.{opening, fed};
+ghost use Rattle.uecp_encoder.specs.Answering.{AnswersPiece};
+ghost use Rattle.uecp_encoder.specs.contracts.encoder.Encoder.{the_row};
+
+use crate::answer::{Answer, ReplyBytes, What};
+use crate::counts::Counts;
+use crate::holdings::{Holdings, Outcome};
+use crate::replying::reply_bytes;
+use crate::target::Target;
+use reply_ring::ReplyRing;
+use std::alloc::Global;
+use std::marker::Model;
+use uecp_frame::{Address, Deframer};
+
+/// There was no memory for an encoder. It hands back the target as it was given.
+#[derive(Debug, Drop)]
+pub struct EncoderFault<T> {
+    /// The target that was given.
+    pub target: T,
+}
+
+/// An encoder at its address: it applies each numbered message once, keeps the replies to the last 127, and answers a
+/// repeat with the kept one. Contracts see it as one value, `EncoderState`.
+#[derive(Drop)]
+pub struct Encoder<T: Target> {
+    /// Finds the frames in what is fed.
+    deframer: Deframer,
+    /// Address, target, kept replies and counts.
+    holdings: Holdings<T>,
+    /// The reply that was answered last, for lending it.
+    reply: ReplyBytes,
+}
+
+impl<T: Target> Model for Encoder<T> {
+    ghost use Rattle.uecp_encoder.specs.State.{EncoderState};
+    ghost use Rattle.uecp_encoder.specs.Holdings.{with_part};
+
+    ghost Value = { EncoderState T };
+
+    ghost view = { λ e. with_part e.holdings e.deframer };
+}
+
+impl<T: Target> Encoder<T> {
+    /// An encoder at this address, which is its own: neither part is 0. Nothing is kept, counted or open.
+    pub fn new(alloc: Global, address: Address, target: T) -> Result<Encoder<T>, EncoderFault<T>>
+        requires { IsTrue (is_exact address) }
+        ensures made { IfOk result (λ e. e ≡ opening address target) }
+        ensures handed_back { IfErr result (λ fault. fault.target ≡ target) }
+    {
+        match ReplyRing::new(alloc) {
+            Ok(ring) => Ok(Encoder {
+                deframer: Deframer::new(),
+                holdings: Holdings {
+                    address,
+                    target,
+                    ring,
+                    counts: Counts::default(),
+                },
+                reply: ReplyBytes::new(),
+            }),
+            Err(_) => Err(EncoderFault { target }),
+        }
+    }
+
+    /// Takes a piece of what comes over the line: uses its bytes up to and with the one that ends a segment, or all, and
+    /// answers what that brought. Send the reply if there is one, then feed the rest of the piece, until all is used.
+    pub fn feed(&mut self, piece: &[u8]) -> Answer<'_>
+        ensures fits { result.used ≤ length piece.now }
+        ensures moves { 0 < length piece.now → 0 < result.used }
+        ensures answers { AnswersPiece T.step self.old piece.now result }
+        ensures* after { sem 𝓛 (Rests (the_row T.row T.Target) self.entry (λ v. v ≡ fed T.step self.old (take result.used piece.now))) }
+    {
+        let fed = self.deframer.feed(piece);
+        let used = fed.used;
+        let what = match self.holdings.take(&fed.found) {
+            Outcome::Nothing => What::Nothing,
+            Outcome::Dropped(fault) => What::Dropped(fault),
+            Outcome::NotForMe => What::NotForMe,
+            Outcome::Unnumbered => What::Unnumbered,
+            Outcome::Reply {
+                code,
+                counter,
+                fresh,
+            } => {
+                self.reply = reply_bytes(self.holdings.address, code, counter);
+                What::Reply(&self.reply, fresh)
+            }
+        };
+        Answer { used, what }
+    }
+
+    /// Forgets a segment that has not ended, as where the line was lost. Nothing else changes.
+    pub fn line_lost(&mut self)
+        ensures { self.new ≡ record self.old { part = Closed } }
+    {
+        self.deframer.line_lost();
+    }
+
+    /// The deframer, whose open part is the encoder's.
+    pub fn deframer(&self) -> &Deframer
+        ensures { result.now ≡ self.now.part }
+    {
+        &self.deframer
+    }
+
+    /// The target, as the applied messages have made it.
+    pub fn target(&self) -> &T
+        ensures { result.now ≡ self.now.value }
+    {
+        &self.holdings.target
+    }
+
+    /// What was counted since the encoder was made.
+    pub fn counts(&self) -> Counts
+        ensures { result ≡ self.now.counts }
+    {
+        self.holdings.counts
+    }
+}

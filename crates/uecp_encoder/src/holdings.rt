@@ -1,0 +1,87 @@
+//! What an encoder holds apart from the open part of the line, and what a finding does to it. Source: profile.
+ghost use Rattle.std.specs.Prelude.{◌≡◌, Ok, [], ◌∷◌};
+ghost use Rattle.uecp_frame.specs.Findings.{OpenPart};
+ghost use Rattle.uecp_frame.specs.Feeding.{findings_of};
+ghost use Rattle.uecp_encoder.specs.State.{after_finding, after_findings};
+ghost use Rattle.uecp_encoder.specs.Answering.{response_to, responses};
+ghost use Rattle.uecp_encoder.specs.Holdings.{with_part, said_of};
+
+use crate::counts::Counts;
+use crate::target::Target;
+use reply_ring::ReplyRing;
+use uecp_elements::Code;
+use uecp_frame::{Address, Found, Frame, FrameFault};
+
+/// The encoder's memory between frames.
+#[derive(Drop)]
+pub(crate) struct Holdings<T> {
+    pub(crate) address: Address,
+    pub(crate) target: T,
+    pub(crate) ring: ReplyRing,
+    pub(crate) counts: Counts,
+}
+
+/// What a finding came to.
+#[derive(Clone, Copy, Debug)]
+pub(crate) enum Outcome {
+    Nothing,
+    Dropped(FrameFault),
+    NotForMe,
+    Unnumbered,
+    Reply {
+        code: Code,
+        counter: u8,
+        fresh: bool,
+    },
+}
+
+impl<T: Target> Holdings<T> {
+    /// Takes what a piece of the stream brought.
+    pub(crate) fn take(&mut self, found: &Found) -> Outcome
+        ensures holds { (part : OpenPart) → with_part self.new part ≡ after_findings T.step (with_part self.old part) (findings_of found.now) }
+        ensures says { (part : OpenPart) → said_of self.old.address result ≡ responses T.step (with_part self.old part) (findings_of found.now) }
+        ensures address { self.new.address ≡ self.old.address }
+    {
+        match found {
+            Found::Nothing => Outcome::Nothing,
+            Found::Refused(fault) => {
+                self.counts.dropped = self.counts.dropped.saturating_add(1);
+                Outcome::Dropped(*fault)
+            }
+            Found::Frame(frame) => self.take_frame(frame),
+        }
+    }
+
+    /// Takes a frame: in order, the address, counter 00, a counter that is kept, and else the message is applied.
+    fn take_frame(&mut self, frame: &Frame) -> Outcome
+        ensures holds { (part : OpenPart) → with_part self.new part ≡ after_finding T.step (with_part self.old part) (Ok frame.now) }
+        ensures says { (part : OpenPart) → said_of self.old.address result ≡ response_to T.step (with_part self.old part) (Ok frame.now) ∷ [] }
+        ensures address { self.new.address ≡ self.old.address }
+    {
+        if !frame.address.reaches(self.address) {
+            self.counts.not_for_me = self.counts.not_for_me.saturating_add(1);
+            return Outcome::NotForMe;
+        }
+        let counter = frame.counter;
+        if counter == 0 {
+            self.counts.unnumbered = self.counts.unnumbered.saturating_add(1);
+            return Outcome::Unnumbered;
+        }
+        if let Some(code) = self.ring.find(counter) {
+            self.counts.repeats = self.counts.repeats.saturating_add(1);
+            return Outcome::Reply {
+                code,
+                counter,
+                fresh: false,
+            };
+        }
+        let code = self.target.apply(frame.message.bytes());
+        self.ring.keep(counter, code);
+        self.counts.fresh = self.counts.fresh.saturating_add(1);
+        Outcome::Reply {
+            code,
+            counter,
+            fresh: true,
+        }
+    }
+}

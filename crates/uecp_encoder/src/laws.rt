@@ -1,0 +1,24 @@
+//! Laws of the definitions, each the contract of a function that does nothing.
+ghost use Rattle.std.specs.Prelude.{ℕ, List};
+ghost use Rattle.uecp_encoder.specs.State.{EncoderState};
+ghost use Rattle.uecp_encoder.specs.Laws.{RetryActsOnce, IsInPieces, IsHeardAfterNoise};
+
+use crate::target::Target;
+
+/// A frame that was applied and comes again within the next 126 applied messages gets the reply that it got, byte for byte,
+/// and changes neither the target nor the kept replies. Between them anything may come: faults, frames for others,
+/// unnumbered frames, repeats.
+pub fn a_retry_acts_once<T: Target>()
+    ensures { RetryActsOnce T.step }
+{}
+
+/// An encoder does the same with a stream however it is cut into pieces.
+pub fn in_pieces<T: Target>()
+    ensures { (e : EncoderState _) (x y : List ℕ) → IsInPieces T.step e x y }
+{}
+
+/// After noise in which no frame stands, in any pieces, the spelling of a frame ends with that frame, and no finding before
+/// it is a frame.
+pub fn heard_after_noise()
+    ensures { IsHeardAfterNoise }
+{}

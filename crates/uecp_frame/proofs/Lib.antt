@@ -1,0 +1,12 @@
+pub mod Codes
+pub mod Reading
+pub mod Delimiters
+pub mod Resumed
+pub mod Future
+pub mod Pieces
+pub mod Taking
+pub mod Spelling
+pub mod Decoding
+pub mod Rows
+pub mod ByPlaces
+pub mod HeardLemmas

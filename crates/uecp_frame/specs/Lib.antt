@@ -1,0 +1,11 @@
+pub mod Address
+pub mod Stuffing
+pub mod Check
+pub mod Frame
+pub mod Segment
+pub mod Fault
+pub mod Findings
+pub mod Beyond
+pub mod Kept
+pub mod Feeding
+pub mod Places

@@ -1,0 +1,16 @@
+pub mod Wire
+pub mod Ring
+pub mod Hearing
+pub mod Numbering
+pub mod Steps
+pub mod Folding
+pub mod Whole
+pub mod FeedingLemmas
+pub mod Goes
+pub mod Playing
+pub mod Played
+pub mod Promises
+pub mod Delivering
+pub mod Acknowledging
+pub mod Opening
+pub mod Stepping

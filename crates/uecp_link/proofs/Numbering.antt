@@ -1,0 +1,116 @@
+-- Small facts on numbers, sets and lists of messages.
+use Rattle.std.proofs.Common.{◌≡◌, ℕ, zero, suc, ◌+◌, ◌-◌, ◌%◌, ◌<◌, ◌≤◌, ◌==◌, Bool, true, false, cond, List, [], ◌∷◌, ◌++◌, length, get_or, take, Option, Some, None, nat_lt, nat_le, refl, ap, sym, subst, ◌∙◌, ◌⊎◌, arith, inl, inr, eq-eqb, length-append}
+use Rattle.std.specs.Prelude.{is_some, unwrap_or, slice_get}
+use Rattle.std.proofs.lemmas.Bool.{cases_eq, ne_eqb, ltb-true, ltb-false, lt-ltb, le-ltb, cases_lt, cases_Bool, leb-true}
+use Rattle.std.proofs.lemmas.List.{get_or_push, get_or_append_left, get_or_past, get_or-append_right}
+use Rattle.uecp_elements.specs.declared.code.Code.{Code}
+use Rattle.uecp_elements.specs.declared.code.Code.TheVariants.{Applied}
+use Rattle.uecp_link.specs.Server.{next_counter}
+use Rattle.uecp_link.specs.Once.{message_at, missing, is_none_missing, with_code, with_member}
+use Rattle.uecp_link.specs.Law.{counter_of}
+use Rattle.uecp_link.specs.Kept.{last_counter, code_at, IsMessage}
+
+pub last_counter-next : (n : ℕ) → next_counter (last_counter n) ≡ last_counter (n + 1)
+last_counter-next zero = refl
+last_counter-next (suc k) = let h : suc k + 1 ≡ suc (suc k) = omega arith in rw h (omega arith)
+
+pub last_counter-at : (n k : ℕ) → n ≡ k + 1 → last_counter n ≡ counter_of k
+last_counter-at n k e = let h : n ≡ suc k = omega arith in rw h refl
+
+pub code_at-some : (codes : ℕ → Option Code) (k : ℕ) (c : Code) → codes k ≡ Some c → code_at codes k ≡ c
+code_at-some codes k c e = ap (λ o. unwrap_or o Applied) e
+
+pub some_code_at : (o : Option Code) → is_some o ≡ true → Some (unwrap_or o Applied) ≡ o
+some_code_at None h = cc
+some_code_at (Some c) h = refl
+
+pub none_of : (o : Option Code) → is_some o ≡ false → None ≡ o
+none_of None h = refl
+none_of (Some c) h = cc
+
+pub is_some-of : (o : Option Code) (c : Code) → o ≡ Some c → is_some o ≡ true
+is_some-of o c e = ap is_some e
+
+pub is_none-of : (o : Option Code) → o ≡ None → is_some o ≡ false
+is_none-of o e = ap is_some e
+
+pub with_code-same : (codes : ℕ → Option Code) (k : ℕ) (c : Code) → with_code codes k c k ≡ Some c
+with_code-same codes k c = rw (eq-eqb k k refl)
+
+pub with_code-other : (codes : ℕ → Option Code) (k : ℕ) (c : Code) (j : ℕ) → (j ≡ k → ⊥) → with_code codes k c j ≡ codes j
+with_code-other codes k c j ne = rw (ne_eqb j k ne)
+
+-- one more number below p
+pub below_next : (p j : ℕ) → (j ≡ p → ⊥) → nat_lt j p ≡ nat_lt j (p + 1)
+below_next p j ne =
+    elim (cases_lt j p) [
+      | inl l ↦ lt-ltb j p l ∙ sym (lt-ltb j (p + 1) (omega arith))
+      | inr g ↦ le-ltb j p g ∙ sym (le-ltb j (p + 1) (omega arith))
+    ]
+
+-- a set of the numbers below q, with q
+pub with_member-next : (set : ℕ → Bool) (q : ℕ) → ((k : ℕ) → set k ≡ nat_lt k q) → (j : ℕ) → with_member set q j ≡ nat_lt j (q + 1)
+with_member-next set q is j =
+    elim (cases_eq j q) [
+      | inl e ↦ rw (eq-eqb j q e, lt-ltb j (q + 1) (omega arith))
+      | inr ne ↦ rw (ne_eqb j q ne) (is j ∙ below_next q j ne)
+    ]
+
+pub with_member-old : (set : ℕ → Bool) (q k : ℕ) → ((k : ℕ) → set k ≡ nat_lt k q) → k < q → (j : ℕ) → with_member set k j ≡ nat_lt j q
+with_member-old set q k is l j =
+    elim (cases_eq j k) [
+      | inl e ↦ rw (eq-eqb j k e, lt-ltb j q (omega arith))
+      | inr ne ↦ rw (ne_eqb j k ne) (is j)
+    ]
+
+-- a map that has the numbers below p, with p
+pub with_code-next : (codes : ℕ → Option Code) (p : ℕ) (c : Code) → ((k : ℕ) → is_some (codes k) ≡ nat_lt k p) → (j : ℕ) → is_some (with_code codes p c j) ≡ nat_lt j (p + 1)
+with_code-next codes p c is j =
+    elim (cases_eq j p) [
+      | inl e ↦ rw (eq-eqb j p e, lt-ltb j (p + 1) (omega arith))
+      | inr ne ↦ rw (ne_eqb j p ne) (is j ∙ below_next p j ne)
+    ]
+
+-- Where no number is missing, each is there.
+
+is_none_missing-append : (xs ys : List ℕ) → is_none_missing (xs ++ ys) ≡ true → (is_none_missing xs ≡ true) × (is_none_missing ys ≡ true)
+is_none_missing-append [] ys h = (refl, h)
+is_none_missing-append (x ∷ xs) ys h = cc
+
+member_from : (b : Bool) (n : ℕ) → is_none_missing (cond b [] (n ∷ [])) ≡ true → b ≡ true
+member_from true n h = refl
+member_from false n h = cc
+
+pub none_missing : (set : ℕ → Bool) (n : ℕ) → is_none_missing (missing set n) ≡ true → (k : ℕ) → k < n → set k ≡ true
+none_missing set zero h k l = absurd (omega arith)
+none_missing set (suc n) h k l =
+    let parts = is_none_missing-append (missing set n) (cond (set n) [] (n ∷ [])) h in
+    elim (cases_eq k n) [
+      | inl e ↦ ap set e ∙ member_from (set n) n parts.1
+      | inr ne ↦ none_missing set n parts.0 k (omega arith)
+    ]
+
+-- of the numbers below q the first n are all there
+pub missing_below : (set : ℕ → Bool) (q n : ℕ) → ((k : ℕ) → set k ≡ nat_lt k q) → n ≤ q → missing set n ≡ []
+missing_below set q zero is l = refl
+missing_below set q (suc n) is l = rw (is n, lt-ltb n q (omega arith), missing_below set q n is (omega arith))
+
+-- and of one number more the last is missing
+pub missing_last : (set : ℕ → Bool) (q n : ℕ) → ((k : ℕ) → set k ≡ nat_lt k q) → n ≡ q + 1 → missing set n ≡ q ∷ []
+missing_last set q n is e =
+    let h : n ≡ suc q = omega arith in
+    rw h (rw (is q, le-ltb q q (omega arith), missing_below set q q is (omega arith)))
+
+-- Messages.
+
+pub message_at-push : (sent : List (List ℕ)) (m : List ℕ) (k : ℕ) → k ≡ length sent → message_at (sent ++ m ∷ []) k ≡ m
+message_at-push sent m k e = get_or_push sent m [] k (sym e)
+
+pub message_at-before : (sent : List (List ℕ)) (m : List ℕ) (k : ℕ) → k < length sent → message_at (sent ++ m ∷ []) k ≡ message_at sent k
+message_at-before sent m k l = get_or_append_left sent (m ∷ []) [] k l
+
+pub fits_push : (sent : List (List ℕ)) (m : List ℕ) → IsMessage m → ((k : ℕ) → IsMessage (message_at sent k)) → (k : ℕ) → IsMessage (message_at (sent ++ m ∷ []) k)
+fits_push [] m fit all zero = fit
+fits_push [] m fit all (suc k) = omega arith
+fits_push (x ∷ xs) m fit all zero = all 0
+fits_push (x ∷ xs) m fit all (suc k) = fits_push xs m fit (λ j. all (suc j)) k

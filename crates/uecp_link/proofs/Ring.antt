@@ -1,0 +1,63 @@
+-- The ring: numbers that meet have different counters, so the ring answers as a map from numbers.
+use Rattle.std.proofs.Common.{◌≡◌, ℕ, zero, suc, ◌+◌, ◌%◌, ◌<◌, ◌≤◌, ◌==◌, List, [], ◌∷◌, take, Some, None, refl, ap, sym, ◌∙◌, arith, inl, inr, eq-eqb}
+use Rattle.std.proofs.lemmas.Bool.{cases_eq, ne_eqb}
+use Rattle.uecp_elements.specs.declared.code.Code.{Code}
+use Rattle.reply_ring.specs.Ring.{kept_code, keep}
+use Rattle.uecp_link.specs.Law.{counter_of}
+use Rattle.uecp_link.specs.Kept.{pairs}
+
+-- numbers less than 255 apart have different counters
+pub counters_differ : (a b : ℕ) → b < a → a < b + 255 → counter_of a ≡ counter_of b → ⊥
+counters_differ a b l h e = omega arith
+
+pub kept_code-same : (x y : ℕ) (c : Code) (ps : List (ℕ × Code)) → x ≡ y → kept_code ((x, c) ∷ ps) y ≡ Some c
+kept_code-same x y c ps e = rw (eq-eqb x y e)
+
+pub kept_code-other : (x y : ℕ) (c : Code) (ps : List (ℕ × Code)) → (x ≡ y → ⊥) → kept_code ((x, c) ∷ ps) y ≡ kept_code ps y
+kept_code-other x y c ps ne = rw (ne_eqb x y ne)
+
+-- the last w pairs have the code of each of the last w numbers
+pub kept_code-found : (c : ℕ → Code) (w p k : ℕ) → w ≤ 255 → k < p → p ≤ k + w → kept_code (take w (pairs c p)) (counter_of k) ≡ Some (c k)
+kept_code-found c zero p k small l h = absurd (omega arith)
+kept_code-found c (suc w) zero k small l h = absurd (omega arith)
+kept_code-found c (suc w) (suc p) k small l h =
+    elim (cases_eq k p) [
+      | inl e ↦ kept_code-same (counter_of p) (counter_of k) (c p) (take w (pairs c p)) (ap counter_of (sym e)) ∙ ap (λ j. Some (c j)) (sym e)
+      | inr ne ↦
+          let below : k < p = omega arith in
+          let near : p ≤ k + w = omega arith in
+          let apart : p < k + 255 = omega arith in
+          kept_code-other (counter_of p) (counter_of k) (c p) (take w (pairs c p)) (counters_differ p k below apart) ∙ kept_code-found c w p k (omega arith) below near
+    ]
+
+-- and nothing for the numbers that come next
+pub kept_code-absent : (c : ℕ → Code) (w p j : ℕ) → p ≤ j → j + w < p + 255 → kept_code (take w (pairs c p)) (counter_of j) ≡ None
+kept_code-absent c zero p j l h = refl
+kept_code-absent c (suc w) zero j l h = refl
+kept_code-absent c (suc w) (suc p) j l h =
+    let below : p < j = omega arith in
+    let apart : j < p + 255 = omega arith in
+    kept_code-other (counter_of p) (counter_of j) (c p) (take w (pairs c p)) (λ e. counters_differ j p below apart (sym e))
+    ∙ kept_code-absent c w p j (omega arith) (omega arith)
+
+-- the pairs depend on the codes below p alone
+pub pairs_agree : (c d : ℕ → Code) (p : ℕ) → ((k : ℕ) → k < p → c k ≡ d k) → pairs c p ≡ pairs d p
+pairs_agree c d zero h = refl
+pairs_agree c d (suc p) h =
+    let rest : pairs c p ≡ pairs d p = pairs_agree c d p (λ k l. h k (omega arith)) in
+    cc (h p (omega arith))
+
+-- cutting twice is cutting once
+pub take-take_same : {A : Type 0} (w : ℕ) (xs : List A) → take w (take w xs) ≡ take w xs
+take-take_same zero xs = refl
+take-take_same (suc w) [] = refl
+take-take_same (suc w) (x ∷ xs) = ap (λ ys. x ∷ ys) (take-take_same w xs)
+
+-- keeping the next number's pair gives the ring of one more number
+pub keep_next : (c : ℕ → Code) (p : ℕ) → keep (take 127 (pairs c p)) (counter_of p) (c p) ≡ take 127 (pairs c (suc p))
+keep_next c p = ap (λ ys. (counter_of p, c p) ∷ ys) (cut 126 (pairs c p))
+  where
+    cut : {A : Type 0} (w : ℕ) (xs : List A) → take w (take (suc w) xs) ≡ take w xs
+    cut zero xs = refl
+    cut (suc w) [] = refl
+    cut (suc w) (x ∷ xs) = ap (λ ys. x ∷ ys) (cut w xs)

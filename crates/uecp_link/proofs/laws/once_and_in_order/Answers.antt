@@ -1,0 +1,5 @@
+use Rattle.uecp_link.proofs.Whole.{law}
+use Rattle.uecp_link.proofs.laws.once_and_in_order.Goals as goal
+
+pub returns : goal.returns
+returns g c = λ address opening events fit. law g.T.Target.step address opening events fit

@@ -1,0 +1,62 @@
+use Rattle.std.proofs.Common.{◌≡◌, ◌+◌, ◌<◌, ◌≤◌, ◌++◌, ◌∷◌, [], ℕ, Bool, true, List, Some, length, vec_len, refl, ◌∙◌, ap, sym, subst, arith, rules}
+use Rattle.std.specs.Prelude.{slice_get, vec_capacity}
+use Rattle.uecp_elements.specs.declared.code.Code.{Code}
+use Rattle.uecp_frame.specs.Frame.{spelling}
+use Rattle.uecp_link.specs.declared.stepped.Stepped.{Stepped}
+use Rattle.uecp_link.specs.declared.stepped.Stepped.TheVariants as stepped
+use Rattle.uecp_link.specs.Once.{FrameComes}
+use Rattle.uecp_link.specs.Law.{frame_of}
+use Rattle.uecp_link.specs.Holds.{LineState, IsLine, once_of}
+use Rattle.uecp_link.specs.Next.{Goes}
+use Rattle.uecp_link.proofs.Delivering.{reply_for, replied, fresh_room, delivers, goes_stays, frame_address}
+use Rattle.uecp_link.proofs.line.Line.deliver.Goals as goal
+
+pub take_in-fresh-requires : goal.take_in-fresh-requires
+take_in-fresh-requires g c =
+    let line : LineState _ = record { encoder = c.self.inside.encoder; server = c.self.inside.server; sent = c.self.inside.sent.items; codes = c.self.inside.codes.items; acknowledged = c.self.inside.acknowledged } in
+    let is : IsLine line = c.self.invariant.is_line in
+    let k : ℕ = c.args.number in
+    let len : vec_len c.self.inside.sent ≡ length c.self.inside.sent.items = search rules in
+    let below : k < length c.self.inside.sent.items = omega (arith, c.if-number-len.false, c.len.ensures, len) in
+    let near : length c.self.inside.sent.items ≤ k + 127 = omega (arith, c.if-len-number.false, c.len-2.ensures, len) in
+    let spelled : c.as_slice.result.now ≡ spelling (frame_of line.encoder.address (once_of line) k) = c.as_slice.ensures.value ∙ c.frame_of-bytes.ensures ∙ ap (λ (l : LineState _). spelling (frame_of l.encoder.address (once_of l) k)) (sym c.self.view_is) in
+    let codes : vec_len c.self.inside.codes ≡ length c.self.inside.codes.items = search rules in
+    let reply : Bool × Code = reply_for g.T.Target.step line k (slice_get line.codes k) in (
+      reply,
+      replied g.T.Target.step line is k below near c.as_slice.result.now spelled,
+      (λ fresh. let more : length line.codes < length line.sent = fresh_room g.T.Target.step line is k below near c.as_slice.result.now spelled reply.1 (ap (λ (b : Bool). let r : Bool × Code = (b, reply.1) in r) fresh) in omega (arith, more, codes, c.self.invariant.fits)),
+    )
+
+pub invariant_of-self : goal.invariant_of-self
+invariant_of-self g c =
+    let line : LineState _ = record { encoder = c.self.inside.encoder; server = c.self.inside.server; sent = c.self.inside.sent.items; codes = c.self.inside.codes.items; acknowledged = c.self.inside.acknowledged } in
+    let is : IsLine line = c.self.invariant.is_line in
+    let k : ℕ = c.args.number in
+    let len : vec_len c.self.inside.sent ≡ length c.self.inside.sent.items = search rules in
+    let below : k < length c.self.inside.sent.items = omega (arith, c.if-number-len.false, c.len.ensures, len) in
+    let near : length c.self.inside.sent.items ≤ k + 127 = omega (arith, c.if-len-number.false, c.len-2.ensures, len) in
+    let spelled : c.as_slice.result.now ≡ spelling (frame_of line.encoder.address (once_of line) k) = c.as_slice.ensures.value ∙ c.frame_of-bytes.ensures ∙ ap (λ (l : LineState _). spelling (frame_of l.encoder.address (once_of l) k)) (sym c.self.view_is) in
+    let fresh : Bool = c.take_in-fresh.result.0 in
+    let code : Code = c.take_in-fresh.result.1 in
+    let goes = delivers g.T.Target.step line is k below near c.as_slice.result.now spelled fresh code c.take_in-fresh.ensures.reply c.take_in-fresh.new.encoder c.take_in-fresh.new.codes.items c.take_in-fresh.ensures.state c.take_in-fresh.ensures.codes in
+    let address : c.take_in-fresh.new.encoder.address ≡ c.self.inside.encoder.address = ap (λ (l : LineState _). l.encoder.address) goes.next ∙ frame_address g.T.Target.step line k in
+    record {
+      is_line = goes_stays g.T.Target.step line _ (FrameComes k) (stepped.Delivered fresh code) tt goes;
+      address_is = address ∙ c.self.invariant.address_is;
+      fits = omega (arith, c.self.invariant.fits, c.take_in-fresh.ensures.room);
+    }
+
+pub returns-clause-goes : goal.returns-clause-goes
+returns-clause-goes g c =
+    let line : LineState _ = record { encoder = c.self.inside.encoder; server = c.self.inside.server; sent = c.self.inside.sent.items; codes = c.self.inside.codes.items; acknowledged = c.self.inside.acknowledged } in
+    let is : IsLine line = c.self.invariant.is_line in
+    let k : ℕ = c.args.number in
+    let len : vec_len c.self.inside.sent ≡ length c.self.inside.sent.items = search rules in
+    let below : k < length c.self.inside.sent.items = omega (arith, c.if-number-len.false, c.len.ensures, len) in
+    let near : length c.self.inside.sent.items ≤ k + 127 = omega (arith, c.if-len-number.false, c.len-2.ensures, len) in
+    let spelled : c.as_slice.result.now ≡ spelling (frame_of line.encoder.address (once_of line) k) = c.as_slice.ensures.value ∙ c.frame_of-bytes.ensures ∙ ap (λ (l : LineState _). spelling (frame_of l.encoder.address (once_of l) k)) (sym c.self.view_is) in
+    let fresh : Bool = c.take_in-fresh.result.0 in
+    let code : Code = c.take_in-fresh.result.1 in
+    let goes = delivers g.T.Target.step line is k below near c.as_slice.result.now spelled fresh code c.take_in-fresh.ensures.reply c.take_in-fresh.new.encoder c.take_in-fresh.new.codes.items c.take_in-fresh.ensures.state c.take_in-fresh.ensures.codes in
+    let after : LineState _ = record { encoder = c.take_in-fresh.new.encoder; server = c.self.inside.server; sent = c.self.inside.sent.items; codes = c.take_in-fresh.new.codes.items; acknowledged = c.self.inside.acknowledged } in
+    subst (λ (l : LineState _). Goes g.T.Target.step l (FrameComes k) (stepped.Delivered fresh code) after) c.self.view_is goes

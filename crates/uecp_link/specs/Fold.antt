@@ -1,0 +1,12 @@
+-- What messages make, each applied once and in order.
+use Rattle.std.specs.Prelude.{ℕ, List, [], ◌∷◌}
+use Rattle.uecp_elements.specs.declared.code.Code.{Code}
+use Rattle.uecp_encoder.specs.Target.{Step}
+
+abbrev pub value_after : {V : Type 0} → Step V → V → List (List ℕ) → V
+value_after step v [] = v
+value_after step v (m ∷ ms) = value_after step (step v m).0 ms
+
+abbrev pub codes_after : {V : Type 0} → Step V → V → List (List ℕ) → List Code
+codes_after step v [] = []
+codes_after step v (m ∷ ms) = (step v m).1 ∷ codes_after step (step v m).0 ms

@@ -1,0 +1,62 @@
+-- What holds of a line at every moment: where its two ends are, by how many numbers were applied and acknowledged.
+use Rattle.std.specs.Prelude.{ℕ, zero, suc, ◌≡◌, ◌+◌, ◌<◌, ◌≤◌, ◌⊎◌, nat_lt, Bool, true, List, [], ◌∷◌, length, take, Option, Some, None, is_some, unwrap_or, slice_get}
+use Rattle.uecp_elements.specs.declared.code.Code.{Code}
+use Rattle.uecp_elements.specs.declared.code.Code.TheVariants.{Applied}
+use Rattle.uecp_frame.specs.Findings.{is_quiet, OpenPart, Closed, found, open_part}
+use Rattle.uecp_frame.specs.Beyond.{found_beyond, open_beyond, unended}
+use Rattle.uecp_frame.specs.Frame.{spelling}
+use Rattle.uecp_encoder.specs.State.{EncoderState}
+use Rattle.uecp_link.specs.Server.{ServerState}
+use Rattle.uecp_link.specs.Once.{Once, message_at}
+use Rattle.uecp_link.specs.Law.{counter_of}
+
+-- the pairs of all numbers below p, the newest first
+abbrev pub pairs : (ℕ → Code) → ℕ → List (ℕ × Code)
+pairs c zero = []
+pairs c (suc p) = (counter_of p, c p) ∷ pairs c p
+
+-- the server's last counter after n messages
+abbrev pub last_counter : ℕ → ℕ
+last_counter zero = 0
+last_counter (suc k) = counter_of k
+
+-- the code of a number, where it has one
+abbrev pub code_at : (ℕ → Option Code) → ℕ → Code
+code_at codes k = unwrap_or (codes k) Applied
+
+abbrev pub IsMessage : List ℕ → Type 0
+IsMessage m = length m ≤ 255
+
+-- the encoder, but for its counts and its open part
+pub record EncoderIs {V : Type 0} (e : EncoderState V) (a : ℕ) (v : V) (r : List (ℕ × Code)) : Type 0 where
+  pub address : e.address ≡ a
+  pub value : e.value ≡ v
+  pub ring : e.ring ≡ r
+
+pub record ServerIs (s : ServerState) (a l : ℕ) (m : Option (List ℕ)) : Type 0 where
+  pub address : s.address ≡ a
+  pub last : s.last ≡ l
+  pub outstanding : s.outstanding ≡ m
+
+-- what the server holds: nothing where all sent numbers are below q, else the message of number q, the last
+abbrev pub Waits : List (List ℕ) → ℕ → Option (List ℕ) → Type 0
+Waits sent q m = ((length sent ≡ q) × (m ≡ None)) ⊎ ((length sent ≡ q + 1) × (m ≡ Some (message_at sent q)))
+
+-- the numbers below p are applied, those below q are acknowledged
+pub record Kept {V : Type 0} (address : ℕ) (e : EncoderState V) (s : ServerState) (o : Once V) (p q : ℕ) : Type 0 where
+  pub encoder : EncoderIs e address o.value (take 127 (pairs (code_at o.codes) p))
+  pub waits : Option (List ℕ)
+  pub server : ServerIs s address (last_counter (length o.sent)) waits
+  pub waits_is : Waits o.sent q waits
+  pub applied : (k : ℕ) → is_some (o.codes k) ≡ nat_lt k p
+  pub acknowledged : (k : ℕ) → o.acknowledged k ≡ nat_lt k q
+  pub p_le : p ≤ length o.sent
+  pub q_le : q ≤ p
+  pub fits : (k : ℕ) → IsMessage (message_at o.sent k)
+
+-- the open parts are those that the noise leaves
+pub record Hears {V : Type 0} (e : EncoderState V) (s : ServerState) (o : Once V) : Type 0 where
+  pub encoder : e.part ≡ open_part o.to_encoder
+  pub server : s.part ≡ open_part o.to_server
+  pub encoder_quiet : is_quiet o.to_encoder ≡ true
+  pub server_quiet : is_quiet o.to_server ≡ true

@@ -1,0 +1,104 @@
+-- The two ends, fed an event's bytes, beside the once-machine; and the law that ties them.
+use Rattle.std.specs.Prelude.{ℕ, ◌≡◌, ◌+◌, ◌%◌, ◌<◌, ◌≤◌, nat_lt, Bool, true, false, List, [], ◌∷◌, ◌++◌, length, map, take, slice_get, Option, Some, None, is_some, is_none, IsTrue, if◌then◌else◌}
+use Rattle.uecp_elements.specs.declared.code.Code.{Code}
+use Rattle.uecp_frame.specs.declared.frame.Frame.{Frame}
+use Rattle.uecp_frame.specs.Frame.{spelling}
+use Rattle.uecp_frame.specs.Findings.{Closed}
+use Rattle.reply_ring.specs.Ring.{kept_code}
+use Rattle.uecp_encoder.specs.Target.{Step}
+use Rattle.uecp_encoder.specs.State.{EncoderState, opening, fed}
+use Rattle.uecp_encoder.specs.Answering.{reply_of}
+use Rattle.uecp_link.specs.Server.{ServerState, idle_at, submitted, waiting, heard}
+use Rattle.uecp_link.specs.Once.{Event, Submit, FrameComes, ReplyComes, NoiseToEncoder, NoiseToServer, EncoderLost, ServerLost, Once, message_at, is_recent, missing, refusal_of, after, at_first}
+use Rattle.uecp_link.specs.Fold.{value_after, codes_after}
+
+-- the counter of a number
+abbrev pub counter_of : ℕ → ℕ
+counter_of k = 1 + k % 255
+
+-- the frame of a number
+abbrev pub frame_of : {V : Type 0} → ℕ → Once V → ℕ → Frame
+frame_of address o k = record { address = address; counter = counter_of k; message = message_at o.sent k }
+
+-- the encoder's reply to a number, by its code; there is none to a number that was not applied
+abbrev pub reply_bytes : ℕ → ℕ → Option Code → List ℕ
+reply_bytes address k (Some code) = spelling (reply_of address (counter_of k) code)
+reply_bytes address k None = []
+
+-- the encoder after an event that is not refused
+abbrev pub encoder_after : {V : Type 0} → Step V → ℕ → Once V → EncoderState V → Event → EncoderState V
+encoder_after step address o e (Submit m) = e
+encoder_after step address o e (FrameComes k) = fed step e (spelling (frame_of address o k))
+encoder_after step address o e (ReplyComes k) = e
+encoder_after step address o e (NoiseToEncoder x) = fed step e x
+encoder_after step address o e (NoiseToServer x) = e
+encoder_after step address o e EncoderLost = record e { part = Closed }
+encoder_after step address o e ServerLost = e
+
+-- the server after an event that is not refused
+abbrev pub server_after : {V : Type 0} → ℕ → Once V → ServerState → Event → ServerState
+server_after address o s (Submit m) = submitted s m
+server_after address o s (FrameComes k) = s
+server_after address o s (ReplyComes k) = heard s (reply_bytes address k (o.codes k))
+server_after address o s (NoiseToEncoder x) = s
+server_after address o s (NoiseToServer x) = heard s x
+server_after address o s EncoderLost = s
+server_after address o s ServerLost = record s { part = Closed }
+
+pub record World (V : Type 0) : Type 0 where
+  pub encoder : EncoderState V
+  pub server : ServerState
+  pub once : Once V
+
+abbrev pub happens : {V : Type 0} → Step V → ℕ → World V → Event → World V
+happens step address w event =
+    if is_none (refusal_of w.once event)
+    then record {
+      encoder = encoder_after step address w.once w.encoder event;
+      server = server_after address w.once w.server event;
+      once = after step w.once event;
+    }
+    else w
+
+abbrev pub run : {V : Type 0} → Step V → ℕ → World V → List Event → World V
+run step address w [] = w
+run step address w (event ∷ events) = run step address (happens step address w event) events
+
+-- two new ends and a new once-machine
+abbrev pub start : {V : Type 0} → ℕ → V → World V
+start address value = record { encoder = opening address value; server = idle_at address; once = at_first value }
+
+-- each message that is submitted fits a frame
+abbrev pub Fits : Event → Type 0
+Fits (Submit m) = length m ≤ 255
+Fits _ = Unit {0}
+
+-- The numbers: p is how many were applied.
+pub record Numbers {V : Type 0} (w : World V) (p : ℕ) : Type 0 where
+  -- the applied numbers are those below p, which are all that were sent, or all but the last
+  pub applied : (k : ℕ) → is_some (w.once.codes k) ≡ nat_lt k p
+  pub all_but_one : (p ≤ length w.once.sent) × (length w.once.sent ≤ p + 1)
+  pub acknowledged : (k : ℕ) → w.once.acknowledged k ≡ true → k < p
+  -- what waits at the server is what was sent and is not acknowledged, under its counters
+  pub outstanding : waiting w.server ≡ map (λ k. (counter_of k, message_at w.once.sent k)) (missing w.once.acknowledged (length w.once.sent))
+  -- the ring has, for the counter of each recent number, that number's code, or nothing where it was not applied
+  pub replies : (k : ℕ) → k < length w.once.sent → is_recent (length w.once.sent) k ≡ true → kept_code w.encoder.ring (counter_of k) ≡ w.once.codes k
+
+-- The values: what the encoder's target holds is what the first p messages make.
+pub record Values {V : Type 0} (step : Step V) (opening : V) (w : World V) (p : ℕ) : Type 0 where
+  pub target : w.encoder.value ≡ value_after step opening (take p w.once.sent)
+  pub value : w.once.value ≡ value_after step opening (take p w.once.sent)
+  pub codes : (k : ℕ) → w.once.codes k ≡ slice_get (codes_after step opening (take p w.once.sent)) k
+
+-- The law: over every list of events
+abbrev pub Law : {V : Type 0} → Step V → ℕ → V → List Event → Type 0
+Law step address opening events =
+    let w = run step address (start address opening) events in
+    (p : ℕ) × Numbers w p × Values step opening w p
+
+-- The numbers alone name no target: they hold for the target that keeps all messages, whatever its codes are.
+abbrev pub all_kept : (List (List ℕ) → List ℕ → Code) → Step (List (List ℕ))
+all_kept code v m = (m ∷ v, code v m)
+
+abbrev pub NumbersLaw : (List (List ℕ) → List ℕ → Code) → ℕ → List Event → Type 0
+NumbersLaw code address events = (p : ℕ) × Numbers (run (all_kept code) address (start address []) events) p

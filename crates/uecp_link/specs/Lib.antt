@@ -1,0 +1,14 @@
+pub mod Frames
+pub mod Sending
+pub mod Server
+pub mod Replying
+pub mod Once
+pub mod Fold
+pub mod Law
+pub mod Kept
+pub mod Refusal
+pub mod Events
+pub mod Holds
+pub mod Next
+pub mod Whole
+pub mod Headline

@@ -1,0 +1,18 @@
+-- The numbers and names of the refusals of a line, in the order in which they are looked for.
+use Rattle.std.specs.Prelude.{ℕ, List, codes}
+use Rattle.uecp_link.specs.declared.refusal.LineRefusal.{LineRefusal}
+use Rattle.uecp_link.specs.declared.refusal.LineRefusal.TheVariants.{Busy, NotSent, TooLate, HoldsAFrame, OutOfMemory}
+
+abbrev pub number_of : LineRefusal → ℕ
+number_of Busy = 1
+number_of NotSent = 2
+number_of TooLate = 3
+number_of HoldsAFrame = 4
+number_of OutOfMemory = 5
+
+abbrev pub name_of : LineRefusal → List ℕ
+name_of Busy = codes "Busy"
+name_of NotSent = codes "NotSent"
+name_of TooLate = codes "TooLate"
+name_of HoldsAFrame = codes "HoldsAFrame"
+name_of OutOfMemory = codes "OutOfMemory"

@@ -1,0 +1,31 @@
+//! What may happen on a line. Source: profile.
+use uecp_frame::Message;
+
+/// One end of the line.
+#[derive(Clone, Copy, Debug, PartialEq, Eq)]
+pub enum Side {
+    /// The transmitter's encoder.
+    Encoder,
+    /// The studio's server.
+    Server,
+}
+
+/// What happens on a line. That bytes are lost is an event that does not come.
+///
+/// Numbers of messages count from 0. A `cut` lists the lengths of the pieces in which the bytes come, in order; what is left
+/// is the last piece, and a length past the end is cut to it.
+#[derive(Clone, Copy, Debug)]
+pub enum LineEvent<'a> {
+    /// The studio gives the server the next message.
+    Submit(&'a Message),
+    /// The frame of that message comes to the encoder, for the first time or again.
+    Frame { number: usize, cut: &'a [u16] },
+    /// The encoder's reply to that message comes to the server, for the first time or again.
+    Reply { number: usize, cut: &'a [u16] },
+    /// These bytes come to the encoder.
+    NoiseToEncoder(&'a [u8]),
+    /// These bytes come to the server.
+    NoiseToServer(&'a [u8]),
+    /// That end forgets a segment that has not ended.
+    LineLost(Side),
+}

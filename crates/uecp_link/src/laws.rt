@@ -1,0 +1,19 @@
+//! Laws of the definitions, each the contract of a function that does nothing.
+ghost use Rattle.std.specs.Prelude.{List, ℕ};
+ghost use Rattle.std.specs.List.{AllByRecursion};
+ghost use Rattle.uecp_elements.specs.declared.code.Code.{Code};
+ghost use Rattle.uecp_link.specs.Once.{Event};
+ghost use Rattle.uecp_link.specs.Law.{Law, NumbersLaw, Fits};
+
+use uecp_encoder::Target;
+
+/// The law of numbers: over every list of line events, and whatever the codes of the messages are, counters and kept replies
+/// never confuse two messages.
+pub fn numbers()
+    ensures { (address : ℕ) (code : List (List ℕ) → List ℕ → Code) (events : List Event) → AllByRecursion Fits events → NumbersLaw code address events }
+{}
+
+/// The law of numbers and values: over every list of line events the two ends do what the once-machine does.
+pub fn once_and_in_order<T: Target>()
+    ensures { (address : ℕ) (opening : _) (events : List Event) → AllByRecursion Fits events → Law T.step address opening events }
+{}

@@ -1,0 +1,177 @@
+//! A line: its two ends, and what was sent between them. Source: profile.
+ghost use Rattle.std.specs.Prelude.{◌≡◌, ◌≤◌, ◌+◌, ℕ, IsTrue, IfOk, IfErr, length, map};
+ghost use Rattle.std.specs.List.{AllByRecursion};
+ghost use Rattle.uecp_frame.specs.Address.{is_exact};
+ghost use Rattle.uecp_link.specs.Once.{Once, at_first};
+ghost use Rattle.uecp_link.specs.Law.{Law, Fits};
+ghost use Rattle.uecp_link.specs.Events.{event_of, Refuses};
+ghost use Rattle.uecp_link.specs.Holds.{new_line, Holds, StepsAs, Plays};
+ghost use Rattle.uecp_link.specs.Headline.{IsHeadline};
+
+use crate::event::LineEvent;
+use crate::refusal::LineRefusal;
+use crate::server::Server;
+use crate::stepped::Stepped;
+use std::alloc::Global;
+use std::marker::Model;
+use uecp_elements::Code;
+use uecp_encoder::{Encoder, EncoderFault, Target};
+use uecp_frame::{Address, Message};
+
+/// A server and an encoder, both new at first, and a line between them that may lose, repeat, damage and reorder what is sent.
+/// It holds the two real ends and feeds them bytes; of the noise it keeps what is open in them, and nothing else. Contracts
+/// see it as one value, `LineState`.
+#[derive(Drop)]
+pub struct Line<T: Target> {
+    /// The encoder's address.
+    pub(crate) address: Address,
+    /// The studio's end.
+    pub(crate) server: Server,
+    /// The transmitter's end.
+    pub(crate) encoder: Encoder<T>,
+    /// The messages by number, from 0.
+    pub(crate) sent: Vec<Message>,
+    /// The codes of the applied numbers, from 0, with room for all that were sent.
+    pub(crate) codes: Vec<Code>,
+    /// How many numbers are acknowledged: those below it.
+    pub(crate) acknowledged: usize,
+}
+
+impl<T: Target> Model for Line<T> {
+    ghost use Rattle.std.specs.Prelude.{vec_capacity};
+    ghost use Rattle.uecp_link.specs.Holds.{LineState};
+    ghost use Rattle.uecp_link.specs.Whole.{IsWhole};
+
+    ghost Value = { LineState T };
+
+    ghost view = { λ l. record { encoder = l.encoder; server = l.server; sent = l.sent.items; codes = l.codes.items; acknowledged = l.acknowledged } };
+
+    ghost invariant = { λ l. IsWhole l.address (record { encoder = l.encoder; server = l.server; sent = l.sent.items; codes = l.codes.items; acknowledged = l.acknowledged }) (vec_capacity l.codes) };
+}
+
+impl<T: Target> Line<T> {
+    /// A line with a new server and a new encoder at this address, which is the encoder's own: neither part is 0.
+    pub fn new(alloc: Global, address: Address, target: T) -> Result<Line<T>, EncoderFault<T>>
+        requires { IsTrue (is_exact address) }
+        ensures made { IfOk result (λ line. line ≡ new_line address target) }
+        ensures holds { IfOk result (λ line. Holds line (at_first target)) }
+        ensures handed_back { IfErr result (λ fault. fault.target ≡ target) }
+    {
+        let encoder = Encoder::new(alloc, address, target)?;
+        Ok(Line {
+            address,
+            server: Server::new(address),
+            encoder,
+            sent: Vec::new(alloc),
+            codes: Vec::new(alloc),
+            acknowledged: 0,
+        })
+    }
+
+    /// A new line on which these events come in turn, and how many of them were refused. Want of memory for a message refuses
+    /// that event; for the line itself it hands the target back.
+    pub fn play(
+        alloc: Global,
+        address: Address,
+        target: T,
+        events: &[LineEvent<'_>],
+    ) -> Result<(Line<T>, usize), EncoderFault<T>>
+        requires { IsTrue (is_exact address) }
+        // The line holds what the once-machine holds after the events that were not refused.
+        ensures plays { IfOk result (λ played. (o : Once T) × Plays T.step (at_first target) (map event_of events.now) played.1 o × Holds played.0 o) }
+        // The encoder's store is what a prefix of the sent messages makes, each applied once and in order; every message that is
+        // acknowledged is in it with its one reply, and every message that is missing is still outstanding.
+        ensures headline { IfOk result (λ played. IsHeadline T.step address target played.0) }
+        // The two ends, fed the events' bytes, do what the once-machine does, in numbers and in values.
+        ensures law { IfOk result (λ played. Law T.step address target (map event_of events.now)) }
+        ensures handed_back { IfErr result (λ fault. fault.target ≡ target) }
+    {
+        let mut line = Line::new(alloc, address, target)?;
+        let refused = line.run(events);
+        line.known();
+        Ok((line, refused))
+    }
+
+    /// The events in turn, passing over those that are refused. It answers how many there were of these.
+    pub fn run(&mut self, events: &[LineEvent<'_>]) -> usize
+        ensures plays { (o : Once T) → Holds self.old o → ((o' : Once T) × Plays T.step o (map event_of events.now) result o' × Holds self.new o') }
+        // Every message of an event fits a frame.
+        ensures fits { AllByRecursion Fits (map event_of events.now) }
+        ensures address { self.new.encoder.address ≡ self.old.encoder.address }
+    {
+        let mut refused = 0;
+        for event in events {
+            match self.step(event) {
+                Ok(_) => {}
+                Err(_) => refused += 1,
+            }
+        }
+        refused
+    }
+
+    /// One event. Where it is refused nothing has changed; else both ends have been fed what it brings.
+    pub fn step(&mut self, event: &LineEvent<'_>) -> Result<Stepped, LineRefusal>
+        // The line goes on as the once-machine does.
+        ensures steps { IfOk result (λ stepped. (o : Once T) → Holds self.old o → StepsAs T.step self.old o (event_of event.now) stepped self.new) }
+        // It refuses where the once-machine does, for its reason, or a submission for want of memory.
+        ensures refused { IfErr result (λ refusal. (o : Once T) → Holds self.old o → Refuses o (event_of event.now) refusal) }
+        ensures unchanged { IfErr result (λ refusal. self.new ≡ self.old) }
+        // A message fits a frame.
+        ensures fits { Fits (event_of event.now) }
+        ensures address { self.new.encoder.address ≡ self.old.encoder.address }
+    {
+        match *event {
+            LineEvent::Submit(message) => self.submit(message),
+            LineEvent::Frame { number, cut } => self.deliver(number, cut),
+            LineEvent::Reply { number, cut } => self.acknowledge(number, cut),
+            LineEvent::NoiseToEncoder(noise) => self.disturb_encoder(noise),
+            LineEvent::NoiseToServer(noise) => self.disturb_server(noise),
+            LineEvent::LineLost(side) => Ok(self.lose(side)),
+        }
+    }
+
+    /// The studio's end.
+    pub fn server(&self) -> &Server
+        ensures { result.now ≡ self.now.server }
+    {
+        &self.server
+    }
+
+    /// The transmitter's end.
+    pub fn encoder(&self) -> &Encoder<T>
+        ensures { result.now ≡ self.now.encoder }
+    {
+        &self.encoder
+    }
+
+    /// The messages that were submitted, by number from 0.
+    pub fn sent(&self) -> &[Message]
+        ensures { result.now ≡ self.now.sent }
+    {
+        self.sent.as_slice()
+    }
+
+    /// The codes of the applied numbers, from 0.
+    pub fn codes(&self) -> &[Code]
+        ensures { result.now ≡ self.now.codes }
+    {
+        self.codes.as_slice()
+    }
+
+    /// How many messages were applied: the numbers below this, which are all that were sent, or all but the last.
+    pub fn applied(&self) -> usize
+        ensures value { result ≡ length self.now.codes }
+        ensures within { result ≤ length self.now.sent }
+        ensures all_but_one { length self.now.sent ≤ result + 1 }
+    {
+        self.codes.len()
+    }
+
+    /// How many messages are acknowledged: the numbers below this, each of which is applied.
+    pub fn acknowledged(&self) -> usize
+        ensures value { result ≡ self.now.acknowledged }
+        ensures within { result ≤ length self.now.codes }
+    {
+        self.acknowledged
+    }
+}

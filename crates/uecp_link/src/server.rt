@@ -1,0 +1,147 @@
+//! The server's end of the line. Source: RDS Forum SPB 490, two-way mode; profile for counters and acknowledgements.
+ghost use Rattle.std.specs.Prelude.{◌≡◌, ◌<◌, ◌≤◌, ◌↔◌, None, IsNone, IsTrue, length, take};
+ghost use Rattle.std.specs.Option.{option_copied};
+ghost use Rattle.uecp_frame.specs.Address.{is_exact};
+ghost use Rattle.uecp_frame.specs.Findings.{Closed};
+ghost use Rattle.uecp_link.specs.Server.{idle_at, submitted, acknowledges, heard, HearsPiece, outgoing_bytes};
+
+use crate::heard::{Heard, HeardWhat};
+use std::marker::Model;
+use uecp_elements::Code;
+use uecp_frame::{Address, Deframer, Found, Frame, FrameBytes, Message, encode};
+
+/// A server that sends messages to one encoder, one at a time: it numbers a message, lends its frame as often as the caller
+/// sends it, and knows the encoder's reply to it from all else. Contracts see it as one value, `ServerState`.
+#[derive(Drop)]
+pub struct Server {
+    /// The encoder's address.
+    address: Address,
+    /// The counter of the last message, 0 before the first.
+    last: u8,
+    /// The message that no reply has come to.
+    outstanding: Option<Message>,
+    /// The spelling of that message's frame.
+    frame: FrameBytes,
+    /// Finds the frames in what is heard.
+    deframer: Deframer,
+}
+
+impl Model for Server {
+    ghost use Rattle.uecp_link.specs.Server.{ServerState};
+    ghost use Rattle.uecp_link.specs.Sending.{IsSpelled};
+
+    ghost Value = { ServerState };
+
+    ghost view = { λ s. record { address = s.address; last = s.last; outstanding = s.outstanding; part = s.deframer } };
+
+    ghost invariant = { λ s. IsSpelled s.address s.last s.outstanding s.frame.items };
+}
+
+impl Server {
+    /// A server for the encoder at this address, which is its own: neither part is 0. Nothing is outstanding.
+    pub fn new(address: Address) -> Server
+        requires { IsTrue (is_exact address) }
+        ensures { result ≡ idle_at address }
+    {
+        Server {
+            address,
+            last: 0,
+            outstanding: None,
+            frame: FrameBytes::new(),
+            deframer: Deframer::new(),
+        }
+    }
+
+    /// Whether no message is outstanding, and so the next one may be submitted.
+    pub fn is_idle(&self) -> bool
+        ensures { IsTrue result ↔ (self.now.outstanding ≡ None) }
+    {
+        self.outstanding.is_none()
+    }
+
+    /// Takes a message to be sent, under the next counter. The server is idle. Send what [`outgoing`](Server::outgoing)
+    /// lends, again whenever no reply has come in time, until [`hear`](Server::hear) answers `Acknowledged`.
+    pub fn submit(&mut self, message: &Message)
+        requires { self.old.outstanding ≡ None }
+        ensures { self.new ≡ submitted self.old message.now }
+    {
+        let Some(copy) = Message::from_bytes(message.bytes()) else {
+            unreachable!();
+        };
+        let frame = Frame {
+            address: self.address,
+            counter: 1 + self.last % 255,
+            message: copy,
+        };
+        encode(&frame, &mut self.frame);
+        let Frame {
+            address: _,
+            counter,
+            message,
+        } = frame;
+        self.last = counter;
+        self.outstanding = Some(message);
+    }
+
+    /// The frame of the outstanding message, the same bytes each time. None where the server is idle.
+    pub fn outgoing(&self) -> Option<&[u8]>
+        ensures idle { IsNone result ↔ (self.now.outstanding ≡ None) }
+        ensures frame { option_copied result ≡ outgoing_bytes self.now }
+    {
+        match &self.outstanding {
+            None => None,
+            Some(_) => Some(self.frame.as_slice()),
+        }
+    }
+
+    /// The code with which the frame acknowledges the outstanding message.
+    fn acknowledging(&self, frame: &Frame) -> Option<Code>
+        ensures { result ≡ acknowledges self.now self.now.outstanding frame.now }
+    {
+        if self.is_idle() || frame.address != self.address || frame.counter != 0 {
+            return None;
+        }
+        match frame.message.bytes() {
+            [0x18, code, counter] if *counter == self.last => Code::from_byte(*code),
+            _ => None,
+        }
+    }
+
+    /// Takes a piece of what comes over the line: uses its bytes up to and with the one that ends a segment, or all, and
+    /// answers what that brought. Hear the rest of the piece next, until all is used.
+    pub fn hear(&mut self, piece: &[u8]) -> Heard
+        ensures fits { result.used ≤ length piece.now }
+        ensures moves { 0 < length piece.now → 0 < result.used }
+        ensures hears { HearsPiece self.old piece.now result }
+        ensures state { self.new ≡ heard self.old (take result.used piece.now) }
+    {
+        let fed = self.deframer.feed(piece);
+        let used = fed.used;
+        let what = match fed.found {
+            Found::Nothing => HeardWhat::Nothing,
+            Found::Refused(fault) => HeardWhat::Dropped(fault),
+            Found::Frame(frame) => match self.acknowledging(&frame) {
+                None => HeardWhat::Stray,
+                Some(code) => {
+                    self.outstanding = None;
+                    HeardWhat::Acknowledged(code)
+                }
+            },
+        };
+        Heard { used, what }
+    }
+
+    /// The deframer, whose open part is the server's.
+    pub(crate) fn deframer(&self) -> &Deframer
+        ensures { result.now ≡ self.now.part }
+    {
+        &self.deframer
+    }
+
+    /// Forgets a segment that has not ended, as where the line was lost. What is outstanding stays so.
+    pub fn line_lost(&mut self)
+        ensures { self.new ≡ record self.old { part = Closed } }
+    {
+        self.deframer.line_lost();
+    }
+}

@@ -1,0 +1,19 @@
+//! What an event on a line came to. Source: profile.
+use uecp_elements::Code;
+
+/// The answer to an event that was not refused.
+#[derive(Clone, Copy, Debug, PartialEq, Eq)]
+pub enum Stepped {
+    /// The message has this number, counted from 0.
+    Numbered(usize),
+    /// The encoder has the message: now, where that is fresh, or before. This is its code.
+    Delivered { fresh: bool, code: Code },
+    /// The server knows that the message arrived, and its code.
+    Acknowledged(Code),
+    /// The server knew that already.
+    Stray,
+    /// The noise ended this many segments, none of them a frame.
+    Noise { dropped: usize },
+    /// The end forgot what was open.
+    Lost,
+}
