@@ -1,5 +1,5 @@
 -- What a piece does to an encoder, by what its deframer found in it.
-use Rattle.std.proofs.Common.{◌≡◌, ℕ, List, [], take, refl, ◌∙◌, ap, Ok, Err}
+use Rattle.std.proofs.Common.{◌≡◌, ℕ, List, [], take, refl, ◌∙◌, ap}
 use Rattle.uecp_frame.specs.declared.fed.Found.{Found}
 use Rattle.uecp_frame.specs.declared.fed.Found.TheVariants.{Nothing, Frame, Refused}
 use Rattle.uecp_frame.specs.declared.fed.Fed.{Fed}

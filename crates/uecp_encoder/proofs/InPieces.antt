@@ -1,20 +1,18 @@
 -- Where the stream is cut makes no difference, and a frame is heard after noise.
-use Rattle.std.proofs.Common.{◌≡◌, ◌≤◌, ℕ, ◌==◌, Bool, true, false, not, cond, List, [], ◌∷◌, ◌++◌, length, Option, Some, None, Ok, Err, refl, ◌∙◌, ap, sym, append_assoc}
+use Rattle.std.proofs.Common.{◌≡◌, ℕ, ◌==◌, Bool, true, false, not, cond, List, [], ◌∷◌, ◌++◌, Option, Some, None, Ok, Err, refl, ◌∙◌, ap, sym, append_assoc}
 use Rattle.std.specs.Prelude.{flat_map}
 use Rattle.std.proofs.lemmas.List.Concat.{flat_map-append}
-use Rattle.std.proofs.lemmas.List.{append-nil}
 use Rattle.uecp_elements.specs.declared.code.Code.{Code}
 use Rattle.reply_ring.specs.Ring.{kept_code}
-use Rattle.uecp_frame.specs.declared.frame.Frame.{Frame}
 use Rattle.uecp_frame.specs.Address.{reaches}
 use Rattle.uecp_frame.specs.Frame.{spelling}
-use Rattle.uecp_frame.specs.Findings.{Finding, OpenPart, Closed, Doomed, Part, has_frame, is_quiet, found, open_part}
+use Rattle.uecp_frame.specs.Findings.{Finding, OpenPart, Closed, Doomed, Part, has_frame, found, open_part}
 use Rattle.uecp_frame.specs.Beyond.{found_beyond, open_beyond, unended}
 use Rattle.uecp_frame.proofs.Pieces.{in_pieces_lem, new_start_lem, comes_after_lem}
 use Rattle.uecp_frame.proofs.HeardLemmas.{always_heard_lem}
 use Rattle.uecp_encoder.specs.Target.{Step}
 use Rattle.uecp_encoder.specs.State.{EncoderState, raised, numbered, after_finding, after_findings, fed}
-use Rattle.uecp_encoder.specs.Answering.{Response, replied, response_to, responses, bytes_sent, answers}
+use Rattle.uecp_encoder.specs.Answering.{response_to, responses, bytes_sent, answers}
 use Rattle.uecp_encoder.specs.Laws.{IsInPieces, found_in_pieces, joined, IsHeardAfterNoise}
 
 -- ---- an encoder
@@ -79,9 +77,9 @@ answers-append step e x y =
     ∙ ap (flat_map bytes_sent) (responses-append step e xs ys)
     ∙ flat_map-append bytes_sent (responses step e xs) (responses step (after_findings step e xs) ys)
     ∙ ap (λ rs. answers step e x ++ flat_map bytes_sent rs)
-      (sym (responses_open step (after_findings step e xs) (open_beyond e.part x) ys)
-      ∙ ap (λ d. responses step d ys) (sym (findings_open step e (open_beyond e.part x) xs))
-      ∙ ap (λ p. responses step (fed step e x) (found_beyond p y)) (sym (fed-part step e x)))
+    (sym (responses_open step (after_findings step e xs) (open_beyond e.part x) ys)
+    ∙ ap (λ d. responses step d ys) (sym (findings_open step e (open_beyond e.part x) xs))
+    ∙ ap (λ p. responses step (fed step e x) (found_beyond p y)) (sym (fed-part step e x)))
 
 pub in_pieces_of_encoder : {V : Type 0} (step : Step V) (e : EncoderState V) (x y : List ℕ) → IsInPieces step e x y
 in_pieces_of_encoder step e x y = record { state = fed-append step e x y; answers = answers-append step e x y }
@@ -107,9 +105,10 @@ quiet_has_none true h = cc
 quiet_has_none false h = refl
 
 pub heard_after_noise_lem : IsHeardAfterNoise
-heard_after_noise_lem noise f pieces quiet small whole =
-    (found noise ++ unended (open_part noise),
-      has_frame-append (found noise) (unended (open_part noise)) (quiet_has_none (has_frame (found noise)) quiet) (unended_quiet (open_part noise)),
-      found_joined Closed pieces ∙ ap (found_beyond Closed) whole ∙ (new_start_lem Closed (noise ++ spelling f)).found
+heard_after_noise_lem noise f pieces quiet small whole = (
+  found noise ++ unended (open_part noise),
+  has_frame-append (found noise) (unended (open_part noise)) (quiet_has_none (has_frame (found noise)) quiet) (unended_quiet (open_part noise)),
+  found_joined Closed pieces ∙ ap (found_beyond Closed) whole ∙ (new_start_lem Closed (noise ++ spelling f)).found
       ∙ (comes_after_lem noise (spelling f)).found ∙ ap (λ g. found noise ++ g) (always_heard_lem (open_part noise) f small).found
-      ∙ sym (append_assoc (found noise) (unended (open_part noise)) (Ok f ∷ [])))
+      ∙ sym (append_assoc (found noise) (unended (open_part noise)) (Ok f ∷ [])),
+)

@@ -1,5 +1,5 @@
 -- A retry acts once: where the pair of an applied message is in the ring while others are kept.
-use Rattle.std.proofs.Common.{◌≡◌, ℕ, zero, suc, ◌+◌, ◌-◌, ◌≤◌, ◌<◌, ◌==◌, Bool, true, false, cond, List, [], ◌∷◌, take, Option, Some, None, Ok, Err, refl, ◌∙◌, ap, sym, subst, arith, inl, inr, min}
+use Rattle.std.proofs.Common.{◌≡◌, ℕ, zero, suc, ◌+◌, ◌≤◌, ◌==◌, Bool, true, false, cond, List, [], ◌∷◌, take, Option, Some, None, Ok, Err, refl, ◌∙◌, ap, sym, subst, arith, inl, inr}
 use Rattle.std.proofs.lemmas.Bool.{cases_Bool, eqb-true, eq-eqb}
 use Rattle.std.proofs.lemmas.List.{take-take}
 use Rattle.uecp_elements.specs.declared.code.Code.{Code}
@@ -10,7 +10,7 @@ use Rattle.uecp_frame.specs.Frame.{spelling}
 use Rattle.uecp_frame.specs.Findings.{Finding}
 use Rattle.uecp_encoder.specs.Target.{Step}
 use Rattle.uecp_encoder.specs.State.{EncoderState, raised, numbered, after_finding, after_findings}
-use Rattle.uecp_encoder.specs.Answering.{Response, Replied, NotForMe, Unnumbered, Dropped, reply_of, replied, response_to, responses}
+use Rattle.uecp_encoder.specs.Answering.{Replied, NotForMe, Unnumbered, reply_of, replied, response_to, responses}
 use Rattle.uecp_encoder.specs.Laws.{fresh_in, fresh_among, IsRepeat, RetryActsOnce}
 
 -- what the first pairs have, the whole ring has
@@ -50,7 +50,7 @@ module _ {V : Type 0} (step : Step V) (address counter : ℕ) (code : Code) wher
   frame_keeps e n g true false None is kept small = record {
     address_is = kept.address_is;
     pair = subst (λ (m : ℕ). kept_code (take (suc m) (keep e.ring g.counter (step e.value g.message).1)) counter ≡ Some code) (let q : suc n ≡ n + 1 = omega arith in q)
-      (kept_behind e.ring n counter g.counter code (step e.value g.message).1 (omega arith) is kept.pair);
+        (kept_behind e.ring n counter g.counter code (step e.value g.message).1 (omega arith) is kept.pair);
   }
   frame_keeps e n g false z k is kept small = record { address_is = kept.address_is; pair = subst (λ (m : ℕ). kept_code (take (suc m) e.ring) counter ≡ Some code) (let q : n ≡ n + 0 = omega arith in q) kept.pair }
 

@@ -1,12 +1,12 @@
 -- A reply is short.
-use Rattle.std.proofs.Common.{◌≡◌, ◌≢◌, ◌≤◌, ◌<◌, ◌+◌, ◌/◌, ◌%◌, ℕ, List, [], ◌∷◌, ◌++◌, refl, ◌∙◌, ap, length, arith, length-append}
+use Rattle.std.proofs.Common.{◌≡◌, ◌≤◌, ◌<◌, ◌+◌, ◌/◌, ◌%◌, ℕ, List, [], ◌∷◌, ◌∙◌, ap, length, arith, length-append}
 use Rattle.uecp_elements.specs.declared.code.Code.{Code}
 use Rattle.uecp_elements.specs.declared.code.Code.TheVariants.{Applied, UnknownElement, DataSet, Service, OutOfRange, ElementLength, NotHere, BufferFull}
 use Rattle.uecp_elements.specs.Codes.{byte_of}
 use Rattle.uecp_frame.specs.Stuffing.{code, stuffed}
 use Rattle.uecp_frame.specs.Check.{check}
-use Rattle.uecp_frame.specs.Frame.{high_first, body, plain_bytes, spelling}
-use Rattle.uecp_frame.proofs.Codes.{stuffed-nil, stuffed-cons, stuffed-append, code-plain, length-code-le}
+use Rattle.uecp_frame.specs.Frame.{body, plain_bytes, spelling}
+use Rattle.uecp_frame.proofs.Codes.{stuffed-cons, code-plain, length-code-le}
 use Rattle.uecp_frame.proofs.Resumed.{length-stuffed-le}
 use Rattle.uecp_encoder.specs.Answering.{reply_of}
 
@@ -32,14 +32,16 @@ byte_of-small BufferFull = omega arith
 -- of nine plain bytes four are never stuffed
 nine : (a b c n k l : ℕ) → c < 253 → length (stuffed (a ∷ b ∷ 0 ∷ 3 ∷ 0x18 ∷ c ∷ n ∷ k ∷ l ∷ [])) ≤ 14
 nine a b c n k l small =
-    omega (arith,
+    omega (
+      arith,
       stuffed-any a (b ∷ 0 ∷ 3 ∷ 0x18 ∷ c ∷ n ∷ k ∷ l ∷ []),
       stuffed-any b (0 ∷ 3 ∷ 0x18 ∷ c ∷ n ∷ k ∷ l ∷ []),
       stuffed-plain 0 (3 ∷ 0x18 ∷ c ∷ n ∷ k ∷ l ∷ []) (omega arith),
       stuffed-plain 3 (0x18 ∷ c ∷ n ∷ k ∷ l ∷ []) (omega arith),
       stuffed-plain 0x18 (c ∷ n ∷ k ∷ l ∷ []) (omega arith),
       stuffed-plain c (n ∷ k ∷ l ∷ []) small,
-      length-stuffed-le (n ∷ k ∷ l ∷ []))
+      length-stuffed-le (n ∷ k ∷ l ∷ []),
+    )
 
 pub reply_is_short : (address counter : ℕ) (c : Code) → length (spelling (reply_of address counter c)) ≤ 16
 unfolding spelling plain_bytes body

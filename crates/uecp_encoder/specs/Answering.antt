@@ -1,5 +1,5 @@
--- What an encoder answers.
-use Rattle.std.specs.Prelude.{◌≡◌, ℕ, ◌<◌, ◌≤◌, ◌==◌, Bool, true, false, List, [], ◌∷◌, ◌++◌, length, take, flat_map, Option, Some, None, Ok, Err, if◌then◌else◌}
+-- What an encoder answers. Source: profile; a reply is a frame of RDS Forum SPB 490.
+use Rattle.std.specs.Prelude.{◌≡◌, ℕ, ◌<◌, ◌==◌, Bool, true, false, List, [], ◌∷◌, length, take, flat_map, Option, Some, None, Ok, Err, if◌then◌else◌}
 use Rattle.uecp_frame.specs.declared.frame.Frame.{Frame}
 use Rattle.uecp_frame.specs.declared.fault.FrameFault.{FrameFault}
 use Rattle.uecp_frame.specs.Address.{reaches}
@@ -26,21 +26,24 @@ pub data Response : Type 0 where
   Unnumbered : Response
   Dropped : FrameFault → Response
 
--- to a numbered frame for it, by the code that is kept for the counter
+-- To a numbered frame for it, by the code that is kept for the counter: the kept code again, or the code of the message applied now.
 abbrev pub replied : {V : Type 0} → Step V → EncoderState V → Frame → Option Code → Response
 replied step e f (Some code) = Replied (spelling (reply_of e.address f.counter code)) false
 replied step e f None = Replied (spelling (reply_of e.address f.counter (step e.value f.message).1)) true
 
+-- To one finding, from this state: a fault is dropped, a frame for another and one with counter 00 are named, and a numbered
+-- frame for this encoder gets a reply.
 abbrev pub response_to : {V : Type 0} → Step V → EncoderState V → Finding → Response
 response_to step e (Err fault) = Dropped fault
 response_to step e (Ok f) =
     if reaches f.address e.address then (if f.counter == 0 then Unnumbered else replied step e f (kept_code e.ring f.counter)) else NotForMe
 
+-- to findings one after another, each from the state that the one before left
 abbrev pub responses : {V : Type 0} → Step V → EncoderState V → List Finding → List Response
 responses step e [] = []
 responses step e (f ∷ fs) = response_to step e f ∷ responses step (after_finding step e f) fs
 
--- the bytes that go back to the server
+-- The bytes that go back to the server: those of a reply, and for anything else none.
 abbrev pub bytes_sent : Response → List ℕ
 bytes_sent (Replied bytes fresh) = bytes
 bytes_sent NotForMe = []

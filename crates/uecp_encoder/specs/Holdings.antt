@@ -1,4 +1,4 @@
--- What an encoder holds apart from the open part of the line.
+-- What an encoder holds apart from the open part of the line. Source: profile.
 use Rattle.std.specs.Prelude.{ℕ, List, [], ◌∷◌}
 use Rattle.uecp_frame.specs.Findings.{OpenPart}
 use Rattle.uecp_encoder.specs.declared.holdings.Holdings.{Holdings}

@@ -1,5 +1,5 @@
--- What users of an encoder rely on, for every target.
-use Rattle.std.specs.Prelude.{◌≡◌, ℕ, ◌+◌, ◌≤◌, Bool, true, false, List, [], ◌∷◌, ◌++◌, length, flat_map, Ok, if◌then◌else◌}
+-- What users of an encoder rely on, for every target. Source: profile.
+use Rattle.std.specs.Prelude.{◌≡◌, ℕ, ◌+◌, ◌≤◌, true, false, List, [], ◌∷◌, ◌++◌, length, flat_map, Ok, if◌then◌else◌}
 use Rattle.uecp_frame.specs.declared.frame.Frame.{Frame}
 use Rattle.uecp_frame.specs.Frame.{spelling}
 use Rattle.uecp_frame.specs.Findings.{Finding, OpenPart, Closed, has_frame, is_quiet}
@@ -39,6 +39,7 @@ RetryActsOnce {V} step =
 
 -- ---- Where the stream is cut makes no difference.
 
+-- Two pieces leave the encoder, and bring the replies, that they do as one.
 pub record IsInPieces {V : Type 0} (step : Step V) (e : EncoderState V) (x y : List ℕ) : Type 0 where
   pub state : fed step e (x ++ y) ≡ fed step (fed step e x) y
   pub answers : answers step e (x ++ y) ≡ answers step e x ++ answers step (fed step e x) y
@@ -50,6 +51,7 @@ abbrev pub found_in_pieces : OpenPart → List (List ℕ) → List Finding
 found_in_pieces o [] = []
 found_in_pieces o (piece ∷ pieces) = found_beyond o piece ++ found_in_pieces (open_beyond o piece) pieces
 
+-- the pieces as one list of bytes
 abbrev pub joined : List (List ℕ) → List ℕ
 joined pieces = flat_map (λ piece. piece) pieces
 

@@ -1,6 +1,5 @@
--- An encoder as one value, and what findings do to it.
-use Rattle.std.specs.Prelude.{ℕ, ◌+◌, ◌-◌, ◌^◌, ◌==◌, min, Bool, true, false, List, [], ◌∷◌, Option, Some, None, Ok, Err, if◌then◌else◌, refl}
-use Rattle.std.specs.Coded.{Coded, code_by, coded×, coded_ℕ, coded_list}
+-- An encoder as one value, and what findings do to it. Source: profile.
+use Rattle.std.specs.Prelude.{ℕ, ◌+◌, ◌-◌, ◌^◌, ◌==◌, min, List, [], ◌∷◌, Option, Some, None, Ok, Err, if◌then◌else◌}
 use Rattle.uecp_frame.specs.declared.frame.Frame.{Frame}
 use Rattle.uecp_frame.specs.Address.{reaches}
 use Rattle.uecp_frame.specs.Findings.{Finding, OpenPart, Closed}
@@ -18,6 +17,7 @@ pub record EncoderState (V : Type 0) : Type 0 where
   pub counts : Counts
   pub part : OpenPart
 
+-- nothing counted
 abbrev pub no_counts : Counts
 no_counts = record { fresh = 0; repeats = 0; not_for_me = 0; unnumbered = 0; dropped = 0 }
 
@@ -41,21 +41,22 @@ numbered step e f None = record {
   part = e.part;
 }
 
--- The encoder after one finding. A fault is counted; so is a frame that is not for it, and one with counter 00.
+-- The encoder after one finding, judged in this order: a fault is counted, and so is a frame whose address does not reach the
+-- encoder, and one with counter 00; any other frame is a numbered one for it. None of this touches the open part.
 abbrev pub after_finding : {V : Type 0} → Step V → EncoderState V → Finding → EncoderState V
 after_finding step e (Err fault) = record e { counts = record e.counts { dropped = raised e.counts.dropped } }
 after_finding step e (Ok f) =
     if reaches f.address e.address
     then (if f.counter == 0
-        then record e { counts = record e.counts { unnumbered = raised e.counts.unnumbered } }
-        else numbered step e f (kept_code e.ring f.counter))
+    then record e { counts = record e.counts { unnumbered = raised e.counts.unnumbered } }
+    else numbered step e f (kept_code e.ring f.counter))
     else record e { counts = record e.counts { not_for_me = raised e.counts.not_for_me } }
 
+-- the encoder after findings, one after another
 abbrev pub after_findings : {V : Type 0} → Step V → EncoderState V → List Finding → EncoderState V
 after_findings step e [] = e
 after_findings step e (f ∷ fs) = after_findings step (after_finding step e f) fs
 
--- the encoder after these bytes
+-- The encoder after these bytes: what they find was taken, and what they leave open is open.
 abbrev pub fed : {V : Type 0} → Step V → EncoderState V → List ℕ → EncoderState V
 fed step e bytes = after_findings step (record e { part = open_beyond e.part bytes }) (found_beyond e.part bytes)
-

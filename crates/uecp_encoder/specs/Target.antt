@@ -1,4 +1,4 @@
--- What a target does with one message.
+-- What a target does with one message. Source: profile.
 use Rattle.std.specs.Prelude.{ℕ, List}
 use Rattle.uecp_elements.specs.declared.code.Code.{Code}
 

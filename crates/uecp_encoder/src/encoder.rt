@@ -47,7 +47,15 @@ impl<T: Target> Model for Encoder<T> {
 }
 
 impl<T: Target> Encoder<T> {
-    /// An encoder at this address, which is its own: neither part is 0. Nothing is kept, counted or open.
+    /// A new encoder, with nothing kept, counted or open. All its memory is taken here; where there is none, the fault hands
+    /// the target back.
+    ///
+    /// The caller knows that the address is one encoder's own: neither part is 0 ([`Address::is_exact`]).
+    ///
+    /// ```
+    /// let store = RdsStore::new(alloc, 1, &[0x01])?;
+    /// let mut encoder = Encoder::new(alloc, address, store)?;
+    /// ```
     pub fn new(alloc: Global, address: Address, target: T) -> Result<Encoder<T>, EncoderFault<T>>
         requires { IsTrue (is_exact address) }
         ensures made { IfOk result (λ e. e ≡ opening address target) }
@@ -70,6 +78,10 @@ impl<T: Target> Encoder<T> {
 
     /// Takes a piece of what comes over the line: uses its bytes up to and with the one that ends a segment, or all, and
     /// answers what that brought. Send the reply if there is one, then feed the rest of the piece, until all is used.
+    ///
+    /// ```
+    /// let answer = encoder.feed(&[0xfe, 0xff, 0x00]); // used 2, What::Dropped(FrameFault::TooShort)
+    /// ```
     pub fn feed(&mut self, piece: &[u8]) -> Answer<'_>
         ensures fits { result.used ≤ length piece.now }
         ensures moves { 0 < length piece.now → 0 < result.used }
@@ -95,7 +107,14 @@ impl<T: Target> Encoder<T> {
         Answer { used, what }
     }
 
-    /// Forgets a segment that has not ended, as where the line was lost. Nothing else changes.
+    /// Forgets a segment that has not ended, as where the line was lost. Nothing else changes: the kept replies stay, so that
+    /// a message which was applied before is still known on the next connection.
+    ///
+    /// ```
+    /// encoder.feed(&[0xfe, 0x00]);
+    /// encoder.line_lost();
+    /// let answer = encoder.feed(&[0xff]); // What::Nothing
+    /// ```
     pub fn line_lost(&mut self)
         ensures { self.new ≡ record self.old { part = Closed } }
     {
@@ -103,6 +122,10 @@ impl<T: Target> Encoder<T> {
     }
 
     /// The deframer, whose open part is the encoder's.
+    ///
+    /// ```
+    /// let mut ahead = encoder.deframer().copy(); // finds what the encoder will find
+    /// ```
     pub fn deframer(&self) -> &Deframer
         ensures { result.now ≡ self.now.part }
     {
@@ -110,6 +133,10 @@ impl<T: Target> Encoder<T> {
     }
 
     /// The target, as the applied messages have made it.
+    ///
+    /// ```
+    /// let main = encoder.target().service(1, 0x01); // of a store: set 1, service 01
+    /// ```
     pub fn target(&self) -> &T
         ensures { result.now ≡ self.now.value }
     {
@@ -117,6 +144,11 @@ impl<T: Target> Encoder<T> {
     }
 
     /// What was counted since the encoder was made.
+    ///
+    /// ```
+    /// encoder.feed(&[0xfe, 0xff]);
+    /// let dropped = encoder.counts().dropped; // one more than before
+    /// ```
     pub fn counts(&self) -> Counts
         ensures { result ≡ self.now.counts }
     {

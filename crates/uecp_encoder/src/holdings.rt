@@ -15,13 +15,17 @@ use uecp_frame::{Address, Found, Frame, FrameFault};
 /// The encoder's memory between frames.
 #[derive(Drop)]
 pub(crate) struct Holdings<T> {
+    /// The encoder's own address, from which its replies go out.
     pub(crate) address: Address,
+    /// What the messages are applied to.
     pub(crate) target: T,
+    /// The codes of the last 127 applied messages, by counter.
     pub(crate) ring: ReplyRing,
+    /// What came, by kind.
     pub(crate) counts: Counts,
 }
 
-/// What a finding came to.
+/// What a finding came to. It owns what it says, so that the reply can be spelled once the target is at rest.
 #[derive(Clone, Copy, Debug)]
 pub(crate) enum Outcome {
     Nothing,

@@ -24,3 +24,6 @@ pub use answer::{Answer, ReplyBytes, What};
 pub use counts::Counts;
 pub use encoder::{Encoder, EncoderFault};
 pub use target::Target;
+
+#[cfg(test)]
+mod tests;

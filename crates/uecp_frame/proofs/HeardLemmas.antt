@@ -1,17 +1,16 @@
 -- The spelling of a frame is heard as that frame.
-use Rattle.std.proofs.Common.{◌≡◌, ◌≤◌, ◌∙◌, ℕ, List, [], ◌∷◌, ◌++◌, refl, ap, sym, length, append_assoc, cond, true, false, Ok, Err, arith}
+use Rattle.std.proofs.Common.{◌≡◌, ◌≤◌, ◌∙◌, ℕ, List, [], ◌∷◌, ◌++◌, refl, ap, sym, length, false, Ok}
 use Rattle.std.proofs.lemmas.List.{append-nil}
 use Rattle.uecp_frame.specs.declared.frame.Frame.{Frame}
-use Rattle.uecp_frame.specs.declared.fault.FrameFault.TheVariants.{Unended}
 use Rattle.uecp_frame.specs.Stuffing.{stuffed, unstuffed}
 use Rattle.uecp_frame.specs.Segment.{judged, finding}
 use Rattle.uecp_frame.specs.Frame.{plain_bytes, spelling}
-use Rattle.uecp_frame.specs.Findings.{Finding, OpenPart, Closed, Doomed, Part, found, found_at, segment_found, before_delimiter, from_delimiter, open_from, open_part}
-use Rattle.uecp_frame.specs.Beyond.{closing, found_beyond, open_beyond, unended, IsHeard}
+use Rattle.uecp_frame.specs.Findings.{OpenPart, Closed, Doomed, Part, found, found_at, segment_found, from_delimiter, open_from}
+use Rattle.uecp_frame.specs.Beyond.{closing, open_beyond, unended, IsHeard}
 use Rattle.uecp_frame.proofs.Spelling.{stuffed_none}
 use Rattle.uecp_frame.proofs.Delimiters.{HasNone, open_bytes-none, from_delimiter-append, before_delimiter-append}
 use Rattle.uecp_frame.proofs.Decoding.{decoded-spelling, decoded-ended}
-use Rattle.uecp_frame.proofs.Future.{beyond_is, found-append, found-start, found-none}
+use Rattle.uecp_frame.proofs.Future.{beyond_is, found-start, found-none}
 use Rattle.uecp_frame.proofs.Pieces.{open_beyond-append}
 use Rattle.uecp_frame.proofs.Taking.{end_finds, end_closes}
 

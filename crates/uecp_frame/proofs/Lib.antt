@@ -7,6 +7,6 @@ pub mod Pieces
 pub mod Taking
 pub mod Spelling
 pub mod Decoding
-pub mod Rows
+pub mod Examples
 pub mod ByPlaces
 pub mod HeardLemmas

@@ -1,12 +1,12 @@
 -- Bytes may come in any pieces, whatever part is open.
-use Rattle.std.proofs.Common.{◌≡◌, ◌||◌, ◌==◌, ℕ, true, false, cond, List, [], ◌∷◌, ◌++◌, refl, ◌∙◌, ap, sym, append_assoc, Err, inl, inr}
+use Rattle.std.proofs.Common.{◌≡◌, ◌||◌, ◌==◌, ℕ, false, cond, List, [], ◌∷◌, ◌++◌, refl, ◌∙◌, ap, sym, append_assoc, Err, inl, inr}
 use Rattle.std.specs.List.{list_any}
 use Rattle.std.proofs.lemmas.Bool.{cases_Bool, or_left, or_right}
 use Rattle.std.proofs.lemmas.List.{append-nil}
 use Rattle.uecp_frame.specs.declared.fault.FrameFault.TheVariants.{Unended}
-use Rattle.uecp_frame.specs.Stuffing.{is_delimiter, Reading, unstuffed}
+use Rattle.uecp_frame.specs.Stuffing.{is_delimiter}
 use Rattle.uecp_frame.specs.Segment.{judged}
-use Rattle.uecp_frame.specs.Findings.{Finding, before_delimiter, from_delimiter, found, OpenPart, Closed, Doomed, Part, progress, open_part}
+use Rattle.uecp_frame.specs.Findings.{before_delimiter, from_delimiter, found, OpenPart, Closed, Doomed, Part, progress, open_part}
 use Rattle.uecp_frame.specs.Beyond.{resumed, closing, closing_at, found_beyond, prolonged, open_beyond, ComesAfter, ComesInPieces, IsNewStart}
 use Rattle.uecp_frame.proofs.Resumed.{resumed-append, rest_is_no_code}
 use Rattle.uecp_frame.proofs.Delimiters.{HasNone, HasOne, any-append, from_delimiter-append, before_delimiter-append, from_delimiter-more, before_delimiter-more, from_delimiter-none, from_delimiter-one, open_bytes-none, open_bytes-append_one}

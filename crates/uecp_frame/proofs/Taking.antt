@@ -17,8 +17,8 @@ use Rattle.uecp_frame.proofs.Reading.{reading_of_cons}
 use Rattle.uecp_frame.proofs.Pieces.{found_beyond-nil, open_beyond-nil, found_beyond-append, open_beyond-append, comes_after_lem}
 use Rattle.uecp_frame.specs.Beyond.{resumed, closing, closing_at, prolonged, found_beyond, open_beyond}
 use Rattle.uecp_frame.proofs.Resumed.{unstuffed-append, rest_is_no_code, unstuffed-joined, length-stuffed-le}
-use Rattle.uecp_frame.proofs.Delimiters.{HasNone, from_delimiter-none, open_bytes-here, open_bytes-other, open_bytes-append_one, segment_found-none}
-use Rattle.uecp_frame.proofs.Future.{IsDoomed, closing_is, future, beyond_is, open_beyond-one, open_beyond-none, found-nil, found-start, found-other, found-none, found-append, is_stuck, progress-long, stuck_is_doomed, long_is_doomed, long_is_not_stuck, fuller_is_long, nothing_both, progress-append}
+use Rattle.uecp_frame.proofs.Delimiters.{HasNone, from_delimiter-none, open_bytes-here, open_bytes-other, segment_found-none}
+use Rattle.uecp_frame.proofs.Future.{IsDoomed, closing_is, beyond_is, open_beyond-one, open_beyond-none, found-nil, found-start, found-other, found-none, found-append, is_stuck, progress-long, stuck_is_doomed, long_is_doomed, long_is_not_stuck, fuller_is_long, nothing_both, progress-append}
 
 -- ---- an FE
 found-fe : found (254 ∷ []) ≡ []

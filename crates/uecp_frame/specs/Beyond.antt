@@ -1,5 +1,5 @@
 -- What more bytes find, and which part they leave open, by the part that was open before them.
-use Rattle.std.specs.Prelude.{◌≡◌, ◌≤◌, ℕ, ◌==◌, if◌then◌else◌, List, [], ◌∷◌, ◌++◌, length, Ok, Err}
+use Rattle.std.specs.Prelude.{◌≡◌, ℕ, ◌==◌, if◌then◌else◌, List, [], ◌∷◌, ◌++◌, Ok, Err}
 use Rattle.std.specs.List.{list_any}
 use Rattle.uecp_frame.specs.declared.frame.Frame.{Frame}
 use Rattle.uecp_frame.specs.declared.fault.FrameFault.TheVariants.{Unended}
@@ -8,32 +8,33 @@ use Rattle.uecp_frame.specs.Segment.{judged}
 use Rattle.uecp_frame.specs.Frame.{spelling}
 use Rattle.uecp_frame.specs.Findings.{Finding, before_delimiter, from_delimiter, found, OpenPart, Closed, Doomed, Part, progress, open_part}
 
--- a reading goes on from what it left, where bytes z follow
+-- A reading goes on from what it left where bytes z follow (profile).
 abbrev pub resumed : Reading → List ℕ → Reading
 resumed y z = after y.plain (unstuffed (y.rest ++ z))
 
--- what an open part comes to where bytes z follow, and then this FE or FF
+-- An open part comes to one finding where bytes z follow and then this FE or FF; nothing open comes to none (profile).
 abbrev pub closing : OpenPart → List ℕ → ℕ → List Finding
 closing Closed z delimiter = []
 closing (Doomed fault) z delimiter = (if delimiter == 0xFF then Err fault else Err Unended) ∷ []
 closing (Part y) z delimiter = (if delimiter == 0xFF then judged (resumed y z) else Err Unended) ∷ []
 
+-- An open part comes to nothing yet where no FE and no FF follows the bytes z (profile).
 abbrev pub closing_at : OpenPart → List ℕ → List ℕ → List Finding
 closing_at o z [] = []
 closing_at o z (delimiter ∷ more) = closing o z delimiter
 
--- the findings that x adds: what the open part comes to at the first FE or FF of x, and then those of x alone
+-- The findings that x adds are what the open part comes to at the first FE or FF of x, and then those of x alone (profile).
 unfoldable pub found_beyond : OpenPart → List ℕ → List Finding
 found_beyond o x = closing_at o (before_delimiter x) (from_delimiter x) ++ found x
 
--- an open part where bytes with no FE and no FF follow
+-- An open part is prolonged by bytes with no FE and no FF: a certain fault stays, and a reading goes on (profile).
 abbrev pub prolonged : OpenPart → List ℕ → OpenPart
 prolonged Closed z = Closed
 prolonged (Doomed fault) z = Doomed fault
 prolonged (Part y) [] = Part y
 prolonged (Part y) (b ∷ z) = progress (resumed y (b ∷ z))
 
--- the part that x leaves open
+-- The part that x leaves open is its own where it has an FE or FF, else the part that was open, prolonged (profile).
 unfoldable pub open_beyond : OpenPart → List ℕ → OpenPart
 open_beyond o x = if list_any is_delimiter x then open_part x else prolonged o x
 
@@ -55,7 +56,7 @@ pub record IsNewStart (o : OpenPart) (x : List ℕ) : Type 0 where
   pub found : found_beyond Closed x ≡ found x
   pub left : open_beyond Closed x ≡ open_part x
 
--- A new FE ends what is open.
+-- A new FE ends what is open as unended (profile).
 abbrev pub unended : OpenPart → List Finding
 unended Closed = []
 unended (Doomed fault) = Err Unended ∷ []

@@ -1,9 +1,8 @@
 //! Frames out of a stream. Source: RDS Forum SPB 490, frame format, for segments; profile for the order of faults.
 use crate::fault::FrameFault;
 use crate::fed::{Fed, Found};
-use crate::frame::{END, START};
+use crate::frame::{END, START, SegmentBytes};
 use crate::kept::judge_kept;
-use arrayvec::ArrayVec;
 use std::marker::Model;
 
 /// Finds the frames of a stream that comes in any pieces. It keeps the segment that has not ended, and nothing else;
@@ -12,8 +11,8 @@ use std::marker::Model;
 pub struct Deframer {
     /// Whether an FE came that no FE or FF has ended.
     is_open: bool,
-    /// The bytes after that FE as they came, up to the 522 of the longest frame.
-    bytes: ArrayVec<u8, 522>,
+    /// The bytes after that FE as they came, as far as there is room.
+    bytes: SegmentBytes,
     /// Whether more came than are kept, and so whatever follows is too long.
     is_longer: bool,
 }
@@ -41,7 +40,7 @@ impl Deframer {
     {
         Deframer {
             is_open: false,
-            bytes: ArrayVec::new(),
+            bytes: SegmentBytes::new(),
             is_longer: false,
         }
     }
@@ -50,9 +49,7 @@ impl Deframer {
     pub fn line_lost(&mut self)
         ensures { self.new ≡ Closed }
     {
-        self.is_open = false;
-        self.bytes.clear();
-        self.is_longer = false;
+        *self = Deframer::new();
     }
 
     /// Another deframer that will find the same.
@@ -60,7 +57,7 @@ impl Deframer {
         ensures { result ≡ self.now }
     {
         let kept = self.bytes.as_slice();
-        let mut bytes = ArrayVec::new();
+        let mut bytes = SegmentBytes::new();
         for byte in kept {
             bytes.push(*byte);
         }

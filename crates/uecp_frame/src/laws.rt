@@ -1,4 +1,4 @@
-//! Laws of the definitions, each the contract of a function that does nothing.
+//! Laws of the definitions, each the contract of a function that does nothing. Source: profile.
 ghost use Rattle.std.specs.Prelude.{ℕ, List, length, ◌≤◌};
 ghost use Rattle.uecp_frame.specs.declared.frame.Frame.{Frame as FrameValue};
 ghost use Rattle.uecp_frame.specs.Places.{AreFoundByPlaces};

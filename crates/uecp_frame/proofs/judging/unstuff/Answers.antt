@@ -3,7 +3,7 @@ use Rattle.std.proofs.lemmas.Bool.{eqb-true, eqb-false}
 use Rattle.uecp_frame.proofs.Codes.{stuffed-nil, length-stuffed-plain, length-stuffed-escaped, none_at}
 use Rattle.uecp_frame.proofs.Reading.{reads_plain, reads_escaped, judged_stuck, judged_full, reads_all}
 use Rattle.uecp_frame.proofs.judging.unstuff.Goals as goal
-use Rattle.uecp_frame.proofs.judging.unstuff.Goals.{else-place-bytes-via-then-place-bytes+else-bytes-place-lt3, else-place-bytes-via-else-place-bytes}
+use Rattle.uecp_frame.proofs.judging.unstuff.Goals.{else-place-bytes-via-then-place-bytes+else-bytes-place-lt-STUFFED, else-place-bytes-via-else-place-bytes}
 
 pub loop-place-init : goal.loop-place-init
 loop-place-init c = record {
@@ -32,8 +32,8 @@ pub loop-place-preserved : goal.loop-place-preserved
 loop-place-preserved c =
     let d = get_or c.args.bytes.now (c.loop-place.place + 1) 0 in
     record {
-      reads = rw c.push-then-bytes-place-lt3.ensures.items (reads_escaped c.args.bytes.now c.loop-place.plain.items c.loop-place.place d (omega arith) c.if-byte.false refl c.if-bytes-place-lt3.true c.loop-place.invariant.reads);
-      reached = rw c.push-then-bytes-place-lt3.ensures.items (omega (arith, length-stuffed-escaped c.loop-place.plain.items d c.if-bytes-place-lt3.true));
+      reads = rw c.push-then-bytes-place-lt-STUFFED.ensures.items (reads_escaped c.args.bytes.now c.loop-place.plain.items c.loop-place.place d (omega arith) c.if-byte.false refl c.if-bytes-place-lt-STUFFED.true c.loop-place.invariant.reads);
+      reached = rw c.push-then-bytes-place-lt-STUFFED.ensures.items (omega (arith, length-stuffed-escaped c.loop-place.plain.items d c.if-bytes-place-lt-STUFFED.true));
       inside = omega arith;
       room = omega (arith, eqb-false (length c.loop-place.plain.items) 261 (sym c.is_full.ensures.value ∙ c.if-is_full.false));
     }
@@ -42,7 +42,7 @@ pub returns-else-place-bytes-clause-err : goal.returns-else-place-bytes-clause-e
 returns-else-place-bytes-clause-err c =
     let second : c.loop-place.place + 1 < length c.args.bytes.now → 3 ≤ get_or c.args.bytes.now (c.loop-place.place + 1) 0 =
     elim c.else-place-bytes.branch [
-      | else-place-bytes-via-then-place-bytes+else-bytes-place-lt3 w ↦ (λ h. w.if-bytes-place-lt3.false)
+      | else-place-bytes-via-then-place-bytes+else-bytes-place-lt-STUFFED w ↦ (λ h. w.if-bytes-place-lt-STUFFED.false)
       | else-place-bytes-via-else-place-bytes w ↦ (λ h. absurd (omega arith))
     ] in
     rw c.loop-place.invariant.reached

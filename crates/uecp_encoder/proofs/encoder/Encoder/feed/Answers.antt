@@ -38,10 +38,12 @@ returns g c =
     ∙ ap (λ e. fed step e (take c.feed-fed.result.used c.args.piece.now)) c.self.view_is in
     let answers : AnswersPiece step old c.args.piece.now (record { used = c.feed-fed.result.used; what = c.match-take.what }) =
     answers_piece step old c.args.piece.now c.feed-fed.result c.feed-fed.new.self c.match-take.what c.feed-fed.ensures.feeds
-      (sym (c.take.ensures.says c.self.inside.deframer) ∙ sym says) in
-    ((refl, (λ _. tt), state), record {
-      fits = c.feed-fed.ensures.fits;
-      moves = c.feed-fed.ensures.moves;
-      answers = subst (λ e. AnswersPiece step e c.args.piece.now (record { used = c.feed-fed.result.used; what = c.match-take.what })) c.self.view_is answers;
-      after = tt;
-    })
+    (sym (c.take.ensures.says c.self.inside.deframer) ∙ sym says) in (
+      (refl, (λ _. tt), state),
+      record {
+        fits = c.feed-fed.ensures.fits;
+        moves = c.feed-fed.ensures.moves;
+        answers = subst (λ e. AnswersPiece step e c.args.piece.now (record { used = c.feed-fed.result.used; what = c.match-take.what })) c.self.view_is answers;
+        after = tt;
+      },
+    )

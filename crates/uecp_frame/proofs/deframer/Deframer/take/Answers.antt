@@ -1,4 +1,4 @@
-use Rattle.std.proofs.Common.{◌≡◌, ◌∙◌, ap, sym, true, false, List, Bool, [], ◌∷◌, ◌++◌, Err, length, inl, inr}
+use Rattle.std.proofs.Common.{◌≡◌, ◌∙◌, ap, sym, true, false, List, Bool, [], ◌∷◌, Err, length, inl, inr}
 use Rattle.std.specs.Prelude.{if◌then◌else◌}
 use Rattle.std.proofs.lemmas.Bool.{eqb-true, eqb-false, cases_Bool}
 use Rattle.uecp_frame.specs.declared.fault.FrameFault.TheVariants.{Unended}
