@@ -1,22 +1,21 @@
 -- What a reply that the line lets pass does: for the call that brings it to the server.
-use Rattle.std.proofs.Common.{◌≡◌, ℕ, zero, suc, ◌+◌, ◌-◌, ◌%◌, ◌<◌, ◌≤◌, ◌==◌, Bool, true, false, cond, List, [], ◌∷◌, ◌++◌, length, Option, Some, None, Ok, Err, nat_lt, refl, ap, sym, subst, ◌∙◌, ◌⊎◌, arith, inl, inr}
-use Rattle.std.specs.Prelude.{is_some, slice_get}
-use Rattle.std.proofs.lemmas.Bool.{cases_eq, cases_Bool, eq-eqb, eqb-true, eqb-false, lt-ltb, le-ltb, le-leb, ne_eqb}
+use Rattle.std.proofs.Common.{◌≡◌, ℕ, ◌+◌, ◌<◌, ◌≤◌, ◌==◌, Bool, true, false, cond, List, [], ◌∷◌, ◌++◌, length, Option, Some, None, Ok, Err, nat_lt, refl, ap, sym, ◌∙◌, arith, inl, inr}
+use Rattle.std.specs.Prelude.{slice_get}
+use Rattle.std.proofs.lemmas.Bool.{cases_eq, eq-eqb, eqb-true, eqb-false, lt-ltb, le-ltb, le-leb, ne_eqb}
 use Rattle.uecp_elements.specs.declared.code.Code.{Code}
 use Rattle.uecp_frame.specs.declared.frame.Frame.{Frame}
 use Rattle.uecp_frame.specs.Frame.{spelling}
 use Rattle.uecp_frame.specs.Findings.{Finding, has_frame}
-use Rattle.uecp_frame.specs.Beyond.{found_beyond}
 use Rattle.uecp_encoder.specs.Target.{Step}
 use Rattle.uecp_encoder.specs.Answering.{reply_of}
-use Rattle.uecp_link.specs.Server.{ServerState, acknowledges, heard_finding, heard_findings, heard, heard_as, all_heard_as, told}
+use Rattle.uecp_link.specs.Server.{ServerState, acknowledges, heard, all_heard_as, told}
 use Rattle.uecp_link.specs.Replying.{last_of, code_heard, codes_heard, acknowledgements}
-use Rattle.uecp_link.specs.Once.{Event, ReplyComes, Answer, message_at, refusal_of, acknowledgement}
+use Rattle.uecp_link.specs.Once.{ReplyComes, acknowledgement}
 use Rattle.uecp_link.specs.Law.{counter_of, reply_bytes}
-use Rattle.uecp_link.specs.Kept.{last_counter, ServerIs, Waits, Kept}
-use Rattle.uecp_link.specs.Holds.{LineState, once_of, IsLine}
+use Rattle.uecp_link.specs.Kept.{last_counter, ServerIs, Waits}
+use Rattle.uecp_link.specs.Holds.{LineState, IsLine}
 use Rattle.uecp_link.specs.Events.{answer_seen}
-use Rattle.uecp_link.specs.Next.{line_next, acknowledged_next, Passes, Goes, stepped_by, one_if}
+use Rattle.uecp_link.specs.Next.{acknowledged_next, Passes, Goes, stepped_by, one_if}
 use Rattle.uecp_link.proofs.Wire.{whole}
 use Rattle.uecp_link.proofs.Ring.{counters_differ}
 use Rattle.uecp_link.proofs.Numbering.{last_counter-at}

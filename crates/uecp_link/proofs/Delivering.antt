@@ -1,6 +1,6 @@
 -- What a frame that the line lets pass does: for the call that delivers it.
-use Rattle.std.proofs.Common.{◌≡◌, ℕ, zero, suc, ◌+◌, ◌-◌, ◌%◌, ◌<◌, ◌≤◌, ◌==◌, Bool, true, false, cond, List, [], ◌∷◌, ◌++◌, length, get_or, Option, Some, None, Ok, Err, nat_lt, nat_le, refl, ap, sym, subst, ◌∙◌, arith, inl, inr}
-use Rattle.std.specs.Prelude.{is_some, is_none, slice_get}
+use Rattle.std.proofs.Common.{◌≡◌, ℕ, ◌+◌, ◌%◌, ◌<◌, ◌≤◌, ◌==◌, Bool, true, false, cond, List, [], ◌∷◌, ◌++◌, length, get_or, Option, Some, None, Ok, Err, refl, ap, sym, subst, ◌∙◌, arith}
+use Rattle.std.specs.Prelude.{is_some, slice_get}
 use Rattle.std.proofs.lemmas.Bool.{lt-ltb, le-leb, ne_eqb, false≢true, ltb-false}
 use Rattle.std.proofs.lemmas.List.{get_or_default}
 use Rattle.uecp_elements.specs.declared.code.Code.{Code}
@@ -15,9 +15,8 @@ use Rattle.uecp_encoder.specs.State.{EncoderState, raised, numbered, after_findi
 use Rattle.uecp_link.specs.declared.stepped.Stepped.{Stepped}
 use Rattle.uecp_link.specs.declared.stepped.Stepped.TheVariants as stepped
 use Rattle.uecp_link.specs.Replying.{coded, reply_to, last_of, replies_to, replies}
-use Rattle.uecp_link.specs.Once.{Event, FrameComes, Answer, Delivered, message_at, refusal_of, delivery}
+use Rattle.uecp_link.specs.Once.{Event, FrameComes, Delivered, message_at, delivery}
 use Rattle.uecp_link.specs.Law.{counter_of, frame_of, Fits}
-use Rattle.uecp_link.specs.Kept.{Kept, EncoderIs}
 use Rattle.uecp_link.specs.Holds.{LineState, once_of, IsLine}
 use Rattle.uecp_link.specs.Next.{line_next, codes_with, codes_next, Passes, Goes}
 use Rattle.uecp_link.proofs.Wire.{whole}

@@ -1,16 +1,12 @@
 -- The once-machine's value and codes are those of a fold.
-use Rattle.std.proofs.Common.{◌≡◌, ℕ, zero, suc, ◌+◌, ◌<◌, ◌≤◌, ◌==◌, Bool, true, false, cond, List, [], ◌∷◌, ◌++◌, length, get_or, take, Option, Some, None, nat_lt, refl, ap, sym, ◌∙◌, arith, inl, inr, eq-eqb}
-use Rattle.std.specs.Prelude.{is_some, slice_get}
-use Rattle.std.proofs.lemmas.Bool.{cases_eq, ne_eqb, ltb-false}
+use Rattle.std.proofs.Common.{◌≡◌, ℕ, zero, suc, ◌+◌, ◌<◌, ◌≤◌, ◌==◌, cond, List, [], ◌∷◌, ◌++◌, length, take, Option, Some, None, refl, ap, sym, ◌∙◌, arith, inl, inr, eq-eqb}
+use Rattle.std.specs.Prelude.{slice_get}
+use Rattle.std.proofs.lemmas.Bool.{cases_eq, ne_eqb}
 use Rattle.std.proofs.lemmas.List.{take_more, take-append-le, length-take-le}
 use Rattle.uecp_elements.specs.declared.code.Code.{Code}
 use Rattle.uecp_encoder.specs.Target.{Step}
-use Rattle.uecp_frame.specs.Findings.{OpenPart, Closed, found, open_part}
-use Rattle.uecp_frame.specs.Beyond.{found_beyond, open_beyond, unended}
-use Rattle.uecp_frame.specs.Frame.{spelling}
 use Rattle.uecp_link.specs.Once.{Event, Submit, FrameComes, ReplyComes, NoiseToEncoder, NoiseToServer, EncoderLost, ServerLost, Once, message_at, with_code, after, delivered}
 use Rattle.uecp_link.specs.Fold.{value_after, codes_after}
-use Rattle.uecp_link.proofs.Numbering.{is_none-of}
 use Rattle.uecp_link.proofs.Steps.{one_more, applied_after}
 
 pub value_after-push : {V : Type 0} (step : Step V) (v : V) (ms : List (List ℕ)) (m : List ℕ) → value_after step v (ms ++ m ∷ []) ≡ (step (value_after step v ms) m).0

@@ -1,26 +1,21 @@
 -- What the calls of a line owe: it stays a line, and holds what the once-machine holds.
-use Rattle.std.proofs.Common.{◌≡◌, ℕ, zero, suc, ◌+◌, ◌-◌, ◌<◌, ◌≤◌, ◌==◌, Bool, true, false, cond, List, [], ◌∷◌, ◌++◌, length, get_or, take, map, Option, Some, None, nat_lt, nat_le, refl, ap, sym, subst, ◌∙◌, ◌⊎◌, arith, inl, inr, length-append}
+use Rattle.std.proofs.Common.{◌≡◌, ℕ, ◌+◌, ◌<◌, ◌≤◌, ◌==◌, true, cond, List, [], ◌∷◌, ◌++◌, length, take, Option, Some, None, nat_lt, nat_le, refl, ap, sym, subst, ◌∙◌, arith, length-append}
 use Rattle.std.specs.Prelude.{is_some, is_none, slice_get}
 use mathlib.Core.Path.{fun_ext}
-use Rattle.std.specs.List.{AllByRecursion}
-use Rattle.std.proofs.lemmas.Bool.{cases_Bool, ltb-true, ltb-false, lt-ltb, le-ltb, cases_lt}
-use Rattle.std.proofs.lemmas.Option.{slice_get-get_or, slice_get_past}
+use Rattle.std.proofs.lemmas.Bool.{ltb-true, ltb-false}
 use Rattle.uecp_elements.specs.declared.code.Code.{Code}
-use Rattle.uecp_frame.specs.Findings.{is_quiet, OpenPart, Closed, found, open_part}
-use Rattle.uecp_frame.specs.Beyond.{found_beyond, open_beyond, unended}
 use Rattle.uecp_frame.specs.Frame.{spelling}
 use Rattle.uecp_encoder.specs.Target.{Step}
 use Rattle.uecp_encoder.specs.State.{EncoderState, fed}
 use Rattle.uecp_link.specs.Server.{ServerState, heard}
-use Rattle.uecp_link.specs.Once.{Event, Submit, FrameComes, ReplyComes, NoiseToEncoder, NoiseToServer, EncoderLost, ServerLost, Once, message_at, with_code, with_member, refusal_of, after, delivered, at_first}
-use Rattle.uecp_link.specs.Fold.{value_after, codes_after}
+use Rattle.uecp_link.specs.Once.{Event, Submit, FrameComes, ReplyComes, NoiseToEncoder, NoiseToServer, EncoderLost, ServerLost, Once, message_at, with_code, refusal_of, after, delivered}
 use Rattle.uecp_link.specs.Law.{counter_of, encoder_after, server_after, reply_bytes, Fits}
-use Rattle.uecp_link.specs.Kept.{pairs, last_counter, code_at, EncoderIs, ServerIs, Waits, Kept, Hears}
-use Rattle.uecp_link.specs.Holds.{LineState, once_of, IsLine, Holds, Plays}
+use Rattle.uecp_link.specs.Kept.{pairs, last_counter, code_at, Waits, Kept, Hears}
+use Rattle.uecp_link.specs.Holds.{LineState, once_of, IsLine, Holds}
 use Rattle.uecp_link.specs.Next.{line_next, codes_with, codes_next, acknowledged_next, Passes}
 use Rattle.uecp_link.proofs.Steps.{keeps_submit, keeps_frame, keeps_reply, keeps_noise_to_encoder, keeps_noise_to_server, keeps_encoder_lost, keeps_server_lost, keeps, hears_after, one_more, applied_after, acknowledged_after, sent_le, test_of}
 use Rattle.uecp_link.proofs.Numbering.{is_none-of}
-use Rattle.uecp_link.proofs.Folding.{slice_get-push, length-codes_after}
+use Rattle.uecp_link.proofs.Folding.{slice_get-push}
 
 -- what is kept depends on what the once-machine holds, but for the noise
 pub kept_same : {V : Type 0} (a : ℕ) (e : EncoderState V) (s : ServerState) (o o' : Once V) (p q : ℕ)

@@ -1,11 +1,11 @@
 -- What findings do to the two ends.
-use Rattle.std.proofs.Common.{◌≡◌, ℕ, ◌+◌, ◌%◌, ◌<◌, ◌≤◌, ◌==◌, ◌&&◌, ◌/◌, ◌||◌, Bool, true, false, List, [], ◌∷◌, ◌++◌, take, cond, Option, Some, None, refl, ap, sym, subst, ◌∙◌, arith, inl, inr, eq-eqb, length, Ok, Err, not}
-use Rattle.std.proofs.lemmas.Bool.{cases_eq, ne_eqb}
+use Rattle.std.proofs.Common.{◌≡◌, ℕ, ◌%◌, ◌≤◌, ◌==◌, ◌&&◌, ◌/◌, ◌||◌, Bool, true, false, List, [], ◌∷◌, ◌++◌, Option, Some, None, refl, ap, ◌∙◌, eq-eqb, length, Ok, Err, not}
+use Rattle.std.proofs.lemmas.Bool.{ne_eqb}
 use Rattle.uecp_elements.specs.declared.code.Code.{Code}
 use Rattle.uecp_elements.specs.declared.code.Code.TheVariants.{Applied, UnknownElement, DataSet, Service, OutOfRange, ElementLength, NotHere, BufferFull}
 use Rattle.uecp_frame.specs.declared.frame.Frame.{Frame}
-use Rattle.uecp_frame.specs.Findings.{Finding, has_frame, is_quiet, OpenPart, Closed, found, open_part}
-use Rattle.uecp_frame.specs.Beyond.{found_beyond, open_beyond, unended}
+use Rattle.uecp_frame.specs.Findings.{Finding, has_frame, is_quiet, OpenPart, found, open_part}
+use Rattle.uecp_frame.specs.Beyond.{found_beyond, open_beyond}
 use Rattle.uecp_frame.specs.Frame.{spelling}
 use Rattle.uecp_frame.specs.Address.{reaches}
 use Rattle.uecp_encoder.proofs.InPieces.{after_findings-append}
@@ -14,9 +14,9 @@ use Rattle.uecp_link.proofs.Wire.{found_more, whole}
 use Rattle.uecp_encoder.specs.Target.{Step}
 use Rattle.uecp_elements.specs.Codes.{byte_of, code_of_byte}
 use Rattle.reply_ring.specs.Ring.{kept_code, keep}
-use Rattle.uecp_encoder.specs.State.{EncoderState, after_finding, after_findings, fed, numbered, raised}
+use Rattle.uecp_encoder.specs.State.{EncoderState, after_finding, after_findings, fed, numbered}
 use Rattle.uecp_encoder.specs.Answering.{reply_of}
-use Rattle.uecp_link.specs.Server.{ServerState, heard_finding, heard_findings, heard, acknowledges, freed, code_in}
+use Rattle.uecp_link.specs.Server.{ServerState, heard_finding, heard_findings, heard, acknowledges, freed}
 
 pub has_frame-append : (xs ys : List Finding) → has_frame (xs ++ ys) ≡ false → has_frame ys ≡ false
 has_frame-append [] ys h = h

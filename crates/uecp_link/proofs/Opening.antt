@@ -1,13 +1,13 @@
 -- A new line.
-use Rattle.std.proofs.Common.{◌≡◌, ℕ, ◌<◌, List, [], ◌∷◌, ◌++◌, length, Option, Some, None, refl, ap, sym, ◌∙◌, ◌⊎◌, inl, inr, arith}
-use Rattle.std.specs.Prelude.{slice_get, is_none}
+use Rattle.std.proofs.Common.{◌≡◌, ℕ, List, [], ◌∷◌, ◌++◌, length, Option, None, refl, ap, sym, ◌∙◌, inl, inr, arith}
+use Rattle.std.specs.Prelude.{is_none}
 use Rattle.std.proofs.lemmas.Bool.{le-ltb}
 use Rattle.uecp_encoder.specs.Target.{Step}
 use Rattle.uecp_link.specs.declared.stepped.Stepped.TheVariants as stepped
 use Rattle.uecp_link.specs.declared.refusal.LineRefusal.TheVariants as refusal
 use Rattle.uecp_link.specs.Server.{ServerState, submitted}
 use Rattle.uecp_link.specs.Next.{Goes, Stops}
-use Rattle.uecp_link.specs.Once.{Once, Submit, Numbered, at_first, refusal_of}
+use Rattle.uecp_link.specs.Once.{Submit, Numbered, at_first, refusal_of}
 use Rattle.uecp_link.specs.Kept.{last_counter, Waits, ServerIs}
 use Rattle.uecp_link.specs.Holds.{LineState, once_of, IsLine, Holds, new_line}
 use Rattle.uecp_link.proofs.Wire.{left_none}

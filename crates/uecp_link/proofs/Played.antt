@@ -1,10 +1,8 @@
 -- The headline, of a line that played events.
-use Rattle.std.proofs.Common.{◌≡◌, ℕ, suc, ◌+◌, ◌<◌, ◌≤◌, Bool, true, false, List, [], ◌∷◌, length, take, Option, Some, None, nat_lt, refl, ap, sym, subst, ◌∙◌, ◌⊎◌, arith, inl, inr}
-use Rattle.std.specs.Prelude.{is_none, is_some, slice_get}
+use Rattle.std.proofs.Common.{◌≡◌, ℕ, suc, ◌<◌, ◌≤◌, List, [], ◌∷◌, length, take, Option, Some, nat_lt, refl, ap, sym, ◌∙◌, arith, inl, inr}
+use Rattle.std.specs.Prelude.{is_some, slice_get}
 use Rattle.std.proofs.lemmas.Bool.{cases_order, lt-ltb, le-ltb, false≢true}
 use Rattle.uecp_elements.specs.declared.code.Code.{Code}
-use Rattle.uecp_frame.specs.Findings.{OpenPart, Closed, found, open_part}
-use Rattle.uecp_frame.specs.Beyond.{found_beyond, open_beyond, unended}
 use Rattle.uecp_frame.specs.Frame.{spelling}
 use Rattle.uecp_encoder.specs.Target.{Step}
 use Rattle.uecp_link.specs.Once.{Event, Once, after, at_first}

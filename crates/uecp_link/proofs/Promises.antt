@@ -1,5 +1,5 @@
 -- What a call of a line promises, from what it does by the line's own fields.
-use Rattle.std.proofs.Common.{◌≡◌, ℕ, ◌+◌, ◌-◌, Bool, true, false, not, cond, List, [], ◌∷◌, ◌++◌, Ok, Err, length, Option, Some, None, refl, ap, sym, subst, ◌∙◌, arith, length-append}
+use Rattle.std.proofs.Common.{◌≡◌, ℕ, ◌-◌, Bool, true, false, not, cond, List, [], ◌∷◌, ◌++◌, Ok, Err, length, Option, Some, None, refl, ap, sym, subst, ◌∙◌, arith, length-append}
 use Rattle.std.specs.Prelude.{is_none, slice_get}
 use mathlib.Core.Path.{fun_ext}
 use Rattle.uecp_frame.specs.Findings.{Finding, has_frame, is_quiet, OpenPart, found, open_part}
@@ -8,11 +8,11 @@ use Rattle.uecp_encoder.specs.Target.{Step}
 use Rattle.uecp_link.specs.declared.stepped.Stepped.{Stepped}
 use Rattle.uecp_link.specs.declared.refusal.LineRefusal.{LineRefusal}
 use Rattle.uecp_link.specs.declared.refusal.LineRefusal.TheVariants as line_refusal
-use Rattle.uecp_link.specs.Once.{Event, Submit, FrameComes, ReplyComes, NoiseToEncoder, NoiseToServer, EncoderLost, ServerLost, Once, Answer, Noise, Refusal, HoldsAFrame, refusal_of, after, answer_of}
+use Rattle.uecp_link.specs.Once.{Event, Submit, FrameComes, ReplyComes, NoiseToEncoder, NoiseToServer, EncoderLost, ServerLost, Once, Noise, Refusal, HoldsAFrame, refusal_of, after, answer_of}
 use Rattle.uecp_link.specs.Law.{Fits}
-use Rattle.uecp_link.specs.Events.{answer_seen, Refuses, IsSubmit}
-use Rattle.uecp_link.specs.Holds.{LineState, once_of, IsLine, Holds, StepsAs}
-use Rattle.uecp_link.specs.Next.{line_next, line_answer, Passes, LineRefuses, Goes, Stops}
+use Rattle.uecp_link.specs.Events.{Refuses}
+use Rattle.uecp_link.specs.Holds.{LineState, once_of, Holds, StepsAs}
+use Rattle.uecp_link.specs.Next.{line_answer, Passes, LineRefuses, Goes}
 use Rattle.uecp_link.proofs.Wire.{found_more}
 use Rattle.uecp_link.proofs.Hearing.{no_frame}
 use Rattle.uecp_link.proofs.Goes.{goes_on, encoder_same, server_same}

@@ -1,6 +1,6 @@
 -- What `step` promises, from what its calls do.
-use Rattle.std.proofs.Common.{◌≡◌, ℕ, Result, Ok, Err, Option, None, refl, ap, sym, subst, ◌∙◌, IfOk}
-use Rattle.std.specs.Prelude.{IfErr, is_none}
+use Rattle.std.proofs.Common.{◌≡◌, Result, Ok, Err, refl, ap, sym, subst, ◌∙◌, IfOk}
+use Rattle.std.specs.Prelude.{IfErr}
 use Rattle.uecp_encoder.specs.Target.{Step}
 use Rattle.uecp_link.specs.declared.event.LineEvent.{LineEvent}
 use Rattle.uecp_link.specs.declared.stepped.Stepped.{Stepped}

@@ -1,29 +1,26 @@
 -- What every event keeps.
-use Rattle.std.proofs.Common.{◌≡◌, ℕ, zero, suc, ◌+◌, ◌-◌, ◌%◌, ◌<◌, ◌≤◌, ◌==◌, Bool, true, false, cond, List, [], ◌∷◌, ◌++◌, length, get_or, take, Option, Some, None, nat_lt, nat_le, refl, ap, sym, subst, ◌∙◌, ◌⊎◌, arith, inl, inr, eq-eqb, length-append, Ok}
-use Rattle.std.specs.Prelude.{is_some, is_none, unwrap_or, slice_get}
-use Rattle.std.specs.List.{AllByRecursion}
-use Rattle.std.proofs.lemmas.Bool.{cases_eq, ne_eqb, ltb-true, ltb-false, lt-ltb, le-ltb, cases_lt, cases_Bool, leb-true, false≢true}
-use Rattle.std.proofs.lemmas.List.{append-nil}
+use Rattle.std.proofs.Common.{◌≡◌, ℕ, suc, ◌+◌, ◌<◌, ◌≤◌, ◌==◌, Bool, true, false, cond, List, [], ◌∷◌, ◌++◌, length, take, Option, Some, None, nat_lt, refl, ap, sym, ◌∙◌, arith, inl, inr, eq-eqb, length-append, Ok}
+use Rattle.std.specs.Prelude.{is_some, is_none, unwrap_or}
+use Rattle.std.proofs.lemmas.Bool.{cases_eq, ne_eqb, ltb-true, ltb-false, lt-ltb, le-ltb, cases_lt, leb-true, false≢true}
 use Rattle.uecp_elements.specs.declared.code.Code.{Code}
 use Rattle.uecp_elements.specs.declared.code.Code.TheVariants.{Applied}
-use Rattle.uecp_frame.specs.declared.frame.Frame.{Frame}
-use Rattle.uecp_frame.specs.Findings.{Finding, has_frame, is_quiet, OpenPart, Closed, found, open_part}
-use Rattle.uecp_frame.specs.Beyond.{found_beyond, open_beyond, unended}
+use Rattle.uecp_frame.specs.Findings.{has_frame, is_quiet, Closed, open_part}
+use Rattle.uecp_frame.specs.Beyond.{found_beyond, open_beyond}
 use Rattle.uecp_frame.specs.Frame.{spelling}
 use Rattle.uecp_frame.specs.Address.{reaches}
 use Rattle.uecp_encoder.specs.Target.{Step}
 use Rattle.reply_ring.specs.Ring.{kept_code, keep}
-use Rattle.uecp_encoder.specs.State.{EncoderState, fed, numbered, after_finding}
+use Rattle.uecp_encoder.specs.State.{EncoderState, fed, numbered}
 use Rattle.uecp_encoder.specs.Answering.{reply_of}
-use Rattle.uecp_link.specs.Server.{ServerState, heard, next_counter, submitted, heard_finding}
-use Rattle.uecp_link.specs.Once.{Event, Submit, FrameComes, ReplyComes, NoiseToEncoder, NoiseToServer, EncoderLost, ServerLost, Once, message_at, is_recent, missing, is_none_missing, with_code, with_member, refusal_of, after, delivered, at_first}
-use Rattle.uecp_link.specs.Law.{counter_of, frame_of, World, encoder_after, server_after, happens, reply_bytes, Fits}
+use Rattle.uecp_link.specs.Server.{ServerState, heard, submitted, heard_finding}
+use Rattle.uecp_link.specs.Once.{Event, Submit, FrameComes, ReplyComes, NoiseToEncoder, NoiseToServer, EncoderLost, ServerLost, Once, message_at, is_recent, missing, is_none_missing, with_code, with_member, refusal_of, after, delivered}
+use Rattle.uecp_link.specs.Law.{counter_of, frame_of, encoder_after, server_after, reply_bytes, Fits}
 use Rattle.uecp_link.specs.Kept.{pairs, last_counter, code_at, IsMessage, EncoderIs, ServerIs, Waits, Kept, Hears}
 use Rattle.uecp_encoder.proofs.InPieces.{fed-part}
-use Rattle.uecp_link.proofs.Wire.{found_none, left_none, found_more, left_more, ended}
+use Rattle.uecp_link.proofs.Wire.{found_none, left_none, left_more, ended}
 use Rattle.uecp_link.proofs.Ring.{pairs_agree, kept_code-found, kept_code-absent, keep_next, counters_differ}
-use Rattle.uecp_link.proofs.Hearing.{fed_faults, heard_bytes_faults, fed_frame, heard_frame, after_whole, numbered_kept, numbered_fresh, heard-part, quiet_rest, heard_idle, heard_match, heard_other, reaches_self}
-use Rattle.uecp_link.proofs.Numbering.{last_counter-next, last_counter-at, code_at-some, some_code_at, none_of, is_some-of, is_none-of, with_code-same, with_code-other, with_code-next, with_member-next, with_member-old, none_missing, message_at-push, message_at-before, fits_push}
+use Rattle.uecp_link.proofs.Hearing.{fed_faults, heard_bytes_faults, fed_frame, heard_frame, after_whole, numbered_fresh, heard-part, quiet_rest, heard_idle, heard_match, heard_other, reaches_self}
+use Rattle.uecp_link.proofs.Numbering.{last_counter-next, last_counter-at, code_at-some, some_code_at, none_of, is_none-of, with_code-same, with_code-other, with_code-next, with_member-next, with_member-old, none_missing, message_at-push, fits_push}
 
 -- how many are applied, and acknowledged, after an event that is not refused
 abbrev pub one_more : ℕ → Option Code → ℕ

@@ -1,18 +1,13 @@
 -- The law: what every event keeps, over a list of events.
-use Rattle.std.proofs.Common.{◌≡◌, ℕ, zero, suc, ◌+◌, ◌-◌, ◌<◌, ◌≤◌, ◌==◌, Bool, true, false, cond, List, [], ◌∷◌, ◌++◌, length, get_or, take, map, Option, Some, None, nat_lt, nat_le, refl, ap, sym, subst, ◌∙◌, ◌⊎◌, arith, inl, inr}
-use Rattle.std.specs.Prelude.{is_some, is_none, slice_get}
+use Rattle.std.proofs.Common.{◌≡◌, ℕ, ◌+◌, ◌<◌, ◌≤◌, Bool, true, List, [], ◌∷◌, length, map, Option, None, nat_lt, nat_le, refl, ap, sym, subst, ◌∙◌, arith, inl, inr}
+use Rattle.std.specs.Prelude.{is_none}
 use Rattle.std.specs.List.{AllByRecursion}
-use Rattle.std.proofs.lemmas.Bool.{cases_Bool, ltb-true, ltb-false, lt-ltb, le-ltb, cond-true, cond-false}
-use Rattle.uecp_elements.specs.declared.code.Code.{Code}
-use Rattle.uecp_frame.specs.Findings.{is_quiet, OpenPart, Closed, found, open_part}
-use Rattle.uecp_frame.specs.Beyond.{found_beyond, open_beyond, unended}
-use Rattle.uecp_frame.specs.Frame.{spelling}
+use Rattle.std.proofs.lemmas.Bool.{cases_Bool, ltb-true, ltb-false, le-ltb}
 use Rattle.uecp_encoder.specs.Target.{Step}
-use Rattle.uecp_encoder.specs.State.{EncoderState}
-use Rattle.uecp_link.specs.Server.{ServerState, waiting, waiting_as}
-use Rattle.uecp_link.specs.Once.{Event, Submit, FrameComes, Once, message_at, missing, refusal_of, after, at_first}
-use Rattle.uecp_link.specs.Law.{counter_of, World, encoder_after, server_after, happens, run, start, Fits, Numbers, Values, Law}
-use Rattle.uecp_link.specs.Kept.{last_counter, EncoderIs, ServerIs, Waits, Kept, Hears}
+use Rattle.uecp_link.specs.Server.{ServerState, waiting}
+use Rattle.uecp_link.specs.Once.{Event, message_at, missing, refusal_of, after}
+use Rattle.uecp_link.specs.Law.{counter_of, World, encoder_after, server_after, happens, run, start, Fits, Numbers, Law}
+use Rattle.uecp_link.specs.Kept.{last_counter, ServerIs, Waits, Kept, Hears}
 use Rattle.uecp_link.proofs.Numbering.{last_counter-at, is_none-of, missing_below, missing_last}
 use Rattle.uecp_link.proofs.Steps.{keeps, hears_after, applied_after, acknowledged_after, sent_le, ring_answers, recent_le, quiet_none, test_of}
 use Rattle.uecp_link.proofs.Wire.{left_none}

@@ -1,5 +1,5 @@
--- Events, answers and refusals of a line, as those of the once-machine. Where the pieces are cut makes no difference.
-use Rattle.std.specs.Prelude.{ℕ, ◌≡◌, List, Option, Some, None, Bool, true}
+-- Events, answers and refusals of a line as those of the once-machine; a reader has to believe it. Source: profile.
+use Rattle.std.specs.Prelude.{◌≡◌, Some, None}
 use Rattle.uecp_link.specs.declared.event.Side.{Side}
 use Rattle.uecp_link.specs.declared.event.LineEvent.{LineEvent}
 use Rattle.uecp_link.specs.declared.stepped.Stepped.{Stepped}
@@ -8,12 +8,14 @@ use Rattle.uecp_link.specs.declared.event.Side.TheVariants as side
 use Rattle.uecp_link.specs.declared.event.LineEvent.TheVariants as event
 use Rattle.uecp_link.specs.declared.stepped.Stepped.TheVariants as stepped
 use Rattle.uecp_link.specs.declared.refusal.LineRefusal.TheVariants as line
-use Rattle.uecp_link.specs.Once.{Event, Submit, FrameComes, ReplyComes, NoiseToEncoder, NoiseToServer, EncoderLost, ServerLost, Answer, Numbered, Delivered, Acknowledged, Stray, Noise, Lost, Refusal, Busy, NotSent, TooLate, HoldsAFrame, Once, refusal_of}
+use Rattle.uecp_link.specs.Once.{Event, Submit, FrameComes, ReplyComes, NoiseToEncoder, NoiseToServer, EncoderLost, ServerLost, Answer, Numbered, Delivered, Acknowledged, Stray, Noise, Lost, Busy, NotSent, TooLate, HoldsAFrame, Once, refusal_of}
 
+-- The loss of the line at one end.
 abbrev pub lost_of : Side → Event
 lost_of side.Encoder = EncoderLost
 lost_of side.Server = ServerLost
 
+-- An event without its cuts: where the pieces are cut makes no difference.
 abbrev pub event_of : LineEvent → Event
 event_of (event.Submit m) = Submit m.now
 event_of (event.Frame k cut) = FrameComes k
@@ -22,6 +24,7 @@ event_of (event.NoiseToEncoder x) = NoiseToEncoder x.now
 event_of (event.NoiseToServer x) = NoiseToServer x.now
 event_of (event.LineLost s) = lost_of s
 
+-- What a line answers, as the once-machine says it.
 abbrev pub answer_seen : Stepped → Answer
 answer_seen (stepped.Numbered n) = Numbered n
 answer_seen (stepped.Delivered fresh code) = Delivered fresh code
@@ -30,11 +33,12 @@ answer_seen stepped.Stray = Stray
 answer_seen (stepped.Noise dropped) = Noise dropped
 answer_seen stepped.Lost = Lost
 
+-- The event is a submission.
 abbrev pub IsSubmit : Event → Type 0
 IsSubmit (Submit m) = Unit {0}
 IsSubmit _ = ⊥
 
--- the once-machine refuses the event for this reason, or it is a submission for which there was no memory
+-- The once-machine refuses the event for this reason; or for want of memory the event is a submission that it does not refuse.
 abbrev pub Refuses : {V : Type 0} → Once V → Event → LineRefusal → Type 0
 Refuses o e line.Busy = refusal_of o e ≡ Some Busy
 Refuses o e line.NotSent = refusal_of o e ≡ Some NotSent

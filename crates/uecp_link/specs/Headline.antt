@@ -1,4 +1,4 @@
--- The headline, of a line that played any events.
+-- What a line that played any events has come to; a reader has to believe it. Source: profile.
 use Rattle.std.specs.Prelude.{◌≡◌, ◌≤◌, ◌<◌, ◌+◌, ℕ, length, take, Some}
 use Rattle.uecp_frame.specs.Frame.{spelling}
 use Rattle.uecp_encoder.specs.Target.{Step}
@@ -9,6 +9,8 @@ use Rattle.uecp_link.specs.Fold.{value_after, codes_after}
 use Rattle.uecp_link.specs.Law.{counter_of}
 use Rattle.uecp_link.specs.Holds.{LineState}
 
+-- The encoder's store is what a prefix of the sent messages makes, each applied once and in order; every acknowledged message is in it with its one
+-- reply, and every missing one is still outstanding.
 pub record IsHeadline {V : Type 0} (step : Step V) (address : ℕ) (opening : V) (line : LineState V) : Type 0 where
   -- the encoder's store is what the first messages make, each applied once and in order; these messages are the applied ones
   pub store : line.encoder.value ≡ value_after step opening (take (length line.codes) line.sent)

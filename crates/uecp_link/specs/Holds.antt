@@ -1,5 +1,5 @@
--- A line as its contracts see it, and when it holds what the once-machine holds.
-use Rattle.std.specs.Prelude.{ℕ, ◌≡◌, ◌+◌, nat_lt, Bool, true, List, [], ◌∷◌, length, Option, Some, None, slice_get, is_none, ◌⊎◌}
+-- A line as its contracts see it, and when it holds what the once-machine holds; a reader has to believe it, but for `once_of` and `IsLine`. Source: profile.
+use Rattle.std.specs.Prelude.{ℕ, ◌≡◌, ◌+◌, nat_lt, true, List, [], ◌∷◌, length, None, slice_get, is_none, ◌⊎◌}
 use Rattle.uecp_elements.specs.declared.code.Code.{Code}
 use Rattle.uecp_encoder.specs.Target.{Step}
 use Rattle.uecp_encoder.specs.State.{EncoderState, opening}
@@ -10,6 +10,7 @@ use Rattle.uecp_link.specs.Law.{Fits, encoder_after, server_after}
 use Rattle.uecp_link.specs.Events.{IsSubmit, answer_seen}
 use Rattle.uecp_link.specs.Kept.{Kept, Hears}
 
+-- A line is its two ends, the messages by number, the codes of the applied numbers, and how many are acknowledged.
 pub record LineState (V : Type 0) : Type 0 where
   pub encoder : EncoderState V
   pub server : ServerState
@@ -17,7 +18,7 @@ pub record LineState (V : Type 0) : Type 0 where
   pub codes : List Code  -- of the applied numbers, from 0
   pub acknowledged : ℕ  -- the numbers below it
 
--- what the once-machine holds, but for the noise
+-- What the once-machine holds, as far as a line shows it: all but the noise. For proofs alone.
 abbrev pub once_of : {V : Type 0} → LineState V → Once V
 once_of line = record {
   sent = line.sent;
@@ -28,11 +29,11 @@ once_of line = record {
   to_server = [];
 }
 
--- what every line keeps
+-- What every line keeps. For proofs alone.
 abbrev pub IsLine : {V : Type 0} → LineState V → Type 0
 IsLine line = Kept line.encoder.address line.encoder line.server (once_of line) (length line.codes) line.acknowledged
 
--- the line holds what the once-machine holds
+-- The line holds what the once-machine holds: the messages, the value, the codes, the acknowledged numbers, and of the noise what it leaves open at each end.
 pub record Holds {V : Type 0} (line : LineState V) (o : Once V) : Type 0 where
   pub sent : line.sent ≡ o.sent
   pub value : line.encoder.value ≡ o.value
@@ -40,14 +41,15 @@ pub record Holds {V : Type 0} (line : LineState V) (o : Once V) : Type 0 where
   pub acknowledged : (k : ℕ) → nat_lt k line.acknowledged ≡ o.acknowledged k
   pub open_parts : Hears line.encoder line.server o
 
--- from o these events lead to o', and count of them were refused: by the once-machine, or a submission for want of memory
+-- From o these events lead the once-machine to o', and count of them were refused: each by the machine where it stood, or a submission for want of memory.
 abbrev pub Plays : {V : Type 0} → Step V → Once V → List Event → ℕ → Once V → Type 0
 Plays step o [] count o' = (count ≡ 0) × (o' ≡ o)
 Plays step o (event ∷ events) count o' =
     ((is_none (refusal_of o event) ≡ true) × Fits event × Plays step (after step o event) events count o')
     ⊎ ((rest : ℕ) × (count ≡ rest + 1) × ((is_none (refusal_of o event) ≡ true → IsSubmit event)) × Plays step o events rest o')
 
--- One event: the line goes from what the once-machine held to its next state, and answers what that answers; the two ends are fed the event's bytes, and nothing else.
+-- One event: the line goes from what the once-machine held to its next state, and answers what that answers; the two ends are fed the event's bytes, and
+-- nothing else.
 pub record StepsAs {V : Type 0} (step : Step V) (old : LineState V) (o : Once V) (event : Event) (stepped : Stepped) (new : LineState V) : Type 0 where
   pub accepted : refusal_of o event ≡ None
   pub answer : answer_seen stepped ≡ answer_of step o event
@@ -55,6 +57,6 @@ pub record StepsAs {V : Type 0} (step : Step V) (old : LineState V) (o : Once V)
   pub server : new.server ≡ server_after old.encoder.address o old.server event
   pub holds : Holds new (after step o event)
 
--- a new line: two new ends, and nothing sent
+-- A new line has two new ends, and nothing sent.
 abbrev pub new_line : {V : Type 0} → ℕ → V → LineState V
 new_line address value = record { encoder = opening address value; server = idle_at address; sent = []; codes = []; acknowledged = 0 }

@@ -1,48 +1,49 @@
--- What holds of a line at every moment: where its two ends are, by how many numbers were applied and acknowledged.
-use Rattle.std.specs.Prelude.{ℕ, zero, suc, ◌≡◌, ◌+◌, ◌<◌, ◌≤◌, ◌⊎◌, nat_lt, Bool, true, List, [], ◌∷◌, length, take, Option, Some, None, is_some, unwrap_or, slice_get}
+-- What holds of a line at every moment, by how many numbers were applied and acknowledged; for proofs alone, but for `Hears`. Source: profile.
+use Rattle.std.specs.Prelude.{ℕ, zero, suc, ◌≡◌, ◌+◌, ◌≤◌, ◌⊎◌, nat_lt, true, List, [], ◌∷◌, length, take, Option, Some, None, is_some, unwrap_or}
 use Rattle.uecp_elements.specs.declared.code.Code.{Code}
 use Rattle.uecp_elements.specs.declared.code.Code.TheVariants.{Applied}
-use Rattle.uecp_frame.specs.Findings.{is_quiet, OpenPart, Closed, found, open_part}
-use Rattle.uecp_frame.specs.Beyond.{found_beyond, open_beyond, unended}
-use Rattle.uecp_frame.specs.Frame.{spelling}
+use Rattle.uecp_frame.specs.Findings.{is_quiet, open_part}
 use Rattle.uecp_encoder.specs.State.{EncoderState}
 use Rattle.uecp_link.specs.Server.{ServerState}
 use Rattle.uecp_link.specs.Once.{Once, message_at}
 use Rattle.uecp_link.specs.Law.{counter_of}
 
--- the pairs of all numbers below p, the newest first
+-- The pairs of counter and code of all numbers below p, the newest first.
 abbrev pub pairs : (ℕ → Code) → ℕ → List (ℕ × Code)
 pairs c zero = []
 pairs c (suc p) = (counter_of p, c p) ∷ pairs c p
 
--- the server's last counter after n messages
+-- The server's last counter after n messages.
 abbrev pub last_counter : ℕ → ℕ
 last_counter zero = 0
 last_counter (suc k) = counter_of k
 
--- the code of a number, where it has one
+-- The code of a number, where it has one.
 abbrev pub code_at : (ℕ → Option Code) → ℕ → Code
 code_at codes k = unwrap_or (codes k) Applied
 
+-- A message has at most 255 bytes.
 abbrev pub IsMessage : List ℕ → Type 0
 IsMessage m = length m ≤ 255
 
--- the encoder, but for its counts and its open part
+-- Where an encoder is, but for its counts and its open part.
 pub record EncoderIs {V : Type 0} (e : EncoderState V) (a : ℕ) (v : V) (r : List (ℕ × Code)) : Type 0 where
   pub address : e.address ≡ a
   pub value : e.value ≡ v
   pub ring : e.ring ≡ r
 
+-- Where a server is, but for its open part.
 pub record ServerIs (s : ServerState) (a l : ℕ) (m : Option (List ℕ)) : Type 0 where
   pub address : s.address ≡ a
   pub last : s.last ≡ l
   pub outstanding : s.outstanding ≡ m
 
--- what the server holds: nothing where all sent numbers are below q, else the message of number q, the last
+-- What waits at the server where the numbers below q are acknowledged: nothing where those are all, else the message of number q, the last.
 abbrev pub Waits : List (List ℕ) → ℕ → Option (List ℕ) → Type 0
 Waits sent q m = ((length sent ≡ q) × (m ≡ None)) ⊎ ((length sent ≡ q + 1) × (m ≡ Some (message_at sent q)))
 
--- the numbers below p are applied, those below q are acknowledged
+-- Of a line's numbers those below p are applied and those below q acknowledged; the encoder keeps the last 127 of the applied ones, and the server waits
+-- for the one that is left, if any.
 pub record Kept {V : Type 0} (address : ℕ) (e : EncoderState V) (s : ServerState) (o : Once V) (p q : ℕ) : Type 0 where
   pub encoder : EncoderIs e address o.value (take 127 (pairs (code_at o.codes) p))
   pub waits : Option (List ℕ)
@@ -54,7 +55,8 @@ pub record Kept {V : Type 0} (address : ℕ) (e : EncoderState V) (s : ServerSta
   pub q_le : q ≤ p
   pub fits : (k : ℕ) → IsMessage (message_at o.sent k)
 
--- the open parts are those that the noise leaves
+-- What is open at each end is what the noise towards it leaves open, and no frame stands in that noise. A reader has to believe it: it is part of what a
+-- line holds.
 pub record Hears {V : Type 0} (e : EncoderState V) (s : ServerState) (o : Once V) : Type 0 where
   pub encoder : e.part ≡ open_part o.to_encoder
   pub server : s.part ≡ open_part o.to_server

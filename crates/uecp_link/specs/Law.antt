@@ -1,5 +1,5 @@
--- The two ends, fed an event's bytes, beside the once-machine; and the law that ties them.
-use Rattle.std.specs.Prelude.{ℕ, ◌≡◌, ◌+◌, ◌%◌, ◌<◌, ◌≤◌, nat_lt, Bool, true, false, List, [], ◌∷◌, ◌++◌, length, map, take, slice_get, Option, Some, None, is_some, is_none, IsTrue, if◌then◌else◌}
+-- The two ends, fed an event's bytes, beside the once-machine, and the law that ties them; a reader has to believe it. Source: profile; RDS Forum SPB 490, sequence counter, for the range of counters.
+use Rattle.std.specs.Prelude.{ℕ, ◌≡◌, ◌+◌, ◌%◌, ◌<◌, ◌≤◌, nat_lt, true, List, [], ◌∷◌, length, map, take, slice_get, Option, Some, None, is_some, is_none, if◌then◌else◌}
 use Rattle.uecp_elements.specs.declared.code.Code.{Code}
 use Rattle.uecp_frame.specs.declared.frame.Frame.{Frame}
 use Rattle.uecp_frame.specs.Frame.{spelling}
@@ -12,20 +12,20 @@ use Rattle.uecp_link.specs.Server.{ServerState, idle_at, submitted, waiting, hea
 use Rattle.uecp_link.specs.Once.{Event, Submit, FrameComes, ReplyComes, NoiseToEncoder, NoiseToServer, EncoderLost, ServerLost, Once, message_at, is_recent, missing, refusal_of, after, at_first}
 use Rattle.uecp_link.specs.Fold.{value_after, codes_after}
 
--- the counter of a number
+-- The counter of a number: 01 to FF in turn, and then 01 again.
 abbrev pub counter_of : ℕ → ℕ
 counter_of k = 1 + k % 255
 
--- the frame of a number
+-- The frame of a number: its message under its counter, to the encoder's address.
 abbrev pub frame_of : {V : Type 0} → ℕ → Once V → ℕ → Frame
 frame_of address o k = record { address = address; counter = counter_of k; message = message_at o.sent k }
 
--- the encoder's reply to a number, by its code; there is none to a number that was not applied
+-- The encoder's reply to a number, by its code; there is none to a number that was not applied.
 abbrev pub reply_bytes : ℕ → ℕ → Option Code → List ℕ
 reply_bytes address k (Some code) = spelling (reply_of address (counter_of k) code)
 reply_bytes address k None = []
 
--- the encoder after an event that is not refused
+-- The encoder after an event that is not refused: it is fed the frame of the number, or the noise, or it forgets what is open; all else does not touch it.
 abbrev pub encoder_after : {V : Type 0} → Step V → ℕ → Once V → EncoderState V → Event → EncoderState V
 encoder_after step address o e (Submit m) = e
 encoder_after step address o e (FrameComes k) = fed step e (spelling (frame_of address o k))
@@ -35,7 +35,7 @@ encoder_after step address o e (NoiseToServer x) = e
 encoder_after step address o e EncoderLost = record e { part = Closed }
 encoder_after step address o e ServerLost = e
 
--- the server after an event that is not refused
+-- The server after an event that is not refused: it takes the message, hears the reply or the noise, or forgets what is open; all else does not touch it.
 abbrev pub server_after : {V : Type 0} → ℕ → Once V → ServerState → Event → ServerState
 server_after address o s (Submit m) = submitted s m
 server_after address o s (FrameComes k) = s
@@ -45,11 +45,13 @@ server_after address o s (NoiseToServer x) = heard s x
 server_after address o s EncoderLost = s
 server_after address o s ServerLost = record s { part = Closed }
 
+-- The two ends and the once-machine, side by side.
 pub record World (V : Type 0) : Type 0 where
   pub encoder : EncoderState V
   pub server : ServerState
   pub once : Once V
 
+-- One event happens to all three, or to none where the once-machine refuses it.
 abbrev pub happens : {V : Type 0} → Step V → ℕ → World V → Event → World V
 happens step address w event =
     if is_none (refusal_of w.once event)
@@ -60,20 +62,21 @@ happens step address w event =
     }
     else w
 
+-- Events happen in turn.
 abbrev pub run : {V : Type 0} → Step V → ℕ → World V → List Event → World V
 run step address w [] = w
 run step address w (event ∷ events) = run step address (happens step address w event) events
 
--- two new ends and a new once-machine
+-- Two new ends and a new once-machine.
 abbrev pub start : {V : Type 0} → ℕ → V → World V
 start address value = record { encoder = opening address value; server = idle_at address; once = at_first value }
 
--- each message that is submitted fits a frame
+-- A message that is submitted fits a frame: it has at most 255 bytes.
 abbrev pub Fits : Event → Type 0
 Fits (Submit m) = length m ≤ 255
 Fits _ = Unit {0}
 
--- The numbers: p is how many were applied.
+-- The law of numbers, where p is how many messages were applied. It names no target.
 pub record Numbers {V : Type 0} (w : World V) (p : ℕ) : Type 0 where
   -- the applied numbers are those below p, which are all that were sent, or all but the last
   pub applied : (k : ℕ) → is_some (w.once.codes k) ≡ nat_lt k p
@@ -84,21 +87,23 @@ pub record Numbers {V : Type 0} (w : World V) (p : ℕ) : Type 0 where
   -- the ring has, for the counter of each recent number, that number's code, or nothing where it was not applied
   pub replies : (k : ℕ) → k < length w.once.sent → is_recent (length w.once.sent) k ≡ true → kept_code w.encoder.ring (counter_of k) ≡ w.once.codes k
 
--- The values: what the encoder's target holds is what the first p messages make.
+-- The law of values, resting on that of numbers: the encoder's target holds what the first p messages make, and so does the once-machine, and their
+-- codes are the codes that the numbers have.
 pub record Values {V : Type 0} (step : Step V) (opening : V) (w : World V) (p : ℕ) : Type 0 where
   pub target : w.encoder.value ≡ value_after step opening (take p w.once.sent)
   pub value : w.once.value ≡ value_after step opening (take p w.once.sent)
   pub codes : (k : ℕ) → w.once.codes k ≡ slice_get (codes_after step opening (take p w.once.sent)) k
 
--- The law: over every list of events
+-- The law: over every list of events both hold, with one p.
 abbrev pub Law : {V : Type 0} → Step V → ℕ → V → List Event → Type 0
 Law step address opening events =
     let w = run step address (start address opening) events in
     (p : ℕ) × Numbers w p × Values step opening w p
 
--- The numbers alone name no target: they hold for the target that keeps all messages, whatever its codes are.
+-- A target that keeps all messages and answers any code, for stating the law of numbers alone.
 abbrev pub all_kept : (List (List ℕ) → List ℕ → Code) → Step (List (List ℕ))
 all_kept code v m = (m ∷ v, code v m)
 
+-- The law of numbers alone: over every list of events, whatever the codes are.
 abbrev pub NumbersLaw : (List (List ℕ) → List ℕ → Code) → ℕ → List Event → Type 0
 NumbersLaw code address events = (p : ℕ) × Numbers (run (all_kept code) address (start address []) events) p

@@ -1,9 +1,8 @@
--- The line after an event that is not refused, by its own fields. For the proofs of its calls, beside what they promise.
-use Rattle.std.specs.Prelude.{ℕ, ◌≡◌, ◌+◌, ◌==◌, Bool, true, false, is_none, List, [], ◌∷◌, ◌++◌, Option, Some, None, slice_get, length, if◌then◌else◌}
+-- The line after an event by its own fields; for proofs alone, as the contracts of private functions. Source: profile.
+use Rattle.std.specs.Prelude.{ℕ, ◌≡◌, ◌+◌, ◌==◌, true, false, is_none, List, [], ◌∷◌, ◌++◌, Option, Some, None, slice_get, length, if◌then◌else◌}
 use Rattle.uecp_elements.specs.declared.code.Code.{Code}
-use Rattle.uecp_frame.specs.Findings.{has_frame, OpenPart, Closed, found, open_part}
-use Rattle.uecp_frame.specs.Beyond.{found_beyond, open_beyond, unended}
-use Rattle.uecp_frame.specs.Frame.{spelling}
+use Rattle.uecp_frame.specs.Findings.{has_frame}
+use Rattle.uecp_frame.specs.Beyond.{found_beyond}
 use Rattle.uecp_encoder.specs.Target.{Step}
 use Rattle.uecp_link.specs.declared.stepped.Stepped.{Stepped}
 use Rattle.uecp_link.specs.declared.stepped.Stepped.TheVariants as stepped
@@ -14,23 +13,27 @@ use Rattle.uecp_link.specs.Events.{answer_seen, Refuses}
 use Rattle.uecp_link.specs.Law.{encoder_after, server_after}
 use Rattle.uecp_link.specs.Holds.{LineState, once_of, IsLine}
 
+-- The messages after an event.
 abbrev pub sent_next : List (List ℕ) → Event → List (List ℕ)
 sent_next sent (Submit m) = sent ++ m ∷ []
 sent_next sent _ = sent
 
--- one code more, where there was none
+-- One code more, where the number had none.
 abbrev pub codes_with : List Code → Option Code → Code → List Code
 codes_with codes None code = codes ++ code ∷ []
 codes_with codes (Some _) code = codes
 
+-- The codes after an event.
 abbrev pub codes_next : {V : Type 0} → Step V → LineState V → Event → List Code
 codes_next step line (FrameComes k) = codes_with line.codes (slice_get line.codes k) (step line.encoder.value (message_at line.sent k)).1
 codes_next step line _ = line.codes
 
+-- How many are acknowledged after an event.
 abbrev pub acknowledged_next : ℕ → Event → ℕ
 acknowledged_next q (ReplyComes k) = if k == q then q + 1 else q
 acknowledged_next q _ = q
 
+-- The line after an event that is not refused.
 abbrev pub line_next : {V : Type 0} → Step V → LineState V → Event → LineState V
 line_next step line event = record {
   encoder = encoder_after step line.encoder.address (once_of line) line.encoder event;
@@ -40,41 +43,42 @@ line_next step line event = record {
   acknowledged = acknowledged_next line.acknowledged event;
 }
 
--- the line's own tests let the event pass: for noise, that it brings no frame
+-- The line's own tests let the event pass: for noise, that it brings no frame after what is open.
 abbrev pub Passes : {V : Type 0} → LineState V → Event → Type 0
 Passes line (NoiseToEncoder x) = has_frame (found_beyond line.encoder.part x) ≡ false
 Passes line (NoiseToServer x) = has_frame (found_beyond line.server.part x) ≡ false
 Passes line event = is_none (refusal_of (once_of line) event) ≡ true
 
--- the answer by the line's own fields: of the noise before it has the open part alone
+-- The answer by the line's own fields: of earlier noise it has the open part alone.
 abbrev pub line_answer : {V : Type 0} → Step V → LineState V → Event → Answer
 line_answer step line (NoiseToEncoder x) = Noise (length (found_beyond line.encoder.part x))
 line_answer step line (NoiseToServer x) = Noise (length (found_beyond line.server.part x))
 line_answer step line event = answer_of step (once_of line) event
 
--- why the line refuses, by its own fields
+-- Why the line refuses, by its own fields.
 abbrev pub LineRefuses : {V : Type 0} → LineState V → Event → LineRefusal → Type 0
 LineRefuses line (NoiseToEncoder x) refusal = (refusal ≡ line_refusal.HoldsAFrame) × (has_frame (found_beyond line.encoder.part x) ≡ true)
 LineRefuses line (NoiseToServer x) refusal = (refusal ≡ line_refusal.HoldsAFrame) × (has_frame (found_beyond line.server.part x) ≡ true)
 LineRefuses line event refusal = Refuses (once_of line) event refusal
 
--- the answer to a reply, by the acknowledgement in it, and by how much that raises the acknowledged
+-- The answer to a reply, by the acknowledgement in it.
 abbrev pub stepped_by : Option Code → Stepped
 stepped_by None = stepped.Stray
 stepped_by (Some code) = stepped.Acknowledged code
 
+-- By how much it raises the number of the acknowledged.
 abbrev pub one_if : Option Code → ℕ
 one_if None = 0
 one_if (Some code) = 1
 
--- what a call that does one event owes where it goes through,
+-- What a call for one event owes where that goes through.
 pub record Goes {V : Type 0} (step : Step V) (old : LineState V) (event : Event) (stepped : Stepped) (new : LineState V) : Type 0 where
   pub line : IsLine old
   pub passes : Passes old event
   pub answer : answer_seen stepped ≡ line_answer step old event
   pub next : new ≡ line_next step old event
 
--- and where it is refused
+-- What it owes where the event is refused.
 pub record Stops {V : Type 0} (old : LineState V) (event : Event) (refusal : LineRefusal) (new : LineState V) : Type 0 where
   pub refuses : LineRefuses old event refusal
   pub unchanged : new ≡ old

@@ -1,9 +1,10 @@
--- The once-machine: it has numbers and sets of numbers, and knows no counter and no ring.
-use Rattle.std.specs.Prelude.{ℕ, zero, suc, ◌≡◌, ◌+◌, ◌-◌, ◌<◌, ◌≤◌, ◌==◌, nat_lt, nat_le, Bool, true, false, List, [], ◌∷◌, ◌++◌, length, get_or, Option, Some, None, is_some, is_none, if◌then◌else◌}
+-- The once-machine, which says what a line is to do; a reader has to believe it. It has numbers of messages and sets of numbers, and knows no counter, no kept reply and no frame. Source: profile.
+use Rattle.std.specs.Prelude.{ℕ, zero, suc, ◌+◌, ◌-◌, ◌==◌, nat_lt, nat_le, Bool, true, false, List, [], ◌∷◌, ◌++◌, length, get_or, Option, Some, None, is_some, if◌then◌else◌}
 use Rattle.uecp_elements.specs.declared.code.Code.{Code}
 use Rattle.uecp_frame.specs.Findings.{found, is_quiet}
 use Rattle.uecp_encoder.specs.Target.{Step}
 
+-- What happens on a line. Numbers of messages count from 0. That bytes are lost is an event that does not come.
 pub data Event : Type 0 where
   Submit : List ℕ → Event
   FrameComes : ℕ → Event  -- the frame of this number comes to the encoder
@@ -13,12 +14,15 @@ pub data Event : Type 0 where
   EncoderLost : Event
   ServerLost : Event
 
+-- Why an event is refused: a message is outstanding; there is no such message or no reply to it yet; more than 126 messages were numbered after it; a
+-- frame would stand in the noise.
 pub data Refusal : Type 0 where
   Busy : Refusal
   NotSent : Refusal
   TooLate : Refusal
   HoldsAFrame : Refusal
 
+-- What an event that is not refused is answered.
 pub data Answer : Type 0 where
   Numbered : ℕ → Answer
   Delivered : Bool → Code → Answer  -- whether it is fresh, and the reply's code
@@ -27,6 +31,7 @@ pub data Answer : Type 0 where
   Noise : ℕ → Answer  -- how many findings it adds
   Lost : Answer
 
+-- Its state: the messages by number, the target's value, the codes of the applied numbers, the set of the acknowledged ones, and the noise towards each end.
 pub record Once (V : Type 0) : Type 0 where
   pub sent : List (List ℕ)
   pub value : V
@@ -35,22 +40,26 @@ pub record Once (V : Type 0) : Type 0 where
   pub to_encoder : List ℕ  -- the noise since the last whole frame or loss of that end
   pub to_server : List ℕ
 
+-- The message of a number.
 abbrev pub message_at : List (List ℕ) → ℕ → List ℕ
 message_at sent k = get_or sent k []
 
--- at most 126 messages were numbered after k
+-- Of n messages, at most 126 were numbered after number k.
 abbrev pub is_recent : ℕ → ℕ → Bool
 is_recent n k = nat_le n (k + 127)
 
--- the numbers below n that are not in the set, in order
+-- The numbers below n that are not in a set, in order.
 abbrev pub missing : (ℕ → Bool) → ℕ → List ℕ
 missing set zero = []
 missing set (suc n) = missing set n ++ (if set n then [] else n ∷ [])
 
+-- Whether there is no such number.
 abbrev pub is_none_missing : List ℕ → Bool
 is_none_missing [] = true
 is_none_missing (k ∷ ks) = false
 
+-- Why the machine refuses an event, or None where it does not: a submission while some number is not acknowledged; a frame of a number not sent, or sent
+-- too long ago; a reply to a number not applied, or sent too long ago; noise that, after the noise before it in that direction, holds a frame.
 abbrev pub refusal_of : {V : Type 0} → Once V → Event → Option Refusal
 refusal_of o (Submit m) = if is_none_missing (missing o.acknowledged (length o.sent)) then None else Some Busy
 refusal_of o (FrameComes k) =
@@ -62,14 +71,16 @@ refusal_of o (NoiseToServer x) = if is_quiet (o.to_server ++ x) then None else S
 refusal_of o EncoderLost = None
 refusal_of o ServerLost = None
 
--- a map with one more entry, a set with one more member
+-- A map with one more entry.
 abbrev pub with_code : (ℕ → Option Code) → ℕ → Code → ℕ → Option Code
 with_code codes k code j = if j == k then Some code else codes j
 
+-- A set with one more member.
 abbrev pub with_member : (ℕ → Bool) → ℕ → ℕ → Bool
 with_member set k j = if j == k then true else set j
 
--- after the frame of number k, by the code that it has
+-- The state after the frame of a number, by the code that it has: where it has one, nothing is done but that the noise before it is over; else its
+-- message is applied, and it has the code of that.
 abbrev pub delivered : {V : Type 0} → Step V → Once V → ℕ → Option Code → Once V
 delivered step o k (Some code) = record o { to_encoder = [] }
 delivered step o k None =
@@ -82,7 +93,8 @@ delivered step o k None =
       to_server = o.to_server;
     }
 
--- after an event that is not refused
+-- The state after an event that is not refused: a submission adds a message, a frame is delivered, a reply makes its number an acknowledged one, noise
+-- is added to the noise of its direction, and a loss forgets the noise towards that end.
 abbrev pub after : {V : Type 0} → Step V → Once V → Event → Once V
 after step o (Submit m) = record o { sent = o.sent ++ m ∷ [] }
 after step o (FrameComes k) = delivered step o k (o.codes k)
@@ -92,15 +104,17 @@ after step o (NoiseToServer x) = record o { to_server = o.to_server ++ x }
 after step o EncoderLost = record o { to_encoder = [] }
 after step o ServerLost = record o { to_server = [] }
 
+-- What is answered to the frame of a number, by the code that it has.
 abbrev pub delivery : {V : Type 0} → Step V → Once V → ℕ → Option Code → Answer
 delivery step o k (Some code) = Delivered false code
 delivery step o k None = Delivered true (step o.value (message_at o.sent k)).1
 
+-- What is answered to a reply: the first time it acknowledges with the number's code, then it is stray.
 abbrev pub acknowledgement : Bool → Option Code → Answer
 acknowledgement false (Some code) = Acknowledged code
 acknowledgement _ _ = Stray
 
--- the answer to an event that is not refused
+-- The answer to an event that is not refused; to noise it is how many findings that adds.
 abbrev pub answer_of : {V : Type 0} → Step V → Once V → Event → Answer
 answer_of step o (Submit m) = Numbered (length o.sent)
 answer_of step o (FrameComes k) = delivery step o k (o.codes k)
@@ -110,7 +124,7 @@ answer_of step o (NoiseToServer x) = Noise (length (found (o.to_server ++ x)) - 
 answer_of step o EncoderLost = Lost
 answer_of step o ServerLost = Lost
 
--- nothing sent, nothing applied
+-- At first nothing is sent, nothing applied, and the value is the one that was given.
 abbrev pub at_first : {V : Type 0} → V → Once V
 at_first opening = record {
   sent = [];

@@ -19,13 +19,23 @@ pub enum LineEvent<'a> {
     /// The studio gives the server the next message.
     Submit(&'a Message),
     /// The frame of that message comes to the encoder, for the first time or again.
-    Frame { number: usize, cut: &'a [u16] },
+    Frame {
+        /// The number of the message, from 0.
+        number: usize,
+        /// The lengths of the pieces, in order.
+        cut: &'a [u16],
+    },
     /// The encoder's reply to that message comes to the server, for the first time or again.
-    Reply { number: usize, cut: &'a [u16] },
+    Reply {
+        /// The number of the message, from 0.
+        number: usize,
+        /// The lengths of the pieces, in order.
+        cut: &'a [u16],
+    },
     /// These bytes come to the encoder.
     NoiseToEncoder(&'a [u8]),
     /// These bytes come to the server.
     NoiseToServer(&'a [u8]),
-    /// That end forgets a segment that has not ended.
+    /// That end alone forgets a segment that has not ended.
     LineLost(Side),
 }

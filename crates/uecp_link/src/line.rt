@@ -50,7 +50,8 @@ impl<T: Target> Model for Line<T> {
 }
 
 impl<T: Target> Line<T> {
-    /// A line with a new server and a new encoder at this address, which is the encoder's own: neither part is 0.
+    /// A line with a new server and a new encoder at this address, which is the encoder's own: neither part is 0. Nothing is sent.
+    /// Where there is no memory for the encoder's kept replies, the fault hands the target back as it was given.
     pub fn new(alloc: Global, address: Address, target: T) -> Result<Line<T>, EncoderFault<T>>
         requires { IsTrue (is_exact address) }
         ensures made { IfOk result (λ line. line ≡ new_line address target) }
@@ -92,7 +93,8 @@ impl<T: Target> Line<T> {
         Ok((line, refused))
     }
 
-    /// The events in turn, passing over those that are refused. It answers how many there were of these.
+    /// The events in turn, passing over those that are refused. It answers how many there were of these; a submission for which
+    /// there was no memory is one of them.
     pub fn run(&mut self, events: &[LineEvent<'_>]) -> usize
         ensures plays { (o : Once T) → Holds self.old o → ((o' : Once T) × Plays T.step o (map event_of events.now) result o' × Holds self.new o') }
         // Every message of an event fits a frame.
@@ -109,7 +111,8 @@ impl<T: Target> Line<T> {
         refused
     }
 
-    /// One event. Where it is refused nothing has changed; else both ends have been fed what it brings.
+    /// One event: the end that it comes to is fed what it brings, cut as it says. Where it is refused nothing has changed. Only a
+    /// submission takes memory: room for the message and for its code, both before anything changes.
     pub fn step(&mut self, event: &LineEvent<'_>) -> Result<Stepped, LineRefusal>
         // The line goes on as the once-machine does.
         ensures steps { IfOk result (λ stepped. (o : Once T) → Holds self.old o → StepsAs T.step self.old o (event_of event.now) stepped self.new) }
@@ -130,14 +133,14 @@ impl<T: Target> Line<T> {
         }
     }
 
-    /// The studio's end.
+    /// The studio's end, as the events have made it.
     pub fn server(&self) -> &Server
         ensures { result.now ≡ self.now.server }
     {
         &self.server
     }
 
-    /// The transmitter's end.
+    /// The transmitter's end, as the events have made it.
     pub fn encoder(&self) -> &Encoder<T>
         ensures { result.now ≡ self.now.encoder }
     {
@@ -151,7 +154,7 @@ impl<T: Target> Line<T> {
         self.sent.as_slice()
     }
 
-    /// The codes of the applied numbers, from 0.
+    /// The codes with which messages were applied, by number from 0; as many as were applied.
     pub fn codes(&self) -> &[Code]
         ensures { result.now ≡ self.now.codes }
     {

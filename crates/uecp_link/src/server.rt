@@ -1,4 +1,4 @@
-//! The server's end of the line. Source: RDS Forum SPB 490, two-way mode; profile for counters and acknowledgements.
+//! The server's end of the line. Source: RDS Forum SPB 490, two-way mode; profile for the order of counters and for what acknowledges.
 ghost use Rattle.std.specs.Prelude.{◌≡◌, ◌<◌, ◌≤◌, ◌↔◌, None, IsNone, IsTrue, length, take};
 ghost use Rattle.std.specs.Option.{option_copied};
 ghost use Rattle.uecp_frame.specs.Address.{is_exact};
@@ -38,7 +38,8 @@ impl Model for Server {
 }
 
 impl Server {
-    /// A server for the encoder at this address, which is its own: neither part is 0. Nothing is outstanding.
+    /// A server for the encoder at this address, which is that encoder's own: neither part is 0. It has sent nothing, its first
+    /// message will have counter 01, and nothing is outstanding.
     pub fn new(address: Address) -> Server
         requires { IsTrue (is_exact address) }
         ensures { result ≡ idle_at address }
@@ -59,8 +60,9 @@ impl Server {
         self.outstanding.is_none()
     }
 
-    /// Takes a message to be sent, under the next counter. The server is idle. Send what [`outgoing`](Server::outgoing)
-    /// lends, again whenever no reply has come in time, until [`hear`](Server::hear) answers `Acknowledged`.
+    /// Takes a message to be sent, under the next counter: 01 to FF in turn, and 01 again. The server is idle; see
+    /// [`is_idle`](Server::is_idle). Send what [`outgoing`](Server::outgoing) lends, again whenever no reply has come in time,
+    /// until [`hear`](Server::hear) answers `Acknowledged`.
     pub fn submit(&mut self, message: &Message)
         requires { self.old.outstanding ≡ None }
         ensures { self.new ≡ submitted self.old message.now }
@@ -83,7 +85,7 @@ impl Server {
         self.outstanding = Some(message);
     }
 
-    /// The frame of the outstanding message, the same bytes each time. None where the server is idle.
+    /// The frame of the outstanding message, the same 8 to 524 bytes each time. None where the server is idle.
     pub fn outgoing(&self) -> Option<&[u8]>
         ensures idle { IsNone result ↔ (self.now.outstanding ≡ None) }
         ensures frame { option_copied result ≡ outgoing_bytes self.now }
@@ -108,7 +110,8 @@ impl Server {
     }
 
     /// Takes a piece of what comes over the line: uses its bytes up to and with the one that ends a segment, or all, and
-    /// answers what that brought. Hear the rest of the piece next, until all is used.
+    /// answers what that brought. Hear the rest of the piece next, until all is used. Where a fault was dropped, the outstanding
+    /// message and its frame are as before.
     pub fn hear(&mut self, piece: &[u8]) -> Heard
         ensures fits { result.used ≤ length piece.now }
         ensures moves { 0 < length piece.now → 0 < result.used }

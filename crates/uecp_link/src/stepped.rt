@@ -7,13 +7,21 @@ pub enum Stepped {
     /// The message has this number, counted from 0.
     Numbered(usize),
     /// The encoder has the message: now, where that is fresh, or before. This is its code.
-    Delivered { fresh: bool, code: Code },
+    Delivered {
+        /// Whether the message was applied now.
+        fresh: bool,
+        /// What the encoder replies.
+        code: Code,
+    },
     /// The server knows that the message arrived, and its code.
     Acknowledged(Code),
     /// The server knew that already.
     Stray,
     /// The noise ended this many segments, none of them a frame.
-    Noise { dropped: usize },
+    Noise {
+        /// How many segments the noise ended; one that it ends before a new one begins counts too.
+        dropped: usize,
+    },
     /// The end forgot what was open.
     Lost,
 }

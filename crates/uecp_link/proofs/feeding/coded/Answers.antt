@@ -1,4 +1,4 @@
-use Rattle.std.proofs.Common.{◌≡◌, ◌∙◌, ap, sym, subst}
+use Rattle.std.proofs.Common.{sym, subst}
 use Rattle.uecp_frame.specs.Segment.{IsSegment}
 use Rattle.uecp_encoder.specs.Answering.{reply_of}
 use Rattle.uecp_frame.proofs.Decoding.{spelling_is_segment}

@@ -1,7 +1,7 @@
-use Rattle.std.proofs.Common.{◌≡◌, ◌≤◌, ◌+◌, ℕ, List, [], ◌∷◌, ◌++◌, true, false, take, length, ◌∙◌, ap, sym, arith, length-drop, refl, suc, ◌<◌}
+use Rattle.std.proofs.Common.{◌≡◌, ◌+◌, ℕ, ◌++◌, length, ◌∙◌, ap, sym, arith, length-drop, refl, suc, ◌<◌}
 use Rattle.std.proofs.lemmas.Bool.{eqb-false}
-use Rattle.uecp_frame.specs.Findings.{Finding, has_frame}
-use Rattle.uecp_frame.specs.Beyond.{found_beyond, open_beyond}
+use Rattle.uecp_frame.specs.Findings.{has_frame}
+use Rattle.uecp_frame.specs.Beyond.{found_beyond}
 use Rattle.uecp_frame.specs.Feeding.{findings_of}
 use Rattle.uecp_link.proofs.FeedingLemmas.{empty_is, noise_on, found_none}
 use Rattle.uecp_link.proofs.feeding.dropped_by.Goals as goal

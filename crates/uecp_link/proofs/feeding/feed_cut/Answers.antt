@@ -1,4 +1,4 @@
-use Rattle.std.proofs.Common.{◌≡◌, ◌∙◌, ap, ℕ, List, take, None}
+use Rattle.std.proofs.Common.{◌∙◌, ap, ℕ, List}
 use Rattle.uecp_encoder.specs.State.{fed}
 use Rattle.uecp_link.specs.Replying.{last_of, replies}
 use Rattle.uecp_link.proofs.FeedingLemmas.{fed_on, replied_on}

@@ -1,5 +1,4 @@
-use Rattle.std.proofs.Common.{◌≡◌, ℕ, Bool, List, [], ◌∷◌, Option, Some, take, ◌∙◌, ap, sym, refl}
-use Rattle.uecp_elements.specs.declared.code.Code.{Code}
+use Rattle.std.proofs.Common.{◌≡◌, ℕ, List, Some, take, ◌∙◌, ap, sym}
 use Rattle.uecp_frame.specs.Findings.{Finding}
 use Rattle.uecp_frame.specs.Beyond.{found_beyond}
 use Rattle.uecp_encoder.specs.State.{fed}

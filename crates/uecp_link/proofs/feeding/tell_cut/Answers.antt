@@ -1,4 +1,4 @@
-use Rattle.std.proofs.Common.{◌≡◌, ◌∙◌, ap, ℕ, List, take, None}
+use Rattle.std.proofs.Common.{◌∙◌, ap, ℕ, List}
 use Rattle.uecp_link.specs.Server.{heard}
 use Rattle.uecp_link.specs.Replying.{last_of, acknowledgements}
 use Rattle.uecp_link.proofs.FeedingLemmas.{heard_on, acknowledged_on}

@@ -1,5 +1,4 @@
-use Rattle.std.proofs.Common.{◌≡◌, ℕ, List, [], ◌∷◌, Option, Some, take, ◌∙◌, ap, sym, refl}
-use Rattle.uecp_elements.specs.declared.code.Code.{Code}
+use Rattle.std.proofs.Common.{◌≡◌, ℕ, List, Some, take, ◌∙◌, ap, sym}
 use Rattle.uecp_link.specs.Server.{heard, whats_of}
 use Rattle.uecp_link.specs.Replying.{last_of, codes_heard, acknowledgements}
 use Rattle.uecp_link.proofs.FeedingLemmas.{no_code, empty_is, heard_none, acknowledgements_none, heard_on, acknowledged_on}

@@ -1,13 +1,12 @@
-use Rattle.std.proofs.Common.{◌≡◌, ◌+◌, ◌<◌, ◌≤◌, ℕ, List, Some, length, vec_len, refl, ◌∙◌, ap, sym, subst, arith, rules}
+use Rattle.std.proofs.Common.{◌≡◌, ◌+◌, ◌<◌, ◌≤◌, ℕ, Some, length, vec_len, ◌∙◌, ap, sym, subst, arith, rules}
 use Rattle.std.specs.Prelude.{slice_get, unwrap_or}
 use Rattle.std.proofs.lemmas.Bool.{lt-ltb}
 use Rattle.uecp_elements.specs.declared.code.Code.TheVariants.{Applied}
 use Rattle.uecp_link.specs.declared.stepped.Stepped.{Stepped}
 use Rattle.uecp_link.specs.Once.{ReplyComes}
 use Rattle.uecp_link.specs.Law.{reply_bytes}
-use Rattle.uecp_link.specs.Replying.{last_of, acknowledgements}
-use Rattle.uecp_link.specs.Holds.{LineState, IsLine, once_of}
-use Rattle.uecp_link.specs.Next.{Goes, stepped_by}
+use Rattle.uecp_link.specs.Holds.{LineState, IsLine}
+use Rattle.uecp_link.specs.Next.{Goes}
 use Rattle.uecp_link.proofs.Numbering.{some_code_at}
 use Rattle.uecp_link.proofs.Delivering.{goes_stays}
 use Rattle.uecp_link.proofs.Acknowledging.{hears_reply}

@@ -1,8 +1,7 @@
-use Rattle.std.proofs.Common.{◌≡◌, ℕ, false, true, ◌∙◌, ap, sym, subst, refl}
+use Rattle.std.proofs.Common.{◌≡◌, false, ◌∙◌, ap, sym, subst}
 use Rattle.uecp_frame.specs.Findings.{has_frame}
 use Rattle.uecp_frame.specs.Beyond.{found_beyond}
 use Rattle.uecp_encoder.specs.State.{EncoderState}
-use Rattle.uecp_link.specs.Server.{ServerState}
 use Rattle.uecp_link.specs.Once.{NoiseToEncoder}
 use Rattle.uecp_link.specs.Holds.{LineState, IsLine}
 use Rattle.uecp_link.proofs.Goes.{stays}

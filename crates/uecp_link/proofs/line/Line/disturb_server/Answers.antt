@@ -1,12 +1,11 @@
-use Rattle.std.proofs.Common.{◌≡◌, ℕ, false, true, ◌∙◌, ap, sym, subst, refl}
+use Rattle.std.proofs.Common.{◌≡◌, false, ◌∙◌, ap, sym, subst}
 use Rattle.uecp_frame.specs.Findings.{has_frame}
 use Rattle.uecp_frame.specs.Beyond.{found_beyond}
-use Rattle.uecp_encoder.specs.State.{EncoderState}
 use Rattle.uecp_link.specs.Server.{ServerState}
 use Rattle.uecp_link.specs.Once.{NoiseToServer}
 use Rattle.uecp_link.specs.Holds.{LineState, IsLine}
 use Rattle.uecp_link.proofs.Goes.{stays}
-use Rattle.uecp_link.proofs.Delivering.{fed_address, is_quiet_then}
+use Rattle.uecp_link.proofs.Delivering.{is_quiet_then}
 use Rattle.uecp_link.proofs.line.Line.disturb_server.Goals as goal
 
 pub invariant_of-self : goal.invariant_of-self

@@ -1,9 +1,9 @@
-use Rattle.std.proofs.Common.{◌≡◌, ◌≤◌, ◌+◌, ℕ, List, [], ◌∷◌, ◌++◌, take, get_or, map, length, sym, ap, subst, ◌∙◌, arith}
+use Rattle.std.proofs.Common.{◌≡◌, ◌+◌, ℕ, List, [], ◌∷◌, ◌++◌, take, get_or, map, sym, ap, subst, ◌∙◌, arith}
 use Rattle.std.specs.Prelude.{is_none}
 use Rattle.std.specs.List.{AllByRecursion}
 use Rattle.std.proofs.lemmas.List.{map_more, take_all}
 use Rattle.uecp_link.specs.declared.event.LineEvent.{LineEvent}
-use Rattle.uecp_link.specs.Once.{Event, Once, after}
+use Rattle.uecp_link.specs.Once.{Event, after}
 use Rattle.uecp_link.specs.Law.{Fits}
 use Rattle.uecp_link.specs.Holds.{Holds, Plays}
 use Rattle.uecp_link.specs.Events.{event_of}

@@ -1,4 +1,4 @@
-use Rattle.std.proofs.Common.{◌≡◌, ap, ◌∙◌}
+use Rattle.std.proofs.Common.{ap}
 use Rattle.uecp_link.specs.Once.{Submit, FrameComes, ReplyComes, NoiseToEncoder, NoiseToServer}
 use Rattle.uecp_link.specs.Events.{event_of, lost_of}
 use Rattle.uecp_link.proofs.Stepping.{steps_from, steps_one, refused_from, address_from, loss_fits}

@@ -1,9 +1,9 @@
-use Rattle.std.proofs.Common.{◌≡◌, ℕ, List, [], ◌∷◌, ◌++◌, None, ◌∙◌, ap, sym, subst, refl, vec_len, length, rules}
+use Rattle.std.proofs.Common.{◌≡◌, ℕ, List, [], ◌∷◌, ◌++◌, ◌∙◌, ap, sym, subst, length, rules}
 use Rattle.uecp_elements.specs.declared.code.Code.{Code}
 use Rattle.uecp_link.specs.declared.stepped.Stepped.TheVariants as stepped
 use Rattle.uecp_link.specs.declared.refusal.LineRefusal.TheVariants as refusal
 use Rattle.uecp_link.specs.Once.{Submit}
-use Rattle.uecp_link.specs.Holds.{LineState, IsLine}
+use Rattle.uecp_link.specs.Holds.{LineState}
 use Rattle.uecp_link.specs.Next.{Goes, Stops}
 use Rattle.uecp_link.proofs.Opening.{submits, lacks_memory}
 use Rattle.uecp_link.proofs.line.Line.submit.Goals as goal

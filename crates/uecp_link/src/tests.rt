@@ -1,0 +1,331 @@
+ghost use Rattle.std.specs.Prelude.{◌≡◌, ◌+◌, ◌%◌, ◌^◌, IsTrue, length};
+ghost use Rattle.uecp_frame.specs.Address.{is_exact};
+ghost use Rattle.uecp_elements.specs.declared.code.Code.TheVariants.{Applied};
+
+mod noise;
+mod server;
+
+use crate::{Line, LineEvent, LineRefusal, Stepped};
+use rds_store::RdsStore;
+use std::alloc::Global;
+use std::process::Abort;
+use std::test::Fail;
+use uecp_elements::Code;
+use uecp_encoder::{Encoder, Target, What};
+use uecp_frame::{Address, Frame, FrameBytes, Message, encode};
+
+/// Adds the text "HI".
+const ADD: [u8; 7] = *b"\x0A\x00\x00\x03\x40\x48\x49";
+/// No element, counter 01.
+const EMPTY_1: [u8; 8] = *b"\xFE\x00\x41\x01\x00\x62\x93\xFF";
+/// Code 00 to counter 01.
+const APPLIED_1: [u8; 11] = *b"\xFE\x00\x41\x00\x03\x18\x00\x01\x40\xBE\xFF";
+
+/// Counts the messages that it is given, and their bytes.
+#[derive(Clone, Copy, Debug, Default, PartialEq, Eq)]
+struct CountTarget {
+    messages: u64,
+    bytes: u64,
+}
+
+impl Target for CountTarget {
+    ghost step = { λ v m. (record { messages = (v.messages + 1) % 2 ^ 64; bytes = (v.bytes + length m) % 2 ^ 64 }, Applied) };
+
+    fn apply(&mut self, message: &[u8]) -> Code {
+        self.messages = self.messages.wrapping_add(1);
+        self.bytes = self.bytes.wrapping_add(message.len() as u64);
+        Code::Applied
+    }
+}
+
+/// The address of site 1, encoder 1.
+fn own_address(rt: &impl Abort) -> Address
+    ensures { IsTrue (is_exact result) }
+{
+    let address = Address::new(1, 1).expect(rt, "in range");
+    assert!(rt; address.is_exact());
+    address
+}
+
+fn message(rt: &impl Abort, bytes: &[u8]) -> Message {
+    Message::from_bytes(bytes).expect(rt, "short")
+}
+
+/// A new line of site 1, encoder 1.
+fn with_target<T: Target + Drop>(
+    rt: &impl Abort,
+    alloc: Global,
+    target: T,
+) -> Result<Line<T>, Fail> {
+    match Line::new(alloc, own_address(rt), target) {
+        Ok(line) => Ok(line),
+        Err(_) => Err("no memory".into()),
+    }
+}
+
+/// A new line whose store has one data set and service 01.
+fn with_store(rt: &impl Abort, alloc: Global) -> Result<Line<RdsStore>, Fail> {
+    with_target(rt, alloc, RdsStore::new(alloc, 1, &[0x01])?)
+}
+
+/// How many texts the service has; 99 where it is not there.
+fn texts_of(store: &RdsStore) -> usize {
+    store
+        .service(1, 0x01)
+        .map_or(99, |service| service.texts().len())
+}
+
+/// The whole frame of a number.
+fn frame<'a>(number: usize) -> LineEvent<'a> {
+    LineEvent::Frame { number, cut: &[] }
+}
+
+/// The whole reply to a number.
+fn reply<'a>(number: usize) -> LineEvent<'a> {
+    LineEvent::Reply { number, cut: &[] }
+}
+
+/// A fresh delivery, or one of a repeat.
+fn delivered(fresh: bool, code: Code) -> Result<Stepped, LineRefusal> {
+    Ok(Stepped::Delivered { fresh, code })
+}
+
+/// The next message is submitted.
+fn is_taken<T: Target>(rt: &impl Abort, line: &mut Line<T>, bytes: &[u8]) {
+    let number = line.sent().len();
+    let message = message(rt, bytes);
+    let stepped = line.step(&LineEvent::Submit(&message));
+    assert_eq!(rt; stepped, Ok(Stepped::Numbered(number)));
+}
+
+/// The last message goes over the line, and so does the reply to it.
+fn goes_over<T: Target>(rt: &impl Abort, line: &mut Line<T>, code: Code) {
+    let number = line.applied();
+    assert_eq!(rt; line.step(&frame(number)), delivered(true, code));
+    assert_eq!(rt; line.step(&reply(number)), Ok(Stepped::Acknowledged(code)));
+    assert!(rt; line.server().is_idle());
+}
+
+/// The frame that the line's server lends.
+fn lent<'a, T: Target>(rt: &impl Abort, line: &'a Line<T>) -> &'a [u8] {
+    line.server().outgoing().expect(rt, "outstanding")
+}
+
+/// The reply of site 1, encoder 1, with this code to this counter.
+fn reply_made(rt: &impl Abort, code: u8, counter: u8) -> FrameBytes {
+    let frame = Frame {
+        address: own_address(rt),
+        counter: 0,
+        message: message(rt, &[0x18, code, counter]),
+    };
+    let mut bytes = FrameBytes::new();
+    encode(&frame, &mut bytes);
+    bytes
+}
+
+/// A bare encoder, beside the line, answers a frame with this reply.
+fn replies<T: Target>(
+    rt: &impl Abort,
+    encoder: &mut Encoder<T>,
+    frame: &[u8],
+    fresh: bool,
+    reply: &[u8],
+) {
+    match encoder.feed(frame).what {
+        What::Reply(bytes, is_fresh) => {
+            assert!(rt; bytes.as_slice() == reply && is_fresh == fresh);
+        }
+        _ => assert!(rt; false, "no reply"),
+    }
+}
+
+/// A bare encoder of site 1, encoder 1, with one data set and service 01.
+fn bare(rt: &impl Abort, alloc: Global) -> Result<Encoder<RdsStore>, Fail> {
+    let store = RdsStore::new(alloc, 1, &[0x01])?;
+    match Encoder::new(alloc, own_address(rt), store) {
+        Ok(encoder) => Ok(encoder),
+        Err(_) => Err("no memory".into()),
+    }
+}
+
+#[test]
+fn with_memory_a_new_line_takes_its_first_message(rt: HostRuntime) -> Result<(), Fail> {
+    let empty = Message::new();
+    let submit = [LineEvent::Submit(&empty)];
+    let mut line = with_store(&rt, rt.alloc())?;
+    is_taken(&rt, &mut line, &[]);
+    assert!(rt; lent(&rt, &line) == EMPTY_1.as_slice());
+    let store = RdsStore::new(rt.alloc(), 1, &[0x01])?;
+    match Line::play(rt.alloc(), own_address(&rt), store, &submit) {
+        Ok((line, refused)) => assert_eq!(rt; (line.sent().len(), refused), (1, 0)),
+        Err(_) => return Err("no memory".into()),
+    }
+    let mut line = with_store(&rt, rt.alloc())?;
+    assert_eq!(rt; line.run(&submit), 0);
+    assert_eq!(rt;
+        (line.sent().len(), line.applied(), line.acknowledged()),
+        (1, 0, 0)
+    );
+    Ok(())
+}
+
+#[test]
+fn a_refused_message_is_acknowledged_and_never_applied_late(rt: HostRuntime) -> Result<(), Fail> {
+    let add_8 = b"\xFE\x00\x41\x09\x07\x0A\x00\x00\x03\x40\x48\x49\x1B\xDC\xFF";
+    let full_8 = b"\xFE\x00\x41\x00\x03\x18\x0B\x09\x1D\x4C\xFF";
+    let applied_9 = b"\xFE\x00\x41\x00\x03\x18\x00\x0A\xF1\xD5\xFF";
+    let mut line = with_store(&rt, rt.alloc())?;
+    let mut encoder = bare(&rt, rt.alloc())?;
+    for counter in 1..9 {
+        is_taken(&rt, &mut line, &ADD);
+        let reply = reply_made(&rt, 0x00, counter);
+        replies(&rt, &mut encoder, lent(&rt, &line), true, reply.as_slice());
+        goes_over(&rt, &mut line, Code::Applied);
+    }
+    is_taken(&rt, &mut line, &ADD);
+    assert!(rt; lent(&rt, &line) == add_8.as_slice());
+    replies(&rt, &mut encoder, add_8, true, full_8);
+    goes_over(&rt, &mut line, Code::BufferFull);
+    is_taken(&rt, &mut line, &[0x0a, 0x00, 0x00, 0x00]);
+    replies(&rt, &mut encoder, lent(&rt, &line), true, applied_9);
+    goes_over(&rt, &mut line, Code::Applied);
+    assert_eq!(rt; texts_of(line.encoder().target()), 0);
+    assert_eq!(rt; line.step(&frame(8)), delivered(false, Code::BufferFull));
+    assert_eq!(rt; texts_of(line.encoder().target()), 0);
+    let mut codes = [Code::Applied; 10];
+    codes[8] = Code::BufferFull;
+    assert!(rt; line.codes() == codes.as_slice());
+    assert_eq!(rt; (line.applied(), line.acknowledged()), (10, 10));
+    Ok(())
+}
+
+#[test]
+fn a_frame_comes_again_after_126_messages_and_no_later(rt: HostRuntime) -> Result<(), Fail> {
+    let add_0 = b"\xFE\x00\x41\x01\x07\x0A\x00\x00\x03\x40\x48\x49\x32\x23\xFF";
+    let mut line = with_store(&rt, rt.alloc())?;
+    let mut encoder = bare(&rt, rt.alloc())?;
+    is_taken(&rt, &mut line, &ADD);
+    assert!(rt; lent(&rt, &line) == add_0.as_slice());
+    replies(&rt, &mut encoder, add_0, true, &APPLIED_1);
+    goes_over(&rt, &mut line, Code::Applied);
+    for counter in 0x02..0x80 {
+        is_taken(&rt, &mut line, &[]);
+        let reply = reply_made(&rt, 0x00, counter);
+        replies(&rt, &mut encoder, lent(&rt, &line), true, reply.as_slice());
+        goes_over(&rt, &mut line, Code::Applied);
+    }
+    assert_eq!(rt; line.sent().len(), 127);
+    replies(&rt, &mut encoder, add_0, false, &APPLIED_1);
+    assert_eq!(rt; line.step(&frame(0)), delivered(false, Code::Applied));
+    assert_eq!(rt; line.step(&reply(0)), Ok(Stepped::Stray));
+    is_taken(&rt, &mut line, &[]);
+    assert_eq!(rt; line.step(&frame(0)), Err(LineRefusal::TooLate));
+    assert_eq!(rt; line.step(&reply(0)), Err(LineRefusal::TooLate));
+    assert_eq!(rt; texts_of(line.encoder().target()), 1);
+    // A bare encoder knows no numbers: after one more message it applies the frame again.
+    let reply = reply_made(&rt, 0x00, 0x80);
+    replies(&rt, &mut encoder, lent(&rt, &line), true, reply.as_slice());
+    replies(&rt, &mut encoder, add_0, true, &APPLIED_1);
+    assert_eq!(rt; texts_of(encoder.target()), 2);
+    Ok(())
+}
+
+#[test]
+fn the_256th_message_is_spelled_as_the_first_and_is_fresh(rt: HostRuntime) -> Result<(), Fail> {
+    let empty_254 = b"\xFE\x00\x41\xFD\x02\x00\x52\x5D\xFF";
+    let applied_254 = b"\xFE\x00\x41\x00\x03\x18\x00\xFD\x02\x4E\x6F\xFF";
+    let mut line = with_target(&rt, rt.alloc(), CountTarget::default())?;
+    let mut encoder = bare(&rt, rt.alloc())?;
+    for number in 0..256 {
+        is_taken(&rt, &mut line, &[]);
+        match number {
+            0 | 255 => {
+                assert!(rt; lent(&rt, &line) == EMPTY_1.as_slice());
+                replies(&rt, &mut encoder, &EMPTY_1, true, &APPLIED_1);
+            }
+            254 => {
+                assert!(rt; lent(&rt, &line) == empty_254.as_slice());
+                replies(&rt, &mut encoder, empty_254, true, applied_254);
+            }
+            _ => assert_eq!(rt; encoder.feed(lent(&rt, &line)).used, lent(&rt, &line).len()),
+        }
+        goes_over(&rt, &mut line, Code::Applied);
+    }
+    assert_eq!(rt; line.step(&frame(0)), Err(LineRefusal::TooLate));
+    assert_eq!(rt; line.step(&reply(0)), Err(LineRefusal::TooLate));
+    assert_eq!(rt; line.encoder().counts(), encoder.counts());
+    let target = line.encoder().target();
+    assert_eq!(rt; (target.messages, target.bytes), (256, 0));
+    Ok(())
+}
+
+#[test]
+fn however_it_is_cut_a_frame_is_the_same(rt: HostRuntime) -> Result<(), Fail> {
+    let cuts: [&[u16]; 5] = [&[1; 15], &[], &[0, 0, 5, 0, 999], &[65535, 1], &[0]];
+    let mut line = with_store(&rt, rt.alloc())?;
+    is_taken(&rt, &mut line, &ADD);
+    let mut fresh = true;
+    for cut in cuts {
+        let event = LineEvent::Frame { number: 0, cut };
+        assert_eq!(rt; line.step(&event), delivered(fresh, Code::Applied));
+        fresh = false;
+    }
+    assert_eq!(rt; texts_of(line.encoder().target()), 1);
+    let mut stepped = Stepped::Acknowledged(Code::Applied);
+    for cut in cuts {
+        let event = LineEvent::Reply { number: 0, cut };
+        assert_eq!(rt; line.step(&event), Ok(stepped));
+        stepped = Stepped::Stray;
+    }
+    assert_eq!(rt; line.encoder().counts().repeats, 4);
+    Ok(())
+}
+
+/// A message and a second one too early, then its frame and its reply, each twice, then those of the second.
+fn script<'a>(message: &'a Message) -> [LineEvent<'a>; 8] {
+    [
+        LineEvent::Submit(message),
+        LineEvent::Submit(message),
+        LineEvent::Frame {
+            number: 0,
+            cut: &[1, 2],
+        },
+        frame(0),
+        reply(0),
+        reply(0),
+        frame(1),
+        reply(1),
+    ]
+}
+
+#[test]
+fn a_run_passes_over_the_refused_events(rt: HostRuntime) -> Result<(), Fail> {
+    let add = message(&rt, &ADD);
+    let events = script(&add);
+    let target = CountTarget::default();
+    match Line::play(rt.alloc(), own_address(&rt), target, &events) {
+        Err(fault) => assert!(rt; false, "no memory for {:?}", fault.target),
+        Ok((line, refused)) => {
+            let sent = (line.sent().len(), line.applied(), line.acknowledged());
+            assert_eq!(rt; (sent, refused), ((1, 1, 1), 3));
+            let target = line.encoder().target();
+            assert_eq!(rt; (target.messages, target.bytes), (1, 7));
+            assert_eq!(rt; line.encoder().counts().repeats, 1);
+        }
+    }
+    Ok(())
+}
+
+#[test]
+fn refusals_have_numbers_and_names(rt: HostRuntime) {
+    let rows = [
+        (LineRefusal::Busy, 1, "Busy"),
+        (LineRefusal::NotSent, 2, "NotSent"),
+        (LineRefusal::TooLate, 3, "TooLate"),
+        (LineRefusal::HoldsAFrame, 4, "HoldsAFrame"),
+        (LineRefusal::OutOfMemory, 5, "OutOfMemory"),
+    ];
+    for (refusal, number, name) in rows {
+        assert_eq!(rt; (refusal.number(), refusal.name()), (number, name));
+    }
+}
