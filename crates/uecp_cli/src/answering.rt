@@ -1,5 +1,8 @@
 //! The command `answer` (profile).
-ghost use Rattle.std.specs.Prelude.{length};
+ghost use Rattle.std.specs.Prelude.{length, flat_map};
+ghost use Rattle.uecp_encoder.specs.Answering.{responses_of};
+ghost use Rattle.uecp_cli.specs.Lines.{response_line};
+ghost use Rattle.uecp_cli.specs.Written.{Adds};
 
 use crate::input::{read_all, text_of};
 use crate::line_fault::LineFault;
@@ -62,7 +65,9 @@ fn answer_piece(encoder: &mut Encoder<RdsStore>, piece: &[u8], output: &mut Outp
 }
 
 /// The line for one answer.
-fn put_answer(what: What<'_>, output: &mut Output) {
+fn put_answer(what: What<'_>, output: &mut Output)
+    ensures { Adds output.old output.new (flat_map response_line (responses_of what.entry)) }
+{
     match what {
         What::Nothing => {}
         What::Reply(reply, fresh) => {

@@ -10,6 +10,10 @@ use std::alloc::{AllocError, Global};
 
 const VERSION: &str = "0.1.0";
 
+/// What the exit statuses say, below the list of commands.
+const STATUSES: &str =
+    "Each command reads standard input to its end. 'uecp COMMAND --help' has its options and an example.\nExit status: 0 done, 1 an input line was refused, 2 the command line or the services were refused,\n3 memory, reading or writing failed.";
+
 /// Reads the words of a command line, the first being the program's name.
 pub fn parse(alloc: Global, words: &[String]) -> Result<Job, Usage>
     ensures { IfOk result IsInRange }
@@ -29,6 +33,7 @@ pub fn program<'a>(alloc: Global) -> Result<Command<'a>, AllocError> {
         .bin_name("uecp")?
         .version(VERSION)
         .about("Both ends of an RDS encoder's control line (UECP)")
+        .after_help(STATUSES)
         .subcommand_required(true)
         .subcommand(answer_command(alloc)?)?
         .subcommand(show_command(alloc))?
@@ -54,7 +59,9 @@ fn show_command<'a>(alloc: Global) -> Command<'a> {
 fn make_command<'a>(alloc: Global) -> Command<'a> {
     Command::new(alloc, "make")
         .about("Write the frames of a frame script in hexadecimal, one a line")
-        .after_help("Example: printf 'frame 0041 01\\npi 00 00 C201\\n' | uecp make")
+        .after_help(
+            "Lines: frame AAAA CC, then its elements: pi, ps, tatp, ms, pty, rt, select, group, ack, raw\nExample: printf 'frame 0041 01\\npi 00 00 C201\\n' | uecp make",
+        )
 }
 
 fn line_command<'a>(alloc: Global) -> Result<Command<'a>, AllocError> {
@@ -62,7 +69,9 @@ fn line_command<'a>(alloc: Global) -> Result<Command<'a>, AllocError> {
         alloc,
         Command::new(alloc, "line")
             .about("Play an event script on a line between a server and an encoder")
-            .after_help("Example: printf 'submit -\\nframe 0\\nreply 0\\n' | uecp line"),
+            .after_help(
+                "Lines: submit HEX, frame N, reply N, noise-encoder HEX, noise-server HEX, line-lost encoder or server\nExample: printf 'submit -\\nframe 0\\nreply 0\\n' | uecp line",
+            ),
     )
 }
 

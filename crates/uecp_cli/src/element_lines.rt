@@ -1,33 +1,41 @@
 //! Elements as lines of a frame script (profile).
+ghost use Rattle.std.specs.Prelude.{◌++◌, codes, Ok};
+ghost use Rattle.uecp_elements.specs.View.{element_of, part_of};
+ghost use Rattle.uecp_cli.specs.Digits.{byte_word};
+ghost use Rattle.uecp_cli.specs.Lines.{element_words, part_words, item_line};
+ghost use Rattle.uecp_cli.specs.Written.{Adds};
+
 use crate::output::Output;
 use uecp_elements::{Element, RtPart};
 
 /// The line of one element.
-pub fn put_element(element: &Element<'_>, output: &mut Output) {
+pub fn put_element(element: &Element<'_>, output: &mut Output)
+    ensures { Adds output.old output.new (item_line (Ok (element_of element.now))) }
+{
+    put_words(element, output);
+    output.end();
+}
+
+/// What that line says.
+fn put_words(element: &Element<'_>, output: &mut Output)
+    ensures { Adds output.old output.new (element_words (element_of element.now)) }
+{
     match *element {
         Element::Pi { dsn, psn, pi } => {
-            put_head("pi", dsn, psn, output);
+            put_pair("pi", dsn, psn, output);
             output.number(pi);
         }
         Element::Ps { dsn, psn, name } => {
-            put_head("ps", dsn, psn, output);
+            put_pair("ps", dsn, psn, output);
             output.row(name);
         }
         Element::TaTp { dsn, psn, raw } => put_byte("tatp", dsn, psn, raw, output),
         Element::Ms { dsn, psn, raw } => put_byte("ms", dsn, psn, raw, output),
         Element::Pty { dsn, psn, raw } => put_byte("pty", dsn, psn, raw, output),
         Element::Rt { dsn, psn, part } => {
-            put_head("rt", dsn, psn, output);
+            put_pair("rt", dsn, psn, output);
             put_part(part, output);
         }
-        _ => put_unaddressed(element, output),
-    }
-    output.end();
-}
-
-/// An element without a service.
-fn put_unaddressed(element: &Element<'_>, output: &mut Output) {
-    match *element {
         Element::Select { dsn } => {
             output.text("select");
             output.byte(dsn);
@@ -43,27 +51,30 @@ fn put_unaddressed(element: &Element<'_>, output: &mut Output) {
             output.number(block3);
             output.number(block4);
         }
-        _ => {}
     }
 }
 
-fn put_pair(name: &str, first: u8, second: u8, output: &mut Output) {
+/// A name and two bytes.
+fn put_pair(name: &str, first: u8, second: u8, output: &mut Output)
+    ensures { Adds output.old output.new (name.now ++ byte_word first ++ byte_word second) }
+{
     output.text(name);
     output.byte(first);
     output.byte(second);
 }
 
-fn put_head(name: &str, dsn: u8, psn: u8, output: &mut Output) {
-    put_pair(name, dsn, psn, output);
-}
-
-fn put_byte(name: &str, dsn: u8, psn: u8, raw: u8, output: &mut Output) {
+/// A name and three bytes.
+fn put_byte(name: &str, dsn: u8, psn: u8, raw: u8, output: &mut Output)
+    ensures { Adds output.old output.new (name.now ++ byte_word dsn ++ byte_word psn ++ byte_word raw) }
+{
     put_pair(name, dsn, psn, output);
     output.byte(raw);
 }
 
 /// The part of a RadioText after its service.
-fn put_part(part: RtPart<'_>, output: &mut Output) {
+fn put_part(part: RtPart<'_>, output: &mut Output)
+    ensures { Adds output.old output.new (part_words (part_of part.entry)) }
+{
     match part {
         RtPart::Empty => output.text(" empty"),
         RtPart::Text { head, text } => {

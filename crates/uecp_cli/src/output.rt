@@ -2,7 +2,7 @@
 ghost use Rattle.std.specs.Prelude.{◌≡◌, ◌==◌, ◌++◌, ◌↔◌, [], ◌∷◌, length, true, IsOk, OnOk, IsTrue, codes, decimal, if◌then◌else◌};
 ghost use Rattle.std.specs.Io.KnownBytes.{Appends};
 ghost use Rattle.hex.specs.Hex.{encode_upper};
-ghost use Rattle.uecp_frame.specs.Frame.{high_first};
+ghost use Rattle.uecp_cli.specs.Digits.{byte_word, number_word, row_word, decimal_word, flag_word};
 ghost use Rattle.uecp_cli.specs.Written.{Adds};
 
 use crate::run_fault::RunFault;
@@ -58,24 +58,27 @@ impl Output {
     }
 
     /// Adds a space and the two digits of the byte.
+    #[tactic(auto, unfolding(crate::specs::Digits::byte_word))]
     pub fn byte(&mut self, byte: u8)
-        ensures { Adds self.old self.new (codes " " ++ encode_upper (byte ∷ [])) }
+        ensures { Adds self.old self.new (byte_word byte) }
     {
         self.text(" ");
         self.digits(&[byte]);
     }
 
     /// Adds a space and the four digits of the number.
+    #[tactic(auto, unfolding(crate::specs::Digits::number_word))]
     pub fn number(&mut self, number: u16)
-        ensures { Adds self.old self.new (codes " " ++ encode_upper (high_first number)) }
+        ensures { Adds self.old self.new (number_word number) }
     {
         self.text(" ");
         self.digits(&number.to_be_bytes());
     }
 
     /// Adds a space and the digits of the bytes, or `-` for no bytes.
+    #[tactic(auto, unfolding(crate::specs::Digits::row_word))]
     pub fn row(&mut self, bytes: &[u8])
-        ensures { Adds self.old self.new (codes " " ++ (if length bytes.now == 0 then codes "-" else encode_upper bytes.now)) }
+        ensures { Adds self.old self.new (row_word bytes.now) }
     {
         self.text(" ");
         if bytes.is_empty() {
@@ -86,13 +89,22 @@ impl Output {
     }
 
     /// Adds a space and the number in decimal.
+    #[tactic(auto, unfolding(crate::specs::Digits::decimal_word))]
     pub fn decimal(&mut self, number: usize)
-        ensures { Adds self.old self.new (codes " " ++ decimal number) }
+        ensures { Adds self.old self.new (decimal_word number) }
     {
         match format!(in self.alloc; " {number}") {
             Ok(text) => self.text(text.as_str()),
             Err(_) => self.is_whole = false,
         }
+    }
+
+    /// Adds a space and 1 or 0.
+    #[tactic(auto, unfolding(crate::specs::Digits::flag_word))]
+    pub fn flag(&mut self, is_set: bool)
+        ensures { Adds self.old self.new (flag_word is_set) }
+    {
+        self.text(if is_set { " 1" } else { " 0" });
     }
 
     /// Ends the line.

@@ -1,5 +1,6 @@
 //! A job from its input to its exit status (profile).
-ghost use Rattle.std.specs.Prelude.{◌≤◌};
+ghost use Rattle.std.specs.Prelude.{◌≡◌, ◌≤◌};
+ghost use Rattle.uecp_cli.specs.Statuses.{status_of};
 
 use crate::answering::answer;
 use crate::event_script::play;
@@ -79,7 +80,7 @@ fn do_job<R: Read>(
 /// Says on the writer of errors why a run stopped, and answers its status. A text that can't be written changes
 /// nothing.
 pub fn report<E: Write>(fault: RunFault, errors: &mut E) -> u8
-    ensures { result ≤ 3 }
+    ensures { result ≡ status_of fault }
 {
     let _ = writeln!(errors, "{fault}");
     fault.status()

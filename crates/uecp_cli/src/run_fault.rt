@@ -1,5 +1,6 @@
 //! Why a run stopped (profile).
-ghost use Rattle.std.specs.Prelude.{◌≤◌};
+ghost use Rattle.std.specs.Prelude.{◌≡◌};
+ghost use Rattle.uecp_cli.specs.Statuses.{status_of};
 
 use crate::line_fault::LineFault;
 use rds_store::StoreFault;
@@ -35,7 +36,7 @@ pub enum RunFault {
 impl RunFault {
     /// The exit status of a run that this stopped: 1 for a line, 2 for what the command line gave, else 3.
     pub fn status(&self) -> u8
-        ensures { result ≤ 3 }
+        ensures { result ≡ status_of self.now }
     {
         match self {
             RunFault::Line(_, _) => 1,

@@ -1,5 +1,11 @@
 //! The command `show` (profile).
-ghost use Rattle.std.specs.Prelude.{length};
+ghost use Rattle.std.specs.Prelude.{◌≡◌, ◌≤◌, flat_map, length, drop};
+ghost use Rattle.uecp_frame.specs.Beyond.{found_beyond, open_beyond};
+ghost use Rattle.uecp_frame.specs.Feeding.{findings_of};
+ghost use Rattle.uecp_elements.specs.Reading.{items};
+ghost use Rattle.uecp_elements.specs.View.{item_of};
+ghost use Rattle.uecp_cli.specs.Lines.{item_line, frame_lines, finding_lines, dropped_line, place_words};
+ghost use Rattle.uecp_cli.specs.Written.{Adds};
 
 use crate::element_lines::put_element;
 use crate::input::{read_all, text_of};
@@ -9,7 +15,7 @@ use crate::run_fault::RunFault;
 use crate::words::piece_of;
 use std::alloc::Global;
 use std::io::Read;
-use uecp_elements::elements;
+use uecp_elements::{Element, ElementFault, elements};
 use uecp_frame::{Deframer, Found, Frame, FrameFault};
 
 /// Says what frames and elements stand in the pieces.
@@ -41,46 +47,89 @@ fn show_line(
 }
 
 /// Shows what one piece ends.
-fn show_piece(deframer: &mut Deframer, piece: &[u8], output: &mut Output) {
+fn show_piece(deframer: &mut Deframer, piece: &[u8], output: &mut Output)
+    ensures lines { Adds output.old output.new (flat_map finding_lines (found_beyond deframer.old piece.now)) }
+    ensures left { open_beyond deframer.old piece.now ≡ deframer.new }
+{
     let mut rest = piece;
     while !rest.is_empty() {
         let fed = deframer.feed(rest);
-        rest = &rest[fed.used..];
-        match fed.found {
-            Found::Nothing => {}
-            Found::Frame(frame) => put_frame(&frame, output),
-            Found::Refused(fault) => put_fault(fault, output),
-        }
+        rest = left(rest, fed.used);
+        put_found(&fed.found, output);
     }
 }
 
-/// The lines of a frame: its address and counter, its elements, and the fault of its message if it has one.
-fn put_frame(frame: &Frame, output: &mut Output) {
+/// What is left of a piece once this many bytes of it were used.
+pub fn left(piece: &[u8], used: usize) -> &[u8]
+    requires { used ≤ length piece.now }
+    ensures { result.now ≡ drop used piece.now }
+{
+    &piece[used..]
+}
+
+/// The lines of what a piece ended.
+fn put_found(found: &Found, output: &mut Output)
+    ensures { Adds output.old output.new (flat_map finding_lines (findings_of found.now)) }
+{
+    match found {
+        Found::Nothing => {}
+        Found::Frame(frame) => put_frame(frame, output),
+        Found::Refused(fault) => put_fault(*fault, output),
+    }
+}
+
+/// The lines of a frame: its address and counter, and those of its message.
+fn put_frame(frame: &Frame, output: &mut Output)
+    ensures { Adds output.old output.new (frame_lines frame.now) }
+{
     output.text("frame");
     output.number(frame.address.value());
     output.byte(frame.counter);
     output.end();
-    for read in elements(frame.message.bytes()) {
-        match read {
-            Ok(element) => put_element(&element, output),
-            Err(fault) => {
-                output.text("fault");
-                output.byte(fault.code.byte());
-                output.decimal(fault.place);
-                output.end();
-            }
+    put_items(frame.message.bytes(), output);
+}
+
+/// The elements of a message, and its fault if it has one.
+fn put_items(message: &[u8], output: &mut Output)
+    ensures { Adds output.old output.new (flat_map item_line (items message.now)) }
+{
+    for read in elements(message) {
+        put_item(read, output);
+    }
+}
+
+/// The line of an element or a fault.
+fn put_item(read: Result<Element<'_>, ElementFault>, output: &mut Output)
+    ensures { Adds output.old output.new (item_line (item_of read.entry)) }
+{
+    match read {
+        Ok(element) => put_element(&element, output),
+        Err(fault) => {
+            output.text("fault");
+            output.byte(fault.code.byte());
+            output.decimal(fault.place);
+            output.end();
         }
     }
 }
 
 /// The line of a segment that is no frame.
-pub fn put_fault(fault: FrameFault, output: &mut Output) {
+pub fn put_fault(fault: FrameFault, output: &mut Output)
+    ensures { Adds output.old output.new (dropped_line fault) }
+{
     output.text("dropped");
     output.decimal(usize::from(fault.number()));
     output.text(" ");
     output.text(fault.name());
+    put_place(fault, output);
+    output.end();
+}
+
+/// Where a fault stands, if it has a place.
+fn put_place(fault: FrameFault, output: &mut Output)
+    ensures { Adds output.old output.new (place_words fault) }
+{
     if let FrameFault::BadStuffing(place) = fault {
         output.decimal(place);
     }
-    output.end();
 }
