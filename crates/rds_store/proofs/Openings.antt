@@ -1,5 +1,5 @@
 -- The rows of the opening store.
-use Rattle.std.proofs.Common.{◌≡◌, ℕ, suc, zero, ◌+◌, ◌<◌, ◌≤◌, Bool, true, false, cond, ◌||◌, ◌==◌, eqb, List, [], ◌∷◌, ◌++◌, length, map, replicate, take, get_or, Some, None, refl, sym, ap, ◌∙◌, arith, if◌then◌else◌}
+use Rattle.std.proofs.Common.{◌≡◌, ℕ, suc, zero, ◌+◌, ◌<◌, ◌≤◌, Bool, true, false, cond, ◌||◌, ◌==◌, eqb, List, [], ◌∷◌, ◌++◌, length, map, replicate, take, get_or, Some, None, refl, sym, ap, subst, ◌∙◌, arith, if◌then◌else◌}
 use Rattle.std.proofs.lemmas.List.{length-replicate, length-map, map-append, take_more}
 use Rattle.std.proofs.lemmas.Grind.{common_steps}
 use Rattle.indexmap.specs.IndexMap.{insert_entry}
@@ -75,6 +75,9 @@ allowed_sets sets services h = grind (arith, common_steps)
 allowed_services : (sets : ℕ) (services : List ℕ) → fault_of sets services ≡ None → 0 < length services
 allowed_services sets services h = grind (arith, common_steps)
 
+allowed_count : (sets : ℕ) (services : List ℕ) → fault_of sets services ≡ None → length services ≤ 8
+allowed_count sets services h = grind (arith, common_steps)
+
 allowed_numbers : (sets : ℕ) (services : List ℕ) → fault_of sets services ≡ None → list_any (λ s. s == 0x00) services ≡ false
 allowed_numbers sets services h = grind (arith, common_steps)
 
@@ -82,6 +85,7 @@ pub shape_opening : (sets : ℕ) (services : List ℕ) → fault_of sets service
 shape_opening sets services h = record {
   few_sets = allowed_sets sets services h;
   some_service = let some : 0 < length services = allowed_services sets services h in rw length-map some;
+  few_services = let few : length services ≤ 8 = allowed_count sets services h in subst (λ keys. length keys ≤ 8) (sym (keys-opening sets services)) few;
   all_sets = lengths-opening sets services;
   no_zero = ap (list_any (λ s. s == 0x00)) (keys-opening sets services) ∙ allowed_numbers sets services h;
 }

@@ -361,6 +361,7 @@ pub shape_changed : (sets p : ℕ) (t : ℕ → Bool) (change : ServiceData → 
 shape_changed sets p t change es h = record {
   few_sets = h.few_sets;
   some_service = some-changed_rows p t change es h.some_service;
+  few_services = subst (λ keys. length keys ≤ 8) (sym (keys-changed_rows p t change es)) h.few_services;
   all_sets = lengths-changed_rows sets p t change es h.all_sets;
   no_zero = ap (list_any (λ s. s == 0x00)) (keys-changed_rows p t change es) ∙ h.no_zero;
 }

@@ -31,10 +31,11 @@ abbrev pub is_row_full : (set : ℕ) → (ℕ → Bool) → List ServiceData →
 is_row_full set test [] = false
 is_row_full set test (s ∷ ss) = (test set && is_full s) || is_row_full (set + 1) test ss
 
--- What all rows keep: there are at most 8 sets, there is a service, each row has all sets, and no service is 00.
+-- What all rows keep: there are at most 8 sets, there are services and at most 8 of them, each row has all sets, and no service is 00.
 pub record HasShape (sets : ℕ) (rows : List (ℕ × List ServiceData)) : Type 0 where
   pub few_sets : sets ≤ 8
   pub some_service : 0 < length rows
+  pub few_services : length (keys_of rows) ≤ 8
   pub all_sets : AllByRecursion (λ e. length e.1 ≡ sets) rows
   pub no_zero : list_any (λ s. s == 0x00) (keys_of rows) ≡ false
 

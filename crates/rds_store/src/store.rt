@@ -1,5 +1,5 @@
 //! The store. Source: RDS Forum SPB 490 for data sets and programme services, profile for the limits.
-ghost use Rattle.std.specs.Prelude.{◌≡◌, ◌==◌, ◌&&◌, nat_le, is_some, false, ◌≤◌, length, slice_get, IfOk, IfErr, unwrap_or, None};
+ghost use Rattle.std.specs.Prelude.{◌≡◌, ◌==◌, ◌&&◌, nat_le, is_some, false, ◌<◌, ◌≤◌, IfSome, length, slice_get, IfOk, IfErr, unwrap_or, None};
 ghost use Rattle.std.specs.Option.{option_copied};
 ghost use Rattle.std.specs.List.{list_any};
 ghost use Rattle.std.specs.FinMap.{get};
@@ -120,15 +120,17 @@ impl RdsStore {
 
     /// How many data sets there are, 1 to 8.
     pub fn set_count(&self) -> u8
-        ensures { result ≡ self.now.sets }
+        ensures value { result ≡ self.now.sets }
+        ensures most { result ≤ 8 }
     {
         self.sets
     }
 
     /// The number of the service at a place of the configured order, counted from 0; None exactly from the number of
-    /// services on.
+    /// services on, which is at most 8.
     pub fn service_number(&self, place: usize) -> Option<u8>
-        ensures { result ≡ slice_get self.now.services place }
+        ensures value { result ≡ slice_get self.now.services place }
+        ensures few { IfSome result (λ number. place < 8) }
     {
         match self.services.get_index(place) {
             Some((number, _)) => Some(*number),

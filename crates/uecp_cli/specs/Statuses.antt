@@ -1,4 +1,4 @@
--- The exit statuses of runs that stopped (profile).
+-- Why runs stop, and their exit statuses (profile).
 use Rattle.std.specs.Prelude.{ℕ}
 use Rattle.uecp_cli.specs.declared.run_fault.RunFault.{RunFault}
 use Rattle.uecp_cli.specs.declared.run_fault.RunFault.TheVariants.{Line, Services, Address, TooLong, Reading, Writing, OutOfMemory}

@@ -6,7 +6,7 @@ use crate::output::Output;
 use crate::run_fault::RunFault;
 use crate::setup::{Setup, address_of};
 use crate::step_lines::{put_step, put_totals};
-use crate::store_lines::put_store;
+use crate::store_lines::put_last;
 use crate::words::words_of;
 use rds_store::RdsStore;
 use std::alloc::Global;
@@ -29,13 +29,11 @@ pub fn play<R: Read>(
         .enumerate()
     {
         if let Some(text) = text_of(text) {
-            play_line(alloc, &mut line, text, output).map_err(|fault| fault.at(place))?;
+            play_line(alloc, &mut line, text, output).map_err(|fault| fault.at(place + 1))?;
         }
     }
     put_totals(&line, output);
-    if store {
-        put_store(line.encoder().target(), output);
-    }
+    put_last(line.encoder().target(), store, output);
     Ok(output.check()?)
 }
 

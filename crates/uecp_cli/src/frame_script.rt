@@ -30,7 +30,7 @@ pub fn make<R: Read>(alloc: Global, reader: &mut R, output: &mut Output) -> Resu
         .enumerate()
     {
         if let Some(text) = text_of(line) {
-            make_line(alloc, text, &mut frame, output).map_err(|fault| fault.at(place))?;
+            make_line(alloc, text, &mut frame, output).map_err(|fault| fault.at(place + 1))?;
         }
     }
     put_spelled(&frame, output);

@@ -1,6 +1,8 @@
 //! Standard input and its lines (profile).
-ghost use Rattle.std.specs.Prelude.{◌≡◌, ◌≤◌, IfOk, vec_len};
-ghost use Rattle.std.specs.Io.KnownBytes.{Consumes};
+ghost use Rattle.std.specs.Prelude.{◌≡◌, ◌<◌, ◌∷◌, IfOk, IfErr, option_copied, length};
+ghost use Rattle.uecp_cli.specs.Input.{lines_of, without_end, without_last_spaces, trimmed, said};
+ghost use Rattle.uecp_cli.specs.Run.{IsInput};
+ghost use Rattle.uecp_cli.specs.Statuses.{status_of};
 
 use crate::run_fault::RunFault;
 use std::alloc::Global;
@@ -14,8 +16,8 @@ const READ_MAX: usize = 4096;
 
 /// All of the input up to its end, or `TooLong` as soon as one byte more than the limit was read.
 pub fn read_all<R: Read>(alloc: Global, reader: &mut R) -> Result<Vec<u8>, RunFault>
-    ensures most { IfOk result (λ all. vec_len all ≤ 1048576) }
-    ensures bytes { IfOk result (λ all. Consumes (R.remaining reader.old) (R.remaining reader.new) all.items) }
+    ensures input { IfOk result (λ all. IsInput (R.remaining reader.old) (R.remaining reader.new) all.items) }
+    ensures refused { IfErr result (λ fault. status_of fault ≡ 3) }
 {
     let mut all = Vec::new(alloc);
     let mut buffer = [0u8; READ_MAX];
@@ -30,26 +32,51 @@ pub fn read_all<R: Read>(alloc: Global, reader: &mut R) -> Result<Vec<u8>, RunFa
     Err(RunFault::TooLong)
 }
 
-/// What a line says, without its end and the spaces around it, or None where the line is passed over.
-pub fn text_of(line: &[u8]) -> Option<&[u8]> {
-    let mut text = without_end(line);
-    while let [b' ', rest @ ..] = text {
-        text = rest;
-    }
-    while let [rest @ .., b' '] = text {
-        text = rest;
-    }
+/// What a line says: what stands between its spaces, or None where that is empty or a comment.
+pub fn text_of(line: &[u8]) -> Option<&[u8]>
+    ensures { option_copied result ≡ said line.now }
+{
+    let text = without_spaces(without_end(line));
     match text {
         [] | [b'#', ..] => None,
         _ => Some(text),
     }
 }
 
+/// The text without the spaces at its start and at its end.
+fn without_spaces(text: &[u8]) -> &[u8]
+    ensures { result.now ≡ trimmed text.now }
+{
+    let first = text.iter().take_while(|byte| **byte == b' ').count();
+    without_last_spaces(&text[first..])
+}
+
+/// The text without the spaces at its end.
+fn without_last_spaces(text: &[u8]) -> &[u8]
+    ensures { result.now ≡ without_last_spaces text.now }
+{
+    let last = text.iter().rev().take_while(|byte| **byte == b' ').count();
+    &text[..text.len() - last]
+}
+
 /// The line without its line feed and one carriage return before that. A line with no line feed stays whole.
-fn without_end(line: &[u8]) -> &[u8] {
-    match line {
-        [text @ .., b'\r', b'\n'] => text,
-        [text @ .., b'\n'] => text,
-        _ => line,
+fn without_end(line: &[u8]) -> &[u8]
+    ensures { result.now ≡ without_end line.now }
+{
+    match line.strip_suffix(b"\r\n") {
+        Some(text) => text,
+        None => line.strip_suffix(b"\n").unwrap_or(line),
+    }
+}
+
+/// The first line of an input that is not empty, with its line feed if it has one, and what follows it.
+pub fn first_line(input: &[u8]) -> (&[u8], &[u8])
+    requires { 0 < length input.now }
+    ensures lines { lines_of input.now ≡ result.0.now ∷ lines_of result.1.now }
+    ensures shorter { length result.1.now < length input.now }
+{
+    match input.iter().position(|byte| *byte == b'\n') {
+        Some(place) => input.split_at(place + 1),
+        None => (input, &[]),
     }
 }

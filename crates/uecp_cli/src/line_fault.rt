@@ -1,5 +1,6 @@
 //! Why a line of input was refused (profile).
 ghost use Rattle.std.specs.Prelude.{◌≡◌};
+ghost use Rattle.uecp_cli.specs.Run.{fault_at};
 ghost use Rattle.uecp_cli.specs.declared.line_fault.LineFault.TheVariants.{OutOfMemory};
 
 use crate::run_fault::RunFault;
@@ -27,11 +28,13 @@ pub enum LineFault {
 }
 
 impl LineFault {
-    /// The run's fault where this is the fault of the line at `place`, counted from 0.
-    pub fn at(self, place: usize) -> RunFault {
+    /// The run's fault where this is the fault of the line of this number, counted from 1.
+    pub fn at(self, number: usize) -> RunFault
+        ensures { result ≡ fault_at number self }
+    {
         match self {
             LineFault::OutOfMemory => RunFault::OutOfMemory,
-            refusal => RunFault::Line(place.saturating_add(1), refusal),
+            refusal => RunFault::Line(number, refusal),
         }
     }
 }

@@ -8,6 +8,7 @@
 #![tactic(auto)]
 
 mod answering;
+mod command;
 mod command_line;
 mod element_lines;
 mod element_words;
@@ -16,6 +17,7 @@ mod event_words;
 mod frame_script;
 mod input;
 mod job;
+mod laws;
 mod line_fault;
 mod output;
 mod run;

@@ -1,6 +1,8 @@
 //! Why a run stopped (profile).
 ghost use Rattle.std.specs.Prelude.{◌≡◌};
 ghost use Rattle.uecp_cli.specs.Statuses.{status_of};
+ghost use Rattle.uecp_cli.specs.Setups.{SaysStoreFault};
+ghost use Rattle.uecp_cli.specs.declared.run_fault.RunFault.TheVariants.{OutOfMemory};
 
 use crate::line_fault::LineFault;
 use rds_store::StoreFault;
@@ -47,25 +49,28 @@ impl RunFault {
 }
 
 impl From<AllocError> for RunFault {
+    ghost from_gives = { λ _ e. e ≡ OutOfMemory };
+
     fn from(_error: AllocError) -> RunFault {
         RunFault::OutOfMemory
     }
 }
 
 impl<T: Drop> From<AllocFailed<T>> for RunFault {
+    ghost from_gives = { λ _ e. e ≡ OutOfMemory };
+
     fn from(_error: AllocFailed<T>) -> RunFault {
         RunFault::OutOfMemory
     }
 }
 
 impl From<StoreFault> for RunFault {
+    ghost from_gives = { SaysStoreFault };
+
     fn from(fault: StoreFault) -> RunFault {
         match fault {
-            StoreFault::SetCount => RunFault::Services("SetCount"),
-            StoreFault::ServiceCount => RunFault::Services("ServiceCount"),
-            StoreFault::ServiceZero => RunFault::Services("ServiceZero"),
-            StoreFault::ServiceTwice => RunFault::Services("ServiceTwice"),
             StoreFault::OutOfMemory => RunFault::OutOfMemory,
+            refusal => RunFault::Services(refusal.name()),
         }
     }
 }

@@ -1,5 +1,8 @@
 //! The encoder that the options describe (profile).
-ghost use Rattle.std.specs.Prelude.{◌≡◌, ◌<◌, ◌+◌, ◌*◌, ◌/◌, ◌%◌, IfSome};
+ghost use Rattle.std.specs.Prelude.{◌≡◌, ◌⊎◌, IfSome, IfNone, IfOk, IfErr, IsTrue};
+ghost use Rattle.uecp_frame.specs.Address.{is_exact};
+ghost use Rattle.uecp_cli.specs.Setups.{IsOneEncoder, address_of, IsSetup, encoder_at_first, RefusesSetup};
+ghost use Rattle.uecp_cli.specs.declared.run_fault.RunFault.TheVariants.{OutOfMemory};
 
 use crate::run_fault::RunFault;
 use rds_store::RdsStore;
@@ -22,8 +25,10 @@ pub struct Setup<'a> {
 
 /// The address of exactly one encoder, or None where a part is 0 or out of range.
 pub fn address_of(site: u16, encoder: u8) -> Option<Address>
-    ensures exact { IfSome result (λ a. (0 < a / 64) × (0 < a % 64)) }
-    ensures value { IfSome result (λ a. a ≡ site * 64 + encoder) }
+    ensures value { IfSome result (λ a. a ≡ address_of site encoder) }
+    ensures exact { IfSome result (λ a. IsTrue (is_exact a)) }
+    ensures some { IfSome result (λ a. IsOneEncoder site encoder) }
+    ensures none { IfNone result (IsOneEncoder site encoder → ⊥) }
 {
     match Address::new(site, encoder) {
         Some(address) if address.is_exact() => Some(address),
@@ -32,7 +37,11 @@ pub fn address_of(site: u16, encoder: u8) -> Option<Address>
 }
 
 /// A new encoder with an opening store. The services are judged before the address.
-pub fn new_encoder(alloc: Global, setup: &Setup<'_>) -> Result<Encoder<RdsStore>, RunFault> {
+pub fn new_encoder(alloc: Global, setup: &Setup<'_>) -> Result<Encoder<RdsStore>, RunFault>
+    ensures described { IfOk result (λ e. IsSetup setup.now.site setup.now.encoder setup.now.sets setup.now.services.now) }
+    ensures made { IfOk result (λ e. e ≡ encoder_at_first setup.now.site setup.now.encoder setup.now.sets setup.now.services.now) }
+    ensures refused { IfErr result (λ fault. (fault ≡ OutOfMemory) ⊎ RefusesSetup setup.now.site setup.now.encoder setup.now.sets setup.now.services.now fault) }
+{
     let store = RdsStore::new(alloc, setup.sets, setup.services)?;
     match address_of(setup.site, setup.encoder) {
         Some(address) => { Encoder::new(alloc, address, store).map_err(|_| RunFault::OutOfMemory) }

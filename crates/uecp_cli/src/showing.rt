@@ -1,14 +1,17 @@
 //! The command `show` (profile).
-ghost use Rattle.std.specs.Prelude.{◌≡◌, ◌≤◌, flat_map, length, drop};
+ghost use Rattle.std.specs.Prelude.{◌≡◌, ◌≤◌, [], flat_map, length, drop};
+ghost use Rattle.uecp_frame.specs.Findings.{Closed};
 ghost use Rattle.uecp_frame.specs.Beyond.{found_beyond, open_beyond};
 ghost use Rattle.uecp_frame.specs.Feeding.{findings_of};
 ghost use Rattle.uecp_elements.specs.Reading.{items};
 ghost use Rattle.uecp_elements.specs.View.{item_of};
 ghost use Rattle.uecp_cli.specs.Lines.{item_line, frame_lines, finding_lines, dropped_line, place_words};
+ghost use Rattle.uecp_cli.specs.Run.{RunsWhole};
+ghost use Rattle.uecp_cli.specs.Commands.{Shows};
 ghost use Rattle.uecp_cli.specs.Written.{Adds};
 
+use crate::command::{Command, run_over};
 use crate::element_lines::put_element;
-use crate::input::{read_all, text_of};
 use crate::line_fault::LineFault;
 use crate::output::Output;
 use crate::run_fault::RunFault;
@@ -19,31 +22,20 @@ use uecp_elements::{Element, ElementFault, elements};
 use uecp_frame::{Deframer, Found, Frame, FrameFault};
 
 /// Says what frames and elements stand in the pieces.
-pub fn show<R: Read>(alloc: Global, reader: &mut R, output: &mut Output) -> Result<(), RunFault> {
-    let input = read_all(alloc, reader)?;
-    let mut deframer = Deframer::new();
-    for (place, line) in input
-        .as_slice()
-        .split_inclusive(|byte| *byte == b'\n')
-        .enumerate()
-    {
-        if let Some(text) = text_of(line) {
-            show_line(alloc, &mut deframer, text, output).map_err(|fault| fault.at(place))?;
-        }
-    }
-    Ok(())
+pub fn show<R: Read>(alloc: Global, reader: &mut R, output: &mut Output) -> Result<(), RunFault>
+    ensures { RunsWhole Shows Closed (λ part. []) (R.remaining reader.old) (R.remaining reader.new) output.old result output.new }
+{
+    run_over(alloc, reader, &mut Deframer::new(), output)
 }
 
-/// Shows what one line ends.
-fn show_line(
-    alloc: Global,
-    deframer: &mut Deframer,
-    text: &[u8],
-    output: &mut Output,
-) -> Result<(), LineFault> {
-    let piece = piece_of(alloc, text)?;
-    show_piece(deframer, piece.as_slice(), output);
-    Ok(output.check()?)
+impl Command for Deframer {
+    ghost says = { Shows };
+
+    fn take(&mut self, alloc: Global, text: &[u8], output: &mut Output) -> Result<(), LineFault> {
+        let piece = piece_of(alloc, text)?;
+        show_piece(self, piece.as_slice(), output);
+        Ok(output.check()?)
+    }
 }
 
 /// Shows what one piece ends.

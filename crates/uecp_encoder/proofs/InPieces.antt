@@ -12,7 +12,7 @@ use Rattle.uecp_frame.proofs.Pieces.{in_pieces_lem, new_start_lem, comes_after_l
 use Rattle.uecp_frame.proofs.HeardLemmas.{always_heard_lem}
 use Rattle.uecp_encoder.specs.Target.{Step}
 use Rattle.uecp_encoder.specs.State.{EncoderState, raised, numbered, after_finding, after_findings, fed}
-use Rattle.uecp_encoder.specs.Answering.{response_to, responses, bytes_sent, answers}
+use Rattle.uecp_encoder.specs.Answering.{response_to, responses, responses_to, bytes_sent, answers}
 use Rattle.uecp_encoder.specs.Laws.{IsInPieces, found_in_pieces, joined, IsHeardAfterNoise}
 
 -- ---- an encoder
@@ -68,21 +68,24 @@ fed-append step e x y =
     ∙ ap (λ d. after_findings step d ys) (findings_open step e o (found_beyond e.part x) ∙ sym (ap (λ d. with_open d o) (findings_open step e (open_beyond e.part x) (found_beyond e.part x))))
     ∙ ap (λ p. after_findings step (with_open (fed step e x) (open_beyond p y)) (found_beyond p y)) (sym (fed-part step e x))
 
-answers-append : {V : Type 0} (step : Step V) (e : EncoderState V) (x y : List ℕ) → answers step e (x ++ y) ≡ answers step e x ++ answers step (fed step e x) y
-answers-append step e x y =
+responses_to-append : {V : Type 0} (step : Step V) (e : EncoderState V) (x y : List ℕ) → responses_to step e (x ++ y) ≡ responses_to step e x ++ responses_to step (fed step e x) y
+responses_to-append step e x y =
     let pieces = in_pieces_lem e.part x y in
     let xs : List Finding = found_beyond e.part x in
     let ys : List Finding = found_beyond (open_beyond e.part x) y in
-    ap (λ fs. flat_map bytes_sent (responses step e fs)) pieces.found
-    ∙ ap (flat_map bytes_sent) (responses-append step e xs ys)
-    ∙ flat_map-append bytes_sent (responses step e xs) (responses step (after_findings step e xs) ys)
-    ∙ ap (λ rs. answers step e x ++ flat_map bytes_sent rs)
+    ap (responses step e) pieces.found
+    ∙ responses-append step e xs ys
+    ∙ ap (λ rs. responses_to step e x ++ rs)
     (sym (responses_open step (after_findings step e xs) (open_beyond e.part x) ys)
     ∙ ap (λ d. responses step d ys) (sym (findings_open step e (open_beyond e.part x) xs))
     ∙ ap (λ p. responses step (fed step e x) (found_beyond p y)) (sym (fed-part step e x)))
 
+answers-append : {V : Type 0} (step : Step V) (e : EncoderState V) (x y : List ℕ) → answers step e (x ++ y) ≡ answers step e x ++ answers step (fed step e x) y
+answers-append step e x y =
+    ap (flat_map bytes_sent) (responses_to-append step e x y) ∙ flat_map-append bytes_sent (responses_to step e x) (responses_to step (fed step e x) y)
+
 pub in_pieces_of_encoder : {V : Type 0} (step : Step V) (e : EncoderState V) (x y : List ℕ) → IsInPieces step e x y
-in_pieces_of_encoder step e x y = record { state = fed-append step e x y; answers = answers-append step e x y }
+in_pieces_of_encoder step e x y = record { state = fed-append step e x y; responses = responses_to-append step e x y; answers = answers-append step e x y }
 
 -- ---- a frame after noise
 found_joined : (o : OpenPart) (pieces : List (List ℕ)) → found_in_pieces o pieces ≡ found_beyond o (joined pieces)

@@ -50,9 +50,13 @@ bytes_sent NotForMe = []
 bytes_sent Unnumbered = []
 bytes_sent (Dropped fault) = []
 
--- the replies, joined, to what these bytes find
+-- to what these bytes find
+abbrev pub responses_to : {V : Type 0} → Step V → EncoderState V → List ℕ → List Response
+responses_to step e bytes = responses step e (found_beyond e.part bytes)
+
+-- the replies among these, joined
 abbrev pub answers : {V : Type 0} → Step V → EncoderState V → List ℕ → List ℕ
-answers step e bytes = flat_map bytes_sent (responses step e (found_beyond e.part bytes))
+answers step e bytes = flat_map bytes_sent (responses_to step e bytes)
 
 -- what `feed` says, as responses
 abbrev pub responses_of : What → List Response

@@ -6,7 +6,7 @@ use Rattle.uecp_frame.specs.Findings.{Finding, OpenPart, Closed, has_frame, is_q
 use Rattle.uecp_frame.specs.Beyond.{found_beyond, open_beyond}
 use Rattle.uecp_encoder.specs.Target.{Step}
 use Rattle.uecp_encoder.specs.State.{EncoderState, after_finding, after_findings, fed}
-use Rattle.uecp_encoder.specs.Answering.{Response, Replied, NotForMe, Unnumbered, Dropped, response_to, responses, answers}
+use Rattle.uecp_encoder.specs.Answering.{Response, Replied, NotForMe, Unnumbered, Dropped, response_to, responses, responses_to, answers}
 
 -- ---- A retry acts once.
 
@@ -39,9 +39,10 @@ RetryActsOnce {V} step =
 
 -- ---- Where the stream is cut makes no difference.
 
--- Two pieces leave the encoder, and bring the replies, that they do as one.
+-- Two pieces leave the encoder, and bring the responses and the replies, that they do as one.
 pub record IsInPieces {V : Type 0} (step : Step V) (e : EncoderState V) (x y : List ℕ) : Type 0 where
   pub state : fed step e (x ++ y) ≡ fed step (fed step e x) y
+  pub responses : responses_to step e (x ++ y) ≡ responses_to step e x ++ responses_to step (fed step e x) y
   pub answers : answers step e (x ++ y) ≡ answers step e x ++ answers step (fed step e x) y
 
 -- ---- A frame is heard after noise.
