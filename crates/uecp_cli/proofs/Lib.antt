@@ -2,6 +2,11 @@ pub mod Leading
 pub mod Lines
 pub mod Runs
 pub mod Wholes
-pub mod Streams
+pub mod Doing
 pub mod Pieces
+pub mod Streams
 pub mod Places
+pub mod Decimals
+pub mod ElementWords
+pub mod ScriptLines
+pub mod EventNames

@@ -6,7 +6,7 @@ use Rattle.uecp_cli.specs.declared.run_fault.RunFault.{RunFault}
 use Rattle.uecp_cli.specs.declared.run_fault.RunFault.TheVariants as run
 use Rattle.uecp_cli.specs.declared.output.Output.{Output}
 use Rattle.uecp_cli.specs.Input.{under, numbered, said, lines_of}
-use Rattle.uecp_cli.specs.Run.{Says, Runs, RunsOn, fault_at}
+use Rattle.uecp_cli.specs.Run.{Meaning, Runs, RunsOn, fault_at}
 use Rattle.uecp_cli.specs.Written.{Writes, Adds}
 
 pub writes_then : (a b c : Output) (x y : List ℕ) → Writes a b x → Writes b c y → Writes a c (x ++ y)
@@ -22,28 +22,28 @@ pub adds_whole : (a b : Output) (x : List ℕ) → IsTrue b.is_whole → Adds a 
 adds_whole a b x whole adds = λ _. (whole, (adds whole).1)
 
 -- after texts that were all taken, more texts
-pub runs_on : {V : Type 0} (says : Says V) (v m v' : V) (now later : List (ℕ × List ℕ)) (first rest : List ℕ) (stop : Option (ℕ × LineFault)) →
-    Runs says v now first None m → Runs says m later rest stop v' → Runs says v (now ++ later) (first ++ rest) stop v'
-runs_on says v m v' [] later first rest stop (first_is, none, same) more =
-    subst (λ w. Runs says w later (first ++ rest) stop v') same (subst (λ lines. Runs says m later (lines ++ rest) stop v') (sym first_is) more)
-runs_on says v m v' ((number, text) ∷ now) later first rest stop ran more = elim ran [
+pub runs_on : {V : Type 0} (meaning : Meaning V) (v m v' : V) (now later : List (ℕ × List ℕ)) (first rest : List ℕ) (stop : Option (ℕ × LineFault)) →
+    Runs meaning v now first None m → Runs meaning m later rest stop v' → Runs meaning v (now ++ later) (first ++ rest) stop v'
+runs_on meaning v m v' [] later first rest stop (first_is, none, same) more =
+    subst (λ w. Runs meaning w later (first ++ rest) stop v') same (subst (λ lines. Runs meaning m later (lines ++ rest) stop v') (sym first_is) more)
+runs_on meaning v m v' ((number, text) ∷ now) later first rest stop ran more = elim ran [
   | inl taken ↦ inl (
     taken.0,
     taken.1 ++ rest,
     taken.2,
     taken.3,
     ap (λ f. f ++ rest) taken.4 ∙ append_assoc taken.0 taken.1 rest,
-    runs_on says taken.2 m v' now later taken.1 rest stop taken.5 more,
+    runs_on meaning taken.2 m v' now later taken.1 rest stop taken.5 more,
   )
   | inr refused ↦ absurd (let none : None ≡ Some (number, refused.0) = refused.3 in cc)
 ]
 
 -- texts up to a refused one, and more behind it
-pub runs_up_to : {V : Type 0} (says : Says V) (v v' : V) (now later : List (ℕ × List ℕ)) (lines : List ℕ) (stop : ℕ × LineFault) →
-    Runs says v now lines (Some stop) v' → Runs says v (now ++ later) lines (Some stop) v'
-runs_up_to says v v' [] later lines stop (lines_are, some, same) = absurd (let none : Some stop ≡ None = some in cc)
-runs_up_to says v v' ((number, text) ∷ now) later lines stop ran = elim ran [
-  | inl taken ↦ inl (taken.0, taken.1, taken.2, taken.3, taken.4, runs_up_to says taken.2 v' now later taken.1 stop taken.5)
+pub runs_up_to : {V : Type 0} (meaning : Meaning V) (v v' : V) (now later : List (ℕ × List ℕ)) (lines : List ℕ) (stop : ℕ × LineFault) →
+    Runs meaning v now lines (Some stop) v' → Runs meaning v (now ++ later) lines (Some stop) v'
+runs_up_to meaning v v' [] later lines stop (lines_are, some, same) = absurd (let none : Some stop ≡ None = some in cc)
+runs_up_to meaning v v' ((number, text) ∷ now) later lines stop ran = elim ran [
+  | inl taken ↦ inl (taken.0, taken.1, taken.2, taken.3, taken.4, runs_up_to meaning taken.2 v' now later taken.1 stop taken.5)
   | inr refused ↦ inr refused
 ]
 
@@ -52,24 +52,24 @@ under-more number None rest = refl
 under-more number (Some text) rest = refl
 
 -- ---- one text
-pub takes_one : {V : Type 0} (says : Says V) (v v' : V) (number : ℕ) (text lines : List ℕ) → says v text (Ok lines) v' → Runs says v ((number, text) ∷ []) lines None v'
-takes_one says v v' number text lines said = inl (lines, [], v', said, sym (append-nil lines), (refl, refl, refl))
+pub takes_one : {V : Type 0} (meaning : Meaning V) (v v' : V) (number : ℕ) (text lines : List ℕ) → meaning v text (Ok lines) v' → Runs meaning v ((number, text) ∷ []) lines None v'
+takes_one meaning v v' number text lines said = inl (lines, [], v', said, sym (append-nil lines), (refl, refl, refl))
 
-pub refuses_one : {V : Type 0} (says : Says V) (v v' : V) (number : ℕ) (text : List ℕ) (fault : LineFault) → says v text (Err fault) v' → Runs says v ((number, text) ∷ []) [] (Some (number, fault)) v'
-refuses_one says v v' number text fault said = inr (fault, said, refl, refl)
+pub refuses_one : {V : Type 0} (meaning : Meaning V) (v v' : V) (number : ℕ) (text : List ℕ) (fault : LineFault) → meaning v text (Err fault) v' → Runs meaning v ((number, text) ∷ []) [] (Some (number, fault)) v'
+refuses_one meaning v v' number text fault said = inr (fault, said, refl, refl)
 
 -- a text whose taking failed with this fault, which the run reports under the line's number
-pub failed_one : {V : Type 0} (says : Says V) (v v' : V) (number : ℕ) (text : Option (List ℕ)) (said : List ℕ) (fault : LineFault) (reported : RunFault) (before after : Output) →
-    text ≡ Some said → reported ≡ fault_at number fault → (fault ≡ line.OutOfMemory) ⊎ (says v said (Err fault) v' × Writes before after []) →
-    RunsOn says v (under number text []) before (Err reported) v' after
-failed_one says v v' number text said fault reported before after text_is reported_is failed =
-    subst (λ t. RunsOn says v (under number t []) before (Err reported) v' after) (sym text_is)
-    (subst (λ r. RunsOn says v ((number, said) ∷ []) before (Err r) v' after) (sym reported_is) (by_fault fault failed))
+pub failed_one : {V : Type 0} (meaning : Meaning V) (v v' : V) (number : ℕ) (text : Option (List ℕ)) (said : List ℕ) (fault : LineFault) (reported : RunFault) (before after : Output) →
+    text ≡ Some said → reported ≡ fault_at number fault → (fault ≡ line.OutOfMemory) ⊎ (meaning v said (Err fault) v' × Writes before after []) →
+    RunsOn meaning v (under number text []) before (Err reported) v' after
+failed_one meaning v v' number text said fault reported before after text_is reported_is failed =
+    subst (λ t. RunsOn meaning v (under number t []) before (Err reported) v' after) (sym text_is)
+    (subst (λ r. RunsOn meaning v ((number, said) ∷ []) before (Err r) v' after) (sym reported_is) (by_fault fault failed))
   where
-    named : (fault : LineFault) → says v said (Err fault) v' × Writes before after [] → RunsOn says v ((number, said) ∷ []) before (Err (run.Line number fault)) v' after
-    named fault (refused, writes) = inr ([], number, fault, refuses_one says v v' number said fault refused, writes, refl)
+    named : (fault : LineFault) → meaning v said (Err fault) v' × Writes before after [] → RunsOn meaning v ((number, said) ∷ []) before (Err (run.Line number fault)) v' after
+    named fault (refused, writes) = inr ([], number, fault, refuses_one meaning v v' number said fault refused, writes, refl)
 
-    by_fault : (fault : LineFault) → (fault ≡ line.OutOfMemory) ⊎ (says v said (Err fault) v' × Writes before after []) → RunsOn says v ((number, said) ∷ []) before (Err (fault_at number fault)) v' after
+    by_fault : (fault : LineFault) → (fault ≡ line.OutOfMemory) ⊎ (meaning v said (Err fault) v' × Writes before after []) → RunsOn meaning v ((number, said) ∷ []) before (Err (fault_at number fault)) v' after
     by_fault line.OutOfMemory h = inl refl
     by_fault line.NotHex h = elim h [ inl e ↦ absurd (let n : line.NotHex ≡ line.OutOfMemory = e in cc) | inr s ↦ named line.NotHex s ]
     by_fault line.NotACommand h = elim h [ inl e ↦ absurd (let n : line.NotACommand ≡ line.OutOfMemory = e in cc) | inr s ↦ named line.NotACommand s ]
@@ -78,13 +78,13 @@ failed_one says v v' number text said fault reported before after text_is report
 
 -- ---- one line after another
 -- What was written so far, and that what the rest brings comes behind it.
-abbrev pub Led : {V : Type 0} → Says V → V → List (ℕ × List ℕ) → Output → V → List (ℕ × List ℕ) → Output → Type 0
-Led {V} says start texts first v left now =
+abbrev pub Led : {V : Type 0} → Meaning V → V → List (ℕ × List ℕ) → Output → V → List (ℕ × List ℕ) → Output → Type 0
+Led {V} meaning start texts first v left now =
     (so_far : List ℕ) × Writes first now so_far
-    × ((later : List ℕ) (stop : Option (ℕ × LineFault)) (v' : V) → Runs says v left later stop v' → Runs says start texts (so_far ++ later) stop v')
+    × ((later : List ℕ) (stop : Option (ℕ × LineFault)) (v' : V) → Runs meaning v left later stop v' → Runs meaning start texts (so_far ++ later) stop v')
 
-pub led_at_first : {V : Type 0} (says : Says V) (v : V) (texts : List (ℕ × List ℕ)) (out : Output) → Led says v texts out v texts out
-led_at_first says v texts out = ([], writes_nothing out, λ later stop v' ran. ran)
+pub led_at_first : {V : Type 0} (meaning : Meaning V) (v : V) (texts : List (ℕ × List ℕ)) (out : Output) → Led meaning v texts out v texts out
+led_at_first meaning v texts out = ([], writes_nothing out, λ later stop v' ran. ran)
 
 -- the texts of the rest, by its first line and what follows
 numbered-line : (number : ℕ) (line : List ℕ) (lines : List (List ℕ)) → numbered number (line ∷ lines) ≡ under number (said line) (numbered (number + 1) lines)
@@ -98,41 +98,41 @@ no_texts : (number : ℕ) → numbered number (lines_of []) ≡ []
 unfolding lines_of numbered
 no_texts number = refl
 
-pub led_on : {V : Type 0} (says : Says V) (start v m : V) (texts : List (ℕ × List ℕ)) (first out out' : Output) (number : ℕ) (rest line more : List ℕ) →
-    Led says start texts first v (numbered number (lines_of rest)) out → lines_of rest ≡ line ∷ lines_of more →
-    (lines : List ℕ) × Runs says v (under number (said line) []) lines None m × Writes out out' lines →
-    Led says start texts first m (numbered (number + 1) (lines_of more)) out'
-led_on {V} says start v m texts first out out' number rest line more led lines_are taken =
+pub led_on : {V : Type 0} (meaning : Meaning V) (start v m : V) (texts : List (ℕ × List ℕ)) (first out out' : Output) (number : ℕ) (rest line more : List ℕ) →
+    Led meaning start texts first v (numbered number (lines_of rest)) out → lines_of rest ≡ line ∷ lines_of more →
+    (lines : List ℕ) × Runs meaning v (under number (said line) []) lines None m × Writes out out' lines →
+    Led meaning start texts first m (numbered (number + 1) (lines_of more)) out'
+led_on {V} meaning start v m texts first out out' number rest line more led lines_are taken =
     (led.0 ++ taken.0, writes_then first out out' led.0 taken.0 led.1 taken.2, behind)
   where
-    behind : (later : List ℕ) (stop : Option (ℕ × LineFault)) (v' : V) → Runs says m (numbered (number + 1) (lines_of more)) later stop v' → Runs says start texts ((led.0 ++ taken.0) ++ later) stop v'
+    behind : (later : List ℕ) (stop : Option (ℕ × LineFault)) (v' : V) → Runs meaning m (numbered (number + 1) (lines_of more)) later stop v' → Runs meaning start texts ((led.0 ++ taken.0) ++ later) stop v'
     behind later stop v' ran =
-        subst (λ lines. Runs says start texts lines stop v') (sym (append_assoc led.0 taken.0 later))
+        subst (λ lines. Runs meaning start texts lines stop v') (sym (append_assoc led.0 taken.0 later))
         (led.2 (taken.0 ++ later) stop v'
-        (subst (λ texts. Runs says v texts (taken.0 ++ later) stop v') (sym (texts_by_line number rest line more lines_are))
-        (runs_on says v m v' (under number (said line) []) (numbered (number + 1) (lines_of more)) taken.0 later stop taken.1 ran)))
+        (subst (λ texts. Runs meaning v texts (taken.0 ++ later) stop v') (sym (texts_by_line number rest line more lines_are))
+        (runs_on meaning v m v' (under number (said line) []) (numbered (number + 1) (lines_of more)) taken.0 later stop taken.1 ran)))
 
-pub led_out : {V : Type 0} (says : Says V) (start v v' : V) (texts : List (ℕ × List ℕ)) (first out out' : Output) (number : ℕ) (rest line more : List ℕ) (fault : RunFault) →
-    Led says start texts first v (numbered number (lines_of rest)) out → lines_of rest ≡ line ∷ lines_of more →
-    RunsOn says v (under number (said line) []) out (Err fault) v' out' → RunsOn says start texts first (Err fault) v' out'
-led_out says start v v' texts first out out' number rest line more fault led lines_are failed = elim failed [
+pub led_out : {V : Type 0} (meaning : Meaning V) (start v v' : V) (texts : List (ℕ × List ℕ)) (first out out' : Output) (number : ℕ) (rest line more : List ℕ) (fault : RunFault) →
+    Led meaning start texts first v (numbered number (lines_of rest)) out → lines_of rest ≡ line ∷ lines_of more →
+    RunsOn meaning v (under number (said line) []) out (Err fault) v' out' → RunsOn meaning start texts first (Err fault) v' out'
+led_out meaning start v v' texts first out out' number rest line more fault led lines_are failed = elim failed [
   | inl wanting ↦ inl wanting
   | inr refused ↦ inr (
     led.0 ++ refused.0,
     refused.1,
     refused.2,
     led.2 refused.0 (Some (refused.1, refused.2)) v'
-        (subst (λ texts. Runs says v texts refused.0 (Some (refused.1, refused.2)) v') (sym (texts_by_line number rest line more lines_are))
-        (runs_up_to says v v' (under number (said line) []) (numbered (number + 1) (lines_of more)) refused.0 (refused.1, refused.2) refused.3)),
+        (subst (λ texts. Runs meaning v texts refused.0 (Some (refused.1, refused.2)) v') (sym (texts_by_line number rest line more lines_are))
+        (runs_up_to meaning v v' (under number (said line) []) (numbered (number + 1) (lines_of more)) refused.0 (refused.1, refused.2) refused.3)),
     writes_then first out out' led.0 refused.0 led.1 refused.4,
     refused.5,
   )
 ]
 
-pub led_end : {V : Type 0} (says : Says V) (start v : V) (texts : List (ℕ × List ℕ)) (first out : Output) (number : ℕ) (rest : List ℕ) →
-    Led says start texts first v (numbered number (lines_of rest)) out → rest ≡ [] → (lines : List ℕ) × Runs says start texts lines None v × Writes first out lines
-led_end says start v texts first out number rest led rest_is =
-    (led.0, subst (λ lines. Runs says start texts lines None v) (append-nil led.0) (led.2 [] None v (subst (λ left. Runs says v left [] None v) (sym none_left) (refl, refl, refl))), led.1)
+pub led_end : {V : Type 0} (meaning : Meaning V) (start v : V) (texts : List (ℕ × List ℕ)) (first out : Output) (number : ℕ) (rest : List ℕ) →
+    Led meaning start texts first v (numbered number (lines_of rest)) out → rest ≡ [] → (lines : List ℕ) × Runs meaning start texts lines None v × Writes first out lines
+led_end meaning start v texts first out number rest led rest_is =
+    (led.0, subst (λ lines. Runs meaning start texts lines None v) (append-nil led.0) (led.2 [] None v (subst (λ left. Runs meaning v left [] None v) (sym none_left) (refl, refl, refl))), led.1)
   where
     none_left : numbered number (lines_of rest) ≡ []
     none_left = ap (λ r. numbered number (lines_of r)) rest_is ∙ no_texts number

@@ -1,13 +1,19 @@
 -- The definitions that the program's contracts cite.
-pub mod Input
+pub mod Ranges
+pub mod Usages
 pub mod Setups
+pub mod Statuses
+pub mod Written
+pub mod Input
 pub mod Run
 pub mod Commands
 pub mod Streams
-pub mod Ranges
-pub mod Written
+pub mod Words
+pub mod FrameScript
+pub mod EventWords
+pub mod Playing
+pub mod Jobs
 pub mod Digits
 pub mod Lines
 pub mod Steps
 pub mod StoreLines
-pub mod Statuses

@@ -54,7 +54,7 @@ fn answer_all<R: Read>(
 }
 
 impl Command for Encoder<RdsStore> {
-    ghost says = { Answers };
+    ghost meaning = { Answers };
 
     fn take(&mut self, alloc: Global, text: &[u8], output: &mut Output) -> Result<(), LineFault> {
         let piece = piece_of(alloc, text)?;

@@ -1,6 +1,6 @@
 //! A command that takes its input line by line (profile).
 ghost use Rattle.std.specs.Prelude.{[]};
-ghost use Rattle.uecp_cli.specs.Run.{Says, Takes, RunsOn, RunsOver};
+ghost use Rattle.uecp_cli.specs.Run.{Meaning, Takes, RunsOn, RunsOver};
 ghost use Rattle.uecp_cli.specs.Input.{said, under, texts_of};
 
 use crate::input::{first_line, read_all, text_of};
@@ -10,15 +10,15 @@ use crate::run_fault::RunFault;
 use std::alloc::Global;
 use std::io::Read;
 
-/// Something that takes what the lines of an input say, one after another. Contracts see its value; `says` tells, of a
+/// Something that takes what the lines of an input say, one after another. Contracts see its value; `meaning` tells, of a
 /// value and a text, which lines of output the text brings and which value it leaves, or why it is refused.
 pub trait Command {
     // What a text brings, and the value that it leaves.
-    ghost says: { Says Self };
+    ghost meaning: { Meaning Self };
 
     /// Takes one text. Where it is refused nothing is added to the output.
     fn take(&mut self, alloc: Global, text: &[u8], output: &mut Output) -> Result<(), LineFault>
-        ensures { Takes says self.old text.now output.old result self.new output.new };
+        ensures { Takes meaning self.old text.now output.old result self.new output.new };
 }
 
 /// Runs the command over all that the reader has, up to the first line that is refused.
@@ -28,7 +28,7 @@ pub fn run_over<R: Read, C: Command>(
     command: &mut C,
     output: &mut Output,
 ) -> Result<(), RunFault>
-    ensures { RunsOver C.says command.old (R.remaining reader.old) (R.remaining reader.new) output.old result command.new output.new }
+    ensures { RunsOver C.meaning command.old (R.remaining reader.old) (R.remaining reader.new) output.old result command.new output.new }
 {
     let input = read_all(alloc, reader)?;
     run_lines(alloc, input.as_slice(), command, output)
@@ -41,7 +41,7 @@ fn run_lines<C: Command>(
     command: &mut C,
     output: &mut Output,
 ) -> Result<(), RunFault>
-    ensures { RunsOn C.says command.old (texts_of input.now) output.old result command.new output.new }
+    ensures { RunsOn C.meaning command.old (texts_of input.now) output.old result command.new output.new }
 {
     let mut rest = input;
     let mut number = 1;
@@ -62,7 +62,7 @@ fn take_line<C: Command>(
     command: &mut C,
     output: &mut Output,
 ) -> Result<(), RunFault>
-    ensures { RunsOn C.says command.old (under number (said line.now) []) output.old result command.new output.new }
+    ensures { RunsOn C.meaning command.old (under number (said line.now) []) output.old result command.new output.new }
 {
     match text_of(line) {
         Some(text) => match command.take(alloc, text, output) {

@@ -1,6 +1,16 @@
 //! The command `line` (profile).
+ghost use Rattle.std.specs.Prelude.{◌≡◌, ◌⊎◌, ℕ, List, Err, IfOk, IfErr};
+ghost use Rattle.uecp_link.specs.Once.{FrameComes, ReplyComes};
+ghost use Rattle.uecp_link.specs.Events.{event_of};
+ghost use Rattle.uecp_cli.specs.EventWords.{event_seen, place_of};
+ghost use Rattle.uecp_cli.specs.Playing.{PlaysEvent, Plays, closing_lines, line_at_first};
+ghost use Rattle.uecp_cli.specs.Run.{RunsWhole};
+ghost use Rattle.uecp_cli.specs.Setups.{IsSetup, RefusesSetup};
+ghost use Rattle.uecp_cli.specs.declared.run_fault.RunFault.TheVariants.{OutOfMemory};
+ghost use Rattle.uecp_cli.specs.Written.{Adds};
+
+use crate::command::{Command, run_over};
 use crate::event_words::{EventLine, event_of};
-use crate::input::{read_all, text_of};
 use crate::line_fault::LineFault;
 use crate::output::Output;
 use crate::run_fault::RunFault;
@@ -20,25 +30,20 @@ pub fn play<R: Read>(
     store: bool,
     reader: &mut R,
     output: &mut Output,
-) -> Result<(), RunFault> {
+) -> Result<(), RunFault>
+    ensures described { IfOk result (λ _. IsSetup setup.now.site setup.now.encoder setup.now.sets setup.now.services.now) }
+    ensures runs { ((fault : _) × (result ≡ Err fault) × RefusesSetup setup.now.site setup.now.encoder setup.now.sets setup.now.services.now fault) ⊎ RunsWhole Plays (line_at_first setup.now.site setup.now.encoder setup.now.sets setup.now.services.now) (closing_lines store) (R.remaining reader.old) (R.remaining reader.new) output.old result output.new }
+{
     let mut line = new_line(alloc, setup)?;
-    let input = read_all(alloc, reader)?;
-    for (place, text) in input
-        .as_slice()
-        .split_inclusive(|byte| *byte == b'\n')
-        .enumerate()
-    {
-        if let Some(text) = text_of(text) {
-            play_line(alloc, &mut line, text, output).map_err(|fault| fault.at(place + 1))?;
-        }
-    }
-    put_totals(&line, output);
-    put_last(line.encoder().target(), store, output);
-    Ok(output.check()?)
+    play_all(alloc, &mut line, store, reader, output)
 }
 
-/// A new line to an encoder with an opening store.
-fn new_line(alloc: Global, setup: &Setup<'_>) -> Result<Line<RdsStore>, RunFault> {
+/// A new line to an encoder with an opening store. The services are judged before the address.
+fn new_line(alloc: Global, setup: &Setup<'_>) -> Result<Line<RdsStore>, RunFault>
+    ensures described { IfOk result (λ line. IsSetup setup.now.site setup.now.encoder setup.now.sets setup.now.services.now) }
+    ensures made { IfOk result (λ line. line ≡ line_at_first setup.now.site setup.now.encoder setup.now.sets setup.now.services.now) }
+    ensures refused { IfErr result (λ fault. (fault ≡ OutOfMemory) ⊎ RefusesSetup setup.now.site setup.now.encoder setup.now.sets setup.now.services.now fault) }
+{
     let store = RdsStore::new(alloc, setup.sets, setup.services)?;
     match address_of(setup.site, setup.encoder) {
         Some(address) => Line::new(alloc, address, store).map_err(|_| RunFault::OutOfMemory),
@@ -46,36 +51,81 @@ fn new_line(alloc: Global, setup: &Setup<'_>) -> Result<Line<RdsStore>, RunFault
     }
 }
 
-/// Plays one line of the script.
-fn play_line(
+/// Plays all events on the line, and says what came of each; then what the line has come to.
+fn play_all<R: Read>(
     alloc: Global,
     line: &mut Line<RdsStore>,
-    text: &[u8],
+    store: bool,
+    reader: &mut R,
     output: &mut Output,
-) -> Result<(), LineFault> {
-    let words = words_of(alloc, text)?;
-    let event = event_of(alloc, words.as_slice())?;
-    play_event(line, &event, output);
+) -> Result<(), RunFault>
+    ensures { RunsWhole Plays line.old (closing_lines store) (R.remaining reader.old) (R.remaining reader.new) output.old result output.new }
+{
+    run_over(alloc, reader, line, output)?;
+    put_closing(line, store, output);
     Ok(output.check()?)
 }
 
-/// Plays one event.
-fn play_event(line: &mut Line<RdsStore>, event: &EventLine, output: &mut Output) {
-    let (event, place) = match event {
-        EventLine::Submit(message) => (LineEvent::Submit(message), 0),
-        EventLine::Frame(place, cut) => (frame_event(*place, cut.as_slice()), *place),
-        EventLine::Reply(place, cut) => (reply_event(*place, cut.as_slice()), *place),
-        EventLine::Noise(Side::Encoder, bytes) => (LineEvent::NoiseToEncoder(bytes.as_slice()), 0),
-        EventLine::Noise(Side::Server, bytes) => (LineEvent::NoiseToServer(bytes.as_slice()), 0),
-        EventLine::LineLost(side) => (LineEvent::LineLost(*side), 0),
-    };
+/// The totals of a line, and its store where that is asked for.
+fn put_closing(line: &Line<RdsStore>, store: bool, output: &mut Output)
+    ensures { Adds output.old output.new (closing_lines store line.now) }
+{
+    put_totals(line, output);
+    put_last(line.encoder().target(), store, output);
+}
+
+impl Command for Line<RdsStore> {
+    ghost meaning = { Plays };
+
+    fn take(&mut self, alloc: Global, text: &[u8], output: &mut Output) -> Result<(), LineFault> {
+        let words = words_of(alloc, text)?;
+        let event = event_of(alloc, words.as_slice())?;
+        play_event(self, &event, output);
+        Ok(output.check()?)
+    }
+}
+
+/// Plays one event, and says what came of it.
+fn play_event(line: &mut Line<RdsStore>, event: &EventLine, output: &mut Output)
+    ensures { (lines : List ℕ) × PlaysEvent line.old (event_seen event.now) lines line.new × Adds output.old output.new lines }
+{
+    let event = line_event(event);
+    let place = place_of(&event);
     put_step(line.step(&event), place, output);
 }
 
-fn frame_event(number: usize, cut: &[u16]) -> LineEvent<'_> {
+/// The event as it happens on the line.
+fn line_event(event: &EventLine) -> LineEvent<'_>
+    ensures { event_of result ≡ event_seen event.now }
+{
+    match event {
+        EventLine::Submit(message) => LineEvent::Submit(message),
+        EventLine::Frame(place, cut) => frame_event(*place, cut.as_slice()),
+        EventLine::Reply(place, cut) => reply_event(*place, cut.as_slice()),
+        EventLine::Noise(Side::Encoder, bytes) => LineEvent::NoiseToEncoder(bytes.as_slice()),
+        EventLine::Noise(Side::Server, bytes) => LineEvent::NoiseToServer(bytes.as_slice()),
+        EventLine::LineLost(side) => LineEvent::LineLost(*side),
+    }
+}
+
+fn frame_event(number: usize, cut: &[u16]) -> LineEvent<'_>
+    ensures { event_of result ≡ FrameComes number }
+{
     LineEvent::Frame { number, cut }
 }
 
-fn reply_event(number: usize, cut: &[u16]) -> LineEvent<'_> {
+fn reply_event(number: usize, cut: &[u16]) -> LineEvent<'_>
+    ensures { event_of result ≡ ReplyComes number }
+{
     LineEvent::Reply { number, cut }
+}
+
+/// The number of the message that the event names, or 0 where it names none.
+fn place_of(event: &LineEvent<'_>) -> usize
+    ensures { result ≡ place_of (event_of event.now) }
+{
+    match *event {
+        LineEvent::Frame { number, .. } | LineEvent::Reply { number, .. } => number,
+        _ => 0,
+    }
 }

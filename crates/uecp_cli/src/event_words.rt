@@ -1,4 +1,10 @@
 //! Events out of the words of an event script (profile).
+ghost use Rattle.std.specs.Prelude.{◌≡◌, ℕ, List, [], ◌∷◌, ◌⊎◌, codes, map, true, false, IfOk, IfErr};
+ghost use Rattle.std.specs.List.{list_all};
+ghost use Rattle.uecp_link.specs.declared.event.Side.{Side as End};
+ghost use Rattle.uecp_cli.specs.declared.line_fault.LineFault.TheVariants.{NotACommand, OutOfMemory};
+ghost use Rattle.uecp_cli.specs.EventWords.{Names, IsFaultOf, IsPlace, is_cut, TellsMessage, end_word, noise_to, name_of, event_seen};
+
 use crate::line_fault::LineFault;
 use crate::words::{bytes_of, bytes_or_none, decimal_of, message_of};
 use std::alloc::Global;
@@ -24,41 +30,122 @@ pub enum EventLine {
 }
 
 /// Reads the words of a line.
-pub fn event_of(alloc: Global, words: &[&[u8]]) -> Result<EventLine, LineFault> {
+pub fn event_of(alloc: Global, words: &[&[u8]]) -> Result<EventLine, LineFault>
+    ensures named { IfOk result (λ e. Names (map (λ w. w.now) words.now) (event_seen e)) }
+    ensures refused { IfErr result (λ e. IsFaultOf (map (λ w. w.now) words.now) e) }
+{
     match words {
-        [b"submit", message] => {
-            let bytes = bytes_or_none(alloc, message)?;
+        [name, others @ ..] => event_named(alloc, name, others),
+        [] => Err(LineFault::NotACommand),
+    }
+}
+
+/// The event of that name, which the other words tell.
+fn event_named(alloc: Global, name: &[u8], words: &[&[u8]]) -> Result<EventLine, LineFault>
+    ensures named { IfOk result (λ e. Names (name.now ∷ map (λ w. w.now) words.now) (event_seen e)) }
+    ensures refused { IfErr result (λ e. IsFaultOf (name.now ∷ map (λ w. w.now) words.now) e) }
+{
+    if name == b"submit".as_slice() {
+        submit_of(alloc, words)
+    } else if name == b"frame".as_slice() {
+        frame_of(alloc, words)
+    } else if name == b"reply".as_slice() {
+        reply_of(alloc, words)
+    } else if name == b"noise-encoder".as_slice() {
+        noise_of(alloc, Side::Encoder, words)
+    } else if name == b"noise-server".as_slice() {
+        noise_of(alloc, Side::Server, words)
+    } else if name == b"line-lost".as_slice() {
+        loss_of(words)
+    } else {
+        Err(LineFault::NotACommand)
+    }
+}
+
+/// A submission of the message that the words tell.
+fn submit_of(alloc: Global, words: &[&[u8]]) -> Result<EventLine, LineFault>
+    ensures named { IfOk result (λ e. Names (codes "submit" ∷ map (λ w. w.now) words.now) (event_seen e)) }
+    ensures refused { IfErr result (λ e. IsFaultOf (codes "submit" ∷ map (λ w. w.now) words.now) e) }
+{
+    match words {
+        [word] => {
+            let bytes = bytes_or_none(alloc, word)?;
             Ok(EventLine::Submit(message_of(bytes.as_slice())?))
         }
-        [b"frame", number, cut @ ..] => {
-            Ok(EventLine::Frame(place_of(number)?, cut_of(alloc, cut)?))
-        }
-        [b"reply", number, cut @ ..] => {
-            Ok(EventLine::Reply(place_of(number)?, cut_of(alloc, cut)?))
-        }
-        [name, word] => side_event(alloc, name, word),
         _ => Err(LineFault::NotACommand),
     }
 }
 
-/// The events of one end.
-fn side_event(alloc: Global, name: &[u8], word: &[u8]) -> Result<EventLine, LineFault> {
-    match (name, word) {
-        (b"noise-encoder", _) => noise_of(alloc, Side::Encoder, word),
-        (b"noise-server", _) => noise_of(alloc, Side::Server, word),
-        (b"line-lost", b"encoder") => Ok(EventLine::LineLost(Side::Encoder)),
-        (b"line-lost", b"server") => Ok(EventLine::LineLost(Side::Server)),
+/// The frame of the message that the words tell.
+fn frame_of(alloc: Global, words: &[&[u8]]) -> Result<EventLine, LineFault>
+    ensures named { IfOk result (λ e. Names (codes "frame" ∷ map (λ w. w.now) words.now) (event_seen e)) }
+    ensures refused { IfErr result (λ e. IsFaultOf (codes "frame" ∷ map (λ w. w.now) words.now) e) }
+{
+    let (place, cut) = place_and_cut(alloc, words)?;
+    Ok(EventLine::Frame(place, cut))
+}
+
+/// The reply to the message that the words tell.
+fn reply_of(alloc: Global, words: &[&[u8]]) -> Result<EventLine, LineFault>
+    ensures named { IfOk result (λ e. Names (codes "reply" ∷ map (λ w. w.now) words.now) (event_seen e)) }
+    ensures refused { IfErr result (λ e. IsFaultOf (codes "reply" ∷ map (λ w. w.now) words.now) e) }
+{
+    let (place, cut) = place_and_cut(alloc, words)?;
+    Ok(EventLine::Reply(place, cut))
+}
+
+/// The number of a message and any cuts.
+fn place_and_cut(alloc: Global, words: &[&[u8]]) -> Result<(usize, Vec<u16>), LineFault>
+    ensures told { IfOk result (λ told. TellsMessage (map (λ w. w.now) words.now) told.0) }
+    ensures refused { IfErr result (λ e. (e ≡ OutOfMemory) ⊎ ((e ≡ NotACommand) × ((place : ℕ) → TellsMessage (map (λ w. w.now) words.now) place → ⊥))) }
+{
+    match words {
+        [number, cut @ ..] => Ok((place_of(number)?, cut_of(alloc, cut)?)),
+        [] => Err(LineFault::NotACommand),
+    }
+}
+
+/// Noise towards that end, of the bytes that the words tell.
+fn noise_of(alloc: Global, side: Side, words: &[&[u8]]) -> Result<EventLine, LineFault>
+    ensures named { IfOk result (λ e. Names (name_of (noise_to side []) ∷ map (λ w. w.now) words.now) (event_seen e)) }
+    ensures refused { IfErr result (λ e. IsFaultOf (name_of (noise_to side []) ∷ map (λ w. w.now) words.now) e) }
+{
+    match words {
+        [word] => Ok(EventLine::Noise(side, bytes_of(alloc, word, LineFault::NotACommand)?)),
         _ => Err(LineFault::NotACommand),
     }
 }
 
-fn noise_of(alloc: Global, side: Side, word: &[u8]) -> Result<EventLine, LineFault> {
-    let bytes = bytes_of(alloc, word, LineFault::NotACommand)?;
-    Ok(EventLine::Noise(side, bytes))
+/// The loss of the line at the end that the words tell.
+fn loss_of(words: &[&[u8]]) -> Result<EventLine, LineFault>
+    ensures named { IfOk result (λ e. Names (codes "line-lost" ∷ map (λ w. w.now) words.now) (event_seen e)) }
+    ensures refused { IfErr result (λ e. IsFaultOf (codes "line-lost" ∷ map (λ w. w.now) words.now) e) }
+{
+    match words {
+        [word] => Ok(EventLine::LineLost(end_of(word)?)),
+        _ => Err(LineFault::NotACommand),
+    }
+}
+
+/// The end of that name.
+fn end_of(word: &[u8]) -> Result<Side, LineFault>
+    ensures named { IfOk result (λ s. word.now ≡ end_word s) }
+    ensures refused { IfErr result (λ e. (e ≡ NotACommand) × ((s : End) → word.now ≡ end_word s → ⊥)) }
+{
+    if word == b"encoder".as_slice() {
+        Ok(Side::Encoder)
+    } else if word == b"server".as_slice() {
+        Ok(Side::Server)
+    } else {
+        Err(LineFault::NotACommand)
+    }
 }
 
 /// The number of a message, of one to nine digits.
-fn place_of(word: &[u8]) -> Result<usize, LineFault> {
+fn place_of(word: &[u8]) -> Result<usize, LineFault>
+    ensures place { IfOk result (λ place. IsPlace word.now place) }
+    ensures refused { IfErr result (λ e. (e ≡ NotACommand) × ((place : ℕ) → IsPlace word.now place → ⊥)) }
+{
     if word.len() > 9 {
         return Err(LineFault::NotACommand);
     }
@@ -69,7 +156,10 @@ fn place_of(word: &[u8]) -> Result<usize, LineFault> {
 }
 
 /// The lengths of pieces, each 0 to 65535.
-fn cut_of(alloc: Global, words: &[&[u8]]) -> Result<Vec<u16>, LineFault> {
+fn cut_of(alloc: Global, words: &[&[u8]]) -> Result<Vec<u16>, LineFault>
+    ensures cuts { IfOk result (λ cut. list_all is_cut (map (λ w. w.now) words.now) ≡ true) }
+    ensures refused { IfErr result (λ e. (e ≡ OutOfMemory) ⊎ ((e ≡ NotACommand) × (list_all is_cut (map (λ w. w.now) words.now) ≡ false))) }
+{
     let mut cut = Vec::new(alloc);
     for word in words {
         match decimal_of(word, u32::from(u16::MAX)) {

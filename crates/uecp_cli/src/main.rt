@@ -11,6 +11,7 @@ mod answering;
 mod command;
 mod command_line;
 mod element_lines;
+mod element_name;
 mod element_words;
 mod event_script;
 mod event_words;

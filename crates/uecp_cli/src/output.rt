@@ -1,8 +1,9 @@
 //! The lines that a run writes (profile).
-ghost use Rattle.std.specs.Prelude.{◌≡◌, ◌==◌, ◌++◌, ◌↔◌, [], ◌∷◌, length, true, IsOk, OnOk, IsTrue, codes, decimal, if◌then◌else◌};
+ghost use Rattle.std.specs.Prelude.{◌≡◌, ◌==◌, ◌++◌, ◌↔◌, [], ◌∷◌, length, true, IsOk, OnOk, IfErr, IsTrue, codes, decimal, if◌then◌else◌};
 ghost use Rattle.std.specs.Io.KnownBytes.{Appends};
 ghost use Rattle.hex.specs.Hex.{encode_upper};
 ghost use Rattle.uecp_cli.specs.Digits.{byte_word, number_word, row_word, decimal_word, flag_word};
+ghost use Rattle.uecp_cli.specs.declared.run_fault.RunFault.TheVariants.{Writing};
 ghost use Rattle.uecp_cli.specs.Written.{Adds};
 
 use crate::run_fault::RunFault;
@@ -127,7 +128,8 @@ impl Output {
 
     /// Writes out what was taken.
     pub fn write_out<W: Write>(&self, writer: &mut W) -> Result<(), RunFault>
-        ensures { OnOk result (Appends (W.contents writer.old) (W.contents writer.new) self.now.bytes.items) }
+        ensures written { OnOk result (Appends (W.contents writer.old) (W.contents writer.new) self.now.bytes.items) }
+        ensures failed { IfErr result (λ fault. fault ≡ Writing) }
     {
         match writer.write_all(self.bytes.as_slice()) {
             Ok(()) => writer.flush().map_err(|_| RunFault::Writing),

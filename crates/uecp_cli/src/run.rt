@@ -1,5 +1,6 @@
 //! A job from its input to its exit status (profile).
-ghost use Rattle.std.specs.Prelude.{◌≡◌, ◌≤◌};
+ghost use Rattle.std.specs.Prelude.{◌≡◌, ◌≤◌, Ok, Err, IfOk};
+ghost use Rattle.uecp_cli.specs.Jobs.{IsDescribed, RefusesJob, DoesJob, Wrote};
 ghost use Rattle.uecp_cli.specs.Statuses.{status_of};
 
 use crate::answering::answer;
@@ -22,7 +23,13 @@ pub fn run_job<R: Read, W: Write, E: Write>(
     writer: &mut W,
     errors: &mut E,
 ) -> u8
-    ensures { result ≤ 3 }
+    ensures status { result ≤ 3 }
+    // 0: the options describe an encoder, and what the job writes of the whole input was written.
+    ensures done { result ≡ 0 → IsDescribed job.now × Wrote job.now (R.remaining reader.old) (R.remaining reader.new) (Ok tt) (W.contents writer.old) (W.contents writer.new) }
+    // 1: a line was refused, and what the job writes of the lines before it was written.
+    ensures refused { result ≡ 1 → (fault : _) × Wrote job.now (R.remaining reader.old) (R.remaining reader.new) (Err fault) (W.contents writer.old) (W.contents writer.new) }
+    // 2: the options describe no encoder.
+    ensures undescribed { result ≡ 2 → (fault : _) × RefusesJob job.now fault }
 {
     let mut output = Output::new(alloc);
     let outcome = do_job(alloc, job, reader, &mut output);
@@ -38,7 +45,10 @@ fn do_job<R: Read>(
     job: &Job,
     reader: &mut R,
     output: &mut Output,
-) -> Result<(), RunFault> {
+) -> Result<(), RunFault>
+    ensures described { IfOk result (λ _. IsDescribed job.now) }
+    ensures does { DoesJob job.now (R.remaining reader.old) (R.remaining reader.new) output.old result output.new }
+{
     match job {
         Job::Show => show(alloc, reader, output),
         Job::Make => make(alloc, reader, output),

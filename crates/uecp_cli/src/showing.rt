@@ -29,7 +29,7 @@ pub fn show<R: Read>(alloc: Global, reader: &mut R, output: &mut Output) -> Resu
 }
 
 impl Command for Deframer {
-    ghost says = { Shows };
+    ghost meaning = { Shows };
 
     fn take(&mut self, alloc: Global, text: &[u8], output: &mut Output) -> Result<(), LineFault> {
         let piece = piece_of(alloc, text)?;

@@ -1,4 +1,8 @@
 //! Why a command line was refused (profile).
+ghost use Rattle.std.specs.Prelude.{◌≡◌};
+ghost use Rattle.uecp_cli.specs.Usages.{SaysError};
+ghost use Rattle.uecp_cli.specs.declared.usage.Usage.TheVariants.{OutOfMemory};
+
 use clap::Error;
 use clap::error::ErrorKind;
 use std::alloc::{AllocError, AllocFailed};
@@ -15,6 +19,8 @@ pub enum Usage {
 }
 
 impl From<Error> for Usage {
+    ghost from_gives = { SaysError };
+
     fn from(error: Error) -> Usage {
         if error.kind() == ErrorKind::OutOfMemory {
             Usage::OutOfMemory
@@ -25,12 +31,16 @@ impl From<Error> for Usage {
 }
 
 impl From<AllocError> for Usage {
+    ghost from_gives = { λ _ usage. usage ≡ OutOfMemory };
+
     fn from(_error: AllocError) -> Usage {
         Usage::OutOfMemory
     }
 }
 
 impl<T: Drop> From<AllocFailed<T>> for Usage {
+    ghost from_gives = { λ _ usage. usage ≡ OutOfMemory };
+
     fn from(_error: AllocFailed<T>) -> Usage {
         Usage::OutOfMemory
     }

@@ -1,15 +1,18 @@
 //! Words of a line, and the numbers and bytes that they spell (profile).
-ghost use Rattle.std.specs.Prelude.{◌≡◌, ◌≢◌, ◌≤◌, ◌==◌, ◌⊎◌, [], ◌∷◌, not, filter, Ok, IfOk, IfErr, IfSome, IfNone, IsErr};
+ghost use Rattle.std.specs.Prelude.{◌≡◌, ◌≤◌, ◌<◌, ◌==◌, ◌⊎◌, ℕ, List, [], ◌∷◌, length, not, filter, Ok, IfOk, IfErr, IfSome, IfNone, IsErr};
 ghost use Rattle.hex.specs.Hex.{decode_of, decode_sized};
 ghost use Rattle.uecp_frame.specs.Frame.{high_first};
-ghost use Rattle.uecp_cli.specs.declared.line_fault.LineFault.TheVariants.{NotHex, OutOfMemory};
+ghost use Rattle.uecp_cli.specs.declared.line_fault.LineFault.TheVariants.{NotHex, NotACommand, MessageTooLong, OutOfMemory};
+ghost use Rattle.uecp_cli.specs.Words.{words, texts, decimal_in, IsRow};
 
 use crate::line_fault::LineFault;
 use std::alloc::{AllocError, Global};
 use uecp_frame::Message;
 
 /// The words of a text: its longest parts without a space.
-pub fn words_of(alloc: Global, text: &[u8]) -> Result<Vec<&[u8]>, AllocError> {
+pub fn words_of(alloc: Global, text: &[u8]) -> Result<Vec<&[u8]>, AllocError>
+    ensures { IfOk result (λ ws. texts ws.items ≡ words text.now) }
+{
     text.split(|byte| *byte == b' ')
         .filter(|word| !word.is_empty())
         .collect(alloc)
@@ -41,7 +44,10 @@ pub fn bytes_of(alloc: Global, word: &[u8], refusal: LineFault) -> Result<Vec<u8
 }
 
 /// The same, and no bytes for a lone `-`.
-pub fn bytes_or_none(alloc: Global, word: &[u8]) -> Result<Vec<u8>, LineFault> {
+pub fn bytes_or_none(alloc: Global, word: &[u8]) -> Result<Vec<u8>, LineFault>
+    ensures row { IfOk result (λ b. IsRow word.now b.items) }
+    ensures refused { IfErr result (λ e. (e ≡ OutOfMemory) ⊎ ((e ≡ NotACommand) × ((bytes : List ℕ) → IsRow word.now bytes → ⊥))) }
+{
     match word {
         b"-" => Ok(Vec::new(alloc)),
         _ => bytes_of(alloc, word, LineFault::NotACommand),
@@ -77,7 +83,8 @@ pub fn number_of(word: &[u8]) -> Option<u16>
 
 /// The number of one or more decimal digits, where it is at most `most`.
 pub fn decimal_of(word: &[u8], most: u32) -> Option<u32>
-    ensures { IfSome result (λ n. n ≤ most) }
+    ensures exact { result ≡ decimal_in most word.now }
+    ensures range { IfSome result (λ n. n ≤ most) }
 {
     if word.is_empty() {
         return None;
@@ -96,6 +103,9 @@ pub fn decimal_of(word: &[u8], most: u32) -> Option<u32>
 }
 
 /// A message of these bytes.
-pub fn message_of(bytes: &[u8]) -> Result<Message, LineFault> {
+pub fn message_of(bytes: &[u8]) -> Result<Message, LineFault>
+    ensures message { IfOk result (λ m. (m ≡ bytes.now) × (length bytes.now ≤ 255)) }
+    ensures refused { IfErr result (λ e. (e ≡ MessageTooLong) × (255 < length bytes.now)) }
+{
     Message::from_bytes(bytes).ok_or(LineFault::MessageTooLong)
 }

@@ -8,23 +8,23 @@ use Rattle.uecp_cli.proofs.command.run_lines.Goals as goal
 pub returns-in_err-take_line : goal.returns-in_err-take_line
 returns-in_err-take_line g c =
     let now = c.loop-rest in
-    let out = led_out g.C.Command.says c.args.command.now now.command c.take_line.new.command (texts_of c.args.input.now) c.args.output.now now.output c.take_line.new.output
+    let out = led_out g.C.Command.meaning c.args.command.now now.command c.take_line.new.command (texts_of c.args.input.now) c.args.output.now now.output c.take_line.new.output
     now.number now.rest.now c.first_line.result.0.now c.first_line.result.1.now c.in_err-take_line.field-0.0 now.invariant.led c.first_line.ensures.lines
     c.in_err-take_line.ensures in
     let same : c.from_residual.result ≡ Err c.in_err-take_line.field-0.0 = search rules in
-    subst (λ result. RunsOn g.C.Command.says c.args.command.now (texts_of c.args.input.now) c.args.output.now result c.take_line.new.command c.take_line.new.output) (sym same) out
+    subst (λ result. RunsOn g.C.Command.meaning c.args.command.now (texts_of c.args.input.now) c.args.output.now result c.take_line.new.command c.take_line.new.output) (sym same) out
 
 pub loop-rest-preserved : goal.loop-rest-preserved
 loop-rest-preserved g c =
     let now = c.loop-rest in
     record {
       count = let shorter = c.first_line.ensures.shorter in let so_far = now.invariant.count in omega (arith, shorter, so_far);
-      led = led_on g.C.Command.says c.args.command.now now.command c.take_line.new.command (texts_of c.args.input.now) c.args.output.now now.output c.take_line.new.output
+      led = led_on g.C.Command.meaning c.args.command.now now.command c.take_line.new.command (texts_of c.args.input.now) c.args.output.now now.output c.take_line.new.output
           now.number now.rest.now c.first_line.result.0.now c.first_line.result.1.now now.invariant.led c.first_line.ensures.lines c.in_ok-take_line.ensures;
     }
 
 pub returns : goal.returns
 returns g c =
     let now = c.loop-rest in
-    led_end g.C.Command.says c.args.command.now now.command (texts_of c.args.input.now) c.args.output.now now.output now.number now.rest.now now.invariant.led
+    led_end g.C.Command.meaning c.args.command.now now.command (texts_of c.args.input.now) c.args.output.now now.output now.number now.rest.now now.invariant.led
     (empty_is now.rest.now c.loop-rest-test.ensures)

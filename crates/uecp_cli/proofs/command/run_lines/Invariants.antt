@@ -7,7 +7,7 @@ use Rattle.uecp_cli.proofs.command.run_lines.Given as goal
 abbrev pub invariant-loop-rest : goal.invariant-loop-rest
 invariant-loop-rest g l = record {
   count : l.number + length l.rest ≤ 1 + length l.input;
-  led : Led g.C.Command.says l.fn.command (texts_of l.input) l.fn.output l.command (numbered l.number (lines_of l.rest)) l.output;
+  led : Led g.C.Command.meaning l.fn.command (texts_of l.input) l.fn.output l.command (numbered l.number (lines_of l.rest)) l.output;
 }
 
 abbrev pub decreases-loop-rest : goal.decreases-loop-rest

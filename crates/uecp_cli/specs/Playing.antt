@@ -1,0 +1,48 @@
+-- What playing one event on a line comes to (profile).
+use Rattle.std.specs.Prelude.{◌≡◌, ◌≢◌, ◌⊎◌, ℕ, Bool, List, ◌++◌, length, codes, Ok, Err}
+use Rattle.rds_store.specs.Value.{Store}
+use Rattle.rds_store.specs.Step.{step}
+use Rattle.uecp_link.specs.declared.stepped.Stepped.{Stepped}
+use Rattle.uecp_link.specs.declared.refusal.LineRefusal.{LineRefusal}
+use Rattle.uecp_link.specs.Once.{Event, Once}
+use Rattle.uecp_link.specs.Events.{Refuses}
+use Rattle.uecp_link.specs.Holds.{LineState, Holds, StepsAs, new_line}
+use Rattle.uecp_cli.specs.Steps.{step_words, totals_line}
+use Rattle.uecp_cli.specs.EventWords.{place_of, Names, IsFaultOf}
+use Rattle.uecp_cli.specs.Words.{words}
+use Rattle.uecp_cli.specs.StoreLines.{last_lines}
+use Rattle.uecp_cli.specs.Setups.{address_of}
+use Rattle.uecp_cli.specs.Run.{Meaning}
+use Rattle.uecp_cli.specs.declared.line_fault.LineFault.TheVariants.{OutOfMemory}
+use Rattle.rds_store.specs.Opening.{opening}
+
+-- The event takes place: the line goes on as the once-machine does, from whatever of its values the line holds, and this is said of what it answers.
+pub record TakesPlace (old : LineState Store) (event : Event) (lines : List ℕ) (new : LineState Store) : Type 0 where
+  pub answer : Stepped
+  pub said : lines ≡ step_words (Ok answer) (place_of event) ++ codes "\n"
+  pub steps : (o : Once Store) → Holds old o → StepsAs step old o event answer new
+
+-- The event is refused, as the once-machine refuses it, or for want of memory: the line stays as it was, and this is said of the refusal.
+pub record IsRefused (old : LineState Store) (event : Event) (lines : List ℕ) (new : LineState Store) : Type 0 where
+  pub refusal : LineRefusal
+  pub said : lines ≡ step_words (Err refusal) (place_of event) ++ codes "\n"
+  pub unchanged : new ≡ old
+  pub refuses : (o : Once Store) → Holds old o → Refuses o event refusal
+
+-- The event is played on the line, and these lines say what came of it.
+abbrev pub PlaysEvent : (old : LineState Store) → Event → (lines : List ℕ) → (new : LineState Store) → Type 0
+PlaysEvent old event lines new = TakesPlace old event lines new ⊎ IsRefused old event lines new
+
+-- To `line` a text whose words name an event brings the lines that say what came of it; any other text is refused for what is wrong with its words, and nothing
+-- has changed.
+abbrev pub Plays : Meaning (LineState Store)
+Plays line text (Ok lines) line' = (event : Event) × Names (words text) event × PlaysEvent line event lines line'
+Plays line text (Err why) line' = (why ≢ OutOfMemory) × IsFaultOf (words text) why × (line' ≡ line)
+
+-- The last lines: the totals, and the store where it is asked for.
+abbrev pub closing_lines : (asked : Bool) → LineState Store → List ℕ
+closing_lines asked line = totals_line (length line.sent) (length line.codes) line.acknowledged ++ last_lines asked line.encoder.value
+
+-- A new line to the encoder that the options describe.
+abbrev pub line_at_first : (site encoder sets : ℕ) (services : List ℕ) → LineState Store
+line_at_first site encoder sets services = new_line (address_of site encoder) (opening sets services)
