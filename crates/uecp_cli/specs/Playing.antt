@@ -6,15 +6,13 @@ use Rattle.uecp_link.specs.declared.stepped.Stepped.{Stepped}
 use Rattle.uecp_link.specs.declared.refusal.LineRefusal.{LineRefusal}
 use Rattle.uecp_link.specs.Once.{Event, Once}
 use Rattle.uecp_link.specs.Events.{Refuses}
-use Rattle.uecp_link.specs.Holds.{LineState, Holds, StepsAs, new_line}
+use Rattle.uecp_link.specs.Holds.{LineState, Holds, StepsAs}
 use Rattle.uecp_cli.specs.Steps.{step_words, totals_line}
 use Rattle.uecp_cli.specs.EventWords.{place_of, Names, IsFaultOf}
 use Rattle.uecp_cli.specs.Words.{words}
 use Rattle.uecp_cli.specs.StoreLines.{last_lines}
-use Rattle.uecp_cli.specs.Setups.{address_of}
 use Rattle.uecp_cli.specs.Run.{Meaning}
 use Rattle.uecp_cli.specs.declared.line_fault.LineFault.TheVariants.{OutOfMemory}
-use Rattle.rds_store.specs.Opening.{opening}
 
 -- The event takes place: the line goes on as the once-machine does, from whatever of its values the line holds, and this is said of what it answers.
 pub record TakesPlace (old : LineState Store) (event : Event) (lines : List ℕ) (new : LineState Store) : Type 0 where
@@ -42,7 +40,3 @@ Plays line text (Err why) line' = (why ≢ OutOfMemory) × IsFaultOf (words text
 -- The last lines: the totals, and the store where it is asked for.
 abbrev pub closing_lines : (asked : Bool) → LineState Store → List ℕ
 closing_lines asked line = totals_line (length line.sent) (length line.codes) line.acknowledged ++ last_lines asked line.encoder.value
-
--- A new line to the encoder that the options describe.
-abbrev pub line_at_first : (site encoder sets : ℕ) (services : List ℕ) → LineState Store
-line_at_first site encoder sets services = new_line (address_of site encoder) (opening sets services)

@@ -7,7 +7,7 @@ ghost use Rattle.uecp_cli.specs.Lines.{response_line};
 ghost use Rattle.uecp_cli.specs.Commands.{Answers};
 ghost use Rattle.uecp_cli.specs.StoreLines.{last_lines};
 ghost use Rattle.uecp_cli.specs.Run.{RunsWhole};
-ghost use Rattle.uecp_cli.specs.Setups.{IsSetup, RefusesSetup, encoder_at_first};
+ghost use Rattle.uecp_cli.specs.Setups.{options_of, IsSetup, RefusesSetup, encoder_at_first};
 ghost use Rattle.uecp_cli.specs.Written.{Adds};
 
 use crate::command::{Command, run_over};
@@ -31,8 +31,8 @@ pub fn answer<R: Read>(
     reader: &mut R,
     output: &mut Output,
 ) -> Result<(), RunFault>
-    ensures described { IfOk result (λ _. IsSetup setup.now.site setup.now.encoder setup.now.sets setup.now.services.now) }
-    ensures runs { ((fault : _) × (result ≡ Err fault) × RefusesSetup setup.now.site setup.now.encoder setup.now.sets setup.now.services.now fault) ⊎ RunsWhole Answers (encoder_at_first setup.now.site setup.now.encoder setup.now.sets setup.now.services.now) (λ e. last_lines store e.value) (R.remaining reader.old) (R.remaining reader.new) output.old result output.new }
+    ensures described { IfOk result (λ _. IsSetup (options_of setup.now)) }
+    ensures runs { ((fault : _) × (result ≡ Err fault) × RefusesSetup (options_of setup.now) fault) ⊎ RunsWhole Answers (encoder_at_first (options_of setup.now)) (λ e. last_lines store e.value) (R.remaining reader.old) (R.remaining reader.new) output.old result output.new }
 {
     let mut encoder = new_encoder(alloc, setup)?;
     answer_all(alloc, &mut encoder, store, reader, output)

@@ -3,9 +3,9 @@ ghost use Rattle.std.specs.Prelude.{◌≡◌, ◌⊎◌, ℕ, List, Err, IfOk, 
 ghost use Rattle.uecp_link.specs.Once.{FrameComes, ReplyComes};
 ghost use Rattle.uecp_link.specs.Events.{event_of};
 ghost use Rattle.uecp_cli.specs.EventWords.{event_seen, place_of};
-ghost use Rattle.uecp_cli.specs.Playing.{PlaysEvent, Plays, closing_lines, line_at_first};
+ghost use Rattle.uecp_cli.specs.Playing.{PlaysEvent, Plays, closing_lines};
 ghost use Rattle.uecp_cli.specs.Run.{RunsWhole};
-ghost use Rattle.uecp_cli.specs.Setups.{IsSetup, RefusesSetup};
+ghost use Rattle.uecp_cli.specs.Setups.{options_of, IsSetup, RefusesSetup, line_at_first};
 ghost use Rattle.uecp_cli.specs.declared.run_fault.RunFault.TheVariants.{OutOfMemory};
 ghost use Rattle.uecp_cli.specs.Written.{Adds};
 
@@ -31,8 +31,8 @@ pub fn play<R: Read>(
     reader: &mut R,
     output: &mut Output,
 ) -> Result<(), RunFault>
-    ensures described { IfOk result (λ _. IsSetup setup.now.site setup.now.encoder setup.now.sets setup.now.services.now) }
-    ensures runs { ((fault : _) × (result ≡ Err fault) × RefusesSetup setup.now.site setup.now.encoder setup.now.sets setup.now.services.now fault) ⊎ RunsWhole Plays (line_at_first setup.now.site setup.now.encoder setup.now.sets setup.now.services.now) (closing_lines store) (R.remaining reader.old) (R.remaining reader.new) output.old result output.new }
+    ensures described { IfOk result (λ _. IsSetup (options_of setup.now)) }
+    ensures runs { ((fault : _) × (result ≡ Err fault) × RefusesSetup (options_of setup.now) fault) ⊎ RunsWhole Plays (line_at_first (options_of setup.now)) (closing_lines store) (R.remaining reader.old) (R.remaining reader.new) output.old result output.new }
 {
     let mut line = new_line(alloc, setup)?;
     play_all(alloc, &mut line, store, reader, output)
@@ -40,9 +40,9 @@ pub fn play<R: Read>(
 
 /// A new line to an encoder with an opening store. The services are judged before the address.
 fn new_line(alloc: Global, setup: &Setup<'_>) -> Result<Line<RdsStore>, RunFault>
-    ensures described { IfOk result (λ line. IsSetup setup.now.site setup.now.encoder setup.now.sets setup.now.services.now) }
-    ensures made { IfOk result (λ line. line ≡ line_at_first setup.now.site setup.now.encoder setup.now.sets setup.now.services.now) }
-    ensures refused { IfErr result (λ fault. (fault ≡ OutOfMemory) ⊎ RefusesSetup setup.now.site setup.now.encoder setup.now.sets setup.now.services.now fault) }
+    ensures described { IfOk result (λ line. IsSetup (options_of setup.now)) }
+    ensures made { IfOk result (λ line. line ≡ line_at_first (options_of setup.now)) }
+    ensures refused { IfErr result (λ fault. (fault ≡ OutOfMemory) ⊎ RefusesSetup (options_of setup.now) fault) }
 {
     let store = RdsStore::new(alloc, setup.sets, setup.services)?;
     match address_of(setup.site, setup.encoder) {

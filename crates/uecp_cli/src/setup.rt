@@ -1,7 +1,7 @@
 //! The encoder that the options describe (profile).
 ghost use Rattle.std.specs.Prelude.{◌≡◌, ◌⊎◌, IfSome, IfNone, IfOk, IfErr, IsTrue};
 ghost use Rattle.uecp_frame.specs.Address.{is_exact};
-ghost use Rattle.uecp_cli.specs.Setups.{IsOneEncoder, address_of, IsSetup, encoder_at_first, RefusesSetup};
+ghost use Rattle.uecp_cli.specs.Setups.{IsOneEncoder, address_of, options_of, IsSetup, encoder_at_first, RefusesSetup};
 ghost use Rattle.uecp_cli.specs.declared.run_fault.RunFault.TheVariants.{OutOfMemory};
 
 use crate::run_fault::RunFault;
@@ -38,9 +38,9 @@ pub fn address_of(site: u16, encoder: u8) -> Option<Address>
 
 /// A new encoder with an opening store. The services are judged before the address.
 pub fn new_encoder(alloc: Global, setup: &Setup<'_>) -> Result<Encoder<RdsStore>, RunFault>
-    ensures described { IfOk result (λ e. IsSetup setup.now.site setup.now.encoder setup.now.sets setup.now.services.now) }
-    ensures made { IfOk result (λ e. e ≡ encoder_at_first setup.now.site setup.now.encoder setup.now.sets setup.now.services.now) }
-    ensures refused { IfErr result (λ fault. (fault ≡ OutOfMemory) ⊎ RefusesSetup setup.now.site setup.now.encoder setup.now.sets setup.now.services.now fault) }
+    ensures described { IfOk result (λ e. IsSetup (options_of setup.now)) }
+    ensures made { IfOk result (λ e. e ≡ encoder_at_first (options_of setup.now)) }
+    ensures refused { IfErr result (λ fault. (fault ≡ OutOfMemory) ⊎ RefusesSetup (options_of setup.now) fault) }
 {
     let store = RdsStore::new(alloc, setup.sets, setup.services)?;
     match address_of(setup.site, setup.encoder) {

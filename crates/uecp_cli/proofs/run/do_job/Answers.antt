@@ -2,11 +2,11 @@ use Rattle.std.proofs.Common.{◌≡◌, ◌⊎◌, Err, sym, subst}
 use Rattle.uecp_cli.specs.declared.run_fault.RunFault.{RunFault}
 use Rattle.uecp_cli.specs.declared.job.Job.TheVariants.{Answer, Line}
 use Rattle.uecp_cli.specs.Run.{RunsWhole}
-use Rattle.uecp_cli.specs.Setups.{RefusesSetup, encoder_at_first}
+use Rattle.uecp_cli.specs.Setups.{RefusesSetup, encoder_at_first, line_at_first}
 use Rattle.uecp_cli.specs.StoreLines.{last_lines}
 use Rattle.uecp_cli.specs.Commands.{Answers}
-use Rattle.uecp_cli.specs.Playing.{Plays, closing_lines, line_at_first}
-use Rattle.uecp_cli.specs.Jobs.{DoesJob}
+use Rattle.uecp_cli.specs.Playing.{Plays, closing_lines}
+use Rattle.uecp_cli.specs.Jobs.{DoesJob, options}
 use Rattle.uecp_cli.proofs.Doing.{does_by}
 use Rattle.uecp_cli.proofs.run.do_job.Goals as goal
 
@@ -16,10 +16,10 @@ returns-in-Answer-clause-does g c =
     let now = c.answer in
     let left = g.R.Read.remaining in
     subst (λ job. DoesJob job (left c.args.reader.now) (left now.new.reader) c.args.output.now now.result now.new.output) (sym i.is)
-    (does_by (Answer i.site i.encoder i.sets i.services i.store) Answers (encoder_at_first i.site i.encoder i.sets i.services.items) (λ e. last_lines i.store e.value)
+    (does_by (Answer i.site i.encoder i.sets i.services i.store) Answers (encoder_at_first (options i.site i.encoder i.sets i.services.items)) (λ e. last_lines i.store e.value)
     (left c.args.reader.now) (left now.new.reader) c.args.output.now now.new.output now.result
-    (subst (λ services. ((fault : RunFault) × (now.result ≡ Err fault) × RefusesSetup i.site i.encoder i.sets services fault)
-    ⊎ RunsWhole Answers (encoder_at_first i.site i.encoder i.sets services) (λ e. last_lines i.store e.value) (left c.args.reader.now) (left now.new.reader) c.args.output.now now.result now.new.output)
+    (subst (λ services. ((fault : RunFault) × (now.result ≡ Err fault) × RefusesSetup (options i.site i.encoder i.sets services) fault)
+    ⊎ RunsWhole Answers (encoder_at_first (options i.site i.encoder i.sets services)) (λ e. last_lines i.store e.value) (left c.args.reader.now) (left now.new.reader) c.args.output.now now.result now.new.output)
     c.as_slice-services.ensures.value now.ensures.runs)
     (λ input written prints. prints))
 
@@ -29,9 +29,9 @@ returns-in-Line-clause-does g c =
     let now = c.play in
     let left = g.R.Read.remaining in
     subst (λ job. DoesJob job (left c.args.reader.now) (left now.new.reader) c.args.output.now now.result now.new.output) (sym i.is)
-    (does_by (Line i.site i.encoder i.sets i.services i.store) Plays (line_at_first i.site i.encoder i.sets i.services.items) (closing_lines i.store)
+    (does_by (Line i.site i.encoder i.sets i.services i.store) Plays (line_at_first (options i.site i.encoder i.sets i.services.items)) (closing_lines i.store)
     (left c.args.reader.now) (left now.new.reader) c.args.output.now now.new.output now.result
-    (subst (λ services. ((fault : RunFault) × (now.result ≡ Err fault) × RefusesSetup i.site i.encoder i.sets services fault)
-    ⊎ RunsWhole Plays (line_at_first i.site i.encoder i.sets services) (closing_lines i.store) (left c.args.reader.now) (left now.new.reader) c.args.output.now now.result now.new.output)
+    (subst (λ services. ((fault : RunFault) × (now.result ≡ Err fault) × RefusesSetup (options i.site i.encoder i.sets services) fault)
+    ⊎ RunsWhole Plays (line_at_first (options i.site i.encoder i.sets services)) (closing_lines i.store) (left c.args.reader.now) (left now.new.reader) c.args.output.now now.result now.new.output)
     c.as_slice-services-in-Line.ensures.value now.ensures.runs)
     (λ input written prints. prints))
