@@ -10,3 +10,4 @@ pub mod Decimals
 pub mod ElementWords
 pub mod ScriptLines
 pub mod EventNames
+pub mod Headlines

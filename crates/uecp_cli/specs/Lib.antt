@@ -12,6 +12,7 @@ pub mod Words
 pub mod FrameScript
 pub mod EventWords
 pub mod Playing
+pub mod Headlines
 pub mod Jobs
 pub mod Digits
 pub mod Lines

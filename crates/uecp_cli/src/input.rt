@@ -1,5 +1,7 @@
 //! Standard input and its lines (profile).
-ghost use Rattle.std.specs.Prelude.{◌≡◌, ◌<◌, ◌∷◌, IfOk, IfErr, option_copied, length};
+ghost use Rattle.std.specs.Prelude.{◌≡◌, ◌<◌, ◌∷◌, ℕ, List, Err, IfOk, IfErr, option_copied, length};
+ghost use Rattle.std.specs.Io.KnownBytes.{Consumes};
+ghost use Rattle.uecp_cli.specs.declared.run_fault.RunFault.TheVariants.{TooLong};
 ghost use Rattle.uecp_cli.specs.Input.{lines_of, without_end, without_last_spaces, trimmed, said};
 ghost use Rattle.uecp_cli.specs.Run.{IsInput};
 ghost use Rattle.uecp_cli.specs.Statuses.{status_of};
@@ -18,6 +20,7 @@ const READ_MAX: usize = 4096;
 pub fn read_all<R: Read>(alloc: Global, reader: &mut R) -> Result<Vec<u8>, RunFault>
     ensures input { IfOk result (λ all. IsInput (R.remaining reader.old) (R.remaining reader.new) all.items) }
     ensures refused { IfErr result (λ fault. status_of fault ≡ 3) }
+    ensures too_long { result ≡ Err TooLong → (all : List ℕ) × (length all ≡ 1048577) × Consumes (R.remaining reader.old) (R.remaining reader.new) all }
 {
     let mut all = Vec::new(alloc);
     let mut buffer = [0u8; READ_MAX];
