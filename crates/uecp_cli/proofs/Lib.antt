@@ -11,3 +11,7 @@ pub mod ElementWords
 pub mod ScriptLines
 pub mod EventNames
 pub mod Headlines
+pub mod Options
+pub mod Apps
+pub mod Asked
+pub mod Helps

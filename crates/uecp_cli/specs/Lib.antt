@@ -1,6 +1,7 @@
 -- The definitions that the program's contracts cite.
 pub mod Ranges
 pub mod Usages
+pub mod CommandLine
 pub mod Setups
 pub mod Statuses
 pub mod Written

@@ -1,6 +1,10 @@
 //! The words of the command line (profile).
-ghost use Rattle.std.specs.Prelude.{◌≤◌, IfOk};
+ghost use Rattle.std.specs.Prelude.{◌≡◌, ◌≤◌, ℕ, List, false, codes, map, IfOk, IfErr};
+ghost use Rattle.std.specs.String.{string_bytes};
+ghost use Rattle.clap.specs.Words.{app_of, found_of, one_of, rows_of, rule_of, shape_of};
+ghost use Rattle.clap.specs.Simple.{new_shape};
 ghost use Rattle.uecp_cli.specs.Ranges.{IsInRange};
+ghost use Rattle.uecp_cli.specs.CommandLine.{IsOption, IsJobOf, RefusesList, Asks, RefusesWords, services_text, number_option, services_option, store_flag, encoder_command, uecp_app};
 
 use crate::job::Job;
 use crate::services::services_of;
@@ -16,7 +20,11 @@ const STATUSES: &str =
 
 /// Reads the words of a command line, the first being the program's name.
 pub fn parse(alloc: Global, words: &[String]) -> Result<Job, Usage>
-    ensures { IfOk result IsInRange }
+    ensures range { IfOk result IsInRange }
+    // The words have no fault, and the job is that of the command that they name, with their options.
+    ensures asked { IfOk result (Asks (map string_bytes words.now)) }
+    // The words have a fault, or their list of services is none. Or there was no memory.
+    ensures refused { IfErr result (RefusesWords (map string_bytes words.now)) }
 {
     let matches = program(alloc)?.try_get_matches_from(words)?;
     match matches.subcommand() {
@@ -28,7 +36,9 @@ pub fn parse(alloc: Global, words: &[String]) -> Result<Job, Usage>
 }
 
 /// The program's commands and options, with their ranges, defaults and helpful texts.
-pub fn program<'a>(alloc: Global) -> Result<Command<'a>, AllocError> {
+pub fn program<'a>(alloc: Global) -> Result<Command<'a>, AllocError>
+    ensures { IfOk result (λ program. app_of program ≡ uecp_app) }
+{
     Command::new(alloc, "uecp")
         .bin_name("uecp")?
         .version(VERSION)
@@ -41,7 +51,9 @@ pub fn program<'a>(alloc: Global) -> Result<Command<'a>, AllocError> {
         .subcommand(line_command(alloc)?)
 }
 
-fn answer_command<'a>(alloc: Global) -> Result<Command<'a>, AllocError> {
+fn answer_command<'a>(alloc: Global) -> Result<Command<'a>, AllocError>
+    ensures { IfOk result (λ command. shape_of command ≡ encoder_command (codes "answer")) }
+{
     with_encoder(
         alloc,
         Command::new(alloc, "answer")
@@ -50,13 +62,17 @@ fn answer_command<'a>(alloc: Global) -> Result<Command<'a>, AllocError> {
     )
 }
 
-fn show_command<'a>(alloc: Global) -> Command<'a> {
+fn show_command<'a>(alloc: Global) -> Command<'a>
+    ensures { shape_of result ≡ new_shape (codes "show") }
+{
     Command::new(alloc, "show")
         .about("Show the frames and elements in hexadecimal pieces, one a line")
         .after_help("Example: echo FE00410105010000C20167A8FF | uecp show")
 }
 
-fn make_command<'a>(alloc: Global) -> Command<'a> {
+fn make_command<'a>(alloc: Global) -> Command<'a>
+    ensures { shape_of result ≡ new_shape (codes "make") }
+{
     Command::new(alloc, "make")
         .about("Write the frames of a frame script in hexadecimal, one a line")
         .after_help(
@@ -64,7 +80,9 @@ fn make_command<'a>(alloc: Global) -> Command<'a> {
         )
 }
 
-fn line_command<'a>(alloc: Global) -> Result<Command<'a>, AllocError> {
+fn line_command<'a>(alloc: Global) -> Result<Command<'a>, AllocError>
+    ensures { IfOk result (λ command. shape_of command ≡ encoder_command (codes "line")) }
+{
     with_encoder(
         alloc,
         Command::new(alloc, "line")
@@ -75,7 +93,9 @@ fn line_command<'a>(alloc: Global) -> Result<Command<'a>, AllocError> {
     )
 }
 
-fn with_encoder<'a>(alloc: Global, command: Command<'a>) -> Result<Command<'a>, AllocError> {
+fn with_encoder<'a>(alloc: Global, command: Command<'a>) -> Result<Command<'a>, AllocError>
+    ensures { (name : List ℕ) → shape_of command.entry ≡ new_shape name → IfOk result (λ whole. shape_of whole ≡ encoder_command name) }
+{
     command
         .arg(site(alloc))?
         .arg(encoder(alloc))?
@@ -84,7 +104,10 @@ fn with_encoder<'a>(alloc: Global, command: Command<'a>) -> Result<Command<'a>, 
         .arg(store(alloc))
 }
 
-fn site<'a>(alloc: Global) -> Arg<'a> {
+fn site<'a>(alloc: Global) -> Arg<'a>
+    ensures rule { rule_of result ≡ number_option (codes "site") 1023 }
+    ensures own { result.global ≡ false }
+{
     Arg::new(alloc, "site")
         .long("site")
         .value_name("N")
@@ -94,7 +117,10 @@ fn site<'a>(alloc: Global) -> Arg<'a> {
         .default_value("1")
 }
 
-fn encoder<'a>(alloc: Global) -> Arg<'a> {
+fn encoder<'a>(alloc: Global) -> Arg<'a>
+    ensures rule { rule_of result ≡ number_option (codes "encoder") 63 }
+    ensures own { result.global ≡ false }
+{
     Arg::new(alloc, "encoder")
         .long("encoder")
         .value_name("N")
@@ -104,7 +130,10 @@ fn encoder<'a>(alloc: Global) -> Arg<'a> {
         .default_value("1")
 }
 
-fn sets<'a>(alloc: Global) -> Arg<'a> {
+fn sets<'a>(alloc: Global) -> Arg<'a>
+    ensures rule { rule_of result ≡ number_option (codes "sets") 8 }
+    ensures own { result.global ≡ false }
+{
     Arg::new(alloc, "sets")
         .long("sets")
         .value_name("N")
@@ -114,7 +143,10 @@ fn sets<'a>(alloc: Global) -> Arg<'a> {
         .default_value("1")
 }
 
-fn services<'a>(alloc: Global) -> Arg<'a> {
+fn services<'a>(alloc: Global) -> Arg<'a>
+    ensures rule { rule_of result ≡ services_option }
+    ensures own { result.global ≡ false }
+{
     Arg::new(alloc, "services")
         .long("services")
         .value_name("LIST")
@@ -125,7 +157,10 @@ fn services<'a>(alloc: Global) -> Arg<'a> {
         .default_value("01")
 }
 
-fn store<'a>(alloc: Global) -> Arg<'a> {
+fn store<'a>(alloc: Global) -> Arg<'a>
+    ensures rule { rule_of result ≡ store_flag }
+    ensures own { result.global ≡ false }
+{
     Arg::new(alloc, "store")
         .long("store")
         .help("Write the encoder's store at the end")
@@ -134,8 +169,7 @@ fn store<'a>(alloc: Global) -> Arg<'a> {
 
 /// The encoder's site, 1 to 1023.
 fn site_of(found: &ArgMatches<'_>) -> u16
-    ensures least { 1 ≤ result }
-    ensures most { result ≤ 1023 }
+    ensures { IsOption (one_of (codes "site") (rows_of (found_of found.now))) 1023 result }
 {
     found.get_one::<u16>("site").unwrap_or(1).clamp(1, 1023)
 }
@@ -143,14 +177,14 @@ fn site_of(found: &ArgMatches<'_>) -> u16
 /// The value of an option that is a number from 1 to `most`.
 fn small_of(found: &ArgMatches<'_>, name: &str, most: u8) -> u8
     requires { 1 ≤ most }
-    ensures least { 1 ≤ result }
-    ensures most { result ≤ most }
+    ensures { IsOption (one_of name.now (rows_of (found_of found.now))) most result }
 {
     found.get_one::<u8>(name).unwrap_or(1).clamp(1, most)
 }
 
 fn answer_of(alloc: Global, found: &ArgMatches<'_>) -> Result<Job, Usage>
-    ensures { IfOk result IsInRange }
+    ensures job { IfOk result (IsJobOf (codes "answer") (rows_of (found_of found.now))) }
+    ensures refused { IfErr result (RefusesList (services_text (rows_of (found_of found.now)))) }
 {
     Ok(Job::Answer {
         site: site_of(found),
@@ -162,7 +196,8 @@ fn answer_of(alloc: Global, found: &ArgMatches<'_>) -> Result<Job, Usage>
 }
 
 fn line_of(alloc: Global, found: &ArgMatches<'_>) -> Result<Job, Usage>
-    ensures { IfOk result IsInRange }
+    ensures job { IfOk result (IsJobOf (codes "line") (rows_of (found_of found.now))) }
+    ensures refused { IfErr result (RefusesList (services_text (rows_of (found_of found.now)))) }
 {
     Ok(Job::Line {
         site: site_of(found),

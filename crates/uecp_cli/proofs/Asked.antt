@@ -1,0 +1,109 @@
+-- What the words of the command line ask for.
+use Rattle.std.proofs.Common.{◌≡◌, ◌⊎◌, List, [], refl, ap, ◌∙◌, sym, subst, true, inl, inr, codes}
+use Rattle.std.specs.Prelude.{Option, Some, None, Box, option_map, Result, Ok, Err, IsErrAnd, IfErr}
+use Rattle.std.specs.Box.{box_value}
+use Rattle.clap.specs.Walk.{Row, Text}
+use Rattle.clap.specs.Simple.{App, HasMatchesOf, is_simple, subcommand_of, subcommand_rows, subcommand_rows_of}
+use Rattle.clap.specs.Faults.{fault_of, is_simple_and_free}
+use Rattle.clap.specs.Kinds.{HasKind}
+use Rattle.clap.specs.Matches.{subcommand_name_of}
+use Rattle.clap.specs.declared.error.Error.{Error}
+use Rattle.clap.specs.declared.parser.matches.ArgMatches.{ArgMatches}
+use Rattle.clap.specs.declared.parser.matches.ArgMatches.TheViews.{out-ArgMatches, out-SubCommand}
+use Rattle.clap.specs.declared.parser.matches.SubCommand.{SubCommand}
+use Rattle.clap.proofs.OnLiterals.{clap_on_literals}
+use Rattle.uecp_cli.specs.declared.job.Job.{Job}
+use Rattle.uecp_cli.specs.declared.job.Job.TheVariants.{Answer, Show, Make, Line}
+use Rattle.uecp_cli.specs.declared.usage.Usage.{Usage}
+use Rattle.uecp_cli.specs.Ranges.{IsInRange}
+use Rattle.uecp_cli.specs.Usages.{SaysError}
+use Rattle.uecp_cli.specs.CommandLine.{Asks, IsJobOf, RefusesList, RefusesWords, services_text, uecp_app}
+use Rattle.uecp_cli.proofs.Helps.{one_named}
+
+-- ---- by what clap's clauses say of a parse
+simple_app : is_simple uecp_app ≡ true
+unfolding clap_on_literals
+simple_app = refl
+
+free_app : is_simple_and_free uecp_app ≡ true
+unfolding clap_on_literals
+free_app = refl
+
+pub met_of : (a : App) (words : List Text) (m : ArgMatches) → a ≡ uecp_app → HasMatchesOf a words m → subcommand_rows_of m ≡ subcommand_of uecp_app words
+met_of a words m is h = (subst (λ (x : App). HasMatchesOf x words m) is h simple_app).1
+
+pub faultless_of : (a : App) (words : List Text) → a ≡ uecp_app → (is_simple_and_free a ≡ true → fault_of a words ≡ []) → fault_of uecp_app words ≡ []
+faultless_of a words is h = subst (λ (x : App). is_simple_and_free x ≡ true → fault_of x words ≡ []) is h free_app
+
+pub faulty_of : (a : App) (words : List Text) (e : Error) → a ≡ uecp_app → (is_simple_and_free a ≡ true → HasKind (fault_of a words) e) → HasKind (fault_of uecp_app words) e
+faulty_of a words e is h = subst (λ (x : App). is_simple_and_free x ≡ true → HasKind (fault_of x words) e) is h free_app
+
+-- ---- the name and the rows of what was met
+both_met : {Z : Type 0} (o : Option (Box SubCommand Z)) (name : Text) (rows : List Row)
+    → Some name ≡ option_map (λ b. (out-SubCommand (box_value b)).name.now) o → Some rows ≡ option_map (λ p. p.1) (subcommand_rows o) → subcommand_rows o ≡ Some (name, rows)
+both_met None name rows e f = cc
+both_met (Some b) name rows e f = cc
+
+name_met : {Z : Type 0} (o : Option (Box SubCommand Z)) → option_map (λ b. (out-SubCommand (box_value b)).name.now) o ≡ option_map (λ p. p.0) (subcommand_rows o)
+name_met None = refl
+name_met (Some b) = refl
+
+pub none_named : {X : Type 0} (f : X → Text) (o : Option X) (name : Text) → o ≡ None → option_map f o ≡ Some name → ⊥
+none_named f None name is e = absurd (let none : None ≡ Some name = e in cc)
+none_named f (Some x) name is e = absurd (let some : Some x ≡ None = is in cc)
+
+-- ---- what the words ask for
+pub asks : (words : List Text) (m : ArgMatches) (name : Text) (rows : List Row) (job : Job) → Some name ≡ subcommand_name_of m → Some rows ≡ option_map (λ p. p.1) (subcommand_rows_of m)
+    → subcommand_rows_of m ≡ subcommand_of uecp_app words → fault_of uecp_app words ≡ [] → IsJobOf name rows job → Asks words job
+asks words m name rows job e f met none is = record {
+  faultless = none;
+  name = name;
+  rows = rows;
+  command = sym met ∙ both_met (out-ArgMatches m).subcommand name rows e f;
+  is_job = is;
+}
+
+pub asks_show : (words : List Text) (m : ArgMatches) (o : Option Text) → o ≡ subcommand_name_of m → subcommand_rows_of m ≡ subcommand_of uecp_app words → fault_of uecp_app words ≡ []
+    → (o ≡ Some (codes "answer") → ⊥) → (o ≡ Some (codes "line") → ⊥) → (o ≡ Some (codes "make") → ⊥) → Asks words Show
+asks_show words m o e met none no_answer no_line no_make =
+    let n = one_named words none in
+    let name : o ≡ Some n.0.0 = e ∙ name_met (out-ArgMatches m).subcommand ∙ ap (option_map (λ p. p.0)) (met ∙ n.1) in
+    let is_show : n.0.0 ≡ codes "show" = elim n.2 [
+      | inl is ↦ absurd (no_answer (name ∙ ap Some is))
+      | inr (inl is) ↦ is
+      | inr (inr (inl is)) ↦ absurd (no_make (name ∙ ap Some is))
+      | inr (inr (inr is)) ↦ absurd (no_line (name ∙ ap Some is))
+    ] in
+    record { faultless = none; name = n.0.0; rows = n.0.1; command = n.1; is_job = is_show }
+
+pub gives_no_list : (words : List Text) (m : ArgMatches) (name : Text) (rows : List Row) (why : Usage) → Some name ≡ subcommand_name_of m → Some rows ≡ option_map (λ p. p.1) (subcommand_rows_of m)
+    → subcommand_rows_of m ≡ subcommand_of uecp_app words → (name ≡ codes "answer") ⊎ (name ≡ codes "line") → RefusesList (services_text rows) why → RefusesWords words why
+gives_no_list words m name rows why e f met has_encoder refused = elim refused [
+  | inl is ↦ subst (RefusesWords words) (sym is) tt
+  | inr none ↦ subst (RefusesWords words) (sym none.0) (record {
+    name = name;
+    rows = rows;
+    command = sym met ∙ both_met (out-ArgMatches m).subcommand name rows e f;
+    has_encoder = has_encoder;
+    no_list = none.1;
+  })
+]
+
+says_why : (words : List Text) (e : Error) (why : Usage) → HasKind (fault_of uecp_app words) e → SaysError e why → RefusesWords words why
+says_why words e why kinds says = elim says [
+  | inl out ↦ subst (RefusesWords words) (sym out.1) tt
+  | inr is ↦ subst (RefusesWords words) (sym is.1) (elim kinds [ inl out ↦ absurd (is.0 out) | inr among ↦ among ])
+]
+
+pub refuses_words : (words : List Text) (e : Error) (r : Result Job Usage) → HasKind (fault_of uecp_app words) e → IsErrAnd r (SaysError e) → IfErr r (RefusesWords words)
+refuses_words words e (Ok job) kinds says = tt
+refuses_words words e (Err why) kinds says = says_why words e why kinds says
+
+-- the numbers of such a job are in their ranges
+pub is_in_range : (name : Text) (rows : List Row) (job : Job) → IsJobOf name rows job → IsInRange job
+is_in_range name rows (Answer site encoder sets services store) h =
+    let o = h.1 in (o.is_site.least, o.is_site.most, o.is_encoder.least, o.is_encoder.most, o.is_sets.least, o.is_sets.most)
+is_in_range name rows (Line site encoder sets services store) h =
+    let o = h.1 in (o.is_site.least, o.is_site.most, o.is_encoder.least, o.is_encoder.most, o.is_sets.least, o.is_sets.most)
+is_in_range name rows Show h = tt
+is_in_range name rows Make h = tt

@@ -1,0 +1,9 @@
+use Rattle.std.proofs.Common.{◌≡◌, codes, ap, ◌∙◌}
+use Rattle.clap.specs.Simple.{App, new_shape, shape_of, shape_of_fields}
+use Rattle.uecp_cli.proofs.command_line.answer_command.Goals as goal
+
+pub returns : goal.returns
+returns c =
+    let is_new : shape_of c.after_help.result ≡ new_shape (codes "answer") =
+    ap shape_of_fields c.after_help.ensures ∙ ap shape_of_fields c.about.ensures ∙ ap (λ (a : App). a.top) c.new.ensures.app in
+    c.with_encoder.ensures (codes "answer") is_new

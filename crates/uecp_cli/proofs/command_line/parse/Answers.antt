@@ -1,0 +1,89 @@
+use Rattle.std.proofs.Common.{rules, option_map, map, codes, subst, sym, inl, inr}
+use Rattle.std.specs.String.{string_bytes}
+use Rattle.std.proofs.lemmas.Result.{IfOk-weaker, IfErr-weaker}
+use Rattle.clap.specs.Words.{found_of, rows_of}
+use Rattle.uecp_cli.specs.declared.job.Job.TheVariants.{Make}
+use Rattle.uecp_cli.specs.CommandLine.{IsJobOf}
+use Rattle.uecp_cli.proofs.Asked.{asks, asks_show, faultless_of, faulty_of, gives_no_list, is_in_range, met_of, none_named, refuses_words}
+use Rattle.uecp_cli.proofs.command_line.parse.Goals as goal
+
+pub returns-in_err-matches-clause-refused : goal.returns-in_err-matches-clause-refused
+returns-in_err-matches-clause-refused c =
+    let words = map string_bytes c.args.words.now in
+    let error = c.in_err-matches.field-0.0 in
+    refuses_words words error c.from_residual-in_err-matches.result
+    (faulty_of _ words error c.in_ok-program.ensures c.in_err-matches.ensures.kinds) c.from_residual-in_err-matches.ensures.1
+
+pub returns-in-Some-answer-default-clause-range : goal.returns-in-Some-answer-default-clause-range
+returns-in-Some-answer-default-clause-range c =
+    IfOk-weaker c.answer_of.result _ _ (λ job is. is_in_range _ _ job is) c.answer_of.ensures.job
+
+pub returns-in-Some-line-default-clause-range : goal.returns-in-Some-line-default-clause-range
+returns-in-Some-line-default-clause-range c =
+    IfOk-weaker c.line_of.result _ _ (λ job is. is_in_range _ _ job is) c.line_of.ensures.job
+
+pub returns-in-Some-answer-default-clause-asked : goal.returns-in-Some-answer-default-clause-asked
+returns-in-Some-answer-default-clause-asked c =
+    let words = map string_bytes c.args.words.now in
+    let now = c.in-Some-answer-default in
+    let rows = rows_of (found_of now.found.now) in
+    let met = met_of _ words c.in_ok-matches.matches c.in_ok-program.ensures c.in_ok-matches.ensures.matches in
+    let none = faultless_of _ words c.in_ok-program.ensures c.in_ok-matches.ensures.kinds in
+    IfOk-weaker c.answer_of.result _ _
+    (λ job is. asks words c.in_ok-matches.matches now.field-0-0.now rows job now.ensures.name now.ensures.rows met none (subst (λ name. IsJobOf name rows job) (sym now.is-answer) is))
+    c.answer_of.ensures.job
+
+pub returns-in-Some-answer-default-clause-refused : goal.returns-in-Some-answer-default-clause-refused
+returns-in-Some-answer-default-clause-refused c =
+    let words = map string_bytes c.args.words.now in
+    let now = c.in-Some-answer-default in
+    let rows = rows_of (found_of now.found.now) in
+    let met = met_of _ words c.in_ok-matches.matches c.in_ok-program.ensures c.in_ok-matches.ensures.matches in
+    IfErr-weaker c.answer_of.result _ _
+    (λ why no. gives_no_list words c.in_ok-matches.matches now.field-0-0.now rows why now.ensures.name now.ensures.rows met (inl now.is-answer) no)
+    c.answer_of.ensures.refused
+
+pub returns-in-Some-line-default-clause-asked : goal.returns-in-Some-line-default-clause-asked
+returns-in-Some-line-default-clause-asked c =
+    let words = map string_bytes c.args.words.now in
+    let now = c.in-Some-line-default in
+    let rows = rows_of (found_of now.found.now) in
+    let met = met_of _ words c.in_ok-matches.matches c.in_ok-program.ensures c.in_ok-matches.ensures.matches in
+    let none = faultless_of _ words c.in_ok-program.ensures c.in_ok-matches.ensures.kinds in
+    IfOk-weaker c.line_of.result _ _
+    (λ job is. asks words c.in_ok-matches.matches now.field-0-0.now rows job now.ensures.name now.ensures.rows met none (subst (λ name. IsJobOf name rows job) (sym now.is-line) is))
+    c.line_of.ensures.job
+
+pub returns-in-Some-line-default-clause-refused : goal.returns-in-Some-line-default-clause-refused
+returns-in-Some-line-default-clause-refused c =
+    let words = map string_bytes c.args.words.now in
+    let now = c.in-Some-line-default in
+    let rows = rows_of (found_of now.found.now) in
+    let met = met_of _ words c.in_ok-matches.matches c.in_ok-program.ensures c.in_ok-matches.ensures.matches in
+    IfErr-weaker c.line_of.result _ _
+    (λ why no. gives_no_list words c.in_ok-matches.matches now.field-0-0.now rows why now.ensures.name now.ensures.rows met (inr now.is-line) no)
+    c.line_of.ensures.refused
+
+pub returns-in-Some-make-default-clause-asked : goal.returns-in-Some-make-default-clause-asked
+returns-in-Some-make-default-clause-asked c =
+    let words = map string_bytes c.args.words.now in
+    let now = c.in-Some-make-default in
+    let rows = rows_of (found_of now.field-0-1.now) in
+    let met = met_of _ words c.in_ok-matches.matches c.in_ok-program.ensures c.in_ok-matches.ensures.matches in
+    let none = faultless_of _ words c.in_ok-program.ensures c.in_ok-matches.ensures.kinds in
+    asks words c.in_ok-matches.matches now.field-0-0.now rows Make now.ensures.name now.ensures.rows met none now.is-make
+
+pub returns-clause-asked : goal.returns-clause-asked
+returns-clause-asked c =
+    let words = map string_bytes c.args.words.now in
+    let met = met_of _ words c.in_ok-matches.matches c.in_ok-program.ensures c.in_ok-matches.ensures.matches in
+    let none = faultless_of _ words c.in_ok-program.ensures c.in_ok-matches.ensures.kinds in
+    let name = option_map (λ p. p.0.now) c.subcommand.result in
+    elim c.in_default.branch [
+      | goal.in_default-via-in-Some+in_default w ↦
+          asks_show words c.in_ok-matches.matches name c.subcommand.ensures.name met none
+          (λ e. search rules) (λ e. search rules) (λ e. search rules)
+      | goal.in_default-via-in_default w ↦
+          asks_show words c.in_ok-matches.matches name c.subcommand.ensures.name met none
+          (none_named _ c.subcommand.result (codes "answer") w.in_default.is) (none_named _ c.subcommand.result (codes "line") w.in_default.is) (none_named _ c.subcommand.result (codes "make") w.in_default.is)
+    ]

@@ -1,0 +1,16 @@
+use Rattle.std.proofs.Common.{refl, ap, ◌∙◌, true}
+use Rattle.std.proofs.lemmas.Result.{IfOk-weaker}
+use Rattle.clap.specs.Simple.{Shape, app_of_fields, on_top}
+use Rattle.uecp_cli.proofs.Apps.{sub_added}
+use Rattle.uecp_cli.proofs.command_line.program.Goals as goal
+
+pub returns : goal.returns
+returns c =
+    let named = ap app_of_fields c.in_ok-bin_name.ensures.0 ∙ c.new.ensures.app in
+    let versioned = ap app_of_fields c.version.ensures ∙ ap (on_top (λ (s : Shape). record s { has_version = true })) named in
+    let told = ap app_of_fields c.after_help.ensures ∙ ap app_of_fields c.about.ensures ∙ versioned in
+    let top = ap app_of_fields c.subcommand_required.ensures ∙ ap (on_top (λ (s : Shape). record s { subcommand_required = true })) told in
+    let one = sub_added _ _ _ _ _ c.in_ok-subcommand.ensures refl top c.in_ok-answer_command.ensures in
+    let two = sub_added _ _ _ _ _ c.in_ok-subcommand-2.ensures refl one c.show_command.ensures in
+    let three = sub_added _ _ _ _ _ c.in_ok-subcommand-3.ensures refl two c.make_command.ensures in
+    IfOk-weaker c.subcommand-4.result _ _ (λ whole added. sub_added _ _ whole _ _ added refl three c.in_ok-line_command.ensures) c.subcommand-4.ensures
