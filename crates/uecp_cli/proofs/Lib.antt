@@ -15,3 +15,4 @@ pub mod Options
 pub mod Apps
 pub mod Asked
 pub mod Helps
+pub mod Examples
