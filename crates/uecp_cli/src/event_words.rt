@@ -1,8 +1,9 @@
 //! Events out of the words of an event script (profile).
-ghost use Rattle.std.specs.Prelude.{◌≡◌, ℕ, List, [], ◌∷◌, ◌⊎◌, codes, map, true, false, IfOk, IfErr};
+ghost use Rattle.std.specs.Prelude.{◌≡◌, ℕ, List, [], ◌∷◌, ◌⊎◌, codes, true, false, IfOk, IfErr};
 ghost use Rattle.std.specs.List.{list_all};
 ghost use Rattle.uecp_link.specs.declared.event.Side.{Side as End};
 ghost use Rattle.uecp_cli.specs.declared.line_fault.LineFault.TheVariants.{NotACommand, OutOfMemory};
+ghost use Rattle.uecp_cli.specs.Words.{texts};
 ghost use Rattle.uecp_cli.specs.EventWords.{Names, IsFaultOf, IsPlace, is_cut, TellsMessage, end_word, noise_to, name_of, event_seen};
 
 use crate::line_fault::LineFault;
@@ -31,8 +32,8 @@ pub enum EventLine {
 
 /// Reads the words of a line.
 pub fn event_of(alloc: Global, words: &[&[u8]]) -> Result<EventLine, LineFault>
-    ensures named { IfOk result (λ e. Names (map (λ w. w.now) words.now) (event_seen e)) }
-    ensures refused { IfErr result (λ e. IsFaultOf (map (λ w. w.now) words.now) e) }
+    ensures named { IfOk result (λ e. Names (texts words.now) (event_seen e)) }
+    ensures refused { IfErr result (λ e. IsFaultOf (texts words.now) e) }
 {
     match words {
         [name, others @ ..] => event_named(alloc, name, others),
@@ -42,8 +43,8 @@ pub fn event_of(alloc: Global, words: &[&[u8]]) -> Result<EventLine, LineFault>
 
 /// The event of that name, which the other words tell.
 fn event_named(alloc: Global, name: &[u8], words: &[&[u8]]) -> Result<EventLine, LineFault>
-    ensures named { IfOk result (λ e. Names (name.now ∷ map (λ w. w.now) words.now) (event_seen e)) }
-    ensures refused { IfErr result (λ e. IsFaultOf (name.now ∷ map (λ w. w.now) words.now) e) }
+    ensures named { IfOk result (λ e. Names (name.now ∷ texts words.now) (event_seen e)) }
+    ensures refused { IfErr result (λ e. IsFaultOf (name.now ∷ texts words.now) e) }
 {
     if name == b"submit".as_slice() {
         submit_of(alloc, words)
@@ -64,8 +65,8 @@ fn event_named(alloc: Global, name: &[u8], words: &[&[u8]]) -> Result<EventLine,
 
 /// A submission of the message that the words tell.
 fn submit_of(alloc: Global, words: &[&[u8]]) -> Result<EventLine, LineFault>
-    ensures named { IfOk result (λ e. Names (codes "submit" ∷ map (λ w. w.now) words.now) (event_seen e)) }
-    ensures refused { IfErr result (λ e. IsFaultOf (codes "submit" ∷ map (λ w. w.now) words.now) e) }
+    ensures named { IfOk result (λ e. Names (codes "submit" ∷ texts words.now) (event_seen e)) }
+    ensures refused { IfErr result (λ e. IsFaultOf (codes "submit" ∷ texts words.now) e) }
 {
     match words {
         [word] => {
@@ -78,8 +79,8 @@ fn submit_of(alloc: Global, words: &[&[u8]]) -> Result<EventLine, LineFault>
 
 /// The frame of the message that the words tell.
 fn frame_of(alloc: Global, words: &[&[u8]]) -> Result<EventLine, LineFault>
-    ensures named { IfOk result (λ e. Names (codes "frame" ∷ map (λ w. w.now) words.now) (event_seen e)) }
-    ensures refused { IfErr result (λ e. IsFaultOf (codes "frame" ∷ map (λ w. w.now) words.now) e) }
+    ensures named { IfOk result (λ e. Names (codes "frame" ∷ texts words.now) (event_seen e)) }
+    ensures refused { IfErr result (λ e. IsFaultOf (codes "frame" ∷ texts words.now) e) }
 {
     let (place, cut) = place_and_cut(alloc, words)?;
     Ok(EventLine::Frame(place, cut))
@@ -87,8 +88,8 @@ fn frame_of(alloc: Global, words: &[&[u8]]) -> Result<EventLine, LineFault>
 
 /// The reply to the message that the words tell.
 fn reply_of(alloc: Global, words: &[&[u8]]) -> Result<EventLine, LineFault>
-    ensures named { IfOk result (λ e. Names (codes "reply" ∷ map (λ w. w.now) words.now) (event_seen e)) }
-    ensures refused { IfErr result (λ e. IsFaultOf (codes "reply" ∷ map (λ w. w.now) words.now) e) }
+    ensures named { IfOk result (λ e. Names (codes "reply" ∷ texts words.now) (event_seen e)) }
+    ensures refused { IfErr result (λ e. IsFaultOf (codes "reply" ∷ texts words.now) e) }
 {
     let (place, cut) = place_and_cut(alloc, words)?;
     Ok(EventLine::Reply(place, cut))
@@ -96,8 +97,8 @@ fn reply_of(alloc: Global, words: &[&[u8]]) -> Result<EventLine, LineFault>
 
 /// The number of a message and any cuts.
 fn place_and_cut(alloc: Global, words: &[&[u8]]) -> Result<(usize, Vec<u16>), LineFault>
-    ensures told { IfOk result (λ told. TellsMessage (map (λ w. w.now) words.now) told.0) }
-    ensures refused { IfErr result (λ e. (e ≡ OutOfMemory) ⊎ ((e ≡ NotACommand) × ((place : ℕ) → TellsMessage (map (λ w. w.now) words.now) place → ⊥))) }
+    ensures told { IfOk result (λ told. TellsMessage (texts words.now) told.0) }
+    ensures refused { IfErr result (λ e. (e ≡ OutOfMemory) ⊎ ((e ≡ NotACommand) × ((place : ℕ) → TellsMessage (texts words.now) place → ⊥))) }
 {
     match words {
         [number, cut @ ..] => Ok((place_of(number)?, cut_of(alloc, cut)?)),
@@ -107,8 +108,8 @@ fn place_and_cut(alloc: Global, words: &[&[u8]]) -> Result<(usize, Vec<u16>), Li
 
 /// Noise towards that end, of the bytes that the words tell.
 fn noise_of(alloc: Global, side: Side, words: &[&[u8]]) -> Result<EventLine, LineFault>
-    ensures named { IfOk result (λ e. Names (name_of (noise_to side []) ∷ map (λ w. w.now) words.now) (event_seen e)) }
-    ensures refused { IfErr result (λ e. IsFaultOf (name_of (noise_to side []) ∷ map (λ w. w.now) words.now) e) }
+    ensures named { IfOk result (λ e. Names (name_of (noise_to side []) ∷ texts words.now) (event_seen e)) }
+    ensures refused { IfErr result (λ e. IsFaultOf (name_of (noise_to side []) ∷ texts words.now) e) }
 {
     match words {
         [word] => Ok(EventLine::Noise(side, bytes_of(alloc, word, LineFault::NotACommand)?)),
@@ -118,8 +119,8 @@ fn noise_of(alloc: Global, side: Side, words: &[&[u8]]) -> Result<EventLine, Lin
 
 /// The loss of the line at the end that the words tell.
 fn loss_of(words: &[&[u8]]) -> Result<EventLine, LineFault>
-    ensures named { IfOk result (λ e. Names (codes "line-lost" ∷ map (λ w. w.now) words.now) (event_seen e)) }
-    ensures refused { IfErr result (λ e. IsFaultOf (codes "line-lost" ∷ map (λ w. w.now) words.now) e) }
+    ensures named { IfOk result (λ e. Names (codes "line-lost" ∷ texts words.now) (event_seen e)) }
+    ensures refused { IfErr result (λ e. IsFaultOf (codes "line-lost" ∷ texts words.now) e) }
 {
     match words {
         [word] => Ok(EventLine::LineLost(end_of(word)?)),
@@ -157,8 +158,8 @@ fn place_of(word: &[u8]) -> Result<usize, LineFault>
 
 /// The lengths of pieces, each 0 to 65535.
 fn cut_of(alloc: Global, words: &[&[u8]]) -> Result<Vec<u16>, LineFault>
-    ensures cuts { IfOk result (λ cut. list_all is_cut (map (λ w. w.now) words.now) ≡ true) }
-    ensures refused { IfErr result (λ e. (e ≡ OutOfMemory) ⊎ ((e ≡ NotACommand) × (list_all is_cut (map (λ w. w.now) words.now) ≡ false))) }
+    ensures cuts { IfOk result (λ cut. list_all is_cut (texts words.now) ≡ true) }
+    ensures refused { IfErr result (λ e. (e ≡ OutOfMemory) ⊎ ((e ≡ NotACommand) × (list_all is_cut (texts words.now) ≡ false))) }
 {
     let mut cut = Vec::new(alloc);
     for word in words {

@@ -1,8 +1,9 @@
 //! Words of a line, and the numbers and bytes that they spell (profile).
-ghost use Rattle.std.specs.Prelude.{◌≡◌, ◌≤◌, ◌<◌, ◌==◌, ◌⊎◌, ℕ, List, [], ◌∷◌, length, not, filter, Ok, IfOk, IfErr, IfSome, IfNone, IsErr};
+ghost use Rattle.std.specs.Prelude.{◌≡◌, ◌≤◌, ◌<◌, ◌⊎◌, ℕ, List, [], ◌∷◌, length, Ok, IfOk, IfErr, IfSome, IfNone, IsErr};
 ghost use Rattle.hex.specs.Hex.{decode_of, decode_sized};
 ghost use Rattle.uecp_frame.specs.Frame.{high_first};
 ghost use Rattle.uecp_cli.specs.declared.line_fault.LineFault.TheVariants.{NotHex, NotACommand, MessageTooLong, OutOfMemory};
+ghost use Rattle.uecp_cli.specs.Commands.{bytes_in};
 ghost use Rattle.uecp_cli.specs.Words.{words, texts, decimal_in, IsRow};
 
 use crate::line_fault::LineFault;
@@ -20,8 +21,8 @@ pub fn words_of(alloc: Global, text: &[u8]) -> Result<Vec<&[u8]>, AllocError>
 
 /// The bytes of a text of hexadecimal digits, its spaces taken out; `NotHex` where it has anything else.
 pub fn piece_of(alloc: Global, text: &[u8]) -> Result<Vec<u8>, LineFault>
-    ensures piece { IfOk result (λ p. decode_of (filter (λ b. not (b == 32)) text.now) ≡ Ok p.items) }
-    ensures refused { IfErr result (λ e. (e ≡ OutOfMemory) ⊎ ((e ≡ NotHex) × IsErr (decode_of (filter (λ b. not (b == 32)) text.now)))) }
+    ensures piece { IfOk result (λ p. bytes_in text.now ≡ Ok p.items) }
+    ensures refused { IfErr result (λ e. (e ≡ OutOfMemory) ⊎ ((e ≡ NotHex) × IsErr (bytes_in text.now))) }
 {
     let digits: Vec<u8> = text
         .iter()
