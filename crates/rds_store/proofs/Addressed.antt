@@ -9,7 +9,7 @@ use Rattle.rds_store.specs.Names.{address, is_dsn, service_of, names_set}
 use Rattle.rds_store.specs.Content.{taken}
 use Rattle.rds_store.specs.Refusals.{is_out_of_range, adds_text, has_full_set, code_of}
 use Rattle.rds_store.specs.Put.{stored, stored_at, stored_on, put, change_where}
-use Rattle.rds_store.specs.Rows.{at_service}
+use Rattle.rds_store.specs.Kept.{at_service}
 
 -- its code, by its DSN and PSN
 abbrev pub code_at : Store → Element → (ℕ × ℕ) → Code
@@ -70,7 +70,7 @@ module _ (v : Store) (e : Element) (d p : ℕ) (h : address e ≡ Some (d, p)) w
     pub put-stored : is_out_of_range e ≡ false → (adds_text e && has_full_set v d n) ≡ false → put v e ≡ (stored_at v e (d, p), Applied)
     put-stored r f = by_code Applied (addressed_code v e (d, p) h ∙ rw (a, b, r, f) refl) ∙ ap (λ w. (w, Applied)) (addressed_stored v e (d, p) h)
 
-    -- in the words of the rows
+    -- in the words of one service
     pub put-changed : is_out_of_range e ≡ false → (adds_text e && has_full_set v d n) ≡ false
         → put v e ≡ (record v { places = change_where (at_service (names_set d v.current) n) (taken e) v.places }, Applied)
     put-changed r f = put-stored r f ∙ ap (λ o. (named_change o, Applied)) b

@@ -113,10 +113,10 @@ not_here = refl
 abbrev group_element : (mode : ℕ) → Element
 group_element mode = Group 0x00 mode 0x1234 0x5678
 
-abbrev group_told : WaitingGroup
-group_told = record { kind = 0x00; bits = 0x03; block3 = 0x1234; block4 = 0x5678 }
+abbrev waiting_group : WaitingGroup
+waiting_group = record { kind = 0x00; bits = 0x03; block3 = 0x1234; block4 = 0x5678 }
 
-one_group : (after one_set (group_element 0x43 ∷ [])).groups ≡ group_told ∷ []
+one_group : (after one_set (group_element 0x43 ∷ [])).groups ≡ waiting_group ∷ []
 one_group = refl
 
 full_queue : code_after one_set (replicate 32 (group_element 0x43)) (group_element 0x43) ≡ BufferFull
@@ -125,7 +125,7 @@ full_queue = refl
 range_before_room : code_after one_set (replicate 32 (group_element 0x43)) (Group 0x20 0x40 0x0000 0x0000) ≡ OutOfRange
 range_before_room = refl
 
-one_group_again : (after one_set (replicate 32 (group_element 0x43) ++ group_element 0x03 ∷ [])).groups ≡ group_told ∷ []
+one_group_again : (after one_set (replicate 32 (group_element 0x43) ++ group_element 0x03 ∷ [])).groups ≡ waiting_group ∷ []
 one_group_again = refl
 
 -- messages

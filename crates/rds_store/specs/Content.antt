@@ -17,8 +17,8 @@ abbrev pub buffered : {A : Type 0} → (byte : ℕ) → (old : List A) → (new 
 buffered byte old new = if adds byte then old ++ new ∷ [] else new ∷ []
 
 -- The first byte of a RadioText has the toggle in bit 0 and the number of transmissions in bits 4 to 1. (SPB 490, RadioText; bits: profile)
-abbrev pub text_told : (head : ℕ) → (bytes : List ℕ) → StoredText
-text_told head bytes = record { toggle = bit_0 head; transmissions = bits_4_to_1 head; bytes = bytes }
+abbrev pub radio_text : (head : ℕ) → (bytes : List ℕ) → StoredText
+radio_text head bytes = record { toggle = bit_0 head; transmissions = bits_4_to_1 head; bytes = bytes }
 
 -- What a service has once it took the element: PI, PS, TA in bit 0 and TP in bit 1, music in bit 0, PTY, or its texts.
 -- (SPB 490, elements PI, PS, TA/TP, MS, PTY and RadioText; bits and buffer rules: profile)
@@ -29,7 +29,7 @@ taken (TaTp dsn psn raw) s = record s { ta = bit_0 raw; tp = bit_1 raw }
 taken (Ms dsn psn raw) s = record s { music = bit_0 raw }
 taken (Pty dsn psn raw) s = record s { pty = raw }
 taken (Rt dsn psn NoText) s = record s { texts = [] }
-taken (Rt dsn psn (Text head bytes)) s = record s { texts = buffered head s.texts (text_told head bytes) }
+taken (Rt dsn psn (Text head bytes)) s = record s { texts = buffered head s.texts (radio_text head bytes) }
 taken (Select dsn) s = s
 taken (Group kind mode block3 block4) s = s
 taken (Ack c counter) s = s

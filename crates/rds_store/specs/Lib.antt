@@ -8,7 +8,7 @@ pub mod Put
 pub mod Step
 pub mod Opening
 pub mod Fault
-pub mod Rows
+pub mod Kept
 pub mod Laws
 pub use Rattle.uecp_elements.specs.Grammar
 pub use Rattle.uecp_elements.specs.View

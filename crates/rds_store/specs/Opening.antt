@@ -23,9 +23,9 @@ opening sets services = record {
 }
 
 -- A number stands twice in the list.
-abbrev pub has_twice : List ℕ → Bool
-has_twice [] = false
-has_twice (x ∷ xs) = list_any (λ y. x == y) xs || has_twice xs
+abbrev pub has_duplicate : List ℕ → Bool
+has_duplicate [] = false
+has_duplicate (x ∷ xs) = list_any (λ y. x == y) xs || has_duplicate xs
 
 -- The first that holds: not 1 to 8 sets, not 1 to 8 services, a service 00, a service that is listed twice. (profile)
 abbrev pub fault_of : (sets : ℕ) → (services : List ℕ) → Option StoreFault
@@ -33,5 +33,5 @@ fault_of sets services =
     if sets == 0 || nat_lt 8 sets then Some SetCount
     else if length services == 0 || nat_lt 8 (length services) then Some ServiceCount
     else if list_any (λ s. s == 0x00) services then Some ServiceZero
-    else if has_twice services then Some ServiceTwice
+    else if has_duplicate services then Some ServiceTwice
     else None

@@ -1,5 +1,5 @@
 -- What a store is, apart from how it is kept.
-use Rattle.std.specs.Prelude.{ℕ, Bool, List, refl}
+use Rattle.std.specs.Prelude.{ℕ, ◌≤◌, Bool, List, refl}
 use Rattle.std.specs.Ordering.{nat_cmp, ordering_then}
 use Rattle.std.specs.declared.cmp.Ordering.{Ordering}
 use Rattle.std.specs.FinMap as map
@@ -37,6 +37,11 @@ pub record Store : Type 0 where
   pub current : ℕ
   pub places : Data
   pub groups : List Group
+
+-- What a group of a store is: its type and version are 00 to 1F, and so are the last bits of its block 2. (SPB 490, free-format group)
+pub record IsGroup (group : Group) : Type 0 where
+  pub kind : group.kind ≤ 0x1F
+  pub bits : group.bits ≤ 0x1F
 
 -- ---- How these values are told apart (for the models).
 -- Texts are the same where their three parts are.

@@ -11,11 +11,11 @@
 
 mod fault;
 mod group;
+mod in_sets;
 pub mod laws;
-mod named;
+mod named_sets;
 mod opening;
 mod putting;
-mod row;
 mod rules;
 mod service;
 mod store;

@@ -1,19 +1,19 @@
-//! The opening store: what is asked of its sets and services, and its rows. Source: profile.
+//! The opening store: what is asked of its sets and services, and these at the start. Source: profile.
 ghost use Rattle.std.specs.Prelude.{◌≡◌, ◌≤◌, map, replicate, IfOk, false};
 ghost use Rattle.rds_store.specs.Content.{opening_service};
-ghost use Rattle.rds_store.specs.Opening.{fault_of, has_twice};
+ghost use Rattle.rds_store.specs.Opening.{fault_of, has_duplicate};
 
 use crate::fault::StoreFault;
-use crate::row::Row;
+use crate::in_sets::ServiceInSets;
 use indexmap::IndexMap;
 use std::alloc::{AllocError, Global};
 
-fn has_twice(numbers: &[u8]) -> bool
-    ensures { result ≡ has_twice numbers.now }
+fn has_duplicate(numbers: &[u8]) -> bool
+    ensures { result ≡ has_duplicate numbers.now }
 {
     match numbers {
         [] => false,
-        [first, rest @ ..] => rest.contains(first) || has_twice(rest),
+        [first, rest @ ..] => rest.contains(first) || has_duplicate(rest),
     }
 }
 
@@ -30,26 +30,26 @@ pub(crate) fn fault_of(sets: u8, services: &[u8]) -> Option<StoreFault>
     if services.contains(&0) {
         return Some(StoreFault::ServiceZero);
     }
-    if has_twice(services) {
+    if has_duplicate(services) {
         return Some(StoreFault::ServiceTwice);
     }
     None
 }
 
-/// A row for each service, in their order.
-pub(crate) fn opening_rows(
+/// Each service with its number, new in each of the sets, in their order.
+pub(crate) fn opening_services(
     alloc: Global,
     sets: u8,
     services: &[u8],
-) -> Result<IndexMap<u8, Row>, AllocError>
+) -> Result<IndexMap<u8, ServiceInSets>, AllocError>
     requires few { sets ≤ 8 }
-    requires once { has_twice services.now ≡ false }
+    requires once { has_duplicate services.now ≡ false }
     ensures { IfOk result (λ m. m.entries ≡ map (λ n. (n, replicate sets opening_service)) services.now) }
 {
-    let mut rows = IndexMap::with_capacity(alloc, services.len())?;
+    let mut opened = IndexMap::with_capacity(alloc, services.len())?;
     for number in services {
-        let row = Row::new(alloc, sets)?;
-        rows.insert(*number, row)?;
+        let service = ServiceInSets::new(alloc, sets)?;
+        opened.insert(*number, service)?;
     }
-    Ok(rows)
+    Ok(opened)
 }

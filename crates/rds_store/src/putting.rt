@@ -5,13 +5,13 @@ ghost use Rattle.uecp_elements.specs.Grammar as grammar;
 ghost use Rattle.uecp_elements.specs.View.{element_of};
 ghost use Rattle.rds_store.specs.Names.{address, names_set, is_dsn, service_of};
 ghost use Rattle.rds_store.specs.Content.{taken};
-ghost use Rattle.rds_store.specs.Refusals.{adds_text, has_full_set};
+ghost use Rattle.rds_store.specs.Refusals.{is_out_of_range, adds_text, has_full_set};
 ghost use Rattle.rds_store.specs.Put.{change_where, put};
-ghost use Rattle.rds_store.specs.Rows.{at_service};
+ghost use Rattle.rds_store.specs.Kept.{at_service};
 
 use crate::group::Group;
-use crate::named::Named;
-use crate::row::change_row;
+use crate::in_sets::change_service;
+use crate::named_sets::NamedSets;
 use crate::rules::{adds, adds_text, is_out_of_range, is_wrong_rule};
 use crate::store::RdsStore;
 use uecp_elements::{Code, Element};
@@ -41,12 +41,12 @@ impl RdsStore {
     fn has_full_set(&self, dsn: u8, number: u8) -> bool
         ensures { result ≡ has_full_set self.now dsn number }
     {
-        let named = Named {
+        let named = NamedSets {
             dsn,
             current: self.current,
         };
         match self.services.get(&number) {
-            Some(row) => row.is_full(named),
+            Some(service) => service.is_full(named),
             None => false,
         }
     }
@@ -54,16 +54,17 @@ impl RdsStore {
     /// The service takes the element's content in each set that a DSN names.
     fn change(&mut self, dsn: u8, number: u8, element: &Element<'_>)
         requires short { grammar.IsElement (element_of element.now) }
+        requires in_range { is_out_of_range (element_of element.now) ≡ false }
         requires room { (adds_text (element_of element.now) && has_full_set self.old dsn number) ≡ false }
         ensures { self.new ≡ record self.old {
           places = change_where (at_service (names_set dsn self.old.current) number) (taken (element_of element.now)) self.old.places;
         } }
     {
-        let named = Named {
+        let named = NamedSets {
             dsn,
             current: self.current,
         };
-        change_row(&mut self.services, number, named, element);
+        change_service(&mut self.services, number, named, element);
     }
 
     /// Puts an element that has this DSN and PSN.
@@ -126,8 +127,11 @@ impl RdsStore {
         Code::Applied
     }
 
-    /// Puts one element.
-    pub(crate) fn put(&mut self, element: &Element<'_>) -> Code
+    /// Puts one element, whole or not at all, and answers its code.
+    ///
+    /// The refusals are asked in the order 09, 04, 05, 06, 0B, also where the DSN names no set. After a code but 00
+    /// nothing has changed. A text of the element has at most 64 bytes.
+    pub fn apply_element(&mut self, element: &Element<'_>) -> Code
         requires { grammar.IsElement (element_of element.now) }
         ensures { (self.new, result) ≡ put self.old (element_of element.now) }
     {

@@ -4,8 +4,8 @@ ghost use Rattle.std.specs.Prelude.{◌≡◌, ◌≤◌, ◌<◌, ◌/◌, ◌%
 ghost use Rattle.uecp_elements.specs.Grammar as grammar;
 ghost use Rattle.uecp_elements.specs.View.{element_of};
 ghost use Rattle.rds_store.specs.Bits.{bit_0, bit_1};
-ghost use Rattle.rds_store.specs.Content.{opening_service, taken, text_told, adds, buffered};
-ghost use Rattle.rds_store.specs.Refusals.{adds_text};
+ghost use Rattle.rds_store.specs.Content.{opening_service, taken, radio_text, adds, buffered};
+ghost use Rattle.rds_store.specs.Refusals.{is_out_of_range, adds_text};
 
 use crate::rules::adds;
 use crate::text::RadioText;
@@ -33,6 +33,7 @@ pub struct Service {
 }
 
 impl Model for Service {
+    ghost use Rattle.std.specs.Prelude.{◌≤◌, length};
     ghost use Rattle.rds_store.specs.Value.{ServiceData, coded_service};
 
     ghost Value = { ServiceData };
@@ -40,6 +41,8 @@ impl Model for Service {
     ghost coded = { coded_service };
 
     ghost view = { λ s. record { pi = s.pi; ps = s.ps; tp = s.tp; ta = s.ta; music = s.music; pty = s.pty; texts = s.texts.items } };
+
+    ghost invariant = { λ s. (s.pty ≤ 0x1F) × (length s.texts.items ≤ 8) };
 }
 
 impl Service {
@@ -95,14 +98,16 @@ impl Service {
 
     /// The programme type, 00 to 1F.
     pub fn pty(&self) -> u8
-        ensures { result ≡ self.now.pty }
+        ensures value { result ≡ self.now.pty }
+        ensures at_most { result ≤ 0x1F }
     {
         self.pty
     }
 
     /// The texts, at most eight, oldest first.
     pub fn texts(&self) -> &[RadioText]
-        ensures { result.now ≡ self.now.texts }
+        ensures value { result.now ≡ self.now.texts }
+        ensures at_most { length result.now ≤ 8 }
     {
         self.texts.as_slice()
     }
@@ -117,6 +122,7 @@ impl Service {
     /// Takes the content of an element that names this service and was not refused.
     pub(crate) fn take(&mut self, element: &Element<'_>)
         requires short { grammar.IsElement (element_of element.now) }
+        requires in_range { is_out_of_range (element_of element.now) ≡ false }
         requires room { IsTrue (adds_text (element_of element.now)) → (length self.old.texts == 8) ≡ false }
         ensures { self.new ≡ taken (element_of element.now) self.old }
     {
@@ -145,7 +151,7 @@ impl Service {
     fn take_text(&mut self, head: u8, bytes: &[u8])
         requires short { length bytes.now ≤ 64 }
         requires room { IsTrue (adds head) → (length self.old.texts == 8) ≡ false }
-        ensures { self.new ≡ record self.old { texts = buffered head self.old.texts (text_told head bytes.now) } }
+        ensures { self.new ≡ record self.old { texts = buffered head self.old.texts (radio_text head bytes.now) } }
     {
         if !adds(head) {
             self.texts.clear();

@@ -1,24 +1,22 @@
 //! The store. Source: RDS Forum SPB 490 for data sets and programme services, profile for the limits.
-ghost use Rattle.std.specs.Prelude.{◌≡◌, ◌==◌, ◌&&◌, nat_le, is_some, false, ◌<◌, ◌≤◌, IfSome, length, slice_get, IfOk, IfErr, unwrap_or, None};
+ghost use Rattle.std.specs.Prelude.{◌≡◌, ◌==◌, All, ◌&&◌, nat_le, is_some, false, ◌<◌, ◌≤◌, IfSome, length, slice_get, IfOk, IfErr, unwrap_or, None};
 ghost use Rattle.std.specs.Option.{option_copied};
 ghost use Rattle.std.specs.List.{list_any};
 ghost use Rattle.std.specs.FinMap.{get};
-ghost use Rattle.uecp_elements.specs.Grammar as grammar;
-ghost use Rattle.uecp_elements.specs.View.{element_of};
-ghost use Rattle.rds_store.specs.Put.{put};
+ghost use Rattle.rds_store.specs.Value.{IsGroup};
 ghost use Rattle.rds_store.specs.Step.{step};
 ghost use Rattle.rds_store.specs.Opening.{opening, fault_of};
 
 use crate::fault::StoreFault;
 use crate::group::Group;
-use crate::opening::{fault_of, opening_rows};
-use crate::row::Row;
+use crate::in_sets::ServiceInSets;
+use crate::opening::{fault_of, opening_services};
 use crate::service::Service;
 use arrayvec::ArrayVec;
 use indexmap::IndexMap;
 use std::alloc::{AllocError, Global};
 use std::marker::Model;
-use uecp_elements::{Code, Element, elements};
+use uecp_elements::{Code, elements};
 
 /// Data sets with the same services each, and one queue of groups.
 ///
@@ -30,8 +28,8 @@ pub struct RdsStore {
     pub(crate) sets: u8,
     /// The current data set, counted from 1.
     pub(crate) current: u8,
-    /// A row for each service, in configured order.
-    pub(crate) services: IndexMap<u8, Row>,
+    /// Each service by its number, in configured order.
+    pub(crate) services: IndexMap<u8, ServiceInSets>,
     /// The groups that wait, first to go out first.
     pub(crate) groups: ArrayVec<Group, 32>,
 }
@@ -40,15 +38,15 @@ impl Model for RdsStore {
     ghost use Rattle.indexmap.specs.IndexMap.{keys};
     ghost use Rattle.std.specs.FinMap.{from_entries};
     ghost use Rattle.rds_store.specs.Value.{Store, coded_store};
-    ghost use Rattle.rds_store.specs.Rows.{placed, HasShape};
+    ghost use Rattle.rds_store.specs.Kept.{all_places, IsKept};
 
     ghost Value = { Store };
 
     ghost coded = { coded_store };
 
-    ghost view = { λ r. record { sets = r.sets; services = keys r.services; current = r.current; places = from_entries (placed r.services.entries); groups = r.groups.items } };
+    ghost view = { λ r. record { sets = r.sets; services = keys r.services; current = r.current; places = from_entries (all_places r.services.entries); groups = r.groups.items } };
 
-    ghost invariant = { λ r. HasShape r.sets r.services.entries };
+    ghost invariant = { λ r. IsKept r.sets r.current r.services.entries r.groups.items };
 }
 
 impl RdsStore {
@@ -77,20 +75,9 @@ impl RdsStore {
         Ok(RdsStore {
             sets,
             current: 1,
-            services: opening_rows(alloc, sets, services)?,
+            services: opening_services(alloc, sets, services)?,
             groups: ArrayVec::new(),
         })
-    }
-
-    /// Puts one element, whole or not at all, and answers its code.
-    ///
-    /// The refusals are asked in the order 09, 04, 05, 06, 0B, also where the DSN names no set. After a code but 00
-    /// nothing has changed. A text of the element has at most 64 bytes.
-    pub fn apply_element(&mut self, element: &Element<'_>) -> Code
-        requires { grammar.IsElement (element_of element.now) }
-        ensures { (self.new, result) ≡ put self.old (element_of element.now) }
-    {
-        self.put(element)
     }
 
     /// Puts the elements of a message in turn, up to the first that is refused or does not read, and answers the code
@@ -101,7 +88,7 @@ impl RdsStore {
     {
         for item in elements(message) {
             match item {
-                Ok(element) => match self.put(&element) {
+                Ok(element) => match self.apply_element(&element) {
                     Code::Applied => {}
                     refused => return refused,
                 },
@@ -111,9 +98,11 @@ impl RdsStore {
         Code::Applied
     }
 
-    /// The current data set, counted from 1. It is 1 at the start.
+    /// The current data set, 1 to their number. It is 1 at the start.
     pub fn current(&self) -> u8
-        ensures { result ≡ self.now.current }
+        ensures value { result ≡ self.now.current }
+        ensures from_1 { 1 ≤ result }
+        ensures there { result ≤ self.now.sets }
     {
         self.current
     }
@@ -121,6 +110,7 @@ impl RdsStore {
     /// How many data sets there are, 1 to 8.
     pub fn set_count(&self) -> u8
         ensures value { result ≡ self.now.sets }
+        ensures from_1 { 1 ≤ result }
         ensures most { result ≤ 8 }
     {
         self.sets
@@ -148,14 +138,16 @@ impl RdsStore {
         ensures zero { psn ≡ 0x00 → is_some result ≡ false }
     {
         match self.services.get(&psn) {
-            Some(row) => row.get(set),
+            Some(service) => service.get(set),
             None => None,
         }
     }
 
-    /// The groups that wait, at most 32, first to go out first.
+    /// The groups that wait, at most 32, first to go out first. The type and the bits of each are 00 to 1F.
     pub fn groups(&self) -> &[Group]
-        ensures { result.now ≡ self.now.groups }
+        ensures value { result.now ≡ self.now.groups }
+        ensures at_most { length result.now ≤ 32 }
+        ensures in_range { All IsGroup result.now }
     {
         self.groups.as_slice()
     }

@@ -4,13 +4,13 @@ use std::test::Fail;
 use uecp_elements::{Code, Element};
 
 /// A message, and the code with which it is answered.
-type Row<'a> = (&'a [u8], Code);
+type Exchange<'a> = (&'a [u8], Code);
 
 /// Adds the text "HI" for the main service of the current set.
 const ADD: [u8; 7] = [0x0a, 0x00, 0x00, 0x03, 0x40, 0x48, 0x49];
 
-fn answers(rt: &impl Abort, store: &mut RdsStore, rows: &[Row<'_>]) {
-    for (message, code) in rows {
+fn answers(rt: &impl Abort, store: &mut RdsStore, exchanges: &[Exchange<'_>]) {
+    for (message, code) in exchanges {
         assert_eq!(rt; store.apply(message), *code);
     }
 }
@@ -44,12 +44,12 @@ fn one_full_set_refuses_a_text_for_all_sets(rt: HostRuntime) -> Result<(), Fail>
 #[test]
 fn all_but_the_current_of_one_set_is_no_set_and_no_refusal(rt: HostRuntime) -> Result<(), Fail> {
     let mut store = RdsStore::new(rt.alloc(), 1, &[0x01])?;
-    let rows: [Row<'_>; 3] = [
+    let exchanges: [Exchange<'_>; 3] = [
         (&[0x01, 0xfe, 0x00, 0x12, 0x34], Code::Applied),
         (&[0x01, 0xfe, 0x05, 0x12, 0x34], Code::Service),
         (&[0x07, 0xfe, 0x00, 0x20], Code::OutOfRange),
     ];
-    answers(&rt, &mut store, &rows);
+    answers(&rt, &mut store, &exchanges);
     assert_eq!(rt; pi_of(&store, 1), Some(0));
     Ok(())
 }
@@ -66,7 +66,7 @@ fn what_came_before_an_unknown_element_stays(rt: HostRuntime) -> Result<(), Fail
 #[test]
 fn texts_that_are_empty_removed_cut_or_of_a_wrong_rule(rt: HostRuntime) -> Result<(), Fail> {
     let mut store = RdsStore::new(rt.alloc(), 1, &[0x01])?;
-    let rows: [(Row<'_>, usize); 7] = [
+    let exchanges: [(Exchange<'_>, usize); 7] = [
         ((&[0x0a, 0x00, 0x00, 0x01, 0x00], Code::Applied), 1),
         ((&[0x0a, 0x00, 0x00, 0x00], Code::Applied), 0),
         ((&[0x0a, 0x00, 0x00, 0x42], Code::ElementLength), 0),
@@ -78,8 +78,8 @@ fn texts_that_are_empty_removed_cut_or_of_a_wrong_rule(rt: HostRuntime) -> Resul
         ((&[0x0a, 0x00, 0x00, 0x01, 0x60], Code::OutOfRange), 0),
         ((&ADD, Code::Applied), 1),
     ];
-    for (row, texts) in rows {
-        answers(&rt, &mut store, &[row]);
+    for (exchange, texts) in exchanges {
+        answers(&rt, &mut store, &[exchange]);
         assert_eq!(rt; texts_of(&store, 1), texts);
     }
     Ok(())
@@ -100,7 +100,7 @@ fn groups_up_to_the_last_that_there_is_room_for(rt: HostRuntime) -> Result<(), F
         assert_eq!(rt; store.groups().len(), count);
     }
     assert_eq!(rt; store.groups().first().copied(), Some(group));
-    let late: [Row<'_>; 2] = [
+    let late: [Exchange<'_>; 2] = [
         (&add, Code::BufferFull),
         (
             &[0x24, 0x20, 0x40, 0x00, 0x00, 0x00, 0x00],
@@ -118,7 +118,7 @@ fn groups_up_to_the_last_that_there_is_room_for(rt: HostRuntime) -> Result<(), F
 #[test]
 fn sets_that_are_selected_named_or_not_there(rt: HostRuntime) -> Result<(), Fail> {
     let mut store = RdsStore::new(rt.alloc(), 2, &[0x01])?;
-    let named: [Row<'_>; 3] = [
+    let named: [Exchange<'_>; 3] = [
         (&[0x1c, 0x02], Code::Applied),
         (&[0x01, 0x00, 0x00, 0xab, 0xcd], Code::Applied),
         (&[0x01, 0xfe, 0x00, 0x11, 0x11], Code::Applied),
@@ -127,7 +127,7 @@ fn sets_that_are_selected_named_or_not_there(rt: HostRuntime) -> Result<(), Fail
     assert_eq!(rt; store.current(), 2);
     assert_eq!(rt; pi_of(&store, 2), Some(0xabcd));
     assert_eq!(rt; pi_of(&store, 1), Some(0x1111));
-    let refused: [Row<'_>; 7] = [
+    let refused: [Exchange<'_>; 7] = [
         (&[0x1c, 0x03], Code::DataSet),
         (&[0x1c, 0xfe], Code::DataSet),
         (&[0x1c, 0x00], Code::Applied),
@@ -143,13 +143,13 @@ fn sets_that_are_selected_named_or_not_there(rt: HostRuntime) -> Result<(), Fail
 
 #[test]
 fn sets_and_services_that_make_no_store(rt: HostRuntime) -> Result<(), Fail> {
-    let rows: [(u8, &[u8], StoreFault, u8, &str); 4] = [
+    let faults: [(u8, &[u8], StoreFault, u8, &str); 4] = [
         (9, &[], StoreFault::SetCount, 1, "SetCount"),
         (1, &[], StoreFault::ServiceCount, 2, "ServiceCount"),
         (1, &[1, 1, 0], StoreFault::ServiceZero, 3, "ServiceZero"),
         (1, &[1, 1], StoreFault::ServiceTwice, 4, "ServiceTwice"),
     ];
-    for (sets, services, fault, number, name) in rows {
+    for (sets, services, fault, number, name) in faults {
         assert_eq!(rt;
             RdsStore::new(rt.alloc(), sets, services).err(),
             Some(fault)
@@ -183,7 +183,7 @@ fn a_new_store_shows_its_sets_and_services(rt: HostRuntime) -> Result<(), Fail> 
 #[test]
 fn a_service_shows_what_its_elements_told(rt: HostRuntime) -> Result<(), Fail> {
     let mut store = RdsStore::new(rt.alloc(), 8, &[0x05, 0x02])?;
-    let rows: [Row<'_>; 4] = [
+    let exchanges: [Exchange<'_>; 4] = [
         (b"\x02\x08\x02RADIO 1 ", Code::Applied),
         (
             &[0x03, 0x08, 0x02, 0xfd, 0x05, 0x08, 0x02, 0x01],
@@ -192,19 +192,19 @@ fn a_service_shows_what_its_elements_told(rt: HostRuntime) -> Result<(), Fail> {
         (&[0x07, 0x08, 0x02, 0x1f], Code::Applied),
         (&[0x0a, 0x08, 0x02, 0x03, 0x9f, 0x48, 0x49], Code::Applied),
     ];
-    answers(&rt, &mut store, &rows);
+    answers(&rt, &mut store, &exchanges);
     let select = Element::Select { dsn: 0x08 };
     assert_eq!(rt; store.apply_element(&select), Code::Applied);
     assert_eq!(rt; store.current(), 8);
-    let Some(told) = store.service(8, 0x02) else {
+    let Some(shown) = store.service(8, 0x02) else {
         return Err("no service".into());
     };
-    assert_eq!(rt; told.ps(), b"RADIO 1 ");
+    assert_eq!(rt; shown.ps(), b"RADIO 1 ");
     assert_eq!(rt;
-        (told.tp(), told.ta(), told.music(), told.pty()),
+        (shown.tp(), shown.ta(), shown.music(), shown.pty()),
         (false, true, true, 0x1f)
     );
-    let Some(text) = told.texts().first() else {
+    let Some(text) = shown.texts().first() else {
         return Err("no text".into());
     };
     assert_eq!(rt; (text.toggle(), text.transmissions()), (true, 15));

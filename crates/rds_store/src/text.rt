@@ -1,7 +1,7 @@
 //! RadioTexts. Source: RDS Forum SPB 490, RadioText; the bits of its first byte are the profile's.
 ghost use Rattle.std.specs.Prelude.{◌≡◌, ◌≤◌, ◌<◌, ◌/◌, ◌%◌, ◌==◌, ◌++◌, length};
 ghost use Rattle.rds_store.specs.Bits.{bit_0, bits_4_to_1};
-ghost use Rattle.rds_store.specs.Content.{text_told};
+ghost use Rattle.rds_store.specs.Content.{radio_text};
 
 use arrayvec::ArrayVec;
 use std::marker::Model;
@@ -18,6 +18,7 @@ pub struct RadioText {
 }
 
 impl Model for RadioText {
+    ghost use Rattle.std.specs.Prelude.{◌≤◌, length};
     ghost use Rattle.rds_store.specs.Value.{StoredText, coded_text};
 
     ghost Value = { StoredText };
@@ -25,13 +26,15 @@ impl Model for RadioText {
     ghost coded = { coded_text };
 
     ghost view = { λ t. record { toggle = t.toggle; transmissions = t.transmissions; bytes = t.text.items } };
+
+    ghost invariant = { λ t. (t.transmissions ≤ 15) × (length t.text.items ≤ 64) };
 }
 
 impl RadioText {
     /// The text that an element's first byte and the bytes after it tell.
     pub(crate) fn new(head: u8, bytes: &[u8]) -> RadioText
         requires { length bytes.now ≤ 64 }
-        ensures { result ≡ text_told head bytes.now }
+        ensures { result ≡ radio_text head bytes.now }
     {
         let mut text = ArrayVec::new();
         match text.try_extend_from_slice(bytes) {
@@ -54,14 +57,16 @@ impl RadioText {
 
     /// How many times the text is to be sent, 0 to 15; 0 is without limit.
     pub fn transmissions(&self) -> u8
-        ensures { result ≡ self.now.transmissions }
+        ensures value { result ≡ self.now.transmissions }
+        ensures at_most { result ≤ 15 }
     {
         self.transmissions
     }
 
     /// The characters, 0 to 64 bytes of any value.
     pub fn text(&self) -> &[u8]
-        ensures { result.now ≡ self.now.bytes }
+        ensures value { result.now ≡ self.now.bytes }
+        ensures at_most { length result.now ≤ 64 }
     {
         self.text.as_slice()
     }

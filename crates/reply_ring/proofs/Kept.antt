@@ -6,7 +6,7 @@ use Rattle.uecp_elements.specs.declared.code.Code.{Code}
 use Rattle.reply_ring.specs.Ring.{kept_code, keep, HasEachOnce, IsRing}
 
 -- a counter that no pair has is in no part of the ring
-none_left : (n : ℕ) (ring : List (ℕ × Code)) (counter : ℕ) → kept_code ring counter ≡ None → kept_code (take n ring) counter ≡ None
+pub none_left : (n : ℕ) (ring : List (ℕ × Code)) (counter : ℕ) → kept_code ring counter ≡ None → kept_code (take n ring) counter ≡ None
 none_left zero ring counter h = refl
 none_left (suc n) [] counter h = refl
 none_left (suc n) (pair ∷ older) counter h = grind (arith, none_left n older counter)

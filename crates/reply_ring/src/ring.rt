@@ -2,31 +2,34 @@
 ghost use Rattle.std.specs.Prelude.{◌≡◌, ◌≢◌, ◌≤◌, ◌↔◌, [], length, IsTrue, IfOk, IfSome, IfNone, None, Contains, All};
 ghost use Rattle.reply_ring.specs.Ring.{kept_code, keep, IsRing};
 
+use circular_buffer::HeapCircularBuffer;
 use std::alloc::{AllocError, Global};
 use std::marker::Model;
 use uecp_elements::Code;
 
-/// How many pairs are held at most: with one more, a counter could come to stand for two messages that may both come
-/// again.
+/// How many pairs are held at most: the least that serves 126 newer messages. With one fewer, the oldest message that may
+/// still come again would have no reply here and be taken for a new one.
 const HELD_MAX: usize = 127;
 
 /// The reply codes of the last numbered messages, each under its message's counter: at most 127 pairs, no counter twice.
 #[derive(Debug, Drop)]
 pub struct ReplyRing {
-    /// The pairs, the newest first, in room that was made for 127.
-    pairs: Vec<(u8, Code)>,
+    /// The counters of the pairs, the newest first, in room that was made for 127.
+    counters: HeapCircularBuffer<u8>,
+    /// The code of each counter that a pair has, by counter, and None for every other.
+    codes: [Option<Code>; 256],
 }
 
 impl Model for ReplyRing {
-    ghost use Rattle.std.specs.Prelude.{ℕ, List, vec_capacity, ◌≤◌};
+    ghost use Rattle.std.specs.Prelude.{ℕ, List};
     ghost use Rattle.uecp_elements.specs.declared.code.Code.{Code};
-    ghost use Rattle.reply_ring.specs.Ring.{IsRing};
+    ghost use Rattle.reply_ring.specs.Table.{pairs_of, IsKept};
 
     ghost Value = { List (ℕ × Code) };
 
-    ghost view = { λ r. r.pairs.items };
+    ghost view = { λ r. pairs_of r.counters.items r.codes };
 
-    ghost invariant = { λ r. (127 ≤ vec_capacity r.pairs) × IsRing r.pairs.items };
+    ghost invariant = { λ r. IsKept r.counters.capacity r.counters.items r.codes };
 }
 
 impl ReplyRing {
@@ -34,8 +37,11 @@ impl ReplyRing {
     pub fn new(alloc: Global) -> Result<ReplyRing, AllocError>
         ensures { IfOk result (λ ring. ring ≡ []) }
     {
-        let pairs = Vec::with_capacity(alloc, HELD_MAX)?;
-        Ok(ReplyRing { pairs })
+        let counters = HeapCircularBuffer::with_capacity(alloc, HELD_MAX)?;
+        Ok(ReplyRing {
+            counters,
+            codes: [None; 256],
+        })
     }
 
     /// The code that is kept for the counter, or None where no held pair has it, as for the counter 0.
@@ -50,12 +56,7 @@ impl ReplyRing {
         ensures some { IfSome result (λ code. Contains self.now (counter, code)) }
         ensures none { IfNone result (All (λ pair. pair.0 ≢ counter) self.now) }
     {
-        for pair in &self.pairs {
-            if pair.0 == counter {
-                return Some(pair.1);
-            }
-        }
-        None
+        self.codes[usize::from(counter)]
     }
 
     /// Keeps the code for the counter, and drops the oldest pair where 127 are held.
@@ -66,10 +67,10 @@ impl ReplyRing {
         requires fresh { kept_code self.old counter ≡ None }
         ensures { self.new ≡ keep self.old counter code }
     {
-        self.pairs.truncate(HELD_MAX - 1);
-        if self.pairs.insert(0, (counter, code)).is_err() {
-            unreachable!();
+        if let Some(oldest) = self.counters.push_front(counter) {
+            self.codes[usize::from(oldest)] = None;
         }
+        self.codes[usize::from(counter)] = Some(code);
     }
 
     /// How many pairs are held, 0 to 127.
@@ -79,13 +80,13 @@ impl ReplyRing {
         // No counter stands in two of the pairs, and none is 0.
         ensures ring { IsRing self.now }
     {
-        self.pairs.len()
+        self.counters.len()
     }
 
     /// Whether no pair is held.
     pub fn is_empty(&self) -> bool
         ensures { IsTrue result ↔ (length self.now ≡ 0) }
     {
-        self.pairs.is_empty()
+        self.counters.is_empty()
     }
 }

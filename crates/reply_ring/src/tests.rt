@@ -29,3 +29,39 @@ fn the_128th_reply_drops_the_first(rt: HostRuntime) -> Result<(), Fail> {
     assert_eq!(rt; ring.len(), 127);
     Ok(())
 }
+
+/// The code that the newest pair with the counter has.
+fn find_in(pairs: &[(u8, Code)], counter: u8) -> Option<Code> {
+    for pair in pairs {
+        if pair.0 == counter {
+            return Some(pair.1);
+        }
+    }
+    None
+}
+
+#[test]
+fn a_thousand_replies_beside_a_plain_list_of_pairs(rt: HostRuntime) -> Result<(), Fail> {
+    let codes = [
+        Code::Applied,
+        Code::DataSet,
+        Code::Service,
+        Code::BufferFull,
+    ];
+    let mut ring = ReplyRing::new(rt.alloc())?;
+    let mut pairs = Vec::new(rt.alloc());
+    for number in 0..1000 {
+        let steps = number * (1 + number / 400);
+        let (counter, code) = ((steps % 255) as u8 + 1, codes[number % 4]);
+        if ring.find(counter).is_none() {
+            ring.keep(counter, code);
+            pairs.insert(0, (counter, code))?;
+            pairs.truncate(127);
+        }
+        for asked in 0..=255 {
+            assert_eq!(rt; ring.find(asked), find_in(&pairs, asked));
+        }
+        assert_eq!(rt; ring.len(), pairs.len());
+    }
+    Ok(())
+}

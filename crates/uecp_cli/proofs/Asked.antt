@@ -1,5 +1,5 @@
 -- What the words of the command line ask for.
-use Rattle.std.proofs.Common.{◌≡◌, ◌⊎◌, List, [], refl, ap, ◌∙◌, sym, subst, true, inl, inr, codes}
+use Rattle.std.proofs.Common.{◌≡◌, ◌⊎◌, ℕ, List, [], refl, ap, ◌∙◌, sym, subst, true, inl, inr, codes}
 use Rattle.std.specs.Prelude.{Option, Some, None, Box, option_map, Result, Ok, Err, IsErrAnd, IfErr}
 use Rattle.std.specs.Box.{box_value}
 use Rattle.clap.specs.Walk.{Row, Text}
@@ -13,11 +13,11 @@ use Rattle.clap.specs.declared.parser.matches.ArgMatches.TheViews.{out-ArgMatche
 use Rattle.clap.specs.declared.parser.matches.SubCommand.{SubCommand}
 use Rattle.clap.proofs.OnLiterals.{clap_on_literals}
 use Rattle.uecp_cli.specs.declared.job.Job.{Job}
-use Rattle.uecp_cli.specs.declared.job.Job.TheVariants.{Answer, Show, Make, Line}
+use Rattle.uecp_cli.specs.declared.job.Job.TheVariants.{Answer, Show, Make, Line, Encoder, Server}
 use Rattle.uecp_cli.specs.declared.usage.Usage.{Usage}
-use Rattle.uecp_cli.specs.Ranges.{IsInRange}
+use Rattle.uecp_cli.specs.Ranges.{IsInRange, IsPlaceInRange, IsSetupInRange, Lies}
 use Rattle.uecp_cli.specs.Usages.{SaysError}
-use Rattle.uecp_cli.specs.CommandLine.{Asks, IsJobOf, RefusesList, RefusesWords, services_text, uecp_app}
+use Rattle.uecp_cli.specs.CommandLine.{AreOptions, Asks, IsJobOf, IsOption, IsPlace, RefusesList, RefusesWords, services_text, uecp_app}
 use Rattle.uecp_cli.proofs.Helps.{one_named}
 
 -- ---- by what clap's clauses say of a parse
@@ -63,21 +63,23 @@ asks words m name rows job e f met none is = record {
   is_job = is;
 }
 
-pub asks_show : (words : List Text) (m : ArgMatches) (o : Option Text) → o ≡ subcommand_name_of m → subcommand_rows_of m ≡ subcommand_of uecp_app words → fault_of uecp_app words ≡ []
-    → (o ≡ Some (codes "answer") → ⊥) → (o ≡ Some (codes "line") → ⊥) → (o ≡ Some (codes "make") → ⊥) → Asks words Show
-asks_show words m o e met none no_answer no_line no_make =
+-- the words with no fault name one of the six commands
+pub no_other : (words : List Text) (m : ArgMatches) (o : Option Text) → o ≡ subcommand_name_of m → subcommand_rows_of m ≡ subcommand_of uecp_app words → fault_of uecp_app words ≡ []
+    → (o ≡ Some (codes "answer") → ⊥) → (o ≡ Some (codes "line") → ⊥) → (o ≡ Some (codes "make") → ⊥) → (o ≡ Some (codes "show") → ⊥) → (o ≡ Some (codes "encoder") → ⊥) → (o ≡ Some (codes "server") → ⊥) → ⊥
+no_other words m o e met none no_answer no_line no_make no_show no_encoder no_server =
     let n = one_named words none in
     let name : o ≡ Some n.0.0 = e ∙ name_met (out-ArgMatches m).subcommand ∙ ap (option_map (λ p. p.0)) (met ∙ n.1) in
-    let is_show : n.0.0 ≡ codes "show" = elim n.2 [
-      | inl is ↦ absurd (no_answer (name ∙ ap Some is))
-      | inr (inl is) ↦ is
-      | inr (inr (inl is)) ↦ absurd (no_make (name ∙ ap Some is))
-      | inr (inr (inr is)) ↦ absurd (no_line (name ∙ ap Some is))
-    ] in
-    record { faultless = none; name = n.0.0; rows = n.0.1; command = n.1; is_job = is_show }
+    elim n.2 [
+      | inl is ↦ no_answer (name ∙ ap Some is)
+      | inr (inl is) ↦ no_show (name ∙ ap Some is)
+      | inr (inr (inl is)) ↦ no_make (name ∙ ap Some is)
+      | inr (inr (inr (inl is))) ↦ no_line (name ∙ ap Some is)
+      | inr (inr (inr (inr (inl is)))) ↦ no_encoder (name ∙ ap Some is)
+      | inr (inr (inr (inr (inr is)))) ↦ no_server (name ∙ ap Some is)
+    ]
 
 pub gives_no_list : (words : List Text) (m : ArgMatches) (name : Text) (rows : List Row) (why : Usage) → Some name ≡ subcommand_name_of m → Some rows ≡ option_map (λ p. p.1) (subcommand_rows_of m)
-    → subcommand_rows_of m ≡ subcommand_of uecp_app words → (name ≡ codes "answer") ⊎ (name ≡ codes "line") → RefusesList (services_text rows) why → RefusesWords words why
+    → subcommand_rows_of m ≡ subcommand_of uecp_app words → (name ≡ codes "answer") ⊎ ((name ≡ codes "line") ⊎ (name ≡ codes "encoder")) → RefusesList (services_text rows) why → RefusesWords words why
 gives_no_list words m name rows why e f met has_encoder refused = elim refused [
   | inl is ↦ subst (RefusesWords words) (sym is) tt
   | inr none ↦ subst (RefusesWords words) (sym none.0) (record {
@@ -99,11 +101,30 @@ pub refuses_words : (words : List Text) (e : Error) (r : Result Job Usage) → H
 refuses_words words e (Ok job) kinds says = tt
 refuses_words words e (Err why) kinds says = says_why words e why kinds says
 
+-- ---- ranges
+in_range : (text : Option Text) (least greatest number : ℕ) → IsOption text least greatest number → Lies least greatest number
+in_range text least greatest number o = (o.at_least, o.at_most)
+
+place_in_range : (rows : List Row) (site encoder : ℕ) → IsPlace rows site encoder → IsPlaceInRange site encoder
+place_in_range rows site encoder p = (in_range _ _ _ _ p.0, in_range _ _ _ _ p.1)
+
+setup_in_range : (rows : List Row) (site encoder sets : ℕ) (services : List ℕ) → AreOptions rows site encoder sets services → IsSetupInRange site encoder sets
+setup_in_range rows site encoder sets services o = (place_in_range rows site encoder o.is_place, in_range _ _ _ _ o.is_sets)
+
 -- the numbers of such a job are in their ranges
 pub is_in_range : (name : Text) (rows : List Row) (job : Job) → IsJobOf name rows job → IsInRange job
-is_in_range name rows (Answer site encoder sets services store) h =
-    let o = h.1 in (o.is_site.least, o.is_site.most, o.is_encoder.least, o.is_encoder.most, o.is_sets.least, o.is_sets.most)
-is_in_range name rows (Line site encoder sets services store) h =
-    let o = h.1 in (o.is_site.least, o.is_site.most, o.is_encoder.least, o.is_encoder.most, o.is_sets.least, o.is_sets.most)
+is_in_range name rows (Answer site encoder sets services store) h = setup_in_range rows site encoder sets services.items h.1
+is_in_range name rows (Line site encoder sets services store) h = setup_in_range rows site encoder sets services.items h.1
+is_in_range name rows (Encoder site encoder sets services port connections turns) h =
+    let o = h.2 in (setup_in_range rows site encoder sets services.items h.1, in_range _ _ _ _ o.is_port, in_range _ _ _ _ o.is_connections, in_range _ _ _ _ o.is_turns)
+is_in_range name rows (Server site encoder host port tries timeout turns reconnects) h =
+    let o = h.2 in (
+      place_in_range rows site encoder h.1,
+      in_range _ _ _ _ o.is_port,
+      in_range _ _ _ _ o.is_tries,
+      in_range _ _ _ _ o.is_timeout,
+      in_range _ _ _ _ o.is_turns,
+      in_range _ _ _ _ o.is_reconnects,
+    )
 is_in_range name rows Show h = tt
 is_in_range name rows Make h = tt

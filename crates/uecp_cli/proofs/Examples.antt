@@ -3,18 +3,18 @@ use Rattle.std.proofs.Common.{◌≡◌, ℕ, List, [], ◌∷◌, codes, Some, 
 use Rattle.clap.specs.Simple.{subcommand_of}
 use Rattle.clap.specs.Faults.{fault_of, walk_fault, defaults_fault}
 use Rattle.clap.specs.Walk.{walked}
+use Rattle.clap.specs.declared.error.kind.ErrorKind.TheVariants as kind
 use Rattle.hex.specs.Hex.{decode_pairs, encode_with}
 use Rattle.std.specs.Fmt.{digits}
 use Rattle.std.specs.Option.{option_map}
 use Rattle.uecp_elements.specs.Grammar.{NoText, Text, Pi, Rt}
 use Rattle.uecp_frame.specs.declared.fault.FrameFault.TheVariants.{BadStuffing}
 use Rattle.uecp_encoder.specs.Answering.{Replied}
-use Rattle.uecp_cli.specs.Input.{lines_of, numbered, said, texts_of}
-use Rattle.uecp_cli.specs.Words.{words, decimal_value, decimal_in}
-use Rattle.uecp_cli.specs.Digits.{byte_word, number_word, row_word, decimal_word, counted}
-use Rattle.uecp_cli.specs.Lines.{element_words, dropped_line, response_line}
-use Rattle.uecp_cli.specs.Steps.{totals_line}
-use Rattle.uecp_cli.specs.Commands.{bytes_in}
+use Rattle.uecp_text.specs.Input.{lines_of, numbered, said, texts_of}
+use Rattle.uecp_text.specs.Words.{words, bytes_in, decimal_value, decimal_in}
+use Rattle.uecp_text.specs.Digits.{byte_word, number_word, row_word, decimal_word, counted}
+use Rattle.uecp_lines.specs.Lines.{element_words, dropped_line, response_line}
+use Rattle.uecp_lines.specs.Steps.{totals_line}
 use Rattle.uecp_cli.specs.CommandLine.{uecp_app, IsList}
 
 -- ---- lines
@@ -100,6 +100,22 @@ no_fault_of_a_line = refl
 command_of_a_line : option_map {U = List ℕ} (λ p. p.0) (subcommand_of uecp_app line_words) ≡ Some (codes "line")
 unfolding walked
 command_of_a_line = refl
+
+abbrev server_words : List (List ℕ)
+server_words = codes "uecp" ∷ codes "server" ∷ codes "--port" ∷ codes "4000" ∷ codes "--reconnects=0" ∷ []
+
+no_fault_of_a_server : fault_of uecp_app server_words ≡ []
+unfolding walk_fault walked defaults_fault
+no_fault_of_a_server = refl
+
+command_of_a_server : option_map {U = List ℕ} (λ p. p.0) (subcommand_of uecp_app server_words) ≡ Some (codes "server")
+unfolding walked
+command_of_a_server = refl
+
+-- an encoder has to be given its port
+encoder_without_a_port : fault_of uecp_app (codes "uecp" ∷ codes "encoder" ∷ []) ≡ kind.MissingRequiredArgument ∷ []
+unfolding walk_fault walked defaults_fault
+encoder_without_a_port = refl
 
 two_services : IsList (codes "01,0a") (0x01 ∷ 0x0A ∷ [])
 unfolding decode_pairs

@@ -1,6 +1,5 @@
 -- A piece that is fed in parts.
-use Rattle.std.proofs.Common.{◌≡◌, ℕ, ◌==◌, true, List, [], ◌∷◌, ◌++◌, length, take, drop, refl, ◌∙◌, ap, sym, take-append-drop, suc, arith}
-use Rattle.std.proofs.lemmas.Bool.{eqb-true}
+use Rattle.std.proofs.Common.{◌≡◌, ℕ, List, [], ◌++◌, take, drop, ◌∙◌, ap, sym, take-append-drop}
 use Rattle.uecp_frame.specs.declared.fed.Fed.{Fed}
 use Rattle.uecp_frame.specs.Findings.{OpenPart}
 use Rattle.uecp_frame.specs.Beyond.{found_beyond, open_beyond}
@@ -11,10 +10,6 @@ use Rattle.rds_store.specs.Step.{step}
 use Rattle.uecp_encoder.specs.State.{EncoderState, after_findings, fed}
 use Rattle.uecp_encoder.specs.Answering.{responses, responses_to}
 use Rattle.uecp_encoder.proofs.InPieces.{in_pieces_of_encoder}
-
-pub empty_is : (xs : List ℕ) → true ≡ (length xs == 0) → xs ≡ []
-empty_is [] h = refl
-empty_is (x ∷ xs) h = absurd (let k : suc (length xs) ≡ 0 = eqb-true (suc (length xs)) 0 (sym h) in omega arith)
 
 pub found_on : (o o' : OpenPart) (f : Fed) (rest rest' : List ℕ) → Feeds o rest f o' → rest' ≡ drop f.used rest → found_beyond o rest ≡ findings_of f.found ++ found_beyond o' rest'
 found_on o o' f rest rest' feeds rest_is =

@@ -1,6 +1,7 @@
 -- The command line that the program takes, and what it asks for (profile).
-use Rattle.std.specs.Prelude.{◌≡◌, ◌⊎◌, ℕ, ◌≤◌, ◌==◌, Bool, true, false, List, [], ◌∷◌, codes, map, Option, Some, None, Ok, unwrap_or, pos}
+use Rattle.std.specs.Prelude.{◌≡◌, ◌⊎◌, ℕ, ◌≤◌, ◌==◌, Bool, true, false, List, [], ◌∷◌, ◌++◌, codes, map, Option, Some, None, Ok, is_none, unwrap_or, pos}
 use Rattle.std.specs.List.{slice_split}
+use Rattle.std.specs.String.{string_bytes}
 use Rattle.std.specs.Str.Parse.{IsNumeral, without_leading_plus, digits_value}
 use Rattle.hex.specs.Hex.{decode_sized}
 use Rattle.clap.specs.Walk.{Row, Rule, one_of, first_of}
@@ -11,7 +12,7 @@ use Rattle.clap.specs.Values.{kind_of}
 use Rattle.clap.specs.declared.builder.action.ArgAction.TheVariants.{Set, SetTrue}
 use Rattle.clap.specs.declared.builder.value_parser.ValueParser.TheVariants.{Signed}
 use Rattle.uecp_cli.specs.declared.job.Job.{Job}
-use Rattle.uecp_cli.specs.declared.job.Job.TheVariants.{Answer, Show, Make, Line}
+use Rattle.uecp_cli.specs.declared.job.Job.TheVariants.{Answer, Show, Make, Line, Encoder, Server}
 use Rattle.uecp_cli.specs.declared.usage.Usage.{Usage}
 use Rattle.uecp_cli.specs.declared.usage.Usage.TheVariants.{Refused, NotAList, OutOfMemory}
 
@@ -27,11 +28,11 @@ RefusesList list why = (why ≡ OutOfMemory) ⊎ ((why ≡ NotAList) × ((bytes 
 abbrev pub Spells : (text : List ℕ) → ℕ → Type 0
 Spells text number = IsNumeral 10 (without_leading_plus text) × (digits_value 10 (without_leading_plus text) ≡ number)
 
--- The number of an option with this text lies from 1 to the greatest, and is the one that the text spells, where that lies there.
-pub record IsOption (text : Option (List ℕ)) (greatest number : ℕ) : Type 0 where
-  pub least : 1 ≤ number
-  pub most : number ≤ greatest
-  pub spelled : (t : List ℕ) (n : ℕ) → text ≡ Some t → Spells t n → 1 ≤ n → n ≤ greatest → number ≡ n
+-- The number of an option with this text lies from the least to the greatest, and is the one that the text spells, where that lies there.
+pub record IsOption (text : Option (List ℕ)) (least greatest number : ℕ) : Type 0 where
+  pub at_least : least ≤ number
+  pub at_most : number ≤ greatest
+  pub spelled : (t : List ℕ) (n : ℕ) → text ≡ Some t → Spells t n → least ≤ n → n ≤ greatest → number ≡ n
 
 -- A flag is set where its text is "true", and not where it is "false" or where there is none.
 pub record IsFlag (text : Option (List ℕ)) (is_set : Bool) : Type 0 where
@@ -39,52 +40,128 @@ pub record IsFlag (text : Option (List ℕ)) (is_set : Bool) : Type 0 where
   pub denied : text ≡ Some (codes "false") → is_set ≡ false
   pub absent : text ≡ None → is_set ≡ false
 
+-- The text of an option that is a word, or its default where it is not given.
+abbrev pub word_text : (name default : List ℕ) → List Row → List ℕ
+word_text name default rows = unwrap_or (first_of name rows) default
+
 -- The text of the option `services`.
 abbrev pub services_text : List Row → List ℕ
-services_text rows = unwrap_or (first_of (codes "services") rows) (codes "01")
+services_text rows = word_text (codes "services") (codes "01") rows
+
+-- The text of the option `host`.
+abbrev pub host_text : List Row → List ℕ
+host_text rows = word_text (codes "host") (codes "127.0.0.1") rows
+
+-- The site and the encoder's number at it are those that the matches of a command have.
+abbrev pub IsPlace : (rows : List Row) → (site encoder : ℕ) → Type 0
+IsPlace rows site encoder = IsOption (one_of (codes "site") rows) 1 1023 site × IsOption (one_of (codes "encoder") rows) 1 63 encoder
 
 -- The options of an encoder are those that the matches of its command have.
-pub record AreOptions (rows : List Row) (site encoder sets : ℕ) (services : List ℕ) (store : Bool) : Type 0 where
-  pub is_site : IsOption (one_of (codes "site") rows) 1023 site
-  pub is_encoder : IsOption (one_of (codes "encoder") rows) 63 encoder
-  pub is_sets : IsOption (one_of (codes "sets") rows) 8 sets
+pub record AreOptions (rows : List Row) (site encoder sets : ℕ) (services : List ℕ) : Type 0 where
+  pub is_place : IsPlace rows site encoder
+  pub is_sets : IsOption (one_of (codes "sets") rows) 1 8 sets
   pub is_services : IsList (services_text rows) services
-  pub is_store : IsFlag (one_of (codes "store") rows) store
+
+-- The flag for the store is set as the matches of a command have it.
+abbrev pub IsStore : (rows : List Row) → (store : Bool) → Type 0
+IsStore rows store = IsFlag (one_of (codes "store") rows) store
+
+-- The port is that which the matches of a command have.
+abbrev pub IsPort : (rows : List Row) → (port : ℕ) → Type 0
+IsPort rows port = IsOption (one_of (codes "port") rows) 1 65535 port
+
+-- The bounds of an encoder that listens are those that the matches of its command have.
+pub record AreListening (rows : List Row) (port connections turns : ℕ) : Type 0 where
+  pub is_port : IsPort rows port
+  pub is_connections : IsOption (one_of (codes "connections") rows) 1 1000 connections
+  pub is_turns : IsOption (one_of (codes "turns") rows) 1 1000000 turns
+
+-- Where a server finds its encoder, and its bounds, are those that the matches of its command have.
+pub record AreSending (rows : List Row) (host : List ℕ) (port tries timeout turns reconnects : ℕ) : Type 0 where
+  pub is_host : host ≡ host_text rows
+  pub is_port : IsPort rows port
+  pub is_tries : IsOption (one_of (codes "tries") rows) 1 100 tries
+  pub is_timeout : IsOption (one_of (codes "timeout") rows) 1 60000 timeout
+  pub is_turns : IsOption (one_of (codes "turns") rows) 1 1000 turns
+  pub is_reconnects : IsOption (one_of (codes "reconnects") rows) 0 100 reconnects
 
 -- The job is that of the command of this name, with the options that its matches have.
 abbrev pub IsJobOf : (name : List ℕ) → List Row → Job → Type 0
-IsJobOf name rows (Answer site encoder sets services store) = (name ≡ codes "answer") × AreOptions rows site encoder sets services.items store
-IsJobOf name rows (Line site encoder sets services store) = (name ≡ codes "line") × AreOptions rows site encoder sets services.items store
+IsJobOf name rows (Answer site encoder sets services store) =
+    (name ≡ codes "answer") × AreOptions rows site encoder sets services.items × IsStore rows store
+IsJobOf name rows (Line site encoder sets services store) =
+    (name ≡ codes "line") × AreOptions rows site encoder sets services.items × IsStore rows store
+IsJobOf name rows (Encoder site encoder sets services port connections turns) =
+    (name ≡ codes "encoder") × AreOptions rows site encoder sets services.items × AreListening rows port connections turns
+IsJobOf name rows (Server site encoder host port tries timeout turns reconnects) =
+    (name ≡ codes "server") × IsPlace rows site encoder × AreSending rows (string_bytes host) port tries timeout turns reconnects
 IsJobOf name rows Make = name ≡ codes "make"
 IsJobOf name rows Show = name ≡ codes "show"
 
 -- ---- the command line that the program takes
 
--- An option with a number from 1 to the greatest, 1 where it is not given.
-abbrev pub number_option : (name : List ℕ) → (greatest : ℕ) → Rule
-number_option name greatest =
-    record (new_rule name) { long = Some name; action = Some Set; value_names = 1; parser = Some (Signed (pos 1) (pos greatest)); defaults = codes "1" ∷ [] }
+-- The text of an option that is not given: the default if it has one.
+abbrev pub default_texts : (default : Option (List ℕ)) → List (List ℕ)
+default_texts None = []
+default_texts (Some text) = text ∷ []
+
+-- An option with a word. One without a default has to be given.
+abbrev pub word_option : (name : List ℕ) → (default : Option (List ℕ)) → Rule
+word_option name default =
+    record (new_rule name) { long = Some name; action = Some Set; value_names = 1; defaults = default_texts default; required = is_none default }
+
+-- An option with a number from the least to the greatest. One without a default has to be given.
+abbrev pub number_option : (name : List ℕ) → (least greatest : ℕ) → (default : Option (List ℕ)) → Rule
+number_option name least greatest default = record (word_option name default) { parser = Some (Signed (pos least) (pos greatest)) }
 
 -- The option with the list of services, 01 where it is not given.
 abbrev pub services_option : Rule
-services_option =
-    record (new_rule (codes "services")) { long = Some (codes "services"); action = Some Set; value_names = 1; defaults = codes "01" ∷ [] }
+services_option = word_option (codes "services") (Some (codes "01"))
 
 -- The flag that asks for the store.
 abbrev pub store_flag : Rule
 store_flag = record (new_rule (codes "store")) { long = Some (codes "store"); action = Some SetTrue }
 
--- A command with the options of an encoder.
-abbrev pub encoder_command : (name : List ℕ) → Shape
-encoder_command name = record (new_shape name) {
-  rules = number_option (codes "site") 1023 ∷ number_option (codes "encoder") 63 ∷ number_option (codes "sets") 8 ∷ services_option ∷ store_flag ∷ [];
-}
+-- The options of an encoder's place: its site and its number there, both 1 where they are not given.
+abbrev pub place_options : List Rule
+place_options = number_option (codes "site") 1 1023 (Some (codes "1")) ∷ number_option (codes "encoder") 1 63 (Some (codes "1")) ∷ []
 
--- The program: it has a version, and one of four commands has to be named.
+-- The options of an encoder, each with a default.
+abbrev pub encoder_options : List Rule
+encoder_options = place_options ++ number_option (codes "sets") 1 8 (Some (codes "1")) ∷ services_option ∷ []
+
+-- The port, which has to be given.
+abbrev pub port_option : Rule
+port_option = number_option (codes "port") 1 65535 None
+
+-- A command with these options.
+abbrev pub command_with : (name : List ℕ) → List Rule → Shape
+command_with name options = record (new_shape name) { rules = options }
+
+-- A command with the options of an encoder and the flag for its store.
+abbrev pub store_command : (name : List ℕ) → Shape
+store_command name = command_with name (encoder_options ++ store_flag ∷ [])
+
+-- The command `encoder`.
+abbrev pub listening_command : Shape
+listening_command =
+    command_with (codes "encoder")
+    (encoder_options ++ port_option ∷ number_option (codes "connections") 1 1000 (Some (codes "1")) ∷ number_option (codes "turns") 1 1000000 (Some (codes "100000")) ∷ [])
+
+-- The options of a server's bounds.
+abbrev pub bound_options : List Rule
+bound_options =
+    number_option (codes "tries") 1 100 (Some (codes "3")) ∷ number_option (codes "timeout") 1 60000 (Some (codes "1000")) ∷ number_option (codes "turns") 1 1000 (Some (codes "16")) ∷ number_option (codes "reconnects") 0 100 (Some (codes "3")) ∷ []
+
+-- The command `server`.
+abbrev pub sending_command : Shape
+sending_command = command_with (codes "server") (place_options ++ word_option (codes "host") (Some (codes "127.0.0.1")) ∷ port_option ∷ bound_options)
+
+-- The program: it has a version, and one of six commands has to be named.
 abbrev pub uecp_app : App
 uecp_app = record {
   top = record (new_shape (codes "uecp")) { is_leaf = false; has_version = true; subcommand_required = true };
-  subs = encoder_command (codes "answer") ∷ new_shape (codes "show") ∷ new_shape (codes "make") ∷ encoder_command (codes "line") ∷ [];
+  subs = store_command (codes "answer") ∷ new_shape (codes "show") ∷ new_shape (codes "make") ∷ store_command (codes "line") ∷ listening_command ∷ sending_command ∷ [];
 }
 
 -- The words have no fault, and ask for this job: they name its command, and give its options.
@@ -100,7 +177,7 @@ pub record GivesNoList (words : List (List ℕ)) : Type 0 where
   pub name : List ℕ
   pub rows : List Row
   pub command : subcommand_of uecp_app words ≡ Some (name, rows)
-  pub has_encoder : (name ≡ codes "answer") ⊎ (name ≡ codes "line")
+  pub has_encoder : (name ≡ codes "answer") ⊎ ((name ≡ codes "line") ⊎ (name ≡ codes "encoder"))
   pub no_list : (bytes : List ℕ) → IsList (services_text rows) bytes → ⊥
 
 -- Why the words were refused: they have a fault of this kind, or give no list. Or there was no memory.

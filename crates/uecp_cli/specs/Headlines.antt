@@ -5,8 +5,8 @@ use Rattle.rds_store.specs.Opening.{opening}
 use Rattle.rds_store.specs.Step.{step}
 use Rattle.uecp_link.specs.Holds.{LineState}
 use Rattle.uecp_link.specs.Headline.{IsHeadline}
-use Rattle.uecp_cli.specs.declared.line_fault.LineFault.{LineFault}
-use Rattle.uecp_cli.specs.Run.{Runs}
+use Rattle.uecp_text.specs.declared.run_fault.RunFault.{RunFault}
+use Rattle.uecp_text.specs.Run.{Runs}
 use Rattle.uecp_cli.specs.Setups.{Options, address_of, line_at_first}
 use Rattle.uecp_cli.specs.Playing.{Plays}
 
@@ -14,5 +14,5 @@ use Rattle.uecp_cli.specs.Playing.{Plays}
 -- no text is refused.
 abbrev pub ScriptsKeepHeadline : Type 0
 ScriptsKeepHeadline =
-    (o : Options) (texts : List (ℕ × List ℕ)) (lines : List ℕ) (stop : Option (ℕ × LineFault)) (line : LineState Store) →
+    (o : Options) (texts : List (ℕ × List ℕ)) (lines : List ℕ) (stop : Option RunFault) (line : LineState Store) →
     Runs Plays (line_at_first o) texts lines stop line → IsHeadline step (address_of o.site o.encoder) (opening o.sets o.services) line

@@ -7,23 +7,24 @@ use Rattle.uecp_link.specs.declared.refusal.LineRefusal.{LineRefusal}
 use Rattle.uecp_link.specs.Once.{Event, Once}
 use Rattle.uecp_link.specs.Events.{Refuses}
 use Rattle.uecp_link.specs.Holds.{LineState, Holds, StepsAs}
-use Rattle.uecp_cli.specs.Steps.{step_words, totals_line}
-use Rattle.uecp_cli.specs.EventWords.{place_of, Names, IsFaultOf}
-use Rattle.uecp_cli.specs.Words.{words}
-use Rattle.uecp_cli.specs.StoreLines.{last_lines}
-use Rattle.uecp_cli.specs.Run.{Meaning}
-use Rattle.uecp_cli.specs.declared.line_fault.LineFault.TheVariants.{OutOfMemory}
+use Rattle.uecp_lines.specs.Steps.{step_words, totals_line}
+use Rattle.uecp_words.specs.EventWords.{named_message, Names, IsFaultOf}
+use Rattle.uecp_text.specs.Words.{words}
+use Rattle.uecp_lines.specs.StoreLines.{last_lines}
+use Rattle.uecp_text.specs.Run.{Meaning, Brings, Ends}
+use Rattle.uecp_text.specs.Run.{Refuses as Declines}
+use Rattle.uecp_text.specs.declared.line_fault.LineFault.TheVariants.{OutOfMemory}
 
 -- The event takes place: the line goes on as the once-machine does, from whatever of its values the line holds, and this is said of what it answers.
 pub record TakesPlace (old : LineState Store) (event : Event) (lines : List ℕ) (new : LineState Store) : Type 0 where
   pub answer : Stepped
-  pub said : lines ≡ step_words (Ok answer) (place_of event) ++ codes "\n"
+  pub said : lines ≡ step_words (Ok answer) (named_message event) ++ codes "\n"
   pub steps : (o : Once Store) → Holds old o → StepsAs step old o event answer new
 
 -- The event is refused, as the once-machine refuses it, or for want of memory: the line stays as it was, and this is said of the refusal.
 pub record IsRefused (old : LineState Store) (event : Event) (lines : List ℕ) (new : LineState Store) : Type 0 where
   pub refusal : LineRefusal
-  pub said : lines ≡ step_words (Err refusal) (place_of event) ++ codes "\n"
+  pub said : lines ≡ step_words (Err refusal) (named_message event) ++ codes "\n"
   pub unchanged : new ≡ old
   pub refuses : (o : Once Store) → Holds old o → Refuses o event refusal
 
@@ -34,8 +35,9 @@ PlaysEvent old event lines new = TakesPlace old event lines new ⊎ IsRefused ol
 -- To `line` a text whose words name an event brings the lines that say what came of it; any other text is refused for what is wrong with its words, and nothing
 -- has changed.
 abbrev pub Plays : Meaning (LineState Store)
-Plays line text (Ok lines) line' = (event : Event) × Names (words text) event × PlaysEvent line event lines line'
-Plays line text (Err why) line' = (why ≢ OutOfMemory) × IsFaultOf (words text) why × (line' ≡ line)
+Plays line text (Brings lines) line' = (event : Event) × Names (words text) event × PlaysEvent line event lines line'
+Plays line text (Ends lines) line' = ⊥
+Plays line text (Declines why) line' = (why ≢ OutOfMemory) × IsFaultOf (words text) why × (line' ≡ line)
 
 -- The last lines: the totals, and the store where it is asked for.
 abbrev pub closing_lines : (asked : Bool) → LineState Store → List ℕ

@@ -1,15 +1,27 @@
 -- The ranges of the numbers on the command line (profile).
 use Rattle.std.specs.Prelude.{ℕ, ◌≤◌}
 use Rattle.uecp_cli.specs.declared.job.Job.{Job}
-use Rattle.uecp_cli.specs.declared.job.Job.TheVariants.{Answer, Show, Make, Line}
+use Rattle.uecp_cli.specs.declared.job.Job.TheVariants.{Answer, Show, Make, Line, Encoder, Server}
 
--- A site is 1 to 1023, an encoder's number 1 to 63, and an encoder has 1 to 8 data sets.
+-- A number lies from the least to the greatest.
+abbrev pub Lies : (least greatest number : ℕ) → Type 0
+Lies least greatest number = (least ≤ number) × (number ≤ greatest)
+
+-- A site is 1 to 1023, and an encoder's number 1 to 63.
+abbrev pub IsPlaceInRange : ℕ → ℕ → Type 0
+IsPlaceInRange site encoder = Lies 1 1023 site × Lies 1 63 encoder
+
+-- An encoder has a place, and 1 to 8 data sets.
 abbrev pub IsSetupInRange : ℕ → ℕ → ℕ → Type 0
-IsSetupInRange site encoder sets = (1 ≤ site) × (site ≤ 1023) × (1 ≤ encoder) × (encoder ≤ 63) × (1 ≤ sets) × (sets ≤ 8)
+IsSetupInRange site encoder sets = IsPlaceInRange site encoder × Lies 1 8 sets
 
 -- Each number of the job is in its range.
 abbrev pub IsInRange : Job → Type 0
 IsInRange (Answer site encoder sets services store) = IsSetupInRange site encoder sets
 IsInRange (Line site encoder sets services store) = IsSetupInRange site encoder sets
+IsInRange (Encoder site encoder sets services port connections turns) =
+    IsSetupInRange site encoder sets × Lies 1 65535 port × Lies 1 1000 connections × Lies 1 1000000 turns
+IsInRange (Server site encoder host port tries timeout turns reconnects) =
+    IsPlaceInRange site encoder × Lies 1 65535 port × Lies 1 100 tries × Lies 1 60000 timeout × Lies 1 1000 turns × Lies 0 100 reconnects
 IsInRange Show = Unit {0}
 IsInRange Make = Unit {0}

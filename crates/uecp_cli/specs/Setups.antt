@@ -9,9 +9,11 @@ use Rattle.rds_store.specs.Value.{Store}
 use Rattle.uecp_encoder.specs.State.{EncoderState}
 use Rattle.uecp_encoder.specs.State as state
 use Rattle.uecp_link.specs.Holds.{LineState, new_line}
+use Rattle.uecp_link.specs.Server.{idle_at}
+use Rattle.uecp_net.specs.Sending.{SenderState}
 use Rattle.uecp_cli.specs.declared.setup.Setup.{Setup}
-use Rattle.uecp_cli.specs.declared.run_fault.RunFault.{RunFault}
-use Rattle.uecp_cli.specs.declared.run_fault.RunFault.TheVariants.{Services, Address, OutOfMemory}
+use Rattle.uecp_text.specs.declared.run_fault.RunFault.{RunFault}
+use Rattle.uecp_text.specs.declared.run_fault.RunFault.TheVariants.{Services, Address, OutOfMemory}
 
 -- A site and an encoder's number at it that are those of one encoder.
 abbrev pub IsOneEncoder : (site encoder : ℕ) → Type 0
@@ -44,6 +46,10 @@ encoder_at_first o = state.opening (address_of o.site o.encoder) (opening o.sets
 abbrev pub line_at_first : Options → LineState Store
 line_at_first o = new_line (address_of o.site o.encoder) (opening o.sets o.services)
 
+-- A server of that encoder at first, with so many tries and turns on each connection and so many reconnects in all.
+abbrev pub sender_at_first : (site encoder tries turns reconnects : ℕ) → SenderState
+sender_at_first site encoder tries turns reconnects = record { server = idle_at (address_of site encoder); tries = tries; turns = turns; left = reconnects; why = None }
+
 -- What a run says where no store was made: want of memory, else the services, by the fault's name.
 abbrev pub SaysStoreFault : StoreFault → RunFault → Type 0
 SaysStoreFault store.OutOfMemory fault = fault ≡ OutOfMemory
@@ -54,3 +60,7 @@ abbrev pub RefusesSetup : Options → RunFault → Type 0
 RefusesSetup o fault =
     ((refusal : StoreFault) × (fault_of o.sets o.services ≡ Some refusal) × SaysStoreFault refusal fault)
     ⊎ ((fault ≡ Address) × (fault_of o.sets o.services ≡ None) × (IsOneEncoder o.site o.encoder → ⊥))
+
+-- A site and a number are not those of one encoder, and this is said.
+abbrev pub RefusesAddress : (site encoder : ℕ) → RunFault → Type 0
+RefusesAddress site encoder fault = (fault ≡ Address) × (IsOneEncoder site encoder → ⊥)

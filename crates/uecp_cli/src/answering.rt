@@ -1,65 +1,61 @@
 //! The command `answer` (profile).
-ghost use Rattle.std.specs.Prelude.{◌≡◌, ◌<◌, ◌≤◌, ◌⊎◌, IfOk, Err, length, take, flat_map};
+ghost use Rattle.std.specs.Prelude.{◌≡◌, ◌<◌, ◌≤◌, ◌⊎◌, IfOk, IfErr, length, take, flat_map};
 ghost use Rattle.rds_store.specs.Step.{step};
 ghost use Rattle.uecp_encoder.specs.State.{fed};
-ghost use Rattle.uecp_encoder.specs.Answering.{responses_to, responses_of};
-ghost use Rattle.uecp_cli.specs.Lines.{response_line};
+ghost use Rattle.uecp_encoder.specs.Answering.{responses_to};
+ghost use Rattle.uecp_lines.specs.Lines.{response_line};
+ghost use Rattle.uecp_lines.specs.StoreLines.{last_lines};
+ghost use Rattle.uecp_text.specs.Written.{Adds};
+ghost use Rattle.uecp_text.specs.declared.run_fault.RunFault.TheVariants.{OutOfMemory};
 ghost use Rattle.uecp_cli.specs.Commands.{Answers};
-ghost use Rattle.uecp_cli.specs.StoreLines.{last_lines};
-ghost use Rattle.uecp_cli.specs.Run.{RunsWhole};
 ghost use Rattle.uecp_cli.specs.Setups.{options_of, IsSetup, RefusesSetup, encoder_at_first};
-ghost use Rattle.uecp_cli.specs.Written.{Adds};
 
-use crate::command::{Command, run_over};
-use crate::line_fault::LineFault;
-use crate::output::Output;
-use crate::run_fault::RunFault;
 use crate::setup::{Setup, new_encoder};
-use crate::showing::{left, put_fault};
-use crate::store_lines::put_last;
-use crate::words::piece_of;
 use rds_store::RdsStore;
 use std::alloc::Global;
-use std::io::Read;
-use uecp_encoder::{Encoder, What};
+use uecp_encoder::Encoder;
+use uecp_lines::{put_answer, put_last};
+use uecp_text::{Interpreter, LineFault, Output, RunFault, Taken, left, piece_of};
 
-/// Feeds the pieces to a new encoder and says what it answers to each; then, where `store` is set, its store.
-pub fn answer<R: Read>(
-    alloc: Global,
-    setup: &Setup<'_>,
+/// Feeds pieces to an encoder and says what it answers to each; then, where that is asked for, its store.
+#[derive(Drop)]
+pub struct Answering {
+    encoder: Encoder<RdsStore>,
     store: bool,
-    reader: &mut R,
-    output: &mut Output,
-) -> Result<(), RunFault>
-    ensures described { IfOk result (λ _. IsSetup (options_of setup.now)) }
-    ensures runs { ((fault : _) × (result ≡ Err fault) × RefusesSetup (options_of setup.now) fault) ⊎ RunsWhole Answers (encoder_at_first (options_of setup.now)) (λ e. last_lines store e.value) (R.remaining reader.old) (R.remaining reader.new) output.old result output.new }
-{
-    let mut encoder = new_encoder(alloc, setup)?;
-    answer_all(alloc, &mut encoder, store, reader, output)
 }
 
-/// Feeds all pieces to the encoder, and says what it answers; then, where `store` is set, its store.
-fn answer_all<R: Read>(
-    alloc: Global,
-    encoder: &mut Encoder<RdsStore>,
-    store: bool,
-    reader: &mut R,
-    output: &mut Output,
-) -> Result<(), RunFault>
-    ensures { RunsWhole Answers encoder.old (λ e. last_lines store e.value) (R.remaining reader.old) (R.remaining reader.new) output.old result output.new }
-{
-    run_over(alloc, reader, encoder, output)?;
-    put_last(encoder.target(), store, output);
-    Ok(output.check()?)
+impl Answering {
+    /// The encoder that the options describe, with an opening store, before any piece. The services are judged before the
+    /// address; `OutOfMemory` where there is no memory.
+    pub fn new(alloc: Global, setup: &Setup<'_>, store: bool) -> Result<Answering, RunFault>
+        ensures described { IfOk result (λ a. IsSetup (options_of setup.now)) }
+        ensures made { IfOk result (λ a. (a.encoder ≡ encoder_at_first (options_of setup.now)) × (a.store ≡ store)) }
+        ensures refused { IfErr result (λ fault. (fault ≡ OutOfMemory) ⊎ RefusesSetup (options_of setup.now) fault) }
+    {
+        let encoder = new_encoder(alloc, setup)?;
+        Ok(Answering { encoder, store })
+    }
 }
 
-impl Command for Encoder<RdsStore> {
-    ghost meaning = { Answers };
+impl Interpreter for Answering {
+    ghost meaning = { λ a text outcome a'. Answers a.encoder text outcome a'.encoder × (a'.store ≡ a.store) };
 
-    fn take(&mut self, alloc: Global, text: &[u8], output: &mut Output) -> Result<(), LineFault> {
+    ghost closing = { λ a. last_lines a.store a.encoder.value };
+
+    fn take(
+        &mut self,
+        alloc: Global,
+        text: &[u8],
+        output: &mut Output,
+    ) -> Result<Taken, LineFault> {
         let piece = piece_of(alloc, text)?;
-        answer_piece(self, piece.as_slice(), output);
-        Ok(output.check()?)
+        answer_piece(&mut self.encoder, piece.as_slice(), output);
+        output.check()?;
+        Ok(Taken::GoesOn)
+    }
+
+    fn close(&self, output: &mut Output) {
+        put_last(self.encoder.target(), self.store, output);
     }
 }
 
@@ -86,21 +82,4 @@ fn answer_first(encoder: &mut Encoder<RdsStore>, piece: &[u8], output: &mut Outp
     let answer = encoder.feed(piece);
     put_answer(answer.what, output);
     answer.used
-}
-
-/// The line for one answer.
-fn put_answer(what: What<'_>, output: &mut Output)
-    ensures { Adds output.old output.new (flat_map response_line (responses_of what.entry)) }
-{
-    match what {
-        What::Nothing => {}
-        What::Reply(reply, fresh) => {
-            output.text("reply");
-            output.row(reply.as_slice());
-            output.text(if fresh { " new\n" } else { " kept\n" });
-        }
-        What::NotForMe => output.text("not for me\n"),
-        What::Unnumbered => output.text("unnumbered\n"),
-        What::Dropped(fault) => put_fault(fault, output),
-    }
 }

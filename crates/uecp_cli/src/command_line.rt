@@ -1,22 +1,26 @@
 //! The words of the command line (profile).
-ghost use Rattle.std.specs.Prelude.{◌≡◌, ◌≤◌, ℕ, List, false, codes, map, IfOk, IfErr};
+ghost use Rattle.std.specs.Prelude.{◌≡◌, ℕ, List, codes, map, IfOk, IfErr};
 ghost use Rattle.std.specs.String.{string_bytes};
-ghost use Rattle.clap.specs.Words.{app_of, found_of, one_of, rows_of, rule_of, shape_of};
+ghost use Rattle.clap.specs.Words.{app_of, shape_of};
 ghost use Rattle.clap.specs.Simple.{new_shape};
 ghost use Rattle.uecp_cli.specs.Ranges.{IsInRange};
-ghost use Rattle.uecp_cli.specs.CommandLine.{IsOption, IsJobOf, RefusesList, Asks, RefusesWords, services_text, number_option, services_option, store_flag, encoder_command, uecp_app};
+ghost use Rattle.uecp_cli.specs.CommandLine.{Asks, RefusesWords, command_with, place_options, encoder_options, store_command, listening_command, sending_command, uecp_app};
 
+use crate::arguments::{
+    connections, encoder, host, port, reconnects, serve_turns, services, sets, site, store,
+    timeout, tries, try_turns,
+};
 use crate::job::Job;
-use crate::services::services_of;
+use crate::matched::{answer_of, encoder_of, line_of, server_of};
 use crate::usage::Usage;
-use clap::{Arg, ArgAction, ArgMatches, Command, value_parser};
+use clap::Command;
 use std::alloc::{AllocError, Global};
 
 const VERSION: &str = "0.1.0";
 
 /// What the exit statuses say, below the list of commands.
 const STATUSES: &str =
-    "Each command reads standard input to its end. 'uecp COMMAND --help' has its options and an example.\nExit status: 0 done, 1 an input line was refused, 2 the command line or the services were refused,\n3 memory, reading or writing failed.";
+    "Each command but encoder reads standard input to its end, at most 1 MiB (1,048,576 bytes).\n'uecp COMMAND --help' has its options and an example.\nExit status: 0 done, 1 an input line was refused, 2 the command line or the services were refused,\n3 memory, reading, writing or a connection failed.";
 
 /// Reads the words of a command line, the first being the program's name.
 pub fn parse(alloc: Global, words: &[String]) -> Result<Job, Usage>
@@ -30,8 +34,11 @@ pub fn parse(alloc: Global, words: &[String]) -> Result<Job, Usage>
     match matches.subcommand() {
         Some(("answer", found)) => answer_of(alloc, found),
         Some(("line", found)) => line_of(alloc, found),
+        Some(("encoder", found)) => encoder_of(alloc, found),
+        Some(("server", found)) => server_of(alloc, found),
         Some(("make", _)) => Ok(Job::Make),
-        _ => Ok(Job::Show),
+        Some(("show", _)) => Ok(Job::Show),
+        _ => unreachable!(),
     }
 }
 
@@ -48,13 +55,15 @@ pub fn program<'a>(alloc: Global) -> Result<Command<'a>, AllocError>
         .subcommand(answer_command(alloc)?)?
         .subcommand(show_command(alloc))?
         .subcommand(make_command(alloc))?
-        .subcommand(line_command(alloc)?)
+        .subcommand(line_command(alloc)?)?
+        .subcommand(encoder_command(alloc)?)?
+        .subcommand(server_command(alloc)?)
 }
 
 fn answer_command<'a>(alloc: Global) -> Result<Command<'a>, AllocError>
-    ensures { IfOk result (λ command. shape_of command ≡ encoder_command (codes "answer")) }
+    ensures { IfOk result (λ command. shape_of command ≡ store_command (codes "answer")) }
 {
-    with_encoder(
+    with_store(
         alloc,
         Command::new(alloc, "answer")
             .about("Say what an encoder answers to hexadecimal pieces, one a line")
@@ -81,9 +90,9 @@ fn make_command<'a>(alloc: Global) -> Command<'a>
 }
 
 fn line_command<'a>(alloc: Global) -> Result<Command<'a>, AllocError>
-    ensures { IfOk result (λ command. shape_of command ≡ encoder_command (codes "line")) }
+    ensures { IfOk result (λ command. shape_of command ≡ store_command (codes "line")) }
 {
-    with_encoder(
+    with_store(
         alloc,
         Command::new(alloc, "line")
             .about("Play an event script on a line between a server and an encoder")
@@ -93,117 +102,58 @@ fn line_command<'a>(alloc: Global) -> Result<Command<'a>, AllocError>
     )
 }
 
-fn with_encoder<'a>(alloc: Global, command: Command<'a>) -> Result<Command<'a>, AllocError>
-    ensures { (name : List ℕ) → shape_of command.entry ≡ new_shape name → IfOk result (λ whole. shape_of whole ≡ encoder_command name) }
+fn encoder_command<'a>(alloc: Global) -> Result<Command<'a>, AllocError>
+    ensures { IfOk result (λ command. shape_of command ≡ listening_command) }
 {
-    command
-        .arg(site(alloc))?
-        .arg(encoder(alloc))?
-        .arg(sets(alloc))?
-        .arg(services(alloc))?
-        .arg(store(alloc))
+    let command = Command::new(alloc, "encoder")
+        .about("Be an encoder on 127.0.0.1 that serves one connection after another")
+        .after_help(
+            "Standard input is not read.\nExample: uecp encoder --port 4001 --connections 2 --services 01,02",
+        );
+    with_encoder(alloc, command)?
+        .arg(port(alloc))?
+        .arg(connections(alloc))?
+        .arg(serve_turns(alloc))
 }
 
-fn site<'a>(alloc: Global) -> Arg<'a>
-    ensures rule { rule_of result ≡ number_option (codes "site") 1023 }
-    ensures own { result.global ≡ false }
+fn server_command<'a>(alloc: Global) -> Result<Command<'a>, AllocError>
+    ensures { IfOk result (λ command. shape_of command ≡ sending_command) }
 {
-    Arg::new(alloc, "site")
-        .long("site")
-        .value_name("N")
-        .help("The encoder's site, 1 to 1023")
-        .action(ArgAction::Set)
-        .value_parser(value_parser!(u16).range(1..=1023))
-        .default_value("1")
-}
-
-fn encoder<'a>(alloc: Global) -> Arg<'a>
-    ensures rule { rule_of result ≡ number_option (codes "encoder") 63 }
-    ensures own { result.global ≡ false }
-{
-    Arg::new(alloc, "encoder")
-        .long("encoder")
-        .value_name("N")
-        .help("The encoder's number at its site, 1 to 63")
-        .action(ArgAction::Set)
-        .value_parser(value_parser!(u8).range(1..=63))
-        .default_value("1")
-}
-
-fn sets<'a>(alloc: Global) -> Arg<'a>
-    ensures rule { rule_of result ≡ number_option (codes "sets") 8 }
-    ensures own { result.global ≡ false }
-{
-    Arg::new(alloc, "sets")
-        .long("sets")
-        .value_name("N")
-        .help("How many data sets the encoder has, 1 to 8")
-        .action(ArgAction::Set)
-        .value_parser(value_parser!(u8).range(1..=8))
-        .default_value("1")
-}
-
-fn services<'a>(alloc: Global) -> Arg<'a>
-    ensures rule { rule_of result ≡ services_option }
-    ensures own { result.global ≡ false }
-{
-    Arg::new(alloc, "services")
-        .long("services")
-        .value_name("LIST")
-        .help(
-            "The services of each data set, 1 to 8 hexadecimal numbers such as 01,0A, the main one first",
+    let command = Command::new(alloc, "server")
+        .about(
+            "Send hexadecimal messages, one a line, to an encoder, each until it is acknowledged",
         )
-        .action(ArgAction::Set)
-        .default_value("01")
+        .after_help(
+            "A line is HEX, or - for the empty message.\nA second run against an encoder that still runs begins at counter 01 again, so its messages are acknowledged and not applied.\nExample: echo 010000C201 | uecp server --port 4001",
+        );
+    with_place(alloc, command)?
+        .arg(host(alloc))?
+        .arg(port(alloc))?
+        .arg(tries(alloc))?
+        .arg(timeout(alloc))?
+        .arg(try_turns(alloc))?
+        .arg(reconnects(alloc))
 }
 
-fn store<'a>(alloc: Global) -> Arg<'a>
-    ensures rule { rule_of result ≡ store_flag }
-    ensures own { result.global ≡ false }
+/// The command with the options of an encoder and the flag for its store.
+fn with_store<'a>(alloc: Global, command: Command<'a>) -> Result<Command<'a>, AllocError>
+    ensures { (name : List ℕ) → shape_of command.entry ≡ new_shape name → IfOk result (λ whole. shape_of whole ≡ store_command name) }
 {
-    Arg::new(alloc, "store")
-        .long("store")
-        .help("Write the encoder's store at the end")
-        .action(ArgAction::SetTrue)
+    with_encoder(alloc, command)?.arg(store(alloc))
 }
 
-/// The encoder's site, 1 to 1023.
-fn site_of(found: &ArgMatches<'_>) -> u16
-    ensures { IsOption (one_of (codes "site") (rows_of (found_of found.now))) 1023 result }
+/// The command with the options of an encoder.
+fn with_encoder<'a>(alloc: Global, command: Command<'a>) -> Result<Command<'a>, AllocError>
+    ensures { (name : List ℕ) → shape_of command.entry ≡ new_shape name → IfOk result (λ whole. shape_of whole ≡ command_with name encoder_options) }
 {
-    found.get_one::<u16>("site").unwrap_or(1).clamp(1, 1023)
+    with_place(alloc, command)?
+        .arg(sets(alloc))?
+        .arg(services(alloc))
 }
 
-/// The value of an option that is a number from 1 to `most`.
-fn small_of(found: &ArgMatches<'_>, name: &str, most: u8) -> u8
-    requires { 1 ≤ most }
-    ensures { IsOption (one_of name.now (rows_of (found_of found.now))) most result }
+/// The command with the options of an encoder's place.
+fn with_place<'a>(alloc: Global, command: Command<'a>) -> Result<Command<'a>, AllocError>
+    ensures { (name : List ℕ) → shape_of command.entry ≡ new_shape name → IfOk result (λ whole. shape_of whole ≡ command_with name place_options) }
 {
-    found.get_one::<u8>(name).unwrap_or(1).clamp(1, most)
-}
-
-fn answer_of(alloc: Global, found: &ArgMatches<'_>) -> Result<Job, Usage>
-    ensures job { IfOk result (IsJobOf (codes "answer") (rows_of (found_of found.now))) }
-    ensures refused { IfErr result (RefusesList (services_text (rows_of (found_of found.now)))) }
-{
-    Ok(Job::Answer {
-        site: site_of(found),
-        encoder: small_of(found, "encoder", 63),
-        sets: small_of(found, "sets", 8),
-        services: services_of(alloc, found.get_str("services").unwrap_or("01"))?,
-        store: found.get_flag("store"),
-    })
-}
-
-fn line_of(alloc: Global, found: &ArgMatches<'_>) -> Result<Job, Usage>
-    ensures job { IfOk result (IsJobOf (codes "line") (rows_of (found_of found.now))) }
-    ensures refused { IfErr result (RefusesList (services_text (rows_of (found_of found.now)))) }
-{
-    Ok(Job::Line {
-        site: site_of(found),
-        encoder: small_of(found, "encoder", 63),
-        sets: small_of(found, "sets", 8),
-        services: services_of(alloc, found.get_str("services").unwrap_or("01"))?,
-        store: found.get_flag("store"),
-    })
+    command.arg(site(alloc))?.arg(encoder(alloc))
 }

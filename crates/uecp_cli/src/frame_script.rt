@@ -1,47 +1,47 @@
 //! The command `make` (profile).
-ghost use Rattle.std.specs.Prelude.{None, ◌≡◌, ◌⊎◌, ℕ, List, [], ◌∷◌, codes, Ok, Err, OnOk, OnErr, IfOk, IfErr, IfSome, IfNone, IsTrue};
-ghost use Rattle.uecp_cli.specs.declared.line_fault.LineFault.TheVariants.{NotACommand, OutOfMemory};
-ghost use Rattle.uecp_cli.specs.Words.{words, texts};
-ghost use Rattle.uecp_cli.specs.FrameScript.{Extends, Says, SaysNothing, Does, IsUndone, Makes, line_of, spelled_line};
-ghost use Rattle.uecp_cli.specs.Run.{RunsWhole};
-ghost use Rattle.uecp_cli.specs.Written.{Adds};
+ghost use Rattle.std.specs.Prelude.{None, ◌≡◌, ℕ, List, [], OnOk, OnErr, IfErr};
+ghost use Rattle.uecp_text.specs.Written.{Adds};
+ghost use Rattle.uecp_words.specs.ScriptWords.{Extends, line_of};
+ghost use Rattle.uecp_cli.specs.FrameScript.{Does, IsUndone, Makes, spelled_line};
 
-use crate::command::{Command, run_over};
-use crate::element_words::spelling_of;
-use crate::line_fault::LineFault;
-use crate::output::Output;
-use crate::run_fault::RunFault;
-use crate::words::{byte_of, bytes_or_none, number_of, words_of};
 use std::alloc::Global;
-use std::io::Read;
-use uecp_frame::{Address, Frame, FrameBytes, Message, encode};
+use uecp_frame::{Frame, FrameBytes, Message, encode};
+use uecp_text::{Interpreter, LineFault, Output, Taken};
+use uecp_words::{ScriptLine, script_line};
 
-/// One line of a frame script.
-enum ScriptLine {
-    /// Begins a frame.
-    Frame(Address, u8),
-    /// Adds the spelling of an element.
-    Element(Message),
-    /// Adds bytes as they are.
-    Raw(Vec<u8>),
+/// Writes the frames of a script in hexadecimal: each as the next one begins, and the last one at the end.
+#[derive(Drop)]
+pub struct Making {
+    frame: Option<Frame>,
 }
 
-/// Writes the frames of a script in hexadecimal.
-pub fn make<R: Read>(alloc: Global, reader: &mut R, output: &mut Output) -> Result<(), RunFault>
-    ensures { RunsWhole Makes None spelled_line (R.remaining reader.old) (R.remaining reader.new) output.old result output.new }
-{
-    let mut frame = None;
-    run_over(alloc, reader, &mut frame, output)?;
-    put_spelled(&frame, output);
-    Ok(output.check()?)
+impl Making {
+    /// No frame was begun yet.
+    pub fn new() -> Making
+        ensures { result.frame ≡ None }
+    {
+        Making { frame: None }
+    }
 }
 
-impl Command for Option<Frame> {
-    ghost meaning = { Makes };
+impl Interpreter for Making {
+    ghost meaning = { λ m text outcome m'. Makes m.frame text outcome m'.frame };
 
-    fn take(&mut self, alloc: Global, text: &[u8], output: &mut Output) -> Result<(), LineFault> {
-        do_line(script_line(alloc, text)?, self, output)?;
-        Ok(output.check()?)
+    ghost closing = { λ m. spelled_line m.frame };
+
+    fn take(
+        &mut self,
+        alloc: Global,
+        text: &[u8],
+        output: &mut Output,
+    ) -> Result<Taken, LineFault> {
+        do_line(script_line(alloc, text)?, &mut self.frame, output)?;
+        output.check()?;
+        Ok(Taken::GoesOn)
+    }
+
+    fn close(&self, output: &mut Output) {
+        put_spelled(&self.frame, output);
     }
 }
 
@@ -94,55 +94,4 @@ fn put_spelled(frame: &Option<Frame>, output: &mut Output)
         output.digits(bytes.as_slice());
         output.end();
     }
-}
-
-/// Reads one line.
-fn script_line(alloc: Global, text: &[u8]) -> Result<ScriptLine, LineFault>
-    ensures said { IfOk result (λ line. Says (words text.now) (line_of line)) }
-    ensures refused { IfErr result (λ e. (e ≡ OutOfMemory) ⊎ ((e ≡ NotACommand) × SaysNothing (words text.now))) }
-{
-    let words = words_of(alloc, text)?;
-    line_in(alloc, words.as_slice())
-}
-
-/// What the words of a line say.
-fn line_in(alloc: Global, words: &[&[u8]]) -> Result<ScriptLine, LineFault>
-    ensures said { IfOk result (λ line. Says (texts words.now) (line_of line)) }
-    ensures refused { IfErr result (λ e. (e ≡ OutOfMemory) ⊎ ((e ≡ NotACommand) × SaysNothing (texts words.now))) }
-{
-    let Some((name, rest)) = words.split_first() else {
-        return Err(LineFault::NotACommand);
-    };
-    match *name {
-        b"frame" => frame_line(rest).ok_or(LineFault::NotACommand),
-        b"raw" => raw_line(alloc, rest),
-        _ => match spelling_of(words) {
-            Some(spelling) => Ok(ScriptLine::Element(spelling)),
-            None => Err(LineFault::NotACommand),
-        },
-    }
-}
-
-/// Reads the words after `frame`.
-fn frame_line(words: &[&[u8]]) -> Option<ScriptLine>
-    ensures said { IfSome result (λ line. Says (codes "frame" ∷ texts words.now) (line_of line)) }
-    ensures refused { IfNone result (SaysNothing (codes "frame" ∷ texts words.now)) }
-{
-    let [address, counter] = words else {
-        return None;
-    };
-    let value = number_of(address)?;
-    let address = Address::new(value / 64, (value % 64) as u8)?;
-    Some(ScriptLine::Frame(address, byte_of(counter)?))
-}
-
-/// Reads the word after `raw`.
-fn raw_line(alloc: Global, words: &[&[u8]]) -> Result<ScriptLine, LineFault>
-    ensures said { IfOk result (λ line. Says (codes "raw" ∷ texts words.now) (line_of line)) }
-    ensures refused { IfErr result (λ e. (e ≡ OutOfMemory) ⊎ ((e ≡ NotACommand) × SaysNothing (codes "raw" ∷ texts words.now))) }
-{
-    let [digits] = words else {
-        return Err(LineFault::NotACommand);
-    };
-    Ok(ScriptLine::Raw(bytes_or_none(alloc, digits)?))
 }

@@ -33,4 +33,40 @@ pub enum Job {
         /// Whether the store is written out at the end.
         store: bool,
     },
+    /// An encoder that listens on 127.0.0.1 and serves one connection after another.
+    Encoder {
+        /// The encoder's site, 1 to 1023.
+        site: u16,
+        /// The encoder's number at its site, 1 to 63.
+        encoder: u8,
+        /// How many data sets it has, 1 to 8.
+        sets: u8,
+        /// The numbers of its services, the main one first. The store judges them.
+        services: Vec<u8>,
+        /// The port on which it listens, 1 to 65535.
+        port: u16,
+        /// How many connections it serves, 1 to 1000.
+        connections: u32,
+        /// How many reads one connection may take, 1 to 1000000.
+        turns: u32,
+    },
+    /// A server that sends the messages on standard input to an encoder, each until it is acknowledged.
+    Server {
+        /// The site of its encoder, 1 to 1023.
+        site: u16,
+        /// That encoder's number at its site, 1 to 63.
+        encoder: u8,
+        /// Where the encoder listens: a name or an address.
+        host: String,
+        /// The encoder's port, 1 to 65535.
+        port: u16,
+        /// How often a message is sent on one connection, 1 to 100.
+        tries: u32,
+        /// How many milliseconds a read waits, 1 to 60000.
+        timeout: u32,
+        /// How many reads one try makes at most, 1 to 1000.
+        turns: u32,
+        /// How many connections may be opened in all after the first, 0 to 100.
+        reconnects: u32,
+    },
 }

@@ -2,12 +2,13 @@
 ghost use Rattle.uecp_cli.specs.Streams.{ShowsOneStream, AnswersOneStream};
 ghost use Rattle.uecp_cli.specs.Headlines.{ScriptsKeepHeadline};
 
-/// What `show` writes depends on the bytes alone that its pieces spell, joined: it is what stands in one stream.
+/// Where no text is refused, what `show` writes depends on the bytes alone that its pieces spell, joined: it is what stands in
+/// one stream.
 pub fn shows_one_stream()
     ensures { ShowsOneStream }
 {}
 
-/// What `answer` writes depends on those bytes alone: it is what the encoder responds to one stream.
+/// Where no text is refused, what `answer` writes depends on those bytes alone: it is what the encoder responds to one stream.
 pub fn answers_one_stream()
     ensures { AnswersOneStream }
 {}

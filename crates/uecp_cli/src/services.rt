@@ -3,8 +3,8 @@ ghost use Rattle.std.specs.Prelude.{IfOk, IfErr};
 ghost use Rattle.uecp_cli.specs.CommandLine.{IsList, RefusesList};
 
 use crate::usage::Usage;
-use crate::words::byte_of;
 use std::alloc::Global;
+use uecp_text::byte_of;
 
 /// The numbers of a list such as `01,0A`: one or more numbers of two hexadecimal digits of either case, between
 /// single commas.

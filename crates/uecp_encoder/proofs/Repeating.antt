@@ -9,9 +9,9 @@ use Rattle.uecp_frame.specs.Address.{reaches}
 use Rattle.uecp_frame.specs.Frame.{spelling}
 use Rattle.uecp_frame.specs.Findings.{Finding}
 use Rattle.uecp_encoder.specs.Target.{Step}
-use Rattle.uecp_encoder.specs.State.{EncoderState, raised, numbered, after_finding, after_findings}
-use Rattle.uecp_encoder.specs.Answering.{Replied, NotForMe, Unnumbered, reply_of, replied, response_to, responses}
-use Rattle.uecp_encoder.specs.Laws.{fresh_in, fresh_among, IsRepeat, RetryActsOnce}
+use Rattle.uecp_encoder.specs.State.{EncoderState, raised, numbered, after_finding}
+use Rattle.uecp_encoder.specs.Answering.{Replied, NotForMe, Unnumbered, reply_of, replied, response_to}
+use Rattle.uecp_encoder.specs.Laws.{Happening, Finds, Becomes, after_happening, after_happenings, fresh_in, applied_in, applied_among, IsRepeat, RetryActsOnce}
 
 -- what the first pairs have, the whole ring has
 kept_in_front : (n : ℕ) (ring : List (ℕ × Code)) (counter : ℕ) (code : Code) → kept_code (take n ring) counter ≡ Some code → kept_code ring counter ≡ Some code
@@ -59,11 +59,16 @@ module _ {V : Type 0} (step : Step V) (address counter : ℕ) (code : Code) wher
   finding_keeps e n (Err fault) kept small = record { address_is = kept.address_is; pair = subst (λ (m : ℕ). kept_code (take (suc m) e.ring) counter ≡ Some code) (let q : n ≡ n + 0 = omega arith in q) kept.pair }
   finding_keeps e n (Ok g) kept small = frame_keeps e n g (reaches g.address e.address) (g.counter == 0) (kept_code e.ring g.counter) refl kept small
 
-  pub findings_keep : (e : EncoderState V) (n : ℕ) (between : List Finding) → IsKept address counter code n e → n + fresh_among (responses step e between) ≤ 126 →
-      (m : ℕ) × IsKept address counter code m (after_findings step e between)
-  findings_keep e n [] kept small = (n, kept)
-  findings_keep e n (x ∷ between) kept small =
-      findings_keep (after_finding step e x) (n + fresh_in (response_to step e x)) between (finding_keeps e n x kept (omega arith)) (omega arith)
+  happening_keeps : (e : EncoderState V) (n : ℕ) (h : Happening V) → IsKept address counter code n e → n + applied_in step e h ≤ 126 →
+      IsKept address counter code (n + applied_in step e h) (after_happening step e h)
+  happening_keeps e n (Finds x) kept small = finding_keeps e n x kept small
+  happening_keeps e n (Becomes value counts part) kept small = record { address_is = kept.address_is; pair = subst (λ (m : ℕ). kept_code (take (suc m) e.ring) counter ≡ Some code) (let q : n ≡ n + 0 = omega arith in q) kept.pair }
+
+  pub happenings_keep : (e : EncoderState V) (n : ℕ) (between : List (Happening V)) → IsKept address counter code n e → n + applied_among step e between ≤ 126 →
+      (m : ℕ) × IsKept address counter code m (after_happenings step e between)
+  happenings_keep e n [] kept small = (n, kept)
+  happenings_keep e n (h ∷ between) kept small =
+      happenings_keep (after_happening step e h) (n + applied_in step e h) between (happening_keeps e n h kept (omega arith)) (omega arith)
 
 -- what is known of a frame that is applied
 record Fresh {V : Type 0} (step : Step V) (e : EncoderState V) (f : Frame) (bytes : List ℕ) : Type 0 where
@@ -104,8 +109,8 @@ retry_acts_once_lem step e f bytes between h few =
     let fresh = fresh_is step e f bytes h in
     let code : Code = (step e.value f.message).1 in
     let e1 : EncoderState _ = after_finding step e (Ok f) in
-    let e2 : EncoderState _ = after_findings step e1 between in
-    let last = findings_keep step e.address f.counter code e1 0 between (applied step e f bytes fresh) (omega (arith, few)) in
+    let e2 : EncoderState _ = after_happenings step e1 between in
+    let last = happenings_keep step e.address f.counter code e1 0 between (applied step e f bytes fresh) (omega (arith, few)) in
     let known : kept_code e2.ring f.counter ≡ Some code = kept_in_front (suc last.0) e2.ring f.counter code last.1.pair in
     let reached : reaches f.address e2.address ≡ true = ap (reaches f.address) last.1.address_is ∙ fresh.reached in
     let same : spelling (reply_of e2.address f.counter code) ≡ bytes = ap (λ (a : ℕ). spelling (reply_of a f.counter code)) last.1.address_is ∙ fresh.said in

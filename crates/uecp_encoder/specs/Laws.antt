@@ -4,11 +4,28 @@ use Rattle.uecp_frame.specs.declared.frame.Frame.{Frame}
 use Rattle.uecp_frame.specs.Frame.{spelling}
 use Rattle.uecp_frame.specs.Findings.{Finding, OpenPart, Closed, has_frame, is_quiet}
 use Rattle.uecp_frame.specs.Beyond.{found_beyond, open_beyond}
+use Rattle.uecp_encoder.specs.declared.counts.Counts.{Counts}
 use Rattle.uecp_encoder.specs.Target.{Step}
-use Rattle.uecp_encoder.specs.State.{EncoderState, after_finding, after_findings, fed}
-use Rattle.uecp_encoder.specs.Answering.{Response, Replied, NotForMe, Unnumbered, Dropped, response_to, responses, responses_to, answers}
+use Rattle.uecp_encoder.specs.State.{EncoderState, after_finding, fed}
+use Rattle.uecp_encoder.specs.Answering.{Response, Replied, NotForMe, Unnumbered, Dropped, response_to, responses_to, answers}
 
 -- ---- A retry acts once.
+
+-- What may happen to an encoder between two deliveries of a frame: it takes a finding; or its target, counts and open part become these, by anything that
+-- leaves its address and its kept replies, as where a segment begins, where the line is lost, where something is taken from the target.
+pub data Happening (V : Type 0) : Type 0 where
+  Finds : (finding : Finding) → Happening V
+  Becomes : (value : V) (counts : Counts) (part : OpenPart) → Happening V
+
+-- the encoder after it
+abbrev pub after_happening : {V : Type 0} → Step V → EncoderState V → Happening V → EncoderState V
+after_happening step e (Finds finding) = after_finding step e finding
+after_happening step e (Becomes value counts part) = record e { value = value; counts = counts; part = part }
+
+-- the encoder after happenings, one after another
+abbrev pub after_happenings : {V : Type 0} → Step V → EncoderState V → List (Happening V) → EncoderState V
+after_happenings step e [] = e
+after_happenings step e (h ∷ hs) = after_happenings step (after_happening step e h) hs
 
 -- 1 where a message was applied, else 0
 abbrev pub fresh_in : Response → ℕ
@@ -17,25 +34,30 @@ fresh_in NotForMe = 0
 fresh_in Unnumbered = 0
 fresh_in (Dropped fault) = 0
 
--- how many messages were applied
-abbrev pub fresh_among : List Response → ℕ
-fresh_among [] = 0
-fresh_among (r ∷ rs) = fresh_in r + fresh_among rs
+-- how many messages a happening applied
+abbrev pub applied_in : {V : Type 0} → Step V → EncoderState V → Happening V → ℕ
+applied_in step e (Finds finding) = fresh_in (response_to step e finding)
+applied_in step e (Becomes value counts part) = 0
 
--- The frame is answered with these bytes as a repeat, and what was applied and kept stays as it is.
+-- how many messages were applied in all
+abbrev pub applied_among : {V : Type 0} → Step V → EncoderState V → List (Happening V) → ℕ
+applied_among step e [] = 0
+applied_among step e (h ∷ hs) = applied_in step e h + applied_among step (after_happening step e h) hs
+
+-- The frame is answered with these bytes as a repeat, and neither target nor kept replies change.
 pub record IsRepeat {V : Type 0} (step : Step V) (e : EncoderState V) (f : Frame) (bytes : List ℕ) : Type 0 where
   pub reply : response_to step e (Ok f) ≡ Replied bytes false
   pub value : (after_finding step e (Ok f)).value ≡ e.value
   pub ring : (after_finding step e (Ok f)).ring ≡ e.ring
 
--- A frame that was applied and comes again, after any findings among which at most 126 further messages were applied,
--- gets the reply that it got, byte for byte, and changes nothing.
+-- A frame that was applied and comes again, after any happenings among which at most 126 further messages were applied, gets the reply that it got, byte for
+-- byte, and changes neither target nor kept replies.
 abbrev pub RetryActsOnce : {V : Type 0} → Step V → Type 0
 RetryActsOnce {V} step =
-    (e : EncoderState V) (f : Frame) (bytes : List ℕ) (between : List Finding) →
+    (e : EncoderState V) (f : Frame) (bytes : List ℕ) (between : List (Happening V)) →
     response_to step e (Ok f) ≡ Replied bytes true →
-    fresh_among (responses step (after_finding step e (Ok f)) between) ≤ 126 →
-    IsRepeat step (after_findings step (after_finding step e (Ok f)) between) f bytes
+    applied_among step (after_finding step e (Ok f)) between ≤ 126 →
+    IsRepeat step (after_happenings step (after_finding step e (Ok f)) between) f bytes
 
 -- ---- Where the stream is cut makes no difference.
 

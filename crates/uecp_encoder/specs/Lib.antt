@@ -4,6 +4,8 @@ pub mod State
 pub mod Answering
 pub mod Holdings
 pub mod Laws
+pub mod Metered
+pub mod Serving
 pub use Rattle.uecp_frame.specs.Address
 pub use Rattle.uecp_frame.specs.Frame
 pub use Rattle.uecp_frame.specs.Findings

@@ -11,7 +11,7 @@ ghost use Rattle.uecp_encoder.specs.contracts.encoder.Encoder.{the_row};
 use crate::answer::{Answer, ReplyBytes, What};
 use crate::counts::Counts;
 use crate::holdings::{Holdings, Outcome};
-use crate::replying::reply_bytes;
+use crate::replying::spell_reply;
 use crate::target::Target;
 use reply_ring::ReplyRing;
 use std::alloc::Global;
@@ -88,7 +88,7 @@ impl<T: Target> Encoder<T> {
         ensures answers { AnswersPiece T.step self.old piece.now result }
         ensures* after { sem 𝓛 (Rests (the_row T.row T.Target) self.entry (λ v. v ≡ fed T.step self.old (take result.used piece.now))) }
     {
-        let fed = self.deframer.feed(piece);
+        let fed = self.deframer.feed_ref(piece);
         let used = fed.used;
         let what = match self.holdings.take(&fed.found) {
             Outcome::Nothing => What::Nothing,
@@ -100,7 +100,7 @@ impl<T: Target> Encoder<T> {
                 counter,
                 fresh,
             } => {
-                self.reply = reply_bytes(self.holdings.address, code, counter);
+                spell_reply(self.holdings.address, code, counter, &mut self.reply);
                 What::Reply(&self.reply, fresh)
             }
         };

@@ -2,6 +2,7 @@
 ghost use Rattle.std.specs.Prelude.{◌≡◌, Ok, [], ◌∷◌};
 ghost use Rattle.uecp_frame.specs.Findings.{OpenPart};
 ghost use Rattle.uecp_frame.specs.Feeding.{findings_of};
+ghost use Rattle.uecp_frame.specs.Lent.{found_lent, frame_lent};
 ghost use Rattle.uecp_encoder.specs.State.{after_finding, after_findings};
 ghost use Rattle.uecp_encoder.specs.Answering.{response_to, responses};
 ghost use Rattle.uecp_encoder.specs.Holdings.{with_part, said_of};
@@ -10,7 +11,7 @@ use crate::counts::Counts;
 use crate::target::Target;
 use reply_ring::ReplyRing;
 use uecp_elements::Code;
-use uecp_frame::{Address, Found, Frame, FrameFault};
+use uecp_frame::{Address, FoundRef, FrameFault, FrameRef};
 
 /// The encoder's memory between frames.
 #[derive(Drop)]
@@ -41,25 +42,25 @@ pub(crate) enum Outcome {
 
 impl<T: Target> Holdings<T> {
     /// Takes what a piece of the stream brought.
-    pub(crate) fn take(&mut self, found: &Found) -> Outcome
-        ensures holds { (part : OpenPart) → with_part self.new part ≡ after_findings T.step (with_part self.old part) (findings_of found.now) }
-        ensures says { (part : OpenPart) → said_of self.old.address result ≡ responses T.step (with_part self.old part) (findings_of found.now) }
+    pub(crate) fn take(&mut self, found: &FoundRef<'_>) -> Outcome
+        ensures holds { (part : OpenPart) → with_part self.new part ≡ after_findings T.step (with_part self.old part) (findings_of (found_lent found.now)) }
+        ensures says { (part : OpenPart) → said_of self.old.address result ≡ responses T.step (with_part self.old part) (findings_of (found_lent found.now)) }
         ensures address { self.new.address ≡ self.old.address }
     {
         match found {
-            Found::Nothing => Outcome::Nothing,
-            Found::Refused(fault) => {
+            FoundRef::Nothing => Outcome::Nothing,
+            FoundRef::Refused(fault) => {
                 self.counts.dropped = self.counts.dropped.saturating_add(1);
                 Outcome::Dropped(*fault)
             }
-            Found::Frame(frame) => self.take_frame(frame),
+            FoundRef::Frame(frame) => self.take_frame(frame),
         }
     }
 
     /// Takes a frame: in order, the address, counter 00, a counter that is kept, and else the message is applied.
-    fn take_frame(&mut self, frame: &Frame) -> Outcome
-        ensures holds { (part : OpenPart) → with_part self.new part ≡ after_finding T.step (with_part self.old part) (Ok frame.now) }
-        ensures says { (part : OpenPart) → said_of self.old.address result ≡ response_to T.step (with_part self.old part) (Ok frame.now) ∷ [] }
+    fn take_frame(&mut self, frame: &FrameRef<'_>) -> Outcome
+        ensures holds { (part : OpenPart) → with_part self.new part ≡ after_finding T.step (with_part self.old part) (Ok (frame_lent frame.now)) }
+        ensures says { (part : OpenPart) → said_of self.old.address result ≡ response_to T.step (with_part self.old part) (Ok (frame_lent frame.now)) ∷ [] }
         ensures address { self.new.address ≡ self.old.address }
     {
         if !frame.address.reaches(self.address) {
@@ -79,7 +80,7 @@ impl<T: Target> Holdings<T> {
                 fresh: false,
             };
         }
-        let code = self.target.apply(frame.message.bytes());
+        let code = self.target.apply(frame.message);
         self.ring.keep(counter, code);
         self.counts.fresh = self.counts.fresh.saturating_add(1);
         Outcome::Reply {

@@ -6,8 +6,9 @@ ghost use Rattle.uecp_encoder.specs.Laws.{RetryActsOnce, IsInPieces, IsHeardAfte
 use crate::target::Target;
 
 /// A frame that was applied and comes again within the next 126 applied messages gets the reply that it got, byte for byte,
-/// and changes neither the target nor the kept replies. Between them anything may come: faults, frames for others,
-/// unnumbered frames, repeats.
+/// and changes neither the target nor the kept replies. Between them anything may be found in what comes (messages, faults,
+/// frames for others, unnumbered frames, repeats), and anything else may happen that leaves the encoder's address and its kept
+/// replies: noise that ends no segment, a lost line, a change of the target from outside.
 pub fn a_retry_acts_once<T: Target>()
     ensures { RetryActsOnce T.step }
 {}

@@ -7,9 +7,10 @@
 //! - [`Encoder`]: the state machine over bytes, with [`Answer`] and [`What`] as its answers.
 //! - [`Target`]: what messages are applied to.
 //! - [`Counts`]: what came, by kind.
+//! - [`serve`]: the encoder over a reader and a writer, each in a [`Meter`].
 //!
 //! The law that users rely on: [`laws::a_retry_acts_once`]. A frame that was answered and comes again within the next 126
-//! messages gets the same reply bytes, and changes nothing.
+//! messages gets the same reply bytes, and changes neither target nor kept replies.
 #![tactic(auto)]
 
 mod answer;
@@ -17,12 +18,16 @@ mod counts;
 mod encoder;
 mod holdings;
 pub mod laws;
+mod meter;
 mod replying;
+mod serving;
 mod target;
 
 pub use answer::{Answer, ReplyBytes, What};
 pub use counts::Counts;
 pub use encoder::{Encoder, EncoderFault};
+pub use meter::{Failed, Meter};
+pub use serving::{ServeFault, Served, serve};
 pub use target::Target;
 
 #[cfg(test)]

@@ -5,25 +5,17 @@ ghost use Rattle.uecp_encoder.specs.Answering.{reply_of};
 
 use crate::answer::ReplyBytes;
 use uecp_elements::Code;
-use uecp_frame::{Address, Frame, FrameBytes, Message, encode};
+use uecp_frame::{Address, FrameRef, encode_ref};
 
-/// The reply of the encoder at this address to a counter.
-pub(crate) fn reply_bytes(address: Address, code: Code, counter: u8) -> ReplyBytes
-    ensures { result.items ≡ spelling (reply_of address counter code) }
+/// Replaces the content of `bytes` by the reply of the encoder at this address to a counter.
+pub(crate) fn spell_reply(address: Address, code: Code, counter: u8, bytes: &mut ReplyBytes)
+    ensures { bytes.new.items ≡ spelling (reply_of address counter code) }
 {
-    let Some(message) = Message::from_bytes(&[0x18, code.byte(), counter]) else {
-        unreachable!();
-    };
-    let frame = Frame {
-        address,
+    let message = [0x18, code.byte(), counter];
+    let reply = FrameRef {
+        address: &address,
         counter: 0,
-        message,
+        message: &message,
     };
-    let mut bytes = FrameBytes::new();
-    encode(&frame, &mut bytes);
-    let mut reply = ReplyBytes::new();
-    match reply.try_extend_from_slice(bytes.as_slice()) {
-        Ok(()) => reply,
-        Err(_) => unreachable!(),
-    }
+    encode_ref(&reply, bytes);
 }

@@ -2,6 +2,8 @@ ghost use Rattle.std.specs.Prelude.{◌≡◌, ◌+◌, ◌%◌, ◌^◌, IsTrue
 ghost use Rattle.uecp_frame.specs.Address.{is_exact};
 ghost use Rattle.uecp_elements.specs.declared.code.Code.TheVariants.{Applied};
 
+mod serving;
+
 use crate::{Counts, Encoder, Target, What};
 use rds_store::{RdsStore, Service};
 use std::alloc::Global;

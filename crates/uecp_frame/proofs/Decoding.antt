@@ -245,19 +245,22 @@ plain_bytes_of (a ∷ b ∷ c ∷ n ∷ rest) f bytes makes = sym (ap (λ t. a �
     spelled : plain_bytes F ≡ a ∷ b ∷ c ∷ n ∷ (m ++ k ∷ l ∷ [])
     spelled = ap (λ x. x ++ high_first (check (body F))) body_is ∙ ap (λ x. (a ∷ b ∷ c ∷ n ∷ m) ++ x) check_is
 
--- the whole of an ended segment
+-- the whole of a segment
+pub split_is : (s : List ℕ) → get_or s 0 0 ≡ 254 → 2 ≤ length s → s ≡ 254 ∷ inner s ++ get_or s (length s - 1) 0 ∷ []
+split_is [] begins two = absurd (omega arith)
+split_is (a ∷ []) begins two = absurd (omega arith)
+split_is (a ∷ b ∷ s) begins two =
+    ap (λ n. n ∷ b ∷ s) begins
+    ∙ ap (λ t. 254 ∷ t) (sym (take-append-drop (length s) (b ∷ s))
+    ∙ ap (λ t. take (length s) (b ∷ s) ++ t) (drop_more (b ∷ s) (length s) 0 (omega arith)
+    ∙ ap (λ t. get_or (b ∷ s) (length s) 0 ∷ t) (drop_all (length s + 1) (b ∷ s) (omega arith)))
+    ∙ ap (λ (i : ℕ). take i (b ∷ s) ++ get_or (b ∷ s) (length s) 0 ∷ []) (let e : length s ≡ length (a ∷ b ∷ s) - 1 - 1 = omega arith in e)
+    ∙ ap (λ (i : ℕ). inner (a ∷ b ∷ s) ++ get_or (a ∷ b ∷ s) i 0 ∷ []) (let e : suc (length s) ≡ length (a ∷ b ∷ s) - 1 = omega arith in e))
+
 segment_is : (s : List ℕ) → IsSegment s → get_or s (length s - 1) 0 ≡ 255 → s ≡ 254 ∷ inner s ++ 255 ∷ []
 segment_is [] h last = absurd (omega (arith, h.begins))
 segment_is (a ∷ []) h last = absurd (omega (arith, h.begins))
-segment_is (a ∷ b ∷ s) h last =
-    ap (λ n. n ∷ b ∷ s) h.begins
-    ∙ ap (λ t. 254 ∷ t) (sym (take-append-drop (length s) (b ∷ s))
-    ∙ ap (λ t. take (length s) (b ∷ s) ++ t) (drop_more (b ∷ s) (length s) 0 (omega arith)
-    ∙ ap (λ (n : ℕ). n ∷ drop (length s + 1) (b ∷ s)) end ∙ ap (λ t. 255 ∷ t) (drop_all (length s + 1) (b ∷ s) (omega arith)))
-    ∙ ap (λ (i : ℕ). take i (b ∷ s) ++ 255 ∷ []) (let e : length s ≡ length (a ∷ b ∷ s) - 1 - 1 = omega arith in e))
-  where
-    end : get_or (b ∷ s) (length s) 0 ≡ 255
-    end = ap (λ (i : ℕ). get_or (a ∷ b ∷ s) i 0) (let e : suc (length s) ≡ length (a ∷ b ∷ s) - 1 = omega arith in e) ∙ last
+segment_is (a ∷ b ∷ s) h last = split_is (a ∷ b ∷ s) h.begins (omega arith) ∙ ap (λ (n : ℕ). 254 ∷ inner (a ∷ b ∷ s) ++ n ∷ []) last
 
 pub spelled_lem : (s : List ℕ) (f : Frame) → IsSegment s → IsBytes s → decoded s ≡ Ok f → s ≡ spelling f
 unfolding decoded finding spelling
@@ -282,11 +285,6 @@ inner_is x = take_at x (255 ∷ []) (length (254 ∷ x ++ 255 ∷ []) - 1 - 1) (
 pub spelling_is_segment : (f : Frame) → IsSegment (spelling f)
 unfolding spelling
 spelling_is_segment f = record { begins = refl; inside = ap (list_any is_delimiter) (inner_is (stuffed (plain_bytes f))) ∙ stuffed_none (plain_bytes f) }
-
--- ---- as decode answers
-pub decoded-last : (s : List ℕ) → get_or s (length s - 1) 0 ≡ 255 → decoded s ≡ judged (unstuffed (inner s))
-unfolding decoded finding
-decoded-last s h = rw (eq-eqb (get_or s (length s - 1) 0) 255 h)
 
 pub decoded-unended : (s : List ℕ) → get_or s (length s - 1) 0 ≢ 255 → decoded s ≡ Err Unended
 unfolding decoded finding

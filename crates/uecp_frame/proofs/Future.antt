@@ -74,11 +74,6 @@ more_of_left : (r z : List ℕ) → is_read r ≡ false → unstuffed (r ++ z) �
 more_of_left [] z left e = absurd (cc)
 more_of_left (b ∷ r) z left e = reading_of_cons b (r ++ z) e
 
--- 261 plain bytes with one that is not read, or more
-pub record IsLong (y : Reading) : Type 0 where
-  pub full : 261 ≤ length y.plain
-  pub long : is_too_long y ≡ true
-
 longer_is_long : (p : List ℕ) (w : Reading) → 261 < length p → is_too_long (after p w) ≡ true
 longer_is_long p w h =
     or_left (nat_lt 261 (length (p ++ w.plain))) (not (is_read w.rest) && (length (p ++ w.plain) == 261))
@@ -198,22 +193,6 @@ found-none [] h = found-nil
 found-none (b ∷ s) h =
     let p = or_parts (is_delimiter b) (list_any is_delimiter s) h in
     found-other b s (eqb-false b 254 (or_parts (b == 254) (b == 255) p.0).0) ∙ found-none s p.1
-
--- the bytes of a segment that has not ended have no delimiter
-abbrev IfOpen : Option (List ℕ) → Type 0
-IfOpen None = Unit {0}
-IfOpen (Some x) = HasNone x
-
-open_bytes_plain : (s : List ℕ) → IfOpen (open_bytes s)
-open_bytes_plain [] = subst IfOpen (sym open_bytes-nil) tt
-open_bytes_plain (b ∷ s) =
-    elim (cases_Bool (list_any is_delimiter s)) [
-      | inl t ↦ subst IfOpen (sym (open_bytes-later b s t)) (open_bytes_plain s)
-      | inr f ↦ elim (cases_eq b 254) [
-        | inl e ↦ subst IfOpen (sym (open_bytes-here b s f e)) f
-        | inr ne ↦ subst IfOpen (sym (open_bytes-other b s f ne)) tt
-      ]
-    ]
 
 pub found-append : (s y : List ℕ) → found (s ++ y) ≡ found s ++ future (open_part s) y
 found-append [] y = sym (ap (λ o. future (open_from o) y) open_bytes-nil ∙ ap (λ e. e ++ found y) (closed_ending y)) ∙ ap (λ f. f ++ future (open_part []) y) (sym found-nil)

@@ -1,189 +1,192 @@
--- What one byte more does to the findings and to the open part.
-use Rattle.std.proofs.Common.{◌≡◌, ◌≢◌, ◌<◌, ◌≤◌, ◌+◌, ◌==◌, ◌&&◌, ℕ, Bool, true, false, not, List, [], ◌∷◌, ◌++◌, refl, ◌∙◌, ap, sym, length, take, get_or, arith, append_assoc, length-append, None, Err, inl, inr}
-use Rattle.std.specs.Prelude.{if◌then◌else◌, nat_lt}
-use Rattle.std.proofs.lemmas.Bool.{cases_eq, cases_Bool, ne_eqb, eqb-false, leb-false, ltb-false, or_parts}
-use Rattle.std.proofs.lemmas.List.{append-nil, take_more}
-use Rattle.uecp_frame.specs.declared.fault.FrameFault.{FrameFault}
-use Rattle.uecp_frame.specs.declared.fault.FrameFault.TheVariants.{Unended, BadStuffing, TooLong}
+-- What bytes that come do to the findings and to the open part.
+use Rattle.std.proofs.Common.{◌≡◌, ◌≢◌, ◌<◌, ◌≤◌, ◌+◌, ◌-◌, ◌==◌, ℕ, zero, suc, true, List, [], ◌∷◌, ◌++◌, refl, ◌∙◌, ap, sym, length, take, drop, get_or, arith, None, inl, inr}
+use Rattle.std.proofs.lemmas.Bool.{cases_eq, cases_lt, cases_Bool, ne_eqb, eqb-true, or_cases}
+use Rattle.std.proofs.lemmas.List.{append-nil, length-drop}
+use Rattle.std.proofs.Math.Seq.{take-add}
+use Rattle.std.specs.List.{list_any}
 use Rattle.uecp_frame.specs.declared.fed.Found.{Found}
 use Rattle.uecp_frame.specs.declared.fed.Found.TheVariants.{Nothing}
-use Rattle.uecp_frame.specs.Stuffing.{stuffed, unstuffed}
-use Rattle.uecp_frame.specs.Segment.{judged, is_too_long, is_read, finding}
-use Rattle.uecp_frame.specs.Findings.{Finding, OpenPart, Closed, Doomed, progress, before_delimiter, found, open_bytes, open_from, open_part}
-use Rattle.uecp_frame.specs.Kept.{kept_segment, marked}
-use Rattle.uecp_frame.specs.Feeding.{findings_of, Feeds, FeedsAfter}
 use Rattle.uecp_frame.specs.declared.fed.Fed.{Fed}
-use Rattle.uecp_frame.proofs.Reading.{reading_of_cons}
-use Rattle.uecp_frame.proofs.Pieces.{found_beyond-nil, open_beyond-nil, found_beyond-append, open_beyond-append, comes_after_lem}
-use Rattle.uecp_frame.specs.Beyond.{resumed, closing, closing_at, prolonged, found_beyond, open_beyond}
-use Rattle.uecp_frame.proofs.Resumed.{unstuffed-append, rest_is_no_code, unstuffed-joined, length-stuffed-le}
-use Rattle.uecp_frame.proofs.Delimiters.{HasNone, from_delimiter-none, open_bytes-here, open_bytes-other, segment_found-none}
-use Rattle.uecp_frame.proofs.Future.{IsDoomed, closing_is, beyond_is, open_beyond-one, open_beyond-none, found-nil, found-start, found-other, found-none, found-append, is_stuck, progress-long, stuck_is_doomed, long_is_doomed, long_is_not_stuck, fuller_is_long, nothing_both, progress-append}
+use Rattle.uecp_frame.specs.Stuffing.{is_delimiter}
+use Rattle.uecp_frame.specs.Findings.{OpenPart, Closed, Doomed, Part, progress, before_delimiter, found, open_bytes, open_from, open_part}
+use Rattle.uecp_frame.specs.Beyond.{closing, closing_at, unended, found_beyond, open_beyond}
+use Rattle.uecp_frame.specs.Feeding.{Feeds, FeedsAfter, findings_of}
+use Rattle.uecp_frame.specs.OpenSegment.{Takes}
+use Rattle.uecp_frame.proofs.Reading.{unstuffed-nil}
+use Rattle.uecp_frame.proofs.Delimiters.{HasNone, from_delimiter-none, open_bytes-nil, open_bytes-here, open_bytes-later, open_bytes-other, segment_found-none}
+use Rattle.uecp_frame.proofs.Future.{beyond_is, open_beyond-one, found-nil, found-start, found-other, found-none, progress-part}
+use Rattle.uecp_frame.proofs.Pieces.{found_beyond-nil, open_beyond-nil, found_beyond-closed, open_beyond-closed, found_beyond-append, open_beyond-append, comes_after_lem}
 
--- ---- an FE
+-- ---- an FE or an FF
 found-fe : found (254 ∷ []) ≡ []
 found-fe = found-start 254 [] refl ∙ ap (λ f. f ++ found []) (segment_found-none [] refl) ∙ found-nil
 
-ended_by_fe : (x : List ℕ) → closing (progress (unstuffed x)) [] 254 ≡ Err Unended ∷ []
-unfolding finding
-ended_by_fe x = closing_is x [] 254
-
-pub start_found : (x : List ℕ) (is_open is_longer : Bool) → found_beyond (kept_segment is_open x is_longer) (254 ∷ []) ≡ (if is_open then Err Unended ∷ [] else [])
-start_found x true is_longer =
-    beyond_is (progress (unstuffed (marked x is_longer))) (254 ∷ []) ∙ ap (λ f. f ++ found (254 ∷ [])) (ended_by_fe (marked x is_longer)) ∙ ap (λ f. Err Unended ∷ f) found-fe
-start_found x false is_longer = beyond_is Closed (254 ∷ []) ∙ found-fe
-
-pub start_finds : (s x : List ℕ) (is_open is_longer : Bool) → open_part s ≡ kept_segment is_open x is_longer →
-    found (s ++ 254 ∷ []) ≡ found s ++ (if is_open then Err Unended ∷ [] else [])
-start_finds s x is_open is_longer same =
-    found-append s (254 ∷ []) ∙ ap (λ f. found s ++ f) (sym (beyond_is (open_part s) (254 ∷ [])) ∙ ap (λ o. found_beyond o (254 ∷ [])) same ∙ start_found x is_open is_longer)
-
-pub start_opens : (o : OpenPart) → open_beyond o (254 ∷ []) ≡ progress (unstuffed [])
-start_opens o = open_beyond-one o (254 ∷ []) refl ∙ ap open_from (open_bytes-here 254 [] refl refl)
-
--- ---- an FF
 found-ff : found (255 ∷ []) ≡ []
 found-ff = found-other 255 [] (λ e. absurd (omega arith)) ∙ found-nil
 
-ended_by_ff : (x : List ℕ) → closing (progress (unstuffed x)) [] 255 ≡ judged (unstuffed x) ∷ []
-unfolding finding
-ended_by_ff x = closing_is x [] 255 ∙ ap (λ y. judged (unstuffed y) ∷ []) (append-nil x)
+start_comes : (o : OpenPart) → found_beyond o (254 ∷ []) ≡ closing o [] 254
+start_comes o = beyond_is o (254 ∷ []) ∙ ap (λ f. closing o [] 254 ++ f) found-fe ∙ append-nil (closing o [] 254)
 
-pub end_found : (x : List ℕ) (is_open is_longer : Bool) → found_beyond (kept_segment is_open x is_longer) (255 ∷ []) ≡ (if is_open then judged (unstuffed (marked x is_longer)) ∷ [] else [])
-end_found x true is_longer =
-    beyond_is (progress (unstuffed (marked x is_longer))) (255 ∷ []) ∙ ap (λ f. f ++ found (255 ∷ [])) (ended_by_ff (marked x is_longer)) ∙ ap (λ f. judged (unstuffed (marked x is_longer)) ∷ f) found-ff
-end_found x false is_longer = beyond_is Closed (255 ∷ []) ∙ found-ff
+pub end_comes : (o : OpenPart) → found_beyond o (255 ∷ []) ≡ closing o [] 255
+end_comes o = beyond_is o (255 ∷ []) ∙ ap (λ f. closing o [] 255 ++ f) found-ff ∙ append-nil (closing o [] 255)
 
-pub end_finds : (s x : List ℕ) (is_open is_longer : Bool) → open_part s ≡ kept_segment is_open x is_longer →
-    found (s ++ 255 ∷ []) ≡ found s ++ (if is_open then judged (unstuffed (marked x is_longer)) ∷ [] else [])
-end_finds s x is_open is_longer same =
-    found-append s (255 ∷ []) ∙ ap (λ f. found s ++ f) (sym (beyond_is (open_part s) (255 ∷ [])) ∙ ap (λ o. found_beyond o (255 ∷ [])) same ∙ end_found x is_open is_longer)
+pub closing_unended : (o : OpenPart) → closing o [] 254 ≡ unended o
+closing_unended Closed = refl
+closing_unended (Doomed fault) = refl
+closing_unended (Part y) = refl
+
+pub start_found : (o : OpenPart) → found_beyond o (254 ∷ []) ≡ unended o
+start_found o = start_comes o ∙ closing_unended o
+
+pub start_opens : (o : OpenPart) → open_beyond o (254 ∷ []) ≡ Part (record { plain = []; rest = [] })
+start_opens o =
+    open_beyond-one o (254 ∷ []) refl ∙ ap open_from (open_bytes-here 254 [] refl refl) ∙ ap progress unstuffed-nil
+    ∙ progress-part (record { plain = []; rest = [] }) refl refl
 
 pub end_closes : (o : OpenPart) → open_beyond o (255 ∷ []) ≡ Closed
-end_closes o = open_beyond-one o (255 ∷ []) refl ∙ ap open_from open_bytes-ff
+end_closes o = open_beyond-one o (255 ∷ []) refl ∙ ap open_from (open_bytes-other 255 [] refl (λ e. absurd (omega arith)))
+
+-- after any bytes, an FE or FF ends what they leave open
+pub ends_after : (s : List ℕ) (d : ℕ) → is_delimiter d ≡ true → found (s ++ d ∷ []) ≡ found s ++ closing (open_part s) [] d
+ends_after s d h = (comes_after_lem s (d ∷ [])).found ∙ ap (λ f. found s ++ f) (comes (open_part s))
   where
-    open_bytes-ff : open_bytes (255 ∷ []) ≡ None
-    open_bytes-ff = open_bytes-other 255 [] refl (λ e. absurd (omega arith))
+    comes : (o : OpenPart) → found_beyond o (d ∷ []) ≡ closing o [] d
+    comes o = elim (or_cases (d == 254) (d == 255) h) [
+      | inl t ↦ (let is = eqb-true d 254 t in ap (λ (n : ℕ). found_beyond o (n ∷ [])) is ∙ start_comes o ∙ ap (closing o []) (sym is))
+      | inr t ↦ (let is = eqb-true d 255 t in ap (λ (n : ℕ). found_beyond o (n ∷ [])) is ∙ end_comes o ∙ ap (closing o []) (sym is))
+    ]
 
--- ---- any other byte
-one_none : (b : ℕ) → b ≢ 254 → b ≢ 255 → HasNone (b ∷ [])
-one_none b h4 h5 = rw (ne_eqb b 254 h4, ne_eqb b 255 h5)
+-- ---- bytes that are neither
+pub none_found : (o : OpenPart) (z : List ℕ) → HasNone z → found_beyond o z ≡ []
+none_found o z h = beyond_is o z ∙ ap (λ f. closing_at o (before_delimiter z) f ++ found z) (from_delimiter-none z h) ∙ found-none z h
 
-pub other_found : (o : OpenPart) (b : ℕ) → b ≢ 254 → b ≢ 255 → found_beyond o (b ∷ []) ≡ []
-other_found o b h4 h5 =
-    let none = one_none b h4 h5 in
-    beyond_is o (b ∷ []) ∙ ap (λ f. closing_at o (before_delimiter (b ∷ [])) f ++ found (b ∷ [])) (from_delimiter-none (b ∷ []) none)
-    ∙ found-none (b ∷ []) none
-
-pub other_finds : (s : List ℕ) (b : ℕ) → b ≢ 254 → b ≢ 255 → found (s ++ b ∷ []) ≡ found s ++ []
+pub other_finds : (s : List ℕ) (b : ℕ) → b ≢ 254 → b ≢ 255 → found (s ++ b ∷ []) ≡ found s
 other_finds s b h4 h5 =
-    found-append s (b ∷ []) ∙ ap (λ f. found s ++ f) (sym (beyond_is (open_part s) (b ∷ [])) ∙ other_found (open_part s) b h4 h5)
+    (comes_after_lem s (b ∷ [])).found
+    ∙ ap (λ f. found s ++ f) (none_found (open_part s) (b ∷ []) (rw (ne_eqb b 254 h4, ne_eqb b 255 h5))) ∙ append-nil (found s)
 
-pub other_closed : (o : OpenPart) (b : ℕ) → b ≢ 254 → b ≢ 255 → o ≡ Closed → open_beyond o (b ∷ []) ≡ Closed
-other_closed o b h4 h5 same = open_beyond-none o (b ∷ []) (one_none b h4 h5) ∙ ap (λ p. prolonged p (b ∷ [])) same
+-- the first k bytes of those before place n
+first_at : (z : List ℕ) (P : ℕ → Type 0) (n : ℕ) → ((k : ℕ) → k < n → P (get_or z k 0)) → n ≤ length z → (m : ℕ) → m ≤ n → (k : ℕ) → k < length (take m z) → P (get_or (take m z) k 0)
+first_at [] P n h fits zero le k l = absurd (omega arith)
+first_at [] P n h fits (suc m) le k l = absurd (omega arith)
+first_at (b ∷ z) P n h fits zero le k l = absurd (omega arith)
+first_at (b ∷ z) P n h fits (suc m) le zero l = h 0 (omega arith)
+first_at (b ∷ z) P zero h fits (suc m) le (suc k) l = absurd (omega arith)
+first_at (b ∷ z) P (suc n) h fits (suc m) le (suc k) l = first_at z P n (λ i below. h (suc i) (omega arith)) (omega arith) m (omega arith) k (omega arith)
 
-pub other_open : (o : OpenPart) (x : List ℕ) (b : ℕ) → b ≢ 254 → b ≢ 255 → o ≡ progress (unstuffed x) → open_beyond o (b ∷ []) ≡ progress (unstuffed (x ++ b ∷ []))
-other_open o x b h4 h5 same =
-    open_beyond-none o (b ∷ []) (one_none b h4 h5) ∙ ap (λ p. prolonged p (b ∷ [])) same ∙ sym (progress-append x (b ∷ []))
+none_below : (z : List ℕ) → ((k : ℕ) → k < length z → get_or z k 0 < 254) → HasNone z
+none_below [] h = refl
+none_below (b ∷ z) h =
+    let below : b < 254 = h 0 (omega arith) in
+    rw (ne_eqb b 254 (λ e. absurd (omega (arith, below, e))), ne_eqb b 255 (λ e. absurd (omega (arith, below, e)))) (none_below z (λ k l. h (suc k) (omega arith)))
 
--- ---- after 522 bytes the segment is doomed, whatever comes
-more_of_any : (r : List ℕ) (b : ℕ) (z : List ℕ) → unstuffed (r ++ b ∷ z) ≡ record { plain = []; rest = [] } → ⊥
-more_of_any [] b z e = reading_of_cons b z e
-more_of_any (c ∷ r) b z e = reading_of_cons c (r ++ b ∷ z) e
+pub none_before : (z : List ℕ) (n : ℕ) → ((k : ℕ) → k < n → get_or z k 0 < 254) → n ≤ length z → (m : ℕ) → m ≤ n → HasNone (take m z)
+none_before z n h fits m le = none_below (take m z) (first_at z (λ b. b < 254) n h fits m le)
 
-full_part : (p r : List ℕ) → length (stuffed p) + length r ≡ 522 → is_stuck (record { plain = p; rest = r }) ≡ false → is_too_long (record { plain = p; rest = r }) ≡ false → length p ≡ 261
-full_part p r len free short = at r len free (ltb-false 261 (length p) parts.0) parts.1
-  where
-    parts : (nat_lt 261 (length p) ≡ false) × ((not (is_read r) && (length p == 261)) ≡ false)
-    parts = or_parts (nat_lt 261 (length p)) (not (is_read r) && (length p == 261)) short
+-- ---- where nothing is open, bytes but FE
+no_start_found : (z : List ℕ) → ((k : ℕ) → k < length z → get_or z k 0 ≢ 254) → found z ≡ []
+no_start_found [] h = found-nil
+no_start_found (b ∷ z) h = found-other b z (h 0 (omega arith)) ∙ no_start_found z (λ k l. h (suc k) (omega arith))
 
-    at : (r : List ℕ) → length (stuffed p) + length r ≡ 522 → is_stuck (record { plain = p; rest = r }) ≡ false → length p ≤ 261 → (not (is_read r) && (length p == 261)) ≡ false → length p ≡ 261
-    at [] len free most unfull = omega (arith, length-stuffed-le p)
-    at (b ∷ []) len free most unfull = let ne = eqb-false (length p) 261 unfull in absurd (omega (arith, length-stuffed-le p))
-    at (b ∷ c ∷ r) len free most unfull = let ne = eqb-false (length p) 261 unfull in let above = leb-false (length p) 260 free in absurd (omega arith)
+no_start_opens : (z : List ℕ) → ((k : ℕ) → k < length z → get_or z k 0 ≢ 254) → open_bytes z ≡ None
+no_start_opens [] h = open_bytes-nil
+no_start_opens (b ∷ z) h = elim (cases_Bool (list_any is_delimiter z)) [
+  | inl t ↦ open_bytes-later b z t ∙ no_start_opens z (λ k l. h (suc k) (omega arith))
+  | inr f ↦ open_bytes-other b z f (h 0 (omega arith))
+]
 
-pub overlong : (x : List ℕ) → HasNone x → length x ≡ 522 → (b c : ℕ) (z w : List ℕ) → progress (unstuffed (x ++ b ∷ z)) ≡ progress (unstuffed (x ++ c ∷ w))
-overlong x none len b c z w = ap progress (unstuffed-append x (b ∷ z)) ∙ same ∙ sym (ap progress (unstuffed-append x (c ∷ w)))
-  where
-    both : (fault : FrameFault) → IsDoomed (unstuffed x) fault → progress (resumed (unstuffed x) (b ∷ z)) ≡ progress (resumed (unstuffed x) (c ∷ w))
-    both fault doomed = doomed.further (b ∷ z) ∙ sym (doomed.further (c ∷ w))
+pub skipped_found : (z : List ℕ) (n : ℕ) → ((k : ℕ) → k < n → get_or z k 0 ≢ 254) → n ≤ length z → (m : ℕ) → m ≤ n → found_beyond Closed (take m z) ≡ []
+skipped_found z n h fits m le = found_beyond-closed (take m z) ∙ no_start_found (take m z) (first_at z (λ b. b ≢ 254) n h fits m le)
 
-    longer : length (unstuffed x).plain ≡ 261 → (d : ℕ) (v : List ℕ) → progress (resumed (unstuffed x) (d ∷ v)) ≡ Doomed TooLong
-    longer full d v =
-        progress-long (resumed (unstuffed x) (d ∷ v))
-        (long_is_not_stuck (resumed (unstuffed x) (d ∷ v)) (omega (arith, length-append (unstuffed x).plain (unstuffed ((unstuffed x).rest ++ d ∷ v)).plain)))
-        (fuller_is_long (unstuffed x).plain (unstuffed ((unstuffed x).rest ++ d ∷ v)).plain (unstuffed ((unstuffed x).rest ++ d ∷ v)).rest full
-        (nothing_both (unstuffed ((unstuffed x).rest ++ d ∷ v)) (more_of_any (unstuffed x).rest d v)))
+pub skipped_left : (z : List ℕ) (n : ℕ) → ((k : ℕ) → k < n → get_or z k 0 ≢ 254) → n ≤ length z → open_beyond Closed (take n z) ≡ Closed
+skipped_left z n h fits = open_beyond-closed (take n z) ∙ ap open_from (no_start_opens (take n z) (first_at z (λ b. b ≢ 254) n h fits n (omega arith)))
 
-    length_is : length (stuffed (unstuffed x).plain) + length (unstuffed x).rest ≡ 522
-    length_is = sym (length-append (stuffed (unstuffed x).plain) (unstuffed x).rest) ∙ sym (ap length (unstuffed-joined x none)) ∙ len
+-- ---- one step
+one_taken : (rest : List ℕ) → 0 < length rest → take 1 rest ≡ get_or rest 0 0 ∷ []
+one_taken [] h = absurd (omega arith)
+one_taken (b ∷ rest) h = refl
 
-    same : progress (resumed (unstuffed x) (b ∷ z)) ≡ progress (resumed (unstuffed x) (c ∷ w))
-    same =
-        elim (cases_Bool (is_stuck (unstuffed x))) [
-          | inl t ↦ both (BadStuffing (1 + length (stuffed (unstuffed x).plain))) (stuck_is_doomed (unstuffed x) (rest_is_no_code x) t)
-          | inr f ↦ elim (cases_Bool (is_too_long (unstuffed x))) [
-            | inl long ↦ both TooLong (long_is_doomed (unstuffed x) f long)
-            | inr short ↦ (let full = full_part (unstuffed x).plain (unstuffed x).rest length_is f short in longer full b z ∙ sym (longer full c w))
-          ]
-        ]
+pub takes_one : (o : OpenPart) (rest : List ℕ) (answer : Found) (new : OpenPart) → 0 < length rest →
+    found_beyond o (get_or rest 0 0 ∷ []) ≡ findings_of answer → open_beyond o (get_or rest 0 0 ∷ []) ≡ new → Takes o rest (record { used = 1; found = answer }) new
+takes_one o rest answer new h finds leaves = record {
+  some = omega arith;
+  fits = omega arith;
+  answer = ap (found_beyond o) (one_taken rest h) ∙ finds;
+  first = λ k l. let e : k ≡ 0 = omega arith in ap (λ (n : ℕ). found_beyond o (take n rest)) e ∙ found_beyond-nil o;
+  left = ap (open_beyond o) (one_taken rest h) ∙ leaves;
+}
 
--- ---- a piece, byte after byte
+pub takes_run : (o : OpenPart) (rest : List ℕ) (used : ℕ) (new : OpenPart) → 0 < used → used ≤ length rest →
+    ((k : ℕ) → k ≤ used → found_beyond o (take k rest) ≡ []) → open_beyond o (take used rest) ≡ new → Takes o rest (record { used = used; found = Nothing }) new
+takes_run o rest used new some fits finds leaves = record {
+  some = some;
+  fits = fits;
+  answer = finds used (omega arith);
+  first = λ k l. finds k (omega arith);
+  left = leaves;
+}
+
+-- ---- a piece, step after step
 -- Up to place i of the piece nothing was found.
 pub record Quiet (o : OpenPart) (piece : List ℕ) (i : ℕ) (left : OpenPart) : Type 0 where
+  pub fits : i ≤ length piece
   pub is_left : open_beyond o (take i piece) ≡ left
   pub nothing : (k : ℕ) → k ≤ i → found_beyond o (take k piece) ≡ []
 
--- what one byte gives
-abbrev pub Takes : OpenPart → ℕ → List Finding → OpenPart → Type 0
-Takes o b more new = (found_beyond o (b ∷ []) ≡ more) × (open_beyond o (b ∷ []) ≡ new)
+on_found : (o : OpenPart) (piece : List ℕ) (i : ℕ) (left : OpenPart) → Quiet o piece i left → (k : ℕ) → found_beyond o (take (i + k) piece) ≡ found_beyond left (take k (drop i piece))
+on_found o piece i left quiet k =
+    ap (found_beyond o) (take-add i k piece) ∙ found_beyond-append o (take i piece) (take k (drop i piece))
+    ∙ ap (λ f. f ++ found_beyond (open_beyond o (take i piece)) (take k (drop i piece))) (quiet.nothing i (omega arith))
+    ∙ ap (λ p. found_beyond p (take k (drop i piece))) quiet.is_left
 
-taken_found : (o : OpenPart) (piece : List ℕ) (i : ℕ) (left new : OpenPart) (more : List Finding) → i < length piece → Quiet o piece i left →
-    Takes left (get_or piece i 0) more new → found_beyond o (take (i + 1) piece) ≡ more
-taken_found o piece i left new more h quiet takes =
-    ap (found_beyond o) (take_more piece i 0 h) ∙ found_beyond-append o (take i piece) (get_or piece i 0 ∷ [])
-    ∙ ap (λ f. f ++ found_beyond (open_beyond o (take i piece)) (get_or piece i 0 ∷ [])) (quiet.nothing i (omega arith))
-    ∙ ap (λ p. found_beyond p (get_or piece i 0 ∷ [])) quiet.is_left ∙ takes.0
+on_left : (o : OpenPart) (piece : List ℕ) (i : ℕ) (left : OpenPart) → Quiet o piece i left → (k : ℕ) → open_beyond o (take (i + k) piece) ≡ open_beyond left (take k (drop i piece))
+on_left o piece i left quiet k =
+    ap (open_beyond o) (take-add i k piece) ∙ open_beyond-append o (take i piece) (take k (drop i piece))
+    ∙ ap (λ p. open_beyond p (take k (drop i piece))) quiet.is_left
 
-taken_left : (o : OpenPart) (piece : List ℕ) (i : ℕ) (left new : OpenPart) (more : List Finding) → i < length piece → Quiet o piece i left →
-    Takes left (get_or piece i 0) more new → open_beyond o (take (i + 1) piece) ≡ new
-taken_left o piece i left new more h quiet takes =
-    ap (open_beyond o) (take_more piece i 0 h) ∙ open_beyond-append o (take i piece) (get_or piece i 0 ∷ [])
-    ∙ ap (λ p. open_beyond p (get_or piece i 0 ∷ [])) quiet.is_left ∙ takes.1
+before_on : (o : OpenPart) (piece : List ℕ) (i : ℕ) (left new : OpenPart) (fed : Fed) → Quiet o piece i left → Takes left (drop i piece) fed new →
+    (k : ℕ) → k < i + fed.used → found_beyond o (take k piece) ≡ []
+before_on o piece i left new fed quiet takes k l = elim (cases_lt i k) [
+  | inr le ↦ quiet.nothing k le
+  | inl gt ↦ (let e : k ≡ i + (k - i) = omega arith in
+      ap (λ (n : ℕ). found_beyond o (take n piece)) e ∙ on_found o piece i left quiet (k - i) ∙ takes.first (k - i) (omega arith))
+]
 
-pub quiet_more : (o : OpenPart) (piece : List ℕ) (i : ℕ) (left new : OpenPart) → i < length piece → Quiet o piece i left →
-    Takes left (get_or piece i 0) [] new → Quiet o piece (i + 1) new
-quiet_more o piece i left new h quiet takes = record {
-  is_left = taken_left o piece i left new [] h quiet takes;
-  nothing = λ k le. elim (cases_eq k (i + 1)) [
-    | inl e ↦ ap (λ n. found_beyond o (take n piece)) e ∙ taken_found o piece i left new [] h quiet takes
-    | inr ne ↦ quiet.nothing k (omega arith)
+pub quiet_on : (o : OpenPart) (piece : List ℕ) (i : ℕ) (left new : OpenPart) (fed : Fed) → Quiet o piece i left → Takes left (drop i piece) fed new →
+    fed.found ≡ Nothing → Quiet o piece (i + fed.used) new
+quiet_on o piece i left new fed quiet takes none = record {
+  fits = omega (arith, quiet.fits, takes.fits, length-drop i piece);
+  is_left = on_left o piece i left quiet fed.used ∙ takes.left;
+  nothing = λ k le. elim (cases_eq k (i + fed.used)) [
+    | inl e ↦ ap (λ (n : ℕ). found_beyond o (take n piece)) e ∙ on_found o piece i left quiet fed.used ∙ takes.answer ∙ ap findings_of none
+    | inr ne ↦ before_on o piece i left new fed quiet takes k (omega arith)
   ];
 }
 
 pub quiet_none : (o : OpenPart) (piece : List ℕ) → Quiet o piece 0 o
 quiet_none o piece = record {
+  fits = omega arith;
   is_left = open_beyond-nil o;
   nothing = λ k le. let e : k ≡ 0 = omega arith in ap (λ n. found_beyond o (take n piece)) e ∙ found_beyond-nil o;
 }
 
-pub feeds_nothing : (o : OpenPart) (piece : List ℕ) (new : OpenPart) → Quiet o piece (length piece) new → Feeds o piece (record { used = length piece; found = Nothing }) new
-feeds_nothing o piece new quiet = record {
-  used = omega arith;
-  answer = quiet.nothing (length piece) (omega arith);
+pub feeds_nothing : (o : OpenPart) (piece : List ℕ) (used : ℕ) (new : OpenPart) → Quiet o piece used new → length piece ≤ used → Feeds o piece (record { used = used; found = Nothing }) new
+feeds_nothing o piece used new quiet all = record {
+  used = quiet.fits;
+  answer = quiet.nothing used (omega arith);
   first = λ k h. quiet.nothing k (omega arith);
-  all = λ h. refl;
+  all = λ h. omega (arith, quiet.fits);
   left = quiet.is_left;
 }
 
-pub feeds_one : (o : OpenPart) (piece : List ℕ) (i : ℕ) (left new : OpenPart) (answer : Found) → (answer ≡ Nothing → ⊥) → i < length piece → Quiet o piece i left →
-    Takes left (get_or piece i 0) (findings_of answer) new → Feeds o piece (record { used = i + 1; found = answer }) new
-feeds_one o piece i left new answer some h quiet takes = record {
-  used = omega arith;
-  answer = taken_found o piece i left new (findings_of answer) h quiet takes;
-  first = λ k l. quiet.nothing k (omega arith);
+pub feeds_on : (o : OpenPart) (piece : List ℕ) (i : ℕ) (left new : OpenPart) (fed : Fed) → Quiet o piece i left → Takes left (drop i piece) fed new →
+    (fed.found ≡ Nothing → ⊥) → Feeds o piece (record { used = i + fed.used; found = fed.found }) new
+feeds_on o piece i left new fed quiet takes some = record {
+  used = omega (arith, quiet.fits, takes.fits, length-drop i piece);
+  answer = on_found o piece i left quiet fed.used ∙ takes.answer;
+  first = before_on o piece i left new fed quiet takes;
   all = λ e. absurd (some e);
-  left = taken_left o piece i left new (findings_of answer) h quiet takes;
+  left = on_left o piece i left quiet fed.used ∙ takes.left;
 }
 
 -- from the open part alone to the bytes before it
@@ -195,41 +198,3 @@ feeds_after s piece o fed new same feeds = record {
   all = feeds.all;
   left = (comes_after_lem s (take fed.used piece)).left ∙ ap (λ p. open_beyond p (take fed.used piece)) same ∙ feeds.left;
 }
-
--- ---- what one byte gives, by what is kept
-pub takes_start : (x cleared : List ℕ) (is_open is_longer : Bool) (o : OpenPart) (b : ℕ) → b ≡ 254 → kept_segment is_open x is_longer ≡ o → cleared ≡ [] →
-    Takes o b (if is_open then Err Unended ∷ [] else []) (progress (unstuffed cleared))
-takes_start x cleared is_open is_longer o b is kept clear = (
-  ap (λ n. found_beyond o (n ∷ [])) is ∙ ap (λ p. found_beyond p (254 ∷ [])) (sym kept) ∙ start_found x is_open is_longer,
-  ap (λ n. open_beyond o (n ∷ [])) is ∙ start_opens o ∙ sym (ap (λ y. progress (unstuffed y)) clear),
-)
-
-pub takes_end : (x : List ℕ) (is_open is_longer : Bool) (o : OpenPart) (b : ℕ) → b ≡ 255 → kept_segment is_open x is_longer ≡ o →
-    Takes o b (if is_open then judged (unstuffed (marked x is_longer)) ∷ [] else []) Closed
-takes_end x is_open is_longer o b is kept = (
-  ap (λ n. found_beyond o (n ∷ [])) is ∙ ap (λ p. found_beyond p (255 ∷ [])) (sym kept) ∙ end_found x is_open is_longer,
-  ap (λ n. open_beyond o (n ∷ [])) is ∙ end_closes o,
-)
-
--- another byte, where none is open
-pub left_closed : (x : List ℕ) (is_open is_longer : Bool) (o : OpenPart) (b : ℕ) → b ≢ 254 → b ≢ 255 → kept_segment is_open x is_longer ≡ o → is_open ≡ false →
-    open_beyond o (b ∷ []) ≡ kept_segment is_open x is_longer
-left_closed x is_open is_longer o b h4 h5 kept shut =
-    let closed = ap (λ i. kept_segment i x is_longer) shut in
-    other_closed o b h4 h5 (sym kept ∙ closed) ∙ sym closed
-
--- where the byte is kept: nothing was left out yet
-pub left_kept : (x : List ℕ) (is_open is_longer : Bool) (o : OpenPart) (b : ℕ) → b ≢ 254 → b ≢ 255 → kept_segment is_open x is_longer ≡ o → is_open ≡ true → is_longer ≡ false →
-    open_beyond o (b ∷ []) ≡ progress (unstuffed (x ++ b ∷ []))
-left_kept x is_open is_longer o b h4 h5 kept on short =
-    other_open o x b h4 h5 (sym kept ∙ ap (λ i. kept_segment i x is_longer) on ∙ ap (λ m. progress (unstuffed (marked x m))) short)
-
--- where it is left out
-pub left_out : (x : List ℕ) (is_open is_longer : Bool) (o : OpenPart) (b : ℕ) → b ≢ 254 → b ≢ 255 → kept_segment is_open x is_longer ≡ o → is_open ≡ true → HasNone x → length x ≡ 522 →
-    open_beyond o (b ∷ []) ≡ progress (unstuffed (x ++ 0 ∷ []))
-left_out x is_open true o b h4 h5 kept on none len =
-    other_open o (x ++ 0 ∷ []) b h4 h5 (sym kept ∙ ap (λ i. kept_segment i x true) on)
-    ∙ ap (λ y. progress (unstuffed y)) (append_assoc x (0 ∷ []) (b ∷ [])) ∙ overlong x none len 0 0 (b ∷ []) []
-left_out x is_open false o b h4 h5 kept on none len =
-    other_open o x b h4 h5 (sym kept ∙ ap (λ i. kept_segment i x false) on)
-    ∙ overlong x none len b 0 [] []

@@ -6,6 +6,7 @@ pub mod Segment
 pub mod Fault
 pub mod Findings
 pub mod Beyond
-pub mod Kept
 pub mod Feeding
 pub mod Places
+pub mod Lent
+pub mod OpenSegment

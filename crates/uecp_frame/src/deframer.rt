@@ -1,47 +1,46 @@
 //! Frames out of a stream. Source: RDS Forum SPB 490, frame format, for segments; profile for the order of faults.
-use crate::fault::FrameFault;
-use crate::fed::{Fed, Found};
-use crate::frame::{END, START, SegmentBytes};
-use crate::kept::judge_kept;
+use crate::fed::Fed;
+use crate::fed_ref::FedRef;
+use crate::lending::{address_in, found_of, lent};
+use crate::open_segment::OpenSegment;
 use std::marker::Model;
 
-/// Finds the frames of a stream that comes in any pieces. It keeps the segment that has not ended, and nothing else;
-/// contracts see what matters of that segment, the open part.
+/// Finds the frames of a stream that comes in any pieces. It keeps the segment that has not ended, and the frame that ended
+/// last; contracts see what matters of that segment, the open part.
 #[derive(Debug, Drop)]
 pub struct Deframer {
-    /// Whether an FE came that no FE or FF has ended.
-    is_open: bool,
-    /// The bytes after that FE as they came, as far as there is room.
-    bytes: SegmentBytes,
-    /// Whether more came than are kept, and so whatever follows is too long.
-    is_longer: bool,
+    /// The segment that has not ended, or the frame that ended last.
+    segment: OpenSegment,
 }
 
 impl Model for Deframer {
     ghost use Rattle.uecp_frame.specs.Findings.{OpenPart};
-    ghost use Rattle.uecp_frame.specs.Kept.{kept_segment, IsKept};
 
     ghost Value = { OpenPart };
 
-    ghost view = { λ d. kept_segment d.is_open d.bytes.items d.is_longer };
+    ghost use Rattle.uecp_frame.specs.OpenSegment.{part_of, IsOpenSegment};
 
-    ghost invariant = { λ d. IsKept d.bytes.items d.is_longer };
+    ghost view = { λ d. part_of d.segment };
+
+    ghost invariant = { λ d. IsOpenSegment d.segment };
 }
 
 impl Deframer {
-    ghost use Rattle.std.specs.Prelude.{◌≡◌, ◌≤◌, ◌<◌, ℕ, List, [], ◌∷◌, ◌++◌, length};
+    ghost use Rattle.std.specs.Prelude.{◌≡◌, ◌≤◌, ◌<◌, ℕ, List, [], ◌∷◌, ◌++◌, length, take};
+    ghost use Rattle.std.specs.Borrow.{sem};
+    ghost use Rattle.std.specs.Io.BufRead.{Rests};
     ghost use Rattle.uecp_frame.specs.Findings.{Closed, open_part};
-    ghost use Rattle.uecp_frame.specs.Beyond.{found_beyond, open_beyond};
-    ghost use Rattle.uecp_frame.specs.Feeding.{Feeds, FeedsAfter, findings_of};
+    ghost use Rattle.uecp_frame.specs.Beyond.{open_beyond};
+    ghost use Rattle.uecp_frame.specs.Feeding.{Feeds, FeedsAfter};
+    ghost use Rattle.uecp_frame.specs.Lent.{fed_lent, LendsAtMost};
+    ghost use Rattle.uecp_frame.specs.contracts.deframer.Deframer.{the_row};
 
     /// A deframer at the start of a stream: no segment is open.
     pub fn new() -> Deframer
         ensures { result ≡ Closed }
     {
         Deframer {
-            is_open: false,
-            bytes: SegmentBytes::new(),
-            is_longer: false,
+            segment: OpenSegment::new(),
         }
     }
 
@@ -49,60 +48,15 @@ impl Deframer {
     pub fn line_lost(&mut self)
         ensures { self.new ≡ Closed }
     {
-        *self = Deframer::new();
+        self.segment.close();
     }
 
     /// Another deframer that will find the same.
     pub fn copy(&self) -> Deframer
         ensures { result ≡ self.now }
     {
-        let kept = self.bytes.as_slice();
-        let mut bytes = SegmentBytes::new();
-        for byte in kept {
-            bytes.push(*byte);
-        }
         Deframer {
-            is_open: self.is_open,
-            bytes,
-            is_longer: self.is_longer,
-        }
-    }
-
-    /// Takes one byte of the stream, and tells what it ended.
-    fn take(&mut self, byte: u8) -> Found
-        ensures found { found_beyond self.old (byte ∷ []) ≡ findings_of result }
-        ensures left { open_beyond self.old (byte ∷ []) ≡ self.new }
-    {
-        if byte == START {
-            let was_open = self.is_open;
-            self.is_open = true;
-            self.bytes.clear();
-            self.is_longer = false;
-            if was_open {
-                Found::Refused(FrameFault::Unended)
-            } else {
-                Found::Nothing
-            }
-        } else if byte == END {
-            let was_open = self.is_open;
-            let judged = judge_kept(self.bytes.as_slice(), self.is_longer);
-            self.is_open = false;
-            self.bytes.clear();
-            self.is_longer = false;
-            match judged {
-                _ if !was_open => Found::Nothing,
-                Ok(frame) => Found::Frame(frame),
-                Err(fault) => Found::Refused(fault),
-            }
-        } else {
-            if self.is_open {
-                if self.bytes.is_full() {
-                    self.is_longer = true;
-                } else {
-                    self.bytes.push(byte);
-                }
-            }
-            Found::Nothing
+            segment: self.segment.copy(),
         }
     }
 
@@ -116,20 +70,29 @@ impl Deframer {
         // and so after whatever bytes have left it.
         ensures after { (s : List ℕ) → open_part s ≡ self.old → FeedsAfter s piece.now result self.new }
     {
-        for (place, byte) in piece.iter().enumerate() {
-            match self.take(*byte) {
-                Found::Nothing => {}
-                found => {
-                    return Fed {
-                        used: place + 1,
-                        found,
-                    };
-                }
-            }
-        }
+        let advanced = self.segment.advance(piece);
         Fed {
-            used: piece.len(),
-            found: Found::Nothing,
+            used: advanced.used,
+            found: found_of(advanced.ended, self.segment.plain.as_slice()),
+        }
+    }
+
+    /// As `feed`, but the message of a frame is lent. Once the loan ends, the deframer is as `feed` leaves it.
+    pub fn feed_ref(&mut self, piece: &[u8]) -> FedRef<'_>
+        ensures fits { result.used ≤ length piece.now }
+        ensures moves { 0 < length piece.now → 0 < result.used }
+        // By the open part alone,
+        ensures feeds { Feeds self.old piece.now (fed_lent result) (open_beyond self.old (take result.used piece.now)) }
+        // and so after whatever bytes have left it.
+        ensures after { (s : List ℕ) → open_part s ≡ self.old → FeedsAfter s piece.now (fed_lent result) (open_beyond self.old (take result.used piece.now)) }
+        ensures lends { LendsAtMost 255 result.found }
+        ensures* rests { sem 𝓛 (Rests the_row self.entry (λ d. d ≡ open_beyond self.old (take result.used piece.now))) }
+    {
+        let advanced = self.segment.advance(piece);
+        self.segment.address = address_in(advanced.ended, self.segment.plain.as_slice());
+        FedRef {
+            used: advanced.used,
+            found: lent(advanced.ended, &self.segment),
         }
     }
 }

@@ -15,25 +15,31 @@
 
 mod address;
 mod check;
+mod check_table;
 mod deframer;
 mod encoding;
 mod fault;
 mod fed;
+mod fed_ref;
 mod frame;
 mod judging;
-mod kept;
 pub mod laws;
+mod lending;
 mod message;
+mod open_segment;
+mod searching;
+mod segment;
 
 pub use address::Address;
 pub use check::check_of;
 pub use deframer::Deframer;
-pub use encoding::encode;
+pub use encoding::{encode, encode_ref};
 pub use fault::FrameFault;
 pub use fed::{Fed, Found};
+pub use fed_ref::{FedRef, FoundRef, FrameRef};
 pub use frame::{Frame, FrameBytes};
-pub use judging::{decode, is_segment};
 pub use message::{Full, Message};
+pub use segment::{decode, is_segment};
 
 #[cfg(test)]
 mod tests;

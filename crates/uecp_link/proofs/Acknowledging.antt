@@ -8,10 +8,11 @@ use Rattle.uecp_frame.specs.Frame.{spelling}
 use Rattle.uecp_frame.specs.Findings.{Finding, has_frame}
 use Rattle.uecp_encoder.specs.Target.{Step}
 use Rattle.uecp_encoder.specs.Answering.{reply_of}
+use Rattle.uecp_link.specs.Counters.{counter_of}
 use Rattle.uecp_link.specs.Server.{ServerState, acknowledges, heard, all_heard_as, told}
 use Rattle.uecp_link.specs.Replying.{last_of, code_heard, codes_heard, acknowledgements}
 use Rattle.uecp_link.specs.Once.{ReplyComes, acknowledgement}
-use Rattle.uecp_link.specs.Law.{counter_of, reply_bytes}
+use Rattle.uecp_link.specs.Law.{reply_bytes}
 use Rattle.uecp_link.specs.Kept.{last_counter, ServerIs, Waits}
 use Rattle.uecp_link.specs.Holds.{LineState, IsLine}
 use Rattle.uecp_link.specs.Events.{answer_seen}

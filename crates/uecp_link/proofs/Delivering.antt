@@ -12,11 +12,12 @@ use Rattle.uecp_frame.specs.Findings.{Finding, has_frame}
 use Rattle.uecp_frame.specs.Beyond.{found_beyond, open_beyond}
 use Rattle.uecp_encoder.specs.Target.{Step}
 use Rattle.uecp_encoder.specs.State.{EncoderState, raised, numbered, after_finding, after_findings, fed}
+use Rattle.uecp_link.specs.Counters.{counter_of}
 use Rattle.uecp_link.specs.declared.stepped.Stepped.{Stepped}
 use Rattle.uecp_link.specs.declared.stepped.Stepped.TheVariants as stepped
 use Rattle.uecp_link.specs.Replying.{coded, reply_to, last_of, replies_to, replies}
 use Rattle.uecp_link.specs.Once.{Event, FrameComes, Delivered, message_at, delivery}
-use Rattle.uecp_link.specs.Law.{counter_of, frame_of, Fits}
+use Rattle.uecp_link.specs.Law.{frame_of, Fits}
 use Rattle.uecp_link.specs.Holds.{LineState, once_of, IsLine}
 use Rattle.uecp_link.specs.Next.{line_next, codes_with, codes_next, Passes, Goes}
 use Rattle.uecp_link.proofs.Wire.{whole}

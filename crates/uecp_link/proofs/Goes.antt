@@ -7,9 +7,10 @@ use Rattle.uecp_elements.specs.declared.code.Code.{Code}
 use Rattle.uecp_frame.specs.Frame.{spelling}
 use Rattle.uecp_encoder.specs.Target.{Step}
 use Rattle.uecp_encoder.specs.State.{EncoderState, fed}
+use Rattle.uecp_link.specs.Counters.{counter_of}
 use Rattle.uecp_link.specs.Server.{ServerState, heard}
 use Rattle.uecp_link.specs.Once.{Event, Submit, FrameComes, ReplyComes, NoiseToEncoder, NoiseToServer, EncoderLost, ServerLost, Once, message_at, with_code, refusal_of, after, delivered}
-use Rattle.uecp_link.specs.Law.{counter_of, encoder_after, server_after, reply_bytes, Fits}
+use Rattle.uecp_link.specs.Law.{encoder_after, server_after, reply_bytes, Fits}
 use Rattle.uecp_link.specs.Kept.{pairs, last_counter, code_at, Waits, Kept, Hears}
 use Rattle.uecp_link.specs.Holds.{LineState, once_of, IsLine, Holds}
 use Rattle.uecp_link.specs.Next.{line_next, codes_with, codes_next, acknowledged_next, Passes}

@@ -4,7 +4,8 @@ pub mod Hearing
 pub mod Numbering
 pub mod Steps
 pub mod Folding
-pub mod Whole
+pub mod Freshness
+pub mod Lawful
 pub mod FeedingLemmas
 pub mod Goes
 pub mod Playing
@@ -14,3 +15,5 @@ pub mod Delivering
 pub mod Acknowledging
 pub mod Opening
 pub mod Stepping
+pub mod Answered
+pub mod Tries

@@ -5,9 +5,8 @@ use Rattle.std.proofs.lemmas.Bool.{cases_eq, ne_eqb, lt-ltb, le-ltb, cases_lt}
 use Rattle.std.proofs.lemmas.List.{get_or_push, get_or_append_left}
 use Rattle.uecp_elements.specs.declared.code.Code.{Code}
 use Rattle.uecp_elements.specs.declared.code.Code.TheVariants.{Applied}
-use Rattle.uecp_link.specs.Server.{next_counter}
-use Rattle.uecp_link.specs.Once.{message_at, missing, is_none_missing, with_code, with_member}
-use Rattle.uecp_link.specs.Law.{counter_of}
+use Rattle.uecp_link.specs.Counters.{next_counter, counter_of}
+use Rattle.uecp_link.specs.Once.{message_at, unacknowledged, has_none, with_code, with_member}
 use Rattle.uecp_link.specs.Kept.{last_counter, code_at, IsMessage}
 
 pub last_counter-next : (n : ℕ) → next_counter (last_counter n) ≡ last_counter (n + 1)
@@ -71,35 +70,35 @@ with_code-next codes p c is j =
       | inr ne ↦ rw (ne_eqb j p ne) (is j ∙ below_next p j ne)
     ]
 
--- Where no number is missing, each is there.
+-- Where no number is left, each is there.
 
-is_none_missing-append : (xs ys : List ℕ) → is_none_missing (xs ++ ys) ≡ true → (is_none_missing xs ≡ true) × (is_none_missing ys ≡ true)
-is_none_missing-append [] ys h = (refl, h)
-is_none_missing-append (x ∷ xs) ys h = cc
+has_none-append : (xs ys : List ℕ) → has_none (xs ++ ys) ≡ true → (has_none xs ≡ true) × (has_none ys ≡ true)
+has_none-append [] ys h = (refl, h)
+has_none-append (x ∷ xs) ys h = cc
 
-member_from : (b : Bool) (n : ℕ) → is_none_missing (cond b [] (n ∷ [])) ≡ true → b ≡ true
+member_from : (b : Bool) (n : ℕ) → has_none (cond b [] (n ∷ [])) ≡ true → b ≡ true
 member_from true n h = refl
 member_from false n h = cc
 
-pub none_missing : (set : ℕ → Bool) (n : ℕ) → is_none_missing (missing set n) ≡ true → (k : ℕ) → k < n → set k ≡ true
-none_missing set zero h k l = absurd (omega arith)
-none_missing set (suc n) h k l =
-    let parts = is_none_missing-append (missing set n) (cond (set n) [] (n ∷ [])) h in
+pub none_left : (set : ℕ → Bool) (n : ℕ) → has_none (unacknowledged set n) ≡ true → (k : ℕ) → k < n → set k ≡ true
+none_left set zero h k l = absurd (omega arith)
+none_left set (suc n) h k l =
+    let parts = has_none-append (unacknowledged set n) (cond (set n) [] (n ∷ [])) h in
     elim (cases_eq k n) [
       | inl e ↦ ap set e ∙ member_from (set n) n parts.1
-      | inr ne ↦ none_missing set n parts.0 k (omega arith)
+      | inr ne ↦ none_left set n parts.0 k (omega arith)
     ]
 
 -- of the numbers below q the first n are all there
-pub missing_below : (set : ℕ → Bool) (q n : ℕ) → ((k : ℕ) → set k ≡ nat_lt k q) → n ≤ q → missing set n ≡ []
-missing_below set q zero is l = refl
-missing_below set q (suc n) is l = rw (is n, lt-ltb n q (omega arith), missing_below set q n is (omega arith))
+pub unacknowledged_below : (set : ℕ → Bool) (q n : ℕ) → ((k : ℕ) → set k ≡ nat_lt k q) → n ≤ q → unacknowledged set n ≡ []
+unacknowledged_below set q zero is l = refl
+unacknowledged_below set q (suc n) is l = rw (is n, lt-ltb n q (omega arith), unacknowledged_below set q n is (omega arith))
 
--- and of one number more the last is missing
-pub missing_last : (set : ℕ → Bool) (q n : ℕ) → ((k : ℕ) → set k ≡ nat_lt k q) → n ≡ q + 1 → missing set n ≡ q ∷ []
-missing_last set q n is e =
+-- and of one number more the last is left
+pub unacknowledged_last : (set : ℕ → Bool) (q n : ℕ) → ((k : ℕ) → set k ≡ nat_lt k q) → n ≡ q + 1 → unacknowledged set n ≡ q ∷ []
+unacknowledged_last set q n is e =
     let h : n ≡ suc q = omega arith in
-    rw h (rw (is q, le-ltb q q (omega arith), missing_below set q q is (omega arith)))
+    rw h (rw (is q, le-ltb q q (omega arith), unacknowledged_below set q q is (omega arith)))
 
 -- Messages.
 

@@ -11,7 +11,7 @@ use Rattle.uecp_link.specs.Once.{Submit, Numbered, at_first, refusal_of}
 use Rattle.uecp_link.specs.Kept.{last_counter, Waits, ServerIs}
 use Rattle.uecp_link.specs.Holds.{LineState, once_of, IsLine, Holds, new_line}
 use Rattle.uecp_link.proofs.Wire.{left_none}
-use Rattle.uecp_link.proofs.Numbering.{missing_below}
+use Rattle.uecp_link.proofs.Numbering.{unacknowledged_below}
 use Rattle.uecp_link.proofs.Steps.{quiet_none}
 
 pub new_holds : {V : Type 0} (address : ℕ) (value : V) → Holds (new_line address value) (at_first value)
@@ -28,7 +28,7 @@ pub idle_takes : {V : Type 0} (line : LineState V) (m : List ℕ) → IsLine lin
 idle_takes line m is idle = by_wait is.waits is.server is.waits_is
   where
     by_wait : (w : Option (List ℕ)) → ServerIs line.server line.encoder.address (last_counter (length line.sent)) w → Waits line.sent line.acknowledged w → refusal_of (once_of line) (Submit m) ≡ None
-    by_wait w s (inl all) = rw (missing_below (once_of line).acknowledged line.acknowledged (length line.sent) is.acknowledged (omega (arith, all.0)))
+    by_wait w s (inl all) = rw (unacknowledged_below (once_of line).acknowledged line.acknowledged (length line.sent) is.acknowledged (omega (arith, all.0)))
     by_wait w s (inr one) = absurd (cc (s.outstanding, idle, one.1))
 
 -- what the call owes that submits a message

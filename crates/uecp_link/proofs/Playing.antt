@@ -1,42 +1,61 @@
 -- A run of events, one event more at its end.
-use Rattle.std.proofs.Common.{◌≡◌, ℕ, ◌+◌, true, List, [], ◌∷◌, ◌++◌, Option, Some, refl, ap, sym, subst, inl, inr}
-use Rattle.std.specs.Prelude.{is_none}
+use Rattle.std.proofs.Common.{◌≡◌, ℕ, ◌+◌, List, [], ◌∷◌, ◌++◌, Ok, Err, refl, ap, sym, subst, cond, arith}
+use Rattle.std.specs.List.{count_by}
+use Rattle.std.specs.Result.{is_err}
+use Rattle.std.proofs.lemmas.List.Sums.{sum_by-append}
 use Rattle.std.specs.List.{AllByRecursion}
 use Rattle.uecp_encoder.specs.Target.{Step}
 use Rattle.uecp_link.specs.declared.refusal.LineRefusal.{LineRefusal}
-use Rattle.uecp_link.specs.declared.refusal.LineRefusal.TheVariants as line
-use Rattle.uecp_link.specs.Once.{Event, Once, Refusal, refusal_of, after}
+use Rattle.uecp_link.specs.declared.stepped.Stepped.{Stepped}
+use Rattle.uecp_link.specs.Once.{Event, Once, after}
 use Rattle.uecp_link.specs.Law.{Fits}
-use Rattle.uecp_link.specs.Holds.{Plays}
-use Rattle.uecp_link.specs.Events.{Refuses, IsSubmit}
+use Rattle.uecp_link.specs.Holds.{LineState, Outcome, Holds, StepsAs, StepsTo, once_after, Plays, RunsAs}
+use Rattle.uecp_link.specs.Events.{Refuses}
 
-pub plays-taken : {V : Type 0} (step : Step V) (o : Once V) (events : List Event) (event : Event) (count : ℕ) (o' : Once V) → Plays step o events count o'
-    → is_none (refusal_of o' event) ≡ true → Fits event → Plays step o (events ++ event ∷ []) count (after step o' event)
-plays-taken step o [] event count o' p open_ fit =
-    let same : o' ≡ o = p.1 in
-    inl (subst (λ (x : Once _). is_none (refusal_of x event) ≡ true) same open_, fit, (p.0, ap (λ (x : Once _). after step x event) same))
-plays-taken step o (e ∷ events) event count o' (inl p) open_ fit = inl (p.0, p.1, plays-taken step (after step o e) events event count o' p.2 open_ fit)
-plays-taken step o (e ∷ events) event count o' (inr p) open_ fit = inr (p.0, p.1, p.2, plays-taken step o events event p.0 o' p.3 open_ fit)
+-- a run and one step more
+pub plays-more : {V : Type 0} (step : Step V) (line : LineState V) (o : Once V) (events : List Event) (outcomes : List Outcome) (line' : LineState V) (o' : Once V)
+    → Plays step line o events outcomes line' o' → (event : Event) (outcome : Outcome) (new : LineState V) → StepsTo step line' o' event outcome new
+    → Plays step line o (events ++ event ∷ []) (outcomes ++ outcome ∷ []) new (once_after step o' event outcome)
+plays-more step line o [] [] line' o' p event outcome new s = (
+  new,
+  subst (λ (l : LineState _). StepsTo step l o event outcome new) p.0 (subst (λ (x : Once _). StepsTo step line' x event outcome new) p.1 s),
+  (refl, ap (λ (x : Once _). once_after step x event outcome) p.1),
+)
+plays-more step line o [] (r ∷ rs) line' o' p event outcome new s = absurd p
+plays-more step line o (e ∷ es) [] line' o' p event outcome new s = absurd p
+plays-more step line o (e ∷ es) (r ∷ rs) line' o' p event outcome new s = (p.0, p.1, plays-more step p.0 (once_after step o e r) es rs line' o' p.2 event outcome new s)
 
-pub plays-refused : {V : Type 0} (step : Step V) (o : Once V) (events : List Event) (event : Event) (count : ℕ) (o' : Once V) → Plays step o events count o'
-    → (is_none (refusal_of o' event) ≡ true → IsSubmit event) → Plays step o (events ++ event ∷ []) (count + 1) o'
-plays-refused step o [] event count o' p why =
-    let same : o' ≡ o = p.1 in
-    inr (0, ap (λ n. n + 1) p.0, (λ h. why (subst (λ (x : Once _). is_none (refusal_of x event) ≡ true) (sym same) h)), (refl, same))
-plays-refused step o (e ∷ events) event count o' (inl p) why = inl (p.0, p.1, plays-refused step (after step o e) events event count o' p.2 why)
-plays-refused step o (e ∷ events) event count o' (inr p) why = inr (p.0 + 1, ap (λ n. n + 1) p.1, p.2, plays-refused step o events event p.0 o' p.3 why)
+-- one outcome more is one refusal more, or none
+pub refused-more : (outcomes : List Outcome) (outcome : Outcome) → count_by is_err (outcomes ++ outcome ∷ []) ≡ count_by is_err outcomes + count_by is_err (outcome ∷ [])
+refused-more outcomes outcome = sum_by-append (λ r. cond (is_err r) 1 0) outcomes (outcome ∷ [])
 
-shut : {A : Type 0} (o : Option Refusal) (r : Refusal) → o ≡ Some r → is_none o ≡ true → A
-shut o r e h = absurd (cc (ap is_none e, h))
+-- a run of a line, and one step more that is taken, or refused
+pub runs-taken : {V : Type 0} (step : Step V) (line : LineState V) (o : Once V) (events : List Event) (refused : ℕ) (line' : LineState V) → (r : RunsAs step line o events refused line')
+    → (event : Event) (stepped : Stepped) (new : LineState V) → Fits event → StepsAs step line' r.last event stepped new
+    → RunsAs step line o (events ++ event ∷ []) refused new
+runs-taken step line o events refused line' r event stepped new fit s = record {
+  outcomes = r.outcomes ++ Ok stepped ∷ [];
+  last = after step r.last event;
+  plays = plays-more step line o events r.outcomes line' r.last r.plays event (Ok stepped) new (fit, s);
+  count = let e = refused-more r.outcomes (Ok stepped) in omega (arith, e, r.count);
+  holds = s.holds;
+}
 
--- what is refused is refused by the once-machine, or is a submission
-pub refused_why : {V : Type 0} (o : Once V) (event : Event) (refusal : LineRefusal) → Refuses o event refusal → is_none (refusal_of o event) ≡ true → IsSubmit event
-refused_why o event line.Busy r h = shut (refusal_of o event) _ r h
-refused_why o event line.NotSent r h = shut (refusal_of o event) _ r h
-refused_why o event line.TooLate r h = shut (refusal_of o event) _ r h
-refused_why o event line.HoldsAFrame r h = shut (refusal_of o event) _ r h
-refused_why o event line.OutOfMemory r h = r.1
+pub runs-refused : {V : Type 0} (step : Step V) (line : LineState V) (o : Once V) (events : List Event) (refused : ℕ) (line' : LineState V) → (r : RunsAs step line o events refused line')
+    → (event : Event) (refusal : LineRefusal) (new : LineState V) → Refuses r.last event refusal → new ≡ line'
+    → RunsAs step line o (events ++ event ∷ []) (refused + 1) new
+runs-refused step line o events refused line' r event refusal new why same = record {
+  outcomes = r.outcomes ++ Err refusal ∷ [];
+  last = r.last;
+  plays = plays-more step line o events r.outcomes line' r.last r.plays event (Err refusal) new (why, same);
+  count = let e = refused-more r.outcomes (Err refusal) in omega (arith, e, r.count);
+  holds = subst (λ (l : LineState _). Holds l r.last) (sym same) r.holds;
+}
 
 pub fits_more : (events : List Event) (event : Event) → AllByRecursion Fits events → Fits event → AllByRecursion Fits (events ++ event ∷ [])
 fits_more [] event all fit = (fit, tt)
 fits_more (e ∷ events) event all fit = (all.0, fits_more events event all.1 fit)
+
+-- at first nothing was played
+pub runs-none : {V : Type 0} (step : Step V) (line : LineState V) (o : Once V) → Holds line o → RunsAs step line o [] 0 line
+runs-none step line o h = record { outcomes = []; last = o; plays = (refl, refl); count = refl; holds = h }

@@ -3,7 +3,7 @@ use Rattle.std.proofs.Common.{◌≡◌, ℕ, zero, suc, ◌+◌, ◌<◌, ◌�
 use Rattle.std.proofs.lemmas.Bool.{cases_eq, ne_eqb}
 use Rattle.uecp_elements.specs.declared.code.Code.{Code}
 use Rattle.reply_ring.specs.Ring.{kept_code, keep}
-use Rattle.uecp_link.specs.Law.{counter_of}
+use Rattle.uecp_link.specs.Counters.{counter_of}
 use Rattle.uecp_link.specs.Kept.{pairs}
 
 -- numbers less than 255 apart have different counters

@@ -12,15 +12,16 @@ use Rattle.uecp_encoder.specs.Target.{Step}
 use Rattle.reply_ring.specs.Ring.{kept_code, keep}
 use Rattle.uecp_encoder.specs.State.{EncoderState, fed, numbered}
 use Rattle.uecp_encoder.specs.Answering.{reply_of}
+use Rattle.uecp_link.specs.Counters.{is_recent, counter_of}
 use Rattle.uecp_link.specs.Server.{ServerState, heard, submitted, heard_finding}
-use Rattle.uecp_link.specs.Once.{Event, Submit, FrameComes, ReplyComes, NoiseToEncoder, NoiseToServer, EncoderLost, ServerLost, Once, message_at, is_recent, missing, is_none_missing, with_code, with_member, refusal_of, after, delivered}
-use Rattle.uecp_link.specs.Law.{counter_of, frame_of, encoder_after, server_after, reply_bytes, Fits}
+use Rattle.uecp_link.specs.Once.{Event, Submit, FrameComes, ReplyComes, NoiseToEncoder, NoiseToServer, EncoderLost, ServerLost, Once, message_at, unacknowledged, has_none, with_code, with_member, refusal_of, after, delivered}
+use Rattle.uecp_link.specs.Law.{frame_of, encoder_after, server_after, reply_bytes, Fits}
 use Rattle.uecp_link.specs.Kept.{pairs, last_counter, code_at, IsMessage, EncoderIs, ServerIs, Waits, Kept, Hears}
 use Rattle.uecp_encoder.proofs.InPieces.{fed-part}
 use Rattle.uecp_link.proofs.Wire.{found_none, left_none, left_more, ended}
 use Rattle.uecp_link.proofs.Ring.{pairs_agree, kept_code-found, kept_code-absent, keep_next, counters_differ}
 use Rattle.uecp_link.proofs.Hearing.{fed_faults, heard_bytes_faults, fed_frame, heard_frame, after_whole, numbered_fresh, heard-part, quiet_rest, heard_idle, heard_match, heard_other, reaches_self}
-use Rattle.uecp_link.proofs.Numbering.{last_counter-next, last_counter-at, code_at-some, some_code_at, none_of, is_none-of, with_code-same, with_code-other, with_code-next, with_member-next, with_member-old, none_missing, message_at-push, fits_push}
+use Rattle.uecp_link.proofs.Numbering.{last_counter-next, last_counter-at, code_at-some, some_code_at, none_of, is_none-of, with_code-same, with_code-other, with_code-next, with_member-next, with_member-old, none_left, message_at-push, fits_push}
 
 -- how many are applied, and acknowledged, after an event that is not refused
 abbrev pub one_more : ℕ → Option Code → ℕ
@@ -95,10 +96,10 @@ module _ {V : Type 0} (step : Step V) (address : ℕ) where
   pub keeps_submit : (e : EncoderState V) (s : ServerState) (o : Once V) (p q : ℕ) (m : List ℕ) → IsMessage m → is_none (refusal_of o (Submit m)) ≡ true
       → Kept address e s o p q → Kept address e (submitted s m) (after step o (Submit m)) p q
   keeps_submit e s o p q m fit open_ kept =
-      let none : is_none_missing (missing o.acknowledged (length o.sent)) ≡ true = test_of_one (is_none_missing (missing o.acknowledged (length o.sent))) _ open_ in
+      let none : has_none (unacknowledged o.acknowledged (length o.sent)) ≡ true = test_of_one (has_none (unacknowledged o.acknowledged (length o.sent))) _ open_ in
       let n = sent_le o q kept.waits kept.waits_is in
       let all : length o.sent ≡ q = elim (cases_lt q (length o.sent)) [
-        | inl l ↦ absurd (false≢true (sym (le-ltb q q (omega arith)) ∙ (sym (kept.acknowledged q) ∙ none_missing o.acknowledged (length o.sent) none q l)))
+        | inl l ↦ absurd (false≢true (sym (le-ltb q q (omega arith)) ∙ (sym (kept.acknowledged q) ∙ none_left o.acknowledged (length o.sent) none q l)))
         | inr g ↦ omega (arith, n.0)
       ] in
       let more : length (o.sent ++ m ∷ []) ≡ length o.sent + 1 = length-append o.sent (m ∷ []) in

@@ -1,12 +1,12 @@
 -- What a line that played any events has come to; a reader has to believe it. Source: profile.
-use Rattle.std.specs.Prelude.{◌≡◌, ◌≤◌, ◌<◌, ◌+◌, ℕ, length, take, Some}
+use Rattle.std.specs.Prelude.{◌≡◌, ◌≤◌, ◌<◌, ◌+◌, ℕ, length, take, Some, None}
 use Rattle.uecp_frame.specs.Frame.{spelling}
 use Rattle.uecp_encoder.specs.Target.{Step}
+use Rattle.uecp_link.specs.Counters.{counter_of}
 use Rattle.uecp_link.specs.Frames.{frame_under}
 use Rattle.uecp_link.specs.Server.{outgoing_bytes}
 use Rattle.uecp_link.specs.Once.{message_at}
 use Rattle.uecp_link.specs.Fold.{value_after, codes_after}
-use Rattle.uecp_link.specs.Law.{counter_of}
 use Rattle.uecp_link.specs.Holds.{LineState}
 
 -- The encoder's store is what a prefix of the sent messages makes, each applied once and in order; every acknowledged message is in it with its one
@@ -20,6 +20,8 @@ pub record IsHeadline {V : Type 0} (step : Step V) (address : ℕ) (opening : V)
   pub applied : (length line.codes ≤ length line.sent) × (length line.sent ≤ length line.codes + 1)
   -- every message that is acknowledged is among them
   pub acknowledged : line.acknowledged ≤ length line.codes
-  -- and every message that is missing is still outstanding: the server lends its frame
-  pub missing : (k : ℕ) → length line.codes ≤ k → k < length line.sent →
+  -- and every message that is not acknowledged, so every missing one too, is still outstanding: the server lends its frame
+  pub outstanding : (k : ℕ) → line.acknowledged ≤ k → k < length line.sent →
       outgoing_bytes line.server ≡ Some (spelling (frame_under address (counter_of k, message_at line.sent k)))
+  -- where all are acknowledged it lends nothing
+  pub idle : line.acknowledged ≡ length line.sent → outgoing_bytes line.server ≡ None

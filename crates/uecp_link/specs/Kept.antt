@@ -4,9 +4,9 @@ use Rattle.uecp_elements.specs.declared.code.Code.{Code}
 use Rattle.uecp_elements.specs.declared.code.Code.TheVariants.{Applied}
 use Rattle.uecp_frame.specs.Findings.{is_quiet, open_part}
 use Rattle.uecp_encoder.specs.State.{EncoderState}
+use Rattle.uecp_link.specs.Counters.{counter_of}
 use Rattle.uecp_link.specs.Server.{ServerState}
 use Rattle.uecp_link.specs.Once.{Once, message_at}
-use Rattle.uecp_link.specs.Law.{counter_of}
 
 -- The pairs of counter and code of all numbers below p, the newest first.
 abbrev pub pairs : (ℕ → Code) → ℕ → List (ℕ × Code)

@@ -7,18 +7,17 @@ use Rattle.uecp_frame.specs.Findings.{Closed}
 use Rattle.reply_ring.specs.Ring.{kept_code}
 use Rattle.uecp_encoder.specs.Target.{Step}
 use Rattle.uecp_encoder.specs.State.{EncoderState, opening, fed}
-use Rattle.uecp_encoder.specs.Answering.{reply_of}
+use Rattle.uecp_encoder.specs.Answering.{Response, reply_of, responses_to}
+use Rattle.uecp_encoder.specs.Laws.{fresh_in}
+use Rattle.uecp_link.specs.Counters.{counter_of, is_recent}
+use Rattle.uecp_link.specs.Frames.{frame_under}
 use Rattle.uecp_link.specs.Server.{ServerState, idle_at, submitted, waiting, heard}
-use Rattle.uecp_link.specs.Once.{Event, Submit, FrameComes, ReplyComes, NoiseToEncoder, NoiseToServer, EncoderLost, ServerLost, Once, message_at, is_recent, missing, refusal_of, after, at_first}
+use Rattle.uecp_link.specs.Once.{Event, Submit, FrameComes, ReplyComes, NoiseToEncoder, NoiseToServer, EncoderLost, ServerLost, Once, message_at, unacknowledged, refusal_of, after, at_first}
 use Rattle.uecp_link.specs.Fold.{value_after, codes_after}
-
--- The counter of a number: 01 to FF in turn, and then 01 again.
-abbrev pub counter_of : ℕ → ℕ
-counter_of k = 1 + k % 255
 
 -- The frame of a number: its message under its counter, to the encoder's address.
 abbrev pub frame_of : {V : Type 0} → ℕ → Once V → ℕ → Frame
-frame_of address o k = record { address = address; counter = counter_of k; message = message_at o.sent k }
+frame_of address o k = frame_under address (counter_of k, message_at o.sent k)
 
 -- The encoder's reply to a number, by its code; there is none to a number that was not applied.
 abbrev pub reply_bytes : ℕ → ℕ → Option Code → List ℕ
@@ -76,15 +75,23 @@ abbrev pub Fits : Event → Type 0
 Fits (Submit m) = length m ≤ 255
 Fits _ = Unit {0}
 
--- The law of numbers, where p is how many messages were applied. It names no target.
-pub record Numbers {V : Type 0} (w : World V) (p : ℕ) : Type 0 where
+-- How many messages an encoder applied that answers so.
+abbrev pub fresh_among : List Response → ℕ
+fresh_among [] = 0
+fresh_among (r ∷ rs) = fresh_in r + fresh_among rs
+
+-- The law of numbers, where p is how many messages were applied. Of the target it asks nothing but that it answers each message.
+pub record Numbers {V : Type 0} (step : Step V) (address : ℕ) (w : World V) (p : ℕ) : Type 0 where
   -- the applied numbers are those below p, which are all that were sent, or all but the last
   pub applied : (k : ℕ) → is_some (w.once.codes k) ≡ nat_lt k p
   pub all_but_one : (p ≤ length w.once.sent) × (length w.once.sent ≤ p + 1)
   pub acknowledged : (k : ℕ) → w.once.acknowledged k ≡ true → k < p
   -- what waits at the server is what was sent and is not acknowledged, under its counters
-  pub outstanding : waiting w.server ≡ map (λ k. (counter_of k, message_at w.once.sent k)) (missing w.once.acknowledged (length w.once.sent))
-  -- the ring has, for the counter of each recent number, that number's code, or nothing where it was not applied
+  pub outstanding : waiting w.server ≡ map (λ k. (counter_of k, message_at w.once.sent k)) (unacknowledged w.once.acknowledged (length w.once.sent))
+  -- fed the frame of a recent number, the encoder applies one message where that number was not applied before, and none where it was
+  pub fresh : (k : ℕ) → k < length w.once.sent → is_recent (length w.once.sent) k ≡ true →
+      fresh_among (responses_to step w.encoder (spelling (frame_of address w.once k))) ≡ (if is_some (w.once.codes k) then 0 else 1)
+  -- and what it keeps for the counter of a recent number is that number's code, or nothing where it was not applied
   pub replies : (k : ℕ) → k < length w.once.sent → is_recent (length w.once.sent) k ≡ true → kept_code w.encoder.ring (counter_of k) ≡ w.once.codes k
 
 -- The law of values, resting on that of numbers: the encoder's target holds what the first p messages make, and so does the once-machine, and their
@@ -98,7 +105,7 @@ pub record Values {V : Type 0} (step : Step V) (opening : V) (w : World V) (p : 
 abbrev pub Law : {V : Type 0} → Step V → ℕ → V → List Event → Type 0
 Law step address opening events =
     let w = run step address (start address opening) events in
-    (p : ℕ) × Numbers w p × Values step opening w p
+    (p : ℕ) × Numbers step address w p × Values step opening w p
 
 -- A target that keeps all messages and answers any code, for stating the law of numbers alone.
 abbrev pub all_kept : (List (List ℕ) → List ℕ → Code) → Step (List (List ℕ))
@@ -106,4 +113,4 @@ all_kept code v m = (m ∷ v, code v m)
 
 -- The law of numbers alone: over every list of events, whatever the codes are.
 abbrev pub NumbersLaw : (List (List ℕ) → List ℕ → Code) → ℕ → List Event → Type 0
-NumbersLaw code address events = (p : ℕ) × Numbers (run (all_kept code) address (start address []) events) p
+NumbersLaw code address events = (p : ℕ) × Numbers (all_kept code) address (run (all_kept code) address (start address []) events) p

@@ -1,3 +1,4 @@
+pub mod Counters
 pub mod Frames
 pub mod Sending
 pub mod Server
@@ -12,3 +13,5 @@ pub mod Holds
 pub mod Next
 pub mod Whole
 pub mod Headline
+pub mod Driving
+pub mod Listening

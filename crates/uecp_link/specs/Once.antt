@@ -1,8 +1,9 @@
 -- The once-machine, which says what a line is to do; a reader has to believe it. It has numbers of messages and sets of numbers, and knows no counter, no kept reply and no frame. Source: profile.
-use Rattle.std.specs.Prelude.{ℕ, zero, suc, ◌+◌, ◌-◌, ◌==◌, nat_lt, nat_le, Bool, true, false, List, [], ◌∷◌, ◌++◌, length, get_or, Option, Some, None, is_some, if◌then◌else◌}
+use Rattle.std.specs.Prelude.{ℕ, zero, suc, ◌+◌, ◌-◌, ◌==◌, nat_lt, Bool, true, false, List, [], ◌∷◌, ◌++◌, length, get_or, Option, Some, None, is_some, if◌then◌else◌}
 use Rattle.uecp_elements.specs.declared.code.Code.{Code}
 use Rattle.uecp_frame.specs.Findings.{found, is_quiet}
 use Rattle.uecp_encoder.specs.Target.{Step}
+use Rattle.uecp_link.specs.Counters.{is_recent}
 
 -- What happens on a line. Numbers of messages count from 0. That bytes are lost is an event that does not come.
 pub data Event : Type 0 where
@@ -44,24 +45,20 @@ pub record Once (V : Type 0) : Type 0 where
 abbrev pub message_at : List (List ℕ) → ℕ → List ℕ
 message_at sent k = get_or sent k []
 
--- Of n messages, at most 126 were numbered after number k.
-abbrev pub is_recent : ℕ → ℕ → Bool
-is_recent n k = nat_le n (k + 127)
+-- The numbers below n that are not in a set of acknowledged ones, in order.
+abbrev pub unacknowledged : (ℕ → Bool) → ℕ → List ℕ
+unacknowledged set zero = []
+unacknowledged set (suc n) = unacknowledged set n ++ (if set n then [] else n ∷ [])
 
--- The numbers below n that are not in a set, in order.
-abbrev pub missing : (ℕ → Bool) → ℕ → List ℕ
-missing set zero = []
-missing set (suc n) = missing set n ++ (if set n then [] else n ∷ [])
-
--- Whether there is no such number.
-abbrev pub is_none_missing : List ℕ → Bool
-is_none_missing [] = true
-is_none_missing (k ∷ ks) = false
+-- Whether a list of numbers has none.
+abbrev pub has_none : List ℕ → Bool
+has_none [] = true
+has_none (k ∷ ks) = false
 
 -- Why the machine refuses an event, or None where it does not: a submission while some number is not acknowledged; a frame of a number not sent, or sent
 -- too long ago; a reply to a number not applied, or sent too long ago; noise that, after the noise before it in that direction, holds a frame.
 abbrev pub refusal_of : {V : Type 0} → Once V → Event → Option Refusal
-refusal_of o (Submit m) = if is_none_missing (missing o.acknowledged (length o.sent)) then None else Some Busy
+refusal_of o (Submit m) = if has_none (unacknowledged o.acknowledged (length o.sent)) then None else Some Busy
 refusal_of o (FrameComes k) =
     if nat_lt k (length o.sent) then (if is_recent (length o.sent) k then None else Some TooLate) else Some NotSent
 refusal_of o (ReplyComes k) =

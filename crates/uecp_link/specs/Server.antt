@@ -2,6 +2,7 @@
 use Rattle.std.specs.Prelude.{◌≡◌, ℕ, ◌+◌, ◌%◌, ◌<◌, ◌==◌, ◌&&◌, List, [], ◌∷◌, length, take, Option, Some, None, Ok, Err, if◌then◌else◌}
 use Rattle.std.specs.Option.{option_map}
 use Rattle.uecp_frame.specs.Frame.{spelling}
+use Rattle.uecp_link.specs.Counters.{next_counter}
 use Rattle.uecp_link.specs.Frames.{frame_under}
 use Rattle.uecp_frame.specs.declared.frame.Frame.{Frame}
 use Rattle.uecp_frame.specs.Findings.{Finding, OpenPart, Closed}
@@ -23,10 +24,6 @@ pub record ServerState : Type 0 where
 -- A new server has sent nothing, has nothing outstanding and nothing open. (profile)
 abbrev pub idle_at : ℕ → ServerState
 idle_at address = record { address = address; last = 0; outstanding = None; part = Closed }
-
--- Counters run from 01 to FF, and then from 01 again; 00 is none. (SPB 490, sequence counter, for the range; profile for the order)
-abbrev pub next_counter : ℕ → ℕ
-next_counter last = 1 + last % 255
 
 -- A message that is submitted is outstanding, under the next counter. (profile)
 abbrev pub submitted : ServerState → List ℕ → ServerState

@@ -83,7 +83,7 @@ pub(crate) fn feed_cut<T: Target>(
 }
 
 /// Lets the server hear a piece, and answers the last acknowledgement in it, or the one before.
-fn tell_piece(server: &mut Server, piece: &[u8], before: Option<Code>) -> Option<Code>
+pub(crate) fn tell_piece(server: &mut Server, piece: &[u8], before: Option<Code>) -> Option<Code>
     ensures state { server.new ≡ heard server.old piece.now }
     ensures acknowledged { result ≡ last_of before (acknowledgements server.old piece.now) }
 {

@@ -2,8 +2,10 @@
 ghost use Rattle.std.specs.Prelude.{List, ℕ};
 ghost use Rattle.std.specs.List.{AllByRecursion};
 ghost use Rattle.uecp_elements.specs.declared.code.Code.{Code};
-ghost use Rattle.uecp_link.specs.Once.{Event};
 ghost use Rattle.uecp_link.specs.Law.{Law, NumbersLaw, Fits};
+ghost use Rattle.uecp_link.specs.Holds.{LineState, Outcome, Plays, new_line};
+ghost use Rattle.uecp_link.specs.Once.{Event, Once, at_first};
+ghost use Rattle.uecp_link.specs.Headline.{IsHeadline};
 
 use uecp_encoder::Target;
 
@@ -16,4 +18,9 @@ pub fn numbers()
 /// The law of numbers and values: over every list of line events the two ends do what the once-machine does.
 pub fn once_and_in_order<T: Target>()
     ensures { (address : ℕ) (opening : _) (events : List Event) → AllByRecursion Fits events → Law T.step address opening events }
+{}
+
+/// Any list of steps from a new line keeps the headline, whatever the steps answered.
+pub fn steps_keep_the_headline<T: Target>()
+    ensures { (address : ℕ) (opening : _) (events : List Event) (outcomes : List Outcome) (line : LineState T) (o : Once T) → Plays T.step (new_line address opening) (at_first opening) events outcomes line o → IsHeadline T.step address opening line }
 {}

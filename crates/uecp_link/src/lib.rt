@@ -16,16 +16,19 @@
 //! no frame behind, and nothing comes after 127 newer messages were numbered; the line tests the last two and refuses by name.
 #![tactic(auto)]
 
+mod counters;
+mod driving;
 mod event;
-mod events;
 mod feeding;
 mod heard;
 pub mod laws;
 mod line;
+mod line_steps;
 mod refusal;
 mod server;
 mod stepped;
 
+pub use driving::{DriveFault, Driven, drive, resend};
 pub use event::{LineEvent, Side};
 pub use heard::{Heard, HeardWhat};
 pub use line::Line;

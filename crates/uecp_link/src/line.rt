@@ -3,9 +3,9 @@ ghost use Rattle.std.specs.Prelude.{◌≡◌, ◌≤◌, ◌+◌, ℕ, IsTrue, 
 ghost use Rattle.std.specs.List.{AllByRecursion};
 ghost use Rattle.uecp_frame.specs.Address.{is_exact};
 ghost use Rattle.uecp_link.specs.Once.{Once, at_first};
-ghost use Rattle.uecp_link.specs.Law.{Law, Fits};
+ghost use Rattle.uecp_link.specs.Law.{Law, Numbers, Fits};
 ghost use Rattle.uecp_link.specs.Events.{event_of, Refuses};
-ghost use Rattle.uecp_link.specs.Holds.{new_line, Holds, StepsAs, Plays};
+ghost use Rattle.uecp_link.specs.Holds.{new_line, Holds, StepsAs, RunsAs, world_of};
 ghost use Rattle.uecp_link.specs.Headline.{IsHeadline};
 
 use crate::event::LineEvent;
@@ -78,25 +78,28 @@ impl<T: Target> Line<T> {
         events: &[LineEvent<'_>],
     ) -> Result<(Line<T>, usize), EncoderFault<T>>
         requires { IsTrue (is_exact address) }
-        // The line holds what the once-machine holds after the events that were not refused.
-        ensures plays { IfOk result (λ played. (o : Once T) × Plays T.step (at_first target) (map event_of events.now) played.1 o × Holds played.0 o) }
+        // From a new line each event in turn is a step, as `step` promises it for one, and the number counts those that were refused.
+        ensures plays { IfOk result (λ played. RunsAs T.step (new_line address target) (at_first target) (map event_of events.now) played.1 played.0) }
         // The encoder's store is what a prefix of the sent messages makes, each applied once and in order; every message that is
         // acknowledged is in it with its one reply, and every message that is missing is still outstanding.
         ensures headline { IfOk result (λ played. IsHeadline T.step address target played.0) }
-        // The two ends, fed the events' bytes, do what the once-machine does, in numbers and in values.
+        // Between the two ends that are left counters and kept replies never confuse two messages.
+        ensures numbers { IfOk result (λ played. (o : Once T) → Holds played.0 o → Numbers T.step address (world_of played.0 o) (length played.0.codes)) }
+        // Of the definitions alone, and not of the line that is answered: two ends that are fed the bytes of these events do what the once-machine does, in
+        // numbers and in values.
         ensures law { IfOk result (λ played. Law T.step address target (map event_of events.now)) }
         ensures handed_back { IfErr result (λ fault. fault.target ≡ target) }
     {
         let mut line = Line::new(alloc, address, target)?;
         let refused = line.run(events);
-        line.known();
         Ok((line, refused))
     }
 
     /// The events in turn, passing over those that are refused. It answers how many there were of these; a submission for which
     /// there was no memory is one of them.
     pub fn run(&mut self, events: &[LineEvent<'_>]) -> usize
-        ensures plays { (o : Once T) → Holds self.old o → ((o' : Once T) × Plays T.step o (map event_of events.now) result o' × Holds self.new o') }
+        // Each event in turn is a step, as `step` promises it for one, and the answer counts those that were refused.
+        ensures plays { (o : Once T) → Holds self.old o → RunsAs T.step self.old o (map event_of events.now) result self.new }
         // Every message of an event fits a frame.
         ensures fits { AllByRecursion Fits (map event_of events.now) }
         ensures address { self.new.encoder.address ≡ self.old.encoder.address }

@@ -1,14 +1,16 @@
 //! The server's end of the line. Source: RDS Forum SPB 490, two-way mode; profile for the order of counters and for what acknowledges.
-ghost use Rattle.std.specs.Prelude.{◌≡◌, ◌<◌, ◌≤◌, ◌↔◌, None, IsNone, IsTrue, length, take};
+ghost use Rattle.std.specs.Prelude.{◌≡◌, ◌<◌, ◌≤◌, ◌↔◌, None, IsNone, IfSome, IsTrue, length, take};
 ghost use Rattle.std.specs.Option.{option_copied};
 ghost use Rattle.uecp_frame.specs.Address.{is_exact};
 ghost use Rattle.uecp_frame.specs.Findings.{Closed};
+ghost use Rattle.uecp_frame.specs.Lent.{frame_lent};
 ghost use Rattle.uecp_link.specs.Server.{idle_at, submitted, acknowledges, heard, HearsPiece, outgoing_bytes};
 
+use crate::counters::counter_of;
 use crate::heard::{Heard, HeardWhat};
 use std::marker::Model;
 use uecp_elements::Code;
-use uecp_frame::{Address, Deframer, Found, Frame, FrameBytes, Message, encode};
+use uecp_frame::{Address, Deframer, FoundRef, Frame, FrameBytes, FrameRef, Message, encode};
 
 /// A server that sends messages to one encoder, one at a time: it numbers a message, lends its frame as often as the caller
 /// sends it, and knows the encoder's reply to it from all else. Contracts see it as one value, `ServerState`.
@@ -67,13 +69,10 @@ impl Server {
         requires { self.old.outstanding ≡ None }
         ensures { self.new ≡ submitted self.old message.now }
     {
-        let Some(copy) = Message::from_bytes(message.bytes()) else {
-            unreachable!();
-        };
         let frame = Frame {
             address: self.address,
-            counter: 1 + self.last % 255,
-            message: copy,
+            counter: counter_of(usize::from(self.last)),
+            message: message.copy(),
         };
         encode(&frame, &mut self.frame);
         let Frame {
@@ -89,23 +88,11 @@ impl Server {
     pub fn outgoing(&self) -> Option<&[u8]>
         ensures idle { IsNone result ↔ (self.now.outstanding ≡ None) }
         ensures frame { option_copied result ≡ outgoing_bytes self.now }
+        ensures few { IfSome result (λ frame. length frame.now ≤ 524) }
     {
         match &self.outstanding {
             None => None,
             Some(_) => Some(self.frame.as_slice()),
-        }
-    }
-
-    /// The code with which the frame acknowledges the outstanding message.
-    fn acknowledging(&self, frame: &Frame) -> Option<Code>
-        ensures { result ≡ acknowledges self.now self.now.outstanding frame.now }
-    {
-        if self.is_idle() || frame.address != self.address || frame.counter != 0 {
-            return None;
-        }
-        match frame.message.bytes() {
-            [0x18, code, counter] if *counter == self.last => Code::from_byte(*code),
-            _ => None,
         }
     }
 
@@ -118,12 +105,17 @@ impl Server {
         ensures hears { HearsPiece self.old piece.now result }
         ensures state { self.new ≡ heard self.old (take result.used piece.now) }
     {
-        let fed = self.deframer.feed(piece);
+        let fed = self.deframer.feed_ref(piece);
         let used = fed.used;
-        let what = match fed.found {
-            Found::Nothing => HeardWhat::Nothing,
-            Found::Refused(fault) => HeardWhat::Dropped(fault),
-            Found::Frame(frame) => match self.acknowledging(&frame) {
+        let what = match &fed.found {
+            FoundRef::Nothing => HeardWhat::Nothing,
+            FoundRef::Refused(fault) => HeardWhat::Dropped(*fault),
+            FoundRef::Frame(frame) => match acknowledging(
+                self.address,
+                self.last,
+                &self.outstanding,
+                frame,
+            ) {
                 None => HeardWhat::Stray,
                 Some(code) => {
                     self.outstanding = None;
@@ -146,5 +138,23 @@ impl Server {
         ensures { self.new ≡ record self.old { part = Closed } }
     {
         self.deframer.line_lost();
+    }
+}
+
+/// The code with which a frame acknowledges the outstanding message of a server with this address and last counter.
+fn acknowledging(
+    address: Address,
+    last: u8,
+    outstanding: &Option<Message>,
+    frame: &FrameRef<'_>,
+) -> Option<Code>
+    ensures { result ≡ acknowledges (record { address = address; last = last; outstanding = outstanding.now; part = Closed }) outstanding.now (frame_lent frame.now) }
+{
+    if outstanding.is_none() || *frame.address != address || frame.counter != 0 {
+        return None;
+    }
+    match frame.message {
+        [0x18, code, counter] if *counter == last => Code::from_byte(*code),
+        _ => None,
     }
 }

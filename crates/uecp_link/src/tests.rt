@@ -2,6 +2,7 @@ ghost use Rattle.std.specs.Prelude.{◌≡◌, ◌+◌, ◌%◌, ◌^◌, IsTrue
 ghost use Rattle.uecp_frame.specs.Address.{is_exact};
 ghost use Rattle.uecp_elements.specs.declared.code.Code.TheVariants.{Applied};
 
+mod driving;
 mod noise;
 mod server;
 

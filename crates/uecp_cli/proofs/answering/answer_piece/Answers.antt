@@ -3,9 +3,10 @@ use Rattle.std.proofs.lemmas.Grind.{flat_map-append}
 use Rattle.rds_store.specs.Step.{step}
 use Rattle.uecp_encoder.specs.State.{fed}
 use Rattle.uecp_encoder.specs.Answering.{Response, responses_to}
-use Rattle.uecp_cli.specs.Lines.{response_line}
-use Rattle.uecp_cli.proofs.Leading.{leads_on, leads_end}
-use Rattle.uecp_cli.proofs.Pieces.{empty_is, fed_nothing, responses_to_nothing, fed_on, responses_on}
+use Rattle.uecp_lines.specs.Lines.{response_line}
+use Rattle.uecp_text.proofs.Leading.{leads_on, leads_end}
+use Rattle.uecp_text.proofs.Lines.{empty_is}
+use Rattle.uecp_cli.proofs.Pieces.{fed_nothing, responses_to_nothing, fed_on, responses_on}
 use Rattle.uecp_cli.proofs.answering.answer_piece.Goals as goal
 
 pub loop-rest-preserved : goal.loop-rest-preserved

@@ -2,8 +2,8 @@ use Rattle.std.proofs.Common.{◌≡◌, flat_map, length}
 use Rattle.rds_store.specs.Step.{step}
 use Rattle.uecp_encoder.specs.State.{fed}
 use Rattle.uecp_encoder.specs.Answering.{responses_to}
-use Rattle.uecp_cli.specs.Lines.{response_line}
-use Rattle.uecp_cli.proofs.Leading.{Leads}
+use Rattle.uecp_lines.specs.Lines.{response_line}
+use Rattle.uecp_text.proofs.Leading.{Leads}
 use Rattle.uecp_cli.proofs.answering.answer_piece.Given as goal
 
 -- what is left leads to the same

@@ -2,9 +2,9 @@ use Rattle.std.proofs.Common.{rules, option_map, map, codes, subst, sym, inl, in
 use Rattle.std.specs.String.{string_bytes}
 use Rattle.std.proofs.lemmas.Result.{IfOk-weaker, IfErr-weaker}
 use Rattle.clap.specs.Words.{found_of, rows_of}
-use Rattle.uecp_cli.specs.declared.job.Job.TheVariants.{Make}
-use Rattle.uecp_cli.specs.CommandLine.{IsJobOf}
-use Rattle.uecp_cli.proofs.Asked.{asks, asks_show, faultless_of, faulty_of, gives_no_list, is_in_range, met_of, none_named, refuses_words}
+use Rattle.uecp_cli.specs.declared.job.Job.TheVariants.{Make, Show}
+use Rattle.uecp_cli.specs.CommandLine.{IsJobOf, RefusesWords}
+use Rattle.uecp_cli.proofs.Asked.{asks, no_other, faultless_of, faulty_of, gives_no_list, is_in_range, met_of, none_named, refuses_words}
 use Rattle.uecp_cli.proofs.command_line.parse.Goals as goal
 
 pub returns-in_err-matches-clause-refused : goal.returns-in_err-matches-clause-refused
@@ -61,8 +61,52 @@ returns-in-Some-line-default-clause-refused c =
     let rows = rows_of (found_of now.found.now) in
     let met = met_of _ words c.in_ok-matches.matches c.in_ok-program.ensures c.in_ok-matches.ensures.matches in
     IfErr-weaker c.line_of.result _ _
-    (λ why no. gives_no_list words c.in_ok-matches.matches now.field-0-0.now rows why now.ensures.name now.ensures.rows met (inr now.is-line) no)
+    (λ why no. gives_no_list words c.in_ok-matches.matches now.field-0-0.now rows why now.ensures.name now.ensures.rows met (inr (inl now.is-line)) no)
     c.line_of.ensures.refused
+
+pub returns-in-Some-encoder-default-clause-range : goal.returns-in-Some-encoder-default-clause-range
+returns-in-Some-encoder-default-clause-range c =
+    IfOk-weaker c.encoder_of.result _ _ (λ job is. is_in_range _ _ job is) c.encoder_of.ensures.job
+
+pub returns-in-Some-encoder-default-clause-asked : goal.returns-in-Some-encoder-default-clause-asked
+returns-in-Some-encoder-default-clause-asked c =
+    let words = map string_bytes c.args.words.now in
+    let now = c.in-Some-encoder-default in
+    let rows = rows_of (found_of now.found.now) in
+    let met = met_of _ words c.in_ok-matches.matches c.in_ok-program.ensures c.in_ok-matches.ensures.matches in
+    let none = faultless_of _ words c.in_ok-program.ensures c.in_ok-matches.ensures.kinds in
+    IfOk-weaker c.encoder_of.result _ _
+    (λ job is. asks words c.in_ok-matches.matches now.field-0-0.now rows job now.ensures.name now.ensures.rows met none (subst (λ name. IsJobOf name rows job) (sym now.is-encoder) is))
+    c.encoder_of.ensures.job
+
+pub returns-in-Some-encoder-default-clause-refused : goal.returns-in-Some-encoder-default-clause-refused
+returns-in-Some-encoder-default-clause-refused c =
+    let words = map string_bytes c.args.words.now in
+    let now = c.in-Some-encoder-default in
+    let rows = rows_of (found_of now.found.now) in
+    let met = met_of _ words c.in_ok-matches.matches c.in_ok-program.ensures c.in_ok-matches.ensures.matches in
+    IfErr-weaker c.encoder_of.result _ _
+    (λ why no. gives_no_list words c.in_ok-matches.matches now.field-0-0.now rows why now.ensures.name now.ensures.rows met (inr (inr now.is-encoder)) no)
+    c.encoder_of.ensures.refused
+
+pub returns-in-Some-server-default-clause-range : goal.returns-in-Some-server-default-clause-range
+returns-in-Some-server-default-clause-range c =
+    IfOk-weaker c.server_of.result _ _ (λ job is. is_in_range _ _ job is) c.server_of.ensures.job
+
+pub returns-in-Some-server-default-clause-asked : goal.returns-in-Some-server-default-clause-asked
+returns-in-Some-server-default-clause-asked c =
+    let words = map string_bytes c.args.words.now in
+    let now = c.in-Some-server-default in
+    let rows = rows_of (found_of now.found.now) in
+    let met = met_of _ words c.in_ok-matches.matches c.in_ok-program.ensures c.in_ok-matches.ensures.matches in
+    let none = faultless_of _ words c.in_ok-program.ensures c.in_ok-matches.ensures.kinds in
+    IfOk-weaker c.server_of.result _ _
+    (λ job is. asks words c.in_ok-matches.matches now.field-0-0.now rows job now.ensures.name now.ensures.rows met none (subst (λ name. IsJobOf name rows job) (sym now.is-server) is))
+    c.server_of.ensures.job
+
+pub returns-in-Some-server-default-clause-refused : goal.returns-in-Some-server-default-clause-refused
+returns-in-Some-server-default-clause-refused c =
+    IfErr-weaker c.server_of.result _ _ (λ why is. subst (RefusesWords (map string_bytes c.args.words.now)) (sym is) tt) c.server_of.ensures.refused
 
 pub returns-in-Some-make-default-clause-asked : goal.returns-in-Some-make-default-clause-asked
 returns-in-Some-make-default-clause-asked c =
@@ -73,17 +117,28 @@ returns-in-Some-make-default-clause-asked c =
     let none = faultless_of _ words c.in_ok-program.ensures c.in_ok-matches.ensures.kinds in
     asks words c.in_ok-matches.matches now.field-0-0.now rows Make now.ensures.name now.ensures.rows met none now.is-make
 
-pub returns-clause-asked : goal.returns-clause-asked
-returns-clause-asked c =
+pub returns-in-Some-show-default-clause-asked : goal.returns-in-Some-show-default-clause-asked
+returns-in-Some-show-default-clause-asked c =
+    let words = map string_bytes c.args.words.now in
+    let now = c.in-Some-show-default in
+    let rows = rows_of (found_of now.field-0-1.now) in
+    let met = met_of _ words c.in_ok-matches.matches c.in_ok-program.ensures c.in_ok-matches.ensures.matches in
+    let none = faultless_of _ words c.in_ok-program.ensures c.in_ok-matches.ensures.kinds in
+    asks words c.in_ok-matches.matches now.field-0-0.now rows Show now.ensures.name now.ensures.rows met none now.is-show
+
+pub unreachable-requires : goal.unreachable-requires
+unreachable-requires c =
     let words = map string_bytes c.args.words.now in
     let met = met_of _ words c.in_ok-matches.matches c.in_ok-program.ensures c.in_ok-matches.ensures.matches in
     let none = faultless_of _ words c.in_ok-program.ensures c.in_ok-matches.ensures.kinds in
     let name = option_map (λ p. p.0.now) c.subcommand.result in
     elim c.in_default.branch [
       | goal.in_default-via-in-Some+in_default w ↦
-          asks_show words c.in_ok-matches.matches name c.subcommand.ensures.name met none
-          (λ e. search rules) (λ e. search rules) (λ e. search rules)
+          no_other words c.in_ok-matches.matches name c.subcommand.ensures.name met none
+          (λ e. search rules) (λ e. search rules) (λ e. search rules) (λ e. search rules) (λ e. search rules) (λ e. search rules)
       | goal.in_default-via-in_default w ↦
-          asks_show words c.in_ok-matches.matches name c.subcommand.ensures.name met none
-          (none_named _ c.subcommand.result (codes "answer") w.in_default.is) (none_named _ c.subcommand.result (codes "line") w.in_default.is) (none_named _ c.subcommand.result (codes "make") w.in_default.is)
+          no_other words c.in_ok-matches.matches name c.subcommand.ensures.name met none
+          (none_named _ c.subcommand.result (codes "answer") w.in_default.is) (none_named _ c.subcommand.result (codes "line") w.in_default.is)
+          (none_named _ c.subcommand.result (codes "make") w.in_default.is) (none_named _ c.subcommand.result (codes "show") w.in_default.is)
+          (none_named _ c.subcommand.result (codes "encoder") w.in_default.is) (none_named _ c.subcommand.result (codes "server") w.in_default.is)
     ]

@@ -4,9 +4,10 @@ use Rattle.uecp_frame.specs.Findings.{Finding}
 use Rattle.uecp_frame.specs.Beyond.{found_beyond, open_beyond}
 use Rattle.uecp_frame.specs.Feeding.{findings_of}
 use Rattle.uecp_frame.proofs.Pieces.{new_start_lem}
-use Rattle.uecp_cli.specs.Lines.{finding_lines}
-use Rattle.uecp_cli.proofs.Leading.{leads_on, leads_end}
-use Rattle.uecp_cli.proofs.Pieces.{empty_is, found_on, open_on}
+use Rattle.uecp_lines.specs.Lines.{finding_lines}
+use Rattle.uecp_text.proofs.Leading.{leads_on, leads_end}
+use Rattle.uecp_text.proofs.Lines.{empty_is}
+use Rattle.uecp_cli.proofs.Pieces.{found_on, open_on}
 use Rattle.uecp_cli.proofs.showing.show_piece.Goals as goal
 
 pub loop-rest-preserved : goal.loop-rest-preserved

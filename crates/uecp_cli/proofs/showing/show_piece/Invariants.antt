@@ -1,7 +1,7 @@
 use Rattle.std.proofs.Common.{◌≡◌, flat_map, length}
 use Rattle.uecp_frame.specs.Beyond.{found_beyond, open_beyond}
-use Rattle.uecp_cli.specs.Lines.{finding_lines}
-use Rattle.uecp_cli.proofs.Leading.{Leads}
+use Rattle.uecp_lines.specs.Lines.{finding_lines}
+use Rattle.uecp_text.proofs.Leading.{Leads}
 use Rattle.uecp_cli.proofs.showing.show_piece.Given as goal
 
 -- what is left leads to the same

@@ -1,9 +1,6 @@
-use Rattle.std.proofs.Common.{◌≡◌, ◌≤◌, ◌+◌, ◌*◌, ◌++◌, length, take}
+use Rattle.std.proofs.Common.{◌≡◌, ◌++◌, take}
 use Rattle.uecp_frame.specs.Stuffing.{stuffed}
 use Rattle.uecp_frame.proofs.encoding.push_stuffed.Given as goal
 
 abbrev pub invariant-loop-byte : goal.invariant-loop-byte
-invariant-loop-byte l = record {
-  items : l.bytes.items ≡ l.fn.bytes.items ++ stuffed (take l.byte-index l.plain);
-  room : length l.bytes.items ≤ length l.fn.bytes.items + 2 * l.byte-index;
-}
+invariant-loop-byte g l = l.bytes.items ≡ l.fn.bytes.items ++ stuffed (take l.byte-index l.plain)

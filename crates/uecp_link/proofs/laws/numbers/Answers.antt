@@ -1,6 +1,6 @@
 use Rattle.std.proofs.Common.{[]}
 use Rattle.uecp_link.specs.Law.{all_kept}
-use Rattle.uecp_link.proofs.Whole.{law}
+use Rattle.uecp_link.proofs.Lawful.{law}
 use Rattle.uecp_link.proofs.laws.numbers.Goals as goal
 
 pub returns : goal.returns

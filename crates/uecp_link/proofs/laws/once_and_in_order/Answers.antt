@@ -1,4 +1,4 @@
-use Rattle.uecp_link.proofs.Whole.{law}
+use Rattle.uecp_link.proofs.Lawful.{law}
 use Rattle.uecp_link.proofs.laws.once_and_in_order.Goals as goal
 
 pub returns : goal.returns

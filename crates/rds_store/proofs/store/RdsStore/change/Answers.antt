@@ -8,19 +8,20 @@ use Rattle.rds_store.specs.Names.{names_set}
 use Rattle.rds_store.specs.Content.{taken}
 use Rattle.rds_store.specs.Refusals.{has_full_set, adds_text}
 use Rattle.rds_store.specs.Put.{change_where}
-use Rattle.rds_store.specs.Rows.{placed, at_service}
-use Rattle.rds_store.proofs.Places.{no_full_row, room, shape_changed, keys-changed_rows, places_changed}
+use Rattle.rds_store.specs.Kept.{all_places, at_service}
+use Rattle.rds_store.proofs.Places.{not_full, room, kept_changed, keys-changed_service, places_changed}
 use Rattle.rds_store.proofs.store.RdsStore.change.Goals as goal
 
-pub change_row-requires-clause-room : goal.change_row-requires-clause-room
-change_row-requires-clause-room c = λ adding.
-    no_full_row (names_set c.args.dsn c.self.inside.current) c.self.inside.sets c.args.number c.self.inside.services.entries c.self.invariant.all_sets
+pub change_service-requires-clause-room : goal.change_service-requires-clause-room
+change_service-requires-clause-room c = λ adding.
+    not_full (names_set c.args.dsn c.self.inside.current) c.self.inside.sets c.args.number c.self.inside.services.entries c.self.invariant.all_sets
     (ap (λ v. has_full_set v c.args.dsn c.args.number) c.self.view_is ∙ room (adds_text (element_of c.args.element.now)) _ c.requires.room adding)
 
 pub invariant_of-self : goal.invariant_of-self
 invariant_of-self c =
-    rw c.change_row.ensures.rows
-    (shape_changed c.self.inside.sets c.args.number (names_set c.args.dsn c.self.inside.current) (taken (element_of c.args.element.now)) c.self.inside.services.entries c.self.invariant)
+    rw c.change_service.ensures.services
+    (kept_changed c.self.inside.sets c.self.inside.current c.args.number (names_set c.args.dsn c.self.inside.current) (taken (element_of c.args.element.now)) c.self.inside.services.entries
+    c.self.inside.groups.items c.self.invariant)
 
 made : (sets current : ℕ) → List Group → List ℕ → Data → Store
 made sets current groups services places = record { sets = sets; services = services; current = current; places = places; groups = groups }
@@ -33,9 +34,9 @@ unfolding made changed_store
 returns c =
     let test = names_set c.args.dsn c.self.inside.current in
     let change = taken (element_of c.args.element.now) in
-    let rows = c.change_row.ensures.rows in
-    let keys = ap keys_of rows ∙ keys-changed_rows c.args.number test change c.self.inside.services.entries in
-    let places : from_entries {R = place_cmp} (placed c.change_row.new.services.entries) ≡ change_where (at_service test c.args.number) change (from_entries (placed c.self.inside.services.entries)) =
-    ap (λ r. from_entries {R = place_cmp} (placed r)) rows ∙ places_changed c.args.number test change c.self.inside.services.entries c.change_row.ensures.unique in
+    let services = c.change_service.ensures.services in
+    let keys = ap keys_of services ∙ keys-changed_service c.args.number test change c.self.inside.services.entries in
+    let places : from_entries {R = place_cmp} (all_places c.change_service.new.services.entries) ≡ change_where (at_service test c.args.number) change (from_entries (all_places c.self.inside.services.entries)) =
+    ap (λ r. from_entries {R = place_cmp} (all_places r)) services ∙ places_changed c.args.number test change c.self.inside.services.entries c.change_service.ensures.unique in
     (λ i. made c.self.inside.sets c.self.inside.current c.self.inside.groups.items (keys i) (places i))
     ∙ ap (changed_store c.args.dsn c.args.number change) c.self.view_is

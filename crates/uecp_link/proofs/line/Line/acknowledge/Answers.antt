@@ -7,6 +7,7 @@ use Rattle.uecp_link.specs.Once.{ReplyComes}
 use Rattle.uecp_link.specs.Law.{reply_bytes}
 use Rattle.uecp_link.specs.Holds.{LineState, IsLine}
 use Rattle.uecp_link.specs.Next.{Goes}
+use Rattle.uecp_link.proofs.Steps.{recent_le}
 use Rattle.uecp_link.proofs.Numbering.{some_code_at}
 use Rattle.uecp_link.proofs.Delivering.{goes_stays}
 use Rattle.uecp_link.proofs.Acknowledging.{hears_reply}
@@ -20,9 +21,9 @@ invariant_of-self g c =
     let len : vec_len c.self.inside.codes ≡ length c.self.inside.codes.items = search rules in
     let sent : vec_len c.self.inside.sent ≡ length c.self.inside.sent.items = search rules in
     let below : k < length c.self.inside.codes.items = omega (arith, c.if-number-len.false, c.len.ensures, len) in
-    let near : length c.self.inside.sent.items ≤ k + 127 = omega (arith, c.if-len-number.false, c.len-2.ensures, sent) in
+    let near : length c.self.inside.sent.items ≤ k + 127 = let few = recent_le c.len-2.result k (sym c.is_recent.ensures ∙ c.if-not-is_recent.false) in omega (arith, few, c.len-2.ensures, sent) in
     let spelled : c.as_slice.result.now ≡ reply_bytes line.encoder.address k (slice_get line.codes k) =
-    c.as_slice.ensures.value ∙ c.reply_to-bytes.ensures ∙ ap (λ (l : LineState _). reply_bytes l.encoder.address k (slice_get l.codes k)) (sym c.self.view_is) in
+    c.as_slice.ensures.value ∙ c.spelled_reply-bytes.ensures ∙ ap (λ (l : LineState _). reply_bytes l.encoder.address k (slice_get l.codes k)) (sym c.self.view_is) in
     let at : slice_get line.codes k ≡ Some (unwrap_or (slice_get line.codes k) Applied) = sym (some_code_at (slice_get line.codes k) (is.applied k ∙ lt-ltb k (length line.codes) below)) in
     let goes = hears_reply g.T.Target.step line is k below near c.as_slice.result.now spelled (unwrap_or (slice_get line.codes k) Applied) at c.hear_reply.new.server c.hear_reply.new.acknowledged c.hear_reply.ensures.state c.hear_reply.ensures.count in
     record {
@@ -39,9 +40,9 @@ returns-clause-goes g c =
     let len : vec_len c.self.inside.codes ≡ length c.self.inside.codes.items = search rules in
     let sent : vec_len c.self.inside.sent ≡ length c.self.inside.sent.items = search rules in
     let below : k < length c.self.inside.codes.items = omega (arith, c.if-number-len.false, c.len.ensures, len) in
-    let near : length c.self.inside.sent.items ≤ k + 127 = omega (arith, c.if-len-number.false, c.len-2.ensures, sent) in
+    let near : length c.self.inside.sent.items ≤ k + 127 = let few = recent_le c.len-2.result k (sym c.is_recent.ensures ∙ c.if-not-is_recent.false) in omega (arith, few, c.len-2.ensures, sent) in
     let spelled : c.as_slice.result.now ≡ reply_bytes line.encoder.address k (slice_get line.codes k) =
-    c.as_slice.ensures.value ∙ c.reply_to-bytes.ensures ∙ ap (λ (l : LineState _). reply_bytes l.encoder.address k (slice_get l.codes k)) (sym c.self.view_is) in
+    c.as_slice.ensures.value ∙ c.spelled_reply-bytes.ensures ∙ ap (λ (l : LineState _). reply_bytes l.encoder.address k (slice_get l.codes k)) (sym c.self.view_is) in
     let at : slice_get line.codes k ≡ Some (unwrap_or (slice_get line.codes k) Applied) = sym (some_code_at (slice_get line.codes k) (is.applied k ∙ lt-ltb k (length line.codes) below)) in
     let goes = hears_reply g.T.Target.step line is k below near c.as_slice.result.now spelled (unwrap_or (slice_get line.codes k) Applied) at c.hear_reply.new.server c.hear_reply.new.acknowledged c.hear_reply.ensures.state c.hear_reply.ensures.count in
     let after : LineState _ = record { encoder = c.self.inside.encoder; server = c.hear_reply.new.server; sent = c.self.inside.sent.items; codes = c.self.inside.codes.items; acknowledged = c.hear_reply.new.acknowledged } in

@@ -7,6 +7,7 @@ use Rattle.uecp_link.specs.Once.{FrameComes}
 use Rattle.uecp_link.specs.Law.{frame_of}
 use Rattle.uecp_link.specs.Holds.{LineState, IsLine, once_of}
 use Rattle.uecp_link.specs.Next.{Goes}
+use Rattle.uecp_link.proofs.Steps.{recent_le}
 use Rattle.uecp_link.proofs.Delivering.{reply_for, replied, fresh_room, delivers, goes_stays, frame_address}
 use Rattle.uecp_link.proofs.line.Line.deliver.Goals as goal
 
@@ -17,8 +18,8 @@ take_in-fresh-requires g c =
     let k : ℕ = c.args.number in
     let len : vec_len c.self.inside.sent ≡ length c.self.inside.sent.items = search rules in
     let below : k < length c.self.inside.sent.items = omega (arith, c.if-number-len.false, c.len.ensures, len) in
-    let near : length c.self.inside.sent.items ≤ k + 127 = omega (arith, c.if-len-number.false, c.len-2.ensures, len) in
-    let spelled : c.as_slice.result.now ≡ spelling (frame_of line.encoder.address (once_of line) k) = c.as_slice.ensures.value ∙ c.frame_of-bytes.ensures ∙ ap (λ (l : LineState _). spelling (frame_of l.encoder.address (once_of l) k)) (sym c.self.view_is) in
+    let near : length c.self.inside.sent.items ≤ k + 127 = let few = recent_le c.len-2.result k (sym c.is_recent.ensures ∙ c.if-not-is_recent.false) in omega (arith, few, c.len-2.ensures, len) in
+    let spelled : c.as_slice.result.now ≡ spelling (frame_of line.encoder.address (once_of line) k) = c.as_slice.ensures.value ∙ c.spelled_frame-bytes.ensures ∙ ap (λ (l : LineState _). spelling (frame_of l.encoder.address (once_of l) k)) (sym c.self.view_is) in
     let codes : vec_len c.self.inside.codes ≡ length c.self.inside.codes.items = search rules in
     let reply : Bool × Code = reply_for g.T.Target.step line k (slice_get line.codes k) in (
       reply,
@@ -33,8 +34,8 @@ invariant_of-self g c =
     let k : ℕ = c.args.number in
     let len : vec_len c.self.inside.sent ≡ length c.self.inside.sent.items = search rules in
     let below : k < length c.self.inside.sent.items = omega (arith, c.if-number-len.false, c.len.ensures, len) in
-    let near : length c.self.inside.sent.items ≤ k + 127 = omega (arith, c.if-len-number.false, c.len-2.ensures, len) in
-    let spelled : c.as_slice.result.now ≡ spelling (frame_of line.encoder.address (once_of line) k) = c.as_slice.ensures.value ∙ c.frame_of-bytes.ensures ∙ ap (λ (l : LineState _). spelling (frame_of l.encoder.address (once_of l) k)) (sym c.self.view_is) in
+    let near : length c.self.inside.sent.items ≤ k + 127 = let few = recent_le c.len-2.result k (sym c.is_recent.ensures ∙ c.if-not-is_recent.false) in omega (arith, few, c.len-2.ensures, len) in
+    let spelled : c.as_slice.result.now ≡ spelling (frame_of line.encoder.address (once_of line) k) = c.as_slice.ensures.value ∙ c.spelled_frame-bytes.ensures ∙ ap (λ (l : LineState _). spelling (frame_of l.encoder.address (once_of l) k)) (sym c.self.view_is) in
     let fresh : Bool = c.take_in-fresh.result.0 in
     let code : Code = c.take_in-fresh.result.1 in
     let goes = delivers g.T.Target.step line is k below near c.as_slice.result.now spelled fresh code c.take_in-fresh.ensures.reply c.take_in-fresh.new.encoder c.take_in-fresh.new.codes.items c.take_in-fresh.ensures.state c.take_in-fresh.ensures.codes in
@@ -52,8 +53,8 @@ returns-clause-goes g c =
     let k : ℕ = c.args.number in
     let len : vec_len c.self.inside.sent ≡ length c.self.inside.sent.items = search rules in
     let below : k < length c.self.inside.sent.items = omega (arith, c.if-number-len.false, c.len.ensures, len) in
-    let near : length c.self.inside.sent.items ≤ k + 127 = omega (arith, c.if-len-number.false, c.len-2.ensures, len) in
-    let spelled : c.as_slice.result.now ≡ spelling (frame_of line.encoder.address (once_of line) k) = c.as_slice.ensures.value ∙ c.frame_of-bytes.ensures ∙ ap (λ (l : LineState _). spelling (frame_of l.encoder.address (once_of l) k)) (sym c.self.view_is) in
+    let near : length c.self.inside.sent.items ≤ k + 127 = let few = recent_le c.len-2.result k (sym c.is_recent.ensures ∙ c.if-not-is_recent.false) in omega (arith, few, c.len-2.ensures, len) in
+    let spelled : c.as_slice.result.now ≡ spelling (frame_of line.encoder.address (once_of line) k) = c.as_slice.ensures.value ∙ c.spelled_frame-bytes.ensures ∙ ap (λ (l : LineState _). spelling (frame_of l.encoder.address (once_of l) k)) (sym c.self.view_is) in
     let fresh : Bool = c.take_in-fresh.result.0 in
     let code : Code = c.take_in-fresh.result.1 in
     let goes = delivers g.T.Target.step line is k below near c.as_slice.result.now spelled fresh code c.take_in-fresh.ensures.reply c.take_in-fresh.new.encoder c.take_in-fresh.new.codes.items c.take_in-fresh.ensures.state c.take_in-fresh.ensures.codes in

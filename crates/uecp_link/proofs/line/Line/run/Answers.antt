@@ -1,15 +1,22 @@
-use Rattle.std.proofs.Common.{◌≡◌, ◌+◌, ℕ, List, [], ◌∷◌, ◌++◌, take, get_or, map, sym, ap, subst, ◌∙◌, arith}
-use Rattle.std.specs.Prelude.{is_none}
+use Rattle.std.proofs.Common.{◌≡◌, ◌+◌, ℕ, List, [], ◌∷◌, ◌++◌, take, get_or, map, refl, sym, ap, subst, ◌∙◌, arith}
 use Rattle.std.specs.List.{AllByRecursion}
 use Rattle.std.proofs.lemmas.List.{map_more, take_all}
 use Rattle.uecp_link.specs.declared.event.LineEvent.{LineEvent}
-use Rattle.uecp_link.specs.Once.{Event, after}
+use Rattle.uecp_link.specs.Once.{Event}
 use Rattle.uecp_link.specs.Law.{Fits}
-use Rattle.uecp_link.specs.Holds.{Holds, Plays}
+use Rattle.uecp_link.specs.Holds.{RunsAs}
 use Rattle.uecp_link.specs.Events.{event_of}
-use Rattle.uecp_link.proofs.Playing.{plays-taken, plays-refused, refused_why, fits_more}
+use Rattle.uecp_link.proofs.Playing.{runs-none, runs-taken, runs-refused, fits_more}
 use Rattle.uecp_link.proofs.line.Line.run.Goals as goal
 use Rattle.uecp_link.proofs.line.Line.run.Goals.{in-Ok, in-Err}
+
+pub loop-event-init : goal.loop-event-init
+loop-event-init g c = record {
+  few = omega arith;
+  plays = λ o h. runs-none g.T.Target.step c.args.self.now o h;
+  fits = tt;
+  address = refl;
+}
 
 pub loop-event-preserved : goal.loop-event-preserved
 loop-event-preserved g c =
@@ -26,27 +33,21 @@ loop-event-preserved g c =
         few = omega (arith, w.refused-is, c.loop-event.invariant.few);
         plays = λ o h.
             let r = c.loop-event.invariant.plays o h in
-            let s = w.in-Ok.ensures.steps r.0 r.2 in (
-              after g.T.Target.step r.0 event,
-              subst (λ (xs : List Event). Plays g.T.Target.step o xs c.match-step.refused (after g.T.Target.step r.0 event)) (sym more)
-                  (subst (λ (n : ℕ). Plays g.T.Target.step o (before ++ event ∷ []) n (after g.T.Target.step r.0 event)) (sym w.refused-is)
-                  (plays-taken g.T.Target.step o before event c.loop-event.refused r.0 r.1 (ap is_none s.accepted) c.step.ensures.fits)),
-              s.holds,
-            );
+            let s = w.in-Ok.ensures.steps r.last r.holds in
+            subst (λ (xs : List Event). RunsAs g.T.Target.step c.args.self.now o xs c.match-step.refused c.step.new.self) (sym more)
+            (subst (λ (n : ℕ). RunsAs g.T.Target.step c.args.self.now o (before ++ event ∷ []) n c.step.new.self) (sym w.refused-is)
+            (runs-taken g.T.Target.step c.args.self.now o before c.loop-event.refused c.loop-event.self r event w.in-Ok.field-0 c.step.new.self c.step.ensures.fits s));
         fits = fits;
         address = c.step.ensures.address ∙ c.loop-event.invariant.address;
       }
       | in-Err w ↦ record {
         few = omega (arith, w.refused-is, c.loop-event.invariant.few);
         plays = λ o h.
-            let r = c.loop-event.invariant.plays o h in (
-              r.0,
-              subst (λ (xs : List Event). Plays g.T.Target.step o xs c.match-step.refused r.0) (sym more)
-                  (subst (λ (n : ℕ). Plays g.T.Target.step o (before ++ event ∷ []) n r.0) (sym w.refused-is)
-                  (plays-refused g.T.Target.step o before event c.loop-event.refused r.0 r.1
-                  (refused_why r.0 event _ (w.in-Err.ensures.refused r.0 r.2)))),
-              subst (λ l. Holds l r.0) (sym w.in-Err.ensures.unchanged) r.2,
-            );
+            let r = c.loop-event.invariant.plays o h in
+            subst (λ (xs : List Event). RunsAs g.T.Target.step c.args.self.now o xs c.match-step.refused c.step.new.self) (sym more)
+            (subst (λ (n : ℕ). RunsAs g.T.Target.step c.args.self.now o (before ++ event ∷ []) n c.step.new.self) (sym w.refused-is)
+            (runs-refused g.T.Target.step c.args.self.now o before c.loop-event.refused c.loop-event.self r event w.in-Err.field-0 c.step.new.self
+            (w.in-Err.ensures.refused r.last r.holds) w.in-Err.ensures.unchanged));
         fits = fits;
         address = c.step.ensures.address ∙ c.loop-event.invariant.address;
       }
@@ -54,9 +55,8 @@ loop-event-preserved g c =
 
 pub returns-clause-plays : goal.returns-clause-plays
 returns-clause-plays g c = λ o h.
-    let r = c.loop-event.invariant.plays o h in
     let all : take c.loop-event.event-index c.args.events.now ≡ c.args.events.now = take_all c.loop-event.event-index c.args.events.now c.loop-event-test.false in
-    (r.0, subst (λ (xs : List LineEvent). Plays g.T.Target.step o (map event_of xs) c.loop-event.refused r.0) all r.1, r.2)
+    subst (λ (xs : List LineEvent). RunsAs g.T.Target.step c.args.self.now o (map event_of xs) c.loop-event.refused c.loop-event.self) all (c.loop-event.invariant.plays o h)
 
 pub returns-clause-fits : goal.returns-clause-fits
 returns-clause-fits g c =

@@ -31,9 +31,8 @@ returns-clause-goes g c =
     let line : LineState _ = record { encoder = c.self.inside.encoder; server = c.self.inside.server; sent = c.self.inside.sent.items; codes = c.self.inside.codes.items; acknowledged = c.self.inside.acknowledged } in
     let m : List ℕ = c.args.message.now in
     let number : c.len-number.result ≡ length line.sent = search rules in
-    let message : c.in-Some.copy ≡ m = c.in-Some.ensures.value ∙ c.bytes-bytes.ensures.value in
     let sent : c.add.new.values.items ≡ line.sent ++ m ∷ [] =
-    c.add.ensures.items ∙ ap (λ (xs : List (List ℕ)). xs ++ c.in-Some.copy ∷ []) c.reserve.ensures.items ∙ ap (λ (x : List ℕ). line.sent ++ x ∷ []) message in
+    c.add.ensures.items ∙ ap (λ (xs : List (List ℕ)). xs ++ c.copy-copy.result ∷ []) c.reserve.ensures.items ∙ ap (λ (x : List ℕ). line.sent ++ x ∷ []) c.copy-copy.ensures in
     let goes = submits g.T.Target.step line m c.len-number.result c.self.invariant.is_line (c.is_idle.ensures.0 c.if-not-is_idle.false) number c.submit.new.self c.add.new.values.items c.submit.ensures sent in
     let here : Goes g.T.Target.step line (Submit m) (stepped.Numbered c.len-number.result) (record { encoder = c.self.inside.encoder; server = c.submit.new.self; sent = c.add.new.values.items; codes = c.reserve-2.new.self.items; acknowledged = c.self.inside.acknowledged }) =
     subst (λ (cs : List Code). Goes g.T.Target.step line (Submit m) (stepped.Numbered c.len-number.result) (record { encoder = c.self.inside.encoder; server = c.submit.new.self; sent = c.add.new.values.items; codes = cs; acknowledged = c.self.inside.acknowledged }))

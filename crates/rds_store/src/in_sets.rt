@@ -1,0 +1,128 @@
+//! What one service has in each data set. Source: profile.
+ghost use Rattle.std.specs.Prelude.{◌≡◌, ◌≤◌, length, replicate, IsTrue, IfOk, IfSome, nat_eq, false};
+ghost use Rattle.std.specs.Option.{option_copied};
+ghost use Rattle.indexmap.specs.IndexMap as index;
+ghost use Rattle.uecp_elements.specs.Grammar as grammar;
+ghost use Rattle.uecp_elements.specs.View.{element_of};
+ghost use Rattle.rds_store.specs.Names.{names_set};
+ghost use Rattle.rds_store.specs.Content.{opening_service, taken};
+ghost use Rattle.rds_store.specs.Refusals.{is_out_of_range, adds_text};
+ghost use Rattle.rds_store.specs.Kept.{changed_sets, changed_service, any_set_full, in_set};
+
+use crate::named_sets::NamedSets;
+use crate::service::Service;
+use indexmap::IndexMap;
+use std::alloc::{AllocError, Global};
+use std::marker::Model;
+use uecp_elements::Element;
+
+/// What one service has in each data set, set 1 first. A clause sees the list.
+#[derive(Drop)]
+pub(crate) struct ServiceInSets {
+    sets: Vec<Service>,
+}
+
+impl Model for ServiceInSets {
+    ghost use Rattle.std.specs.Prelude.{List, length, ◌≤◌};
+    ghost use Rattle.std.specs.Coded.{coded_list};
+    ghost use Rattle.rds_store.specs.Value.{ServiceData, coded_service};
+
+    ghost Value = { List ServiceData };
+
+    ghost coded = { coded_list coded_service };
+
+    ghost view = { λ r. r.sets.items };
+
+    ghost invariant = { λ r. length r.sets.items ≤ 8 };
+}
+
+impl ServiceInSets {
+    /// A new service in each of the sets.
+    pub(crate) fn new(alloc: Global, sets: u8) -> Result<ServiceInSets, AllocError>
+        requires { sets ≤ 8 }
+        ensures { IfOk result (λ r. r ≡ replicate sets opening_service) }
+    {
+        let mut in_sets = Vec::with_capacity(alloc, usize::from(sets))?;
+        for _ in 0..sets {
+            in_sets.push(Service::new())?;
+        }
+        Ok(ServiceInSets { sets: in_sets })
+    }
+
+    /// What the service has in a set; None where the set is not there.
+    pub(crate) fn get(&self, set: u8) -> Option<&Service>
+        ensures { option_copied result ≡ in_set 1 self.now set }
+    {
+        if set == 0 {
+            return None;
+        }
+        self.sets.get(usize::from(set - 1))
+    }
+
+    /// Whether the service has no room for a text in one of the named sets.
+    pub(crate) fn is_full(&self, named: NamedSets) -> bool
+        ensures { result ≡ any_set_full 1 (names_set named.dsn named.current) self.now }
+    {
+        is_any_full(self.sets.as_slice(), named)
+    }
+
+    /// Each named set takes the element's content.
+    pub(crate) fn change(&mut self, named: NamedSets, element: &Element<'_>)
+        requires short { grammar.IsElement (element_of element.now) }
+        requires in_range { is_out_of_range (element_of element.now) ≡ false }
+        requires room { IsTrue (adds_text (element_of element.now)) → any_set_full 1 (names_set named.dsn named.current) self.old ≡ false }
+        ensures { self.new ≡ changed_sets 1 (names_set named.dsn named.current) (taken (element_of element.now)) self.old }
+    {
+        change_each(self.sets.as_mut_slice(), named, element);
+    }
+}
+
+fn is_any_full(sets: &[Service], named: NamedSets) -> bool
+    requires { length sets.now ≤ 8 }
+    ensures { result ≡ any_set_full 1 (names_set named.dsn named.current) sets.now }
+{
+    let mut set = 1u8;
+    for service in sets {
+        if named.has(set) && service.is_full() {
+            return true;
+        }
+        set += 1;
+    }
+    false
+}
+
+fn change_each(sets: &mut [Service], named: NamedSets, element: &Element<'_>)
+    requires few { length sets.old ≤ 8 }
+    requires short { grammar.IsElement (element_of element.now) }
+    requires in_range { is_out_of_range (element_of element.now) ≡ false }
+    requires room { IsTrue (adds_text (element_of element.now)) → any_set_full 1 (names_set named.dsn named.current) sets.old ≡ false }
+    ensures { sets.new ≡ changed_sets 1 (names_set named.dsn named.current) (taken (element_of element.now)) sets.old }
+{
+    let mut set = 1u8;
+    for service in sets.iter_mut() {
+        if named.has(set) {
+            service.take(element);
+        }
+        set += 1;
+    }
+}
+
+/// One service takes the element in each named set; the others stay.
+pub(crate) fn change_service(
+    services: &mut IndexMap<u8, ServiceInSets>,
+    number: u8,
+    named: NamedSets,
+    element: &Element<'_>,
+)
+    requires short { grammar.IsElement (element_of element.now) }
+    requires in_range { is_out_of_range (element_of element.now) ≡ false }
+    requires room { IsTrue (adds_text (element_of element.now))
+        → IfSome (index.get nat_eq services.old number) (λ held. any_set_full 1 (names_set named.dsn named.current) held ≡ false) }
+    ensures services { services.new.entries ≡ changed_service number (names_set named.dsn named.current) (taken (element_of element.now)) services.old.entries }
+    ensures unique { index.IsUnique nat_eq services.old }
+{
+    match services.get_mut(&number) {
+        Some(service) => service.change(named, element),
+        None => {}
+    }
+}

@@ -1,0 +1,16 @@
+use Rattle.std.proofs.Common.{◌≡◌, codes, ap, ◌∙◌}
+use Rattle.std.proofs.lemmas.Result.{IfOk-weaker}
+use Rattle.clap.specs.Simple.{App, new_shape, shape_of, shape_of_fields}
+use Rattle.uecp_cli.proofs.Apps.{arg_added}
+use Rattle.uecp_cli.proofs.command_line.server_command.Goals as goal
+
+pub returns : goal.returns
+returns c =
+    let is_new : shape_of c.after_help-command.result ≡ new_shape (codes "server") =
+    ap shape_of_fields c.after_help-command.ensures ∙ ap shape_of_fields c.about.ensures ∙ ap (λ (a : App). a.top) c.new.ensures.app in
+    let one = arg_added _ _ c.host.result _ _ c.in_ok-arg.ensures c.host.ensures.own (c.in_ok-with_place.ensures (codes "server") is_new) c.host.ensures.rule in
+    let two = arg_added _ _ c.port.result _ _ c.in_ok-arg-2.ensures c.port.ensures.own one c.port.ensures.rule in
+    let three = arg_added _ _ c.tries.result _ _ c.in_ok-arg-3.ensures c.tries.ensures.own two c.tries.ensures.rule in
+    let four = arg_added _ _ c.timeout.result _ _ c.in_ok-arg-4.ensures c.timeout.ensures.own three c.timeout.ensures.rule in
+    let five = arg_added _ _ c.try_turns.result _ _ c.in_ok-arg-5.ensures c.try_turns.ensures.own four c.try_turns.ensures.rule in
+    IfOk-weaker c.arg-6.result _ _ (λ whole added. arg_added _ whole c.reconnects.result _ _ added c.reconnects.ensures.own five c.reconnects.ensures.rule) c.arg-6.ensures

@@ -1,0 +1,14 @@
+use Rattle.std.proofs.Common.{rules, ◌≡◌, refl, Err}
+use Rattle.uecp_cli.proofs.matched.encoder_of.Goals as goal
+
+pub returns-in_err-list_of-clause-refused : goal.returns-in_err-list_of-clause-refused
+returns-in_err-list_of-clause-refused c =
+    let err : c.from_residual.result ≡ Err c.in_err-list_of.field-0.0 = search rules in
+    rw err c.in_err-list_of.ensures.refused
+
+pub returns-clause-job : goal.returns-clause-job
+returns-clause-job c = (
+  refl,
+  record { is_place = (c.site_of.ensures, c.small_of.ensures); is_sets = c.small_of-2.ensures; is_services = c.in_ok-list_of.ensures.list },
+  record { is_port = c.port_of.ensures; is_connections = c.large_of.ensures; is_turns = c.large_of-2.ensures },
+)

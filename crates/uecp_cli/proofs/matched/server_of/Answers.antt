@@ -1,0 +1,16 @@
+use Rattle.std.proofs.Common.{refl}
+use Rattle.uecp_cli.proofs.matched.server_of.Goals as goal
+
+pub returns-clause-job : goal.returns-clause-job
+returns-clause-job c = (
+  refl,
+  (c.site_of.ensures, c.small_of.ensures),
+  record {
+    is_host = c.in_ok-host_of.ensures;
+    is_port = c.port_of.ensures;
+    is_tries = c.large_of.ensures;
+    is_timeout = c.large_of-2.ensures;
+    is_turns = c.large_of-3.ensures;
+    is_reconnects = c.large_of-4.ensures;
+  },
+)

@@ -1,0 +1,58 @@
+-- How a run of the program ends (profile).
+use Rattle.std.specs.Prelude.{◌≡◌, ◌≢◌, ◌⊎◌, ℕ, List, Option, codes}
+use Rattle.clap.specs.Faults.{fault_of}
+use Rattle.clap.specs.Kinds.{IsAmong}
+use Rattle.clap.specs.Values.{kind_of}
+use Rattle.clap.specs.declared.error.kind.ErrorKind.{ErrorKind}
+use Rattle.clap.specs.declared.error.kind.ErrorKind.TheVariants.{DisplayHelp, DisplayVersion}
+use Rattle.uecp_text.specs.Written.{Begins}
+use Rattle.uecp_cli.specs.declared.job.Job.{Job}
+use Rattle.uecp_cli.specs.declared.usage.Usage.{Usage}
+use Rattle.uecp_cli.specs.declared.usage.Usage.TheVariants.{Refused, NotAList, OutOfMemory}
+use Rattle.uecp_cli.specs.CommandLine.{uecp_app, Asks, GivesNoList}
+use Rattle.uecp_cli.specs.Jobs.{IsDone, IsRefused, IsUndescribed}
+use Rattle.uecp_cli.specs.Networks.{HasServed}
+
+-- ---- by the words of the command line
+-- The words ask for a help text or for the version.
+abbrev pub AskForText : (words : List (List ℕ)) → Type 0
+AskForText words = IsAmong DisplayHelp (fault_of uecp_app words) ⊎ IsAmong DisplayVersion (fault_of uecp_app words)
+
+-- The words have a fault, and it is no question for a text.
+abbrev pub AreMistaken : (words : List (List ℕ)) → Type 0
+AreMistaken words = (kind : ErrorKind) × IsAmong kind (fault_of uecp_app words) × (kind ≢ DisplayHelp) × (kind ≢ DisplayVersion)
+
+-- What is said of a list of services that is none.
+abbrev pub no_list_line : List ℕ
+no_list_line = codes "uecp: services: NotAList\n"
+
+-- All of the job was done: of its input, or of its connections, and then no input was read.
+abbrev pub IsAllDone : Job → (unread unread' held held' : Option (List ℕ)) → Type 0
+IsAllDone job unread unread' held held' = IsDone job unread unread' held held' ⊎ (HasServed job held held' × (unread' ≡ unread))
+
+-- The words ask for a job, and it was done.
+abbrev pub HasDone : (words : List (List ℕ)) → (unread unread' held held' : Option (List ℕ)) → Type 0
+HasDone words unread unread' held held' = (job : Job) × Asks words job × IsAllDone job unread unread' held held'
+
+-- The words ask for a job, and a line was refused.
+abbrev pub HasRefused : (words : List (List ℕ)) → (unread unread' held held' told told' : Option (List ℕ)) → Type 0
+HasRefused words unread unread' held held' told told' = (job : Job) × Asks words job × IsRefused job unread unread' held held' told told'
+
+-- The words ask for no job that can be done: they are mistaken, or give a list of services that is none, or ask for a job whose options describe no encoder. The last two
+-- were said on standard error, or begun to be said; the first is said by clap.
+abbrev pub HasRefusedWords : (words : List (List ℕ)) → (told told' : Option (List ℕ)) → Type 0
+HasRefusedWords words told told' =
+    AreMistaken words ⊎ ((GivesNoList words × Begins told told' no_list_line) ⊎ ((job : Job) × Asks words job × IsUndescribed job told told'))
+
+-- ---- by the refusal of the words
+-- It is a question for a text.
+abbrev pub AsksForText : Usage → Type 0
+AsksForText (Refused error) = (kind_of error ≡ DisplayHelp) ⊎ (kind_of error ≡ DisplayVersion)
+AsksForText NotAList = ⊥
+AsksForText OutOfMemory = ⊥
+
+-- It is a mistake, and of a list of services that was said, or begun to be said.
+abbrev pub SaysMistake : Usage → (told told' : Option (List ℕ)) → Type 0
+SaysMistake (Refused error) told told' = (kind_of error ≢ DisplayHelp) × (kind_of error ≢ DisplayVersion)
+SaysMistake NotAList told told' = Begins told told' no_list_line
+SaysMistake OutOfMemory told told' = ⊥

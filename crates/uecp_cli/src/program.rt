@@ -1,0 +1,110 @@
+//! The program from its words to its exit status (profile).
+ghost use Rattle.std.specs.Prelude.{◌≡◌, ◌≢◌, ◌⊎◌, ◌≤◌, map, IfErr};
+ghost use Rattle.std.specs.String.{string_bytes};
+ghost use Rattle.uecp_text.specs.declared.run_fault.RunFault.TheVariants.{Writing};
+ghost use Rattle.uecp_cli.specs.Jobs.{IsRefused, IsUndescribed, HasFailed};
+ghost use Rattle.uecp_cli.specs.Program.{AskForText, IsAllDone, HasDone, HasRefused, HasRefusedWords, AsksForText, SaysMistake};
+
+use crate::command_line::parse;
+use crate::job::Job;
+use crate::local::Local;
+use crate::network::{run_encoder, run_server};
+use crate::run::{fail, run_job};
+use crate::usage::Usage;
+use clap::Error;
+use std::alloc::Global;
+use std::io::{Read, Write};
+use std::net::{Net, TcpListener, TcpStream};
+use uecp_net::Dialing;
+use uecp_text::RunFault;
+
+/// Does what the words of a command line ask for, the first being the program's name, and answers the exit status: 0 done, 1 a line
+/// of input was refused, 2 the words or the services were refused, 3 memory, reading, writing or a connection failed.
+pub fn run_words<R: Read, W: Write, E: Write, N: Net<Listener = TcpListener, Stream = TcpStream>>(
+    alloc: Global,
+    words: &[String],
+    reader: &mut R,
+    writer: &mut W,
+    errors: &mut E,
+    net: &N,
+) -> u8
+    ensures status { result ≤ 3 }
+    // 0: the job of the words was done; or they ask for a text, and nothing was read. Nothing was said on `errors`.
+    ensures done { result ≡ 0 → (HasDone (map string_bytes words.now) (R.remaining reader.old) (R.remaining reader.new) (W.contents writer.old) (W.contents writer.new) ⊎ (AskForText (map string_bytes words.now) × (reader.new ≡ reader.old))) × (errors.new ≡ errors.old) }
+    // 1: the words ask for a job, and a line was refused.
+    ensures refused { result ≡ 1 → HasRefused (map string_bytes words.now) (R.remaining reader.old) (R.remaining reader.new) (W.contents writer.old) (W.contents writer.new) (E.contents errors.old) (E.contents errors.new) }
+    // 2: the words ask for no job that can be done. Nothing was read or written.
+    ensures mistaken { result ≡ 2 → HasRefusedWords (map string_bytes words.now) (E.contents errors.old) (E.contents errors.new) × (reader.new ≡ reader.old) × (writer.new ≡ writer.old) }
+    // 3: memory, reading, writing or a connection failed.
+    ensures failed { result ≡ 3 → HasFailed (E.contents errors.old) (E.contents errors.new) }
+{
+    match parse(alloc, words) {
+        Ok(job) => run_any(alloc, &job, reader, writer, errors, net),
+        Err(usage) => refuse(&usage, writer, errors),
+    }
+}
+
+/// Does the job, over TCP where it is that of a command with connections, and answers the exit status.
+fn run_any<R: Read, W: Write, E: Write, N: Net<Listener = TcpListener, Stream = TcpStream>>(
+    alloc: Global,
+    job: &Job,
+    reader: &mut R,
+    writer: &mut W,
+    errors: &mut E,
+    net: &N,
+) -> u8
+    ensures status { result ≤ 3 }
+    ensures done { result ≡ 0 → IsAllDone job.now (R.remaining reader.old) (R.remaining reader.new) (W.contents writer.old) (W.contents writer.new) × (errors.new ≡ errors.old) }
+    ensures refused { result ≡ 1 → IsRefused job.now (R.remaining reader.old) (R.remaining reader.new) (W.contents writer.old) (W.contents writer.new) (E.contents errors.old) (E.contents errors.new) }
+    ensures undescribed { result ≡ 2 → IsUndescribed job.now (E.contents errors.old) (E.contents errors.new) × (reader.new ≡ reader.old) × (writer.new ≡ writer.old) }
+    ensures failed { result ≡ 3 → HasFailed (E.contents errors.old) (E.contents errors.new) }
+{
+    match job {
+        Job::Encoder { port, .. } => {
+            let mut local = Local::new(net, *port);
+            run_encoder(alloc, job, writer, errors, &mut local)
+        }
+        Job::Server {
+            host,
+            port,
+            timeout,
+            ..
+        } => {
+            let timeout = u64::from(*timeout);
+            let mut dialing = Dialing::new(net, host.as_str(), *port, timeout);
+            run_server(alloc, job, reader, writer, errors, &mut dialing)
+        }
+        Job::Answer { .. } | Job::Show | Job::Make | Job::Line { .. } => {
+            run_job(alloc, job, reader, writer, errors)
+        }
+    }
+}
+
+/// Says why words ask for no job, and answers the exit status. A text that was asked for goes to the writer.
+pub fn refuse<W: Write, E: Write>(usage: &Usage, writer: &mut W, errors: &mut E) -> u8
+    ensures status { (result ≤ 3) × (result ≢ 1) }
+    ensures text { result ≡ 0 → AsksForText usage.now × (errors.new ≡ errors.old) }
+    ensures mistaken { result ≡ 2 → SaysMistake usage.now (E.contents errors.old) (E.contents errors.new) × (writer.new ≡ writer.old) }
+    ensures failed { result ≡ 3 → HasFailed (E.contents errors.old) (E.contents errors.new) }
+{
+    match usage {
+        Usage::Refused(error) if error.use_stderr() => {
+            let _ = write!(errors, "{error}");
+            2
+        }
+        Usage::Refused(error) => match show_text(error, writer) {
+            Ok(()) => 0,
+            Err(fault) => fail(&fault, errors),
+        },
+        Usage::NotAList => fail(&RunFault::Services("NotAList"), errors),
+        Usage::OutOfMemory => fail(&RunFault::OutOfMemory, errors),
+    }
+}
+
+/// Writes out the text of an error. `Writing` where the writer fails.
+fn show_text<W: Write>(error: &Error, writer: &mut W) -> Result<(), RunFault>
+    ensures { IfErr result (λ fault. fault ≡ Writing) }
+{
+    write!(writer, "{error}").map_err(|_| RunFault::Writing)?;
+    writer.flush().map_err(|_| RunFault::Writing)
+}

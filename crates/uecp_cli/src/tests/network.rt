@@ -1,0 +1,215 @@
+//! The two jobs with connections, over connections that were prepared, some of which break.
+use crate::job::Job;
+use crate::network::{run_encoder, run_server};
+use faulty_devices::{FaultyReader, FaultyWriter, Taken};
+use std::alloc::Global;
+use std::io;
+use std::io::{ErrorKind, Write};
+use std::process::Abort;
+use std::slice::{Iter, IterMut};
+use std::test::Fail;
+use uecp_net::Connect;
+
+/// No element, counter 01.
+const EMPTY_1: [u8; 8] = *b"\xFE\x00\x41\x01\x00\x62\x93\xFF";
+/// Adds the text "HI", counter 01.
+const ADD_1: [u8; 15] = *b"\xFE\x00\x41\x01\x07\x0A\x00\x00\x03\x40\x48\x49\x32\x23\xFF";
+/// Code 00 to counter 01.
+const APPLIED_1: [u8; 11] = *b"\xFE\x00\x41\x00\x03\x18\x00\x01\x40\xBE\xFF";
+
+/// What a connection gives: its bytes, and the reads that fail.
+type Given<'a> = (&'a [u8], &'a [u32]);
+
+/// The writing end of a connection, whose bytes stay with the test.
+#[derive(Drop)]
+struct Kept<'a> {
+    taken: &'a mut Taken,
+}
+
+impl Write for Kept<'_> {
+    fn write(&mut self, buf: &[u8]) -> io::Result<usize> {
+        match self.taken.try_extend_from_slice(buf) {
+            Ok(()) => Ok(buf.len()),
+            Err(_) => Err(ErrorKind::Other.into()),
+        }
+    }
+
+    fn flush(&mut self) -> io::Result<()> {
+        Ok(())
+    }
+}
+
+/// One connection after another, as prepared.
+#[derive(Drop)]
+struct Prepared<'a> {
+    inputs: Iter<'a, Given<'a>>,
+    outputs: IterMut<'a, Taken>,
+    opened: usize,
+}
+
+impl<'a> Connect for Prepared<'a> {
+    type Input = FaultyReader<'a>;
+
+    type Output = Kept<'a>;
+
+    ghost opens = { λ _ _ _. Unit {0} };
+
+    fn open(&mut self) -> Option<(FaultyReader<'a>, Kept<'a>)> {
+        let (bytes, failing) = *self.inputs.next()?;
+        let taken = self.outputs.next()?;
+        self.opened = self.opened.saturating_add(1);
+        Some((FaultyReader::new(bytes).failing_at(failing), Kept { taken }))
+    }
+}
+
+/// What a run comes to: its status, its output and its text of errors.
+type Comes<'a> = (u8, &'a [u8], &'a [u8]);
+
+/// Runs `server` over these connections with the defaults of its options but for site and reconnects, and compares what it comes
+/// to and what each connection got that was opened.
+fn serves(
+    rt: &impl Abort,
+    alloc: Global,
+    given: &[Given<'_>],
+    (site, reconnects): (u16, u32),
+    input: &str,
+    (status, written, said): Comes<'_>,
+    got: &[&[u8]],
+) -> Result<(), Fail> {
+    let job = Job::Server {
+        site,
+        encoder: 1,
+        host: String::from_str(alloc, "127.0.0.1")?,
+        port: 4000,
+        tries: 3,
+        timeout: 1000,
+        turns: 16,
+        reconnects,
+    };
+    let mut outputs = [Taken::new(), Taken::new()];
+    let mut prepared = Prepared {
+        inputs: given.iter(),
+        outputs: outputs.iter_mut(),
+        opened: 0,
+    };
+    let mut reader = input.as_bytes();
+    let mut writer = FaultyWriter::new();
+    let mut errors = FaultyWriter::new();
+    let came = run_server(
+        alloc,
+        &job,
+        &mut reader,
+        &mut writer,
+        &mut errors,
+        &mut prepared,
+    );
+    assert_eq!(rt; came, status);
+    assert_eq!(rt; prepared.opened, got.len());
+    assert_eq!(rt; writer.taken(), written);
+    assert_eq!(rt; errors.taken(), said);
+    for (output, bytes) in outputs.iter().zip(got) {
+        assert_eq!(rt; output.as_slice(), *bytes);
+    }
+    Ok(())
+}
+
+#[test]
+fn a_message_of_server_over_connections(rt: HostRuntime) -> Result<(), Fail> {
+    let alloc = rt.alloc();
+    let good: Given = (&APPLIED_1, &[]);
+    let closed: Given = (b"", &[]);
+    let silent: Given = (&APPLIED_1, &[1, 2, 3]);
+    let once = EMPTY_1.as_slice();
+    let thrice =
+        b"\xFE\x00\x41\x01\x00\x62\x93\xFF\xFE\x00\x41\x01\x00\x62\x93\xFF\xFE\x00\x41\x01\x00\x62\x93\xFF".as_slice();
+    let done: Comes = (0, b"acknowledged 00 tries 1\n", b"");
+    let failed: Comes = (3, b"outstanding\n", b"uecp: connection failed\n");
+    let spent: Comes = (3, b"outstanding\n", b"");
+    serves(&rt, alloc, &[good], (1, 3), "-\n", done, &[once])?;
+    serves(
+        &rt,
+        alloc,
+        &[closed, good],
+        (1, 3),
+        "-\n",
+        done,
+        &[once, once],
+    )?;
+    serves(&rt, alloc, &[closed, good], (1, 0), "-\n", failed, &[once])?;
+    serves(&rt, alloc, &[], (1, 3), "-\n", failed, &[])?;
+    serves(&rt, alloc, &[silent, good], (1, 3), "-\n", spent, &[thrice])
+}
+
+#[test]
+fn input_of_server_without_a_message_or_with_a_refused_line(rt: HostRuntime) -> Result<(), Fail> {
+    let alloc = rt.alloc();
+    let good: Given = (&APPLIED_1, &[]);
+    let once = EMPTY_1.as_slice();
+    let nothing: Comes = (0, b"", b"");
+    let first: Comes = (1, b"", b"uecp: line 1: not hex\n");
+    let second: Comes = (1, b"acknowledged 00 tries 1\n", b"uecp: line 2: not hex\n");
+    let no_address: Comes = (2, b"", b"uecp: address: NotExact\n");
+    serves(&rt, alloc, &[good], (1, 3), "\n# nothing\n", nothing, &[])?;
+    serves(&rt, alloc, &[good], (1, 3), "0\n-\n", first, &[])?;
+    serves(&rt, alloc, &[good], (1, 3), "-\n0\n", second, &[once])?;
+    serves(&rt, alloc, &[good], (0, 3), "-\n", no_address, &[])
+}
+
+/// Runs `encoder` with these services and so many connections over these, with these writes of output failing, and compares what
+/// it comes to and what each connection got that was opened.
+fn encodes(
+    rt: &impl Abort,
+    alloc: Global,
+    given: &[Given<'_>],
+    (services, connections): (&[u8], u32),
+    failing: &[u32],
+    (status, written, said): Comes<'_>,
+    got: &[&[u8]],
+) -> Result<(), Fail> {
+    let job = Job::Encoder {
+        site: 1,
+        encoder: 1,
+        sets: 1,
+        services: Vec::from_slice(alloc, services)?,
+        port: 4000,
+        connections,
+        turns: 100_000,
+    };
+    let mut outputs = [Taken::new(), Taken::new()];
+    let mut prepared = Prepared {
+        inputs: given.iter(),
+        outputs: outputs.iter_mut(),
+        opened: 0,
+    };
+    let mut writer = FaultyWriter::new().failing_at(failing);
+    let mut errors = FaultyWriter::new();
+    let came = run_encoder(alloc, &job, &mut writer, &mut errors, &mut prepared);
+    assert_eq!(rt; came, status);
+    assert_eq!(rt; prepared.opened, got.len());
+    assert_eq!(rt; writer.taken(), written);
+    assert_eq!(rt; errors.taken(), said);
+    for (output, bytes) in outputs.iter().zip(got) {
+        assert_eq!(rt; output.as_slice(), *bytes);
+    }
+    Ok(())
+}
+
+#[test]
+fn connections_of_encoder(rt: HostRuntime) -> Result<(), Fail> {
+    let alloc = rt.alloc();
+    let failing: Given = (&ADD_1, &[2]);
+    let good: Given = (&ADD_1, &[]);
+    let reply = APPLIED_1.as_slice();
+    let lines = b"connection 1 read failed\nconnection 2 replies 1\n".as_slice();
+    let one = [0x01].as_slice();
+    let twice = [0x01, 0x01].as_slice();
+    let done: Comes = (0, lines, b"");
+    let refused: Comes = (3, lines, b"uecp: listening failed\n");
+    let unwritten: Comes = (3, b"", b"uecp: writing failed\n");
+    let mistaken: Comes = (2, b"", b"uecp: services: ServiceTwice\n");
+    let two = [failing, good];
+    encodes(&rt, alloc, &two, (one, 2), &[], done, &[reply, reply])?;
+    encodes(&rt, alloc, &two, (one, 3), &[], refused, &[reply, reply])?;
+    encodes(&rt, alloc, &two, (one, 2), &[1], unwritten, &[reply])?;
+    encodes(&rt, alloc, &two, (twice, 2), &[], mistaken, &[])
+}

@@ -1,0 +1,15 @@
+use Rattle.std.proofs.Common.{◌++◌, take, rules, sym, ap, ◌∙◌, subst}
+use Rattle.std.proofs.Math.Seq.{take-add}
+use Rattle.std.proofs.lemmas.List.{take_rest}
+use Rattle.std.specs.Io.KnownBytes.{Appends}
+use Rattle.std.proofs.KnownBytes.{Appends-trans}
+use Rattle.uecp_encoder.proofs.meter.Meter.write_whole.Goals as goal
+
+pub loop-at-preserved : goal.loop-at-preserved
+loop-at-preserved g c =
+    let (within, at_is, failures) = c.loop-at.invariant in
+    let bytes = c.args.bytes.now in
+    let at = c.loop-at.at in
+    let n = c.in-Ok.count in
+    let joined = ap (λ l. take at bytes ++ take n l) (take_rest bytes at) ∙ sym (take-add at n bytes) in
+    (search rules, subst (Appends _ _) joined (Appends-trans _ _ _ _ _ at_is c.in-Ok.ensures.bytes), search rules)

@@ -1,0 +1,4 @@
+-- The definitions that the contracts of lines of output cite.
+pub mod Lines
+pub mod Steps
+pub mod StoreLines

@@ -1,0 +1,79 @@
+//! Frames and segments that are none, as lines (profile).
+ghost use Rattle.std.specs.Prelude.{flat_map};
+ghost use Rattle.uecp_frame.specs.Feeding.{findings_of};
+ghost use Rattle.uecp_elements.specs.Reading.{items};
+ghost use Rattle.uecp_elements.specs.View.{item_of};
+ghost use Rattle.uecp_lines.specs.Lines.{item_line, frame_lines, finding_lines, dropped_line, place_words};
+ghost use Rattle.uecp_text.specs.Written.{Adds};
+
+use crate::element_lines::put_element;
+use uecp_elements::{Element, ElementFault, elements};
+use uecp_frame::{Found, Frame, FrameFault};
+use uecp_text::Output;
+
+/// The lines of what a piece ended: none, a frame's, or that of a segment that is no frame.
+pub fn put_found(found: &Found, output: &mut Output)
+    ensures { Adds output.old output.new (flat_map finding_lines (findings_of found.now)) }
+{
+    match found {
+        Found::Nothing => {}
+        Found::Frame(frame) => put_frame(frame, output),
+        Found::Refused(fault) => put_fault(*fault, output),
+    }
+}
+
+/// The lines of a frame: its address and counter, and those of its message.
+fn put_frame(frame: &Frame, output: &mut Output)
+    ensures { Adds output.old output.new (frame_lines frame.now) }
+{
+    output.text("frame");
+    output.number(frame.address.value());
+    output.byte(frame.counter);
+    output.end();
+    put_items(frame.message.bytes(), output);
+}
+
+/// The elements of a message, and its fault if it has one.
+fn put_items(message: &[u8], output: &mut Output)
+    ensures { Adds output.old output.new (flat_map item_line (items message.now)) }
+{
+    for read in elements(message) {
+        put_item(read, output);
+    }
+}
+
+/// The line of an element or a fault.
+fn put_item(read: Result<Element<'_>, ElementFault>, output: &mut Output)
+    ensures { Adds output.old output.new (item_line (item_of read.entry)) }
+{
+    match read {
+        Ok(element) => put_element(&element, output),
+        Err(fault) => {
+            output.text("fault");
+            output.byte(fault.code.byte());
+            output.decimal(fault.place);
+            output.end();
+        }
+    }
+}
+
+/// The line of a segment that is no frame: the number and the name of its fault, and its place if it has one.
+pub fn put_fault(fault: FrameFault, output: &mut Output)
+    ensures { Adds output.old output.new (dropped_line fault) }
+{
+    output.text("dropped");
+    output.decimal(usize::from(fault.number()));
+    output.text(" ");
+    output.text(fault.name());
+    put_place(fault, output);
+    output.end();
+}
+
+/// Where a fault stands, if it has a place.
+fn put_place(fault: FrameFault, output: &mut Output)
+    ensures { Adds output.old output.new (place_words fault) }
+{
+    if let FrameFault::BadStuffing(place) = fault {
+        output.decimal(place);
+    }
+}

@@ -1,0 +1,201 @@
+//! What a line does at each kind of event. Source: profile.
+ghost use Rattle.std.specs.Prelude.{◌≡◌, ◌+◌, ◌%◌, ◌≤◌, ◌<◌, ◌++◌, ◌∷◌, [], ℕ, Bool, true, Some, None, if◌then◌else◌, slice_get, IfOk, IfErr, length, vec_len, vec_capacity};
+ghost use Rattle.uecp_elements.specs.declared.code.Code.{Code as CodeValue};
+ghost use Rattle.uecp_encoder.specs.State.{fed};
+ghost use Rattle.uecp_link.specs.Replying.{last_of, replies, acknowledgements};
+ghost use Rattle.uecp_link.specs.Server.{heard};
+ghost use Rattle.uecp_frame.specs.Frame.{spelling};
+ghost use Rattle.uecp_link.specs.Once.{Submit, FrameComes, ReplyComes, NoiseToEncoder, NoiseToServer};
+ghost use Rattle.uecp_link.specs.Events.{lost_of};
+ghost use Rattle.uecp_link.specs.Law.{Fits, frame_of, reply_bytes};
+ghost use Rattle.uecp_link.specs.Holds.{once_of};
+ghost use Rattle.uecp_link.specs.Next.{Goes, Stops, stepped_by, one_if};
+
+use crate::counters::{counter_of, is_recent};
+use crate::event::Side;
+use crate::feeding::{dropped_by, feed_cut, tell_cut};
+use crate::line::Line;
+use crate::refusal::LineRefusal;
+use crate::server::Server;
+use crate::stepped::Stepped;
+use uecp_elements::Code;
+use uecp_encoder::{Encoder, Target};
+use uecp_frame::{Address, Frame, FrameBytes, Message, encode};
+
+/// The frame of a message, as it is sent.
+fn spelled(address: Address, counter: u8, message: Message) -> FrameBytes
+    ensures { result.items ≡ spelling (record { address = address; counter = counter; message = message }) }
+{
+    let frame = Frame {
+        address,
+        counter,
+        message,
+    };
+    let mut bytes = FrameBytes::new();
+    encode(&frame, &mut bytes);
+    bytes
+}
+
+/// Adds a value for which there is room.
+fn add<A: Drop>(values: &mut Vec<A>, value: A)
+    requires { vec_len values.old < vec_capacity values.old }
+    ensures items { values.new.items ≡ values.old.items ++ value ∷ [] }
+    ensures room { vec_capacity values.old ≤ vec_capacity values.new }
+{
+    if values.push(value).is_err() {
+        unreachable!();
+    }
+}
+
+/// Feeds the encoder a frame that it replies to, and keeps the code of a fresh reply.
+fn take_in<T: Target>(
+    encoder: &mut Encoder<T>,
+    codes: &mut Vec<Code>,
+    bytes: &[u8],
+    cut: &[u16],
+) -> (bool, Code)
+    requires { (reply : Bool × CodeValue) × (last_of None (replies T.step encoder.old bytes.now) ≡ Some reply) × (reply.0 ≡ true → vec_len codes.old < vec_capacity codes.old) }
+    ensures state { encoder.new ≡ fed T.step encoder.old bytes.now }
+    ensures reply { Some result ≡ last_of None (replies T.step encoder.old bytes.now) }
+    ensures codes { codes.new.items ≡ (if result.0 then codes.old.items ++ result.1 ∷ [] else codes.old.items) }
+    ensures room { vec_capacity codes.old ≤ vec_capacity codes.new }
+{
+    let Some((fresh, code)) = feed_cut(encoder, bytes, cut) else {
+        unreachable!();
+    };
+    if fresh {
+        add(codes, code);
+    }
+    (fresh, code)
+}
+
+/// Lets the server hear a reply, and counts it where it acknowledges.
+fn hear_reply(server: &mut Server, acknowledged: &mut usize, bytes: &[u8], cut: &[u16]) -> Stepped
+    requires { acknowledged.old < usize.MAX }
+    ensures state { server.new ≡ heard server.old bytes.now }
+    ensures answer { result ≡ stepped_by (last_of None (acknowledgements server.old bytes.now)) }
+    ensures count { acknowledged.new ≡ acknowledged.old + one_if (last_of None (acknowledgements server.old bytes.now)) }
+{
+    match tell_cut(server, bytes, cut) {
+        None => Stepped::Stray,
+        Some(code) => {
+            *acknowledged += 1;
+            Stepped::Acknowledged(code)
+        }
+    }
+}
+
+impl<T: Target> Line<T> {
+    /// The next message is given to the server.
+    pub(crate) fn submit(&mut self, message: &Message) -> Result<Stepped, LineRefusal>
+        ensures goes { IfOk result (λ stepped. Goes T.step self.old (Submit message.now) stepped self.new) }
+        ensures stops { IfErr result (λ refusal. Stops self.old (Submit message.now) refusal self.new) }
+        ensures fits { Fits (Submit message.now) }
+    {
+        let copy = message.copy();
+        if !self.server.is_idle() {
+            return Err(LineRefusal::Busy);
+        }
+        let number = self.sent.len();
+        if self.sent.reserve(1).is_err() {
+            return Err(LineRefusal::OutOfMemory);
+        }
+        if self.codes.reserve(1 + (number - self.codes.len())).is_err() {
+            return Err(LineRefusal::OutOfMemory);
+        }
+        add(&mut self.sent, copy);
+        self.server.submit(message);
+        Ok(Stepped::Numbered(number))
+    }
+
+    /// The frame of a message, which was sent.
+    fn spelled_frame(&self, number: usize) -> FrameBytes
+        requires { number < length self.now.sent }
+        ensures { result.items ≡ spelling (frame_of self.now.encoder.address (once_of self.now) number) }
+    {
+        spelled(self.address, counter_of(number), self.sent[number].copy())
+    }
+
+    /// The frame of a message comes to the encoder.
+    pub(crate) fn deliver(&mut self, number: usize, cut: &[u16]) -> Result<Stepped, LineRefusal>
+        ensures goes { IfOk result (λ stepped. Goes T.step self.old (FrameComes number) stepped self.new) }
+        ensures stops { IfErr result (λ refusal. Stops self.old (FrameComes number) refusal self.new) }
+    {
+        if number >= self.sent.len() {
+            return Err(LineRefusal::NotSent);
+        }
+        if !is_recent(self.sent.len(), number) {
+            return Err(LineRefusal::TooLate);
+        }
+        let bytes = self.spelled_frame(number);
+        let (fresh, code) = take_in(&mut self.encoder, &mut self.codes, bytes.as_slice(), cut);
+        Ok(Stepped::Delivered { fresh, code })
+    }
+
+    /// The encoder's reply to a message, which was applied.
+    fn spelled_reply(&self, number: usize) -> FrameBytes
+        requires { number < length self.now.codes }
+        ensures { result.items ≡ reply_bytes self.now.encoder.address number (slice_get self.now.codes number) }
+    {
+        let acknowledgement = [0x18, self.codes[number].byte(), counter_of(number)];
+        let Some(message) = Message::from_bytes(&acknowledgement) else {
+            unreachable!();
+        };
+        spelled(self.address, 0, message)
+    }
+
+    /// The encoder's reply to a message comes to the server.
+    pub(crate) fn acknowledge(&mut self, number: usize, cut: &[u16]) -> Result<Stepped, LineRefusal>
+        ensures goes { IfOk result (λ stepped. Goes T.step self.old (ReplyComes number) stepped self.new) }
+        ensures stops { IfErr result (λ refusal. Stops self.old (ReplyComes number) refusal self.new) }
+    {
+        if number >= self.codes.len() {
+            return Err(LineRefusal::NotSent);
+        }
+        if !is_recent(self.sent.len(), number) {
+            return Err(LineRefusal::TooLate);
+        }
+        let bytes = self.spelled_reply(number);
+        Ok(hear_reply(
+            &mut self.server,
+            &mut self.acknowledged,
+            bytes.as_slice(),
+            cut,
+        ))
+    }
+
+    /// Noise comes to the encoder.
+    pub(crate) fn disturb_encoder(&mut self, noise: &[u8]) -> Result<Stepped, LineRefusal>
+        ensures goes { IfOk result (λ stepped. Goes T.step self.old (NoiseToEncoder noise.now) stepped self.new) }
+        ensures stops { IfErr result (λ refusal. Stops self.old (NoiseToEncoder noise.now) refusal self.new) }
+    {
+        let Some(dropped) = dropped_by(self.encoder.deframer(), noise) else {
+            return Err(LineRefusal::HoldsAFrame);
+        };
+        let _ = feed_cut(&mut self.encoder, noise, &[]);
+        Ok(Stepped::Noise { dropped })
+    }
+
+    /// Noise comes to the server.
+    pub(crate) fn disturb_server(&mut self, noise: &[u8]) -> Result<Stepped, LineRefusal>
+        ensures goes { IfOk result (λ stepped. Goes T.step self.old (NoiseToServer noise.now) stepped self.new) }
+        ensures stops { IfErr result (λ refusal. Stops self.old (NoiseToServer noise.now) refusal self.new) }
+    {
+        let Some(dropped) = dropped_by(self.server.deframer(), noise) else {
+            return Err(LineRefusal::HoldsAFrame);
+        };
+        let _ = tell_cut(&mut self.server, noise, &[]);
+        Ok(Stepped::Noise { dropped })
+    }
+
+    /// One end forgets a segment that has not ended.
+    pub(crate) fn lose(&mut self, side: Side) -> Stepped
+        ensures { Goes T.step self.old (lost_of side) result self.new }
+    {
+        match side {
+            Side::Encoder => self.encoder.line_lost(),
+            Side::Server => self.server.line_lost(),
+        }
+        Stepped::Lost
+    }
+}

@@ -1,0 +1,19 @@
+-- One connection more.
+use Rattle.std.proofs.Common.{◌≡◌, ℕ, ◌+◌, List, [], ◌∷◌, ◌++◌, length, Option, Some, refl, ◌∙◌, ap, sym, subst, suc, arith, append_assoc, append-nil}
+use Rattle.uecp_encoder.specs.Target.{Step}
+use Rattle.uecp_encoder.specs.State.{EncoderState}
+use Rattle.uecp_net.specs.Sessions.{Outcome, Session, Sessions, connection_line, connection_lines}
+
+module _ {V C I O : Type 0} (step : Step V) (opens : C → Option (I × O) → C → Type 0) (remaining : I → Option (List ℕ)) (contents : O → Option (List ℕ)) (turns : ℕ) where
+  pub sessions_on : (e e1 e2 : EncoderState V) (c c1 c2 : C) (outcomes : List Outcome) (outcome : Outcome) (input : I) (output : O) → Sessions step opens remaining contents turns e c outcomes e1 c1 →
+      opens c1 (Some (input, output)) c2 → Session step remaining contents turns e1 e2 input output outcome → Sessions step opens remaining contents turns e c (outcomes ++ outcome ∷ []) e2 c2
+  sessions_on e e1 e2 c c1 c2 [] outcome input output (same_e, same_c) opened served =
+      (input, output, e2, c2, subst (λ d. opens d (Some (input, output)) c2) same_c opened, subst (λ d. Session step remaining contents turns d e2 input output outcome) same_e served, (refl, refl))
+  sessions_on e e1 e2 c c1 c2 (first ∷ outcomes) outcome input output (i, o, next, after, opened_first, served_first, rest) opened served =
+      (i, o, next, after, opened_first, served_first, sessions_on next e1 e2 after c1 c2 outcomes outcome input output rest opened served)
+
+pub lines_on : (number : ℕ) (outcomes : List Outcome) (outcome : Outcome) → connection_lines number (outcomes ++ outcome ∷ []) ≡ connection_lines number outcomes ++ connection_line (number + length outcomes) outcome
+lines_on number [] outcome = append-nil (connection_line number outcome) ∙ ap (λ n. connection_line n outcome) (let q : number ≡ number + 0 = omega arith in q)
+lines_on number (first ∷ outcomes) outcome =
+    ap (λ l. connection_line number first ++ l) (lines_on (number + 1) outcomes outcome) ∙ sym (append_assoc (connection_line number first) (connection_lines (number + 1) outcomes) (connection_line (number + 1 + length outcomes) outcome))
+    ∙ ap (λ n. connection_line number first ++ connection_lines (number + 1) outcomes ++ connection_line n outcome) (let q : number + 1 + length outcomes ≡ number + suc (length outcomes) = omega arith in q)

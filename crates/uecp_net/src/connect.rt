@@ -1,0 +1,20 @@
+//! Where connections come from. Source: profile.
+ghost use Rattle.std.specs.Prelude.{Option};
+
+use std::io::{Read, Write};
+
+/// Opens connections, one after another.
+pub trait Connect {
+    /// Where a connection's bytes come from.
+    type Input: Read + Drop;
+
+    /// Where its bytes go.
+    type Output: Write + Drop;
+
+    // Whether a call may leave this value, and give the two ends of a connection or none.
+    ghost opens: { Self → Option (Self.Input × Self.Output) → Self → Type 0 };
+
+    /// The two ends of a new connection, or None where there is none to be had.
+    fn open(&mut self) -> Option<(Self::Input, Self::Output)>
+        ensures { opens self.old result self.new };
+}

@@ -1,0 +1,12 @@
+//! Laws of the definitions, each the contract of a function that does nothing.
+ghost use Rattle.uecp_net.specs.Laws.{AllAcknowledged, UpToTheOutstanding};
+
+/// A run of a sender that stops at no text has one line for each message of its input, in order, and leaves the server idle.
+pub fn all_acknowledged()
+    ensures { AllAcknowledged }
+{}
+
+/// A run that ends at a message which is outstanding has the lines of the messages before it, and then the line of that one.
+pub fn up_to_the_outstanding()
+    ensures { UpToTheOutstanding }
+{}

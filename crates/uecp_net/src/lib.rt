@@ -1,0 +1,22 @@
+//! The two ends over connections: an encoder serves one connection after another, and a server sends its messages over
+//! connections that may break and be opened again.
+//!
+//! Where connections come from is the matter of a [`Connect`]; [`Listening`] and [`Dialing`] are TCP. The crate reads no command
+//! line and knows no exit status.
+//!
+//! - [`Connect`]: opens connections, with [`Listening`] and [`Dialing`].
+//! - [`serve_connections`]: an encoder over one connection after another.
+//! - [`Sender`]: a server with the connection that it has, and [`Outstanding`] as why a message is not acknowledged.
+#![tactic(auto)]
+
+mod connect;
+pub mod laws;
+mod sending;
+mod serving;
+mod tcp;
+mod texts;
+
+pub use connect::Connect;
+pub use sending::{Outstanding, Sender};
+pub use serving::{ServeStop, serve_connections};
+pub use tcp::{Dialing, Listening};

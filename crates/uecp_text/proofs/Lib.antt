@@ -1,0 +1,7 @@
+pub mod Leading
+pub mod Begun
+pub mod Lines
+pub mod Runs
+pub mod Wholes
+pub mod Decimals
+pub mod Streamed

@@ -1,0 +1,83 @@
+-- The first line of an input.
+use Rattle.std.proofs.Common.{◌≡◌, ℕ, ◌+◌, ◌<◌, ◌≤◌, ◌==◌, suc, true, false, not, cond, nat_lt, List, [], ◌∷◌, length, take, drop, refl, ◌∙◌, ap, sym, arith, inl, inr, Some, None, Bool}
+use Rattle.std.specs.List.{prefix_len, onto_first, position}
+use Rattle.std.proofs.lemmas.Bool.{cases_Bool, ltb-true, ltb-false, eqb-true}
+use Rattle.std.proofs.Math.Dec.{ltb}
+use Rattle.std.proofs.lemmas.List.Sums.{prefix_len-le-length}
+use Rattle.uecp_text.specs.Input.{lines_of}
+
+-- the number of bytes before the first line feed
+abbrev pub before_end : List ℕ → ℕ
+before_end input = prefix_len (λ byte. not (byte == 0x0A)) input
+
+lines_of-end : (byte : ℕ) (rest : List ℕ) → byte == 0x0A ≡ true → lines_of (byte ∷ rest) ≡ (byte ∷ []) ∷ lines_of rest
+unfolding lines_of
+lines_of-end byte rest h = ap (λ t. cond t ((byte ∷ []) ∷ lines_of rest) (onto_first byte (lines_of rest))) h
+
+lines_of-more : (byte : ℕ) (rest : List ℕ) → byte == 0x0A ≡ false → lines_of (byte ∷ rest) ≡ onto_first byte (lines_of rest)
+unfolding lines_of
+lines_of-more byte rest h = ap (λ t. cond t ((byte ∷ []) ∷ lines_of rest) (onto_first byte (lines_of rest))) h
+
+before_end-end : (byte : ℕ) (rest : List ℕ) → byte == 0x0A ≡ true → before_end (byte ∷ rest) ≡ 0
+before_end-end byte rest h = ap (λ t. cond (not t) (1 + before_end rest) 0) h
+
+before_end-more : (byte : ℕ) (rest : List ℕ) → byte == 0x0A ≡ false → before_end (byte ∷ rest) ≡ suc (before_end rest)
+before_end-more byte rest h = ap (λ t. cond (not t) (1 + before_end rest) 0) h ∙ omega arith
+
+pub line_up_to : (input : List ℕ) → before_end input < length input → lines_of input ≡ take (before_end input + 1) input ∷ lines_of (drop (before_end input + 1) input)
+line_up_to [] h = absurd (omega (arith, h))
+line_up_to (byte ∷ rest) h =
+    elim (cases_Bool (byte == 0x0A)) [
+      | inl is_end ↦ lines_of-end byte rest is_end ∙ ap (λ n. take (n + 1) (byte ∷ rest) ∷ lines_of (drop (n + 1) (byte ∷ rest))) (sym (before_end-end byte rest is_end))
+      | inr other ↦ lines_of-more byte rest other
+          ∙ ap (onto_first byte) (line_up_to rest (let e = before_end-more byte rest other in omega (arith, h, e)))
+          ∙ ap (λ n. take n (byte ∷ rest) ∷ lines_of (drop n (byte ∷ rest))) (let e = before_end-more byte rest other in let r : suc (before_end rest + 1) ≡ before_end (byte ∷ rest) + 1 = omega (arith, e) in r)
+    ]
+
+lines_of-nil : lines_of [] ≡ []
+unfolding lines_of
+lines_of-nil = refl
+
+alone : (byte : ℕ) (rest : List ℕ) → before_end rest ≡ length rest → onto_first byte (lines_of rest) ≡ (byte ∷ rest) ∷ []
+alone byte [] h = ap (onto_first byte) lines_of-nil
+alone byte (next ∷ rest) h =
+    elim (cases_Bool (next == 0x0A)) [
+      | inl is_end ↦ absurd (let e = before_end-end next rest is_end in omega (arith, h, e))
+      | inr other ↦ ap (onto_first byte) (lines_of-more next rest other ∙ alone next rest (let e = before_end-more next rest other in omega (arith, h, e)))
+    ]
+
+pub line_alone : (input : List ℕ) → 0 < length input → before_end input ≡ length input → lines_of input ≡ input ∷ lines_of []
+line_alone [] some h = absurd (omega (arith, some))
+line_alone (byte ∷ rest) some h =
+    elim (cases_Bool (byte == 0x0A)) [
+      | inl is_end ↦ absurd (let e = before_end-end byte rest is_end in omega (arith, h, e))
+      | inr other ↦ lines_of-more byte rest other ∙ alone byte rest (let e = before_end-more byte rest other in omega (arith, h, e))
+          ∙ ap (λ more. (byte ∷ rest) ∷ more) (sym lines_of-nil)
+    ]
+
+-- ---- by what `position` answers
+abbrev pub is_end : ℕ → Bool
+is_end byte = byte == 0x0A
+
+found_if : (t : Bool) (length place n : ℕ) → ltb n length ≡ t → cond t (Some n) None ≡ Some place → (n < length) × (n ≡ place)
+found_if true length place n lt h = (ltb-true n length lt, cc)
+found_if false length place n lt h = absurd (let none : None ≡ Some place = h in cc)
+
+none_if : (t : Bool) (length n : ℕ) → ltb n length ≡ t → cond t (Some n) None ≡ None → length ≤ n
+none_if true length n lt h = absurd (let some : Some n ≡ None = h in cc)
+none_if false length n lt h = ltb-false n length lt
+
+pub first_up_to : (input : List ℕ) (place : ℕ) → Some place ≡ position is_end input → lines_of input ≡ take (place + 1) input ∷ lines_of (drop (place + 1) input)
+first_up_to input place h =
+    let found = found_if (nat_lt (before_end input) (length input)) (length input) place (before_end input) refl (sym h) in
+    line_up_to input found.0 ∙ ap (λ n. take (n + 1) input ∷ lines_of (drop (n + 1) input)) found.1
+
+pub first_alone : (input : List ℕ) → 0 < length input → None ≡ position is_end input → lines_of input ≡ input ∷ lines_of []
+first_alone input some h =
+    line_alone input some (let least = none_if (nat_lt (before_end input) (length input)) (length input) (before_end input) refl (sym h) in
+    let most = prefix_len-le-length (λ byte. not (byte == 0x0A)) input in omega (arith, least, most))
+
+-- ---- an input with no byte left
+pub empty_is : (xs : List ℕ) → true ≡ (length xs == 0) → xs ≡ []
+empty_is [] h = refl
+empty_is (x ∷ xs) h = absurd (let k : suc (length xs) ≡ 0 = eqb-true (suc (length xs)) 0 (sym h) in omega arith)

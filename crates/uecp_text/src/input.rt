@@ -1,0 +1,93 @@
+//! Standard input and its lines (profile).
+ghost use Rattle.std.specs.Prelude.{◌≡◌, ◌<◌, ◌≤◌, ◌∷◌, ℕ, List, Err, IfOk, IfErr, option_copied, length, drop};
+ghost use Rattle.std.specs.Io.KnownBytes.{Consumes};
+ghost use Rattle.uecp_text.specs.declared.run_fault.RunFault.TheVariants.{TooLong};
+ghost use Rattle.uecp_text.specs.Input.{lines_of, without_end, without_last_spaces, trimmed, said};
+ghost use Rattle.uecp_text.specs.Run.{IsInput};
+ghost use Rattle.uecp_text.specs.Faults.{Fails};
+
+use crate::run_fault::RunFault;
+use std::alloc::Global;
+use std::io::Read;
+
+/// The most bytes of input that a run takes.
+const INPUT_MAX: usize = 1_048_576;
+
+/// The most bytes that one read asks for.
+const READ_MAX: usize = 4096;
+
+/// All of the input up to its end, or `TooLong` as soon as one byte more than the limit was read.
+pub fn read_all<R: Read>(alloc: Global, reader: &mut R) -> Result<Vec<u8>, RunFault>
+    ensures input { IfOk result (λ all. IsInput (R.remaining reader.old) (R.remaining reader.new) all.items) }
+    ensures refused { IfErr result Fails }
+    ensures too_long { result ≡ Err TooLong → (all : List ℕ) × (length all ≡ 1048577) × Consumes (R.remaining reader.old) (R.remaining reader.new) all }
+{
+    let mut all = Vec::new(alloc);
+    let mut buffer = [0u8; READ_MAX];
+    while all.len() <= INPUT_MAX {
+        let room = (INPUT_MAX + 1 - all.len()).min(READ_MAX);
+        match reader.read(&mut buffer[..room]) {
+            Err(_) => return Err(RunFault::Reading),
+            Ok(0) => return Ok(all),
+            Ok(count) => all.extend_from_slice(&buffer[..count])?,
+        }
+    }
+    Err(RunFault::TooLong)
+}
+
+/// What a line says: what stands between its spaces, or None where that is empty or a comment.
+pub fn text_of(line: &[u8]) -> Option<&[u8]>
+    ensures { option_copied result ≡ said line.now }
+{
+    let text = without_spaces(without_end(line));
+    match text {
+        [] | [b'#', ..] => None,
+        _ => Some(text),
+    }
+}
+
+/// The text without the spaces at its start and at its end.
+fn without_spaces(text: &[u8]) -> &[u8]
+    ensures { result.now ≡ trimmed text.now }
+{
+    let first = text.iter().take_while(|byte| **byte == b' ').count();
+    without_last_spaces(&text[first..])
+}
+
+/// The text without the spaces at its end.
+fn without_last_spaces(text: &[u8]) -> &[u8]
+    ensures { result.now ≡ without_last_spaces text.now }
+{
+    let last = text.iter().rev().take_while(|byte| **byte == b' ').count();
+    &text[..text.len() - last]
+}
+
+/// The line without its line feed and one carriage return before that. A line with no line feed stays whole.
+fn without_end(line: &[u8]) -> &[u8]
+    ensures { result.now ≡ without_end line.now }
+{
+    match line.strip_suffix(b"\r\n") {
+        Some(text) => text,
+        None => line.strip_suffix(b"\n").unwrap_or(line),
+    }
+}
+
+/// The first line of an input that is not empty, with its line feed if it has one, and what follows it.
+pub fn first_line(input: &[u8]) -> (&[u8], &[u8])
+    requires { 0 < length input.now }
+    ensures lines { lines_of input.now ≡ result.0.now ∷ lines_of result.1.now }
+    ensures shorter { length result.1.now < length input.now }
+{
+    match input.iter().position(|byte| *byte == b'\n') {
+        Some(place) => input.split_at(place + 1),
+        None => (input, &[]),
+    }
+}
+
+/// What is left of some bytes once this many of them were used.
+pub fn left(bytes: &[u8], used: usize) -> &[u8]
+    requires { used ≤ length bytes.now }
+    ensures { result.now ≡ drop used bytes.now }
+{
+    &bytes[used..]
+}

@@ -1,0 +1,32 @@
+//! Text in and text out: the bytes of a reader as lines, what a line says, the words of a text and what they spell; the lines that
+//! a run writes; why a run stops, and what is said of that.
+//!
+//! The crate knows no command and no element. What texts mean is the matter of an [`Interpreter`], and the same [`run`] takes
+//! any of them over an input: line by line, up to the first text that is refused or ends the run. It opens no file and knows no
+//! standard stream: it works on every reader and writer.
+//!
+//! - [`Interpreter`], [`run`], [`run_line_by_line`]: what texts do, and the loop over them.
+//! - [`Output`]: the lines that a run writes, kept until they are written out.
+//! - [`RunFault`], [`LineFault`]: why a run stops, with its exit status and its text.
+//! - [`words_of`] and its neighbours: the words of a text, and the bytes and numbers that they spell.
+#![tactic(auto)]
+
+mod input;
+mod interpreter;
+mod line_fault;
+mod output;
+mod reporting;
+mod run_fault;
+mod streaming;
+mod words;
+
+pub use input::{first_line, left, read_all, text_of};
+pub use interpreter::{Interpreter, Taken, run};
+pub use line_fault::LineFault;
+pub use output::Output;
+pub use reporting::report;
+pub use run_fault::RunFault;
+pub use streaming::run_line_by_line;
+pub use words::{
+    byte_of, bytes_of, bytes_or_none, decimal_of, digits_of, number_of, piece_of, words_of,
+};

@@ -1,0 +1,76 @@
+//! Why a line of input was refused (profile).
+ghost use Rattle.std.specs.Prelude.{◌≡◌, Some};
+ghost use Rattle.uecp_text.specs.Faults.{refusal_text};
+ghost use Rattle.uecp_text.specs.Run.{fault_at};
+ghost use Rattle.uecp_text.specs.declared.line_fault.LineFault.TheVariants.{OutOfMemory};
+
+use crate::run_fault::RunFault;
+use std::alloc::{AllocError, AllocFailed};
+use std::error::Error;
+use std::fmt;
+
+/// What is wrong with one line, in the order in which it is looked for.
+#[derive(Clone, Copy, Debug, PartialEq, Eq)]
+pub enum LineFault {
+    /// A line of pieces has another character than a digit, or an odd number of digits.
+    NotHex,
+    /// A line of a script has an unknown first word, a wrong number of words or wrong digits.
+    NotACommand,
+    /// An element stands before any frame.
+    NoFrame,
+    /// The message would have more than 255 bytes.
+    MessageTooLong,
+    /// There was no memory: the line itself is not at fault.
+    OutOfMemory,
+}
+
+impl LineFault {
+    /// The run's fault where this is the fault of the line of this number, counted from 1.
+    pub fn at(self, number: usize) -> RunFault
+        ensures { result ≡ fault_at number self }
+    {
+        match self {
+            LineFault::OutOfMemory => RunFault::OutOfMemory,
+            refusal => RunFault::Line(number, refusal),
+        }
+    }
+
+    /// What is said of it, such as `not hex`.
+    pub fn text(self) -> &'static str
+        ensures { result.now ≡ refusal_text self }
+    {
+        match self {
+            LineFault::NotHex => "not hex",
+            LineFault::NotACommand => "not a command",
+            LineFault::NoFrame => "no frame",
+            LineFault::MessageTooLong => "message too long",
+            LineFault::OutOfMemory => "out of memory",
+        }
+    }
+}
+
+impl fmt::Display for LineFault {
+    ghost output = { λ fault. Some (refusal_text fault) };
+
+    fn fmt<W: fmt::Write>(&self, f: &mut fmt::Formatter<W>) -> fmt::Result {
+        f.write_str(self.text())
+    }
+}
+
+impl Error for LineFault {}
+
+impl From<AllocError> for LineFault {
+    ghost from_gives = { λ _ e. e ≡ OutOfMemory };
+
+    fn from(_error: AllocError) -> LineFault {
+        LineFault::OutOfMemory
+    }
+}
+
+impl<T: Drop> From<AllocFailed<T>> for LineFault {
+    ghost from_gives = { λ _ e. e ≡ OutOfMemory };
+
+    fn from(_error: AllocFailed<T>) -> LineFault {
+        LineFault::OutOfMemory
+    }
+}

@@ -1,0 +1,150 @@
+//! The lines that a run writes (profile).
+ghost use Rattle.std.specs.Prelude.{◌≡◌, ◌==◌, ◌++◌, ◌↔◌, [], ◌∷◌, length, true, IsOk, OnOk, IfErr, IsTrue, codes, decimal, if◌then◌else◌};
+ghost use Rattle.std.specs.Io.KnownBytes.{Appends};
+ghost use Rattle.hex.specs.Hex.{encode_upper};
+ghost use Rattle.uecp_text.specs.Digits.{byte_word, number_word, row_word, decimal_word, flag_word};
+ghost use Rattle.uecp_text.specs.declared.run_fault.RunFault.TheVariants.{Writing};
+ghost use Rattle.uecp_text.specs.Written.{Kept, Adds};
+
+use crate::run_fault::RunFault;
+use itoa::Buffer;
+use std::alloc::{AllocError, Global};
+use std::io::Write;
+use std::marker::Model;
+
+/// What a run has to say, kept until it is written out. Once memory was refused it takes nothing more, so what it
+/// holds is always the beginning of the whole output.
+#[derive(Drop)]
+pub struct Output {
+    alloc: Global,
+    bytes: Vec<u8>,
+    is_whole: bool,
+}
+
+impl Model for Output {
+    ghost Value = { Kept };
+
+    ghost view = { λ o. record { bytes = o.bytes.items; is_whole = o.is_whole } };
+}
+
+impl Output {
+    /// No output yet.
+    pub fn new(alloc: Global) -> Output
+        ensures empty { result.bytes ≡ [] }
+        ensures whole { result.is_whole ≡ true }
+    {
+        Output {
+            alloc,
+            bytes: Vec::new(alloc),
+            is_whole: true,
+        }
+    }
+
+    /// Adds the bytes as they are.
+    fn add(&mut self, bytes: &[u8])
+        ensures { Adds self.old self.new bytes.now }
+    {
+        if self.is_whole {
+            self.is_whole = self.bytes.extend_from_slice(bytes).is_ok();
+        }
+    }
+
+    /// Adds the text.
+    pub fn text(&mut self, text: &str)
+        ensures { Adds self.old self.new text.now }
+    {
+        self.add(text.as_bytes());
+    }
+
+    /// Adds two upper case digits for each byte, nothing for no bytes.
+    pub fn digits(&mut self, bytes: &[u8])
+        ensures { Adds self.old self.new (encode_upper bytes.now) }
+    {
+        match hex::encode_upper(self.alloc, bytes) {
+            Ok(digits) => self.add(digits.as_bytes()),
+            Err(_) => self.is_whole = false,
+        }
+    }
+
+    /// Adds a space and the two digits of the byte.
+    #[tactic(auto, unfolding(crate::specs::Digits::byte_word))]
+    pub fn byte(&mut self, byte: u8)
+        ensures { Adds self.old self.new (byte_word byte) }
+    {
+        self.text(" ");
+        self.digits(&[byte]);
+    }
+
+    /// Adds a space and the four digits of the number.
+    #[tactic(auto, unfolding(crate::specs::Digits::number_word))]
+    pub fn number(&mut self, number: u16)
+        ensures { Adds self.old self.new (number_word number) }
+    {
+        self.text(" ");
+        self.digits(&number.to_be_bytes());
+    }
+
+    /// Adds a space and the digits of the bytes, or `-` for no bytes.
+    #[tactic(auto, unfolding(crate::specs::Digits::row_word))]
+    pub fn row(&mut self, bytes: &[u8])
+        ensures { Adds self.old self.new (row_word bytes.now) }
+    {
+        self.text(" ");
+        if bytes.is_empty() {
+            self.text("-");
+        } else {
+            self.digits(bytes);
+        }
+    }
+
+    /// Adds a space and the number in decimal.
+    #[tactic(auto, unfolding(crate::specs::Digits::decimal_word))]
+    pub fn decimal(&mut self, number: usize)
+        ensures { Adds self.old self.new (decimal_word number) }
+    {
+        self.text(" ");
+        self.text(Buffer::new().format(number));
+    }
+
+    /// Adds a space and 1 or 0.
+    #[tactic(auto, unfolding(crate::specs::Digits::flag_word))]
+    pub fn flag(&mut self, is_set: bool)
+        ensures { Adds self.old self.new (flag_word is_set) }
+    {
+        self.text(if is_set { " 1" } else { " 0" });
+    }
+
+    /// Ends the line.
+    pub fn end(&mut self)
+        ensures { Adds self.old self.new (codes "\n") }
+    {
+        self.text("\n");
+    }
+
+    /// Whether all of the output so far was taken.
+    pub fn check(&self) -> Result<(), AllocError>
+        ensures { IsOk result ↔ IsTrue self.now.is_whole }
+    {
+        if self.is_whole {
+            Ok(())
+        } else {
+            Err(AllocError)
+        }
+    }
+
+    /// Writes out what was taken, and flushes the writer; nothing is kept then. `Writing` where the writer fails.
+    pub fn write_out<W: Write>(&mut self, writer: &mut W) -> Result<(), RunFault>
+        ensures written { OnOk result (Appends (W.contents writer.old) (W.contents writer.new) self.old.bytes) }
+        ensures empty { OnOk result (self.new.bytes ≡ []) }
+        ensures whole { self.new.is_whole ≡ self.old.is_whole }
+        ensures failed { IfErr result (λ fault. fault ≡ Writing) }
+    {
+        match writer.write_all(self.bytes.as_slice()) {
+            Ok(()) => {
+                self.bytes.clear();
+                writer.flush().map_err(|_| RunFault::Writing)
+            }
+            Err(_) => Err(RunFault::Writing),
+        }
+    }
+}

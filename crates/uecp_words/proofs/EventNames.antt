@@ -1,0 +1,111 @@
+-- Words that name an event, and words that name none.
+use Rattle.std.proofs.Common.{◌≡◌, ℕ, ◌⊎◌, inl, inr, List, [], ◌∷◌, codes, refl, sym, ap, ◌∙◌, subst, length, get_or, ◌+◌, eqb, eq-eqb, false, Bor, ◌≤◌, ◌<◌, map, arith}
+use Rattle.std.proofs.lemmas.Bool.{false≢true}
+use Rattle.uecp_link.specs.Once.{Event, Submit, FrameComes, ReplyComes, EncoderLost, ServerLost}
+use Rattle.uecp_link.specs.Events.{lost_of}
+use Rattle.uecp_link.specs.declared.event.Side.{Side}
+use Rattle.uecp_link.specs.declared.event.Side.TheVariants as side
+use Rattle.uecp_text.specs.declared.line_fault.LineFault.{LineFault}
+use Rattle.uecp_text.specs.declared.line_fault.LineFault.TheVariants.{NotACommand, OutOfMemory}
+use Rattle.uecp_text.specs.Words.{IsRow}
+use Rattle.uecp_words.specs.EventWords.{name_of, end_word, noise_to, TellsMessage, TellsNoise, TellsRow, Names, Submits, IsFaultOf}
+
+-- ---- Words that name an event.
+
+-- The name of noise and its bytes name the noise.
+pub noise_named : (end : Side) (words : List (List ℕ)) (bytes : List ℕ) → TellsNoise words bytes → Names (name_of (noise_to end []) ∷ words) (noise_to end bytes)
+noise_named side.Encoder words bytes told = (words, refl, told)
+noise_named side.Server words bytes told = (words, refl, told)
+
+-- `line-lost` and an end name the loss at that end.
+pub loss_named : (end : Side) (words : List (List ℕ)) → words ≡ end_word end ∷ [] → Names (codes "line-lost" ∷ words) (lost_of end)
+loss_named side.Encoder words told = (words, refl, told)
+loss_named side.Server words told = (words, refl, told)
+
+-- ---- Words that name none.
+
+-- The length of a word and its first byte together: no two names have the same.
+abbrev mark : List ℕ → ℕ
+mark word = length word + get_or word 0 0
+
+-- Lists of words with different names in front are different.
+apart : (a b : List ℕ) (words others : List (List ℕ)) → eqb (mark a) (mark b) ≡ false → a ∷ words ≡ b ∷ others → ⊥
+apart a b words others differ same =
+    let first : a ≡ b = cc in
+    false≢true (sym differ ∙ eq-eqb (mark a) (mark b) (ap mark first))
+
+-- Lists of words that are the same have the same words after the first.
+same_rest : (a b : List ℕ) (words others : List (List ℕ)) → a ∷ words ≡ b ∷ others → others ≡ words
+same_rest a b words others same = cc
+
+-- Lone words that are the same.
+first_same : (a b : List ℕ) → a ∷ [] ≡ b ∷ [] → a ≡ b
+first_same a b same = cc
+
+-- Words with another name in front submit nothing.
+no_bytes : (name : List ℕ) (words : List (List ℕ)) → eqb (mark name) (mark (codes "submit")) ≡ false → (bytes : List ℕ) → Submits (name ∷ words) bytes → ⊥
+no_bytes name words differ bytes row = apart name (codes "submit") words row.0 differ row.1
+
+-- Words after `frame` that tell no message name no event.
+no_frame : (words : List (List ℕ)) → ((number : ℕ) → TellsMessage words number → ⊥) → (event : Event) → Names (codes "frame" ∷ words) event → ⊥
+no_frame words none (FrameComes n) named =
+    none n (subst (λ ws. TellsMessage ws n) (same_rest (codes "frame") (codes "frame") words named.0 named.1) named.2)
+no_frame words none event named = apart (codes "frame") (name_of event) words named.0 refl named.1
+
+-- Words after `reply` that tell no message name no event.
+no_reply : (words : List (List ℕ)) → ((number : ℕ) → TellsMessage words number → ⊥) → (event : Event) → Names (codes "reply" ∷ words) event → ⊥
+no_reply words none (ReplyComes n) named =
+    none n (subst (λ ws. TellsMessage ws n) (same_rest (codes "reply") (codes "reply") words named.0 named.1) named.2)
+no_reply words none event named = apart (codes "reply") (name_of event) words named.0 refl named.1
+
+-- Words after `submit` that tell no row name no event.
+no_submission : (words : List (List ℕ)) → ((bytes : List ℕ) → TellsRow words bytes → ⊥) → (event : Event) → Names (codes "submit" ∷ words) event → ⊥
+no_submission words none (Submit m) named =
+    none m (subst (λ ws. TellsRow ws m) (same_rest (codes "submit") (codes "submit") words named.0 named.1) named.2.0)
+no_submission words none event named = apart (codes "submit") (name_of event) words named.0 refl named.1
+
+-- Words after `line-lost` that are no end name no event.
+no_loss : (words : List (List ℕ)) → ((end : Side) → words ≡ end_word end ∷ [] → ⊥) → (event : Event) → Names (codes "line-lost" ∷ words) event → ⊥
+no_loss words none EncoderLost named =
+    none side.Encoder (sym (same_rest (codes "line-lost") (codes "line-lost") words named.0 named.1) ∙ named.2)
+no_loss words none ServerLost named =
+    none side.Server (sym (same_rest (codes "line-lost") (codes "line-lost") words named.0 named.1) ∙ named.2)
+no_loss words none event named = apart (codes "line-lost") (name_of event) words named.0 refl named.1
+
+-- Why a word, or all words after the first, are refused.
+abbrev pub FailsFor : {A : Type 0} → (A → Type 0) → LineFault → Type 0
+FailsFor {A} fits e = (e ≡ OutOfMemory) ⊎ ((e ≡ NotACommand) × ((a : A) → fits a → ⊥))
+
+-- What `frame` is refused for is the fault of the words.
+pub frame_refused : (words : List (List ℕ)) (e : LineFault) → FailsFor (TellsMessage words) e → IsFaultOf (codes "frame" ∷ words) e
+frame_refused words e (inl out) = rw out tt
+frame_refused words e (inr f) = rw f.0 (record { no_event = no_frame words f.1; no_bytes = no_bytes (codes "frame") words refl })
+
+-- What `reply` is refused for is the fault of the words.
+pub reply_refused : (words : List (List ℕ)) (e : LineFault) → FailsFor (TellsMessage words) e → IsFaultOf (codes "reply" ∷ words) e
+reply_refused words e (inl out) = rw out tt
+reply_refused words e (inr f) = rw f.0 (record { no_event = no_reply words f.1; no_bytes = no_bytes (codes "reply") words refl })
+
+-- What the row of `submit` is refused for is the fault of the words.
+pub submission_refused : (words : List (List ℕ)) (e : LineFault) → FailsFor (TellsRow words) e → IsFaultOf (codes "submit" ∷ words) e
+submission_refused words e (inl out) = rw out tt
+submission_refused words e (inr f) = rw f.0 (record {
+  no_event = no_submission words f.1;
+  no_bytes = λ bytes row. f.1 bytes (subst (λ ws. TellsRow ws bytes) (same_rest (codes "submit") (codes "submit") words row.0 row.1) row.2);
+})
+
+-- What the end of `line-lost` is refused for is the fault of the words.
+pub loss_refused : (word : List ℕ) (words : List (List ℕ)) (e : LineFault) → words ≡ word ∷ [] → (e ≡ NotACommand) × ((end : Side) → word ≡ end_word end → ⊥) → IsFaultOf (codes "line-lost" ∷ words) e
+loss_refused word words e is f =
+    rw f.0 (record { no_event = no_loss words (λ end same. f.1 end (let one : word ∷ [] ≡ end_word end ∷ [] = sym is ∙ same in first_same word (end_word end) one)); no_bytes = no_bytes (codes "line-lost") words refl })
+
+-- A lone word that fits nothing makes words that tell nothing.
+pub row_fails : (word : List ℕ) (words : List (List ℕ)) (e : LineFault) → words ≡ word ∷ [] → FailsFor (IsRow word) e → FailsFor (TellsRow words) e
+row_fails word words e is (inl out) = inl out
+row_fails word words e is (inr f) = inr (f.0, λ bytes row. f.1 bytes (subst (λ w. IsRow w bytes) (sym (first_same word row.0 (sym is ∙ row.1))) row.2))
+
+-- A slice of one word.
+pub one_word : (words : List (Bor (List ℕ))) (default : Bor (List ℕ)) → 1 ≤ length words → length words < 2 → map (λ w. w.now) words ≡ (get_or words 0 default).now ∷ []
+one_word [] default at_least below = absurd (omega arith)
+one_word (w ∷ []) default at_least below = refl
+one_word (w ∷ v ∷ ws) default at_least below = absurd (omega arith)

@@ -1,0 +1,3 @@
+pub mod ElementWords
+pub mod ScriptLines
+pub mod EventNames

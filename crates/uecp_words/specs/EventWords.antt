@@ -1,0 +1,102 @@
+-- What the words of a line of an event script name (profile).
+use Rattle.std.specs.Prelude.{◌≡◌, ℕ, ◌≤◌, ◌<◌, Bool, true, List, [], ◌∷◌, length, codes, Some, Ok, is_some}
+use Rattle.std.specs.List.{list_all}
+use Rattle.hex.specs.Hex.{decode_of}
+use Rattle.uecp_link.specs.Once.{Event, Submit, FrameComes, ReplyComes, NoiseToEncoder, NoiseToServer, EncoderLost, ServerLost}
+use Rattle.uecp_link.specs.Events.{lost_of}
+use Rattle.uecp_link.specs.declared.event.Side.{Side}
+use Rattle.uecp_link.specs.declared.event.Side.TheVariants as side
+use Rattle.uecp_words.specs.declared.event_words.EventLine.{EventLine}
+use Rattle.uecp_words.specs.declared.event_words.EventLine.TheVariants as line
+use Rattle.uecp_text.specs.declared.line_fault.LineFault.{LineFault}
+use Rattle.uecp_text.specs.declared.line_fault.LineFault.TheVariants as fault
+use Rattle.uecp_text.specs.Words.{decimal_in, IsRow}
+
+-- The first word of the line that names an event.
+abbrev pub name_of : Event → List ℕ
+name_of (Submit m) = codes "submit"
+name_of (FrameComes number) = codes "frame"
+name_of (ReplyComes number) = codes "reply"
+name_of (NoiseToEncoder bytes) = codes "noise-encoder"
+name_of (NoiseToServer bytes) = codes "noise-server"
+name_of EncoderLost = codes "line-lost"
+name_of ServerLost = codes "line-lost"
+
+-- The word of one end.
+abbrev pub end_word : Side → List ℕ
+end_word side.Encoder = codes "encoder"
+end_word side.Server = codes "server"
+
+-- The word is the number of a message, of one to nine decimal digits.
+abbrev pub IsMessageNumber : List ℕ → ℕ → Type 0
+IsMessageNumber word number = (length word ≤ 9) × (decimal_in 999999999 word ≡ Some number)
+
+-- The word is the length of a piece, 0 to 65535 in decimal.
+abbrev pub is_cut : List ℕ → Bool
+is_cut word = is_some (decimal_in 65535 word)
+
+-- The words are the number of a message and any cuts.
+abbrev pub TellsMessage : List (List ℕ) → (number : ℕ) → Type 0
+TellsMessage words number = (word : List ℕ) × (cuts : List (List ℕ)) × (words ≡ word ∷ cuts) × IsMessageNumber word number × (list_all is_cut cuts ≡ true)
+
+-- The only word is a row of bytes.
+abbrev pub TellsRow : List (List ℕ) → List ℕ → Type 0
+TellsRow words bytes = (word : List ℕ) × (words ≡ word ∷ []) × IsRow word bytes
+
+-- The only word is the hexadecimal digits of these bytes.
+abbrev pub TellsNoise : List (List ℕ) → List ℕ → Type 0
+TellsNoise words bytes = (word : List ℕ) × (words ≡ word ∷ []) × (decode_of word ≡ Ok bytes)
+
+-- The words after the first tell the rest of the event. A message has at most 255 bytes.
+abbrev pub Tells : List (List ℕ) → Event → Type 0
+Tells words (Submit m) = TellsRow words m × (length m ≤ 255)
+Tells words (FrameComes number) = TellsMessage words number
+Tells words (ReplyComes number) = TellsMessage words number
+Tells words (NoiseToEncoder bytes) = TellsNoise words bytes
+Tells words (NoiseToServer bytes) = TellsNoise words bytes
+Tells words EncoderLost = words ≡ codes "encoder" ∷ []
+Tells words ServerLost = words ≡ codes "server" ∷ []
+
+-- The words name the event: the first is its name, and the others tell the rest.
+abbrev pub Names : List (List ℕ) → Event → Type 0
+Names words event = (others : List (List ℕ)) × (words ≡ name_of event ∷ others) × Tells others event
+
+-- The words submit these bytes, however many they are.
+abbrev pub Submits : List (List ℕ) → List ℕ → Type 0
+Submits words bytes = (others : List (List ℕ)) × (words ≡ codes "submit" ∷ others) × TellsRow others bytes
+
+-- The words name no event, and submit no bytes.
+pub record NamesNothing (words : List (List ℕ)) : Type 0 where
+  pub no_event : (event : Event) → Names words event → ⊥
+  pub no_bytes : (bytes : List ℕ) → Submits words bytes → ⊥
+
+-- What is wrong with the words: they name nothing; or they submit more than 255 bytes. Or there was no memory.
+abbrev pub IsFaultOf : List (List ℕ) → LineFault → Type 0
+IsFaultOf words fault.NotACommand = NamesNothing words
+IsFaultOf words fault.MessageTooLong = (bytes : List ℕ) × Submits words bytes × (255 < length bytes)
+IsFaultOf words fault.OutOfMemory = Unit {0}
+IsFaultOf words fault.NotHex = ⊥
+IsFaultOf words fault.NoFrame = ⊥
+
+-- Noise towards one end.
+abbrev pub noise_to : Side → List ℕ → Event
+noise_to side.Encoder bytes = NoiseToEncoder bytes
+noise_to side.Server bytes = NoiseToServer bytes
+
+-- The event of a line of a script, without its cuts.
+abbrev pub event_seen : EventLine → Event
+event_seen (line.Submit m) = Submit m
+event_seen (line.Frame number cut) = FrameComes number
+event_seen (line.Reply number cut) = ReplyComes number
+event_seen (line.Noise end bytes) = noise_to end bytes.items
+event_seen (line.LineLost end) = lost_of end
+
+-- The number of the message that an event names, or 0 where it names none.
+abbrev pub named_message : Event → ℕ
+named_message (Submit m) = 0
+named_message (FrameComes number) = number
+named_message (ReplyComes number) = number
+named_message (NoiseToEncoder bytes) = 0
+named_message (NoiseToServer bytes) = 0
+named_message EncoderLost = 0
+named_message ServerLost = 0

@@ -1,0 +1,3 @@
+-- The definitions that the contracts of the words of scripts cite.
+pub mod ScriptWords
+pub mod EventWords

@@ -1,0 +1,14 @@
+//! Messages out of their bytes (profile).
+ghost use Rattle.std.specs.Prelude.{◌≡◌, ◌≤◌, ◌<◌, length, IfOk, IfErr};
+ghost use Rattle.uecp_text.specs.declared.line_fault.LineFault.TheVariants.{MessageTooLong};
+
+use uecp_frame::Message;
+use uecp_text::LineFault;
+
+/// A message of these bytes; `MessageTooLong` where there are more than 255.
+pub fn message_of(bytes: &[u8]) -> Result<Message, LineFault>
+    ensures message { IfOk result (λ m. (m ≡ bytes.now) × (length bytes.now ≤ 255)) }
+    ensures refused { IfErr result (λ e. (e ≡ MessageTooLong) × (255 < length bytes.now)) }
+{
+    Message::from_bytes(bytes).ok_or(LineFault::MessageTooLong)
+}
