@@ -1,5 +1,6 @@
 //! A server over connections that may break. Source: profile.
-ghost use Rattle.std.specs.Prelude.{◌≡◌, ◌≢◌, ◌≤◌, ◌↔◌, Some, None, IfOk, IfErr, IsTrue};
+ghost use Rattle.std.specs.Prelude.{◌≡◌, ◌≢◌, ◌≤◌, ◌↔◌, Some, None, IfOk, IfErr, IfSome, IfNone, IsTrue};
+ghost use Rattle.uecp_frame.specs.Findings.{Closed};
 ghost use Rattle.uecp_link.specs.Server.{submitted};
 ghost use Rattle.uecp_net.specs.Sending.{IsFreed, StillWaits, Goes};
 
@@ -148,18 +149,12 @@ impl<'a, C: Connect> Sender<'a, C> {
         ensures goes { Goes self.old.server self.new.server self.old.tries result }
         ensures stays { record self.new { server = self.old.server } ≡ self.old }
     {
-        let mut ends = match self.ends.take() {
-            Some(ends) => ends,
-            None => {
-                let Some((input, output)) = self.connect.open() else {
-                    return Tried::Refused;
-                };
-                self.server.line_lost();
-                Ends {
-                    input: Meter::new(input),
-                    output: Meter::new(output),
-                }
-            }
+        let had = match self.ends.take() {
+            Some(ends) => Some(ends),
+            None => self.connected(),
+        };
+        let Some(mut ends) = had else {
+            return Tried::Refused;
         };
         match resend(
             &mut self.server,
@@ -178,5 +173,19 @@ impl<'a, C: Connect> Sender<'a, C> {
             }
             Err(DriveFault::WriteFailed { .. } | DriveFault::Closed) => Tried::Broken,
         }
+    }
+
+    /// A new connection, or None where there is none to be had. What the one before left open is forgotten.
+    fn connected(&mut self) -> Option<Ends<C::Input, C::Output>>
+        ensures forgets { IfSome result (λ _. self.new.server ≡ record self.old.server { part = Closed }) }
+        ensures none { IfNone result (self.new.server ≡ self.old.server) }
+        ensures stays { record self.new { server = self.old.server } ≡ self.old }
+    {
+        let (input, output) = self.connect.open()?;
+        self.server.line_lost();
+        Some(Ends {
+            input: Meter::new(input),
+            output: Meter::new(output),
+        })
     }
 }
