@@ -20,3 +20,6 @@ pub use connect::Connect;
 pub use sending::{Outstanding, Sender};
 pub use serving::{ServeStop, serve_connections};
 pub use tcp::{Dialing, Listening};
+
+#[cfg(test)]
+mod tests;

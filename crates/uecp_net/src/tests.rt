@@ -1,0 +1,145 @@
+//! Both ends over real sockets, in one process and one thread: what is written waits in the socket until the other end reads it.
+ghost use Rattle.std.specs.Prelude.{IsTrue};
+ghost use Rattle.uecp_frame.specs.Address.{is_exact};
+
+use crate::connect::Connect;
+use crate::tcp::{Dialing, Listening};
+use crate::{Outstanding, Sender, serve_connections};
+use rds_store::{RdsStore, Service};
+use std::alloc::Global;
+use std::net::{TcpListener, TcpStream};
+use std::process::Abort;
+use std::test::Fail;
+use std::time::Duration;
+use uecp_elements::Code;
+use uecp_encoder::{Encoder, Meter, serve};
+use uecp_frame::{Address, Message};
+use uecp_link::{DriveFault, Driven, Server, drive, resend};
+
+/// Adds the text "HI".
+const ADD: [u8; 7] = *b"\x0A\x00\x00\x03\x40\x48\x49";
+/// A read that brings nothing for so many milliseconds fails.
+const TIMEOUT: u64 = 100;
+
+/// One end of a connection.
+#[derive(Drop)]
+struct End {
+    input: Meter<TcpStream>,
+    output: Meter<TcpStream>,
+}
+
+/// The end that this opens next, whose reads time out.
+fn open(connect: &mut impl Connect<Input = TcpStream, Output = TcpStream>) -> Result<End, Fail> {
+    let (input, output) = connect.open().ok_or("no connection")?;
+    input.set_read_timeout(Some(Duration::from_millis(TIMEOUT)))?;
+    Ok(End {
+        input: Meter::new(input),
+        output: Meter::new(output),
+    })
+}
+
+/// The address of site 1, encoder 1.
+fn own_address(rt: &impl Abort) -> Address
+    ensures { IsTrue (is_exact result) }
+{
+    let address = Address::new(1, 1).expect(rt, "in range");
+    assert!(rt; address.is_exact());
+    address
+}
+
+/// A new encoder of site 1, encoder 1, with one data set and service 01.
+fn new_encoder(rt: &impl Abort, alloc: Global) -> Result<Encoder<RdsStore>, Fail> {
+    let store = RdsStore::new(alloc, 1, &[0x01])?;
+    match Encoder::new(alloc, own_address(rt), store) {
+        Ok(encoder) => Ok(encoder),
+        Err(_) => Err("no memory".into()),
+    }
+}
+
+/// Serves a turn at a time, at most 100, until so many messages were fresh and so many were repeats.
+fn serve_until(
+    rt: &impl Abort,
+    encoder: &mut Encoder<RdsStore>,
+    end: &mut End,
+    (fresh, repeats): (u64, u64),
+) {
+    for _ in 0..100u32 {
+        let counts = encoder.counts();
+        if (counts.fresh, counts.repeats) == (fresh, repeats) {
+            return;
+        }
+        let _ = serve(encoder, &mut end.input, &mut end.output, 1);
+    }
+    assert!(rt; false, "not served");
+}
+
+/// Sends the text "HI" once, and hears nothing.
+fn sends_first(rt: &impl Abort, server: &mut Server, end: &mut End) {
+    assert!(rt; server.is_idle());
+    let message = Message::from_bytes(&ADD).expect(rt, "short");
+    let driven = drive(server, &mut end.input, &mut end.output, &message, 1, 1);
+    assert_eq!(rt; driven, Err(DriveFault::TriesSpent));
+}
+
+/// Sends it again, and hears the reply to the first.
+fn sends_again(rt: &impl Abort, server: &mut Server, end: &mut End) {
+    assert!(rt; !server.is_idle());
+    let driven = resend(server, &mut end.input, &mut end.output, 1, 16);
+    let applied = Driven {
+        code: Code::Applied,
+        tries: 1,
+    };
+    assert_eq!(rt; driven, Ok(applied));
+}
+
+/// Sends the text "HI" on a connection on which nothing is answered.
+fn is_outstanding<C: Connect>(rt: &impl Abort, sender: &mut Sender<'_, C>) {
+    assert!(rt; sender.is_idle());
+    let message = Message::from_bytes(&ADD).expect(rt, "short");
+    let sent = sender.send(&message);
+    assert_eq!(rt; sent, Err(Outstanding::TriesSpent));
+}
+
+/// The service has the text "HI" once, and no other.
+fn has_one_text(rt: &impl Abort, service: &Service) {
+    assert_eq!(rt; service.texts().len(), 1);
+    for text in service.texts() {
+        assert_eq!(rt; text.text(), b"HI".as_slice());
+    }
+}
+
+#[test]
+fn a_message_sent_twice_over_sockets_acts_once(rt: HostRuntime) -> Result<(), Fail> {
+    let listener = TcpListener::bind(&rt, ("127.0.0.1", 0))?;
+    let port = listener.local_addr()?.port();
+    let mut client = open(&mut Dialing::new(&rt, "127.0.0.1", port, TIMEOUT))?;
+    let mut server = Server::new(own_address(&rt));
+    sends_first(&rt, &mut server, &mut client);
+    let mut accepted = open(&mut Listening::new(listener))?;
+    let mut encoder = new_encoder(&rt, rt.alloc())?;
+    serve_until(&rt, &mut encoder, &mut accepted, (1, 0));
+    sends_again(&rt, &mut server, &mut client);
+    serve_until(&rt, &mut encoder, &mut accepted, (1, 1));
+    let service = encoder.target().service(1, 0x01).ok_or("no service")?;
+    has_one_text(&rt, service);
+    Ok(())
+}
+
+#[test]
+fn a_sender_and_an_encoder_over_one_connection(rt: HostRuntime) -> Result<(), Fail> {
+    let alloc = rt.alloc();
+    let listener = TcpListener::bind(&rt, ("127.0.0.1", 0))?;
+    let port = listener.local_addr()?.port();
+    let mut dialing = Dialing::new(&rt, "127.0.0.1", port, TIMEOUT);
+    let mut sender = Sender::new(&mut dialing, Server::new(own_address(&rt)), 1, 1, 0);
+    is_outstanding(&rt, &mut sender);
+    let mut encoder = new_encoder(&rt, alloc)?;
+    let mut lines = Vec::new(alloc);
+    let mut listening = Listening::new(listener);
+    let served = serve_connections(alloc, &mut encoder, 1, 1, &mut listening, &mut lines);
+    assert_eq!(rt; served, Ok(()));
+    assert_eq!(rt; lines.as_slice(), b"connection 1 turns spent\n".as_slice());
+    let service = encoder.target().service(1, 0x01).ok_or("no service")?;
+    has_one_text(&rt, service);
+    Ok(())
+}
