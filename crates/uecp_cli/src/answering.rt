@@ -15,13 +15,15 @@ use rds_store::RdsStore;
 use std::alloc::Global;
 use uecp_encoder::Encoder;
 use uecp_lines::{put_answer, put_last};
-use uecp_text::{Interpreter, LineFault, Output, RunFault, Taken, left, piece_of};
+use uecp_text::{Interpreter, LineFault, Output, PieceBuffer, RunFault, Taken, left};
 
 /// Feeds pieces to an encoder and says what it answers to each; then, where that is asked for, its store.
 #[derive(Drop)]
 pub struct Answering {
     encoder: Encoder<RdsStore>,
     store: bool,
+    /// Room for one piece after another.
+    room: PieceBuffer,
 }
 
 impl Answering {
@@ -33,7 +35,11 @@ impl Answering {
         ensures refused { IfErr result (λ fault. (fault ≡ OutOfMemory) ⊎ RefusesSetup (options_of setup.now) fault) }
     {
         let encoder = new_encoder(alloc, setup)?;
-        Ok(Answering { encoder, store })
+        Ok(Answering {
+            encoder,
+            store,
+            room: PieceBuffer::new(alloc),
+        })
     }
 }
 
@@ -44,12 +50,12 @@ impl Interpreter for Answering {
 
     fn take(
         &mut self,
-        alloc: Global,
+        _alloc: Global,
         text: &[u8],
         output: &mut Output,
     ) -> Result<Taken, LineFault> {
-        let piece = piece_of(alloc, text)?;
-        answer_piece(&mut self.encoder, piece.as_slice(), output);
+        let piece = self.room.read(text)?;
+        answer_piece(&mut self.encoder, piece, output);
         output.check()?;
         Ok(Taken::GoesOn)
     }

@@ -54,7 +54,7 @@ fn do_job<R: Read, W: Write>(
     ensures does { ((fault : RunFault) × (result ≡ Err fault) × RefusesJob job.now fault × (reader.new ≡ reader.old) × (writer.new ≡ writer.old)) ⊎ DoesJob job.now (R.remaining reader.old) (R.remaining reader.new) (W.contents writer.old) (W.contents writer.new) result }
 {
     match job {
-        Job::Show => run(alloc, reader, &mut Showing::new(), writer),
+        Job::Show => run(alloc, reader, &mut Showing::new(alloc), writer),
         Job::Make => run(alloc, reader, &mut Making::new(), writer),
         Job::Answer {
             site,

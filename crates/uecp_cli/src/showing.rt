@@ -9,21 +9,24 @@ ghost use Rattle.uecp_cli.specs.Commands.{Shows};
 use std::alloc::Global;
 use uecp_frame::Deframer;
 use uecp_lines::put_found;
-use uecp_text::{Interpreter, LineFault, Output, Taken, left, piece_of};
+use uecp_text::{Interpreter, LineFault, Output, PieceBuffer, Taken, left};
 
 /// Says what frames and elements stand in pieces, as one stream.
 #[derive(Drop)]
 pub struct Showing {
     deframer: Deframer,
+    /// Room for one piece after another.
+    room: PieceBuffer,
 }
 
 impl Showing {
     /// No piece came yet.
-    pub fn new() -> Showing
+    pub fn new(alloc: Global) -> Showing
         ensures { result.deframer ≡ Closed }
     {
         Showing {
             deframer: Deframer::new(),
+            room: PieceBuffer::new(alloc),
         }
     }
 }
@@ -35,12 +38,12 @@ impl Interpreter for Showing {
 
     fn take(
         &mut self,
-        alloc: Global,
+        _alloc: Global,
         text: &[u8],
         output: &mut Output,
     ) -> Result<Taken, LineFault> {
-        let piece = piece_of(alloc, text)?;
-        show_piece(&mut self.deframer, piece.as_slice(), output);
+        let piece = self.room.read(text)?;
+        show_piece(&mut self.deframer, piece, output);
         output.check()?;
         Ok(Taken::GoesOn)
     }

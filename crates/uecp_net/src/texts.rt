@@ -11,7 +11,7 @@ use crate::sending::Sender;
 use std::alloc::Global;
 use uecp_frame::Message;
 use uecp_link::Driven;
-use uecp_text::{Interpreter, LineFault, Output, Taken, piece_of};
+use uecp_text::{Interpreter, LineFault, Output, PieceBuffer, Taken};
 use uecp_words::message_of;
 
 impl<'a, C: Connect> Interpreter for Sender<'a, C> {
@@ -67,8 +67,8 @@ fn message_in(alloc: Global, text: &[u8]) -> Result<Message, LineFault>
     match text {
         b"-" => Ok(Message::new()),
         _ => {
-            let bytes = piece_of(alloc, text)?;
-            message_of(bytes.as_slice())
+            let mut room = PieceBuffer::new(alloc);
+            message_of(room.read(text)?)
         }
     }
 }

@@ -4,4 +4,5 @@ pub mod Lines
 pub mod Runs
 pub mod Wholes
 pub mod Decimals
+pub mod Pieces
 pub mod Streamed

@@ -9,12 +9,14 @@
 //! - [`Output`]: the lines that a run writes, kept until they are written out.
 //! - [`RunFault`], [`LineFault`]: why a run stops, with its exit status and its text.
 //! - [`words_of`] and its neighbours: the words of a text, and the bytes and numbers that they spell.
+//! - [`PieceBuffer`]: the bytes that a whole text spells, in room that is kept from one text to the next.
 #![tactic(auto)]
 
 mod input;
 mod interpreter;
 mod line_fault;
 mod output;
+mod piece_buffer;
 mod reporting;
 mod run_fault;
 mod streaming;
@@ -24,9 +26,8 @@ pub use input::{first_line, left, read_all, text_of};
 pub use interpreter::{Interpreter, Taken, run};
 pub use line_fault::LineFault;
 pub use output::Output;
+pub use piece_buffer::PieceBuffer;
 pub use reporting::report;
 pub use run_fault::RunFault;
 pub use streaming::run_line_by_line;
-pub use words::{
-    byte_of, bytes_of, bytes_or_none, decimal_of, digits_of, number_of, piece_of, words_of,
-};
+pub use words::{byte_of, bytes_of, bytes_or_none, decimal_of, digits_of, number_of, words_of};

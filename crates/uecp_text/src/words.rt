@@ -2,8 +2,8 @@
 ghost use Rattle.std.specs.Prelude.{◌≡◌, ◌≤◌, ◌<◌, ◌⊎◌, ℕ, List, [], ◌∷◌, length, Ok, IfOk, IfErr, IfSome, IfNone, IsErr};
 ghost use Rattle.hex.specs.Hex.{decode_of, decode_sized};
 ghost use Rattle.uecp_frame.specs.Frame.{high_first};
-ghost use Rattle.uecp_text.specs.declared.line_fault.LineFault.TheVariants.{NotHex, NotACommand, OutOfMemory};
-ghost use Rattle.uecp_text.specs.Words.{words, texts, bytes_in, decimal_in, IsRow};
+ghost use Rattle.uecp_text.specs.declared.line_fault.LineFault.TheVariants.{NotACommand, OutOfMemory};
+ghost use Rattle.uecp_text.specs.Words.{words, texts, decimal_in, IsRow};
 
 use crate::line_fault::LineFault;
 use std::alloc::{AllocError, Global};
@@ -15,19 +15,6 @@ pub fn words_of(alloc: Global, text: &[u8]) -> Result<Vec<&[u8]>, AllocError>
     text.split(|byte| *byte == b' ')
         .filter(|word| !word.is_empty())
         .collect(alloc)
-}
-
-/// The bytes of a text of hexadecimal digits, its spaces taken out; `NotHex` where it has anything else.
-pub fn piece_of(alloc: Global, text: &[u8]) -> Result<Vec<u8>, LineFault>
-    ensures piece { IfOk result (λ p. bytes_in text.now ≡ Ok p.items) }
-    ensures refused { IfErr result (λ e. (e ≡ OutOfMemory) ⊎ ((e ≡ NotHex) × IsErr (bytes_in text.now))) }
-{
-    let digits: Vec<u8> = text
-        .iter()
-        .copied()
-        .filter(|byte| *byte != b' ')
-        .collect(alloc)?;
-    bytes_of(alloc, digits.as_slice(), LineFault::NotHex)
 }
 
 /// The bytes of a word of hexadecimal digits of either case, two for each; `refusal` where it is none.
