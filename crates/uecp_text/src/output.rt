@@ -1,5 +1,5 @@
 //! The lines that a run writes (profile).
-ghost use Rattle.std.specs.Prelude.{◌≡◌, ◌==◌, ◌++◌, ◌↔◌, [], ◌∷◌, length, true, IsOk, OnOk, IfErr, IsTrue, codes, decimal, if◌then◌else◌};
+ghost use Rattle.std.specs.Prelude.{◌≡◌, ◌==◌, ◌*◌, ◌++◌, ◌↔◌, [], ◌∷◌, length, true, IsOk, OnOk, IfErr, IsTrue, codes, decimal, if◌then◌else◌};
 ghost use Rattle.std.specs.Io.KnownBytes.{Appends};
 ghost use Rattle.hex.specs.Hex.{encode_upper};
 ghost use Rattle.uecp_text.specs.Digits.{byte_word, number_word, row_word, decimal_word, flag_word};
@@ -12,11 +12,13 @@ use std::alloc::{AllocError, Global};
 use std::io::Write;
 use std::marker::Model;
 
+/// The digits of 0 to 15, in upper case.
+const DIGITS: &[u8; 16] = b"0123456789ABCDEF";
+
 /// What a run has to say, kept until it is written out. Once memory was refused it takes nothing more, so what it
 /// holds is always the beginning of the whole output.
 #[derive(Drop)]
 pub struct Output {
-    alloc: Global,
     bytes: Vec<u8>,
     is_whole: bool,
 }
@@ -34,7 +36,6 @@ impl Output {
         ensures whole { result.is_whole ≡ true }
     {
         Output {
-            alloc,
             bytes: Vec::new(alloc),
             is_whole: true,
         }
@@ -60,9 +61,8 @@ impl Output {
     pub fn digits(&mut self, bytes: &[u8])
         ensures { Adds self.old self.new (encode_upper bytes.now) }
     {
-        match hex::encode_upper(self.alloc, bytes) {
-            Ok(digits) => self.add(digits.as_bytes()),
-            Err(_) => self.is_whole = false,
+        if self.is_whole {
+            self.is_whole = spell_after(bytes, &mut self.bytes).is_ok();
         }
     }
 
@@ -146,5 +146,29 @@ impl Output {
             }
             Err(_) => Err(RunFault::Writing),
         }
+    }
+}
+
+/// Puts two upper case digits for each byte after what is held; nothing where memory is refused.
+fn spell_after(bytes: &[u8], held: &mut Vec<u8>) -> Result<(), AllocError>
+    ensures { OnOk result (held.new.items ≡ held.old.items ++ encode_upper bytes.now) }
+{
+    let start = held.len();
+    let count = bytes.len().checked_mul(2).ok_or(AllocError)?;
+    let end = start.checked_add(count).ok_or(AllocError)?;
+    held.resize(end, 0)?;
+    spell(bytes, &mut held.as_mut_slice()[start..]);
+    Ok(())
+}
+
+/// Fills the room with two upper case digits for each byte.
+fn spell(bytes: &[u8], room: &mut [u8])
+    requires { length room.old ≡ 2 * length bytes.now }
+    ensures { room.new ≡ encode_upper bytes.now }
+{
+    'bytes: for i in 0..bytes.len() {
+        let byte = bytes[i];
+        room[2 * i] = DIGITS[usize::from(byte >> 4)];
+        room[2 * i + 1] = DIGITS[usize::from(byte & 0x0f)];
     }
 }
