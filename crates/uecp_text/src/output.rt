@@ -1,7 +1,7 @@
 //! The lines that a run writes (profile).
-ghost use Rattle.std.specs.Prelude.{◌≡◌, ◌==◌, ◌*◌, ◌++◌, ◌↔◌, [], ◌∷◌, length, true, IsOk, OnOk, IfErr, IsTrue, codes, decimal, if◌then◌else◌};
+ghost use Rattle.std.specs.Prelude.{◌≡◌, ◌==◌, ◌*◌, ◌/◌, ◌%◌, ◌++◌, ◌↔◌, [], ◌∷◌, length, slice_index, true, IsOk, OnOk, IfErr, IsTrue, codes, decimal, if◌then◌else◌};
 ghost use Rattle.std.specs.Io.KnownBytes.{Appends};
-ghost use Rattle.hex.specs.Hex.{encode_upper};
+ghost use Rattle.hex.specs.Hex.{encode_upper, upper_digits};
 ghost use Rattle.uecp_text.specs.Digits.{byte_word, number_word, row_word, decimal_word, flag_word};
 ghost use Rattle.uecp_text.specs.declared.run_fault.RunFault.TheVariants.{Writing};
 ghost use Rattle.uecp_text.specs.Written.{Kept, Adds};
@@ -42,6 +42,7 @@ impl Output {
     }
 
     /// Adds the bytes as they are.
+    #[inline]
     fn add(&mut self, bytes: &[u8])
         ensures { Adds self.old self.new bytes.now }
     {
@@ -51,6 +52,7 @@ impl Output {
     }
 
     /// Adds the text.
+    #[inline]
     pub fn text(&mut self, text: &str)
         ensures { Adds self.old self.new text.now }
     {
@@ -67,21 +69,23 @@ impl Output {
     }
 
     /// Adds a space and the two digits of the byte.
-    #[tactic(auto, unfolding(crate::specs::Digits::byte_word))]
+    #[tactic(auto, unfolding(crate::specs::Digits::byte_word, hex::specs::Hex::encode_with))]
     pub fn byte(&mut self, byte: u8)
         ensures { Adds self.old self.new (byte_word byte) }
     {
-        self.text(" ");
-        self.digits(&[byte]);
+        let [high, low] = pair(byte);
+        self.add(&[b' ', high, low]);
     }
 
     /// Adds a space and the four digits of the number.
-    #[tactic(auto, unfolding(crate::specs::Digits::number_word))]
+    #[tactic(auto, unfolding(crate::specs::Digits::number_word, hex::specs::Hex::encode_with))]
     pub fn number(&mut self, number: u16)
         ensures { Adds self.old self.new (number_word number) }
     {
-        self.text(" ");
-        self.digits(&number.to_be_bytes());
+        let [high, low] = number.to_be_bytes();
+        let first = pair(high);
+        let last = pair(low);
+        self.add(&[b' ', first[0], first[1], last[0], last[1]]);
     }
 
     /// Adds a space and the digits of the bytes, or `-` for no bytes.
@@ -89,10 +93,10 @@ impl Output {
     pub fn row(&mut self, bytes: &[u8])
         ensures { Adds self.old self.new (row_word bytes.now) }
     {
-        self.text(" ");
         if bytes.is_empty() {
-            self.text("-");
+            self.text(" -");
         } else {
+            self.text(" ");
             self.digits(bytes);
         }
     }
@@ -167,8 +171,19 @@ fn spell(bytes: &[u8], room: &mut [u8])
     ensures { room.new ≡ encode_upper bytes.now }
 {
     'bytes: for i in 0..bytes.len() {
-        let byte = bytes[i];
-        room[2 * i] = DIGITS[usize::from(byte >> 4)];
-        room[2 * i + 1] = DIGITS[usize::from(byte & 0x0f)];
+        let [high, low] = pair(bytes[i]);
+        room[2 * i] = high;
+        room[2 * i + 1] = low;
     }
+}
+
+/// The two upper case digits of the byte, that of its high four bits first.
+#[inline]
+fn pair(byte: u8) -> [u8; 2]
+    ensures { result ≡ slice_index upper_digits (byte / 16) ∷ slice_index upper_digits (byte % 16) ∷ [] }
+{
+    [
+        DIGITS[usize::from(byte >> 4)],
+        DIGITS[usize::from(byte & 0x0f)],
+    ]
 }
