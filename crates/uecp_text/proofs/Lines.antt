@@ -1,9 +1,9 @@
 -- The first line of an input.
-use Rattle.std.proofs.Common.{◌≡◌, ℕ, ◌+◌, ◌<◌, ◌≤◌, ◌==◌, suc, true, false, not, cond, nat_lt, List, [], ◌∷◌, length, take, drop, refl, ◌∙◌, ap, sym, arith, inl, inr, Some, None, Bool}
-use Rattle.std.specs.List.{prefix_len, onto_first, position}
-use Rattle.std.proofs.lemmas.Bool.{cases_Bool, ltb-true, ltb-false, eqb-true}
-use Rattle.std.proofs.Math.Dec.{ltb}
-use Rattle.std.proofs.lemmas.List.Sums.{prefix_len-le-length}
+use Rattle.std.proofs.Common.{◌≡◌, ℕ, ◌+◌, ◌<◌, ◌==◌, suc, true, false, not, cond, get_or, List, [], ◌∷◌, length, take, drop, refl, ◌∙◌, ap, sym, arith, inl, inr, Bool}
+use Rattle.std.specs.List.{prefix_len, onto_first}
+use Rattle.std.proofs.lemmas.Bool.{cases_Bool, eqb-true}
+use Rattle.std.proofs.lemmas.List.Sums.{prefix_len_is}
+use Rattle.memchr.specs.Find.{is_byte, Passes, Nowhere, NoneBefore}
 use Rattle.uecp_text.specs.Input.{lines_of}
 
 -- the number of bytes before the first line feed
@@ -55,27 +55,24 @@ line_alone (byte ∷ rest) some h =
           ∙ ap (λ more. (byte ∷ rest) ∷ more) (sym lines_of-nil)
     ]
 
--- ---- by what `position` answers
-abbrev pub is_end : ℕ → Bool
-is_end byte = byte == 0x0A
+-- ---- by what `memchr` answers
+other_byte : (is_end : Bool) → (is_end ≡ true → ⊥) → not is_end ≡ true
+other_byte true h = absurd (h refl)
+other_byte false h = refl
 
-found_if : (t : Bool) (length place n : ℕ) → ltb n length ≡ t → cond t (Some n) None ≡ Some place → (n < length) × (n ≡ place)
-found_if true length place n lt h = (ltb-true n length lt, cc)
-found_if false length place n lt h = absurd (let none : None ≡ Some place = h in cc)
+-- none of the bytes before this place is a line feed
+none_before : (input : List ℕ) (place : ℕ) → Nowhere (Passes (is_byte 0x0A) input) 0 place → (k : ℕ) → k < place → not (get_or input k 0 == 0x0A) ≡ true
+none_before input place nowhere k below = other_byte (get_or input k 0 == 0x0A) (nowhere k (omega arith) below)
 
-none_if : (t : Bool) (length n : ℕ) → ltb n length ≡ t → cond t (Some n) None ≡ None → length ≤ n
-none_if true length n lt h = absurd (let some : Some n ≡ None = h in cc)
-none_if false length n lt h = ltb-false n length lt
+pub first_up_to : (input : List ℕ) (place : ℕ) → NoneBefore (Passes (is_byte 0x0A) input) 0 (length input) place → Passes (is_byte 0x0A) input place →
+    lines_of input ≡ take (place + 1) input ∷ lines_of (drop (place + 1) input)
+first_up_to input place first at =
+    let there : before_end input ≡ place = prefix_len_is (λ byte. not (byte == 0x0A)) input place 0 (let within = first.high in omega arith) (none_before input place first.before) (λ within. ap not at) in
+    line_up_to input (rw there first.high) ∙ ap (λ n. take (n + 1) input ∷ lines_of (drop (n + 1) input)) there
 
-pub first_up_to : (input : List ℕ) (place : ℕ) → Some place ≡ position is_end input → lines_of input ≡ take (place + 1) input ∷ lines_of (drop (place + 1) input)
-first_up_to input place h =
-    let found = found_if (nat_lt (before_end input) (length input)) (length input) place (before_end input) refl (sym h) in
-    line_up_to input found.0 ∙ ap (λ n. take (n + 1) input ∷ lines_of (drop (n + 1) input)) found.1
-
-pub first_alone : (input : List ℕ) → 0 < length input → None ≡ position is_end input → lines_of input ≡ input ∷ lines_of []
-first_alone input some h =
-    line_alone input some (let least = none_if (nat_lt (before_end input) (length input)) (length input) (before_end input) refl (sym h) in
-    let most = prefix_len-le-length (λ byte. not (byte == 0x0A)) input in omega (arith, least, most))
+pub first_alone : (input : List ℕ) → 0 < length input → Nowhere (Passes (is_byte 0x0A) input) 0 (length input) → lines_of input ≡ input ∷ lines_of []
+first_alone input some nowhere =
+    line_alone input some (prefix_len_is (λ byte. not (byte == 0x0A)) input (length input) 0 (omega arith) (none_before input (length input) nowhere) (λ within. absurd (omega arith)))
 
 -- ---- an input with no byte left
 pub empty_is : (xs : List ℕ) → true ≡ (length xs == 0) → xs ≡ []

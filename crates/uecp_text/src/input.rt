@@ -7,6 +7,7 @@ ghost use Rattle.uecp_text.specs.Run.{IsInput};
 ghost use Rattle.uecp_text.specs.Faults.{Fails};
 
 use crate::run_fault::RunFault;
+use memchr::memchr;
 use std::alloc::Global;
 use std::io::Read;
 
@@ -78,7 +79,7 @@ pub fn first_line(input: &[u8]) -> (&[u8], &[u8])
     ensures lines { lines_of input.now ≡ result.0.now ∷ lines_of result.1.now }
     ensures shorter { length result.1.now < length input.now }
 {
-    match input.iter().position(|byte| *byte == b'\n') {
+    match memchr(b'\n', input) {
         Some(place) => input.split_at(place + 1),
         None => (input, &[]),
     }
