@@ -1,6 +1,7 @@
 -- What a reply that the line lets pass does: for the call that brings it to the server.
 use Rattle.std.proofs.Common.{◌≡◌, ℕ, ◌+◌, ◌<◌, ◌≤◌, ◌==◌, Bool, true, false, cond, List, [], ◌∷◌, ◌++◌, length, Option, Some, None, Ok, Err, nat_lt, refl, ap, sym, ◌∙◌, arith, inl, inr}
-use Rattle.std.specs.Prelude.{slice_get}
+use Rattle.std.specs.Prelude.{slice_get, filter_map}
+use Rattle.std.specs.List.{last_or}
 use Rattle.std.proofs.lemmas.Bool.{cases_eq, eq-eqb, eqb-true, eqb-false, lt-ltb, le-ltb, le-leb, ne_eqb}
 use Rattle.uecp_elements.specs.declared.code.Code.{Code}
 use Rattle.uecp_frame.specs.declared.frame.Frame.{Frame}
@@ -10,7 +11,7 @@ use Rattle.uecp_encoder.specs.Target.{Step}
 use Rattle.uecp_encoder.specs.Answering.{reply_of}
 use Rattle.uecp_link.specs.Counters.{counter_of}
 use Rattle.uecp_link.specs.Server.{ServerState, acknowledges, heard, all_heard_as, told}
-use Rattle.uecp_link.specs.Replying.{last_of, code_heard, codes_heard, acknowledgements}
+use Rattle.uecp_link.specs.Replying.{code_heard, acknowledgements}
 use Rattle.uecp_link.specs.Once.{ReplyComes, acknowledgement}
 use Rattle.uecp_link.specs.Law.{reply_bytes}
 use Rattle.uecp_link.specs.Kept.{last_counter, ServerIs, Waits}
@@ -24,16 +25,16 @@ use Rattle.uecp_link.proofs.Hearing.{code_of_byte-byte_of}
 use Rattle.uecp_link.proofs.Steps.{reply_fits}
 
 -- faults acknowledge nothing, and leave the server
-last_of-faults : (s : ServerState) (xs ys : List Finding) → has_frame xs ≡ false → last_of None (codes_heard (all_heard_as s (xs ++ ys))) ≡ last_of None (codes_heard (all_heard_as s ys))
-last_of-faults s [] ys h = refl
-last_of-faults s (Err fault ∷ xs) ys h = last_of-faults s xs ys h
-last_of-faults s (Ok f ∷ xs) ys h = absurd (cc)
+last_or-faults : (s : ServerState) (xs ys : List Finding) → has_frame xs ≡ false → last_or None (filter_map code_heard (all_heard_as s (xs ++ ys))) ≡ last_or None (filter_map code_heard (all_heard_as s ys))
+last_or-faults s [] ys h = refl
+last_or-faults s (Err fault ∷ xs) ys h = last_or-faults s xs ys h
+last_or-faults s (Ok f ∷ xs) ys h = absurd (cc)
 
 -- with which code a reply acknowledges, by where the server is
 abbrev pub code_for : ℕ → ℕ → Code → Option Code
 code_for k q code = cond (k == q) (Some code) None
 
-told_one : (o : Option Code) → last_of None (code_heard (told o) ∷ []) ≡ o
+told_one : (o : Option Code) → last_or None (filter_map code_heard (told o ∷ [])) ≡ o
 told_one None = refl
 told_one (Some c) = refl
 
@@ -54,15 +55,15 @@ by_wait s a k q p sent m code is (inr w) below fits near =
 
 module _ {V : Type 0} (step : Step V) (line : LineState V) (is : IsLine line) (k : ℕ) (below : k < length line.codes) (near : length line.sent ≤ k + 127) (bytes : List ℕ) (spelled : bytes ≡ reply_bytes line.encoder.address k (slice_get line.codes k)) where
   -- what the server hears
-  pub heard_code : (code : Code) → slice_get line.codes k ≡ Some code → last_of None (acknowledgements line.server bytes) ≡ code_for k line.acknowledged code
+  pub heard_code : (code : Code) → slice_get line.codes k ≡ Some code → last_or None (acknowledgements line.server bytes) ≡ code_for k line.acknowledged code
   heard_code code at =
       let a : ℕ = line.encoder.address in
       let f : Frame = reply_of a (counter_of k) code in
       let w = whole line.server.part f (reply_fits a k code) in
       let bytes_is : bytes ≡ spelling f = spelled ∙ ap (reply_bytes a k) at in
-      ap (λ bs. last_of None (acknowledgements line.server bs)) bytes_is
-      ∙ ap (λ fs. last_of None (codes_heard (all_heard_as line.server fs))) w.2
-      ∙ last_of-faults line.server w.0 (Ok f ∷ []) w.1
+      ap (λ bs. last_or None (acknowledgements line.server bs)) bytes_is
+      ∙ ap (λ fs. last_or None (filter_map code_heard (all_heard_as line.server fs))) w.2
+      ∙ last_or-faults line.server w.0 (Ok f ∷ []) w.1
       ∙ told_one (acknowledges line.server line.server.outstanding f)
       ∙ by_wait line.server a k line.acknowledged (length line.codes) line.sent is.waits code is.server is.waits_is below is.p_le near
 
@@ -89,10 +90,10 @@ module _ {V : Type 0} (step : Step V) (line : LineState V) (is : IsLine line) (k
   counted code false other = rw other (omega arith)
 
   -- what the call owes
-  pub hears_reply : (code : Code) → slice_get line.codes k ≡ Some code → (s : ServerState) (q : ℕ) → s ≡ heard line.server bytes → q ≡ line.acknowledged + one_if (last_of None (acknowledgements line.server bytes))
-      → Goes step line (ReplyComes k) (stepped_by (last_of None (acknowledgements line.server bytes))) (record { encoder = line.encoder; server = s; sent = line.sent; codes = line.codes; acknowledged = q })
+  pub hears_reply : (code : Code) → slice_get line.codes k ≡ Some code → (s : ServerState) (q : ℕ) → s ≡ heard line.server bytes → q ≡ line.acknowledged + one_if (last_or None (acknowledgements line.server bytes))
+      → Goes step line (ReplyComes k) (stepped_by (last_or None (acknowledgements line.server bytes))) (record { encoder = line.encoder; server = s; sent = line.sent; codes = line.codes; acknowledged = q })
   hears_reply code at s q s_is q_is =
-      let said : last_of None (acknowledgements line.server bytes) ≡ code_for k line.acknowledged code = heard_code code at in
+      let said : last_or None (acknowledgements line.server bytes) ≡ code_for k line.acknowledged code = heard_code code at in
       record {
         line = is;
         passes = passes code at;

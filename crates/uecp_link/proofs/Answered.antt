@@ -1,5 +1,7 @@
 -- The first acknowledgement among what some bytes bring.
 use Rattle.std.proofs.Common.{◌≡◌, ℕ, ◌-◌, ◌≤◌, List, [], ◌∷◌, ◌++◌, length, take, drop, Option, Some, None, Ok, Err, refl, ◌∙◌, ap, sym, subst, arith, length-append, length-drop, append_assoc, take-append-drop}
+use Rattle.std.specs.Prelude.{filter_map}
+use Rattle.std.specs.List.{last_or}
 use Rattle.std.specs.Option.{option_or}
 use Rattle.std.proofs.lemmas.List.{take-append-le}
 use Rattle.uecp_elements.specs.declared.code.Code.{Code}
@@ -7,7 +9,7 @@ use Rattle.uecp_frame.specs.Findings.{Finding, OpenPart}
 use Rattle.uecp_frame.specs.Beyond.{found_beyond, open_beyond}
 use Rattle.uecp_frame.proofs.Pieces.{in_pieces_lem, new_start_lem}
 use Rattle.uecp_link.specs.Server.{ServerState, acknowledges, freed, heard_findings, heard, all_heard_as, told}
-use Rattle.uecp_link.specs.Replying.{last_of, code_heard, codes_heard, acknowledgements}
+use Rattle.uecp_link.specs.Replying.{code_heard, acknowledgements}
 use Rattle.uecp_link.specs.Driving.{frame_sent, first_code, acknowledged_in, IsAcknowledged}
 use Rattle.uecp_link.proofs.Hearing.{heard_findings-append}
 
@@ -21,7 +23,7 @@ without s = record s { outstanding = None }
 -- ---- among findings
 
 -- what an idle server says holds no code, and it stays idle
-idle_says : (s : ServerState) (fs : List Finding) (before : Option Code) → last_of before (codes_heard (all_heard_as (without s) fs)) ≡ before
+idle_says : (s : ServerState) (fs : List Finding) (before : Option Code) → last_or before (filter_map code_heard (all_heard_as (without s) fs)) ≡ before
 idle_says s [] before = refl
 idle_says s (Err fault ∷ fs) before = idle_says s fs before
 idle_says s (Ok f ∷ fs) before = idle_says s fs before
@@ -32,13 +34,13 @@ idle_stays s (Err fault ∷ fs) = idle_stays s fs
 idle_stays s (Ok f ∷ fs) = idle_stays s fs
 
 -- the last code that the server says is the first that acknowledges
-codes_first : (s : ServerState) (fs : List Finding) → last_of None (codes_heard (all_heard_as s fs)) ≡ first_code s fs
+codes_first : (s : ServerState) (fs : List Finding) → last_or None (filter_map code_heard (all_heard_as s fs)) ≡ first_code s fs
 codes_first s [] = refl
 codes_first s (Err fault ∷ fs) = codes_first s fs
 codes_first s (Ok f ∷ fs) = go (acknowledges s s.outstanding f) (codes_first s fs)
   where
-    go : (k : Option Code) → last_of None (codes_heard (all_heard_as s fs)) ≡ first_code s fs →
-        last_of None (code_heard (told k) ∷ codes_heard (all_heard_as (freed s k) fs)) ≡ option_or k (first_code s fs)
+    go : (k : Option Code) → last_or None (filter_map code_heard (all_heard_as s fs)) ≡ first_code s fs →
+        last_or None (filter_map code_heard (told k ∷ all_heard_as (freed s k) fs)) ≡ option_or k (first_code s fs)
     go None later = later
     go (Some code) later = idle_says s fs (Some code)
 
@@ -85,7 +87,7 @@ or_none (Some code) b h = absurd (cc)
 
 -- ---- among bytes
 
-pub acknowledged_as : (s : ServerState) (bytes : List ℕ) → last_of None (acknowledgements s bytes) ≡ acknowledged_in s bytes
+pub acknowledged_as : (s : ServerState) (bytes : List ℕ) → last_or None (acknowledgements s bytes) ≡ acknowledged_in s bytes
 acknowledged_as s bytes = codes_first s (found_beyond s.part bytes)
 
 pub nothing_acknowledged : (s : ServerState) → acknowledged_in s [] ≡ None

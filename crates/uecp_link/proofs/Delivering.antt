@@ -1,6 +1,7 @@
 -- What a frame that the line lets pass does: for the call that delivers it.
 use Rattle.std.proofs.Common.{◌≡◌, ℕ, ◌+◌, ◌%◌, ◌<◌, ◌≤◌, ◌==◌, Bool, true, false, cond, List, [], ◌∷◌, ◌++◌, length, get_or, Option, Some, None, Ok, Err, refl, ap, sym, subst, ◌∙◌, arith}
 use Rattle.std.specs.Prelude.{is_some, slice_get}
+use Rattle.std.specs.List.{last_or, cons_option}
 use Rattle.std.proofs.lemmas.Bool.{lt-ltb, le-leb, ne_eqb, false≢true, ltb-false}
 use Rattle.std.proofs.lemmas.List.{get_or_default}
 use Rattle.uecp_elements.specs.declared.code.Code.{Code}
@@ -15,7 +16,7 @@ use Rattle.uecp_encoder.specs.State.{EncoderState, raised, numbered, after_findi
 use Rattle.uecp_link.specs.Counters.{counter_of}
 use Rattle.uecp_link.specs.declared.stepped.Stepped.{Stepped}
 use Rattle.uecp_link.specs.declared.stepped.Stepped.TheVariants as stepped
-use Rattle.uecp_link.specs.Replying.{coded, reply_to, last_of, replies_to, replies}
+use Rattle.uecp_link.specs.Replying.{coded, reply_to, replies_to, replies}
 use Rattle.uecp_link.specs.Once.{Event, FrameComes, Delivered, message_at, delivery}
 use Rattle.uecp_link.specs.Law.{frame_of, Fits}
 use Rattle.uecp_link.specs.Holds.{LineState, once_of, IsLine}
@@ -26,10 +27,10 @@ use Rattle.uecp_link.proofs.Steps.{ring_answers}
 use Rattle.uecp_link.proofs.Goes.{stays}
 
 -- faults are not replied to
-last_of-faults : {V : Type 0} (step : Step V) (e : EncoderState V) (xs ys : List Finding) → has_frame xs ≡ false → last_of None (replies_to step e (xs ++ ys)) ≡ last_of None (replies_to step (after_findings step e xs) ys)
-last_of-faults step e [] ys h = refl
-last_of-faults step e (Err fault ∷ xs) ys h = last_of-faults step (after_finding step e (Err fault)) xs ys h
-last_of-faults step e (Ok f ∷ xs) ys h = absurd (cc)
+last_or-faults : {V : Type 0} (step : Step V) (e : EncoderState V) (xs ys : List Finding) → has_frame xs ≡ false → last_or None (replies_to step e (xs ++ ys)) ≡ last_or None (replies_to step (after_findings step e xs) ys)
+last_or-faults step e [] ys h = refl
+last_or-faults step e (Err fault ∷ xs) ys h = last_or-faults step (after_finding step e (Err fault)) xs ys h
+last_or-faults step e (Ok f ∷ xs) ys h = absurd (cc)
 
 -- the reply to a number's frame, by the code that the line has for it
 abbrev pub reply_for : {V : Type 0} → Step V → LineState V → ℕ → Option Code → Bool × Code
@@ -40,7 +41,7 @@ module _ {V : Type 0} (step : Step V) (line : LineState V) (is : IsLine line) (k
   passes : Passes line (FrameComes k)
   passes = rw (lt-ltb k (length line.sent) below, le-leb (length line.sent) (k + 127) near) refl
 
-  pub replied : last_of None (replies step line.encoder bytes) ≡ Some (reply_for step line k (slice_get line.codes k))
+  pub replied : last_or None (replies step line.encoder bytes) ≡ Some (reply_for step line k (slice_get line.codes k))
   replied =
       let f : Frame = frame_of line.encoder.address (once_of line) k in
       let w = whole line.encoder.part f (is.fits k) in
@@ -51,10 +52,10 @@ module _ {V : Type 0} (step : Step V) (line : LineState V) (is : IsLine line) (k
       let some_number : counter_of k ≡ 0 → ⊥ = λ h. omega arith in
       let known : kept_code e2.ring (counter_of k) ≡ slice_get line.codes k = rw same.ring (ring_answers e.address e line.server (once_of line) (length line.codes) line.acknowledged is k below near) in
       let one : reply_to step e2 (Ok f) ≡ Some (coded step e2 f (slice_get line.codes k)) = rw (reached, ne_eqb (counter_of k) 0 some_number, known) refl in
-      ap (λ bs. last_of None (replies step e bs)) spelled
-      ∙ ap (λ fs. last_of None (replies_to step e fs)) w.2
-      ∙ last_of-faults step e w.0 (Ok f ∷ []) w.1
-      ∙ ap (λ r. last_of None (r ∷ [])) one
+      ap (λ bs. last_or None (replies step e bs)) spelled
+      ∙ ap (λ fs. last_or None (replies_to step e fs)) w.2
+      ∙ last_or-faults step e w.0 (Ok f ∷ []) w.1
+      ∙ ap (λ r. last_or None (cons_option r [])) one
       ∙ ap (λ r. Some r) (go e2 same.value (slice_get line.codes k))
     where
       go : (e2 : EncoderState V) → e2.value ≡ line.encoder.value → (o : Option Code) → coded step e2 (frame_of line.encoder.address (once_of line) k) o ≡ reply_for step line k o
@@ -91,11 +92,11 @@ module _ {V : Type 0} (step : Step V) (line : LineState V) (is : IsLine line) (k
       ap (λ x. record { encoder = x; server = line.server; sent = line.sent; codes = cs; acknowledged = line.acknowledged }) (e_is ∙ ap (fed step line.encoder) spelled)
       ∙ ap (λ x. record { encoder = fed step line.encoder (spelling (frame_of line.encoder.address (once_of line) k)); server = line.server; sent = line.sent; codes = x; acknowledged = line.acknowledged }) cs_is
 
-  pub reply_is : (fresh : Bool) (code : Code) → Some (fresh, code) ≡ last_of None (replies step line.encoder bytes) → reply_for step line k (slice_get line.codes k) ≡ (fresh, code)
+  pub reply_is : (fresh : Bool) (code : Code) → Some (fresh, code) ≡ last_or None (replies step line.encoder bytes) → reply_for step line k (slice_get line.codes k) ≡ (fresh, code)
   reply_is fresh code said = cc (said ∙ replied)
 
   -- what the call owes
-  pub delivers : (fresh : Bool) (code : Code) → Some (fresh, code) ≡ last_of None (replies step line.encoder bytes) → (e : EncoderState V) (cs : List Code) → e ≡ fed step line.encoder bytes → cs ≡ cond fresh (line.codes ++ code ∷ []) line.codes
+  pub delivers : (fresh : Bool) (code : Code) → Some (fresh, code) ≡ last_or None (replies step line.encoder bytes) → (e : EncoderState V) (cs : List Code) → e ≡ fed step line.encoder bytes → cs ≡ cond fresh (line.codes ++ code ∷ []) line.codes
       → Goes step line (FrameComes k) (stepped.Delivered fresh code) (record { encoder = e; server = line.server; sent = line.sent; codes = cs; acknowledged = line.acknowledged })
   delivers fresh code said e cs e_is cs_is =
       let reply : reply_for step line k (slice_get line.codes k) ≡ (fresh, code) = reply_is fresh code said in

@@ -1,6 +1,10 @@
 -- The ends are fed piece after piece.
 use Rattle.std.proofs.Common.{◌≡◌, ℕ, ◌==◌, Bool, true, false, cond, List, [], ◌∷◌, ◌++◌, length, take, drop, Option, Some, None, Ok, Err, refl, ◌∙◌, ap, sym, take-append-drop, suc, arith}
+use Rattle.std.specs.List.{last_or, cons_option}
+use Rattle.std.specs.Option.{option_or}
+use Rattle.std.specs.Prelude.{option_to_list, filter_map}
 use Rattle.std.proofs.lemmas.Bool.{eqb-true}
+use Rattle.std.proofs.lemmas.List.Elements.{filter_map-append}
 use Rattle.uecp_elements.specs.declared.code.Code.{Code}
 use Rattle.reply_ring.specs.Ring.{kept_code}
 use Rattle.uecp_frame.specs.Address.{reaches}
@@ -12,37 +16,59 @@ use Rattle.uecp_frame.specs.Feeding.{Feeds, findings_of}
 use Rattle.uecp_frame.proofs.Pieces.{in_pieces_lem, new_start_lem}
 use Rattle.uecp_encoder.specs.Target.{Step}
 use Rattle.uecp_encoder.specs.State.{EncoderState, after_finding, after_findings, fed}
-use Rattle.uecp_encoder.specs.Answering.{Response, Replied, NotForMe, Unnumbered, Dropped, reply_of, replied, responses, responses_of}
+use Rattle.uecp_encoder.specs.Answering.{Response, Replied, NotForMe, Unnumbered, Dropped, reply_of, replied, responses}
 use Rattle.uecp_encoder.proofs.InPieces.{in_pieces_of_encoder, findings_open, fed-part}
-use Rattle.uecp_link.specs.declared.heard.HeardWhat.{HeardWhat}
-use Rattle.uecp_link.specs.declared.heard.HeardWhat.TheVariants as heard_what
-use Rattle.uecp_encoder.specs.declared.answer.What.{What}
-use Rattle.uecp_encoder.specs.declared.answer.What.TheVariants as what
-use Rattle.uecp_link.specs.Server.{ServerState, acknowledges, freed, heard_finding, heard_findings, heard, heard_as, all_heard_as, whats_of}
-use Rattle.uecp_link.specs.Replying.{coded, reply_to, last_of, replies_to, replies, code_heard, codes_heard, acknowledgements}
+use Rattle.uecp_link.specs.Server.{ServerState, acknowledges, freed, heard_finding, heard_findings, heard, heard_as, all_heard_as}
+use Rattle.uecp_link.specs.Replying.{coded, reply_to, replies_to, replies, code_heard, acknowledgements, IsInPieces}
 
-pub last_of-append : {A : Type 0} (before : Option A) (xs ys : List (Option A)) → last_of before (xs ++ ys) ≡ last_of (last_of before xs) ys
-last_of-append before [] ys = refl
-last_of-append before (None ∷ xs) ys = last_of-append before xs ys
-last_of-append before (Some a ∷ xs) ys = last_of-append (Some a) xs ys
+last_or-append : {A : Type 0} (before : Option A) (xs ys : List A) → last_or before (xs ++ ys) ≡ last_or (last_or before xs) ys
+last_or-append before [] ys = refl
+last_or-append before (a ∷ xs) ys = last_or-append (Some a) xs ys
+
+-- the last of what one call says
+pub last_said : {A : Type 0} (before said : Option A) → option_or said before ≡ last_or before (option_to_list said)
+last_said before None = refl
+last_said before (Some a) = refl
+
+-- ---- any end
+module _ {E S : Type 0} (after : E → List ℕ → E) (says : E → List ℕ → List S) (pieces : (e : E) (x y : List ℕ) → IsInPieces after says e x y) where
+  -- one piece more of what is left to give
+  pub after_on : (e e' : E) (n : ℕ) (rest rest' : List ℕ) → e' ≡ after e (take n rest) → rest' ≡ drop n rest → after e' rest' ≡ after e rest
+  after_on e e' n rest rest' e_is rest_is =
+      ap (λ d. after d rest') e_is ∙ ap (after (after e (take n rest))) rest_is ∙ sym (pieces e (take n rest) (drop n rest)).state ∙ ap (after e) (take-append-drop n rest)
+
+  pub said_on : (e e' : E) (n : ℕ) (rest rest' : List ℕ) (last last' : Option S) → e' ≡ after e (take n rest) → rest' ≡ drop n rest → last' ≡ last_or last (says e (take n rest)) →
+      last_or last' (says e' rest') ≡ last_or last (says e rest)
+  said_on e e' n rest rest' last last' e_is rest_is last_is =
+      let front : List S = says e (take n rest) in
+      ap (λ l. last_or l (says e' rest')) last_is ∙ ap (λ d. last_or (last_or last front) (says d rest')) e_is
+      ∙ ap (λ r. last_or (last_or last front) (says (after e (take n rest)) r)) rest_is
+      ∙ sym (last_or-append last front (says (after e (take n rest)) (drop n rest)))
+      ∙ ap (last_or last) (sym (pieces e (take n rest) (drop n rest)).said ∙ ap (says e) (take-append-drop n rest))
 
 -- ---- the encoder
+cons_option-append : {A : Type 0} (o : Option A) (xs ys : List A) → cons_option o (xs ++ ys) ≡ cons_option o xs ++ ys
+cons_option-append None xs ys = refl
+cons_option-append (Some a) xs ys = refl
+
 replies_to-append : {V : Type 0} (step : Step V) (e : EncoderState V) (xs ys : List Finding) → replies_to step e (xs ++ ys) ≡ replies_to step e xs ++ replies_to step (after_findings step e xs) ys
 replies_to-append step e [] ys = refl
-replies_to-append step e (x ∷ xs) ys = ap (λ rs. reply_to step e x ∷ rs) (replies_to-append step (after_finding step e x) xs ys)
+replies_to-append step e (x ∷ xs) ys =
+    ap (cons_option (reply_to step e x)) (replies_to-append step (after_finding step e x) xs ys)
+    ∙ cons_option-append (reply_to step e x) (replies_to step (after_finding step e x) xs) (replies_to step (after_findings step (after_finding step e x) xs) ys)
 
 -- the open part is no matter of replies
 replies_open : {V : Type 0} (step : Step V) (e : EncoderState V) (o : OpenPart) (xs : List Finding) → replies_to step (record e { part = o }) xs ≡ replies_to step e xs
 replies_open step e o [] = refl
 replies_open step e o (x ∷ xs) =
-    ap (λ rs. reply_to step e x ∷ rs) (ap (λ d. replies_to step d xs) (findings_open step e o (x ∷ [])) ∙ replies_open step (after_finding step e x) o xs)
-    ∙ ap (λ r. r ∷ replies_to step (after_finding step e x) xs) (reply_open x)
+    ap (cons_option (reply_to step (record e { part = o }) x)) (ap (λ d. replies_to step d xs) (findings_open step e o (x ∷ [])) ∙ replies_open step (after_finding step e x) o xs)
+    ∙ ap (λ r. cons_option r (replies_to step (after_finding step e x) xs)) (reply_open x)
   where
     reply_open : (x : Finding) → reply_to step (record e { part = o }) x ≡ reply_to step e x
     reply_open (Err fault) = refl
     reply_open (Ok f) = refl
 
-pub replies-append : {V : Type 0} (step : Step V) (e : EncoderState V) (x y : List ℕ) → replies step e (x ++ y) ≡ replies step e x ++ replies step (fed step e x) y
+replies-append : {V : Type 0} (step : Step V) (e : EncoderState V) (x y : List ℕ) → replies step e (x ++ y) ≡ replies step e x ++ replies step (fed step e x) y
 replies-append step e x y =
     let pieces = in_pieces_lem e.part x y in
     let xs : List Finding = found_beyond e.part x in
@@ -53,15 +79,8 @@ replies-append step e x y =
     ∙ ap (λ d. replies_to step d ys) (sym (findings_open step e (open_beyond e.part x) xs))
     ∙ ap (λ p. replies_to step (fed step e x) (found_beyond p y)) (sym (fed-part step e x)))
 
--- a piece, and then the rest
-pub fed_split : {V : Type 0} (step : Step V) (e : EncoderState V) (n : ℕ) (bytes : List ℕ) → fed step (fed step e (take n bytes)) (drop n bytes) ≡ fed step e bytes
-fed_split step e n bytes = sym (in_pieces_of_encoder step e (take n bytes) (drop n bytes)).state ∙ ap (fed step e) (take-append-drop n bytes)
-
-pub replies_split : {V : Type 0} (step : Step V) (e : EncoderState V) (before : Option (Bool × Code)) (n : ℕ) (bytes : List ℕ) →
-    last_of (last_of before (replies step e (take n bytes))) (replies step (fed step e (take n bytes)) (drop n bytes)) ≡ last_of before (replies step e bytes)
-replies_split step e before n bytes =
-    sym (last_of-append before (replies step e (take n bytes)) (replies step (fed step e (take n bytes)) (drop n bytes)))
-    ∙ ap (last_of before) (sym (replies-append step e (take n bytes) (drop n bytes)) ∙ ap (replies step e) (take-append-drop n bytes))
+pub encoder_in_pieces : {V : Type 0} (step : Step V) (e : EncoderState V) (x y : List ℕ) → IsInPieces (fed step) (replies step) e x y
+encoder_in_pieces step e x y = record { state = (in_pieces_of_encoder step e x y).state; said = replies-append step e x y }
 
 -- where no response is a reply, there is none
 abbrev pub has_reply : List Response → Bool
@@ -71,18 +90,16 @@ has_reply (NotForMe ∷ rs) = has_reply rs
 has_reply (Unnumbered ∷ rs) = has_reply rs
 has_reply (Dropped fault ∷ rs) = has_reply rs
 
-pub not_replied : {V : Type 0} (step : Step V) (e : EncoderState V) (fs : List Finding) → has_reply (responses step e fs) ≡ false → (before : Option (Bool × Code)) → last_of before (replies_to step e fs) ≡ before
-not_replied step e [] h before = refl
-not_replied step e (Err fault ∷ fs) h before = not_replied step (after_finding step e (Err fault)) fs h before
-not_replied {V} step e (Ok f ∷ fs) h before =
-    go (reaches f.address e.address) (f.counter == 0) (kept_code e.ring f.counter) (λ k. not_replied step (after_finding step e (Ok f)) fs k before) h
+pub not_replied : {V : Type 0} (step : Step V) (e : EncoderState V) (fs : List Finding) → has_reply (responses step e fs) ≡ false → replies_to step e fs ≡ []
+not_replied step e [] h = refl
+not_replied step e (Err fault ∷ fs) h = not_replied step (after_finding step e (Err fault)) fs h
+not_replied {V} step e (Ok f ∷ fs) h = go (reaches f.address e.address) (f.counter == 0) (kept_code e.ring f.counter) (λ k. not_replied step (after_finding step e (Ok f)) fs k) h
   where
     e1 : EncoderState V
     e1 = after_finding step e (Ok f)
 
-    go : (r z : Bool) (k : Option Code) → (has_reply (responses step e1 fs) ≡ false → last_of before (replies_to step e1 fs) ≡ before) →
-        has_reply (cond r (cond z Unnumbered (replied step e f k)) NotForMe ∷ responses step e1 fs) ≡ false →
-        last_of before (cond r (cond z None (Some (coded step e f k))) None ∷ replies_to step e1 fs) ≡ before
+    go : (r z : Bool) (k : Option Code) → (has_reply (responses step e1 fs) ≡ false → replies_to step e1 fs ≡ []) → has_reply (cond r (cond z Unnumbered (replied step e f k)) NotForMe ∷ responses step e1 fs) ≡ false →
+        cons_option (cond r (cond z None (Some (coded step e f k))) None) (replies_to step e1 fs) ≡ []
     go true true k rest h = rest h
     go true false (Some c) rest h = absurd (cc)
     go true false None rest h = absurd (cc)
@@ -93,7 +110,7 @@ pub record IsCoded {V : Type 0} (step : Step V) (e : EncoderState V) (fs : List 
   pub counter : ℕ
   pub code : Code
   pub spelled : bytes ≡ spelling (reply_of e.address counter code)
-  pub replies : replies_to step e fs ≡ Some (fresh, code) ∷ []
+  pub replies : replies_to step e fs ≡ (fresh, code) ∷ []
 
 pub replied_one : {V : Type 0} (step : Step V) (e : EncoderState V) (fs : List Finding) (bytes : List ℕ) (fresh : Bool) → responses step e fs ≡ Replied bytes fresh ∷ [] → IsCoded step e fs bytes fresh
 replied_one step e [] bytes fresh h = absurd (cc)
@@ -108,23 +125,15 @@ replied_one step e (Ok f ∷ []) bytes fresh h = go (reaches f.address e.address
       counter = f.counter;
       code = d;
       spelled = cc;
-      replies = rw (a, b, c) (ap (λ (n : Bool). let r : List (Option (Bool × Code)) = Some (n, d) ∷ [] in r) (let same : false ≡ fresh = cc in same));
+      replies = rw (a, b, c) (ap (λ (n : Bool). let r : List (Bool × Code) = (n, d) ∷ [] in r) (let same : false ≡ fresh = cc in same));
     }
     go true false None a b c h = record {
       counter = f.counter;
       code = (step e.value f.message).1;
       spelled = cc;
-      replies = rw (a, b, c) (ap (λ (n : Bool). let r : List (Option (Bool × Code)) = Some (n, (step e.value f.message).1) ∷ [] in r) (let same : true ≡ fresh = cc in same));
+      replies = rw (a, b, c) (ap (λ (n : Bool). let r : List (Bool × Code) = (n, (step e.value f.message).1) ∷ [] in r) (let same : true ≡ fresh = cc in same));
     }
     go false z k a b c h = absurd (cc)
-
--- what an answer of the encoder that is no reply says
-pub no_reply : (w : What) → ((reply : _) (fresh : Bool) → w ≡ what.Reply reply fresh → ⊥) → has_reply (responses_of w) ≡ false
-no_reply what.Nothing none = refl
-no_reply (what.Reply reply fresh) none = absurd (none reply fresh refl)
-no_reply what.NotForMe none = refl
-no_reply what.Unnumbered none = refl
-no_reply (what.Dropped fault) none = refl
 
 pub empty_is : (xs : List ℕ) → true ≡ (length xs == 0) → xs ≡ []
 empty_is [] h = refl
@@ -138,17 +147,6 @@ fed_none step e =
 pub replies_none : {V : Type 0} (step : Step V) (e : EncoderState V) → replies step e [] ≡ []
 replies_none step e = ap (replies_to step e) (new_start_lem e.part []).nothing
 
--- one piece more of what is left to feed
-pub fed_on : {V : Type 0} (step : Step V) (e e' : EncoderState V) (n : ℕ) (rest rest' : List ℕ) → e' ≡ fed step e (take n rest) → rest' ≡ drop n rest → fed step e' rest' ≡ fed step e rest
-fed_on step e e' n rest rest' e_is rest_is = ap (λ d. fed step d rest') e_is ∙ ap (fed step (fed step e (take n rest))) rest_is ∙ fed_split step e n rest
-
-pub replied_on : {V : Type 0} (step : Step V) (e e' : EncoderState V) (n : ℕ) (rest rest' : List ℕ) (last last' : Option (Bool × Code)) → e' ≡ fed step e (take n rest) → rest' ≡ drop n rest →
-    last' ≡ last_of last (replies step e (take n rest)) → last_of last' (replies step e' rest') ≡ last_of last (replies step e rest)
-replied_on step e e' n rest rest' last last' e_is rest_is last_is =
-    ap (λ l. last_of l (replies step e' rest')) last_is ∙ ap (λ d. last_of (last_of last (replies step e (take n rest))) (replies step d rest')) e_is
-    ∙ ap (λ r. last_of (last_of last (replies step e (take n rest))) (replies step (fed step e (take n rest)) r)) rest_is
-    ∙ replies_split step e last n rest
-
 -- ---- the server
 pub heard_none : (s : ServerState) → heard s [] ≡ s
 heard_none s =
@@ -156,7 +154,7 @@ heard_none s =
     ∙ ap (λ o. record s { part = o }) (new_start_lem s.part []).stays
 
 pub acknowledgements_none : (s : ServerState) → acknowledgements s [] ≡ []
-acknowledgements_none s = ap (λ fs. codes_heard (all_heard_as s fs)) (new_start_lem s.part []).nothing
+acknowledgements_none s = ap (λ fs. filter_map code_heard (all_heard_as s fs)) (new_start_lem s.part []).nothing
 
 heard_findings-append : (s : ServerState) (xs ys : List Finding) → heard_findings s (xs ++ ys) ≡ heard_findings (heard_findings s xs) ys
 heard_findings-append s [] ys = refl
@@ -165,10 +163,6 @@ heard_findings-append s (x ∷ xs) ys = heard_findings-append (heard_finding s x
 all_heard_as-append : (s : ServerState) (xs ys : List Finding) → all_heard_as s (xs ++ ys) ≡ all_heard_as s xs ++ all_heard_as (heard_findings s xs) ys
 all_heard_as-append s [] ys = refl
 all_heard_as-append s (x ∷ xs) ys = ap (λ ws. heard_as s x ∷ ws) (all_heard_as-append (heard_finding s x) xs ys)
-
-codes_heard-append : (xs ys : List HeardWhat) → codes_heard (xs ++ ys) ≡ codes_heard xs ++ codes_heard ys
-codes_heard-append [] ys = refl
-codes_heard-append (x ∷ xs) ys = ap (λ cs. code_heard x ∷ cs) (codes_heard-append xs ys)
 
 abbrev with_open : ServerState → OpenPart → ServerState
 with_open s o = record s { part = o }
@@ -203,7 +197,7 @@ all_open s o (x ∷ xs) =
         told_same None = refl
         told_same (Some m) = refl
 
-pub heard-part : (s : ServerState) (x : List ℕ) → (heard s x).part ≡ open_beyond s.part x
+heard-part : (s : ServerState) (x : List ℕ) → (heard s x).part ≡ open_beyond s.part x
 heard-part s x = ap (λ t. t.part) (heard_open s (open_beyond s.part x) (found_beyond s.part x))
 
 heard-append : (s : ServerState) (x y : List ℕ) → heard s (x ++ y) ≡ heard (heard s x) y
@@ -222,39 +216,16 @@ acknowledgements-append s x y =
     let pieces = in_pieces_lem s.part x y in
     let xs : List Finding = found_beyond s.part x in
     let ys : List Finding = found_beyond (open_beyond s.part x) y in
-    ap (λ fs. codes_heard (all_heard_as s fs)) pieces.found
-    ∙ ap codes_heard (all_heard_as-append s xs ys)
-    ∙ codes_heard-append (all_heard_as s xs) (all_heard_as (heard_findings s xs) ys)
-    ∙ ap (λ ws. acknowledgements s x ++ codes_heard ws)
+    ap (λ fs. filter_map code_heard (all_heard_as s fs)) pieces.found
+    ∙ ap (filter_map code_heard) (all_heard_as-append s xs ys)
+    ∙ filter_map-append code_heard (all_heard_as s xs) (all_heard_as (heard_findings s xs) ys)
+    ∙ ap (λ ws. acknowledgements s x ++ filter_map code_heard ws)
     (sym (all_open (heard_findings s xs) (open_beyond s.part x) ys)
     ∙ ap (λ t. all_heard_as t ys) (sym (heard_open s (open_beyond s.part x) xs))
     ∙ ap (λ p. all_heard_as (heard s x) (found_beyond p y)) (sym (heard-part s x)))
 
-pub heard_split : (s : ServerState) (n : ℕ) (bytes : List ℕ) → heard (heard s (take n bytes)) (drop n bytes) ≡ heard s bytes
-heard_split s n bytes = sym (heard-append s (take n bytes) (drop n bytes)) ∙ ap (heard s) (take-append-drop n bytes)
-
-pub acknowledgements_split : (s : ServerState) (before : Option Code) (n : ℕ) (bytes : List ℕ) →
-    last_of (last_of before (acknowledgements s (take n bytes))) (acknowledgements (heard s (take n bytes)) (drop n bytes)) ≡ last_of before (acknowledgements s bytes)
-acknowledgements_split s before n bytes =
-    sym (last_of-append before (acknowledgements s (take n bytes)) (acknowledgements (heard s (take n bytes)) (drop n bytes)))
-    ∙ ap (last_of before) (sym (acknowledgements-append s (take n bytes) (drop n bytes)) ∙ ap (acknowledgements s) (take-append-drop n bytes))
-
-pub heard_on : (s s' : ServerState) (n : ℕ) (rest rest' : List ℕ) → s' ≡ heard s (take n rest) → rest' ≡ drop n rest → heard s' rest' ≡ heard s rest
-heard_on s s' n rest rest' s_is rest_is = ap (λ d. heard d rest') s_is ∙ ap (heard (heard s (take n rest))) rest_is ∙ heard_split s n rest
-
-pub acknowledged_on : (s s' : ServerState) (n : ℕ) (rest rest' : List ℕ) (last last' : Option Code) → s' ≡ heard s (take n rest) → rest' ≡ drop n rest →
-    last' ≡ last_of last (acknowledgements s (take n rest)) → last_of last' (acknowledgements s' rest') ≡ last_of last (acknowledgements s rest)
-acknowledged_on s s' n rest rest' last last' s_is rest_is last_is =
-    ap (λ l. last_of l (acknowledgements s' rest')) last_is ∙ ap (λ d. last_of (last_of last (acknowledgements s (take n rest))) (acknowledgements d rest')) s_is
-    ∙ ap (λ r. last_of (last_of last (acknowledgements s (take n rest))) (acknowledgements (heard s (take n rest)) r)) rest_is
-    ∙ acknowledgements_split s last n rest
-
--- an answer of the server that is no acknowledgement
-pub no_code : (w : HeardWhat) → ((code : Code) → w ≡ heard_what.Acknowledged code → ⊥) → (before : Option Code) → last_of before (codes_heard (whats_of w)) ≡ before
-no_code heard_what.Nothing none before = refl
-no_code (heard_what.Acknowledged code) none before = absurd (none code refl)
-no_code heard_what.Stray none before = refl
-no_code (heard_what.Dropped fault) none before = refl
+pub server_in_pieces : (s : ServerState) (x y : List ℕ) → IsInPieces heard acknowledgements s x y
+server_in_pieces s x y = record { state = heard-append s x y; said = acknowledgements-append s x y }
 
 -- ---- noise
 pub found_split : (o : OpenPart) (n : ℕ) (bytes : List ℕ) → found_beyond o bytes ≡ found_beyond o (take n bytes) ++ found_beyond (open_beyond o (take n bytes)) (drop n bytes)

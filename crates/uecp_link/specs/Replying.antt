@@ -1,5 +1,6 @@
--- The codes that go back and forth in a stretch of the stream; for proofs alone, as the contracts of private functions. Source: profile.
-use Rattle.std.specs.Prelude.{ℕ, ◌==◌, Bool, true, false, List, [], ◌∷◌, Option, Some, None, Ok, Err, if◌then◌else◌}
+-- The codes that go back and forth in a stretch of the stream, however it is cut; for proofs alone, as the contracts of private functions. Source: profile.
+use Rattle.std.specs.Prelude.{◌≡◌, ℕ, ◌==◌, Bool, true, false, List, [], ◌∷◌, ◌++◌, filter_map, Option, Some, None, Ok, Err, if◌then◌else◌}
+use Rattle.std.specs.List.{cons_option}
 use Rattle.uecp_frame.specs.declared.frame.Frame.{Frame}
 use Rattle.uecp_frame.specs.Address.{reaches}
 use Rattle.uecp_frame.specs.Findings.{Finding}
@@ -23,33 +24,25 @@ reply_to step e (Err fault) = None
 reply_to step e (Ok f) =
     if reaches f.address e.address then (if f.counter == 0 then None else Some (coded step e f (kept_code e.ring f.counter))) else None
 
--- The last value among some, or the one before where there is none.
-abbrev pub last_of : {A : Type 0} → Option A → List (Option A) → Option A
-last_of before [] = before
-last_of before (None ∷ rest) = last_of before rest
-last_of before (Some a ∷ rest) = last_of (Some a) rest
-
--- The encoder's replies to findings, one after another.
-abbrev pub replies_to : {V : Type 0} → Step V → EncoderState V → List Finding → List (Option (Bool × Code))
+-- The encoder's replies to findings, in order.
+abbrev pub replies_to : {V : Type 0} → Step V → EncoderState V → List Finding → List (Bool × Code)
 replies_to step e [] = []
-replies_to step e (f ∷ fs) = reply_to step e f ∷ replies_to step (after_finding step e f) fs
+replies_to step e (f ∷ fs) = cons_option (reply_to step e f) (replies_to step (after_finding step e f) fs)
 
--- The encoder's replies to what some bytes find.
-abbrev pub replies : {V : Type 0} → Step V → EncoderState V → List ℕ → List (Option (Bool × Code))
+-- The encoder's replies to what some bytes find, in order.
+abbrev pub replies : {V : Type 0} → Step V → EncoderState V → List ℕ → List (Bool × Code)
 replies step e bytes = replies_to step e (found_beyond e.part bytes)
 
 -- The code of what the server says, where that is an acknowledgement.
 abbrev pub code_heard : HeardWhat → Option Code
-code_heard what.Nothing = None
 code_heard (what.Acknowledged code) = Some code
-code_heard what.Stray = None
-code_heard (what.Dropped fault) = None
+code_heard _ = None
 
--- The codes in what the server says, one by one.
-abbrev pub codes_heard : List HeardWhat → List (Option Code)
-codes_heard [] = []
-codes_heard (w ∷ ws) = code_heard w ∷ codes_heard ws
+-- The codes that the server hears acknowledged in some bytes, in order.
+abbrev pub acknowledgements : ServerState → List ℕ → List Code
+acknowledgements s bytes = filter_map code_heard (all_heard_as s (found_beyond s.part bytes))
 
--- The acknowledgements in what the server hears of some bytes.
-abbrev pub acknowledgements : ServerState → List ℕ → List (Option Code)
-acknowledgements s bytes = codes_heard (all_heard_as s (found_beyond s.part bytes))
+-- For an end of the line, by what it is after some bytes and what it says of them, two pieces are as good as one.
+pub record IsInPieces {E S : Type 0} (after : E → List ℕ → E) (says : E → List ℕ → List S) (e : E) (x y : List ℕ) : Type 0 where
+  pub state : after e (x ++ y) ≡ after (after e x) y
+  pub said : says e (x ++ y) ≡ says e x ++ says (after e x) y

@@ -6,7 +6,7 @@ ghost use Rattle.uecp_link.specs.Server.{submitted};
 ghost use Rattle.uecp_link.specs.Driving.{Drives, frame_sent};
 ghost use Rattle.uecp_link.specs.Listening.{Listens};
 
-use crate::feeding::tell_piece;
+use crate::feeding::give_piece;
 use crate::server::Server;
 use std::io::{Read, Write};
 use uecp_elements::Code;
@@ -140,7 +140,7 @@ fn listen<R: Read>(server: &mut Server, reader: &mut Meter<R>, turns: u32) -> Li
             Err(Failed) => return Listened::Nothing,
             Ok(0) => return Listened::Ended,
             Ok(count) => {
-                if let Some(code) = tell_piece(server, &buffer[..count], None) {
+                if let Some(code) = give_piece(server, &buffer[..count], None) {
                     return Listened::Acknowledged(code);
                 }
             }

@@ -1,5 +1,6 @@
-//! The ends are fed bytes in pieces.
-ghost use Rattle.std.specs.Prelude.{◌≡◌, ◌≤◌, ℕ, IsNone, ◌↔◌, IfSome, None, Some, length, drop, true};
+//! The ends are given the stream in pieces.
+ghost use Rattle.std.specs.Prelude.{◌≡◌, ◌≤◌, ◌<◌, ℕ, IsNone, ◌↔◌, IfSome, None, Some, List, [], length, take, drop, true, option_to_list};
+ghost use Rattle.std.specs.List.{last_or};
 ghost use Rattle.uecp_frame.specs.Frame.{spelling};
 ghost use Rattle.uecp_frame.specs.Findings.{has_frame};
 ghost use Rattle.uecp_frame.specs.Beyond.{found_beyond};
@@ -7,7 +8,7 @@ ghost use Rattle.uecp_elements.specs.declared.code.Code.{Code as CodeValue};
 ghost use Rattle.uecp_encoder.specs.State.{fed};
 ghost use Rattle.uecp_encoder.specs.Answering.{reply_of};
 ghost use Rattle.uecp_link.specs.Server.{heard};
-ghost use Rattle.uecp_link.specs.Replying.{last_of, replies, acknowledgements};
+ghost use Rattle.uecp_link.specs.Replying.{replies, acknowledgements, IsInPieces};
 
 use crate::heard::HeardWhat;
 use crate::server::Server;
@@ -42,77 +43,102 @@ fn coded(reply: &[u8], fresh: bool) -> Option<(bool, Code)>
     }
 }
 
-/// Feeds the encoder a piece, and answers its last reply to it, or the one before.
-fn feed_piece<T: Target>(
-    encoder: &mut Encoder<T>,
+/// An end of the line, which is given the stream in pieces and says something of some segments.
+pub(crate) trait End {
+    /// What it says of a segment.
+    type Said: Copy;
+
+    // The end after some bytes.
+    ghost after: { Self → List ℕ → Self };
+
+    // What it says of them, in order.
+    ghost says: { Self → List ℕ → List Self.Said };
+
+    /// Gives the end a piece up to the end of its first segment, and answers how many bytes that used and what the end said.
+    fn give_first(&mut self, piece: &[u8]) -> (usize, Option<Self::Said>)
+        ensures fits { result.0 ≤ length piece.now }
+        ensures moves { 0 < length piece.now → 0 < result.0 }
+        ensures state { self.new ≡ after self.old (take result.0 piece.now) }
+        ensures said { says self.old (take result.0 piece.now) ≡ option_to_list result.1 };
+
+    /// The law of an end, as the contract of a function that does nothing: no bytes leave it as it is and have it say nothing,
+    /// and two pieces are as good as one.
+    fn in_pieces()
+        ensures nothing { (e : Self) → (after e [] ≡ e) × (says e [] ≡ []) }
+        ensures pieces { (e : Self) (x y : List ℕ) → IsInPieces after says e x y };
+}
+
+impl<T: Target> End for Encoder<T> {
+    type Said = (bool, Code);
+
+    ghost after = { fed T.step };
+
+    ghost says = { replies T.step };
+
+    fn give_first(&mut self, piece: &[u8]) -> (usize, Option<(bool, Code)>) {
+        let answer = self.feed(piece);
+        let used = answer.used;
+        match answer.what {
+            What::Reply(reply, fresh) => (used, coded(reply.as_slice(), fresh)),
+            What::Nothing | What::NotForMe | What::Unnumbered | What::Dropped(_) => (used, None),
+        }
+    }
+
+    fn in_pieces() {}
+}
+
+impl End for Server {
+    type Said = Code;
+
+    ghost after = { heard };
+
+    ghost says = { acknowledgements };
+
+    fn give_first(&mut self, piece: &[u8]) -> (usize, Option<Code>) {
+        let heard = self.hear(piece);
+        match heard.what {
+            HeardWhat::Acknowledged(code) => (heard.used, Some(code)),
+            HeardWhat::Nothing | HeardWhat::Stray | HeardWhat::Dropped(_) => (heard.used, None),
+        }
+    }
+
+    fn in_pieces() {}
+}
+
+/// Gives the end a piece, and answers the last that it says of it, or what it said before.
+pub(crate) fn give_piece<E: End>(
+    end: &mut E,
     piece: &[u8],
-    before: Option<(bool, Code)>,
-) -> Option<(bool, Code)>
-    ensures state { encoder.new ≡ fed T.step encoder.old piece.now }
-    ensures reply { result ≡ last_of before (replies T.step encoder.old piece.now) }
+    before: Option<E::Said>,
+) -> Option<E::Said>
+    ensures state { end.new ≡ E.after end.old piece.now }
+    ensures said { result ≡ last_or before (E.says end.old piece.now) }
 {
+    E::in_pieces();
     let mut last = before;
     let mut rest = piece;
     while !rest.is_empty() {
-        let answer = encoder.feed(rest);
-        rest = left(rest, answer.used);
-        if let What::Reply(reply, fresh) = answer.what {
-            last = coded(reply.as_slice(), fresh);
-        }
+        let (used, said) = end.give_first(rest);
+        rest = left(rest, used);
+        last = said.or(last);
     }
     last
 }
 
-/// Feeds the encoder these bytes, cut into pieces of these lengths and what is left, and answers its last reply.
-pub(crate) fn feed_cut<T: Target>(
-    encoder: &mut Encoder<T>,
-    bytes: &[u8],
-    cut: &[u16],
-) -> Option<(bool, Code)>
-    ensures state { encoder.new ≡ fed T.step encoder.old bytes.now }
-    ensures reply { result ≡ last_of None (replies T.step encoder.old bytes.now) }
+/// Gives the end these bytes, cut into pieces of these lengths and what is left, and answers the last that it says.
+pub(crate) fn give_cut<E: End>(end: &mut E, bytes: &[u8], cut: &[u16]) -> Option<E::Said>
+    ensures state { end.new ≡ E.after end.old bytes.now }
+    ensures said { result ≡ last_or None (E.says end.old bytes.now) }
 {
+    E::in_pieces();
     let mut last = None;
     let mut rest = bytes;
     for length in cut {
         let (piece, later) = rest.split_at(usize::from(*length).min(rest.len()));
-        last = feed_piece(encoder, piece, last);
+        last = give_piece(end, piece, last);
         rest = later;
     }
-    feed_piece(encoder, rest, last)
-}
-
-/// Lets the server hear a piece, and answers the last acknowledgement in it, or the one before.
-pub(crate) fn tell_piece(server: &mut Server, piece: &[u8], before: Option<Code>) -> Option<Code>
-    ensures state { server.new ≡ heard server.old piece.now }
-    ensures acknowledged { result ≡ last_of before (acknowledgements server.old piece.now) }
-{
-    let mut last = before;
-    let mut rest = piece;
-    while !rest.is_empty() {
-        let heard = server.hear(rest);
-        rest = left(rest, heard.used);
-        if let HeardWhat::Acknowledged(code) = heard.what {
-            last = Some(code);
-        }
-    }
-    last
-}
-
-/// Lets the server hear these bytes, cut into pieces of these lengths and what is left, and answers the last
-/// acknowledgement.
-pub(crate) fn tell_cut(server: &mut Server, bytes: &[u8], cut: &[u16]) -> Option<Code>
-    ensures state { server.new ≡ heard server.old bytes.now }
-    ensures acknowledged { result ≡ last_of None (acknowledgements server.old bytes.now) }
-{
-    let mut last = None;
-    let mut rest = bytes;
-    for length in cut {
-        let (piece, later) = rest.split_at(usize::from(*length).min(rest.len()));
-        last = tell_piece(server, piece, last);
-        rest = later;
-    }
-    tell_piece(server, rest, last)
+    give_piece(end, rest, last)
 }
 
 /// How many segments the noise would end after what a deframer has heard, or None where a frame would be among them.

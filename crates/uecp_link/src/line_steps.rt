@@ -1,8 +1,9 @@
 //! What a line does at each kind of event. Source: profile.
 ghost use Rattle.std.specs.Prelude.{◌≡◌, ◌+◌, ◌%◌, ◌≤◌, ◌<◌, ◌++◌, ◌∷◌, [], ℕ, Bool, true, Some, None, if◌then◌else◌, slice_get, IfOk, IfErr, length, vec_len, vec_capacity};
+ghost use Rattle.std.specs.List.{last_or};
 ghost use Rattle.uecp_elements.specs.declared.code.Code.{Code as CodeValue};
 ghost use Rattle.uecp_encoder.specs.State.{fed};
-ghost use Rattle.uecp_link.specs.Replying.{last_of, replies, acknowledgements};
+ghost use Rattle.uecp_link.specs.Replying.{replies, acknowledgements};
 ghost use Rattle.uecp_link.specs.Server.{heard};
 ghost use Rattle.uecp_frame.specs.Frame.{spelling};
 ghost use Rattle.uecp_link.specs.Once.{Submit, FrameComes, ReplyComes, NoiseToEncoder, NoiseToServer};
@@ -13,7 +14,7 @@ ghost use Rattle.uecp_link.specs.Next.{Goes, Stops, stepped_by, one_if};
 
 use crate::counters::{counter_of, is_recent};
 use crate::event::Side;
-use crate::feeding::{dropped_by, feed_cut, tell_cut};
+use crate::feeding::{dropped_by, give_cut};
 use crate::line::Line;
 use crate::refusal::LineRefusal;
 use crate::server::Server;
@@ -54,13 +55,13 @@ fn take_in<T: Target>(
     bytes: &[u8],
     cut: &[u16],
 ) -> (bool, Code)
-    requires { (reply : Bool × CodeValue) × (last_of None (replies T.step encoder.old bytes.now) ≡ Some reply) × (reply.0 ≡ true → vec_len codes.old < vec_capacity codes.old) }
+    requires { (reply : Bool × CodeValue) × (last_or None (replies T.step encoder.old bytes.now) ≡ Some reply) × (reply.0 ≡ true → vec_len codes.old < vec_capacity codes.old) }
     ensures state { encoder.new ≡ fed T.step encoder.old bytes.now }
-    ensures reply { Some result ≡ last_of None (replies T.step encoder.old bytes.now) }
+    ensures reply { Some result ≡ last_or None (replies T.step encoder.old bytes.now) }
     ensures codes { codes.new.items ≡ (if result.0 then codes.old.items ++ result.1 ∷ [] else codes.old.items) }
     ensures room { vec_capacity codes.old ≤ vec_capacity codes.new }
 {
-    let Some((fresh, code)) = feed_cut(encoder, bytes, cut) else {
+    let Some((fresh, code)) = give_cut(encoder, bytes, cut) else {
         unreachable!();
     };
     if fresh {
@@ -73,10 +74,10 @@ fn take_in<T: Target>(
 fn hear_reply(server: &mut Server, acknowledged: &mut usize, bytes: &[u8], cut: &[u16]) -> Stepped
     requires { acknowledged.old < usize.MAX }
     ensures state { server.new ≡ heard server.old bytes.now }
-    ensures answer { result ≡ stepped_by (last_of None (acknowledgements server.old bytes.now)) }
-    ensures count { acknowledged.new ≡ acknowledged.old + one_if (last_of None (acknowledgements server.old bytes.now)) }
+    ensures answer { result ≡ stepped_by (last_or None (acknowledgements server.old bytes.now)) }
+    ensures count { acknowledged.new ≡ acknowledged.old + one_if (last_or None (acknowledgements server.old bytes.now)) }
 {
-    match tell_cut(server, bytes, cut) {
+    match give_cut(server, bytes, cut) {
         None => Stepped::Stray,
         Some(code) => {
             *acknowledged += 1;
@@ -172,7 +173,7 @@ impl<T: Target> Line<T> {
         let Some(dropped) = dropped_by(self.encoder.deframer(), noise) else {
             return Err(LineRefusal::HoldsAFrame);
         };
-        let _ = feed_cut(&mut self.encoder, noise, &[]);
+        let _ = give_cut(&mut self.encoder, noise, &[]);
         Ok(Stepped::Noise { dropped })
     }
 
@@ -184,7 +185,7 @@ impl<T: Target> Line<T> {
         let Some(dropped) = dropped_by(self.server.deframer(), noise) else {
             return Err(LineRefusal::HoldsAFrame);
         };
-        let _ = tell_cut(&mut self.server, noise, &[]);
+        let _ = give_cut(&mut self.server, noise, &[]);
         Ok(Stepped::Noise { dropped })
     }
 

@@ -25,14 +25,14 @@ pub returns-in-Some : goal.returns-in-Some
 returns-in-Some g c =
     let piece = take c.in-Ok.count c.read.new.buffer in
     let room : length piece ≤ 64 = search rules in
-    let state : c.tell_piece.new.server ≡ heard c.loop-turn.server piece = c.tell_piece.ensures.state in
+    let state : c.give_piece.new.end ≡ heard c.loop-turn.server piece = c.give_piece.ensures.state in
     reply_came g.R.Read.remaining _ c.loop-turn.server _ _ c.loop-turn.reader _ c.args.turns c.loop-turn._turn piece c.in-Some.code c.loop-turn.invariant c.in-Ok.ensures.bytes.0 room state
-    (sym (c.in-Some.ensures.acknowledged ∙ acknowledged_as c.loop-turn.server piece)) c.read.ensures.calls c.in-Ok.ensures.failures (omega arith)
+    (sym (c.in-Some.ensures.said ∙ acknowledged_as c.loop-turn.server piece)) c.read.ensures.calls c.in-Ok.ensures.failures (omega arith)
 
 pub loop-turn-preserved : goal.loop-turn-preserved
 loop-turn-preserved g c =
     let piece = take c.in-Ok.count c.read.new.buffer in
     let room : length piece ≤ 64 = search rules in
-    let state : c.tell_piece.new.server ≡ heard c.loop-turn.server piece = c.tell_piece.ensures.state in
+    let state : c.give_piece.new.end ≡ heard c.loop-turn.server piece = c.give_piece.ensures.state in
     waits_on g.R.Read.remaining _ c.loop-turn.server _ _ c.loop-turn.reader _ c.loop-turn._turn piece c.loop-turn.invariant c.in-Ok.ensures.bytes.0 room state
-    (sym (c.in_default.ensures.acknowledged ∙ acknowledged_as c.loop-turn.server piece)) c.read.ensures.calls c.in-Ok.ensures.failures
+    (sym (c.in_default.ensures.said ∙ acknowledged_as c.loop-turn.server piece)) c.read.ensures.calls c.in-Ok.ensures.failures
