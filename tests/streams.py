@@ -59,7 +59,8 @@ class Maker:
     def named(self):
         """A data set number and a service number; most are there."""
         chance, setup = self.chance, self.setup
-        dsn = chance.choice([0, 0, 0, 0, chance.randint(1, setup.sets), chance.randint(1, setup.sets), 0xFE, 0xFF, setup.sets + chance.randrange(2), chance.choice([0xFD, chance.randrange(256)])])
+        numbered = [chance.randint(1, setup.sets), chance.randint(1, setup.sets), setup.sets, setup.sets + 1]
+        dsn = chance.choice([0, 0, 0, 0, *numbered, 0xFE, 0xFF, chance.choice([0xFD, chance.randrange(256)])])
         psn = chance.choice([0, 0, *setup.services] * 3 + [chance.randrange(256)])
         return bytes([dsn, psn])
 
@@ -118,18 +119,18 @@ class Maker:
         """One that doesn't, often by a little."""
         site, encoder = self.setup.site, self.setup.encoder
         for _ in range(1000):
-            near = (site ^ 1 << self.chance.randrange(10), encoder), (site, encoder ^ 1 << self.chance.randrange(6)), (self.chance.randrange(1024), self.chance.randrange(64))
-            other = self.chance.choice(near)
+            near = (site ^ 1 << self.chance.randrange(10), encoder), (site, encoder ^ 1 << self.chance.randrange(6))
+            other = self.chance.choice([*near, (self.chance.randrange(1024), self.chance.randrange(64))])
             if other[0] not in (0, site) or other[1] not in (0, encoder):
                 break
         return other[0] * 64 + other[1]
 
     def damaged(self, data):
-        """Bytes with one changed, left out, added or moved."""
-        at, kind = self.chance.randrange(len(data)), self.chance.randrange(4)
-        other = self.chance.choice([data[at] ^ 1 << self.chance.randrange(8), self.chance.choice(MARKS)])
-        changed = {0: bytes([other]), 1: b"", 2: data[at : at + 1] + bytes([other]), 3: data[at : at + 2][::-1]}[kind]
-        return data[:at] + changed + data[at + (2 if kind == 3 else 1) :]
+        """Bytes with one changed, left out or added, or two exchanged."""
+        at = self.chance.randrange(len(data))
+        other = bytes([self.chance.choice([data[at] ^ 1 << self.chance.randrange(8), *MARKS[:3]])])
+        before, here, behind = data[:at], data[at : at + 1], data[at + 1 :]
+        return before + self.chance.choice([other + behind, behind, here + other + behind, behind[:1] + here + behind[1:]])
 
     def ill_made(self):
         """A segment that is no frame, by one of its faults alone where that can be."""
@@ -145,9 +146,9 @@ class Maker:
         if kind == 3:
             return model.sent(self.some(chance.choice([260, 261, 262, 263, 300, 600])))
         if kind == 4:
-            # something wrong about the place of the last plain byte
-            inside = model.sent(self.some(chance.choice([0, 1, 258, 259, 260, 261, 262, chance.randrange(260)])))[1:-1]
-            return bytes([START]) + inside + bytes([ESCAPE]) + chance.choice([b"", b"\x03", b"\x00", b"\xfd"]) + self.some(2) + bytes([END])
+            # an FD, good or bad, behind so many plain bytes
+            before = model.sent(self.some(chance.choice([0, 1, 258, 259, 260, 261, 262, chance.randrange(260)])))[:-1]
+            return before + bytes([ESCAPE]) + chance.choice([b"", b"\x03", b"\x00", b"\xfd"]) + self.some(2) + bytes([END])
         if kind == 5:
             return bytes([START]) + self.some(chance.randrange(800))
         if kind == 6:
@@ -259,7 +260,7 @@ def stream_text(chance, setup):
     place = 0
     while place < len(stream):
         size = chance.choice(sizes)
-        row = mixed(chance, stream[place : place + size].hex()) if chance.random() < 0.5 else stream[place : place + size].hex().upper()
+        row = mixed(chance, stream[place : place + size].hex())
         if spaces and chance.random() < 0.5:
             row = "".join(digit + " " if chance.random() < spaces else digit for digit in row)
         elif spaces:
@@ -272,11 +273,12 @@ def stream_text(chance, setup):
 # Scripts of `uecp line`
 
 NO_EVENTS = [
-    b"Submit -", b"submit", b"submit 0", b"submit 00 00", b"submit --", b"submit 0x00", b"frame", b"frame 1234567890", b"frame -1", b"frame +1", b"frame A",
-    b"frame 0 65536", b"frame 0 -1", b"frame 0 1A", b"reply", b"reply 0000000000", b"reply 0 99999999999999999999", b"noise-encoder", b"noise-encoder -", b"noise-server FE FF",
-    b"noise-server F", b"noise-line FE", b"line-lost", b"line-lost both", b"line-lost Server", b"line-lost server encoder", b"frame\t0", b"-", b"FE", b"submit " + b"00" * 256,
-    b"submit " + b"0" * 513, b"submit -#", b"frame 0 #", b"\xff",
-]  # fmt: skip
+    *(b"-", b"FE", b"\xff", b"Submit -", b"submit", b"submit 0", b"submit 00 00", b"submit --", b"submit 0x00", b"submit -#"),
+    *(b"submit " + b"00" * 256, b"submit " + b"0" * 513, b"frame", b"frame 1234567890", b"frame -1", b"frame +1", b"frame A", b"frame\t0"),
+    *(b"frame 0 65536", b"frame 0 -1", b"frame 0 1A", b"frame 0 #", b"reply", b"reply 0000000000", b"reply 0 99999999999999999999"),
+    *(b"noise-encoder", b"noise-encoder -", b"noise-server FE FF", b"noise-server F", b"noise-line FE"),
+    *(b"line-lost", b"line-lost both", b"line-lost Server", b"line-lost server encoder"),
+]
 
 
 class Script(Maker):
@@ -339,8 +341,8 @@ class Script(Maker):
 
     def text(self, messages):
         for _ in range(12 * messages):
-            if len(self.line.sent) == messages and not self.line.is_outstanding():
-                break
+            if len(self.line.sent) == messages and self.chance.random() < 0.4:
+                break  # the last message may be left as it is
             event = self.event()
             model.play(self.line, event.encode())
             self.writer.put(event.replace(" ", " " * self.chance.choice([1, 1, 1, 1, 4])).encode())
