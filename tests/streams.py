@@ -66,17 +66,21 @@ class Maker:
 
     def head(self):
         """The head of a text or the mode of a group; most of them add."""
-        return self.chance.choice([0x00, 0x20, 0x40, 0x40, 0x40, 0x40, 0x40, 0x40, 0x60]) | self.chance.choice([0, 0x1F, 0x80, self.chance.randrange(32)])
+        rule = self.chance.choice([0x00, 0x20, *[0x40] * 6, 0x60])
+        return rule | self.chance.choice([0x00, 0x1F, 0x80, self.chance.randrange(32)])
+
+    def type(self):
+        """A programme type or a group's type; some are above the greatest, 1F."""
+        return self.chance.choice([0x1F, 0x20, self.chance.choice([0xFF, self.chance.randrange(256)]), *[self.chance.randrange(32)] * 9])
 
     def radiotext(self):
         count = self.chance.choice([0, 1, 2, 8, 63, 64, self.chance.randrange(65)])
         return b"\x00" if self.chance.random() < 0.06 else bytes([count + 1, self.head()]) + self.some(count)
 
     def group(self):
-        kind = self.chance.choice([0x1F, 0x20, *[self.chance.randrange(32)] * 4])
         # a rule that empties the queue is rare, so that it fills
         mode = self.chance.choice([self.head(), *[0x40 | self.chance.randrange(32)] * 9])
-        return bytes([kind, mode]) + self.some(4)
+        return bytes([self.type(), mode]) + self.some(4)
 
     def element(self):
         code = self.chance.choice(KNOWN + b"\x0a\x0a\x24\x24")
@@ -87,10 +91,12 @@ class Maker:
             return bytes([code]) + self.some(2) if self.chance.random() < 0.2 else self.element()
         if code == 0x1C:
             return bytes([code]) + self.named()[:1]
-        content = {0x01: 2, 0x02: 8}.get(code, 1)
+        begun = bytes([code]) + self.named()
+        if code == 0x0A:
+            return begun + self.radiotext()
         if code == 0x07:
-            return bytes([code]) + self.named() + bytes([self.chance.choice([0x1F, 0x20, *[self.chance.randrange(32)] * 6])])
-        return bytes([code]) + self.named() + (self.radiotext() if code == 0x0A else self.some(content))
+            return begun + bytes([self.type()])
+        return begun + self.some({0x01: 2, 0x02: 8}.get(code, 1))
 
     def message(self):
         """A message of at most 255 bytes: elements, whole, cut off, or with something else behind them."""
