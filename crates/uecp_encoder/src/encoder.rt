@@ -82,6 +82,7 @@ impl<T: Target> Encoder<T> {
     /// ```
     /// let answer = encoder.feed(&[0xfe, 0xff, 0x00]); // used 2, What::Dropped(FrameFault::TooShort)
     /// ```
+    #[inline(always)]
     pub fn feed(&mut self, piece: &[u8]) -> Answer<'_>
         ensures fits { result.used ≤ length piece.now }
         ensures moves { 0 < length piece.now → 0 < result.used }

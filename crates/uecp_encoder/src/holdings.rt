@@ -42,6 +42,7 @@ pub(crate) enum Outcome {
 
 impl<T: Target> Holdings<T> {
     /// Takes what a piece of the stream brought.
+    #[inline]
     pub(crate) fn take(&mut self, found: &FoundRef<'_>) -> Outcome
         ensures holds { (part : OpenPart) → with_part self.new part ≡ after_findings T.step (with_part self.old part) (findings_of (found_lent found.now)) }
         ensures says { (part : OpenPart) → said_of self.old.address result ≡ responses T.step (with_part self.old part) (findings_of (found_lent found.now)) }

@@ -78,6 +78,7 @@ impl Deframer {
     }
 
     /// As `feed`, but the message of a frame is lent. Once the loan ends, the deframer is as `feed` leaves it.
+    #[inline(always)]
     pub fn feed_ref(&mut self, piece: &[u8]) -> FedRef<'_>
         ensures fits { result.used ≤ length piece.now }
         ensures moves { 0 < length piece.now → 0 < result.used }
