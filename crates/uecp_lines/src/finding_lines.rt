@@ -3,7 +3,7 @@ ghost use Rattle.std.specs.Prelude.{flat_map};
 ghost use Rattle.uecp_frame.specs.Feeding.{findings_of};
 ghost use Rattle.uecp_elements.specs.Reading.{items};
 ghost use Rattle.uecp_elements.specs.View.{item_of};
-ghost use Rattle.uecp_lines.specs.Lines.{item_line, frame_lines, finding_lines, dropped_line, place_words};
+ghost use Rattle.uecp_lines.specs.Lines.{item_line, frame_lines, finding_lines, dropped_line};
 ghost use Rattle.uecp_text.specs.Written.{Adds};
 
 use crate::element_lines::put_element;
@@ -61,19 +61,16 @@ fn put_item(read: Result<Element<'_>, ElementFault>, output: &mut Output)
 pub fn put_fault(fault: FrameFault, output: &mut Output)
     ensures { Adds output.old output.new (dropped_line fault) }
 {
-    output.text("dropped");
-    output.decimal(usize::from(fault.number()));
-    output.text(" ");
-    output.text(fault.name());
-    put_place(fault, output);
-    output.end();
-}
-
-/// Where a fault stands, if it has a place.
-fn put_place(fault: FrameFault, output: &mut Output)
-    ensures { Adds output.old output.new (place_words fault) }
-{
-    if let FrameFault::BadStuffing(place) = fault {
-        output.decimal(place);
+    match fault {
+        FrameFault::Unended => output.text("dropped 1 Unended\n"),
+        FrameFault::BadStuffing(place) => {
+            output.text("dropped 2 BadStuffing");
+            output.decimal(place);
+            output.end();
+        }
+        FrameFault::TooLong => output.text("dropped 3 TooLong\n"),
+        FrameFault::TooShort => output.text("dropped 4 TooShort\n"),
+        FrameFault::WrongLength => output.text("dropped 5 WrongLength\n"),
+        FrameFault::WrongCheck => output.text("dropped 6 WrongCheck\n"),
     }
 }
