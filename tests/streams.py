@@ -359,5 +359,12 @@ def script_text(chance, setup):
     return Script(chance, setup).text(chance.choice([20, 150, 300, 600]))
 
 
+def refused_texts():
+    """Each line that is refused, between two that are not: with the command that reads it."""
+    for command, good, refused in (("answer", b"FE FF", NO_PIECES), ("line", b"frame 0 65535", NO_EVENTS)):
+        for line in refused:
+            yield command, b"\n".join([good, line, good, b""])
+
+
 def chance_of(*words):
     return random.Random(" ".join(map(str, words)))
