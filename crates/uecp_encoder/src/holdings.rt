@@ -42,7 +42,7 @@ pub(crate) enum Outcome {
 
 impl<T: Target> Holdings<T> {
     /// Takes what a piece of the stream brought.
-    #[inline]
+    #[inline(always)]
     pub(crate) fn take(&mut self, found: &FoundRef<'_>) -> Outcome
         ensures holds { (part : OpenPart) → with_part self.new part ≡ after_findings T.step (with_part self.old part) (findings_of (found_lent found.now)) }
         ensures says { (part : OpenPart) → said_of self.old.address result ≡ responses T.step (with_part self.old part) (findings_of (found_lent found.now)) }
@@ -59,6 +59,7 @@ impl<T: Target> Holdings<T> {
     }
 
     /// Takes a frame: in order, the address, counter 00, a counter that is kept, and else the message is applied.
+    #[inline(never)]
     fn take_frame(&mut self, frame: &FrameRef<'_>) -> Outcome
         ensures holds { (part : OpenPart) → with_part self.new part ≡ after_finding T.step (with_part self.old part) (Ok (frame_lent frame.now)) }
         ensures says { (part : OpenPart) → said_of self.old.address result ≡ response_to T.step (with_part self.old part) (Ok (frame_lent frame.now)) ∷ [] }

@@ -58,6 +58,7 @@ fn put_item(read: Result<Element<'_>, ElementFault>, output: &mut Output)
 }
 
 /// The line of a segment that is no frame: the number and the name of its fault, and its place if it has one.
+#[inline]
 pub fn put_fault(fault: FrameFault, output: &mut Output)
     ensures { Adds output.old output.new (dropped_line fault) }
 {

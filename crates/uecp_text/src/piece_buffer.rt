@@ -41,6 +41,7 @@ impl PieceBuffer {
     /// let mut room = PieceBuffer::new(alloc);
     /// let piece = room.read(b"fe 00 41")?; // FE, 00, 41
     /// ```
+    #[inline]
     pub fn read(&mut self, text: &[u8]) -> Result<&[u8], LineFault>
         ensures piece { IfOk result (λ p. bytes_in text.now ≡ Ok p.now) }
         ensures refused { IfErr result (λ e. (e ≡ OutOfMemory) ⊎ ((e ≡ NotHex) × IsErr (bytes_in text.now))) }
@@ -52,6 +53,7 @@ impl PieceBuffer {
 
 /// Puts in the bytes of a text, its spaces taken out. Most texts have none, so they are looked for only in a text that does not
 /// decode as it stands.
+#[inline(always)]
 #[tactic(auto, using(crate::proofs::Pieces::piece_as_it_stands))]
 fn put_bytes(text: &[u8], bytes: &mut Vec<u8>, digits: &mut Vec<u8>) -> Result<(), LineFault>
     ensures piece { IfOk result (λ _. bytes_in text.now ≡ Ok bytes.new.items) }
@@ -69,6 +71,7 @@ fn put_bytes(text: &[u8], bytes: &mut Vec<u8>, digits: &mut Vec<u8>) -> Result<(
 }
 
 /// Puts in the bytes of hexadecimal digits, two for each, and says whether the text is nothing else.
+#[inline(always)]
 fn decode(text: &[u8], bytes: &mut Vec<u8>) -> Result<bool, AllocError>
     ensures bytes { result ≡ Ok true → decode_of text.now ≡ Ok bytes.new.items }
     ensures refused { result ≡ Ok false → IsErr (decode_of text.now) }
