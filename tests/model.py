@@ -1,6 +1,7 @@
 """The protocol once more, in plain Python: what `uecp answer`, `uecp show` and `uecp line` are to write.
 
-Written from docs/PROTOCOL.md and docs/MANUAL.md, and from nothing else; tests/fuzz compares the program with it. It is slow and
+Written from docs/PROTOCOL.md and docs/MANUAL.md; tests/fuzz compares the program with it. The events of a line stand nearly word for
+word in tests/long_schedule.py too, so on these the two are one opinion. It is slow and
 keeps no state that it could look up: it cuts a stream into segments first, then takes the stuffing out, then judges."""
 
 from typing import NamedTuple
