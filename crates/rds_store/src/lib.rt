@@ -26,6 +26,3 @@ pub use group::Group;
 pub use service::Service;
 pub use store::RdsStore;
 pub use text::RadioText;
-
-#[cfg(test)]
-mod tests;

@@ -12,6 +12,3 @@
 mod ring;
 
 pub use ring::ReplyRing;
-
-#[cfg(test)]
-mod tests;

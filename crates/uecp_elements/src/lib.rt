@@ -28,6 +28,3 @@ pub use part::RtPart;
 pub use reading::Elements;
 pub use start::elements;
 pub use writing::push_element;
-
-#[cfg(test)]
-mod tests;

@@ -29,6 +29,3 @@ pub use encoder::{Encoder, EncoderFault};
 pub use meter::{Failed, Meter};
 pub use serving::{ServeFault, Served, serve};
 pub use target::Target;
-
-#[cfg(test)]
-mod tests;

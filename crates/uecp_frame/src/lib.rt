@@ -40,6 +40,3 @@ pub use fed_ref::{FedRef, FoundRef, FrameRef};
 pub use frame::{Frame, FrameBytes};
 pub use message::{Full, Message};
 pub use segment::{decode, is_segment};
-
-#[cfg(test)]
-mod tests;

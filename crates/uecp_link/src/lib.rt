@@ -35,6 +35,3 @@ pub use line::Line;
 pub use refusal::LineRefusal;
 pub use server::Server;
 pub use stepped::Stepped;
-
-#[cfg(test)]
-mod tests;

@@ -20,6 +20,3 @@ pub use connect::Connect;
 pub use sending::{Outstanding, Sender};
 pub use serving::{ServeStop, serve_connections};
 pub use tcp::{Dialing, Listening};
-
-#[cfg(test)]
-mod tests;

@@ -6,7 +6,6 @@ mod driving;
 mod noise;
 mod server;
 
-use crate::{Line, LineEvent, LineRefusal, Stepped};
 use rds_store::RdsStore;
 use std::alloc::Global;
 use std::process::Abort;
@@ -14,6 +13,7 @@ use std::test::Fail;
 use uecp_elements::Code;
 use uecp_encoder::{Encoder, Target, What};
 use uecp_frame::{Address, Frame, FrameBytes, Message, encode};
+use uecp_link::{Line, LineEvent, LineRefusal, Stepped};
 
 /// Adds the text "HI".
 const ADD: [u8; 7] = *b"\x0A\x00\x00\x03\x40\x48\x49";

@@ -1,8 +1,8 @@
 use super::{APPLIED_1, EMPTY_1, own_address, reply_made};
-use crate::{HeardWhat, Server};
 use std::process::Abort;
 use uecp_elements::Code;
 use uecp_frame::{FrameFault, Message};
+use uecp_link::{HeardWhat, Server};
 
 /// Code 00 to counter 02.
 const APPLIED_2: [u8; 11] = *b"\xFE\x00\x41\x00\x03\x18\x00\x02\x70\xDD\xFF";

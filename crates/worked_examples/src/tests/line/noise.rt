@@ -1,8 +1,8 @@
 use super::{delivered, frame, is_taken, reply, with_store};
-use crate::{LineEvent, LineRefusal, Side, Stepped};
 use rds_store::Service;
 use std::test::Fail;
 use uecp_elements::Code;
+use uecp_link::{LineEvent, LineRefusal, Side, Stepped};
 
 /// PI C201.
 const PI: [u8; 5] = *b"\x01\x00\x00\xC2\x01";

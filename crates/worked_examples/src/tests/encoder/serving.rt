@@ -1,8 +1,8 @@
 //! `serve` and its meters, over a reader and a writer that fail where they are told to.
 use super::{texts_of, with_store};
-use crate::{Failed, Meter, ServeFault, Served, serve};
 use faulty_devices::{FaultyReader, FaultyWriter};
 use std::test::Fail;
+use uecp_encoder::{Failed, Meter, ServeFault, Served, serve};
 
 /// Adds the text "HI", counter 03.
 const ADD_3: [u8; 15] = *b"\xFE\x00\x41\x03\x07\x0A\x00\x00\x03\x40\x48\x49\xF4\x44\xFF";

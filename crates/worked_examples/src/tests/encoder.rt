@@ -4,12 +4,12 @@ ghost use Rattle.uecp_elements.specs.declared.code.Code.TheVariants.{Applied};
 
 mod serving;
 
-use crate::{Counts, Encoder, Target, What};
 use rds_store::{RdsStore, Service};
 use std::alloc::Global;
 use std::process::Abort;
 use std::test::Fail;
 use uecp_elements::Code;
+use uecp_encoder::{Counts, Encoder, Target, What};
 use uecp_frame::{Address, Found, Frame, FrameBytes, FrameFault, Message, encode};
 
 /// PI C201, counter 01.

@@ -1,5 +1,5 @@
-use crate::{Code, Element, ElementFault, Elements, RtPart, elements, push_element};
 use std::test::Fail;
+use uecp_elements::{Code, Element, ElementFault, Elements, RtPart, elements, push_element};
 use uecp_frame::Message;
 
 const PI: Element<'static> = Element::Pi {

@@ -1,4 +1,4 @@
-use crate::{Group, RdsStore, Service, StoreFault};
+use rds_store::{Group, RdsStore, Service, StoreFault};
 use std::process::Abort;
 use std::test::Fail;
 use uecp_elements::{Code, Element};

@@ -1,4 +1,4 @@
-use crate::ReplyRing;
+use reply_ring::ReplyRing;
 use std::test::Fail;
 use uecp_elements::Code;
 

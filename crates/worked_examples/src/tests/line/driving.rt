@@ -1,10 +1,10 @@
 //! `drive` and `resend`, over a reader and a writer that fail where they are told to.
 use super::{APPLIED_1, EMPTY_1, own_address};
-use crate::{DriveFault, Driven, Server, drive, resend};
 use faulty_devices::{FaultyReader, FaultyWriter};
 use uecp_elements::Code;
 use uecp_encoder::Meter;
 use uecp_frame::Message;
+use uecp_link::{DriveFault, Driven, Server, drive, resend};
 
 /// Code 00 to counter 02.
 const APPLIED_2: [u8; 11] = *b"\xFE\x00\x41\x00\x03\x18\x00\x02\x70\xDD\xFF";

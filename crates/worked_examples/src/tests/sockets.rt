@@ -2,9 +2,6 @@
 ghost use Rattle.std.specs.Prelude.{IsTrue};
 ghost use Rattle.uecp_frame.specs.Address.{is_exact};
 
-use crate::connect::Connect;
-use crate::tcp::{Dialing, Listening};
-use crate::{Outstanding, Sender, serve_connections};
 use rds_store::{RdsStore, Service};
 use std::alloc::Global;
 use std::net::{TcpListener, TcpStream};
@@ -15,6 +12,7 @@ use uecp_elements::Code;
 use uecp_encoder::{Encoder, Meter, serve};
 use uecp_frame::{Address, Message};
 use uecp_link::{DriveFault, Driven, Server, drive, resend};
+use uecp_net::{Connect, Dialing, Listening, Outstanding, Sender, serve_connections};
 
 /// Adds the text "HI".
 const ADD: [u8; 7] = *b"\x0A\x00\x00\x03\x40\x48\x49";

@@ -1,0 +1,7 @@
+mod elements;
+mod encoder;
+mod frame;
+mod line;
+mod ring;
+mod sockets;
+mod store;
