@@ -11,6 +11,7 @@ pub mod Alone
 pub mod Examples
 pub mod ByPlaces
 pub mod HeardLemmas
+pub mod PassedOver
 pub mod Steps
 pub mod Register
 pub mod Sending

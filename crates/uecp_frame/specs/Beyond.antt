@@ -1,5 +1,5 @@
 -- What more bytes find, and which part they leave open, by the part that was open before them.
-use Rattle.std.specs.Prelude.{◌≡◌, ℕ, ◌==◌, if◌then◌else◌, List, [], ◌∷◌, ◌++◌, Ok, Err}
+use Rattle.std.specs.Prelude.{◌≡◌, ◌≢◌, ℕ, ◌==◌, if◌then◌else◌, List, [], ◌∷◌, ◌++◌, Ok, Err}
 use Rattle.std.specs.List.{list_any}
 use Rattle.uecp_frame.specs.declared.frame.Frame.{Frame}
 use Rattle.uecp_frame.specs.declared.fault.FrameFault.TheVariants.{Unended}
@@ -66,3 +66,18 @@ unended (Part y) = Err Unended ∷ []
 pub record IsHeard (o : OpenPart) (f : Frame) : Type 0 where
   pub found : found_beyond o (spelling f) ≡ unended o ++ Ok f ∷ []
   pub left : open_beyond o (spelling f) ≡ Closed
+
+-- Bytes are a frame's spelling that breaks off where they begin it, and at least its FE stands among them and its FF does not.
+pub record BreaksOff (x : List ℕ) : Type 0 where
+  pub frame : Frame
+  pub rest : List ℕ
+  pub joined : x ++ rest ≡ spelling frame
+  pub begun : x ≢ []
+  pub unfinished : rest ≢ []
+
+-- Whatever is open, a spelling that breaks off holds no frame, and only ends what was open. Where the spelling of a frame follows, it is dropped as unended,
+-- that frame is heard, and nothing is left open.
+pub record IsPassedOver (o : OpenPart) (x : List ℕ) (next : Frame) : Type 0 where
+  pub none : found_beyond o x ≡ unended o
+  pub heard : found_beyond o (x ++ spelling next) ≡ unended o ++ Err Unended ∷ Ok next ∷ []
+  pub left : open_beyond o (x ++ spelling next) ≡ Closed

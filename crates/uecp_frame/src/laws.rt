@@ -6,7 +6,7 @@ ghost use Rattle.uecp_frame.specs.Stuffing.{OneReading};
 ghost use Rattle.uecp_frame.specs.Frame.{spelling, IsPrefixFree};
 ghost use Rattle.uecp_frame.specs.Segment.{IsSegment};
 ghost use Rattle.uecp_frame.specs.Findings.{OpenPart, OneFuture, OneOpenPart};
-ghost use Rattle.uecp_frame.specs.Beyond.{ComesAfter, ComesInPieces, IsNewStart, IsHeard};
+ghost use Rattle.uecp_frame.specs.Beyond.{ComesAfter, ComesInPieces, IsNewStart, IsHeard, BreaksOff, IsPassedOver};
 
 /// No spelling of a frame begins another's.
 #[tactic(auto, using(crate::proofs::Spelling::prefix_free_lem))]
@@ -54,4 +54,10 @@ pub fn new_start()
 /// Whatever part is open, the spelling of a frame is heard as that frame, after at most one `Unended`, and leaves nothing open.
 pub fn always_heard()
     ensures { (o : OpenPart) (f : FrameValue) → length f.message ≤ 255 → IsHeard o f }
+{}
+
+/// Whatever part is open, the spelling of a frame that breaks off holds no frame; where the spelling of a frame follows it, the
+/// one is dropped as `Unended` and the other is heard.
+pub fn passed_over()
+    ensures { (o : OpenPart) (x : List ℕ) (next : FrameValue) → BreaksOff x → length next.message ≤ 255 → IsPassedOver o x next }
 {}
