@@ -2,4 +2,5 @@ pub mod Replies
 pub mod Feeding
 pub mod Repeating
 pub mod InPieces
+pub mod Damage
 pub mod InParts

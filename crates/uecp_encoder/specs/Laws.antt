@@ -1,5 +1,5 @@
 -- What users of an encoder rely on, for every target. Source: profile.
-use Rattle.std.specs.Prelude.{◌≡◌, ℕ, ◌+◌, ◌≤◌, true, false, List, [], ◌∷◌, ◌++◌, length, flat_map, Ok, if◌then◌else◌}
+use Rattle.std.specs.Prelude.{◌≡◌, ℕ, ◌+◌, ◌-◌, ◌^◌, ◌<◌, ◌≤◌, min, true, false, List, [], ◌∷◌, ◌++◌, length, flat_map, Ok, if◌then◌else◌}
 use Rattle.uecp_frame.specs.declared.frame.Frame.{Frame}
 use Rattle.uecp_frame.specs.Frame.{spelling}
 use Rattle.uecp_frame.specs.Findings.{Finding, OpenPart, Closed, has_frame, is_quiet}
@@ -84,3 +84,16 @@ IsHeardAfterNoise =
     (noise : List ℕ) (f : Frame) (pieces : List (List ℕ)) →
     is_quiet noise ≡ true → length f.message ≤ 255 → joined pieces ≡ noise ++ spelling f →
     (faults : List Finding) × (has_frame faults ≡ false) × (found_in_pieces Closed pieces ≡ faults ++ Ok f ∷ [])
+
+-- ---- Damage changes nothing.
+
+-- Some bytes leave an encoder its address, its target, its kept replies and its counts but that of the dropped segments, which rises by one for each of their
+-- findings; and no reply goes back.
+pub record IsUnmoved {V : Type 0} (step : Step V) (e : EncoderState V) (bytes : List ℕ) : Type 0 where
+  pub state : fed step e bytes ≡ record e { counts = record e.counts { dropped = (fed step e bytes).counts.dropped }; part = open_beyond e.part bytes }
+  pub dropped : e.counts.dropped < 2 ^ 64 → (fed step e bytes).counts.dropped ≡ min (e.counts.dropped + length (found_beyond e.part bytes)) (2 ^ 64 - 1)
+  pub silent : answers step e bytes ≡ []
+
+-- Whatever is open, bytes in which no frame is found do so.
+abbrev pub DamageChangesNothing : {V : Type 0} → Step V → Type 0
+DamageChangesNothing {V} step = (e : EncoderState V) (bytes : List ℕ) → has_frame (found_beyond e.part bytes) ≡ false → IsUnmoved step e bytes

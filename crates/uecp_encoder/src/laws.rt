@@ -1,7 +1,7 @@
 //! Laws of the definitions, each the contract of a function that does nothing.
 ghost use Rattle.std.specs.Prelude.{ℕ, List};
 ghost use Rattle.uecp_encoder.specs.State.{EncoderState};
-ghost use Rattle.uecp_encoder.specs.Laws.{RetryActsOnce, IsInPieces, IsHeardAfterNoise};
+ghost use Rattle.uecp_encoder.specs.Laws.{RetryActsOnce, IsInPieces, IsHeardAfterNoise, DamageChangesNothing};
 
 use crate::target::Target;
 
@@ -22,4 +22,10 @@ pub fn in_pieces<T: Target>()
 /// it is a frame.
 pub fn heard_after_noise()
     ensures { IsHeardAfterNoise }
+{}
+
+/// Bytes in which no frame is found, whatever part is open before them, leave an encoder its target, its kept replies and its
+/// counts but that of the dropped segments, which rises by one for each segment that they end; and no reply goes back.
+pub fn damage_changes_nothing<T: Target>()
+    ensures { DamageChangesNothing T.step }
 {}
