@@ -1,7 +1,8 @@
 -- What a reply that the line lets pass does: for the call that brings it to the server.
 use Rattle.std.proofs.Common.{◌≡◌, ℕ, ◌+◌, ◌<◌, ◌≤◌, ◌==◌, Bool, true, false, cond, List, [], ◌∷◌, ◌++◌, length, Option, Some, None, Ok, Err, nat_lt, refl, ap, sym, ◌∙◌, arith, inl, inr}
-use Rattle.std.specs.Prelude.{slice_get, filter_map}
+use Rattle.std.specs.Prelude.{slice_get}
 use Rattle.std.specs.List.{last_or}
+use Rattle.std.specs.Option.{option_or}
 use Rattle.std.proofs.lemmas.Bool.{cases_eq, eq-eqb, eqb-true, eqb-false, lt-ltb, le-ltb, le-leb, ne_eqb}
 use Rattle.uecp_elements.specs.declared.code.Code.{Code}
 use Rattle.uecp_frame.specs.declared.frame.Frame.{Frame}
@@ -10,8 +11,9 @@ use Rattle.uecp_frame.specs.Findings.{Finding, has_frame}
 use Rattle.uecp_encoder.specs.Target.{Step}
 use Rattle.uecp_encoder.specs.Answering.{reply_of}
 use Rattle.uecp_link.specs.Counters.{counter_of}
-use Rattle.uecp_link.specs.Server.{ServerState, acknowledges, heard, all_heard_as, told}
-use Rattle.uecp_link.specs.Replying.{code_heard, acknowledgements}
+use Rattle.uecp_link.specs.Server.{ServerState, acknowledges, heard}
+use Rattle.uecp_link.specs.Replying.{acknowledgements}
+use Rattle.uecp_link.specs.Driving.{first_code, acknowledged_in}
 use Rattle.uecp_link.specs.Once.{ReplyComes, acknowledgement}
 use Rattle.uecp_link.specs.Law.{reply_bytes}
 use Rattle.uecp_link.specs.Kept.{last_counter, ServerIs, Waits}
@@ -22,21 +24,22 @@ use Rattle.uecp_link.proofs.Wire.{whole}
 use Rattle.uecp_link.proofs.Ring.{counters_differ}
 use Rattle.uecp_link.proofs.Numbering.{last_counter-at}
 use Rattle.uecp_link.proofs.Hearing.{code_of_byte-byte_of}
+use Rattle.uecp_link.proofs.Answered.{acknowledged_as}
 use Rattle.uecp_link.proofs.Steps.{reply_fits}
 
--- faults acknowledge nothing, and leave the server
-last_or-faults : (s : ServerState) (xs ys : List Finding) → has_frame xs ≡ false → last_or None (filter_map code_heard (all_heard_as s (xs ++ ys))) ≡ last_or None (filter_map code_heard (all_heard_as s ys))
-last_or-faults s [] ys h = refl
-last_or-faults s (Err fault ∷ xs) ys h = last_or-faults s xs ys h
-last_or-faults s (Ok f ∷ xs) ys h = absurd (cc)
+-- faults acknowledge nothing
+first_code-faults : (s : ServerState) (xs : List Finding) (f : Frame) → has_frame xs ≡ false → first_code s (xs ++ Ok f ∷ []) ≡ acknowledges s s.outstanding f
+first_code-faults s [] f h = or_none (acknowledges s s.outstanding f)
+  where
+    or_none : (k : Option Code) → option_or k None ≡ k
+    or_none None = refl
+    or_none (Some code) = refl
+first_code-faults s (Err fault ∷ xs) f h = first_code-faults s xs f h
+first_code-faults s (Ok g ∷ xs) f h = absurd (cc)
 
 -- with which code a reply acknowledges, by where the server is
 abbrev pub code_for : ℕ → ℕ → Code → Option Code
 code_for k q code = cond (k == q) (Some code) None
-
-told_one : (o : Option Code) → last_or None (filter_map code_heard (told o ∷ [])) ≡ o
-told_one None = refl
-told_one (Some c) = refl
 
 by_wait : (s : ServerState) (a k q p : ℕ) (sent : List (List ℕ)) (m : Option (List ℕ)) (code : Code) → ServerIs s a (last_counter (length sent)) m → Waits sent q m → k < p → p ≤ length sent → length sent ≤ k + 127 →
     acknowledges s s.outstanding (reply_of a (counter_of k) code) ≡ code_for k q code
@@ -61,10 +64,10 @@ module _ {V : Type 0} (step : Step V) (line : LineState V) (is : IsLine line) (k
       let f : Frame = reply_of a (counter_of k) code in
       let w = whole line.server.part f (reply_fits a k code) in
       let bytes_is : bytes ≡ spelling f = spelled ∙ ap (reply_bytes a k) at in
-      ap (λ bs. last_or None (acknowledgements line.server bs)) bytes_is
-      ∙ ap (λ fs. last_or None (filter_map code_heard (all_heard_as line.server fs))) w.2
-      ∙ last_or-faults line.server w.0 (Ok f ∷ []) w.1
-      ∙ told_one (acknowledges line.server line.server.outstanding f)
+      acknowledged_as line.server bytes
+      ∙ ap (acknowledged_in line.server) bytes_is
+      ∙ ap (first_code line.server) w.2
+      ∙ first_code-faults line.server w.0 f w.1
       ∙ by_wait line.server a k line.acknowledged (length line.codes) line.sent is.waits code is.server is.waits_is below is.p_le near
 
   answered : (code : Code) → slice_get line.codes k ≡ Some code → (b : Bool) → (k == line.acknowledged) ≡ b → answer_seen (stepped_by (cond b (Some code) None)) ≡ acknowledgement (nat_lt k line.acknowledged) (slice_get line.codes k)

@@ -8,41 +8,62 @@ use Rattle.uecp_elements.specs.declared.code.Code.{Code}
 use Rattle.uecp_frame.specs.Findings.{Finding, OpenPart}
 use Rattle.uecp_frame.specs.Beyond.{found_beyond, open_beyond}
 use Rattle.uecp_frame.proofs.Pieces.{in_pieces_lem, new_start_lem}
-use Rattle.uecp_link.specs.Server.{ServerState, acknowledges, freed, heard_findings, heard, all_heard_as, told}
+use Rattle.uecp_encoder.specs.State.{raised}
+use Rattle.uecp_link.specs.declared.counts.ServerCounts.{ServerCounts}
+use Rattle.uecp_link.specs.Server.{ServerState, acknowledges, freed, heard_finding, heard_findings, heard, all_heard_as, told}
 use Rattle.uecp_link.specs.Replying.{code_heard, acknowledgements}
-use Rattle.uecp_link.specs.Driving.{frame_sent, first_code, acknowledged_in, IsAcknowledged}
-use Rattle.uecp_link.proofs.Hearing.{heard_findings-append}
+use Rattle.uecp_link.specs.Driving.{frame_sent, first_code, acknowledged_in, IsAcknowledged, IsFreed, StillWaits}
 
--- a server with another open part, and one with nothing outstanding
-abbrev with_open : ServerState → OpenPart → ServerState
-with_open s o = record s { part = o }
+-- a server with other counts and another open part, and one with nothing outstanding
+abbrev but_for : ServerState → ServerCounts → OpenPart → ServerState
+but_for s counts o = record s { counts = counts; part = o }
 
 abbrev without : ServerState → ServerState
 without s = record s { outstanding = None }
+
+-- the same server but for its counts, of which that of the acknowledgements is this
+record IsSame (s s' : ServerState) (acknowledged : ℕ) : Type 0 where
+  counts : ServerCounts
+  is : s' ≡ record s { counts = counts }
+  acknowledgements_are : counts.acknowledged ≡ acknowledged
+
+same_later : (s s' : ServerState) (counts : ServerCounts) (n : ℕ) → IsSame (record s { counts = counts }) s' n → IsSame s s' n
+same_later s s' counts n later = record { counts = later.counts; is = later.is; acknowledgements_are = later.acknowledgements_are }
 
 -- ---- among findings
 
 -- what an idle server says holds no code, and it stays idle
 idle_says : (s : ServerState) (fs : List Finding) (before : Option Code) → last_or before (filter_map code_heard (all_heard_as (without s) fs)) ≡ before
 idle_says s [] before = refl
-idle_says s (Err fault ∷ fs) before = idle_says s fs before
-idle_says s (Ok f ∷ fs) before = idle_says s fs before
+idle_says s (Err fault ∷ fs) before = idle_says (heard_finding s (Err fault)) fs before
+idle_says s (Ok f ∷ fs) before = idle_says (freed s None) fs before
 
-idle_stays : (s : ServerState) (fs : List Finding) → heard_findings (without s) fs ≡ without s
-idle_stays s [] = refl
-idle_stays s (Err fault ∷ fs) = idle_stays s fs
-idle_stays s (Ok f ∷ fs) = idle_stays s fs
+idle_stays : (s : ServerState) (fs : List Finding) → IsSame (without s) (heard_findings (without s) fs) s.counts.acknowledged
+idle_stays s [] = record { counts = s.counts; is = refl; acknowledgements_are = refl }
+idle_stays s (Err fault ∷ fs) = same_later (without s) _ _ _ (idle_stays (heard_finding s (Err fault)) fs)
+idle_stays s (Ok f ∷ fs) = same_later (without s) _ _ _ (idle_stays (freed s None) fs)
+
+-- counts and open part are no matter of codes
+first_but_for : (s : ServerState) (counts : ServerCounts) (o : OpenPart) (fs : List Finding) → first_code (but_for s counts o) fs ≡ first_code s fs
+first_but_for s counts o [] = refl
+first_but_for s counts o (Err fault ∷ fs) = first_but_for s counts o fs
+first_but_for s counts o (Ok f ∷ fs) =
+    ap (option_or (acknowledges (but_for s counts o) s.outstanding f)) (first_but_for s counts o fs) ∙ ap (λ k. option_or k (first_code s fs)) (same s.outstanding)
+  where
+    same : (m : Option (List ℕ)) → acknowledges (but_for s counts o) m f ≡ acknowledges s m f
+    same None = refl
+    same (Some m) = refl
 
 -- the last code that the server says is the first that acknowledges
 codes_first : (s : ServerState) (fs : List Finding) → last_or None (filter_map code_heard (all_heard_as s fs)) ≡ first_code s fs
 codes_first s [] = refl
-codes_first s (Err fault ∷ fs) = codes_first s fs
-codes_first s (Ok f ∷ fs) = go (acknowledges s s.outstanding f) (codes_first s fs)
+codes_first s (Err fault ∷ fs) = codes_first (heard_finding s (Err fault)) fs ∙ first_but_for s (heard_finding s (Err fault)).counts s.part fs
+codes_first s (Ok f ∷ fs) = go (acknowledges s s.outstanding f) (codes_first (freed s None) fs ∙ first_but_for s (freed s None).counts s.part fs)
   where
-    go : (k : Option Code) → last_or None (filter_map code_heard (all_heard_as s fs)) ≡ first_code s fs →
+    go : (k : Option Code) → last_or None (filter_map code_heard (all_heard_as (freed s None) fs)) ≡ first_code s fs →
         last_or None (filter_map code_heard (told k ∷ all_heard_as (freed s k) fs)) ≡ option_or k (first_code s fs)
     go None later = later
-    go (Some code) later = idle_says s fs (Some code)
+    go (Some code) later = idle_says (freed s (Some code)) fs (Some code)
 
 first_code-append : (s : ServerState) (xs ys : List Finding) → first_code s (xs ++ ys) ≡ option_or (first_code s xs) (first_code s ys)
 first_code-append s [] ys = refl
@@ -53,33 +74,35 @@ first_code-append s (Ok f ∷ xs) ys = go (acknowledges s s.outstanding f) (firs
     go None later = later
     go (Some code) later = refl
 
--- the open part is no matter of codes
-first_open : (s : ServerState) (o : OpenPart) (fs : List Finding) → first_code (with_open s o) fs ≡ first_code s fs
-first_open s o [] = refl
-first_open s o (Err fault ∷ fs) = first_open s o fs
-first_open s o (Ok f ∷ fs) = ap (option_or (acknowledges (with_open s o) s.outstanding f)) (first_open s o fs) ∙ ap (λ k. option_or k (first_code s fs)) (same s.outstanding)
+not_freed : (s : ServerState) (fs : List Finding) → first_code s fs ≡ None → IsSame s (heard_findings s fs) s.counts.acknowledged
+not_freed s [] none = record { counts = s.counts; is = refl; acknowledgements_are = refl }
+not_freed s (Err fault ∷ fs) none =
+    let s1 : ServerState = heard_finding s (Err fault) in
+    same_later s _ s1.counts _ (not_freed s1 fs (first_but_for s s1.counts s.part fs ∙ none))
+not_freed s (Ok f ∷ fs) none = go (acknowledges s s.outstanding f) none (λ h. not_freed (freed s None) fs (first_but_for s (freed s None).counts s.part fs ∙ h))
   where
-    same : (m : Option (List ℕ)) → acknowledges (with_open s o) m f ≡ acknowledges s m f
-    same None = refl
-    same (Some m) = refl
+    s1 : ServerState
+    s1 = freed s None
 
-not_freed : (s : ServerState) (fs : List Finding) → first_code s fs ≡ None → heard_findings s fs ≡ s
-not_freed s [] none = refl
-not_freed s (Err fault ∷ fs) none = not_freed s fs none
-not_freed s (Ok f ∷ fs) none = go (acknowledges s s.outstanding f) none (λ h. not_freed s fs h)
-  where
-    go : (k : Option Code) → option_or k (first_code s fs) ≡ None → (first_code s fs ≡ None → heard_findings s fs ≡ s) → heard_findings (freed s k) fs ≡ s
-    go None h later = later h
+    go : (k : Option Code) → option_or k (first_code s fs) ≡ None → (first_code s fs ≡ None → IsSame s1 (heard_findings s1 fs) s.counts.acknowledged) →
+        IsSame s (heard_findings (freed s k) fs) s.counts.acknowledged
+    go None h later = same_later s _ s1.counts _ (later h)
     go (Some code) h later = absurd (cc)
 
-freed_by : (s : ServerState) (fs : List Finding) (code : Code) → first_code s fs ≡ Some code → heard_findings s fs ≡ without s
+freed_by : (s : ServerState) (fs : List Finding) (code : Code) → first_code s fs ≡ Some code → IsSame (without s) (heard_findings s fs) (raised s.counts.acknowledged)
 freed_by s [] code some = absurd (cc)
-freed_by s (Err fault ∷ fs) code some = freed_by s fs code some
-freed_by s (Ok f ∷ fs) code some = go (acknowledges s s.outstanding f) some (λ h. freed_by s fs code h)
+freed_by s (Err fault ∷ fs) code some =
+    let s1 : ServerState = heard_finding s (Err fault) in
+    same_later (without s) _ s1.counts _ (freed_by s1 fs code (first_but_for s s1.counts s.part fs ∙ some))
+freed_by s (Ok f ∷ fs) code some = go (acknowledges s s.outstanding f) some (λ h. freed_by (freed s None) fs code (first_but_for s (freed s None).counts s.part fs ∙ h))
   where
-    go : (k : Option Code) → option_or k (first_code s fs) ≡ Some code → (first_code s fs ≡ Some code → heard_findings s fs ≡ without s) → heard_findings (freed s k) fs ≡ without s
-    go None h later = later h
-    go (Some other) h later = idle_stays s fs
+    s1 : ServerState
+    s1 = freed s None
+
+    go : (k : Option Code) → option_or k (first_code s fs) ≡ Some code → (first_code s fs ≡ Some code → IsSame (without s1) (heard_findings s1 fs) (raised s.counts.acknowledged)) →
+        IsSame (without s) (heard_findings (freed s k) fs) (raised s.counts.acknowledged)
+    go None h later = same_later (without s) _ s1.counts _ (later h)
+    go (Some other) h later = same_later (without s) _ _ _ (idle_stays (freed s (Some other)) fs)
 
 or_none : (a b : Option Code) → option_or a b ≡ None → a ≡ None
 or_none None b h = refl
@@ -93,36 +116,44 @@ acknowledged_as s bytes = codes_first s (found_beyond s.part bytes)
 pub nothing_acknowledged : (s : ServerState) → acknowledged_in s [] ≡ None
 nothing_acknowledged s = ap (first_code s) (new_start_lem s.part []).nothing
 
-pub silent_state : (s : ServerState) (x : List ℕ) → acknowledged_in s x ≡ None → heard s x ≡ record s { part = open_beyond s.part x }
-silent_state s x none = not_freed (with_open s (open_beyond s.part x)) (found_beyond s.part x) (first_open s (open_beyond s.part x) (found_beyond s.part x) ∙ none)
+silent_state : (s : ServerState) (x : List ℕ) → acknowledged_in s x ≡ None → IsSame (record s { part = open_beyond s.part x }) (heard s x) s.counts.acknowledged
+silent_state s x none =
+    let o : OpenPart = open_beyond s.part x in
+    not_freed (record s { part = o }) (found_beyond s.part x) (first_but_for s s.counts o (found_beyond s.part x) ∙ none)
 
-pub idle_state : (s : ServerState) (x : List ℕ) (code : Code) → acknowledged_in s x ≡ Some code → heard s x ≡ record s { outstanding = None; part = open_beyond s.part x }
-idle_state s x code some = freed_by (with_open s (open_beyond s.part x)) (found_beyond s.part x) code (first_open s (open_beyond s.part x) (found_beyond s.part x) ∙ some)
+idle_state : (s : ServerState) (x : List ℕ) (code : Code) → acknowledged_in s x ≡ Some code → IsSame (record s { outstanding = None; part = open_beyond s.part x }) (heard s x) (raised s.counts.acknowledged)
+idle_state s x code some =
+    let o : OpenPart = open_beyond s.part x in
+    freed_by (record s { part = o }) (found_beyond s.part x) code (first_but_for s s.counts o (found_beyond s.part x) ∙ some)
+
+-- what that leaves of the server
+all_but_acknowledged : (counts : ServerCounts) (n : ℕ) → counts.acknowledged ≡ n → counts ≡ record counts { acknowledged = n }
+all_but_acknowledged counts n is = ap (λ (m : ℕ). record counts { acknowledged = m }) is
+
+pub still_waits : (old new : ServerState) (bytes : List ℕ) → new ≡ heard old bytes → acknowledged_in old bytes ≡ None → StillWaits old new
+still_waits old new bytes state silent =
+    let here = silent_state old bytes silent in
+    let o : OpenPart = open_beyond old.part bytes in
+    subst (StillWaits old) (sym (state ∙ here.is)) (ap (λ (c : ServerCounts). but_for old c o) (all_but_acknowledged here.counts old.counts.acknowledged here.acknowledgements_are))
+
+pub is_freed : (old new : ServerState) (bytes : List ℕ) (code : Code) → new ≡ heard old bytes → acknowledged_in old bytes ≡ Some code → IsFreed old new
+is_freed old new bytes code state comes =
+    let here = idle_state old bytes code comes in
+    let o : OpenPart = open_beyond old.part bytes in
+    subst (IsFreed old) (sym (state ∙ here.is)) (ap (λ (c : ServerCounts). but_for (without old) c o) (all_but_acknowledged here.counts (raised old.counts.acknowledged) here.acknowledgements_are))
 
 -- the same frame is sent
 pub same_frame : (s : ServerState) (x : List ℕ) → acknowledged_in s x ≡ None → frame_sent (heard s x) ≡ frame_sent s
-same_frame s x none = ap frame_sent (silent_state s x none)
+same_frame s x none = ap frame_sent (silent_state s x none).is
 
 -- an earlier part that brings nothing
 pub acknowledged_later : (s : ServerState) (x y : List ℕ) → acknowledged_in s x ≡ None → acknowledged_in s (x ++ y) ≡ acknowledged_in (heard s x) y
 acknowledged_later s x y none =
     let o : OpenPart = open_beyond s.part x in
     let ys : List Finding = found_beyond o y in
+    let here = silent_state s x none in
     ap (first_code s) (in_pieces_lem s.part x y).found ∙ first_code-append s (found_beyond s.part x) ys ∙ ap (λ k. option_or k (first_code s ys)) none
-    ∙ sym (first_open s o ys) ∙ sym (ap (λ d. acknowledged_in d y) (silent_state s x none))
-
-pub heard_later : (s : ServerState) (x y : List ℕ) → acknowledged_in s x ≡ None → heard s (x ++ y) ≡ heard (heard s x) y
-heard_later s x y none =
-    let pieces = in_pieces_lem s.part x y in
-    let o : OpenPart = open_beyond s.part x in
-    let last : OpenPart = open_beyond o y in
-    let xs : List Finding = found_beyond s.part x in
-    let ys : List Finding = found_beyond o y in
-    ap (λ p. heard_findings (with_open s p) (found_beyond s.part (x ++ y))) pieces.left
-    ∙ ap (heard_findings (with_open s last)) pieces.found
-    ∙ heard_findings-append (with_open s last) xs ys
-    ∙ ap (λ t. heard_findings t ys) (not_freed (with_open s last) xs (first_open s last xs ∙ none))
-    ∙ sym (ap (λ d. heard d y) (silent_state s x none))
+    ∙ sym (first_but_for s here.counts o ys) ∙ sym (ap (λ d. acknowledged_in d y) here.is)
 
 earlier_silent : (s : ServerState) (x y : List ℕ) → acknowledged_in s (x ++ y) ≡ None → acknowledged_in s x ≡ None
 earlier_silent s x y none =

@@ -47,10 +47,10 @@ after_faults step e a v r (Err n ∷ fs) h is =
     after_faults step (after_finding step e (Err n)) a v r fs h (record { address = is.address; value = is.value; ring = is.ring })
 after_faults step e a v r (Ok f ∷ fs) h is = cc
 
-pub heard_faults : (s : ServerState) (fs : List Finding) → has_frame fs ≡ false → heard_findings s fs ≡ s
-heard_faults s [] h = refl
-heard_faults s (Err n ∷ fs) h = heard_faults s fs h
-heard_faults s (Ok f ∷ fs) h = cc
+pub heard_faults : (s : ServerState) (a l : ℕ) (m : Option (List ℕ)) (fs : List Finding) → has_frame fs ≡ false → ServerIs s a l m → ServerIs (heard_findings s fs) a l m
+heard_faults s a l m [] h is = is
+heard_faults s a l m (Err n ∷ fs) h is = heard_faults (heard_finding s (Err n)) a l m fs h (record { address = is.address; last = is.last; outstanding = is.outstanding })
+heard_faults s a l m (Ok f ∷ fs) h is = cc
 
 pub reaches_self : (a : ℕ) → reaches a a ≡ true
 reaches_self a = rw (eq-eqb (a / 64) (a / 64) refl, eq-eqb (a % 64) (a % 64) refl) (go (a / 64 == 0) (a % 64 == 0))
@@ -122,7 +122,7 @@ fed_faults step e a v r x none is =
 pub heard_bytes_faults : (s : ServerState) (a l : ℕ) (m : Option (List ℕ)) (x : List ℕ)
     → has_frame (found_beyond s.part x) ≡ false → ServerIs s a l m → ServerIs (heard s x) a l m
 heard_bytes_faults s a l m x none is =
-    rw (heard_faults (record s { part = open_beyond s.part x }) (found_beyond s.part x) none)
+    heard_faults (record s { part = open_beyond s.part x }) a l m (found_beyond s.part x) none
     (record { address = is.address; last = is.last; outstanding = is.outstanding })
 
 -- a frame comes as one finding to an end that is as it was, but for its counts and its open part
@@ -143,9 +143,9 @@ pub heard_frame : (s : ServerState) (a l : ℕ) (m : Option (List ℕ)) (f : Fra
 heard_frame s a l m f is_f is =
     let w = whole s.part f is_f in
     let s1 : ServerState = record s { part = open_beyond s.part (spelling f) } in (
-      s1,
-      record { address = is.address; last = is.last; outstanding = is.outstanding },
-      ap (heard_findings s1) w.2 ∙ (heard_findings-append s1 w.0 (Ok f ∷ []) ∙ ap (λ t. heard_finding t (Ok f)) (heard_faults s1 w.0 w.1)),
+      heard_findings s1 w.0,
+      heard_faults s1 a l m w.0 w.1 (record { address = is.address; last = is.last; outstanding = is.outstanding }),
+      ap (heard_findings s1) w.2 ∙ heard_findings-append s1 w.0 (Ok f ∷ []),
     )
 
 -- The open part.
@@ -156,7 +156,7 @@ freed-part s (Some c) = refl
 
 heard_findings-part : (s : ServerState) (fs : List Finding) → (heard_findings s fs).part ≡ s.part
 heard_findings-part s [] = refl
-heard_findings-part s (Err n ∷ fs) = heard_findings-part s fs
+heard_findings-part s (Err n ∷ fs) = heard_findings-part (heard_finding s (Err n)) fs
 heard_findings-part s (Ok f ∷ fs) = heard_findings-part (heard_finding s (Ok f)) fs ∙ freed-part s (acknowledges s s.outstanding f)
 
 pub heard-part : (s : ServerState) (x : List ℕ) → (heard s x).part ≡ open_beyond s.part x

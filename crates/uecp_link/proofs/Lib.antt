@@ -1,6 +1,7 @@
 pub mod Wire
 pub mod Ring
 pub mod Hearing
+pub mod Damage
 pub mod Numbering
 pub mod Steps
 pub mod Folding

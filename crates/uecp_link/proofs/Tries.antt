@@ -12,8 +12,8 @@ use Rattle.uecp_link.specs.declared.driving.DriveFault.TheVariants.{WriteFailed,
 use Rattle.uecp_link.specs.Driving.{copies, frame_sent, acknowledged_in, IsAcknowledged, Drives}
 use Rattle.uecp_link.specs.Listening.{Waits, Listens, Tried}
 use Rattle.uecp_link.specs.declared.driving.Listened.TheVariants as listened
-use Rattle.uecp_link.proofs.Answered.{nothing_acknowledged, acknowledged_last, acknowledged_after, acknowledged_later, heard_later, same_frame, silent_state, idle_state}
-use Rattle.uecp_link.proofs.FeedingLemmas.{heard_none}
+use Rattle.uecp_link.proofs.Answered.{nothing_acknowledged, acknowledged_last, acknowledged_after, acknowledged_later, same_frame}
+use Rattle.uecp_link.proofs.FeedingLemmas.{heard_none, server_in_pieces}
 
 -- ---- reads
 
@@ -35,7 +35,7 @@ pub waits_on : {R : Type 0} (remaining : R → Option (List ℕ)) (s0 s1 s2 : Se
 waits_on remaining s0 s1 s2 r0 r1 r2 reads piece so_far took few state silent calls failures = record {
   read = so_far.read ++ piece;
   consumed = Consumes-trans _ _ _ _ _ so_far.consumed took;
-  state = state ∙ ap (λ d. heard d piece) so_far.state ∙ sym (heard_later s0 so_far.read piece so_far.silent);
+  state = state ∙ ap (λ d. heard d piece) so_far.state ∙ sym (server_in_pieces s0 so_far.read piece).state;
   silent = acknowledged_later s0 so_far.read piece so_far.silent ∙ ap (λ d. acknowledged_in d piece) (sym so_far.state) ∙ silent;
   few_bytes = omega (arith, length-append so_far.read piece, few, so_far.few_bytes);
   calls = λ h. omega (arith, calls, so_far.calls (omega (arith, h)), h);
@@ -103,7 +103,7 @@ reply_came remaining s0 s1 s2 r0 r1 r2 turns reads piece code so_far took few st
   reads = reads + 1;
   failed = 0;
   consumed = Consumes-trans _ _ _ _ _ so_far.consumed took;
-  state = state ∙ ap (λ d. heard d piece) so_far.state ∙ sym (heard_later s0 so_far.read piece so_far.silent);
+  state = state ∙ ap (λ d. heard d piece) so_far.state ∙ sym (server_in_pieces s0 so_far.read piece).state;
   hears = (
     acknowledged_last s0 so_far.read piece code so_far.silent few (acknowledged_later s0 so_far.read piece so_far.silent ∙ ap (λ d. acknowledged_in d piece) (sym so_far.state) ∙ comes),
     refl,
@@ -189,7 +189,7 @@ module _ {R W : Type 0} (remaining : R → Option (List ℕ)) (contents : W → 
         failed = so_far.failed + try.failed;
         consumed = Consumes-trans _ _ _ _ _ so_far.consumed try.consumed;
         appended = one_more contents s0 s1 w0 w1 w2 so_far.read t so_far.silent so_far.state so_far.appended wrote;
-        state = try.state ∙ ap (λ d. heard d try.read) so_far.state ∙ sym (heard_later s0 so_far.read try.read so_far.silent);
+        state = try.state ∙ ap (λ d. heard d try.read) so_far.state ∙ sym (server_in_pieces s0 so_far.read try.read).state;
         silent = acknowledged_later s0 so_far.read try.read so_far.silent ∙ ap (λ d. acknowledged_in d try.read) (sym so_far.state) ∙ try.hears.0;
         bytes_are = omega (arith, so_far.bytes_are, sent_is, more_bytes s0 s1 so_far.read t so_far.silent so_far.state);
         few_written = omega (arith, so_far.few_written, sent_is, short);
@@ -257,7 +257,7 @@ module _ {R W : Type 0} (remaining : R → Option (List ℕ)) (contents : W → 
     failed = so_far.failed;
     consumed = Consumes-trans _ _ _ _ _ so_far.consumed try.consumed;
     appended = one_more contents s0 s1 w0 w1 w2 so_far.read t so_far.silent so_far.state so_far.appended wrote;
-    state = try.state ∙ ap (λ d. heard d try.read) so_far.state ∙ sym (heard_later s0 so_far.read try.read so_far.silent);
+    state = try.state ∙ ap (λ d. heard d try.read) so_far.state ∙ sym (server_in_pieces s0 so_far.read try.read).state;
     ends = (
       refl,
       omega arith,
@@ -285,7 +285,7 @@ module _ {R W : Type 0} (remaining : R → Option (List ℕ)) (contents : W → 
     failed = so_far.failed;
     consumed = Consumes-trans _ _ _ _ _ so_far.consumed try.consumed;
     appended = one_more contents s0 s1 w0 w1 w2 so_far.read t so_far.silent so_far.state so_far.appended wrote;
-    state = try.state ∙ ap (λ d. heard d try.read) so_far.state ∙ sym (heard_later s0 so_far.read try.read so_far.silent);
+    state = try.state ∙ ap (λ d. heard d try.read) so_far.state ∙ sym (server_in_pieces s0 so_far.read try.read).state;
     ends = (
       omega arith,
       omega (arith, below),
@@ -322,15 +322,3 @@ module _ {R W : Type 0} (remaining : R → Option (List ℕ)) (contents : W → 
     read_failures = so_far.read_failures;
     write_failures_are = so_far.write_failures;
   }
-
--- ---- what that leaves of the server
-
-pub still_waits : (old new : ServerState) (bytes : List ℕ) → new ≡ heard old bytes → acknowledged_in old bytes ≡ None → new ≡ record old { part = new.part }
-still_waits old new bytes state silent =
-    let is = state ∙ silent_state old bytes silent in
-    is ∙ ap (λ p. record old { part = p }) (sym (ap (λ d. d.part) is))
-
-pub is_freed : (old new : ServerState) (bytes : List ℕ) (code : Code) → new ≡ heard old bytes → acknowledged_in old bytes ≡ Some code → new ≡ record old { outstanding = None; part = new.part }
-is_freed old new bytes code state comes =
-    let is = state ∙ idle_state old bytes code comes in
-    is ∙ ap (λ p. record old { outstanding = None; part = p }) (sym (ap (λ d. d.part) is))

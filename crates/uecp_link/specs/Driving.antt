@@ -6,6 +6,7 @@ use Rattle.uecp_frame.specs.Findings.{Finding}
 use Rattle.uecp_frame.specs.Beyond.{found_beyond}
 use Rattle.uecp_elements.specs.declared.code.Code.{Code}
 use Rattle.uecp_encoder.specs.Metered.{Metered, counted}
+use Rattle.uecp_encoder.specs.State.{raised}
 use Rattle.uecp_link.specs.declared.driving.Driven.{Driven}
 use Rattle.uecp_link.specs.declared.driving.DriveFault.{DriveFault}
 use Rattle.uecp_link.specs.declared.driving.DriveFault.TheVariants.{WriteFailed, Closed, TriesSpent}
@@ -43,6 +44,16 @@ acknowledged_in s bytes = first_code s (found_beyond s.part bytes)
 pub record IsAcknowledged (s : ServerState) (bytes : List ℕ) (code : Code) : Type 0 where
   pub comes : acknowledged_in s bytes ≡ Some code
   pub late : acknowledged_in s (take (length bytes - 64) bytes) ≡ None
+
+-- ---- What a call leaves of the server.
+
+-- The message is acknowledged: nothing is outstanding, and one acknowledgement more is counted. Of the rest only the other counts and the open part may have changed.
+abbrev pub IsFreed : ServerState → ServerState → Type 0
+IsFreed old new = new ≡ record old { outstanding = None; counts = record new.counts { acknowledged = raised old.counts.acknowledged }; part = new.part }
+
+-- The message is outstanding under its counter as before, and no acknowledgement is counted. Of the rest only the other counts and the open part may have changed.
+abbrev pub StillWaits : ServerState → ServerState → Type 0
+StillWaits old new = new ≡ record old { counts = record new.counts { acknowledged = old.counts.acknowledged }; part = new.part }
 
 -- ---- How a call ends.
 

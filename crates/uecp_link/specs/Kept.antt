@@ -32,7 +32,7 @@ pub record EncoderIs {V : Type 0} (e : EncoderState V) (a : ℕ) (v : V) (r : Li
   pub value : e.value ≡ v
   pub ring : e.ring ≡ r
 
--- Where a server is, but for its open part.
+-- Where a server is, but for its counts and its open part.
 pub record ServerIs (s : ServerState) (a l : ℕ) (m : Option (List ℕ)) : Type 0 where
   pub address : s.address ≡ a
   pub last : s.last ≡ l

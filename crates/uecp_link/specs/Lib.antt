@@ -2,6 +2,7 @@ pub mod Counters
 pub mod Frames
 pub mod Sending
 pub mod Server
+pub mod Damage
 pub mod Replying
 pub mod Once
 pub mod Fold

@@ -1,5 +1,5 @@
 -- The server's end as one value, and what findings do to it; a reader has to believe it. Source: RDS Forum SPB 490, two-way mode; profile for what is marked so.
-use Rattle.std.specs.Prelude.{◌≡◌, ℕ, ◌+◌, ◌%◌, ◌<◌, ◌==◌, ◌&&◌, List, [], ◌∷◌, length, take, Option, Some, None, Ok, Err, if◌then◌else◌}
+use Rattle.std.specs.Prelude.{◌≡◌, ℕ, ◌<◌, ◌==◌, ◌&&◌, List, [], ◌∷◌, length, take, Option, Some, None, Ok, Err, if◌then◌else◌}
 use Rattle.std.specs.Option.{option_map}
 use Rattle.uecp_frame.specs.Frame.{spelling}
 use Rattle.uecp_link.specs.Counters.{next_counter}
@@ -9,21 +9,28 @@ use Rattle.uecp_frame.specs.Findings.{Finding, OpenPart, Closed}
 use Rattle.uecp_frame.specs.Beyond.{found_beyond, open_beyond}
 use Rattle.uecp_elements.specs.declared.code.Code.{Code}
 use Rattle.uecp_elements.specs.Codes.{code_of_byte}
+use Rattle.uecp_encoder.specs.State.{raised}
+use Rattle.uecp_link.specs.declared.counts.ServerCounts.{ServerCounts}
 use Rattle.uecp_link.specs.declared.heard.HeardWhat.{HeardWhat}
 use Rattle.uecp_link.specs.declared.heard.HeardWhat.TheVariants as what
 use Rattle.uecp_link.specs.declared.heard.Heard.{Heard}
 
--- A server is four things: the address of its encoder, the counter of its last message (0 before the first), the message that is outstanding, and the
--- part of the stream that is open. (profile)
+-- A server is five things: the address of its encoder, the counter of its last message (0 before the first), the message that is outstanding, the counts of
+-- what it has heard, and the part of the stream that is open. (profile)
 pub record ServerState : Type 0 where
   pub address : ℕ
   pub last : ℕ
   pub outstanding : Option (List ℕ)
+  pub counts : ServerCounts
   pub part : OpenPart
 
--- A new server has sent nothing, has nothing outstanding and nothing open. (profile)
+-- Nothing is counted. (profile)
+abbrev pub nothing_counted : ServerCounts
+nothing_counted = record { acknowledged = 0; stray = 0; dropped = 0 }
+
+-- A new server has sent nothing, has nothing outstanding, has heard nothing and has nothing open. (profile)
 abbrev pub idle_at : ℕ → ServerState
-idle_at address = record { address = address; last = 0; outstanding = None; part = Closed }
+idle_at address = record { address = address; last = 0; outstanding = None; counts = nothing_counted; part = Closed }
 
 -- A message that is submitted is outstanding, under the next counter. (profile)
 abbrev pub submitted : ServerState → List ℕ → ServerState
@@ -50,14 +57,14 @@ abbrev pub acknowledges : ServerState → Option (List ℕ) → Frame → Option
 acknowledges s None f = None
 acknowledges s (Some m) f = if f.address == s.address && f.counter == 0 then code_in s.last f.message else None
 
--- Any code acknowledges, a refusal too, and then nothing is outstanding. (profile)
+-- Any code acknowledges, a refusal too, and then nothing is outstanding; what does not acknowledge is counted as stray and changes nothing else. (profile)
 abbrev pub freed : ServerState → Option Code → ServerState
-freed s None = s
-freed s (Some code) = record s { outstanding = None }
+freed s None = record s { counts = record s.counts { stray = raised s.counts.stray } }
+freed s (Some code) = record s { outstanding = None; counts = record s.counts { acknowledged = raised s.counts.acknowledged } }
 
--- The server after one finding: a fault changes nothing, a frame frees the server where it acknowledges. (profile)
+-- The server after one finding: a fault is counted as dropped and changes nothing else, a frame frees the server where it acknowledges. (profile)
 abbrev pub heard_finding : ServerState → Finding → ServerState
-heard_finding s (Err fault) = s
+heard_finding s (Err fault) = record s { counts = record s.counts { dropped = raised s.counts.dropped } }
 heard_finding s (Ok f) = freed s (acknowledges s s.outstanding f)
 
 -- The server after findings, one after another.

@@ -3,7 +3,7 @@ ghost use Rattle.std.specs.Prelude.{◌≡◌, ◌≢◌, ◌<◌, ◌≤◌, No
 ghost use Rattle.std.specs.Io.KnownBytes.{Appends};
 ghost use Rattle.uecp_encoder.specs.Metered.{failures_after};
 ghost use Rattle.uecp_link.specs.Server.{submitted};
-ghost use Rattle.uecp_link.specs.Driving.{Drives, frame_sent};
+ghost use Rattle.uecp_link.specs.Driving.{Drives, IsFreed, StillWaits, frame_sent};
 ghost use Rattle.uecp_link.specs.Listening.{Listens};
 
 use crate::feeding::give_piece;
@@ -63,8 +63,8 @@ pub fn drive<R: Read, W: Write>(
 ) -> Result<Driven, DriveFault>
     requires { server.old.outstanding ≡ None }
     ensures drives { Drives R.remaining W.contents (submitted server.old message.now) server.new reader.old reader.new writer.old writer.new tries turns result }
-    ensures idle { IfOk result (λ _. server.new ≡ record (submitted server.old message.now) { outstanding = None; part = server.new.part }) }
-    ensures outstanding { IfErr result (λ _. server.new ≡ record (submitted server.old message.now) { part = server.new.part }) }
+    ensures idle { IfOk result (λ _. IsFreed (submitted server.old message.now) server.new) }
+    ensures outstanding { IfErr result (λ _. StillWaits (submitted server.old message.now) server.new) }
 {
     server.submit(message);
     resend(server, reader, writer, tries, turns)
@@ -87,8 +87,8 @@ pub fn resend<R: Read, W: Write>(
 ) -> Result<Driven, DriveFault>
     requires { server.old.outstanding ≢ None }
     ensures drives { Drives R.remaining W.contents server.old server.new reader.old reader.new writer.old writer.new tries turns result }
-    ensures idle { IfOk result (λ _. server.new ≡ record server.old { outstanding = None; part = server.new.part }) }
-    ensures outstanding { IfErr result (λ _. server.new ≡ record server.old { part = server.new.part }) }
+    ensures idle { IfOk result (λ _. IsFreed server.old server.new) }
+    ensures outstanding { IfErr result (λ _. StillWaits server.old server.new) }
 {
     let mut written = 0u64;
     for before in 0..tries {

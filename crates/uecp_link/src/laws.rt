@@ -6,6 +6,7 @@ ghost use Rattle.uecp_link.specs.Law.{Law, NumbersLaw, Fits};
 ghost use Rattle.uecp_link.specs.Holds.{LineState, Outcome, Plays, new_line};
 ghost use Rattle.uecp_link.specs.Once.{Event, Once, at_first};
 ghost use Rattle.uecp_link.specs.Headline.{IsHeadline};
+ghost use Rattle.uecp_link.specs.Damage.{DamageChangesNothing};
 
 use uecp_encoder::Target;
 
@@ -23,4 +24,10 @@ pub fn once_and_in_order<T: Target>()
 /// Any list of steps from a new line keeps the headline, whatever the steps answered.
 pub fn steps_keep_the_headline<T: Target>()
     ensures { (address : ℕ) (opening : _) (events : List Event) (outcomes : List Outcome) (line : LineState T) (o : Once T) → Plays T.step (new_line address opening) (at_first opening) events outcomes line o → IsHeadline T.step address opening line }
+{}
+
+/// Bytes in which no frame is found, whatever part is open before them, leave a server its outstanding message, its last counter
+/// and its counts but that of the dropped segments, which rises by one for each segment that they end.
+pub fn damage_changes_nothing()
+    ensures { DamageChangesNothing }
 {}

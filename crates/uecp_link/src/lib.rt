@@ -6,7 +6,8 @@
 //! line between them; it is the place where what holds of both ends together is proved, and it is for tests and for playing
 //! scripts, not for sending.
 //!
-//! - [`Server`]: numbers messages, one outstanding at a time, and knows the reply to it; [`Heard`] is its answer.
+//! - [`Server`]: numbers messages, one outstanding at a time, and knows the reply to it; [`Heard`] is its answer, and
+//!   [`ServerCounts`] what it has heard so far.
 //! - [`Line`]: both ends, with [`LineEvent`], [`Stepped`] and [`LineRefusal`] as what happens, what comes of it, and why not.
 //! - [`laws`]: what holds of the definitions over every list of events.
 //!
@@ -17,6 +18,7 @@
 #![tactic(auto)]
 
 mod counters;
+mod counts;
 mod driving;
 mod event;
 mod feeding;
@@ -28,6 +30,7 @@ mod refusal;
 mod server;
 mod stepped;
 
+pub use counts::ServerCounts;
 pub use driving::{DriveFault, Driven, drive, resend};
 pub use event::{LineEvent, Side};
 pub use heard::{Heard, HeardWhat};

@@ -4,9 +4,10 @@ ghost use Rattle.std.specs.Option.{option_copied};
 ghost use Rattle.uecp_frame.specs.Address.{is_exact};
 ghost use Rattle.uecp_frame.specs.Findings.{Closed};
 ghost use Rattle.uecp_frame.specs.Lent.{frame_lent};
-ghost use Rattle.uecp_link.specs.Server.{idle_at, submitted, acknowledges, heard, HearsPiece, outgoing_bytes};
+ghost use Rattle.uecp_link.specs.Server.{idle_at, nothing_counted, submitted, acknowledges, heard, HearsPiece, outgoing_bytes};
 
 use crate::counters::counter_of;
+use crate::counts::ServerCounts;
 use crate::heard::{Heard, HeardWhat};
 use std::marker::Model;
 use uecp_elements::Code;
@@ -24,6 +25,8 @@ pub struct Server {
     outstanding: Option<Message>,
     /// The spelling of that message's frame.
     frame: FrameBytes,
+    /// What was heard, by kind.
+    counts: ServerCounts,
     /// Finds the frames in what is heard.
     deframer: Deframer,
 }
@@ -34,14 +37,14 @@ impl Model for Server {
 
     ghost Value = { ServerState };
 
-    ghost view = { λ s. record { address = s.address; last = s.last; outstanding = s.outstanding; part = s.deframer } };
+    ghost view = { λ s. record { address = s.address; last = s.last; outstanding = s.outstanding; counts = s.counts; part = s.deframer } };
 
     ghost invariant = { λ s. IsSpelled s.address s.last s.outstanding s.frame.items };
 }
 
 impl Server {
     /// A server for the encoder at this address, which is that encoder's own: neither part is 0. It has sent nothing, its first
-    /// message will have counter 01, and nothing is outstanding.
+    /// message will have counter 01, nothing is outstanding and nothing is counted.
     pub fn new(address: Address) -> Server
         requires { IsTrue (is_exact address) }
         ensures { result ≡ idle_at address }
@@ -51,6 +54,7 @@ impl Server {
             last: 0,
             outstanding: None,
             frame: FrameBytes::new(),
+            counts: ServerCounts::default(),
             deframer: Deframer::new(),
         }
     }
@@ -64,7 +68,7 @@ impl Server {
 
     /// Takes a message to be sent, under the next counter: 01 to FF in turn, and 01 again. The server is idle; see
     /// [`is_idle`](Server::is_idle). Send what [`outgoing`](Server::outgoing) lends, again whenever no reply has come in time,
-    /// until [`hear`](Server::hear) answers `Acknowledged`.
+    /// until [`hear`](Server::hear) answers `Acknowledged`. The counts stay.
     pub fn submit(&mut self, message: &Message)
         requires { self.old.outstanding ≡ None }
         ensures { self.new ≡ submitted self.old message.now }
@@ -98,7 +102,7 @@ impl Server {
 
     /// Takes a piece of what comes over the line: uses its bytes up to and with the one that ends a segment, or all, and
     /// answers what that brought. Hear the rest of the piece next, until all is used. Where a fault was dropped, the outstanding
-    /// message and its frame are as before.
+    /// message and its frame are as before. What the answer says is counted.
     pub fn hear(&mut self, piece: &[u8]) -> Heard
         ensures fits { result.used ≤ length piece.now }
         ensures moves { 0 < length piece.now → 0 < result.used }
@@ -109,21 +113,40 @@ impl Server {
         let used = fed.used;
         let what = match &fed.found {
             FoundRef::Nothing => HeardWhat::Nothing,
-            FoundRef::Refused(fault) => HeardWhat::Dropped(*fault),
+            FoundRef::Refused(fault) => {
+                self.counts.dropped = self.counts.dropped.saturating_add(1);
+                HeardWhat::Dropped(*fault)
+            }
             FoundRef::Frame(frame) => match acknowledging(
                 self.address,
                 self.last,
                 &self.outstanding,
                 frame,
             ) {
-                None => HeardWhat::Stray,
+                None => {
+                    self.counts.stray = self.counts.stray.saturating_add(1);
+                    HeardWhat::Stray
+                }
                 Some(code) => {
                     self.outstanding = None;
+                    self.counts.acknowledged = self.counts.acknowledged.saturating_add(1);
                     HeardWhat::Acknowledged(code)
                 }
             },
         };
         Heard { used, what }
+    }
+
+    /// What was counted since the server was made.
+    ///
+    /// ```
+    /// server.hear(&[0xfe, 0xff]);
+    /// let dropped = server.counts().dropped; // one more than before
+    /// ```
+    pub fn counts(&self) -> ServerCounts
+        ensures value { result ≡ self.now.counts }
+    {
+        self.counts
     }
 
     /// The deframer, whose open part is the server's.
@@ -133,7 +156,7 @@ impl Server {
         &self.deframer
     }
 
-    /// Forgets a segment that has not ended, as where the line was lost. What is outstanding stays so.
+    /// Forgets a segment that has not ended, as where the line was lost. What is outstanding stays so, and so do the counts.
     pub fn line_lost(&mut self)
         ensures { self.new ≡ record self.old { part = Closed } }
     {
@@ -148,7 +171,7 @@ fn acknowledging(
     outstanding: &Option<Message>,
     frame: &FrameRef<'_>,
 ) -> Option<Code>
-    ensures { result ≡ acknowledges (record { address = address; last = last; outstanding = outstanding.now; part = Closed }) outstanding.now (frame_lent frame.now) }
+    ensures { result ≡ acknowledges (record { address = address; last = last; outstanding = outstanding.now; counts = nothing_counted; part = Closed }) outstanding.now (frame_lent frame.now) }
 {
     if outstanding.is_none() || *frame.address != address || frame.counter != 0 {
         return None;

@@ -3,6 +3,7 @@ use Rattle.std.specs.Prelude.{◌≡◌, ◌≢◌, ◌⊎◌, ℕ, ◌<◌, ◌
 use Rattle.uecp_elements.specs.declared.code.Code.{Code}
 use Rattle.uecp_elements.specs.Codes.{byte_of}
 use Rattle.uecp_link.specs.Server.{ServerState, submitted}
+use Rattle.uecp_link.specs.Driving.{IsFreed, StillWaits}
 use Rattle.uecp_text.specs.declared.line_fault.LineFault.TheVariants.{NotHex, MessageTooLong}
 use Rattle.uecp_text.specs.Digits.{byte_word, decimal_word}
 use Rattle.uecp_text.specs.Run.{Meaning, Brings, Ends, Refuses}
@@ -18,14 +19,6 @@ pub record SenderState : Type 0 where
   pub turns : ℕ
   pub left : ℕ
   pub why : Option Outstanding
-
--- The message is acknowledged: nothing is outstanding, and nothing else has changed but the open part.
-abbrev pub IsFreed : ServerState → ServerState → Type 0
-IsFreed old new = new ≡ record old { outstanding = None; part = new.part }
-
--- The message is outstanding under its counter as before, and nothing has changed but the open part.
-abbrev pub StillWaits : ServerState → ServerState → Type 0
-StillWaits old new = new ≡ record old { part = new.part }
 
 -- How it went on one connection with so many tries (private).
 abbrev pub Goes : ServerState → ServerState → (tries : ℕ) → Tried → Type 0

@@ -2,7 +2,8 @@
 ghost use Rattle.std.specs.Prelude.{◌≡◌, ◌≢◌, ◌≤◌, ◌↔◌, Some, None, IfOk, IfErr, IfSome, IfNone, IsTrue};
 ghost use Rattle.uecp_frame.specs.Findings.{Closed};
 ghost use Rattle.uecp_link.specs.Server.{submitted};
-ghost use Rattle.uecp_net.specs.Sending.{IsFreed, StillWaits, Goes};
+ghost use Rattle.uecp_link.specs.Driving.{IsFreed, StillWaits};
+ghost use Rattle.uecp_net.specs.Sending.{Goes};
 
 use crate::connect::Connect;
 use std::marker::Model;

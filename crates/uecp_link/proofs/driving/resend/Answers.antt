@@ -1,5 +1,6 @@
 use Rattle.std.proofs.Common.{arith}
-use Rattle.uecp_link.proofs.Tries.{tried_none, tried_on, write_failed_at, acknowledged_at, closed_at, spent_at, still_waits, is_freed}
+use Rattle.uecp_link.proofs.Tries.{tried_none, tried_on, write_failed_at, acknowledged_at, closed_at, spent_at}
+use Rattle.uecp_link.proofs.Answered.{still_waits, is_freed}
 use Rattle.uecp_link.proofs.driving.resend.Goals as goal
 
 pub loop-before-init : goal.loop-before-init

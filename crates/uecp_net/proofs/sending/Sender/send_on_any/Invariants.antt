@@ -1,5 +1,5 @@
 use Rattle.std.proofs.Common.{◌≡◌, ◌≤◌}
-use Rattle.uecp_net.specs.Sending.{StillWaits}
+use Rattle.uecp_link.specs.Driving.{StillWaits}
 use Rattle.uecp_net.proofs.sending.Sender.send_on_any.Given as goal
 
 -- the message is outstanding, and nothing but the reconnects has changed
