@@ -2,7 +2,9 @@ ghost use Rattle.std.specs.Prelude.{◌≡◌, ◌+◌, ◌%◌, ◌^◌, IsTrue
 ghost use Rattle.uecp_frame.specs.Address.{is_exact};
 ghost use Rattle.uecp_elements.specs.declared.code.Code.TheVariants.{Applied};
 
+mod counts;
 mod driving;
+mod lateness;
 mod noise;
 mod server;
 
