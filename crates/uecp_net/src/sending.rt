@@ -1,9 +1,10 @@
 //! A server over connections that may break. Source: profile.
-ghost use Rattle.std.specs.Prelude.{◌≡◌, ◌≢◌, ◌≤◌, ◌↔◌, Some, None, IfOk, IfErr, IfSome, IfNone, IsTrue};
+ghost use Rattle.std.specs.Prelude.{◌≡◌, ◌≢◌, ◌≤◌, ◌↔◌, Some, None, IfOk, IfErr, IfSome, IfNone, IsTrue, false};
 ghost use Rattle.uecp_frame.specs.Findings.{Closed};
 ghost use Rattle.uecp_link.specs.Server.{submitted};
 ghost use Rattle.uecp_link.specs.Driving.{IsFreed, StillWaits};
-ghost use Rattle.uecp_net.specs.Sending.{Goes};
+ghost use Rattle.uecp_link.specs.declared.driving.DriveFault.TheVariants.{TriesSpent};
+ghost use Rattle.uecp_net.specs.Sending.{Goes, Starts, IsBroken, Delivers};
 
 use crate::connect::Connect;
 use std::marker::Model;
@@ -25,19 +26,6 @@ pub enum Outstanding {
 struct Ends<I, O> {
     input: Meter<I>,
     output: Meter<O>,
-}
-
-/// How it went on one connection.
-#[derive(Clone, Copy, Debug)]
-enum Tried {
-    /// The reply came.
-    Acknowledged(Driven),
-    /// Every try ended without it.
-    Spent,
-    /// The connection broke.
-    Broken,
-    /// There was no connection to be had.
-    Refused,
 }
 
 /// A server, and the connection that it has, if it has one. Contracts see it as one value, `SenderState`.
@@ -109,7 +97,8 @@ impl<'a, C: Connect> Sender<'a, C> {
         ensures why { IfErr result (λ reason. self.new.why ≡ Some reason) }
         ensures tries_stay { self.new.tries ≡ self.old.tries }
         ensures turns_stay { self.new.turns ≡ self.old.turns }
-        ensures left { self.new.left ≤ self.old.left }
+        // What each connection did: no message is given up before its tries are spent, or its connections.
+        ensures delivers { Delivers C.opens C.Input.remaining C.Output.contents self.old.tries self.old.turns (submitted self.old.server message.now) self.old.left result self.new.server self.new.left }
     {
         self.server.submit(message);
         let sent = self.send_on_any();
@@ -128,13 +117,17 @@ impl<'a, C: Connect> Sender<'a, C> {
         ensures tries_stay { self.new.tries ≡ self.old.tries }
         ensures turns_stay { self.new.turns ≡ self.old.turns }
         ensures left { self.new.left ≤ self.old.left }
+        ensures delivers { Delivers C.opens C.Input.remaining C.Output.contents self.old.tries self.old.turns self.old.server self.old.left result self.new.server self.new.left }
     {
         'connections: loop {
             match self.send_on_one() {
-                Tried::Acknowledged(driven) => return Ok(driven),
-                Tried::Spent => return Err(Outstanding::TriesSpent),
-                Tried::Refused => return Err(Outstanding::ConnectionFailed),
-                Tried::Broken => {
+                None => return Err(Outstanding::ConnectionFailed),
+                Some(Ok(driven)) => return Ok(driven),
+                Some(Err(fault)) => {
+                    if !is_broken(fault) {
+                        return Err(Outstanding::TriesSpent);
+                    }
+                    self.hang_up();
                     if self.left == 0 {
                         return Err(Outstanding::ConnectionFailed);
                     }
@@ -144,42 +137,50 @@ impl<'a, C: Connect> Sender<'a, C> {
         }
     }
 
-    /// Sends the outstanding message on the connection that there is, or on a new one. A connection that broke is let go.
-    fn send_on_one(&mut self) -> Tried
+    /// Sends the outstanding message on the connection that there is, or on a new one, and says how that went; or None where there
+    /// is none to be had.
+    fn send_on_one(&mut self) -> Option<Result<Driven, DriveFault>>
         requires { self.old.server.outstanding ≢ None }
-        ensures goes { Goes self.old.server self.new.server self.old.tries result }
+        ensures goes { Goes C.opens C.Input.remaining C.Output.contents self.old.tries self.old.turns self.old.server self.new.server result }
+        ensures idle { IfSome result (λ went. IfOk went (λ driven. IsFreed self.old.server self.new.server × (1 ≤ driven.tries) × (driven.tries ≤ self.old.tries))) }
+        ensures outstanding { IfSome result (λ went. IfErr went (λ _. StillWaits self.old.server self.new.server)) }
         ensures stays { record self.new { server = self.old.server } ≡ self.old }
     {
-        let had = match self.ends.take() {
-            Some(ends) => Some(ends),
-            None => self.connected(),
-        };
-        let Some(mut ends) = had else {
-            return Tried::Refused;
-        };
-        match resend(
+        let mut ends = self.ready()?;
+        let went = resend(
             &mut self.server,
             &mut ends.input,
             &mut ends.output,
             self.tries,
             self.turns,
-        ) {
-            Ok(driven) => {
-                self.ends = Some(ends);
-                Tried::Acknowledged(driven)
-            }
-            Err(DriveFault::TriesSpent) => {
-                self.ends = Some(ends);
-                Tried::Spent
-            }
-            Err(DriveFault::WriteFailed { .. } | DriveFault::Closed) => Tried::Broken,
+        );
+        self.ends = Some(ends);
+        Some(went)
+    }
+
+    /// Lets the connection go.
+    fn hang_up(&mut self)
+        ensures { self.new ≡ self.old }
+    {
+        self.ends = None;
+    }
+
+    /// The connection that there is, or a new one, or None where there is none to be had.
+    fn ready(&mut self) -> Option<Ends<C::Input, C::Output>>
+        ensures starts { IfSome result (λ _. Starts self.old.server self.new.server) }
+        ensures none { IfNone result ((self.new.server ≡ self.old.server) × ((c : C) × (after : C) × C.opens c None after)) }
+        ensures stays { record self.new { server = self.old.server } ≡ self.old }
+    {
+        match self.ends.take() {
+            Some(ends) => Some(ends),
+            None => self.connected(),
         }
     }
 
     /// A new connection, or None where there is none to be had. What the one before left open is forgotten.
     fn connected(&mut self) -> Option<Ends<C::Input, C::Output>>
         ensures forgets { IfSome result (λ _. self.new.server ≡ record self.old.server { part = Closed }) }
-        ensures none { IfNone result (self.new.server ≡ self.old.server) }
+        ensures none { IfNone result ((self.new.server ≡ self.old.server) × ((c : C) × (after : C) × C.opens c None after)) }
         ensures stays { record self.new { server = self.old.server } ≡ self.old }
     {
         let (input, output) = self.connect.open()?;
@@ -188,5 +189,16 @@ impl<'a, C: Connect> Sender<'a, C> {
             input: Meter::new(input),
             output: Meter::new(output),
         })
+    }
+}
+
+/// Whether the connection on which this came is broken; else it held, and every try was spent.
+fn is_broken(fault: DriveFault) -> bool
+    ensures broken { IsTrue result → IsBroken fault }
+    ensures held { result ≡ false → fault ≡ TriesSpent }
+{
+    match fault {
+        DriveFault::WriteFailed { .. } | DriveFault::Closed => true,
+        DriveFault::TriesSpent => false,
     }
 }

@@ -1,0 +1,44 @@
+use Rattle.std.proofs.Common.{rules, arith, ◌≡◌, ◌<◌, ◌+◌, ◌-◌, ◌++◌, ◌∷◌, [], Err, length, length-append, ap, sym, subst, ◌∙◌, inr}
+use Rattle.uecp_net.specs.Sending.{Attempts, Break, IsBroken}
+use Rattle.uecp_net.proofs.Breaking.{break_on}
+use Rattle.uecp_net.proofs.sending.Sender.send_on_any.Goals as goal
+
+pub returns-then-self-eq0-clause-delivers : goal.returns-then-self-eq0-clause-delivers
+returns-then-self-eq0-clause-delivers g c =
+    let (faults, broke, cost) = c.connections.invariant.broke in
+    let fault = c.in-Some-Err.fault in
+    let broken : IsBroken fault = search rules in
+    let same : c.hang_up.new.self.server ≡ c.send_on_one.new.self.server = ap (λ s. s.server) c.hang_up.ensures in
+    let none : c.hang_up.new.self.left ≡ 0 = search rules in
+    let stays : c.hang_up.new.self.left ≡ c.connections.self.left = search rules in
+    let went : Attempts g.C.Input.Read.remaining g.C.Output.Write.contents c.args.self.now.tries c.args.self.now.turns c.connections.self.server c.send_on_one.new.self.server (Err fault) = search rules in
+    let count : length (faults ++ fault ∷ []) ≡ c.args.self.now.left + 1 = omega (arith, cost, none, stays, length-append faults (fault ∷ [])) in
+    record {
+      faults = faults ++ fault ∷ [];
+      last = c.send_on_one.new.self.server;
+      broke = break_on g.C.Input.Read.remaining g.C.Output.Write.contents _ _ _ c.connections.self.server _ faults fault broke broken went;
+      ends = (same, inr (none, count));
+    }
+
+pub connections-preserved : goal.connections-preserved
+connections-preserved g c =
+    let (faults, broke, cost) = c.connections.invariant.broke in
+    let fault = c.in-Some-Err.fault in
+    let broken : IsBroken fault = search rules in
+    let same : c.self.inside.server ≡ c.send_on_one.new.self.server = ap (λ s. s.server) c.self.view_is ∙ ap (λ s. s.server) c.hang_up.ensures in
+    let some : 0 < c.self.inside.left = search rules in
+    let stays : c.self.inside.left ≡ c.connections.self.left = search rules in
+    let went : Attempts g.C.Input.Read.remaining g.C.Output.Write.contents c.args.self.now.tries c.args.self.now.turns c.connections.self.server c.send_on_one.new.self.server (Err fault) = search rules in
+    let count : c.args.self.now.left ≡ (c.self.inside.left - 1) + length (faults ++ fault ∷ []) = omega (arith, cost, some, stays, length-append faults (fault ∷ [])) in
+    record {
+      waits = search rules;
+      tries = search rules;
+      turns = search rules;
+      left = search rules;
+      broke = (
+        faults ++ fault ∷ [],
+        subst (λ d. Break g.C.Input.Read.remaining g.C.Output.Write.contents c.args.self.now.tries c.args.self.now.turns c.args.self.now.server (faults ++ fault ∷ []) d) (sym same)
+            (break_on g.C.Input.Read.remaining g.C.Output.Write.contents _ _ _ c.connections.self.server _ faults fault broke broken went),
+        count,
+      );
+    }
