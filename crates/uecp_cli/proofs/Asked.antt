@@ -12,8 +12,8 @@ use Rattle.clap.specs.declared.parser.matches.ArgMatches.{ArgMatches}
 use Rattle.clap.specs.declared.parser.matches.ArgMatches.TheViews.{out-ArgMatches, out-SubCommand}
 use Rattle.clap.specs.declared.parser.matches.SubCommand.{SubCommand}
 use Rattle.clap.proofs.OnLiterals.{clap_on_literals}
-use Rattle.uecp_cli.specs.declared.job.Job.{Job}
-use Rattle.uecp_cli.specs.declared.job.Job.TheVariants.{Answer, Show, Make, Line, Encoder, Server}
+use Rattle.uecp_jobs.specs.declared.job.Job.{Job}
+use Rattle.uecp_jobs.specs.declared.job.Job.TheVariants.{Answer, Show, Make, Line, Encoder, Server}
 use Rattle.uecp_cli.specs.declared.usage.Usage.{Usage}
 use Rattle.uecp_cli.specs.Ranges.{IsInRange, IsPlaceInRange, IsSetupInRange, Lies}
 use Rattle.uecp_cli.specs.Usages.{SaysError}

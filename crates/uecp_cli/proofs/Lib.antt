@@ -1,9 +1,3 @@
-pub mod Parts
-pub mod Doing
-pub mod Networks
-pub mod Pieces
-pub mod Streams
-pub mod Headlines
 pub mod Options
 pub mod Apps
 pub mod Asked

@@ -6,12 +6,12 @@ use Rattle.clap.specs.Values.{kind_of}
 use Rattle.clap.specs.declared.error.kind.ErrorKind.{ErrorKind}
 use Rattle.clap.specs.declared.error.kind.ErrorKind.TheVariants.{DisplayHelp, DisplayVersion}
 use Rattle.uecp_text.specs.Written.{Begins}
-use Rattle.uecp_cli.specs.declared.job.Job.{Job}
+use Rattle.uecp_jobs.specs.declared.job.Job.{Job}
 use Rattle.uecp_cli.specs.declared.usage.Usage.{Usage}
 use Rattle.uecp_cli.specs.declared.usage.Usage.TheVariants.{Refused, NotAList, OutOfMemory}
 use Rattle.uecp_cli.specs.CommandLine.{uecp_app, Asks, GivesNoList}
-use Rattle.uecp_cli.specs.Jobs.{IsDone, IsRefused, IsUndescribed}
-use Rattle.uecp_cli.specs.Networks.{HasServed}
+use Rattle.uecp_jobs.specs.Jobs.{IsDone, IsRefused, IsUndescribed}
+use Rattle.uecp_jobs.specs.Networks.{HasServed}
 
 -- ---- by the words of the command line
 -- The words ask for a help text or for the version.

@@ -1,7 +1,7 @@
 -- The ranges of the numbers on the command line (profile).
 use Rattle.std.specs.Prelude.{ℕ, ◌≤◌}
-use Rattle.uecp_cli.specs.declared.job.Job.{Job}
-use Rattle.uecp_cli.specs.declared.job.Job.TheVariants.{Answer, Show, Make, Line, Encoder, Server}
+use Rattle.uecp_jobs.specs.declared.job.Job.{Job}
+use Rattle.uecp_jobs.specs.declared.job.Job.TheVariants.{Answer, Show, Make, Line, Encoder, Server}
 
 -- A number lies from the least to the greatest.
 abbrev pub Lies : (least greatest number : ℕ) → Type 0

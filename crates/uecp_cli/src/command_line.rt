@@ -10,11 +10,11 @@ use crate::arguments::{
     connections, encoder, host, port, reconnects, serve_turns, services, sets, site, store,
     timeout, tries, try_turns,
 };
-use crate::job::Job;
 use crate::matched::{answer_of, encoder_of, line_of, server_of};
 use crate::usage::Usage;
 use clap::Command;
 use std::alloc::{AllocError, Global};
+use uecp_jobs::Job;
 
 const VERSION: &str = "0.1.0";
 

@@ -10,21 +10,12 @@
 //! streams and network.
 #![tactic(auto)]
 
-mod answering;
 mod arguments;
 mod command_line;
-mod event_script;
-mod frame_script;
-mod job;
-mod laws;
 mod local;
 mod matched;
-mod network;
 mod program;
-mod run;
 mod services;
-mod setup;
-mod showing;
 mod usage;
 
 use crate::command_line::program;

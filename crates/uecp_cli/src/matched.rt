@@ -5,11 +5,11 @@ ghost use Rattle.clap.specs.Words.{found_of, one_of, rows_of};
 ghost use Rattle.uecp_cli.specs.CommandLine.{IsOption, IsPort, IsList, IsJobOf, RefusesList, services_text, host_text};
 ghost use Rattle.uecp_cli.specs.declared.usage.Usage.TheVariants.{OutOfMemory};
 
-use crate::job::Job;
 use crate::services::services_of;
 use crate::usage::Usage;
 use clap::ArgMatches;
 use std::alloc::{AllocError, Global};
+use uecp_jobs::Job;
 
 /// The encoder's site, 1 to 1023.
 fn site_of(found: &ArgMatches<'_>) -> u16

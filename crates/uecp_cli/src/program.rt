@@ -2,19 +2,17 @@
 ghost use Rattle.std.specs.Prelude.{◌≡◌, ◌≢◌, ◌⊎◌, ◌≤◌, map, IfErr};
 ghost use Rattle.std.specs.String.{string_bytes};
 ghost use Rattle.uecp_text.specs.declared.run_fault.RunFault.TheVariants.{Writing};
-ghost use Rattle.uecp_cli.specs.Jobs.{IsRefused, IsUndescribed, HasFailed};
+ghost use Rattle.uecp_jobs.specs.Jobs.{IsRefused, IsUndescribed, HasFailed};
 ghost use Rattle.uecp_cli.specs.Program.{AskForText, IsAllDone, HasDone, HasRefused, HasRefusedWords, AsksForText, SaysMistake};
 
 use crate::command_line::parse;
-use crate::job::Job;
 use crate::local::Local;
-use crate::network::{run_encoder, run_server};
-use crate::run::{fail, run_job};
 use crate::usage::Usage;
 use clap::Error;
 use std::alloc::Global;
 use std::io::{Read, Write};
 use std::net::{Net, TcpListener, TcpStream};
+use uecp_jobs::{Job, fail, run_encoder, run_job, run_server};
 use uecp_net::Dialing;
 use uecp_text::RunFault;
 

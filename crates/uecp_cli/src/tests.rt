@@ -1,17 +1,14 @@
 ghost use Rattle.std.specs.Prelude.{IfOk};
-ghost use Rattle.uecp_cli.specs.Jobs.{IsLocal};
+ghost use Rattle.uecp_jobs.specs.Jobs.{IsLocal};
 
-mod network;
-
-use crate::job::Job;
 use crate::program::run_words;
-use crate::run::run_job;
 use std::alloc::Global;
 use std::io;
 use std::io::{ErrorKind, Read, Write};
 use std::net::{Net, TcpListener, TcpStream};
 use std::process::Abort;
 use std::test::Fail;
+use uecp_jobs::{Job, run_job};
 
 /// The frame that sets PI C201, and a line that is not hex.
 const PIECES: &str = "FE 00 41 01 05 01 00 00 C2 01 67 A8 FF\nFE 0\n";

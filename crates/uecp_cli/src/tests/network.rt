@@ -1,6 +1,4 @@
 //! The two jobs with connections, over connections that were prepared, some of which break.
-use crate::job::Job;
-use crate::network::{run_encoder, run_server};
 use faulty_devices::{FaultyReader, FaultyWriter, Taken};
 use std::alloc::Global;
 use std::io;
@@ -8,6 +6,7 @@ use std::io::{ErrorKind, Write};
 use std::process::Abort;
 use std::slice::{Iter, IterMut};
 use std::test::Fail;
+use uecp_jobs::{Job, run_encoder, run_server};
 use uecp_net::Connect;
 
 /// No element, counter 01.

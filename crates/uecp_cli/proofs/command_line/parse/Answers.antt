@@ -2,7 +2,7 @@ use Rattle.std.proofs.Common.{rules, option_map, map, codes, subst, sym, inl, in
 use Rattle.std.specs.String.{string_bytes}
 use Rattle.std.proofs.lemmas.Result.{IfOk-weaker, IfErr-weaker}
 use Rattle.clap.specs.Words.{found_of, rows_of}
-use Rattle.uecp_cli.specs.declared.job.Job.TheVariants.{Make, Show}
+use Rattle.uecp_jobs.specs.declared.job.Job.TheVariants.{Make, Show}
 use Rattle.uecp_cli.specs.CommandLine.{IsJobOf, RefusesWords}
 use Rattle.uecp_cli.proofs.Asked.{asks, no_other, faultless_of, faulty_of, gives_no_list, is_in_range, met_of, none_named, refuses_words}
 use Rattle.uecp_cli.proofs.command_line.parse.Goals as goal

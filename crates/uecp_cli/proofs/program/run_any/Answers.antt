@@ -1,6 +1,6 @@
 use Rattle.std.proofs.Common.{refl, inl, inr}
 use Rattle.uecp_text.specs.declared.run_fault.RunFault.TheVariants.{Listening}
-use Rattle.uecp_cli.proofs.Networks.{broken_failed}
+use Rattle.uecp_jobs.proofs.Networks.{broken_failed}
 use Rattle.uecp_cli.proofs.program.run_any.Goals as goal
 
 pub returns-in-Encoder-clause-failed : goal.returns-in-Encoder-clause-failed

@@ -1,0 +1,148 @@
+-- Jobs by the runs of their commands.
+use Rattle.std.proofs.Common.{◌≡◌, ◌⊎◌, ℕ, ◌∷◌, List, [], Option, None, Some, Bool, Result, Err, refl, sym, ap, subst, ◌∙◌, inl, inr, arith}
+use Rattle.rds_store.specs.declared.fault.StoreFault.TheVariants as store
+use Rattle.uecp_frame.specs.Findings.{Closed}
+use Rattle.uecp_lines.specs.StoreLines.{last_lines}
+use Rattle.uecp_text.specs.declared.run_fault.RunFault.{RunFault}
+use Rattle.uecp_text.specs.declared.run_fault.RunFault.TheVariants as run
+use Rattle.uecp_text.specs.Faults.{Fails, status_of}
+use Rattle.uecp_text.specs.Input.{texts_of}
+use Rattle.uecp_text.specs.Run.{Meaning, Runs, Prints, RunsWhole}
+use Rattle.uecp_jobs.specs.declared.answering.Answering.{Answering}
+use Rattle.uecp_jobs.specs.declared.event_script.Playing.{Playing}
+use Rattle.uecp_jobs.specs.declared.frame_script.Making.{Making}
+use Rattle.uecp_jobs.specs.declared.showing.Showing.{Showing}
+use Rattle.uecp_jobs.specs.declared.job.Job.{Job}
+use Rattle.uecp_jobs.specs.declared.job.Job.TheVariants.{Answer, Show, Make, Line, Encoder, Server}
+use Rattle.uecp_jobs.specs.Commands.{Shows, Answers}
+use Rattle.uecp_jobs.specs.FrameScript.{Makes, spelled_line}
+use Rattle.uecp_jobs.specs.Playing.{Plays, closing_lines}
+use Rattle.uecp_net.specs.Sending.{Sends}
+use Rattle.uecp_jobs.specs.Setups.{Options, RefusesSetup, encoder_at_first, line_at_first}
+use Rattle.uecp_jobs.specs.Jobs.{options, JobPrints, RefusesJob, DoesJob, Wrote}
+use Rattle.uecp_jobs.proofs.Parts.{whole_part}
+
+-- a job whose command ran
+pub does_by : {V : Type 0} (job : Job) (meaning : Meaning V) (v : V) (closing : V → List ℕ) (unread unread' held held' : Option (List ℕ)) (result : Result (Unit {0}) RunFault) →
+    RunsWhole meaning v closing unread unread' held held' result → ((input written : List ℕ) → Prints meaning v closing input result written → JobPrints job input result written) →
+    DoesJob job unread unread' held held' result
+does_by job meaning v closing unread unread' held held' result ran prints = elim ran [
+  | inl failed ↦ inl failed
+  | inr done ↦ inr (done.0, done.1, done.2, prints done.0 done.1 done.3, done.4)
+]
+
+-- ---- each command
+pub showed : (s : Showing) (unread unread' held held' : Option (List ℕ)) (result : Result (Unit {0}) RunFault) → s.deframer ≡ Closed →
+    RunsWhole (λ (s : Showing) text outcome (s' : Showing). Shows s.deframer text outcome s'.deframer) s (λ _. []) unread unread' held held' result →
+    DoesJob Show unread unread' held held' result
+showed s unread unread' held held' result closed ran =
+    does_by Show Shows Closed (λ part. []) unread unread' held held' result
+    (subst (λ part. RunsWhole Shows part (λ part. []) unread unread' held held' result) closed
+    (whole_part {F = ℕ} (λ (s : Showing) text outcome (s' : Showing). Shows s.deframer text outcome s'.deframer) Shows (λ (s : Showing). s.deframer) (λ _. 0) (λ v text outcome v' m. (m, refl))
+    s (λ _. []) (λ _ part. []) unread unread' held held' result (λ v'. refl) ran))
+    (λ input written prints. prints)
+
+pub made : (m : Making) (unread unread' held held' : Option (List ℕ)) (result : Result (Unit {0}) RunFault) → m.frame ≡ None →
+    RunsWhole (λ (m : Making) text outcome (m' : Making). Makes m.frame text outcome m'.frame) m (λ (m : Making). spelled_line m.frame) unread unread' held held' result →
+    DoesJob Make unread unread' held held' result
+made m unread unread' held held' result none ran =
+    does_by Make Makes None spelled_line unread unread' held held' result
+    (subst (λ frame. RunsWhole Makes frame spelled_line unread unread' held held' result) none
+    (whole_part {F = ℕ} (λ (m : Making) text outcome (m' : Making). Makes m.frame text outcome m'.frame) Makes (λ (m : Making). m.frame) (λ _. 0) (λ v text outcome v' m. (m, refl))
+    m (λ (m : Making). spelled_line m.frame) (λ _ frame. spelled_line frame) unread unread' held held' result (λ v'. refl) ran))
+    (λ input written prints. prints)
+
+pub answered : (o : Options) (asked : Bool) (a : Answering) (unread unread' held held' : Option (List ℕ)) (result : Result (Unit {0}) RunFault) →
+    (a.encoder ≡ encoder_at_first o) × (a.store ≡ asked) →
+    RunsWhole (λ (a : Answering) text outcome (a' : Answering). Answers a.encoder text outcome a'.encoder × (a'.store ≡ a.store)) a (λ (a : Answering). last_lines a.store a.encoder.value)
+    unread unread' held held' result →
+    RunsWhole Answers (encoder_at_first o) (λ e. last_lines asked e.value) unread unread' held held' result
+answered o asked a unread unread' held held' result (encoder, store) ran =
+    subst (λ s. RunsWhole Answers (encoder_at_first o) (λ e. last_lines s e.value) unread unread' held held' result) store
+    (subst (λ e. RunsWhole Answers e (λ e. last_lines a.store e.value) unread unread' held held' result) encoder
+    (whole_part (λ (a : Answering) text outcome (a' : Answering). Answers a.encoder text outcome a'.encoder × (a'.store ≡ a.store)) Answers (λ (a : Answering). a.encoder) (λ (a : Answering). a.store)
+    (λ v text outcome v' m. m) a (λ (a : Answering). last_lines a.store a.encoder.value) (λ s e. last_lines s e.value) unread unread' held held' result (λ v'. refl) ran))
+
+pub played : (o : Options) (asked : Bool) (p : Playing) (unread unread' held held' : Option (List ℕ)) (result : Result (Unit {0}) RunFault) →
+    (p.line ≡ line_at_first o) × (p.store ≡ asked) →
+    RunsWhole (λ (p : Playing) text outcome (p' : Playing). Plays p.line text outcome p'.line × (p'.store ≡ p.store)) p (λ (p : Playing). closing_lines p.store p.line)
+    unread unread' held held' result →
+    RunsWhole Plays (line_at_first o) (closing_lines asked) unread unread' held held' result
+played o asked p unread unread' held held' result (line, store) ran =
+    subst (λ s. RunsWhole Plays (line_at_first o) (closing_lines s) unread unread' held held' result) store
+    (subst (λ l. RunsWhole Plays l (closing_lines p.store) unread unread' held held' result) line
+    (whole_part (λ (p : Playing) text outcome (p' : Playing). Plays p.line text outcome p'.line × (p'.store ≡ p.store)) Plays (λ (p : Playing). p.line) (λ (p : Playing). p.store)
+    (λ v text outcome v' m. m) p (λ (p : Playing). closing_lines p.store p.line) closing_lines unread unread' held held' result (λ v'. refl) ran))
+
+-- ---- by the status of what stopped a job
+pub not_failed : (fault : RunFault) (status : ℕ) → Fails fault → status_of fault ≡ status → status ≡ 3
+not_failed run.TooLong status f is = sym is
+not_failed run.Reading status f is = sym is
+not_failed run.Writing status f is = sym is
+not_failed run.OutOfMemory status f is = sym is
+not_failed (run.Line number refusal) status f is = absurd f
+not_failed (run.Services name) status f is = absurd f
+not_failed run.Address status f is = absurd f
+not_failed run.Listening status f is = absurd f
+not_failed run.Connection status f is = absurd f
+not_failed run.Outstanding status f is = absurd f
+
+-- a text that stops a run has status 1 or 3
+stop_status : {V : Type 0} (meaning : Meaning V) (v v' : V) (texts : List (ℕ × List ℕ)) (lines : List ℕ) (fault : RunFault) → Runs meaning v texts lines (Some fault) v' → status_of fault ≡ 2 → ⊥
+stop_status meaning v v' [] lines fault (lines_are, stop, same) is = let none : Some fault ≡ None = stop in cc
+stop_status meaning v v' ((number, text) ∷ texts) lines fault ran is = elim ran [
+  | inl taken ↦ stop_status meaning taken.2 v' texts taken.1 fault taken.5 is
+  | inr (inl (refusal, refused, none, stop)) ↦
+      let same : fault ≡ run.Line number refusal = let e : Some fault ≡ Some (run.Line number refusal) = stop in cc in
+      let two : 1 ≡ 2 = sym (ap status_of same) ∙ is in omega (arith, two)
+  | inr (inr (ended, stop)) ↦
+      let same : fault ≡ run.Outstanding = let e : Some fault ≡ Some run.Outstanding = stop in cc in
+      let two : 3 ≡ 2 = sym (ap status_of same) ∙ is in omega (arith, two)
+]
+
+prints_status : (job : Job) (input written : List ℕ) (fault : RunFault) → JobPrints job input (Err fault) written → status_of fault ≡ 2 → ⊥
+prints_status Show input written fault (v', ran) is = stop_status Shows _ v' (texts_of input) written fault ran is
+prints_status Make input written fault (v', ran) is = stop_status Makes _ v' (texts_of input) written fault ran is
+prints_status (Answer site encoder sets services store) input written fault (v', ran) is = stop_status Answers _ v' (texts_of input) written fault ran is
+prints_status (Line site encoder sets services store) input written fault (v', ran) is = stop_status Plays _ v' (texts_of input) written fault ran is
+prints_status (Server site encoder host port tries timeout turns reconnects) input written fault (v', ran) is = stop_status Sends _ v' (texts_of input) written fault ran is
+prints_status (Encoder site encoder sets services port connections turns) input written fault prints is = absurd prints
+
+says_status : (o : Options) (fault : RunFault) → RefusesSetup o fault → status_of fault ≡ 1 → ⊥
+says_status o fault (inl (store.OutOfMemory, refused, says)) is = let two : 3 ≡ 1 = sym (ap status_of says) ∙ is in omega (arith, two)
+says_status o fault (inl (store.SetCount, refused, says)) is = let two : 2 ≡ 1 = sym (ap status_of says.1) ∙ is in omega (arith, two)
+says_status o fault (inl (store.ServiceCount, refused, says)) is = let two : 2 ≡ 1 = sym (ap status_of says.1) ∙ is in omega (arith, two)
+says_status o fault (inl (store.ServiceZero, refused, says)) is = let two : 2 ≡ 1 = sym (ap status_of says.1) ∙ is in omega (arith, two)
+says_status o fault (inl (store.ServiceTwice, refused, says)) is = let two : 2 ≡ 1 = sym (ap status_of says.1) ∙ is in omega (arith, two)
+says_status o fault (inr (address, none, apart)) is = let two : 2 ≡ 1 = sym (ap status_of address) ∙ is in omega (arith, two)
+
+pub job_status : (job : Job) (fault : RunFault) → RefusesJob job fault → status_of fault ≡ 1 → ⊥
+job_status Show fault refused is = refused
+job_status Make fault refused is = refused
+job_status (Answer site encoder sets services store) fault refused is = says_status (options site encoder sets services.items) fault refused is
+job_status (Line site encoder sets services store) fault refused is = says_status (options site encoder sets services.items) fault refused is
+job_status (Encoder site encoder sets services port connections turns) fault refused is = says_status (options site encoder sets services.items) fault refused is
+job_status (Server site encoder host port tries timeout turns reconnects) fault refused is = let two : 2 ≡ 1 = sym (ap status_of refused.0) ∙ is in omega (arith, two)
+
+-- a run that stopped for this
+abbrev pub stopped : RunFault → Result (Unit {0}) RunFault
+stopped fault = Err fault
+
+pub same_fault : (a b : RunFault) → stopped a ≡ stopped b → a ≡ b
+same_fault a b e = let same : Err a ≡ Err b = e in cc
+
+module _ (job : Job) (unread unread' held held' : Option (List ℕ)) (unmoved unwritten : Type 0) (fault : RunFault)
+    (does : ((f : RunFault) × (stopped fault ≡ stopped f) × RefusesJob job f × unmoved × unwritten) ⊎ DoesJob job unread unread' held held' (stopped fault)) where
+  pub refused_by : status_of fault ≡ 1 → Wrote job unread unread' (Err fault) held held'
+  refused_by is = elim does [
+    | inl (f, same, refused, reader, writer) ↦ absurd (job_status job f refused (sym (ap status_of (same_fault fault f same)) ∙ is))
+    | inr (inl (f, same, fails)) ↦ absurd (let one : 1 ≡ 3 = not_failed f 1 fails (sym (ap status_of (same_fault fault f same)) ∙ is) in omega (arith, one))
+    | inr (inr wrote) ↦ wrote
+  ]
+
+  pub undescribed_by : status_of fault ≡ 2 → RefusesJob job fault × unmoved × unwritten
+  undescribed_by is = elim does [
+    | inl (f, same, refused, reader, writer) ↦ (subst (RefusesJob job) (sym (same_fault fault f same)) refused, reader, writer)
+    | inr (inl (f, same, fails)) ↦ absurd (let one : 2 ≡ 3 = not_failed f 2 fails (sym (ap status_of (same_fault fault f same)) ∙ is) in omega (arith, one))
+    | inr (inr (input, written, is_input, prints, appends)) ↦ absurd (prints_status job input written fault prints is)
+  ]

@@ -1,0 +1,6 @@
+pub mod Parts
+pub mod Doing
+pub mod Networks
+pub mod Pieces
+pub mod Streams
+pub mod Headlines

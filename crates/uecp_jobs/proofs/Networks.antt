@@ -1,0 +1,281 @@
+-- The jobs with connections by what was served and sent.
+use Rattle.std.proofs.Common.{◌≡◌, ◌≢◌, ◌⊎◌, ◌<◌, ◌≤◌, ℕ, List, [], ◌∷◌, length, Option, None, Some, Result, Ok, Err, refl, sym, ap, subst, ◌∙◌, inl, inr, arith}
+use Rattle.std.proofs.lemmas.List.{append-nil}
+use Rattle.std.specs.Io.KnownBytes.{Appends}
+use Rattle.rds_store.specs.Value.{Store}
+use Rattle.rds_store.specs.Step.{step}
+use Rattle.uecp_encoder.specs.State.{EncoderState}
+use Rattle.uecp_net.specs.declared.serving.ServeStop.{ServeStop}
+use Rattle.uecp_net.specs.Sessions.{Outcome, Sessions, connection_lines}
+use Rattle.rds_store.specs.declared.fault.StoreFault.TheVariants as store
+use Rattle.uecp_text.specs.declared.line_fault.LineFault.{LineFault}
+use Rattle.uecp_text.specs.declared.run_fault.RunFault.{RunFault}
+use Rattle.uecp_text.specs.declared.run_fault.RunFault.TheVariants as run
+use Rattle.uecp_text.specs.Faults.{Fails, status_of, error_lines}
+use Rattle.uecp_text.specs.Input.{texts_of}
+use Rattle.uecp_text.specs.Run.{Meaning, Runs}
+use Rattle.uecp_text.specs.Written.{Begins}
+use Rattle.uecp_text.specs.Streaming.{RunsOutWhole}
+use Rattle.uecp_net.specs.declared.sending.Outstanding.{Outstanding}
+use Rattle.uecp_net.specs.declared.sending.Outstanding.TheVariants.{TriesSpent, ConnectionFailed}
+use Rattle.uecp_link.specs.Server.{ServerState, idle_at}
+use Rattle.uecp_net.specs.Sending.{SenderState, Sends}
+use Rattle.uecp_net.proofs.Acknowledging.{all_acknowledged_lem, up_to_the_outstanding_lem}
+use Rattle.uecp_jobs.specs.declared.job.Job.{Job}
+use Rattle.uecp_jobs.specs.declared.job.Job.TheVariants.{Encoder, Server}
+use Rattle.uecp_jobs.specs.Setups.{Options, IsSetup, RefusesSetup, encoder_at_first, sender_at_first, address_of}
+use Rattle.uecp_jobs.specs.Jobs.{options, IsDescribed, RefusesJob, IsDone, Wrote, HasFailed}
+use Rattle.uecp_jobs.specs.Networks.{IsEncoder, IsServer, Serves, HasNotListened, HasBroken, SendsLines, SendsAll, AreAcknowledged, IsOutstanding, said}
+use Rattle.uecp_jobs.proofs.Doing.{not_failed, job_status, stopped, same_fault}
+
+-- ---- why a run stops
+stops : {V : Type 0} (meaning : Meaning V) (v v' : V) (texts : List (ℕ × List ℕ)) (lines : List ℕ) (fault : RunFault) → Runs meaning v texts lines (Some fault) v' →
+    ((number : ℕ) × (refusal : LineFault) × (fault ≡ run.Line number refusal)) ⊎ (fault ≡ run.Outstanding)
+stops meaning v v' [] lines fault (lines_are, stop, same) = absurd (let none : Some fault ≡ None = stop in cc)
+stops meaning v v' ((number, text) ∷ texts) lines fault ran = elim ran [
+  | inl taken ↦ stops meaning taken.2 v' texts taken.1 fault taken.5
+  | inr (inl (refusal, refused, none, stop)) ↦ inl (number, refusal, (let e : Some fault ≡ Some (run.Line number refusal) = stop in cc))
+  | inr (inr (ended, stop)) ↦ inr (let e : Some fault ≡ Some run.Outstanding = stop in cc)
+]
+
+outstanding_status : (why : Option Outstanding) → status_of (said run.Outstanding why) ≡ 3
+outstanding_status None = refl
+outstanding_status (Some TriesSpent) = refl
+outstanding_status (Some ConnectionFailed) = refl
+
+-- a run that was done
+abbrev pub went : Result (Unit {0}) RunFault
+went = Ok tt
+
+no_fault : (fault : RunFault) → went ≡ stopped fault → ⊥
+no_fault fault is = cc
+
+apart : (fault : RunFault) (a b : ℕ) → status_of fault ≡ a → status_of fault ≡ b → a ≡ b
+apart fault a b is_a is_b = sym is_a ∙ is_b
+
+-- ---- a server
+sent : (job : Job) (unread unread' held held' : Option (List ℕ)) → IsDescribed job → SendsAll job unread unread' held held' went →
+    IsDone job unread unread' held held' × AreAcknowledged unread unread' held held'
+sent (Server site encoder host port tries timeout turns reconnects) unread unread' held held' described sends = elim sends [
+  | inl (fault, is, fails) ↦ absurd (no_fault fault is)
+  | inr (input, lines, s', is_input, appends, ran) ↦
+      let told = all_acknowledged_lem (sender_at_first site encoder tries turns reconnects) s' (texts_of input) lines refl ran in (
+        (described, (input, lines, is_input, (s', lines, ran, sym (append-nil lines)), appends)),
+        (input, told.0, is_input, told.1, subst (Appends held held') told.2 appends),
+      )
+]
+sent job unread unread' held held' described sends = absurd sends
+
+sent_up_to : (job : Job) (unread unread' held held' : Option (List ℕ)) (fault : RunFault) → SendsAll job unread unread' held held' (Err fault) → status_of fault ≡ 1 → Wrote job unread unread' (Err fault) held held'
+sent_up_to (Server site encoder host port tries timeout turns reconnects) unread unread' held held' fault sends is = elim sends [
+  | inl (f, same, fails) ↦ absurd (let one : 1 ≡ 3 = not_failed f 1 fails (sym (ap status_of (same_fault fault f same)) ∙ is) in omega (arith, one))
+  | inr (input, lines, s', is_input, appends, (stop, ran, is_said)) ↦
+      (let sender = sender_at_first site encoder tries turns reconnects in
+      elim (stops Sends sender s' (texts_of input) lines stop ran) [
+        | inl (number, refusal, line) ↦
+            let same : fault ≡ stop = is_said ∙ ap (λ f. said f s'.why) line ∙ sym line in
+            (input, lines, is_input, (s', subst (λ f. Runs Sends sender (texts_of input) lines (Some f) s') (sym same) ran), appends)
+        | inr out ↦ absurd (let three : 1 ≡ 3 = sym is ∙ ap status_of (is_said ∙ ap (λ f. said f s'.why) out) ∙ outstanding_status s'.why in omega (arith, three))
+      ])
+]
+sent_up_to job unread unread' held held' fault sends is = absurd sends
+
+sent_or_not : (job : Job) (unread unread' held held' told told' : Option (List ℕ)) (fault : RunFault) → SendsAll job unread unread' held held' (Err fault) → (status_of fault ≡ 1 → ⊥) → Begins told told' (error_lines fault) →
+    (status_of fault ≡ 3) × (IsOutstanding job unread unread' held held' told told' ⊎ HasBroken told told')
+sent_or_not (Server site encoder host port tries timeout turns reconnects) unread unread' held held' told told' fault sends not_one begins = elim sends [
+  | inl (f, same, fails) ↦
+      (let is = same_fault fault f same in
+      (not_failed f (status_of fault) fails (sym (ap status_of is)), inr (f, fails, subst (λ f. Begins told told' (error_lines f)) is begins)))
+  | inr (input, lines, s', is_input, appends, (stop, ran, is_said)) ↦
+      (let sender = sender_at_first site encoder tries turns reconnects in
+      elim (stops Sends sender s' (texts_of input) lines stop ran) [
+        | inl (number, refusal, line) ↦ absurd (not_one (ap status_of (is_said ∙ ap (λ f. said f s'.why) line)))
+        | inr out ↦
+            let ended = subst (λ f. Runs Sends sender (texts_of input) lines (Some f) s') out ran in
+            let up_to = up_to_the_outstanding_lem sender s' (texts_of input) lines refl ended in
+            let told_is = is_said ∙ ap (λ f. said f s'.why) out in (
+              ap status_of told_is ∙ outstanding_status s'.why,
+              inl (input, lines, s', is_input, appends, ended, (up_to.0, up_to.1, up_to.2), subst (λ f. Begins told told' (error_lines f)) told_is begins),
+            )
+      ])
+]
+sent_or_not job unread unread' held held' told told' fault sends not_one begins = absurd sends
+
+-- ---- a refusal is one of status 2, or want of memory
+setup_breaks : (o : Options) (fault : RunFault) → RefusesSetup o fault → status_of fault ≡ 3 → Fails fault
+setup_breaks o fault (inl (store.OutOfMemory, refused, says)) is = subst Fails (sym says) tt
+setup_breaks o fault (inl (store.SetCount, refused, says)) is = absurd (let two : 2 ≡ 3 = sym (ap status_of says.1) ∙ is in omega (arith, two))
+setup_breaks o fault (inl (store.ServiceCount, refused, says)) is = absurd (let two : 2 ≡ 3 = sym (ap status_of says.1) ∙ is in omega (arith, two))
+setup_breaks o fault (inl (store.ServiceZero, refused, says)) is = absurd (let two : 2 ≡ 3 = sym (ap status_of says.1) ∙ is in omega (arith, two))
+setup_breaks o fault (inl (store.ServiceTwice, refused, says)) is = absurd (let two : 2 ≡ 3 = sym (ap status_of says.1) ∙ is in omega (arith, two))
+setup_breaks o fault (inr (address, none, apart)) is = absurd (let two : 2 ≡ 3 = sym (ap status_of address) ∙ is in omega (arith, two))
+
+encoder_breaks : (job : Job) (fault : RunFault) → IsEncoder job → RefusesJob job fault → status_of fault ≡ 3 → Fails fault
+encoder_breaks (Encoder site encoder sets services port connections turns) fault encodes refused is = setup_breaks (options site encoder sets services.items) fault refused is
+encoder_breaks job fault encodes refused is = absurd encodes
+
+server_refuses : (job : Job) (fault : RunFault) → IsServer job → RefusesJob job fault → status_of fault ≡ 2
+server_refuses (Server site encoder host port tries timeout turns reconnects) fault serves refused = ap status_of refused.0
+server_refuses job fault serves refused = absurd serves
+
+module _ (job : Job) (serves : IsServer job) (unread unread' held held' told told' : Option (List ℕ)) (unmoved unwritten unopened : Type 0) (fault : RunFault)
+    (sends : ((f : RunFault) × (stopped fault ≡ stopped f) × RefusesJob job f × unmoved × unwritten × unopened) ⊎ SendsAll job unread unread' held held' (stopped fault)) where
+  pub server_refused : status_of fault ≡ 1 → Wrote job unread unread' (Err fault) held held'
+  server_refused is = elim sends [
+    | inl (f, same, refused, reader, writer, connect) ↦ absurd (job_status job f refused (sym (ap status_of (same_fault fault f same)) ∙ is))
+    | inr sent ↦ sent_up_to job unread unread' held held' fault sent is
+  ]
+
+  pub server_undescribed : Begins told told' (error_lines fault) → status_of fault ≡ 2 → RefusesJob job fault × unmoved × unwritten × unopened
+  server_undescribed begins is = elim sends [
+    | inl (f, same, refused, reader, writer, connect) ↦ (subst (RefusesJob job) (sym (same_fault fault f same)) refused, reader, writer, connect)
+    | inr sent ↦
+        absurd
+        (let three = sent_or_not job unread unread' held held' told told' fault sent (λ one. let both = apart fault 1 2 one is in omega (arith, both)) begins in
+        let both = apart fault 3 2 three.0 is in omega (arith, both))
+  ]
+
+  pub server_failed : Begins told told' (error_lines fault) → status_of fault ≡ 3 → IsOutstanding job unread unread' held held' told told' ⊎ HasBroken told told'
+  server_failed begins is = elim sends [
+    | inl (f, same, refused, reader, writer, connect) ↦ absurd (let both = apart f 2 3 (server_refuses job f serves refused) (sym (ap status_of (same_fault fault f same)) ∙ is) in omega (arith, both))
+    | inr sent ↦ (sent_or_not job unread unread' held held' told told' fault sent (λ one. let both = apart fault 1 3 one is in omega (arith, both)) begins).1
+  ]
+
+-- ---- an encoder
+module _ {C I O : Type 0} (opens : C → Option (I × O) → C → Type 0) (remaining : I → Option (List ℕ)) (contents : O → Option (List ℕ)) (job : Job) (encodes : IsEncoder job) (c c' : C)
+    (held held' told told' : Option (List ℕ)) (unwritten unopened : Type 0) (fault : RunFault)
+    (serves : ((f : RunFault) × (stopped fault ≡ stopped f) × RefusesJob job f × unwritten × unopened) ⊎ Serves opens remaining contents job c c' held held' (stopped fault)) where
+  pub encoder_not_one : status_of fault ≢ 1
+  encoder_not_one is = elim serves [
+    | inl (f, same, refused, writer, connect) ↦ job_status job f refused (sym (ap status_of (same_fault fault f same)) ∙ is)
+    | inr (inl (listening, fewer)) ↦ (let both : 1 ≡ 3 = sym is ∙ ap status_of listening in omega (arith, both))
+    | inr (inr fails) ↦ (let both : 1 ≡ 3 = not_failed fault 1 fails is in omega (arith, both))
+  ]
+
+  pub encoder_undescribed : status_of fault ≡ 2 → RefusesJob job fault × unwritten × unopened
+  encoder_undescribed is = elim serves [
+    | inl (f, same, refused, writer, connect) ↦ (subst (RefusesJob job) (sym (same_fault fault f same)) refused, writer, connect)
+    | inr (inl (listening, fewer)) ↦ absurd (let both : 2 ≡ 3 = sym is ∙ ap status_of listening in omega (arith, both))
+    | inr (inr fails) ↦ absurd (let both : 2 ≡ 3 = not_failed fault 2 fails is in omega (arith, both))
+  ]
+
+  pub encoder_failed : Begins told told' (error_lines fault) → status_of fault ≡ 3 → HasNotListened opens remaining contents job c c' held held' told told' ⊎ HasBroken told told'
+  encoder_failed begins is = elim serves [
+    | inl (f, same, refused, writer, connect) ↦
+        (let same_as = same_fault fault f same in
+        inr (f, encoder_breaks job f encodes refused (sym (ap status_of same_as) ∙ is), subst (λ f. Begins told told' (error_lines f)) same_as begins))
+    | inr (inl (listening, fewer)) ↦ inl (fewer, subst (λ f. Begins told told' (error_lines f)) listening begins)
+    | inr (inr fails) ↦ inr (fault, fails, begins)
+  ]
+
+pub broken_failed : (told told' : Option (List ℕ)) → HasBroken told told' → HasFailed told told'
+broken_failed told told' (fault, fails, begins) = (fault, not_failed fault (status_of fault) fails refl, begins)
+
+-- ---- a run of a sender
+only_stops : {V : Type 0} (meaning : Meaning V) (v v' : V) (closing : V → List ℕ) (unread unread' held held' : Option (List ℕ)) (fault : RunFault) →
+    RunsOutWhole meaning v closing unread unread' held held' (Err fault) v' → Fails fault ⊎ (status_of fault ≡ 1) ⊎ (fault ≡ run.Outstanding)
+only_stops meaning v v' closing unread unread' held held' fault whole = elim whole [
+  | inl (f, same, fails) ↦ inl (subst Fails (sym (same_fault fault f same)) fails)
+  | inr (input, lines, is_input, ran, appends) ↦ elim (stops meaning v v' (texts_of input) lines fault ran) [
+    | inl (number, refusal, line) ↦ inr (inl (ap status_of line))
+    | inr out ↦ inr (inr out)
+  ]
+]
+
+-- the faults that no run over an input has
+abbrev pub IsOfNoRun : RunFault → Type 0
+IsOfNoRun (run.Services name) = Unit {0}
+IsOfNoRun run.Address = Unit {0}
+IsOfNoRun run.Listening = Unit {0}
+IsOfNoRun run.Connection = Unit {0}
+IsOfNoRun fault = ⊥
+
+no_run_fails : (fault : RunFault) → IsOfNoRun fault → Fails fault → ⊥
+no_run_fails (run.Services name) of fails = fails
+no_run_fails run.Address of fails = fails
+no_run_fails run.Listening of fails = fails
+no_run_fails run.Connection of fails = fails
+no_run_fails fault of fails = of
+
+no_run_one : (fault : RunFault) → IsOfNoRun fault → status_of fault ≡ 1 → ⊥
+no_run_one (run.Services name) of is = omega (arith, is)
+no_run_one run.Address of is = omega (arith, is)
+no_run_one run.Listening of is = omega (arith, is)
+no_run_one run.Connection of is = omega (arith, is)
+no_run_one fault of is = of
+
+pub not_by_a_run : {V : Type 0} (meaning : Meaning V) (v v' : V) (closing : V → List ℕ) (unread unread' held held' : Option (List ℕ)) (result : Result (Unit {0}) RunFault) (fault : RunFault) →
+    RunsOutWhole meaning v closing unread unread' held held' result v' → result ≡ Err fault → IsOfNoRun fault → ⊥
+not_by_a_run meaning v v' closing unread unread' held held' result fault whole is of =
+    elim (only_stops meaning v v' closing unread unread' held held' fault (subst (λ r. RunsOutWhole meaning v closing unread unread' held held' r v') is whole)) [
+      | inl fails ↦ no_run_fails fault of fails
+      | inr (inl one) ↦ no_run_one fault of one
+      | inr (inr out) ↦ subst IsOfNoRun out of
+    ]
+
+said_fails : (fault : RunFault) (why : Option Outstanding) → Fails fault → said fault why ≡ fault
+said_fails run.TooLong why fails = refl
+said_fails run.Reading why fails = refl
+said_fails run.Writing why fails = refl
+said_fails run.OutOfMemory why fails = refl
+said_fails fault why fails = absurd fails
+
+pub lines_sent : (s s' : SenderState) (unread unread' held held' : Option (List ℕ)) → RunsOutWhole Sends s (λ _. []) unread unread' held held' went s' → SendsLines s unread unread' held held' went
+lines_sent s s' unread unread' held held' whole = elim whole [
+  | inl (f, same, fails) ↦ absurd (no_fault f same)
+  | inr (input, lines, is_input, ran, appends) ↦ inr (input, lines, s', is_input, subst (Appends held held') (append-nil lines) appends, ran)
+]
+
+pub lines_stopped : (s s' : SenderState) (unread unread' held held' : Option (List ℕ)) (fault : RunFault) →
+    RunsOutWhole Sends s (λ _. []) unread unread' held held' (Err fault) s' → SendsLines s unread unread' held held' (Err (said fault s'.why))
+lines_stopped s s' unread unread' held held' fault whole = elim whole [
+  | inl (f, same, fails) ↦
+      (let is_f = same_fault fault f same in
+      let breaks = subst Fails (sym is_f) fails in
+      inl (fault, ap stopped (said_fails fault s'.why breaks), breaks))
+  | inr (input, lines, is_input, ran, appends) ↦ inr (input, lines, s', is_input, appends, (fault, ran, refl))
+]
+
+-- ---- a run of connections
+-- What was served of an encoder with these options: all connections; or fewer.
+abbrev pub ServedBy : {C I O : Type 0} → (opens : C → Option (I × O) → C → Type 0) → (remaining : I → Option (List ℕ)) → (contents : O → Option (List ℕ)) → (connections turns : ℕ) → C → C → (held held' : Option (List ℕ)) → Options → Type 0
+ServedBy opens remaining contents connections turns c c' held held' o =
+    IsSetup o × ((outcomes : List Outcome) × (e' : EncoderState Store) × (length outcomes ≡ connections) × Sessions step opens remaining contents turns (encoder_at_first o) c outcomes e' c' × Appends held held' (connection_lines 1 outcomes))
+
+abbrev pub FewerBy : {C I O : Type 0} → (opens : C → Option (I × O) → C → Type 0) → (remaining : I → Option (List ℕ)) → (contents : O → Option (List ℕ)) → (connections turns : ℕ) → C → C → (held held' : Option (List ℕ)) → Options → Type 0
+FewerBy {C} opens remaining contents connections turns c c' held held' o =
+    IsSetup o
+    × ((outcomes : List Outcome) × (e' : EncoderState Store) × (last : C) × (length outcomes < connections) × Sessions step opens remaining contents turns (encoder_at_first o) c outcomes e' last × opens last None c'
+    × Appends held held' (connection_lines 1 outcomes))
+
+module _ {C I O : Type 0} (opens : C → Option (I × O) → C → Type 0) (remaining : I → Option (List ℕ)) (contents : O → Option (List ℕ)) (connections turns : ℕ) (c c' : C) (held held' : Option (List ℕ)) (o : Options) (e e' : EncoderState Store)
+    (is_setup : IsSetup o) (at_first : e ≡ encoder_at_first o) where
+  pub served_by : (outcomes : List Outcome) × (length outcomes ≡ connections) × Sessions step opens remaining contents turns e c outcomes e' c' × Appends held held' (connection_lines 1 outcomes) →
+      ServedBy opens remaining contents connections turns c c' held held' o
+  served_by (outcomes, count, sessions, appends) = (is_setup, (outcomes, e', count, subst (λ first. Sessions step opens remaining contents turns first c outcomes e' c') at_first sessions, appends))
+
+  pub fewer_by : (outcomes : List Outcome) × (last : C) × (length outcomes < connections) × Sessions step opens remaining contents turns e c outcomes e' last × opens last None c' × Appends held held' (connection_lines 1 outcomes) →
+      FewerBy opens remaining contents connections turns c c' held held' o
+  fewer_by (outcomes, last, count, sessions, none, appends) = (is_setup, (outcomes, e', last, count, subst (λ first. Sessions step opens remaining contents turns first c outcomes e' last) at_first sessions, none, appends))
+
+-- connections that stopped for this
+abbrev pub halted : ServeStop → Result (Unit {0}) ServeStop
+halted stop = Err stop
+
+pub few_statuses : (fault : RunFault) (status : ℕ) → status ≡ status_of fault → status ≤ 3
+few_statuses (run.Line number refusal) status is = omega arith
+few_statuses (run.Services name) status is = omega arith
+few_statuses run.Address status is = omega arith
+few_statuses fault status is = omega arith
+
+pub sent_all : (job : Job) (unread unread' held held' : Option (List ℕ)) (unmoved unwritten unopened : Type 0) → IsDescribed job →
+    ((f : RunFault) × (went ≡ stopped f) × RefusesJob job f × unmoved × unwritten × unopened) ⊎ SendsAll job unread unread' held held' went → IsDone job unread unread' held held' × AreAcknowledged unread unread' held held'
+sent_all job unread unread' held held' unmoved unwritten unopened described sends = elim sends [
+  | inl refused ↦ absurd (no_fault refused.0 refused.1)
+  | inr all ↦ sent job unread unread' held held' described all
+]
+
+pub sender_is : (s : SenderState) (server : ServerState) (address site encoder tries turns reconnects : ℕ) →
+    s ≡ record { server = server; tries = tries; turns = turns; left = reconnects; why = None } → server ≡ idle_at address → address ≡ address_of site encoder → s ≡ sender_at_first site encoder tries turns reconnects
+sender_is s server address site encoder tries turns reconnects made idle is =
+    made ∙ ap (λ (server : ServerState). let s : SenderState = record { server = server; tries = tries; turns = turns; left = reconnects; why = None } in s) (idle ∙ ap idle_at is)

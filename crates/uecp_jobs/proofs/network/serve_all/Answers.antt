@@ -1,0 +1,39 @@
+use Rattle.std.proofs.Common.{sym, ap, subst, inl, inr}
+use Rattle.uecp_jobs.specs.Jobs.{options}
+use Rattle.uecp_jobs.specs.Networks.{ServedAll, ServedFewer}
+use Rattle.uecp_jobs.proofs.Networks.{ServedBy, FewerBy, served_by, fewer_by, halted}
+use Rattle.uecp_jobs.proofs.network.serve_all.Goals as goal
+
+pub returns-in-Ok : goal.returns-in-Ok
+returns-in-Ok g c =
+    let opens = g.C.Connect.opens in
+    let left = g.C.Input.Read.remaining in
+    let sent = g.C.Output.Write.contents in
+    let held = g.W.Write.contents in
+    let i = c.in-Encoder in
+    let e = c.in_ok-encoder-in-Encoder in
+    let now = c.serve_connections.new in
+    inr (subst (λ job. ServedAll opens left sent job c.args.connect.now now.connect (held c.args.writer.now) (held now.writer)) (sym i.is)
+    (subst (λ services. ServedBy opens left sent i.connections i.turns c.args.connect.now now.connect (held c.args.writer.now) (held now.writer) (options i.site i.encoder i.sets services)) c.as_slice-services.ensures.value
+    (served_by opens left sent i.connections i.turns c.args.connect.now now.connect (held c.args.writer.now) (held now.writer) (options i.site i.encoder i.sets c.as_slice-services.result.now) e.encoder now.encoder
+    e.ensures.described e.ensures.made c.in-Ok.ensures.served)))
+
+pub returns-in-Encoder : goal.returns-in-Encoder
+returns-in-Encoder g c =
+    let opens = g.C.Connect.opens in
+    let left = g.C.Input.Read.remaining in
+    let sent = g.C.Output.Write.contents in
+    let held = g.W.Write.contents in
+    let i = c.in-Encoder in
+    let e = c.in_ok-encoder-in-Encoder in
+    let now = c.serve_connections.new in
+    inr (elim c.fault_of_stop.ensures [
+      | inl (was, is) ↦ inl (
+        is,
+        subst (λ job. ServedFewer opens left sent job c.args.connect.now now.connect (held c.args.writer.now) (held now.writer)) (sym i.is)
+            (subst (λ services. FewerBy opens left sent i.connections i.turns c.args.connect.now now.connect (held c.args.writer.now) (held now.writer) (options i.site i.encoder i.sets services)) c.as_slice-services.ensures.value
+            (fewer_by opens left sent i.connections i.turns c.args.connect.now now.connect (held c.args.writer.now) (held now.writer) (options i.site i.encoder i.sets c.as_slice-services.result.now) e.encoder now.encoder
+            e.ensures.described e.ensures.made (c.in-Err.ensures.refused (ap halted was)))),
+      )
+      | inr fails ↦ inr fails
+    ])

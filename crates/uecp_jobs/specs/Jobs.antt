@@ -1,0 +1,84 @@
+-- What each job of the program does (profile).
+use Rattle.std.specs.Prelude.{◌≡◌, ℕ, ◌⊎◌, List, [], Option, None, Result, Ok, Err}
+use Rattle.std.specs.Io.KnownBytes.{Appends}
+use Rattle.uecp_frame.specs.Findings.{Closed}
+use Rattle.uecp_jobs.specs.declared.job.Job.{Job}
+use Rattle.uecp_jobs.specs.declared.job.Job.TheVariants.{Answer, Show, Make, Line, Encoder, Server}
+use Rattle.uecp_text.specs.declared.run_fault.RunFault.{RunFault}
+use Rattle.uecp_text.specs.Faults.{Fails, status_of, error_lines}
+use Rattle.uecp_text.specs.Written.{Begins}
+use Rattle.uecp_text.specs.Run.{IsInput, Prints}
+use Rattle.uecp_jobs.specs.Setups.{Options, IsOneEncoder, IsSetup, RefusesSetup, RefusesAddress, encoder_at_first, line_at_first, sender_at_first}
+use Rattle.uecp_lines.specs.StoreLines.{last_lines}
+use Rattle.uecp_jobs.specs.Commands.{Shows, Answers}
+use Rattle.uecp_jobs.specs.FrameScript.{Makes, spelled_line}
+use Rattle.uecp_jobs.specs.Playing.{Plays, closing_lines}
+use Rattle.uecp_net.specs.Sending.{Sends}
+
+-- The options of a job that has an encoder.
+abbrev pub options : (site encoder sets : ℕ) (services : List ℕ) → Options
+options site encoder sets services = record { site = site; encoder = encoder; sets = sets; services = services }
+
+-- The job is that of a command without a connection.
+abbrev pub IsLocal : Job → Type 0
+IsLocal (Encoder site encoder sets services port connections turns) = ⊥
+IsLocal (Server site encoder host port tries timeout turns reconnects) = ⊥
+IsLocal job = Unit {0}
+
+-- What the job writes of an input, by its command: the lines of the texts, and the closing ones where no line is refused; the result names the refused line. An encoder
+-- over connections reads no input.
+abbrev pub JobPrints : Job → (input : List ℕ) → Result (Unit {0}) RunFault → (written : List ℕ) → Type 0
+JobPrints Show input result written = Prints Shows Closed (λ part. []) input result written
+JobPrints Make input result written = Prints Makes None spelled_line input result written
+JobPrints (Answer site encoder sets services store) input result written =
+    Prints Answers (encoder_at_first (options site encoder sets services.items)) (λ e. last_lines store e.value) input result written
+JobPrints (Line site encoder sets services store) input result written =
+    Prints Plays (line_at_first (options site encoder sets services.items)) (closing_lines store) input result written
+JobPrints (Server site encoder host port tries timeout turns reconnects) input result written =
+    Prints Sends (sender_at_first site encoder tries turns reconnects) (λ s. []) input result written
+JobPrints (Encoder site encoder sets services port connections turns) input result written = ⊥
+
+-- The options of a job describe an encoder, or where it is a server the address of one.
+abbrev pub IsDescribed : Job → Type 0
+IsDescribed Show = Unit {0}
+IsDescribed Make = Unit {0}
+IsDescribed (Answer site encoder sets services store) = IsSetup (options site encoder sets services.items)
+IsDescribed (Line site encoder sets services store) = IsSetup (options site encoder sets services.items)
+IsDescribed (Encoder site encoder sets services port connections turns) = IsSetup (options site encoder sets services.items)
+IsDescribed (Server site encoder host port tries timeout turns reconnects) = IsOneEncoder site encoder
+
+-- The options of the job describe no encoder, and this is said.
+abbrev pub RefusesJob : Job → RunFault → Type 0
+RefusesJob Show fault = ⊥
+RefusesJob Make fault = ⊥
+RefusesJob (Answer site encoder sets services store) fault = RefusesSetup (options site encoder sets services.items) fault
+RefusesJob (Line site encoder sets services store) fault = RefusesSetup (options site encoder sets services.items) fault
+RefusesJob (Encoder site encoder sets services port connections turns) fault = RefusesSetup (options site encoder sets services.items) fault
+RefusesJob (Server site encoder host port tries timeout turns reconnects) fault = RefusesAddress site encoder fault
+
+-- The writer got what the job writes of all that the reader had left, as far as both tell.
+abbrev pub Wrote : Job → (unread unread' : Option (List ℕ)) → Result (Unit {0}) RunFault → (held held' : Option (List ℕ)) → Type 0
+Wrote job unread unread' result held held' =
+    (input : List ℕ) × (written : List ℕ) × IsInput unread unread' input × JobPrints job input result written × Appends held held' written
+
+-- The job was done, up to the line that was refused if there is one. Or it failed.
+abbrev pub DoesJob : Job → (unread unread' : Option (List ℕ)) → (held held' : Option (List ℕ)) → Result (Unit {0}) RunFault → Type 0
+DoesJob job unread unread' held held' result = ((fault : RunFault) × (result ≡ Err fault) × Fails fault) ⊎ Wrote job unread unread' result held held'
+
+-- ---- how a job ends
+-- All of it was done.
+abbrev pub IsDone : Job → (unread unread' held held' : Option (List ℕ)) → Type 0
+IsDone job unread unread' held held' = IsDescribed job × Wrote job unread unread' (Ok tt) held held'
+
+-- A line was refused: what the lines before it bring was written, and what is wrong with it was said on standard error, or begun to be said.
+abbrev pub IsRefused : Job → (unread unread' held held' told told' : Option (List ℕ)) → Type 0
+IsRefused job unread unread' held held' told told' =
+    (fault : RunFault) × (status_of fault ≡ 1) × Wrote job unread unread' (Err fault) held held' × Begins told told' (error_lines fault)
+
+-- The options of the job describe no encoder, and that was said, or begun to be said.
+abbrev pub IsUndescribed : Job → (told told' : Option (List ℕ)) → Type 0
+IsUndescribed job told told' = (fault : RunFault) × RefusesJob job fault × Begins told told' (error_lines fault)
+
+-- A run failed, or a text ended it, and that was said, or begun to be said.
+abbrev pub HasFailed : (told told' : Option (List ℕ)) → Type 0
+HasFailed told told' = (fault : RunFault) × (status_of fault ≡ 3) × Begins told told' (error_lines fault)

@@ -1,0 +1,9 @@
+-- The definitions that the contracts of jobs cite.
+pub mod Setups
+pub mod Commands
+pub mod Streams
+pub mod FrameScript
+pub mod Playing
+pub mod Headlines
+pub mod Jobs
+pub mod Networks

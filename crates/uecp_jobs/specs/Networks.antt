@@ -1,0 +1,122 @@
+-- What the jobs with connections do, and how they end (profile).
+use Rattle.std.specs.Prelude.{◌≡◌, ◌⊎◌, ◌<◌, ◌++◌, ℕ, List, codes, length, Option, Some, None, Result, Ok, Err, MatchResult}
+use Rattle.std.specs.Io.KnownBytes.{Appends}
+use Rattle.rds_store.specs.Value.{Store}
+use Rattle.rds_store.specs.Step.{step}
+use Rattle.uecp_elements.specs.declared.code.Code.{Code}
+use Rattle.uecp_encoder.specs.State.{EncoderState}
+use Rattle.uecp_text.specs.declared.run_fault.RunFault.{RunFault}
+use Rattle.uecp_text.specs.declared.run_fault.RunFault.TheVariants as run
+use Rattle.uecp_text.specs.Faults.{Fails, error_lines}
+use Rattle.uecp_text.specs.Input.{texts_of}
+use Rattle.uecp_text.specs.Run.{Runs, IsInput}
+use Rattle.uecp_text.specs.Written.{Begins}
+use Rattle.uecp_net.specs.declared.sending.Outstanding.{Outstanding}
+use Rattle.uecp_net.specs.declared.sending.Outstanding.TheVariants.{ConnectionFailed}
+use Rattle.uecp_net.specs.Sending.{SenderState, Sends, acknowledged_lines}
+use Rattle.uecp_net.specs.Sessions.{Outcome, Sessions, connection_lines}
+use Rattle.uecp_jobs.specs.declared.job.Job.{Job}
+use Rattle.uecp_jobs.specs.declared.job.Job.TheVariants.{Encoder, Server}
+use Rattle.uecp_jobs.specs.declared.network.Stop.{Stop}
+use Rattle.uecp_jobs.specs.declared.network.Stop.TheVariants as stop
+use Rattle.uecp_jobs.specs.Setups.{IsSetup, encoder_at_first, sender_at_first}
+use Rattle.uecp_jobs.specs.Jobs.{options}
+
+-- The job is that of `encoder`.
+abbrev pub IsEncoder : Job → Type 0
+IsEncoder (Encoder site encoder sets services port connections turns) = Unit {0}
+IsEncoder job = ⊥
+
+-- The job is that of `server`.
+abbrev pub IsServer : Job → Type 0
+IsServer (Server site encoder host port tries timeout turns reconnects) = Unit {0}
+IsServer job = ⊥
+
+-- Memory, reading or writing failed, and that was said, or begun to be said.
+abbrev pub HasBroken : (told told' : Option (List ℕ)) → Type 0
+HasBroken told told' = (fault : RunFault) × Fails fault × Begins told told' (error_lines fault)
+
+-- ---- `encoder`
+-- The options describe an encoder. It served as many connections as it should, one after another, each from the state that the one before left, and the writer got the line of each.
+abbrev pub ServedAll : {C I O : Type 0} → (opens : C → Option (I × O) → C → Type 0) → (remaining : I → Option (List ℕ)) → (contents : O → Option (List ℕ)) → Job → C → C → (held held' : Option (List ℕ)) → Type 0
+ServedAll opens remaining contents (Encoder site encoder sets services port connections turns) c c' held held' =
+    IsSetup (options site encoder sets services.items)
+    × ((outcomes : List Outcome) × (e' : EncoderState Store) × (length outcomes ≡ connections)
+    × Sessions step opens remaining contents turns (encoder_at_first (options site encoder sets services.items)) c outcomes e' c'
+    × Appends held held' (connection_lines 1 outcomes))
+ServedAll opens remaining contents job c c' held held' = ⊥
+
+-- The options describe an encoder. It served fewer connections, the writer got the line of each, and then there was no connection to be had.
+abbrev pub ServedFewer : {C I O : Type 0} → (opens : C → Option (I × O) → C → Type 0) → (remaining : I → Option (List ℕ)) → (contents : O → Option (List ℕ)) → Job → C → C → (held held' : Option (List ℕ)) → Type 0
+ServedFewer {C} opens remaining contents (Encoder site encoder sets services port connections turns) c c' held held' =
+    IsSetup (options site encoder sets services.items)
+    × ((outcomes : List Outcome) × (e' : EncoderState Store) × (last : C) × (length outcomes < connections)
+    × Sessions step opens remaining contents turns (encoder_at_first (options site encoder sets services.items)) c outcomes e' last × opens last None c'
+    × Appends held held' (connection_lines 1 outcomes))
+ServedFewer opens remaining contents job c c' held held' = ⊥
+
+-- What was served, by the result: all connections; or fewer, where there was none to be had. Or the run failed.
+abbrev pub Serves : {C I O : Type 0} → (opens : C → Option (I × O) → C → Type 0) → (remaining : I → Option (List ℕ)) → (contents : O → Option (List ℕ)) → Job → C → C → (held held' : Option (List ℕ)) → Result (Unit {0}) RunFault → Type 0
+Serves opens remaining contents job c c' held held' result =
+    MatchResult result
+    (λ _. ServedAll opens remaining contents job c c' held held')
+    (λ fault. ((fault ≡ run.Listening) × ServedFewer opens remaining contents job c c' held held') ⊎ Fails fault)
+
+-- There was no connection to be had: fewer were served than should be, and that was said, or begun to be said.
+abbrev pub HasNotListened : {C I O : Type 0} → (opens : C → Option (I × O) → C → Type 0) → (remaining : I → Option (List ℕ)) → (contents : O → Option (List ℕ)) → Job → C → C → (held held' told told' : Option (List ℕ)) → Type 0
+HasNotListened opens remaining contents job c c' held held' told told' =
+    ServedFewer opens remaining contents job c c' held held' × Begins told told' (error_lines run.Listening)
+
+-- What is left to say of connections of which nothing is known: the options describe an encoder, and the writer got the lines of as many connections as it should serve.
+abbrev pub HasServed : Job → (held held' : Option (List ℕ)) → Type 0
+HasServed (Encoder site encoder sets services port connections turns) held held' =
+    IsSetup (options site encoder sets services.items) × ((outcomes : List Outcome) × (length outcomes ≡ connections) × Appends held held' (connection_lines 1 outcomes))
+HasServed job held held' = ⊥
+
+-- ---- `server`
+-- The fault that a run of a sender ends with: where a message is outstanding since no connection is left, that.
+abbrev pub said : RunFault → (why : Option Outstanding) → RunFault
+said run.Outstanding (Some ConnectionFailed) = run.Connection
+said fault why = fault
+
+-- Why a run stopped, as its fault.
+abbrev pub as_fault : Stop → RunFault
+as_fault (stop.Line number refusal) = run.Line number refusal
+as_fault stop.TooLong = run.TooLong
+as_fault stop.Reading = run.Reading
+as_fault stop.Writing = run.Writing
+as_fault stop.OutOfMemory = run.OutOfMemory
+as_fault stop.Outstanding = run.Outstanding
+
+abbrev pub as_run : Result (Unit {0}) Stop → Result (Unit {0}) RunFault
+as_run (Ok done) = Ok done
+as_run (Err stop) = Err (as_fault stop)
+
+-- From this sender on, the messages of all that the reader had left were sent, as far as the result says, and the writer got the lines of that, as far as both tell. Or the run failed.
+abbrev pub SendsLines : SenderState → (unread unread' held held' : Option (List ℕ)) → Result (Unit {0}) RunFault → Type 0
+SendsLines s unread unread' held held' result =
+    ((fault : RunFault) × (result ≡ Err fault) × Fails fault)
+    ⊎ ((input : List ℕ) × (lines : List ℕ) × (s' : SenderState) × IsInput unread unread' input × Appends held held' lines
+    × MatchResult result
+    (λ _. Runs Sends s (texts_of input) lines None s')
+    (λ fault. (first : RunFault) × Runs Sends s (texts_of input) lines (Some first) s' × (fault ≡ said first s'.why)))
+
+-- The same from the sender that the options describe.
+abbrev pub SendsAll : Job → (unread unread' held held' : Option (List ℕ)) → Result (Unit {0}) RunFault → Type 0
+SendsAll (Server site encoder host port tries timeout turns reconnects) unread unread' held held' result =
+    SendsLines (sender_at_first site encoder tries turns reconnects) unread unread' held held' result
+SendsAll job unread unread' held held' result = ⊥
+
+-- The writer got one line for each message of all that the reader had left, in order, with the code and the tries of its acknowledgement, as far as both tell.
+abbrev pub AreAcknowledged : (unread unread' held held' : Option (List ℕ)) → Type 0
+AreAcknowledged unread unread' held held' =
+    (input : List ℕ) × (told : List (Code × ℕ)) × IsInput unread unread' input × (length told ≡ length (texts_of input)) × Appends held held' (acknowledged_lines told)
+
+-- A message is outstanding: the writer got the lines of the messages before it, and its own; and where no connection was left that was said, or begun to be said, and nothing where the tries were spent.
+abbrev pub IsOutstanding : Job → (unread unread' held held' told told' : Option (List ℕ)) → Type 0
+IsOutstanding (Server site encoder host port tries timeout turns reconnects) unread unread' held held' told told' =
+    (input : List ℕ) × (lines : List ℕ) × (s' : SenderState) × IsInput unread unread' input × Appends held held' lines
+    × Runs Sends (sender_at_first site encoder tries turns reconnects) (texts_of input) lines (Some run.Outstanding) s'
+    × ((acknowledged : List (Code × ℕ)) × (length acknowledged < length (texts_of input)) × (lines ≡ acknowledged_lines acknowledged ++ codes "outstanding\n"))
+    × Begins told told' (error_lines (said run.Outstanding s'.why))
+IsOutstanding job unread unread' held held' told told' = ⊥

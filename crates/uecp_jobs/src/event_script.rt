@@ -1,0 +1,113 @@
+//! The command `line` (profile).
+ghost use Rattle.std.specs.Prelude.{◌≡◌, ◌⊎◌, ℕ, List, IfOk, IfErr};
+ghost use Rattle.uecp_link.specs.Once.{FrameComes, ReplyComes};
+ghost use Rattle.uecp_link.specs.Events.{event_of};
+ghost use Rattle.uecp_text.specs.Written.{Adds};
+ghost use Rattle.uecp_text.specs.declared.run_fault.RunFault.TheVariants.{OutOfMemory};
+ghost use Rattle.uecp_words.specs.EventWords.{event_seen, named_message};
+ghost use Rattle.uecp_jobs.specs.Playing.{PlaysEvent, Plays, closing_lines};
+ghost use Rattle.uecp_jobs.specs.Setups.{options_of, IsSetup, RefusesSetup, line_at_first};
+
+use crate::setup::{Setup, new_line};
+use rds_store::RdsStore;
+use std::alloc::Global;
+use uecp_lines::{put_last, put_step, put_totals};
+use uecp_link::{Line, LineEvent, Side};
+use uecp_text::{Interpreter, LineFault, Output, RunFault, Taken, words_of};
+use uecp_words::{EventLine, event_of};
+
+/// Plays events on a line and says what came of each; then the totals and, where that is asked for, the store.
+#[derive(Drop)]
+pub struct Playing {
+    line: Line<RdsStore>,
+    store: bool,
+}
+
+impl Playing {
+    /// A new line to the encoder that the options describe, with an opening store. The services are judged before the
+    /// address; `OutOfMemory` where there is no memory.
+    pub fn new(alloc: Global, setup: &Setup<'_>, store: bool) -> Result<Playing, RunFault>
+        ensures described { IfOk result (λ p. IsSetup (options_of setup.now)) }
+        ensures made { IfOk result (λ p. (p.line ≡ line_at_first (options_of setup.now)) × (p.store ≡ store)) }
+        ensures refused { IfErr result (λ fault. (fault ≡ OutOfMemory) ⊎ RefusesSetup (options_of setup.now) fault) }
+    {
+        let line = new_line(alloc, setup)?;
+        Ok(Playing { line, store })
+    }
+}
+
+impl Interpreter for Playing {
+    ghost meaning = { λ p text outcome p'. Plays p.line text outcome p'.line × (p'.store ≡ p.store) };
+
+    ghost closing = { λ p. closing_lines p.store p.line };
+
+    fn take(
+        &mut self,
+        alloc: Global,
+        text: &[u8],
+        output: &mut Output,
+    ) -> Result<Taken, LineFault> {
+        let words = words_of(alloc, text)?;
+        let event = event_of(alloc, words.as_slice())?;
+        play_event(&mut self.line, &event, output);
+        output.check()?;
+        Ok(Taken::GoesOn)
+    }
+
+    fn close(&self, output: &mut Output) {
+        put_closing(&self.line, self.store, output);
+    }
+}
+
+/// The totals of a line, and its store where that is asked for.
+fn put_closing(line: &Line<RdsStore>, store: bool, output: &mut Output)
+    ensures { Adds output.old output.new (closing_lines store line.now) }
+{
+    put_totals(line, output);
+    put_last(line.encoder().target(), store, output);
+}
+
+/// Plays one event, and says what came of it.
+fn play_event(line: &mut Line<RdsStore>, event: &EventLine, output: &mut Output)
+    ensures { (lines : List ℕ) × PlaysEvent line.old (event_seen event.now) lines line.new × Adds output.old output.new lines }
+{
+    let event = line_event(event);
+    let number = named_message(&event);
+    put_step(line.step(&event), number, output);
+}
+
+/// The event as it happens on the line.
+fn line_event(event: &EventLine) -> LineEvent<'_>
+    ensures { event_of result ≡ event_seen event.now }
+{
+    match event {
+        EventLine::Submit(message) => LineEvent::Submit(message),
+        EventLine::Frame(number, cut) => frame_event(*number, cut.as_slice()),
+        EventLine::Reply(number, cut) => reply_event(*number, cut.as_slice()),
+        EventLine::Noise(Side::Encoder, bytes) => LineEvent::NoiseToEncoder(bytes.as_slice()),
+        EventLine::Noise(Side::Server, bytes) => LineEvent::NoiseToServer(bytes.as_slice()),
+        EventLine::LineLost(side) => LineEvent::LineLost(*side),
+    }
+}
+
+fn frame_event(number: usize, cut: &[u16]) -> LineEvent<'_>
+    ensures { event_of result ≡ FrameComes number }
+{
+    LineEvent::Frame { number, cut }
+}
+
+fn reply_event(number: usize, cut: &[u16]) -> LineEvent<'_>
+    ensures { event_of result ≡ ReplyComes number }
+{
+    LineEvent::Reply { number, cut }
+}
+
+/// The number of the message that the event names, or 0 where it names none.
+fn named_message(event: &LineEvent<'_>) -> usize
+    ensures { result ≡ named_message (event_of event.now) }
+{
+    match *event {
+        LineEvent::Frame { number, .. } | LineEvent::Reply { number, .. } => number,
+        _ => 0,
+    }
+}

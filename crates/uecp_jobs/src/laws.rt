@@ -1,0 +1,21 @@
+//! Laws of the definitions, each the contract of a function that does nothing.
+ghost use Rattle.uecp_jobs.specs.Streams.{ShowsOneStream, AnswersOneStream};
+ghost use Rattle.uecp_jobs.specs.Headlines.{ScriptsKeepHeadline};
+
+/// Where no text is refused, what `show` writes depends on the bytes alone that its pieces spell, joined: it is what stands in
+/// one stream.
+pub fn shows_one_stream()
+    ensures { ShowsOneStream }
+{}
+
+/// Where no text is refused, what `answer` writes depends on those bytes alone: it is what the encoder responds to one stream.
+pub fn answers_one_stream()
+    ensures { AnswersOneStream }
+{}
+
+/// After any script of `line`, also one that stops at a refused line, the encoder's store is what a prefix of the sent
+/// messages makes, each applied once and in order; every message that is acknowledged is in it with its one reply, and every
+/// message that is missing is still outstanding.
+pub fn scripts_keep_the_headline()
+    ensures { ScriptsKeepHeadline }
+{}

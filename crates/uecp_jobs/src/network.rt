@@ -1,0 +1,224 @@
+//! The jobs with connections, from their input to their exit status (profile).
+ghost use Rattle.std.specs.Prelude.{◌≡◌, ◌≢◌, ◌⊎◌, ◌≤◌, Err, IfOk};
+ghost use Rattle.uecp_text.specs.declared.run_fault.RunFault.{RunFault};
+ghost use Rattle.uecp_net.specs.declared.serving.ServeStop.TheVariants.{ListeningFailed};
+ghost use Rattle.uecp_text.specs.Faults.{Fails};
+ghost use Rattle.uecp_text.specs.Streaming.{RunsOutWhole};
+ghost use Rattle.uecp_text.specs.declared.run_fault.RunFault.TheVariants.{Listening};
+ghost use Rattle.uecp_jobs.specs.Jobs.{IsDescribed, RefusesJob, IsDone, IsRefused, IsUndescribed};
+ghost use Rattle.uecp_jobs.specs.Networks.{IsEncoder, IsServer, ServedAll, Serves, HasNotListened, HasBroken, as_fault, as_run, SendsLines, SendsAll, AreAcknowledged, IsOutstanding, said};
+
+use crate::job::Job;
+use crate::run::fail;
+use crate::setup::{Setup, address_of, new_encoder};
+use std::alloc::Global;
+use std::io::{Read, Write};
+use uecp_link::Server;
+use uecp_net::{Connect, Outstanding, Sender, ServeStop, serve_connections};
+use uecp_text::{Interpreter, LineFault, RunFault, run_line_by_line};
+
+/// Why a run over an input stopped: the faults of such a run alone.
+#[derive(Clone, Copy, Debug)]
+pub enum Stop {
+    /// The line of this number, counted from 1, was refused.
+    Line(usize, LineFault),
+    /// The input has more than 1,048,576 bytes.
+    TooLong,
+    /// The input could not be read.
+    Reading,
+    /// The output could not be written.
+    Writing,
+    /// There was no memory.
+    OutOfMemory,
+    /// A message is outstanding.
+    Outstanding,
+}
+
+/// Does the job of `encoder` and answers the exit status: 0 done, 2 the services were refused, 3 there was no connection to be
+/// had, or memory or writing failed. Each line is written out before the next connection is opened.
+pub fn run_encoder<W: Write, E: Write, C: Connect>(
+    alloc: Global,
+    job: &Job,
+    writer: &mut W,
+    errors: &mut E,
+    connect: &mut C,
+) -> u8
+    requires { IsEncoder job.now }
+    ensures status { (result ≤ 3) × (result ≢ 1) }
+    // 0: all connections were served, and each has its line. Nothing was said on `errors`.
+    ensures done { result ≡ 0 → ServedAll C.opens C.Input.remaining C.Output.contents job.now connect.old connect.new (W.contents writer.old) (W.contents writer.new) × (errors.new ≡ errors.old) }
+    // 2: the options describe no encoder. No connection was opened, and nothing was written.
+    ensures undescribed { result ≡ 2 → IsUndescribed job.now (E.contents errors.old) (E.contents errors.new) × (writer.new ≡ writer.old) × (connect.new ≡ connect.old) }
+    // 3: there was no connection to be had; or memory or writing failed.
+    ensures failed { result ≡ 3 → HasNotListened C.opens C.Input.remaining C.Output.contents job.now connect.old connect.new (W.contents writer.old) (W.contents writer.new) (E.contents errors.old) (E.contents errors.new) ⊎ HasBroken (E.contents errors.old) (E.contents errors.new) }
+{
+    match serve_all(alloc, job, writer, connect) {
+        Ok(()) => 0,
+        Err(fault) => fail(&fault, errors),
+    }
+}
+
+/// Serves the connections of the job. The options are judged before the first is opened.
+fn serve_all<W: Write, C: Connect>(
+    alloc: Global,
+    job: &Job,
+    writer: &mut W,
+    connect: &mut C,
+) -> Result<(), RunFault>
+    requires { IsEncoder job.now }
+    ensures { ((fault : RunFault) × (result ≡ Err fault) × RefusesJob job.now fault × (writer.new ≡ writer.old) × (connect.new ≡ connect.old)) ⊎ Serves C.opens C.Input.remaining C.Output.contents job.now connect.old connect.new (W.contents writer.old) (W.contents writer.new) result }
+{
+    match job {
+        Job::Encoder {
+            site,
+            encoder,
+            sets,
+            services,
+            connections,
+            turns,
+            ..
+        } => {
+            let services = services.as_slice();
+            let setup = Setup {
+                site: *site,
+                encoder: *encoder,
+                sets: *sets,
+                services,
+            };
+            let mut encoder = new_encoder(alloc, &setup)?;
+            match serve_connections(alloc, &mut encoder, *connections, *turns, connect, writer) {
+                Ok(()) => Ok(()),
+                Err(stop) => Err(fault_of_stop(stop)),
+            }
+        }
+        _ => unreachable!(),
+    }
+}
+
+/// The fault of a run that stopped for this.
+fn fault_of_stop(stop: ServeStop) -> RunFault
+    ensures { ((stop ≡ ListeningFailed) × (result ≡ Listening)) ⊎ Fails result }
+{
+    match stop {
+        ServeStop::ListeningFailed => RunFault::Listening,
+        ServeStop::WritingFailed => RunFault::Writing,
+        ServeStop::OutOfMemory => RunFault::OutOfMemory,
+    }
+}
+
+/// Does the job of `server` and answers the exit status: 0 done, 1 a line was refused, 2 the address was refused, 3 a message is
+/// outstanding, or memory, reading or writing failed. Each line is written out before the next message is sent.
+pub fn run_server<R: Read, W: Write, E: Write, C: Connect>(
+    alloc: Global,
+    job: &Job,
+    reader: &mut R,
+    writer: &mut W,
+    errors: &mut E,
+    connect: &mut C,
+) -> u8
+    requires { IsServer job.now }
+    ensures status { result ≤ 3 }
+    // 0: all messages of the input were acknowledged, and what was said of each was written. Nothing was said on `errors`.
+    ensures done { result ≡ 0 → IsDone job.now (R.remaining reader.old) (R.remaining reader.new) (W.contents writer.old) (W.contents writer.new) × (errors.new ≡ errors.old) }
+    // 0: that is one line for each message, in order.
+    ensures acknowledged { result ≡ 0 → AreAcknowledged (R.remaining reader.old) (R.remaining reader.new) (W.contents writer.old) (W.contents writer.new) }
+    // 1: a line was refused, the messages before it were acknowledged, and the line's number and fault were said.
+    ensures refused { result ≡ 1 → IsRefused job.now (R.remaining reader.old) (R.remaining reader.new) (W.contents writer.old) (W.contents writer.new) (E.contents errors.old) (E.contents errors.new) }
+    // 2: the address is not that of one encoder. No connection was opened, and nothing was read or written.
+    ensures undescribed { result ≡ 2 → IsUndescribed job.now (E.contents errors.old) (E.contents errors.new) × (reader.new ≡ reader.old) × (writer.new ≡ writer.old) × (connect.new ≡ connect.old) }
+    // 3: a message is outstanding; or memory, reading or writing failed.
+    ensures failed { result ≡ 3 → IsOutstanding job.now (R.remaining reader.old) (R.remaining reader.new) (W.contents writer.old) (W.contents writer.new) (E.contents errors.old) (E.contents errors.new) ⊎ HasBroken (E.contents errors.old) (E.contents errors.new) }
+{
+    match send_all(alloc, job, reader, writer, connect) {
+        Ok(()) => 0,
+        Err(fault) => fail(&fault, errors),
+    }
+}
+
+/// Sends the messages of the input. The address is judged before anything is read.
+fn send_all<R: Read, W: Write, C: Connect>(
+    alloc: Global,
+    job: &Job,
+    reader: &mut R,
+    writer: &mut W,
+    connect: &mut C,
+) -> Result<(), RunFault>
+    requires { IsServer job.now }
+    ensures described { IfOk result (λ _. IsDescribed job.now) }
+    ensures sends { ((fault : RunFault) × (result ≡ Err fault) × RefusesJob job.now fault × (reader.new ≡ reader.old) × (writer.new ≡ writer.old) × (connect.new ≡ connect.old)) ⊎ SendsAll job.now (R.remaining reader.old) (R.remaining reader.new) (W.contents writer.old) (W.contents writer.new) result }
+{
+    match job {
+        Job::Server {
+            site,
+            encoder,
+            tries,
+            turns,
+            reconnects,
+            ..
+        } => {
+            let Some(address) = address_of(*site, *encoder) else {
+                return Err(RunFault::Address);
+            };
+            let server = Server::new(address);
+            let mut sender = Sender::new(connect, server, *tries, *turns, *reconnects);
+            send_lines(alloc, reader, &mut sender, writer)
+        }
+        _ => unreachable!(),
+    }
+}
+
+/// Sends the messages of the input by this sender.
+fn send_lines<R: Read, W: Write, C: Connect>(
+    alloc: Global,
+    reader: &mut R,
+    sender: &mut Sender<'_, C>,
+    writer: &mut W,
+) -> Result<(), RunFault>
+    ensures { SendsLines sender.old (R.remaining reader.old) (R.remaining reader.new) (W.contents writer.old) (W.contents writer.new) result }
+{
+    match run_to_stop(alloc, reader, sender, writer) {
+        Ok(()) => Ok(()),
+        Err(stop) => Err(fault_of(stop, sender.why())),
+    }
+}
+
+/// Runs the interpreter line by line over all that the reader has.
+fn run_to_stop<R: Read, W: Write, I: Interpreter>(
+    alloc: Global,
+    reader: &mut R,
+    interpreter: &mut I,
+    writer: &mut W,
+) -> Result<(), Stop>
+    ensures { RunsOutWhole I.meaning interpreter.old I.closing (R.remaining reader.old) (R.remaining reader.new) (W.contents writer.old) (W.contents writer.new) (as_run result) interpreter.new }
+{
+    match run_line_by_line(alloc, reader, interpreter, writer) {
+        Ok(()) => Ok(()),
+        Err(RunFault::Line(number, refusal)) => Err(Stop::Line(number, refusal)),
+        Err(RunFault::TooLong) => Err(Stop::TooLong),
+        Err(RunFault::Reading) => Err(Stop::Reading),
+        Err(RunFault::Writing) => Err(Stop::Writing),
+        Err(RunFault::OutOfMemory) => Err(Stop::OutOfMemory),
+        Err(RunFault::Outstanding) => Err(Stop::Outstanding),
+        Err(RunFault::Services(_)) => unreachable!(),
+        Err(RunFault::Address) => unreachable!(),
+        Err(RunFault::Listening) => unreachable!(),
+        Err(RunFault::Connection) => unreachable!(),
+    }
+}
+
+/// The fault of a run that stopped for this, by why a message is outstanding.
+fn fault_of(stop: Stop, why: Option<Outstanding>) -> RunFault
+    ensures { result ≡ said (as_fault stop) why }
+{
+    match stop {
+        Stop::Line(number, refusal) => RunFault::Line(number, refusal),
+        Stop::TooLong => RunFault::TooLong,
+        Stop::Reading => RunFault::Reading,
+        Stop::Writing => RunFault::Writing,
+        Stop::OutOfMemory => RunFault::OutOfMemory,
+        Stop::Outstanding => match why {
+            Some(Outstanding::ConnectionFailed) => RunFault::Connection,
+            _ => RunFault::Outstanding,
+        },
+    }
+}

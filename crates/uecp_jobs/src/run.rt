@@ -1,0 +1,104 @@
+//! A job from its input to its exit status (profile).
+ghost use Rattle.std.specs.Prelude.{◌≡◌, ◌⊎◌, ◌≤◌, Err, IfOk};
+ghost use Rattle.uecp_text.specs.Faults.{status_of, error_lines};
+ghost use Rattle.uecp_text.specs.Written.{Begins};
+ghost use Rattle.uecp_text.specs.declared.run_fault.RunFault.{RunFault};
+ghost use Rattle.uecp_jobs.specs.Jobs.{IsLocal, IsDescribed, RefusesJob, DoesJob, IsDone, IsRefused, IsUndescribed, HasFailed};
+
+use crate::answering::Answering;
+use crate::event_script::Playing;
+use crate::frame_script::Making;
+use crate::job::Job;
+use crate::setup::Setup;
+use crate::showing::Showing;
+use std::alloc::Global;
+use std::io::{Read, Write};
+use uecp_text::{RunFault, report, run};
+
+/// Does the job of a command without a connection and answers the exit status: 0 done, 1 a line was refused, 2 the services were refused, 3 memory, reading or
+/// writing failed. The output of the lines before a refusal is written all the same. Why a run stopped is said on `errors`, as
+/// far as that takes it; nothing is said there of a job that was done.
+pub fn run_job<R: Read, W: Write, E: Write>(
+    alloc: Global,
+    job: &Job,
+    reader: &mut R,
+    writer: &mut W,
+    errors: &mut E,
+) -> u8
+    requires { IsLocal job.now }
+    ensures status { result ≤ 3 }
+    // 0: the options describe an encoder, and what the job writes of the whole input was written. Nothing was said on `errors`.
+    ensures done { result ≡ 0 → IsDone job.now (R.remaining reader.old) (R.remaining reader.new) (W.contents writer.old) (W.contents writer.new) × (errors.new ≡ errors.old) }
+    // 1: a line was refused, what the job writes of the lines before it was written, and the line's number and fault were said.
+    ensures refused { result ≡ 1 → IsRefused job.now (R.remaining reader.old) (R.remaining reader.new) (W.contents writer.old) (W.contents writer.new) (E.contents errors.old) (E.contents errors.new) }
+    // 2: the options describe no encoder. Nothing was read or written.
+    ensures undescribed { result ≡ 2 → IsUndescribed job.now (E.contents errors.old) (E.contents errors.new) × (reader.new ≡ reader.old) × (writer.new ≡ writer.old) }
+    // 3: memory, reading or writing failed.
+    ensures failed { result ≡ 3 → HasFailed (E.contents errors.old) (E.contents errors.new) }
+{
+    match do_job(alloc, job, reader, writer) {
+        Ok(()) => 0,
+        Err(fault) => fail(&fault, errors),
+    }
+}
+
+/// Does the job. The options are judged before anything is read or written.
+fn do_job<R: Read, W: Write>(
+    alloc: Global,
+    job: &Job,
+    reader: &mut R,
+    writer: &mut W,
+) -> Result<(), RunFault>
+    requires { IsLocal job.now }
+    ensures described { IfOk result (λ _. IsDescribed job.now) }
+    ensures does { ((fault : RunFault) × (result ≡ Err fault) × RefusesJob job.now fault × (reader.new ≡ reader.old) × (writer.new ≡ writer.old)) ⊎ DoesJob job.now (R.remaining reader.old) (R.remaining reader.new) (W.contents writer.old) (W.contents writer.new) result }
+{
+    match job {
+        Job::Show => run(alloc, reader, &mut Showing::new(alloc), writer),
+        Job::Make => run(alloc, reader, &mut Making::new(), writer),
+        Job::Answer {
+            site,
+            encoder,
+            sets,
+            services,
+            store,
+        } => {
+            let services = services.as_slice();
+            let setup = Setup {
+                site: *site,
+                encoder: *encoder,
+                sets: *sets,
+                services,
+            };
+            let mut answering = Answering::new(alloc, &setup, *store)?;
+            run(alloc, reader, &mut answering, writer)
+        }
+        Job::Line {
+            site,
+            encoder,
+            sets,
+            services,
+            store,
+        } => {
+            let services = services.as_slice();
+            let setup = Setup {
+                site: *site,
+                encoder: *encoder,
+                sets: *sets,
+                services,
+            };
+            let mut playing = Playing::new(alloc, &setup, *store)?;
+            run(alloc, reader, &mut playing, writer)
+        }
+        Job::Encoder { .. } | Job::Server { .. } => unreachable!(),
+    }
+}
+
+/// Says on the writer of errors why a run stopped, and answers its status. A text that can't be written changes nothing.
+pub fn fail<E: Write>(fault: &RunFault, errors: &mut E) -> u8
+    ensures status { result ≡ status_of fault.now }
+    ensures said { Begins (E.contents errors.old) (E.contents errors.new) (error_lines fault.now) }
+{
+    let _ = report(fault, errors);
+    fault.status()
+}

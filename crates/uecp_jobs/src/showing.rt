@@ -1,0 +1,65 @@
+//! The command `show` (profile).
+ghost use Rattle.std.specs.Prelude.{◌≡◌, [], flat_map};
+ghost use Rattle.uecp_frame.specs.Findings.{Closed};
+ghost use Rattle.uecp_frame.specs.Beyond.{found_beyond, open_beyond};
+ghost use Rattle.uecp_lines.specs.Lines.{finding_lines};
+ghost use Rattle.uecp_text.specs.Written.{Adds};
+ghost use Rattle.uecp_jobs.specs.Commands.{Shows};
+
+use std::alloc::Global;
+use uecp_frame::Deframer;
+use uecp_lines::put_found;
+use uecp_text::{Interpreter, LineFault, Output, PieceBuffer, Taken, left};
+
+/// Says what frames and elements stand in pieces, as one stream.
+#[derive(Drop)]
+pub struct Showing {
+    deframer: Deframer,
+    /// Room for one piece after another.
+    room: PieceBuffer,
+}
+
+impl Showing {
+    /// No piece came yet.
+    pub fn new(alloc: Global) -> Showing
+        ensures { result.deframer ≡ Closed }
+    {
+        Showing {
+            deframer: Deframer::new(),
+            room: PieceBuffer::new(alloc),
+        }
+    }
+}
+
+impl Interpreter for Showing {
+    ghost meaning = { λ s text outcome s'. Shows s.deframer text outcome s'.deframer };
+
+    ghost closing = { λ _. [] };
+
+    fn take(
+        &mut self,
+        _alloc: Global,
+        text: &[u8],
+        output: &mut Output,
+    ) -> Result<Taken, LineFault> {
+        let piece = self.room.read(text)?;
+        show_piece(&mut self.deframer, piece, output);
+        output.check()?;
+        Ok(Taken::GoesOn)
+    }
+
+    fn close(&self, _output: &mut Output) {}
+}
+
+/// Shows what one piece ends.
+fn show_piece(deframer: &mut Deframer, piece: &[u8], output: &mut Output)
+    ensures lines { Adds output.old output.new (flat_map finding_lines (found_beyond deframer.old piece.now)) }
+    ensures left { open_beyond deframer.old piece.now ≡ deframer.new }
+{
+    let mut rest = piece;
+    while !rest.is_empty() {
+        let fed = deframer.feed(rest);
+        rest = left(rest, fed.used);
+        put_found(&fed.found, output);
+    }
+}
