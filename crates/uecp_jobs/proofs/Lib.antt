@@ -4,3 +4,4 @@ pub mod Networks
 pub mod Pieces
 pub mod Streams
 pub mod Headlines
+pub mod Examples
