@@ -4,6 +4,7 @@ Written from docs/PROTOCOL.md and docs/MANUAL.md; tests/fuzz compares the progra
 word in tests/long_schedule.py too, so on these the two are one opinion. It is slow and
 keeps no state that it could look up: it cuts a stream into segments first, then takes the stuffing out, then judges."""
 
+import copy
 from typing import NamedTuple
 
 START, ESCAPE, END = 0xFE, 0xFD, 0xFF
@@ -232,7 +233,14 @@ class Store:
         return 0x00
 
     def apply(self, message):
-        """The code of the reply to a message; what comes before a refused element stays."""
+        """The code of the reply to a message; where it is not 00 the store is what it was."""
+        before = copy.deepcopy((self.data, self.current, self.groups))
+        code = self.apply_in_turn(message)
+        if code:
+            self.data, self.current, self.groups = before
+        return code
+
+    def apply_in_turn(self, message):
         elements, fault = reading(message)
         for element in elements:
             code = self.apply_element(element)

@@ -129,7 +129,7 @@ one_group_again : (after one_set (replicate 32 (group_element 0x43) ++ group_ele
 one_group_again = refl
 
 -- messages
-before_an_unknown_element : step one_set (0x01 ∷ 0x00 ∷ 0x00 ∷ 0x12 ∷ 0x34 ∷ 0x99 ∷ []) ≡ ((put one_set (Pi 0x00 0x00 0x1234)).0, UnknownElement)
+before_an_unknown_element : step one_set (0x01 ∷ 0x00 ∷ 0x00 ∷ 0x12 ∷ 0x34 ∷ 0x99 ∷ []) ≡ (one_set, UnknownElement)
 unfolding folded items_at first
 before_an_unknown_element = refl
 

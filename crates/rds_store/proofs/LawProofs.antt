@@ -12,6 +12,7 @@ use Rattle.rds_store.specs.Names.{address, names, names_place}
 use Rattle.rds_store.specs.Content.{taken}
 use Rattle.rds_store.specs.Refusals.{code_of}
 use Rattle.rds_store.specs.Put.{put, stored, stored_on}
+use Rattle.rds_store.specs.Step.{element_by_element, whole_or_none, step}
 use Rattle.rds_store.specs.Laws.{RefusalChangesNothing, ChangesNamedPlacesAlone, KeepsSelectionAndGroups, KeepsSetsAndServices, MessagesKeepSetsAndServices, IsKnownByPlaces}
 use Rattle.rds_store.proofs.Places.{get-change_where, same_places}
 
@@ -142,6 +143,22 @@ folded-stays part same v (Ok e ∷ others) = by (is_applied (put v e).1) (folded
     by true more = more ∙ same v e
     by false more = same v e
 
+pub elements_keep_sets : (v : Store) (m : List ℕ) → (element_by_element v m).0.sets ≡ v.sets
+elements_keep_sets v m = folded-stays (λ w. w.sets) (λ w e. (keeps_sets_and_services w e).0) v (items m)
+
+pub elements_keep_services : (v : Store) (m : List ℕ) → (element_by_element v m).0.services ≡ v.services
+elements_keep_services v m = folded-stays (λ w. w.services) (λ w e. (keeps_sets_and_services w e).1) v (items m)
+
+-- and so whether they are taken as a whole or not at all
+whole-stays : {A : Type 0} (part : Store → A) (v : Store) (after : Store × Code) → part after.0 ≡ part v → part (whole_or_none v after).0 ≡ part v
+whole-stays part v after same = by (is_applied after.1)
+  where
+    by : (b : Bool) → part (if b then after.0 else v) ≡ part v
+    by true = same
+    by false = refl
+
 pub messages_keep_sets_and_services : MessagesKeepSetsAndServices
-messages_keep_sets_and_services v m =
-    (folded-stays (λ w. w.sets) (λ w e. (keeps_sets_and_services w e).0) v (items m), folded-stays (λ w. w.services) (λ w e. (keeps_sets_and_services w e).1) v (items m))
+messages_keep_sets_and_services v m = (
+  whole-stays (λ w. w.sets) v (element_by_element v m) (elements_keep_sets v m),
+  whole-stays (λ w. w.services) v (element_by_element v m) (elements_keep_services v m),
+)

@@ -1,5 +1,5 @@
 -- How the code keeps the data: each service by its number, with what it has in set 1 first; and which places that stands for. No public clause cites this.
-use Rattle.std.specs.Prelude.{◌≡◌, ℕ, ◌+◌, ◌<◌, ◌≤◌, Bool, false, ◌&&◌, ◌||◌, ◌==◌, ◌-◌, nat_lt, slice_get, Option, None, List, [], ◌∷◌, ◌++◌, length, if◌then◌else◌}
+use Rattle.std.specs.Prelude.{◌≡◌, ℕ, ◌+◌, ◌<◌, ◌≤◌, Bool, false, ◌&&◌, ◌||◌, ◌==◌, ◌-◌, nat_lt, slice_get, Option, None, List, [], ◌∷◌, ◌++◌, length, map, if◌then◌else◌}
 use Rattle.std.specs.List.{All, AllByRecursion, list_any}
 use Rattle.std.specs.Map.{keys_of}
 use Rattle.rds_store.specs.declared.group.Group.{Group}
@@ -45,6 +45,10 @@ pub record IsKept (sets current : ℕ) (services : List (ℕ × List ServiceData
   pub few_services : length (keys_of services) ≤ 8
   pub all_sets : AllByRecursion (λ e. length e.1 ≡ sets) services
   pub no_zero : list_any (λ s. s == 0x00) (keys_of services) ≡ false
+
+-- The services, and how many sets each has something in.
+abbrev pub shape_of : List (ℕ × List ServiceData) → List (ℕ × ℕ)
+shape_of services = map (λ e. (e.0, length e.1)) services
 
 -- The place is at this service, in a set that passes the test.
 abbrev pub at_service : (ℕ → Bool) → (service : ℕ) → (ℕ × ℕ) → Bool

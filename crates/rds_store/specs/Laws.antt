@@ -1,9 +1,9 @@
 -- Laws of a store under elements, in the words of places.
-use Rattle.std.specs.Prelude.{◌≡◌, ◌≢◌, ℕ, ◌&&◌, Some, List, if◌then◌else◌}
+use Rattle.std.specs.Prelude.{◌≡◌, ◌≢◌, ℕ, ◌&&◌, Some, None, List, [], ◌∷◌, if◌then◌else◌}
 use Rattle.std.specs.Option.{option_map}
 use Rattle.std.specs.FinMap.{get}
 use Rattle.uecp_elements.specs.declared.code.Code.TheVariants.{Applied}
-use Rattle.uecp_elements.specs.Grammar.{Element}
+use Rattle.uecp_elements.specs.Grammar.{Element, Reading, Reads, AreBytes}
 use Rattle.uecp_elements.specs.Folding.{is_applied}
 use Rattle.rds_store.specs.Value.{Data, Store}
 use Rattle.rds_store.specs.Names.{address, names}
@@ -34,6 +34,33 @@ KeepsSetsAndServices = (v : Store) (e : Element) → ((put v e).0.sets ≡ v.set
 -- No message changes how many sets there are, or which services.
 abbrev pub MessagesKeepSetsAndServices : Type 0
 MessagesKeepSetsAndServices = (v : Store) (message : List ℕ) → ((step v message).0.sets ≡ v.sets) × ((step v message).0.services ≡ v.services)
+
+-- What a store has at each place, its current set and its groups are those that they were.
+pub record IsAsBefore (before after : Store) : Type 0 where
+  pub places : (place : ℕ × ℕ) → get after.places place ≡ get before.places place
+  pub current : after.current ≡ before.current
+  pub groups : after.groups ≡ before.groups
+
+-- A message that is answered with another code than 00 leaves every place, the current set and the groups as they were.
+abbrev pub RefusedMessageChangesNothing : Type 0
+RefusedMessageChangesNothing = (v : Store) (message : List ℕ) → (step v message).1 ≢ Applied → IsAsBefore v (step v message).0
+
+-- The elements, put into the store one after another, are each answered with 00, and leave that store.
+abbrev pub PutsEach : Store → List Element → (after : Store) → Type 0
+PutsEach v [] after = after ≡ v
+PutsEach v (e ∷ es) after = ((put v e).1 ≡ Applied) × PutsEach (put v e).0 es after
+
+-- A message that is answered with 00 reads to its end, and each of its elements was put in order.
+abbrev pub AppliedMessageIsWhole : Type 0
+AppliedMessageIsWhole =
+    (v : Store) (message : List ℕ) (reading : Reading) → AreBytes message → Reads message reading
+    → (step v message).1 ≡ Applied → (reading.fault ≡ None) × PutsEach v reading.elements (step v message).0
+
+-- And a message that reads to its end, and whose elements can each be put in order, is answered with 00.
+abbrev pub WholeMessageIsApplied : Type 0
+WholeMessageIsApplied =
+    (v : Store) (message : List ℕ) (reading : Reading) (after : Store) → AreBytes message → Reads message reading
+    → reading.fault ≡ None → PutsEach v reading.elements after → step v message ≡ (after, Applied)
 
 -- What is kept at each place is all that there is to know of the data.
 abbrev pub IsKnownByPlaces : Type 0

@@ -1,5 +1,5 @@
 //! What one service has in each data set. Source: profile.
-ghost use Rattle.std.specs.Prelude.{◌≡◌, ◌≤◌, length, replicate, IsTrue, IfOk, IfSome, nat_eq, false};
+ghost use Rattle.std.specs.Prelude.{◌≡◌, ◌≤◌, length, replicate, slice_get, IsTrue, IfOk, IfSome, nat_eq, false};
 ghost use Rattle.std.specs.Option.{option_copied};
 ghost use Rattle.indexmap.specs.IndexMap as index;
 ghost use Rattle.uecp_elements.specs.Grammar as grammar;
@@ -7,7 +7,9 @@ ghost use Rattle.uecp_elements.specs.View.{element_of};
 ghost use Rattle.rds_store.specs.Names.{names_set};
 ghost use Rattle.rds_store.specs.Content.{opening_service, taken};
 ghost use Rattle.rds_store.specs.Refusals.{is_out_of_range, adds_text};
-ghost use Rattle.rds_store.specs.Kept.{changed_sets, changed_service, any_set_full, in_set};
+ghost use Rattle.std.specs.Map.{values_of};
+ghost use Rattle.indexmap.specs.Layout.{set_value_at};
+ghost use Rattle.rds_store.specs.Kept.{changed_sets, changed_service, any_set_full, in_set, shape_of};
 
 use crate::named_sets::NamedSets;
 use crate::service::Service;
@@ -75,6 +77,25 @@ impl ServiceInSets {
     {
         change_each(self.sets.as_mut_slice(), named, element);
     }
+
+    /// Becomes what another service of as many sets is.
+    pub(crate) fn copy_from(&mut self, other: &ServiceInSets)
+        requires { length self.old ≡ length other.now }
+        ensures { self.new ≡ other.now }
+    {
+        copy_sets(self.sets.as_mut_slice(), other.sets.as_slice());
+    }
+}
+
+fn copy_sets(sets: &mut [Service], others: &[Service])
+    requires { length sets.old ≡ length others.now }
+    ensures { sets.new ≡ others.now }
+{
+    let mut place = 0usize;
+    for service in sets.iter_mut() {
+        *service = others[place].copy();
+        place += 1;
+    }
 }
 
 fn is_any_full(sets: &[Service], named: NamedSets) -> bool
@@ -123,6 +144,33 @@ pub(crate) fn change_service(
 {
     match services.get_mut(&number) {
         Some(service) => service.change(named, element),
+        None => {}
+    }
+}
+
+/// Each service becomes what it is in another map of the same services and as many sets.
+pub(crate) fn copy_services(
+    services: &mut IndexMap<u8, ServiceInSets>,
+    others: &IndexMap<u8, ServiceInSets>,
+)
+    requires { shape_of services.old.entries ≡ shape_of others.now.entries }
+    ensures { services.new.entries ≡ others.now.entries }
+{
+    for place in 0..others.len() {
+        match others.get_index(place) {
+            Some((_, other)) => copy_service(services, place, other),
+            None => {}
+        }
+    }
+}
+
+/// The service at a place of the order becomes what another is.
+fn copy_service(services: &mut IndexMap<u8, ServiceInSets>, place: usize, other: &ServiceInSets)
+    requires { IfSome (slice_get (values_of services.old.entries) place) (λ held. length held ≡ length other.now) }
+    ensures { services.new.entries ≡ set_value_at services.old.entries place other.now }
+{
+    match services.get_index_mut(place) {
+        Some(service) => service.copy_from(other),
         None => {}
     }
 }

@@ -1,5 +1,5 @@
-//! Laws of a store under elements, each the contract of a function that does nothing.
-ghost use Rattle.rds_store.specs.Laws.{RefusalChangesNothing, ChangesNamedPlacesAlone, KeepsSelectionAndGroups, KeepsSetsAndServices, MessagesKeepSetsAndServices, IsKnownByPlaces};
+//! Laws of a store under elements and messages, each the contract of a function that does nothing.
+ghost use Rattle.rds_store.specs.Laws.{RefusalChangesNothing, ChangesNamedPlacesAlone, KeepsSelectionAndGroups, KeepsSetsAndServices, MessagesKeepSetsAndServices, RefusedMessageChangesNothing, AppliedMessageIsWhole, WholeMessageIsApplied, IsKnownByPlaces};
 
 /// An element that is answered with another code than 00 leaves the store as it was.
 #[tactic(auto, using(crate::proofs::LawProofs::refusal_changes_nothing))]
@@ -30,6 +30,24 @@ pub fn keeps_sets_and_services()
 #[tactic(auto, using(crate::proofs::LawProofs::messages_keep_sets_and_services))]
 pub fn messages_keep_sets_and_services()
     ensures { MessagesKeepSetsAndServices }
+{}
+
+/// A message that is answered with another code than 00 leaves every place, the current set and the groups as they
+/// were.
+#[tactic(auto, using(crate::proofs::MessageLaws::refused_message_changes_nothing))]
+pub fn refused_message_changes_nothing()
+    ensures { RefusedMessageChangesNothing }
+{}
+
+/// A message that is answered with 00 reads to its end, and each of its elements was put in order, with code 00.
+pub fn applied_message_is_whole()
+    ensures { AppliedMessageIsWhole }
+{}
+
+/// A message that reads to its end, and whose elements, put in order, each have code 00, is answered with 00 and leaves
+/// what they leave.
+pub fn whole_message_is_applied()
+    ensures { WholeMessageIsApplied }
 {}
 
 /// Two stores that have the same at each place have the same data.

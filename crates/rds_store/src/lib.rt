@@ -5,10 +5,12 @@
 //! counters and no replies, and it schedules no groups. `RdsStore` is the store; `Service`, `RadioText` and `Group`
 //! are what it lends. All memory is taken by `RdsStore::new`.
 //!
-//! The law to rely on: an element is put whole or not at all. Where the code is not 00 nothing has changed; where it
-//! is 00 each place that the element names has its content, and no other place has changed (`laws`).
+//! The law to rely on: a message is applied whole or not at all, and so is an element that is put alone. Where the code
+//! is not 00 nothing has changed; where it is 00 each element was put in order, and each place that one names has its
+//! content, and no other place has changed (`laws`).
 #![tactic(auto)]
 
+mod data_sets;
 mod fault;
 mod group;
 mod in_sets;

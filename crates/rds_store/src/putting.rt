@@ -9,14 +9,14 @@ ghost use Rattle.rds_store.specs.Refusals.{is_out_of_range, adds_text, has_full_
 ghost use Rattle.rds_store.specs.Put.{change_where, put};
 ghost use Rattle.rds_store.specs.Kept.{at_service};
 
+use crate::data_sets::DataSets;
 use crate::group::Group;
 use crate::in_sets::change_service;
 use crate::named_sets::NamedSets;
 use crate::rules::{adds, adds_text, is_out_of_range, is_wrong_rule};
-use crate::store::RdsStore;
 use uecp_elements::{Code, Element};
 
-impl RdsStore {
+impl DataSets {
     /// Whether an element may have that DSN.
     fn is_dsn(&self, dsn: u8) -> bool
         ensures { result ≡ is_dsn self.now.sets dsn }
@@ -131,7 +131,7 @@ impl RdsStore {
     ///
     /// The refusals are asked in the order 09, 04, 05, 06, 0B, also where the DSN names no set. After a code but 00
     /// nothing has changed. A text of the element has at most 64 bytes.
-    pub fn apply_element(&mut self, element: &Element<'_>) -> Code
+    pub(crate) fn put(&mut self, element: &Element<'_>) -> Code
         requires { grammar.IsElement (element_of element.now) }
         ensures { (self.new, result) ≡ put self.old (element_of element.now) }
     {

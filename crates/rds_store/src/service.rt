@@ -161,4 +161,33 @@ impl Service {
             Err(_) => unreachable!(),
         }
     }
+
+    /// The same service once more.
+    pub(crate) fn copy(&self) -> Service
+        ensures { result ≡ self.now }
+    {
+        Service {
+            pi: self.pi,
+            ps: self.ps,
+            tp: self.tp,
+            ta: self.ta,
+            music: self.music,
+            pty: self.pty,
+            texts: copy_of(self.texts.as_slice()),
+        }
+    }
+}
+
+fn copy_of(texts: &[RadioText]) -> ArrayVec<RadioText, 8>
+    requires { length texts.now ≤ 8 }
+    ensures { result.items ≡ texts.now }
+{
+    let mut copies = ArrayVec::new();
+    for text in texts {
+        match copies.try_push(text.copy()) {
+            Ok(()) => {}
+            Err(_) => unreachable!(),
+        }
+    }
+    copies
 }

@@ -1,22 +1,24 @@
-//! The store. Source: RDS Forum SPB 490 for data sets and programme services, profile for the limits.
+//! The store: a message is whole or none. Source: RDS Forum SPB 490 for data sets and programme services, profile for
+//! the limits.
 ghost use Rattle.std.specs.Prelude.{◌≡◌, ◌==◌, All, ◌&&◌, nat_le, is_some, false, ◌<◌, ◌≤◌, IfSome, length, slice_get, IfOk, IfErr, unwrap_or, None};
 ghost use Rattle.std.specs.Option.{option_copied};
 ghost use Rattle.std.specs.List.{list_any};
 ghost use Rattle.std.specs.FinMap.{get};
+ghost use Rattle.uecp_elements.specs.Grammar as grammar;
+ghost use Rattle.uecp_elements.specs.View.{element_of};
 ghost use Rattle.rds_store.specs.Value.{IsGroup};
+ghost use Rattle.rds_store.specs.Put.{put};
 ghost use Rattle.rds_store.specs.Step.{step};
 ghost use Rattle.rds_store.specs.Opening.{opening, fault_of};
 
+use crate::data_sets::DataSets;
 use crate::fault::StoreFault;
 use crate::group::Group;
-use crate::in_sets::ServiceInSets;
-use crate::opening::{fault_of, opening_services};
+use crate::opening::fault_of;
 use crate::service::Service;
-use arrayvec::ArrayVec;
-use indexmap::IndexMap;
 use std::alloc::{AllocError, Global};
 use std::marker::Model;
-use uecp_elements::{Code, elements};
+use uecp_elements::{Code, Element};
 
 /// Data sets with the same services each, and one queue of groups.
 ///
@@ -24,29 +26,23 @@ use uecp_elements::{Code, elements};
 /// set, as a map from both numbers, and the groups.
 #[derive(Drop)]
 pub struct RdsStore {
-    /// The number of data sets, 1 to 8.
-    pub(crate) sets: u8,
-    /// The current data set, counted from 1.
-    pub(crate) current: u8,
-    /// Each service by its number, in configured order.
-    pub(crate) services: IndexMap<u8, ServiceInSets>,
-    /// The groups that wait, first to go out first.
-    pub(crate) groups: ArrayVec<Group, 32>,
+    /// What is on the air.
+    main: DataSets,
+    /// Where a message is tried; between messages the same as `main`.
+    trial: DataSets,
 }
 
 impl Model for RdsStore {
-    ghost use Rattle.indexmap.specs.IndexMap.{keys};
-    ghost use Rattle.std.specs.FinMap.{from_entries};
+    ghost use Rattle.std.specs.Prelude.{◌≡◌};
     ghost use Rattle.rds_store.specs.Value.{Store, coded_store};
-    ghost use Rattle.rds_store.specs.Kept.{all_places, IsKept};
 
     ghost Value = { Store };
 
     ghost coded = { coded_store };
 
-    ghost view = { λ r. record { sets = r.sets; services = keys r.services; current = r.current; places = from_entries (all_places r.services.entries); groups = r.groups.items } };
+    ghost view = { λ s. s.main };
 
-    ghost invariant = { λ r. IsKept r.sets r.current r.services.entries r.groups.items };
+    ghost invariant = { λ s. s.trial ≡ s.main };
 }
 
 impl RdsStore {
@@ -73,29 +69,37 @@ impl RdsStore {
         ensures { IfOk result (λ v. v ≡ opening sets services.now) }
     {
         Ok(RdsStore {
-            sets,
-            current: 1,
-            services: opening_services(alloc, sets, services)?,
-            groups: ArrayVec::new(),
+            main: DataSets::opened(alloc, sets, services)?,
+            trial: DataSets::opened(alloc, sets, services)?,
         })
     }
 
-    /// Puts the elements of a message in turn, up to the first that is refused or does not read, and answers the code
-    /// of that one, or 00. What came before it stays.
-    #[tactic(auto, unfolding(uecp_elements::specs::Folding::folded))]
+    /// Puts one element, whole or not at all, and answers its code.
+    ///
+    /// The refusals are asked in the order 09, 04, 05, 06, 0B, also where the DSN names no set. After a code but 00
+    /// nothing has changed. A text of the element has at most 64 bytes.
+    pub fn apply_element(&mut self, element: &Element<'_>) -> Code
+        requires { grammar.IsElement (element_of element.now) }
+        ensures { (self.new, result) ≡ put self.old (element_of element.now) }
+    {
+        self.trial.put(element);
+        self.main.put(element)
+    }
+
+    /// Applies a message, whole or not at all, and answers its code: that of its first element that is refused or does
+    /// not read, or 00. After a code but 00 nothing has changed, also what came before that element.
+    ///
+    /// It takes no memory.
     pub fn apply(&mut self, message: &[u8]) -> Code
         ensures { (self.new, result) ≡ step self.old message.now }
     {
-        for item in elements(message) {
-            match item {
-                Ok(element) => match self.apply_element(&element) {
-                    Code::Applied => {}
-                    refused => return refused,
-                },
-                Err(fault) => return fault.code,
-            }
+        let (code, is_any_put) = self.trial.put_each(message);
+        if code == Code::Applied {
+            self.main.put_each(message);
+        } else if is_any_put {
+            self.trial.copy_from(&self.main);
         }
-        Code::Applied
+        code
     }
 
     /// The current data set, 1 to their number. It is 1 at the start.
@@ -104,7 +108,7 @@ impl RdsStore {
         ensures from_1 { 1 ≤ result }
         ensures there { result ≤ self.now.sets }
     {
-        self.current
+        self.main.current()
     }
 
     /// How many data sets there are, 1 to 8.
@@ -113,7 +117,7 @@ impl RdsStore {
         ensures from_1 { 1 ≤ result }
         ensures most { result ≤ 8 }
     {
-        self.sets
+        self.main.set_count()
     }
 
     /// The number of the service at a place of the configured order, counted from 0; None exactly from the number of
@@ -122,10 +126,7 @@ impl RdsStore {
         ensures value { result ≡ slice_get self.now.services place }
         ensures few { IfSome result (λ number. place < 8) }
     {
-        match self.services.get_index(place) {
-            Some((number, _)) => Some(*number),
-            None => None,
-        }
+        self.main.service_number(place)
     }
 
     /// What the service of that number has in a data set, which is counted from 1.
@@ -137,10 +138,7 @@ impl RdsStore {
         ensures there { is_some result ≡ (list_any (λ s. psn == s) self.now.services && (nat_le 1 set && nat_le set self.now.sets)) }
         ensures zero { psn ≡ 0x00 → is_some result ≡ false }
     {
-        match self.services.get(&psn) {
-            Some(service) => service.get(set),
-            None => None,
-        }
+        self.main.service(set, psn)
     }
 
     /// The groups that wait, at most 32, first to go out first. The type and the bits of each are 00 to 1F.
@@ -149,6 +147,6 @@ impl RdsStore {
         ensures at_most { length result.now ≤ 32 }
         ensures in_range { All IsGroup result.now }
     {
-        self.groups.as_slice()
+        self.main.groups()
     }
 }

@@ -48,6 +48,22 @@ impl RadioText {
         }
     }
 
+    /// The same text once more.
+    pub(crate) fn copy(&self) -> RadioText
+        ensures { result ≡ self.now }
+    {
+        let mut text = ArrayVec::new();
+        match text.try_extend_from_slice(self.text.as_slice()) {
+            Ok(()) => {}
+            Err(_) => unreachable!(),
+        }
+        RadioText {
+            toggle: self.toggle,
+            transmissions: self.transmissions,
+            text,
+        }
+    }
+
     /// The toggle, by which a receiver tells a new text from a repeated one.
     pub fn toggle(&self) -> bool
         ensures { result ≡ self.now.toggle }

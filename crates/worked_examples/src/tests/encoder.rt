@@ -118,13 +118,13 @@ fn texts_of(store: &RdsStore, set: u8) -> usize {
 
 #[test]
 fn a_new_encoder_applies_a_message_and_answers_its_code(rt: HostRuntime) -> Result<(), Fail> {
-    // An unknown element follows the last of them.
+    // An unknown element follows the last of them, so nothing of its message is kept.
     let unknown = b"\xFE\x00\x41\x01\x06\x01\x00\x00\x12\x34\x99\xFD\x02\xA8\xFF";
     let refusal = b"\xFE\x00\x41\x00\x03\x18\x03\x01\x15\xED\xFF";
     let rows: [(&[u8], &[u8], u16); 3] = [
         (&PI_1, &APPLIED_1, 0xc201),
         (&PI_2, &APPLIED_2, 0xfeff),
-        (unknown, refusal, 0x1234),
+        (unknown, refusal, 0x0000),
     ];
     for (frame, reply, pi) in rows {
         let mut encoder = with_store(&rt, rt.alloc(), 1)?;

@@ -55,11 +55,66 @@ fn all_but_the_current_of_one_set_is_no_set_and_no_refusal(rt: HostRuntime) -> R
 }
 
 #[test]
-fn what_came_before_an_unknown_element_stays(rt: HostRuntime) -> Result<(), Fail> {
+fn what_came_before_an_unknown_element_is_not_kept(rt: HostRuntime) -> Result<(), Fail> {
     let mut store = RdsStore::new(rt.alloc(), 1, &[0x01])?;
     let message = [0x01, 0x00, 0x00, 0x12, 0x34, 0x99];
     answers(&rt, &mut store, &[(&message, Code::UnknownElement)]);
-    assert_eq!(rt; pi_of(&store, 1), Some(0x1234));
+    assert_eq!(rt; pi_of(&store, 1), Some(0));
+    Ok(())
+}
+
+#[test]
+fn a_selection_acts_with_its_whole_message_or_not_at_all(rt: HostRuntime) -> Result<(), Fail> {
+    let mut store = RdsStore::new(rt.alloc(), 2, &[0x01])?;
+    let refused = [
+        0x1c, 0x02, 0x01, 0x00, 0x00, 0xab, 0xcd, 0x24, 0x20, 0x40, 0x00, 0x00, 0x00, 0x00,
+    ];
+    answers(&rt, &mut store, &[(&refused, Code::OutOfRange)]);
+    assert_eq!(rt; (store.current(), pi_of(&store, 2)), (1, Some(0)));
+    let applied = [0x1c, 0x02, 0x01, 0x00, 0x00, 0x12, 0x34];
+    answers(&rt, &mut store, &[(&applied, Code::Applied)]);
+    assert_eq!(rt; (store.current(), pi_of(&store, 2)), (2, Some(0x1234)));
+    answers(&rt, &mut store, &[(&refused, Code::OutOfRange)]);
+    assert_eq!(rt; (store.current(), pi_of(&store, 2)), (2, Some(0x1234)));
+    Ok(())
+}
+
+#[test]
+fn texts_of_one_message_are_added_all_or_none(rt: HostRuntime) -> Result<(), Fail> {
+    let mut store = RdsStore::new(rt.alloc(), 1, &[0x01])?;
+    let nine = [ADD; 9];
+    let eight = [ADD; 8];
+    answers(&rt, &mut store, &[(nine.as_flattened(), Code::BufferFull)]);
+    assert_eq!(rt; texts_of(&store, 1), 0);
+    answers(&rt, &mut store, &[(eight.as_flattened(), Code::Applied)]);
+    assert_eq!(rt; texts_of(&store, 1), 8);
+    let empty_and_add = [
+        0x0a, 0x00, 0x00, 0x00, 0x0a, 0x00, 0x00, 0x03, 0x40, 0x48, 0x49,
+    ];
+    answers(&rt, &mut store, &[(&empty_and_add, Code::Applied)]);
+    assert_eq!(rt; texts_of(&store, 1), 1);
+    Ok(())
+}
+
+#[test]
+fn groups_of_a_refused_message_leave_the_queue(rt: HostRuntime) -> Result<(), Fail> {
+    let mut store = RdsStore::new(rt.alloc(), 1, &[0x01])?;
+    let add = [0x24, 0x04, 0x41, 0x12, 0x34, 0x56, 0x78];
+    let add_replace_and_fail = [
+        0x24, 0x06, 0x40, 0x00, 0x01, 0x00, 0x02, 0x24, 0x06, 0x00, 0x00, 0x03, 0x00, 0x04, 0x99,
+    ];
+    let exchanges: [Exchange<'_>; 2] = [
+        (&add, Code::Applied),
+        (&add_replace_and_fail, Code::UnknownElement),
+    ];
+    answers(&rt, &mut store, &exchanges);
+    let group = Group {
+        kind: 0x04,
+        bits: 0x01,
+        block3: 0x1234,
+        block4: 0x5678,
+    };
+    assert_eq!(rt; store.groups(), [group].as_slice());
     Ok(())
 }
 

@@ -1,0 +1,150 @@
+//! Data sets with their services, and the groups. Source: RDS Forum SPB 490 for data sets and programme services,
+//! profile for the limits.
+ghost use Rattle.std.specs.Prelude.{◌≡◌, ◌==◌, All, ◌&&◌, nat_le, is_some, false, ◌<◌, ◌≤◌, IfSome, length, slice_get, IfOk, None};
+ghost use Rattle.std.specs.Option.{option_copied};
+ghost use Rattle.std.specs.List.{list_any};
+ghost use Rattle.std.specs.FinMap.{get};
+ghost use Rattle.rds_store.specs.Value.{IsGroup};
+ghost use Rattle.rds_store.specs.Step.{element_by_element};
+ghost use Rattle.rds_store.specs.Opening.{opening, fault_of};
+
+use crate::group::Group;
+use crate::in_sets::{ServiceInSets, copy_services};
+use crate::opening::opening_services;
+use crate::service::Service;
+use arrayvec::ArrayVec;
+use indexmap::IndexMap;
+use std::alloc::{AllocError, Global};
+use std::marker::Model;
+use uecp_elements::{Code, elements};
+
+/// Data sets with the same services each, and one queue of groups; they are changed element by element.
+///
+/// A clause sees the number of sets, the services in configured order, the current set, what each service has in each
+/// set, as a map from both numbers, and the groups.
+#[derive(Drop)]
+pub(crate) struct DataSets {
+    /// The number of data sets, 1 to 8.
+    pub(crate) sets: u8,
+    /// The current data set, counted from 1.
+    pub(crate) current: u8,
+    /// Each service by its number, in configured order.
+    pub(crate) services: IndexMap<u8, ServiceInSets>,
+    /// The groups that wait, first to go out first.
+    pub(crate) groups: ArrayVec<Group, 32>,
+}
+
+impl Model for DataSets {
+    ghost use Rattle.indexmap.specs.IndexMap.{keys};
+    ghost use Rattle.std.specs.FinMap.{from_entries};
+    ghost use Rattle.rds_store.specs.Value.{Store, coded_store};
+    ghost use Rattle.rds_store.specs.Kept.{all_places, IsKept};
+
+    ghost Value = { Store };
+
+    ghost coded = { coded_store };
+
+    ghost view = { λ r. record { sets = r.sets; services = keys r.services; current = r.current; places = from_entries (all_places r.services.entries); groups = r.groups.items } };
+
+    ghost invariant = { λ r. IsKept r.sets r.current r.services.entries r.groups.items };
+}
+
+impl DataSets {
+    /// Those of the opening store.
+    pub(crate) fn opened(alloc: Global, sets: u8, services: &[u8]) -> Result<DataSets, AllocError>
+        requires { fault_of sets services.now ≡ None }
+        ensures { IfOk result (λ v. v ≡ opening sets services.now) }
+    {
+        Ok(DataSets {
+            sets,
+            current: 1,
+            services: opening_services(alloc, sets, services)?,
+            groups: ArrayVec::new(),
+        })
+    }
+
+    /// Puts the elements of a message in turn, up to the first that is refused or does not read, and answers the code
+    /// of that one, or 00; and whether an element was put.
+    #[tactic(auto, unfolding(uecp_elements::specs::Folding::folded), using(crate::proofs::LawProofs::refusal_changes_nothing))]
+    pub(crate) fn put_each(&mut self, message: &[u8]) -> (Code, bool)
+        ensures value { (self.new, result.0) ≡ element_by_element self.old message.now }
+        ensures none_put { result.1 ≡ false → self.new ≡ self.old }
+    {
+        let mut is_any_put = false;
+        for item in elements(message) {
+            match item {
+                Ok(element) => match self.put(&element) {
+                    Code::Applied => is_any_put = true,
+                    refused => return (refused, is_any_put),
+                },
+                Err(fault) => return (fault.code, is_any_put),
+            }
+        }
+        (Code::Applied, is_any_put)
+    }
+
+    /// Becomes what others with the same sets and services are. It takes no memory.
+    pub(crate) fn copy_from(&mut self, others: &DataSets)
+        requires sets { self.old.sets ≡ others.now.sets }
+        requires services { self.old.services ≡ others.now.services }
+        ensures { self.new ≡ others.now }
+    {
+        self.current = others.current;
+        copy_services(&mut self.services, &others.services);
+        self.groups.clear();
+        match self.groups.try_extend_from_slice(others.groups.as_slice()) {
+            Ok(()) => {}
+            Err(_) => unreachable!(),
+        }
+    }
+
+    /// The current data set.
+    pub(crate) fn current(&self) -> u8
+        ensures value { result ≡ self.now.current }
+        ensures from_1 { 1 ≤ result }
+        ensures there { result ≤ self.now.sets }
+    {
+        self.current
+    }
+
+    /// How many data sets there are.
+    pub(crate) fn set_count(&self) -> u8
+        ensures value { result ≡ self.now.sets }
+        ensures from_1 { 1 ≤ result }
+        ensures most { result ≤ 8 }
+    {
+        self.sets
+    }
+
+    /// The number of the service at a place of the configured order, counted from 0.
+    pub(crate) fn service_number(&self, place: usize) -> Option<u8>
+        ensures value { result ≡ slice_get self.now.services place }
+        ensures few { IfSome result (λ number. place < 8) }
+    {
+        match self.services.get_index(place) {
+            Some((number, _)) => Some(*number),
+            None => None,
+        }
+    }
+
+    /// What the service of that number has in the data set of that number.
+    pub(crate) fn service(&self, set: u8, psn: u8) -> Option<&Service>
+        ensures value { option_copied result ≡ get self.now.places (set, psn) }
+        ensures there { is_some result ≡ (list_any (λ s. psn == s) self.now.services && (nat_le 1 set && nat_le set self.now.sets)) }
+        ensures zero { psn ≡ 0x00 → is_some result ≡ false }
+    {
+        match self.services.get(&psn) {
+            Some(service) => service.get(set),
+            None => None,
+        }
+    }
+
+    /// The groups that wait.
+    pub(crate) fn groups(&self) -> &[Group]
+        ensures value { result.now ≡ self.now.groups }
+        ensures at_most { length result.now ≤ 32 }
+        ensures in_range { All IsGroup result.now }
+    {
+        self.groups.as_slice()
+    }
+}
