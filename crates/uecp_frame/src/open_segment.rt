@@ -42,7 +42,7 @@ pub(crate) struct OpenSegment {
 }
 
 impl OpenSegment {
-    ghost use Rattle.std.specs.Prelude.{◌≡◌, ◌-◌, ◌≤◌, ◌<◌, ℕ, false, true, [], ◌∷◌, length, take, slice_index};
+    ghost use Rattle.std.specs.Prelude.{◌≡◌, ◌-◌, ◌≤◌, ◌<◌, ℕ, false, true, None, [], ◌∷◌, length, take, slice_index};
     ghost use Rattle.uecp_frame.specs.Findings.{Closed, Part};
     ghost use Rattle.uecp_frame.specs.Beyond.{closing, prolonged, unended};
     ghost use Rattle.uecp_frame.specs.Feeding.{Feeds, findings_of};
@@ -216,8 +216,7 @@ impl OpenSegment {
                     return 1;
                 }
                 if rest[0] == ESCAPE {
-                    self.escape();
-                    return 1;
+                    return self.keep_escape(rest);
                 }
                 let run = run_below(ESCAPE, rest);
                 self.add(&rest[..run]);
@@ -226,12 +225,35 @@ impl OpenSegment {
         }
     }
 
+    /// Reads an FD, and the byte after it where that is there and the two stand for a plain byte.
+    fn keep_escape(&mut self, rest: &[u8]) -> usize
+        requires kept { IsOpenSegment self.old }
+        requires certain { self.old.fault ≡ None }
+        requires plain { self.old.is_escaping ≡ false }
+        requires some { 0 < length rest.now }
+        requires escape { slice_index rest.now 0 ≡ 253 }
+        ensures some { 0 < result }
+        ensures fits { result ≤ length rest.now }
+        ensures inside { (k : ℕ) → k < result → slice_index rest.now k < 254 }
+        ensures part { prolonged (Part (record { plain = self.old.plain.items; rest = [] })) (take result rest.now) ≡ inside_of self.new.fault self.new.plain.items self.new.is_escaping }
+        ensures open { self.new.is_open ≡ self.old.is_open }
+        ensures kept { IsOpenSegment self.new }
+    {
+        self.escape();
+        if self.is_escaping && rest.len() > 1 && rest[1] < STUFFED {
+            self.unescape(rest[1]);
+            return 2;
+        }
+        1
+    }
+
     /// Reads an FD.
     fn escape(&mut self)
         requires kept { IsOpenSegment self.old }
         requires certain { self.old.fault ≡ None }
         requires plain { self.old.is_escaping ≡ false }
         ensures part { prolonged (Part (record { plain = self.old.plain.items; rest = [] })) (253 ∷ []) ≡ inside_of self.new.fault self.new.plain.items self.new.is_escaping }
+        ensures room { self.new.is_escaping ≡ true → self.new.fault ≡ None }
         ensures open { self.new.is_open ≡ self.old.is_open }
         ensures kept { IsOpenSegment self.new }
     {
