@@ -11,6 +11,7 @@ use Rattle.uecp_elements.proofs.Items.{has_reading, only_reading}
 use Rattle.rds_store.specs.Value.{Store}
 use Rattle.rds_store.specs.Put.{put}
 use Rattle.rds_store.specs.Step.{element_by_element, whole_or_none, step}
+use Rattle.rds_store.proofs.LawProofs.{refusal_changes_nothing}
 use Rattle.rds_store.specs.Laws.{IsAsBefore, RefusedMessageChangesNothing, PutsEach, AppliedMessageIsWhole, WholeMessageIsApplied}
 
 -- ---- A refused message.
@@ -33,6 +34,21 @@ as_before before after same = record {
 
 pub refused_message_changes_nothing : RefusedMessageChangesNothing
 refused_message_changes_nothing v m h = as_before v (step v m).0 (left_as_it_was v (element_by_element v m).0 (element_by_element v m).1 h)
+
+-- one element is whole or none by itself
+one_done : (v : Store) (done : Store × Code) → (done.1 ≢ Applied → done.0 ≡ v) → whole_or_none v (where_applied done (λ w. (w, Applied))) ≡ done
+one_done v (w, Applied) h = refl
+one_done v (w, UnknownElement) h = ap (λ x. (x, UnknownElement)) (sym (h (λ k. cc)))
+one_done v (w, DataSet) h = ap (λ x. (x, DataSet)) (sym (h (λ k. cc)))
+one_done v (w, Service) h = ap (λ x. (x, Service)) (sym (h (λ k. cc)))
+one_done v (w, OutOfRange) h = ap (λ x. (x, OutOfRange)) (sym (h (λ k. cc)))
+one_done v (w, ElementLength) h = ap (λ x. (x, ElementLength)) (sym (h (λ k. cc)))
+one_done v (w, NotHere) h = ap (λ x. (x, NotHere)) (sym (h (λ k. cc)))
+one_done v (w, BufferFull) h = ap (λ x. (x, BufferFull)) (sym (h (λ k. cc)))
+
+pub one_element : (v : Store) (e : Element) → whole_or_none v (folded put v (Ok e ∷ [])) ≡ put v e
+unfolding folded
+one_element v e = one_done v (put v e) (refusal_changes_nothing v e)
 
 -- ---- A message that is applied.
 done_first : (done : Store × Code) (others : Store → Store × Code) → (where_applied done others).1 ≡ Applied

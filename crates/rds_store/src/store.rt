@@ -18,7 +18,7 @@ use crate::opening::fault_of;
 use crate::service::Service;
 use std::alloc::{AllocError, Global};
 use std::marker::Model;
-use uecp_elements::{Code, Element};
+use uecp_elements::{Code, Element, elements};
 
 /// Data sets with the same services each, and one queue of groups.
 ///
@@ -87,10 +87,26 @@ impl RdsStore {
     }
 
     /// Applies a message, whole or not at all, and answers its code: that of its first element that is refused or does
-    /// not read, or 00. After a code but 00 nothing has changed, also what came before that element.
+    /// not read, or 00. After a code but 00 nothing has changed, also not by what came before that element.
     ///
-    /// It takes no memory.
+    /// It takes no memory. A message of one element needs no trial.
+    #[tactic(auto, unfolding(uecp_elements::specs::Folding::folded), using(crate::proofs::MessageLaws::one_element))]
     pub fn apply(&mut self, message: &[u8]) -> Code
+        ensures { (self.new, result) ≡ step self.old message.now }
+    {
+        let mut read = elements(message);
+        match read.next() {
+            None => Code::Applied,
+            Some(Err(fault)) => fault.code,
+            Some(Ok(only)) => match read.next() {
+                None => self.apply_element(&only),
+                Some(_) => self.try_message(message),
+            },
+        }
+    }
+
+    /// Applies a message by way of the trial.
+    fn try_message(&mut self, message: &[u8]) -> Code
         ensures { (self.new, result) ≡ step self.old message.now }
     {
         let (code, is_any_put) = self.trial.put_each(message);
