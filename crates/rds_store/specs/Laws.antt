@@ -1,4 +1,4 @@
--- Laws of a store under elements, in the words of places.
+-- Laws of a store under elements and messages, in the words of places.
 use Rattle.std.specs.Prelude.{◌≡◌, ◌≢◌, ℕ, ◌&&◌, Some, None, List, [], ◌∷◌, if◌then◌else◌}
 use Rattle.std.specs.Option.{option_map}
 use Rattle.std.specs.FinMap.{get}

@@ -26,7 +26,7 @@ use uecp_elements::{Code, Element, elements};
 /// set, as a map from both numbers, and the groups.
 #[derive(Drop)]
 pub struct RdsStore {
-    /// What is on the air.
+    /// What the store holds.
     main: DataSets,
     /// Where a message is tried; between messages the same as `main`.
     trial: DataSets,
