@@ -5,13 +5,15 @@ use Rattle.clap.specs.Kinds.{IsAmong}
 use Rattle.clap.specs.Values.{kind_of}
 use Rattle.clap.specs.declared.error.kind.ErrorKind.{ErrorKind}
 use Rattle.clap.specs.declared.error.kind.ErrorKind.TheVariants.{DisplayHelp, DisplayVersion}
+use Rattle.uecp_text.specs.declared.run_fault.RunFault.{RunFault}
+use Rattle.uecp_text.specs.Faults.{Fails, error_lines}
 use Rattle.uecp_text.specs.Written.{Begins}
 use Rattle.uecp_jobs.specs.declared.job.Job.{Job}
 use Rattle.uecp_cli.specs.declared.usage.Usage.{Usage}
 use Rattle.uecp_cli.specs.declared.usage.Usage.TheVariants.{Refused, NotAList, OutOfMemory}
 use Rattle.uecp_cli.specs.CommandLine.{uecp_app, Asks, GivesNoList}
-use Rattle.uecp_jobs.specs.Jobs.{IsDone, IsRefused, IsUndescribed}
-use Rattle.uecp_jobs.specs.Networks.{HasServed}
+use Rattle.uecp_jobs.specs.Jobs.{IsDone, IsRefused, IsUndescribed, HasFailed}
+use Rattle.uecp_jobs.specs.Networks.{IsOutstanding, HasServed, HasStopped}
 
 -- ---- by the words of the command line
 -- The words ask for a help text or for the version.
@@ -37,6 +39,20 @@ HasDone words unread unread' held held' = (job : Job) × Asks words job × IsAll
 -- The words ask for a job, and a line was refused.
 abbrev pub HasRefused : (words : List (List ℕ)) → (unread unread' held held' told told' : Option (List ℕ)) → Type 0
 HasRefused words unread unread' held held' told told' = (job : Job) × Asks words job × IsRefused job unread unread' held held' told told'
+
+-- The job came to no end, and that was said: memory, reading or writing failed, and what was written is a beginning of what the job writes of its input; or a message is outstanding; or connections
+-- could not be served, and no input was read.
+abbrev pub HasNotEnded : Job → (unread unread' held held' told told' : Option (List ℕ)) → Type 0
+HasNotEnded job unread unread' held held' told told' =
+    HasFailed job unread unread' held held' told told' ⊎ (IsOutstanding job unread unread' held held' told told' ⊎ (HasStopped job held held' told told' × (unread' ≡ unread)))
+
+-- The words ask for a job, and it came to no end.
+abbrev pub HasBrokenOff : (words : List (List ℕ)) → (unread unread' held held' told told' : Option (List ℕ)) → Type 0
+HasBrokenOff words unread unread' held held' told told' = (job : Job) × Asks words job × HasNotEnded job unread unread' held held' told told'
+
+-- Memory was wanting, or the text that was asked for could not be written, and that was said, or begun to be said.
+abbrev pub SaysFailure : (told told' : Option (List ℕ)) → Type 0
+SaysFailure told told' = (fault : RunFault) × Fails fault × Begins told told' (error_lines fault)
 
 -- The words ask for no job that can be done: they are mistaken, or give a list of services that is none, or ask for a job whose options describe no encoder. The last two
 -- were said on standard error, or begun to be said; the first is said by clap.

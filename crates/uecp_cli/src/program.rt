@@ -2,8 +2,8 @@
 ghost use Rattle.std.specs.Prelude.{◌≡◌, ◌≢◌, ◌⊎◌, ◌≤◌, map, IfErr};
 ghost use Rattle.std.specs.String.{string_bytes};
 ghost use Rattle.uecp_text.specs.declared.run_fault.RunFault.TheVariants.{Writing};
-ghost use Rattle.uecp_jobs.specs.Jobs.{IsRefused, IsUndescribed, HasFailed};
-ghost use Rattle.uecp_cli.specs.Program.{AskForText, IsAllDone, HasDone, HasRefused, HasRefusedWords, AsksForText, SaysMistake};
+ghost use Rattle.uecp_jobs.specs.Jobs.{IsRefused, IsUndescribed};
+ghost use Rattle.uecp_cli.specs.Program.{AskForText, IsAllDone, HasDone, HasRefused, HasNotEnded, HasBrokenOff, HasRefusedWords, AsksForText, SaysMistake, SaysFailure};
 
 use crate::command_line::parse;
 use crate::local::Local;
@@ -33,8 +33,9 @@ pub fn run_words<R: Read, W: Write, E: Write, N: Net<Listener = TcpListener, Str
     ensures refused { result ≡ 1 → HasRefused (map string_bytes words.now) (R.remaining reader.old) (R.remaining reader.new) (W.contents writer.old) (W.contents writer.new) (E.contents errors.old) (E.contents errors.new) }
     // 2: the words ask for no job that can be done. Nothing was read or written.
     ensures mistaken { result ≡ 2 → HasRefusedWords (map string_bytes words.now) (E.contents errors.old) (E.contents errors.new) × (reader.new ≡ reader.old) × (writer.new ≡ writer.old) }
-    // 3: memory, reading, writing or a connection failed.
-    ensures failed { result ≡ 3 → HasFailed (E.contents errors.old) (E.contents errors.new) }
+    // 3: memory, reading, writing or a connection failed: of the job of the words, and what was written is a beginning of what it writes; or before there was a job, and nothing was read, and but for
+    // the text that was asked for nothing was written.
+    ensures failed { result ≡ 3 → HasBrokenOff (map string_bytes words.now) (R.remaining reader.old) (R.remaining reader.new) (W.contents writer.old) (W.contents writer.new) (E.contents errors.old) (E.contents errors.new) ⊎ (SaysFailure (E.contents errors.old) (E.contents errors.new) × (reader.new ≡ reader.old) × (AskForText (map string_bytes words.now) ⊎ (writer.new ≡ writer.old))) }
 {
     match parse(alloc, words) {
         Ok(job) => run_any(alloc, &job, reader, writer, errors, net),
@@ -55,7 +56,7 @@ fn run_any<R: Read, W: Write, E: Write, N: Net<Listener = TcpListener, Stream = 
     ensures done { result ≡ 0 → IsAllDone job.now (R.remaining reader.old) (R.remaining reader.new) (W.contents writer.old) (W.contents writer.new) × (errors.new ≡ errors.old) }
     ensures refused { result ≡ 1 → IsRefused job.now (R.remaining reader.old) (R.remaining reader.new) (W.contents writer.old) (W.contents writer.new) (E.contents errors.old) (E.contents errors.new) }
     ensures undescribed { result ≡ 2 → IsUndescribed job.now (E.contents errors.old) (E.contents errors.new) × (reader.new ≡ reader.old) × (writer.new ≡ writer.old) }
-    ensures failed { result ≡ 3 → HasFailed (E.contents errors.old) (E.contents errors.new) }
+    ensures failed { result ≡ 3 → HasNotEnded job.now (R.remaining reader.old) (R.remaining reader.new) (W.contents writer.old) (W.contents writer.new) (E.contents errors.old) (E.contents errors.new) }
 {
     match job {
         Job::Encoder { port, .. } => {
@@ -83,7 +84,7 @@ pub fn refuse<W: Write, E: Write>(usage: &Usage, writer: &mut W, errors: &mut E)
     ensures status { (result ≤ 3) × (result ≢ 1) }
     ensures text { result ≡ 0 → AsksForText usage.now × (errors.new ≡ errors.old) }
     ensures mistaken { result ≡ 2 → SaysMistake usage.now (E.contents errors.old) (E.contents errors.new) × (writer.new ≡ writer.old) }
-    ensures failed { result ≡ 3 → HasFailed (E.contents errors.old) (E.contents errors.new) }
+    ensures failed { result ≡ 3 → SaysFailure (E.contents errors.old) (E.contents errors.new) × (AsksForText usage.now ⊎ (writer.new ≡ writer.old)) }
 {
     match usage {
         Usage::Refused(error) if error.use_stderr() => {

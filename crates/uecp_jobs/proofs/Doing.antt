@@ -1,5 +1,7 @@
 -- Jobs by the runs of their commands.
 use Rattle.std.proofs.Common.{◌≡◌, ◌⊎◌, ℕ, ◌∷◌, List, [], Option, None, Some, Bool, Result, Err, refl, sym, ap, subst, ◌∙◌, inl, inr, arith}
+use Rattle.std.specs.Io.KnownBytes.{Consumes}
+use Rattle.std.proofs.KnownBytes.{Consumes-nil}
 use Rattle.rds_store.specs.declared.fault.StoreFault.TheVariants as store
 use Rattle.uecp_frame.specs.Findings.{Closed}
 use Rattle.uecp_lines.specs.StoreLines.{last_lines}
@@ -7,7 +9,7 @@ use Rattle.uecp_text.specs.declared.run_fault.RunFault.{RunFault}
 use Rattle.uecp_text.specs.declared.run_fault.RunFault.TheVariants as run
 use Rattle.uecp_text.specs.Faults.{Fails, status_of}
 use Rattle.uecp_text.specs.Input.{texts_of}
-use Rattle.uecp_text.specs.Run.{Meaning, Runs, Prints, RunsWhole}
+use Rattle.uecp_text.specs.Run.{Meaning, Ends, Runs, Prints, Breaks, RunsWhole}
 use Rattle.uecp_jobs.specs.declared.answering.Answering.{Answering}
 use Rattle.uecp_jobs.specs.declared.event_script.Playing.{Playing}
 use Rattle.uecp_jobs.specs.declared.frame_script.Making.{Making}
@@ -19,16 +21,19 @@ use Rattle.uecp_jobs.specs.FrameScript.{Makes, spelled_line}
 use Rattle.uecp_jobs.specs.Playing.{Plays, closing_lines}
 use Rattle.uecp_net.specs.Sending.{Sends}
 use Rattle.uecp_jobs.specs.Setups.{Options, RefusesSetup, encoder_at_first, line_at_first}
-use Rattle.uecp_jobs.specs.Jobs.{options, JobPrints, RefusesJob, DoesJob, Wrote}
+use Rattle.uecp_jobs.specs.Jobs.{options, IsLocal, ByCommand, JobPrints, JobBreaks, RefusesJob, DoesJob, Wrote}
 use Rattle.uecp_jobs.proofs.Parts.{whole_part}
+
+-- what is told of a meaning, a value and closing lines
+abbrev Tells : Type 1
+Tells = (V : Type 0) → Meaning V → V → (closing : V → List ℕ) → Type 0
 
 -- a job whose command ran
 pub does_by : {V : Type 0} (job : Job) (meaning : Meaning V) (v : V) (closing : V → List ℕ) (unread unread' held held' : Option (List ℕ)) (result : Result (Unit {0}) RunFault) →
-    RunsWhole meaning v closing unread unread' held held' result → ((input written : List ℕ) → Prints meaning v closing input result written → JobPrints job input result written) →
-    DoesJob job unread unread' held held' result
-does_by job meaning v closing unread unread' held held' result ran prints = elim ran [
-  | inl failed ↦ inl failed
-  | inr done ↦ inr (done.0, done.1, done.2, prints done.0 done.1 done.3, done.4)
+    RunsWhole meaning v closing unread unread' held held' result → ((tells : Tells) → tells V meaning v closing → ByCommand job tells) → DoesJob job unread unread' held held' result
+does_by job meaning v closing unread unread' held held' result ran by = elim ran [
+  | inl (fault, is, breaks) ↦ inl (fault, is, by (λ V meaning v closing. Breaks meaning v closing unread unread' held held' fault) breaks)
+  | inr (input, written, is_input, prints, appends) ↦ inr (input, written, is_input, by (λ V meaning v closing. Prints meaning v closing input result written) prints, appends)
 ]
 
 -- ---- each command
@@ -40,7 +45,7 @@ showed s unread unread' held held' result closed ran =
     (subst (λ part. RunsWhole Shows part (λ part. []) unread unread' held held' result) closed
     (whole_part {F = ℕ} (λ (s : Showing) text outcome (s' : Showing). Shows s.deframer text outcome s'.deframer) Shows (λ (s : Showing). s.deframer) (λ _. 0) (λ v text outcome v' m. (m, refl))
     s (λ _. []) (λ _ part. []) unread unread' held held' result (λ v'. refl) ran))
-    (λ input written prints. prints)
+    (λ tells told. told)
 
 pub made : (m : Making) (unread unread' held held' : Option (List ℕ)) (result : Result (Unit {0}) RunFault) → m.frame ≡ None →
     RunsWhole (λ (m : Making) text outcome (m' : Making). Makes m.frame text outcome m'.frame) m (λ (m : Making). spelled_line m.frame) unread unread' held held' result →
@@ -50,7 +55,7 @@ made m unread unread' held held' result none ran =
     (subst (λ frame. RunsWhole Makes frame spelled_line unread unread' held held' result) none
     (whole_part {F = ℕ} (λ (m : Making) text outcome (m' : Making). Makes m.frame text outcome m'.frame) Makes (λ (m : Making). m.frame) (λ _. 0) (λ v text outcome v' m. (m, refl))
     m (λ (m : Making). spelled_line m.frame) (λ _ frame. spelled_line frame) unread unread' held held' result (λ v'. refl) ran))
-    (λ input written prints. prints)
+    (λ tells told. told)
 
 pub answered : (o : Options) (asked : Bool) (a : Answering) (unread unread' held held' : Option (List ℕ)) (result : Result (Unit {0}) RunFault) →
     (a.encoder ≡ encoder_at_first o) × (a.store ≡ asked) →
@@ -87,6 +92,36 @@ not_failed run.Listening status f is = absurd f
 not_failed run.Connection status f is = absurd f
 not_failed run.Outstanding status f is = absurd f
 
+-- what a job failed for
+pub breaks_fails : {V : Type 0} (meaning : Meaning V) (v : V) (closing : V → List ℕ) (unread unread' held held' : Option (List ℕ)) (fault : RunFault) → Breaks meaning v closing unread unread' held held' fault → Fails fault
+breaks_fails meaning v closing unread unread' held held' run.TooLong breaks = tt
+breaks_fails meaning v closing unread unread' held held' run.Reading breaks = tt
+breaks_fails meaning v closing unread unread' held held' run.Writing breaks = tt
+breaks_fails meaning v closing unread unread' held held' run.OutOfMemory breaks = tt
+breaks_fails meaning v closing unread unread' held held' fault breaks = elim breaks [ inl ((read, consumed, stops), same) ↦ absurd stops | inr (input, is_input, some) ↦ absurd some ]
+
+-- what follows from what is told of any meaning
+from_command : (job : Job) (tells : Tells) (P : Type 0) → ((V : Type 0) (meaning : Meaning V) (v : V) (closing : V → List ℕ) → tells V meaning v closing → P) → ByCommand job tells → P
+from_command Show tells P follows told = follows _ _ _ _ told
+from_command Make tells P follows told = follows _ _ _ _ told
+from_command (Answer site encoder sets services store) tells P follows told = follows _ _ _ _ told
+from_command (Line site encoder sets services store) tells P follows told = follows _ _ _ _ told
+from_command (Server site encoder host port tries timeout turns reconnects) tells P follows told = follows _ _ _ _ told
+from_command (Encoder site encoder sets services port connections turns) tells P follows told = absurd told
+
+pub job_breaks_fails : (job : Job) (unread unread' held held' : Option (List ℕ)) (fault : RunFault) → JobBreaks job unread unread' held held' fault → Fails fault
+job_breaks_fails job unread unread' held held' fault breaks =
+    from_command job (λ V meaning v closing. Breaks meaning v closing unread unread' held held' fault) (Fails fault) (λ V meaning v closing. breaks_fails meaning v closing unread unread' held held' fault) breaks
+
+-- what is told of every meaning
+of_local : (job : Job) → IsLocal job → (tells : Tells) → ((V : Type 0) (meaning : Meaning V) (v : V) (closing : V → List ℕ) → tells V meaning v closing) → ByCommand job tells
+of_local Show local tells told = told _ _ _ _
+of_local Make local tells told = told _ _ _ _
+of_local (Answer site encoder sets services store) local tells told = told _ _ _ _
+of_local (Line site encoder sets services store) local tells told = told _ _ _ _
+of_local (Server site encoder host port tries timeout turns reconnects) local tells told = absurd local
+of_local (Encoder site encoder sets services port connections turns) local tells told = absurd local
+
 -- a text that stops a run has status 1 or 3
 stop_status : {V : Type 0} (meaning : Meaning V) (v v' : V) (texts : List (ℕ × List ℕ)) (lines : List ℕ) (fault : RunFault) → Runs meaning v texts lines (Some fault) v' → status_of fault ≡ 2 → ⊥
 stop_status meaning v v' [] lines fault (lines_are, stop, same) is = let none : Some fault ≡ None = stop in cc
@@ -107,6 +142,49 @@ prints_status (Answer site encoder sets services store) input written fault (v',
 prints_status (Line site encoder sets services store) input written fault (v', ran) is = stop_status Plays _ v' (texts_of input) written fault ran is
 prints_status (Server site encoder host port tries timeout turns reconnects) input written fault (v', ran) is = stop_status Sends _ v' (texts_of input) written fault ran is
 prints_status (Encoder site encoder sets services port connections turns) input written fault prints is = absurd prints
+
+-- where no text ends a run, one that a text stops has status 1
+no_end : {V : Type 0} (meaning : Meaning V) (never : (v : V) (text lines : List ℕ) (v' : V) → meaning v text (Ends lines) v' → ⊥) (v v' : V) (texts : List (ℕ × List ℕ)) (lines : List ℕ) (fault : RunFault) →
+    Runs meaning v texts lines (Some fault) v' → status_of fault ≡ 3 → ⊥
+no_end meaning never v v' [] lines fault (lines_are, stop, same) is = let none : Some fault ≡ None = stop in cc
+no_end meaning never v v' ((number, text) ∷ texts) lines fault ran is = elim ran [
+  | inl taken ↦ no_end meaning never taken.2 v' texts taken.1 fault taken.5 is
+  | inr (inl (refusal, refused, none, stop)) ↦
+      let same : fault ≡ run.Line number refusal = let e : Some fault ≡ Some (run.Line number refusal) = stop in cc in
+      let two : 1 ≡ 3 = sym (ap status_of same) ∙ is in omega (arith, two)
+  | inr (inr (ended, stop)) ↦ never v text lines v' ended
+]
+
+local_status : (job : Job) → IsLocal job → (input written : List ℕ) (fault : RunFault) → JobPrints job input (Err fault) written → status_of fault ≡ 3 → ⊥
+local_status Show local input written fault (v', ran) is = no_end Shows (λ v text lines v' ended. ended) _ v' (texts_of input) written fault ran is
+local_status Make local input written fault (v', ran) is = no_end Makes (λ v text lines v' ended. ended) _ v' (texts_of input) written fault ran is
+local_status (Answer site encoder sets services store) local input written fault (v', ran) is = no_end Answers (λ v text lines v' ended. ended) _ v' (texts_of input) written fault ran is
+local_status (Line site encoder sets services store) local input written fault (v', ran) is = no_end Plays (λ v text lines v' ended. ended) _ v' (texts_of input) written fault ran is
+local_status (Server site encoder host port tries timeout turns reconnects) local input written fault prints is = local
+local_status (Encoder site encoder sets services port connections turns) local input written fault prints is = local
+
+-- a refusal of status 3 is want of memory
+pub setup_wants : (o : Options) (fault : RunFault) → RefusesSetup o fault → status_of fault ≡ 3 → fault ≡ run.OutOfMemory
+setup_wants o fault (inl (store.OutOfMemory, refused, says)) is = says
+setup_wants o fault (inl (store.SetCount, refused, says)) is = absurd (let two : 2 ≡ 3 = sym (ap status_of says.1) ∙ is in omega (arith, two))
+setup_wants o fault (inl (store.ServiceCount, refused, says)) is = absurd (let two : 2 ≡ 3 = sym (ap status_of says.1) ∙ is in omega (arith, two))
+setup_wants o fault (inl (store.ServiceZero, refused, says)) is = absurd (let two : 2 ≡ 3 = sym (ap status_of says.1) ∙ is in omega (arith, two))
+setup_wants o fault (inl (store.ServiceTwice, refused, says)) is = absurd (let two : 2 ≡ 3 = sym (ap status_of says.1) ∙ is in omega (arith, two))
+setup_wants o fault (inr (address, none, apart)) is = absurd (let two : 2 ≡ 3 = sym (ap status_of address) ∙ is in omega (arith, two))
+
+job_wants : (job : Job) → IsLocal job → (fault : RunFault) → RefusesJob job fault → status_of fault ≡ 3 → fault ≡ run.OutOfMemory
+job_wants Show local fault refused is = absurd refused
+job_wants Make local fault refused is = absurd refused
+job_wants (Answer site encoder sets services store) local fault refused is = setup_wants (options site encoder sets services.items) fault refused is
+job_wants (Line site encoder sets services store) local fault refused is = setup_wants (options site encoder sets services.items) fault refused is
+job_wants (Server site encoder host port tries timeout turns reconnects) local fault refused is = absurd local
+job_wants (Encoder site encoder sets services port connections turns) local fault refused is = absurd local
+
+-- a job for which memory was wanting before anything was read
+wants_first : (job : Job) → IsLocal job → (unread unread' held held' : Option (List ℕ)) → unread' ≡ unread → held' ≡ held → JobBreaks job unread unread' held held' run.OutOfMemory
+wants_first job local unread unread' held held' unmoved unwritten =
+    of_local job local (λ V meaning v closing. Breaks meaning v closing unread unread' held held' run.OutOfMemory)
+    (λ V meaning v closing. inl (([], subst (λ left. Consumes unread left []) (sym unmoved) (Consumes-nil unread), tt), unwritten))
 
 says_status : (o : Options) (fault : RunFault) → RefusesSetup o fault → status_of fault ≡ 1 → ⊥
 says_status o fault (inl (store.OutOfMemory, refused, says)) is = let two : 3 ≡ 1 = sym (ap status_of says) ∙ is in omega (arith, two)
@@ -136,13 +214,23 @@ module _ (job : Job) (unread unread' held held' : Option (List ℕ)) (unmoved un
   pub refused_by : status_of fault ≡ 1 → Wrote job unread unread' (Err fault) held held'
   refused_by is = elim does [
     | inl (f, same, refused, reader, writer) ↦ absurd (job_status job f refused (sym (ap status_of (same_fault fault f same)) ∙ is))
-    | inr (inl (f, same, fails)) ↦ absurd (let one : 1 ≡ 3 = not_failed f 1 fails (sym (ap status_of (same_fault fault f same)) ∙ is) in omega (arith, one))
+    | inr (inl (f, same, breaks)) ↦ absurd (let one : 1 ≡ 3 = not_failed f 1 (job_breaks_fails job unread unread' held held' f breaks) (sym (ap status_of (same_fault fault f same)) ∙ is) in omega (arith, one))
     | inr (inr wrote) ↦ wrote
   ]
 
   pub undescribed_by : status_of fault ≡ 2 → RefusesJob job fault × unmoved × unwritten
   undescribed_by is = elim does [
     | inl (f, same, refused, reader, writer) ↦ (subst (RefusesJob job) (sym (same_fault fault f same)) refused, reader, writer)
-    | inr (inl (f, same, fails)) ↦ absurd (let one : 2 ≡ 3 = not_failed f 2 fails (sym (ap status_of (same_fault fault f same)) ∙ is) in omega (arith, one))
+    | inr (inl (f, same, breaks)) ↦ absurd (let one : 2 ≡ 3 = not_failed f 2 (job_breaks_fails job unread unread' held held' f breaks) (sym (ap status_of (same_fault fault f same)) ∙ is) in omega (arith, one))
     | inr (inr (input, written, is_input, prints, appends)) ↦ absurd (prints_status job input written fault prints is)
+  ]
+
+  pub failed_by : IsLocal job → (unmoved → unread' ≡ unread) → (unwritten → held' ≡ held) → status_of fault ≡ 3 → JobBreaks job unread unread' held held' fault
+  failed_by local stays kept is = elim does [
+    | inl (f, same, refused, reader, writer) ↦
+        (let same_as = same_fault fault f same in
+        let wanting : fault ≡ run.OutOfMemory = same_as ∙ job_wants job local f refused (sym (ap status_of same_as) ∙ is) in
+        subst (JobBreaks job unread unread' held held') (sym wanting) (wants_first job local unread unread' held held' (stays reader) (kept writer)))
+    | inr (inl (f, same, breaks)) ↦ subst (JobBreaks job unread unread' held held') (sym (same_fault fault f same)) breaks
+    | inr (inr (input, written, is_input, prints, appends)) ↦ absurd (local_status job local input written fault prints is)
   ]

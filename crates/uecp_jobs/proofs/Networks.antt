@@ -2,6 +2,7 @@
 use Rattle.std.proofs.Common.{◌≡◌, ◌≢◌, ◌⊎◌, ◌<◌, ◌≤◌, ℕ, List, [], ◌∷◌, length, Option, None, Some, Result, Ok, Err, refl, sym, ap, subst, ◌∙◌, inl, inr, arith}
 use Rattle.std.proofs.lemmas.List.{append-nil}
 use Rattle.std.specs.Io.KnownBytes.{Appends}
+use Rattle.std.proofs.KnownBytes.{Appends-nil}
 use Rattle.rds_store.specs.Value.{Store}
 use Rattle.rds_store.specs.Step.{step}
 use Rattle.uecp_encoder.specs.State.{EncoderState}
@@ -25,8 +26,8 @@ use Rattle.uecp_jobs.specs.declared.job.Job.{Job}
 use Rattle.uecp_jobs.specs.declared.job.Job.TheVariants.{Encoder, Server}
 use Rattle.uecp_jobs.specs.Setups.{Options, IsSetup, RefusesSetup, encoder_at_first, sender_at_first, address_of}
 use Rattle.uecp_jobs.specs.Jobs.{options, IsDescribed, RefusesJob, IsDone, Wrote, HasFailed}
-use Rattle.uecp_jobs.specs.Networks.{IsEncoder, IsServer, Serves, HasNotListened, HasBroken, SendsLines, SendsAll, AreAcknowledged, IsOutstanding, said}
-use Rattle.uecp_jobs.proofs.Doing.{not_failed, job_status, stopped, same_fault}
+use Rattle.uecp_jobs.specs.Networks.{IsEncoder, IsServer, ServedSome, Serves, HasNotListened, HasBroken, SendsLines, SendsAll, AreAcknowledged, IsOutstanding, said}
+use Rattle.uecp_jobs.proofs.Doing.{not_failed, breaks_fails, job_breaks_fails, setup_wants, job_status, stopped, same_fault}
 
 -- ---- why a run stops
 stops : {V : Type 0} (meaning : Meaning V) (v v' : V) (texts : List (ℕ × List ℕ)) (lines : List ℕ) (fault : RunFault) → Runs meaning v texts lines (Some fault) v' →
@@ -68,7 +69,9 @@ sent job unread unread' held held' described sends = absurd sends
 
 sent_up_to : (job : Job) (unread unread' held held' : Option (List ℕ)) (fault : RunFault) → SendsAll job unread unread' held held' (Err fault) → status_of fault ≡ 1 → Wrote job unread unread' (Err fault) held held'
 sent_up_to (Server site encoder host port tries timeout turns reconnects) unread unread' held held' fault sends is = elim sends [
-  | inl (f, same, fails) ↦ absurd (let one : 1 ≡ 3 = not_failed f 1 fails (sym (ap status_of (same_fault fault f same)) ∙ is) in omega (arith, one))
+  | inl (f, same, breaks) ↦
+      (let job = Server site encoder host port tries timeout turns reconnects in
+      absurd (let one : 1 ≡ 3 = not_failed f 1 (job_breaks_fails job unread unread' held held' f breaks) (sym (ap status_of (same_fault fault f same)) ∙ is) in omega (arith, one)))
   | inr (input, lines, s', is_input, appends, (stop, ran, is_said)) ↦
       (let sender = sender_at_first site encoder tries turns reconnects in
       elim (stops Sends sender s' (texts_of input) lines stop ran) [
@@ -81,11 +84,12 @@ sent_up_to (Server site encoder host port tries timeout turns reconnects) unread
 sent_up_to job unread unread' held held' fault sends is = absurd sends
 
 sent_or_not : (job : Job) (unread unread' held held' told told' : Option (List ℕ)) (fault : RunFault) → SendsAll job unread unread' held held' (Err fault) → (status_of fault ≡ 1 → ⊥) → Begins told told' (error_lines fault) →
-    (status_of fault ≡ 3) × (IsOutstanding job unread unread' held held' told told' ⊎ HasBroken told told')
+    (status_of fault ≡ 3) × (IsOutstanding job unread unread' held held' told told' ⊎ HasFailed job unread unread' held held' told told')
 sent_or_not (Server site encoder host port tries timeout turns reconnects) unread unread' held held' told told' fault sends not_one begins = elim sends [
-  | inl (f, same, fails) ↦
+  | inl (f, same, breaks) ↦
       (let is = same_fault fault f same in
-      (not_failed f (status_of fault) fails (sym (ap status_of is)), inr (f, fails, subst (λ f. Begins told told' (error_lines f)) is begins)))
+      let fails = job_breaks_fails (Server site encoder host port tries timeout turns reconnects) unread unread' held held' f breaks in
+      (not_failed f (status_of fault) fails (sym (ap status_of is)), inr (f, breaks, subst (λ f. Begins told told' (error_lines f)) is begins)))
   | inr (input, lines, s', is_input, appends, (stop, ran, is_said)) ↦
       (let sender = sender_at_first site encoder tries turns reconnects in
       elim (stops Sends sender s' (texts_of input) lines stop ran) [
@@ -102,17 +106,9 @@ sent_or_not (Server site encoder host port tries timeout turns reconnects) unrea
 sent_or_not job unread unread' held held' told told' fault sends not_one begins = absurd sends
 
 -- ---- a refusal is one of status 2, or want of memory
-setup_breaks : (o : Options) (fault : RunFault) → RefusesSetup o fault → status_of fault ≡ 3 → Fails fault
-setup_breaks o fault (inl (store.OutOfMemory, refused, says)) is = subst Fails (sym says) tt
-setup_breaks o fault (inl (store.SetCount, refused, says)) is = absurd (let two : 2 ≡ 3 = sym (ap status_of says.1) ∙ is in omega (arith, two))
-setup_breaks o fault (inl (store.ServiceCount, refused, says)) is = absurd (let two : 2 ≡ 3 = sym (ap status_of says.1) ∙ is in omega (arith, two))
-setup_breaks o fault (inl (store.ServiceZero, refused, says)) is = absurd (let two : 2 ≡ 3 = sym (ap status_of says.1) ∙ is in omega (arith, two))
-setup_breaks o fault (inl (store.ServiceTwice, refused, says)) is = absurd (let two : 2 ≡ 3 = sym (ap status_of says.1) ∙ is in omega (arith, two))
-setup_breaks o fault (inr (address, none, apart)) is = absurd (let two : 2 ≡ 3 = sym (ap status_of address) ∙ is in omega (arith, two))
-
-encoder_breaks : (job : Job) (fault : RunFault) → IsEncoder job → RefusesJob job fault → status_of fault ≡ 3 → Fails fault
-encoder_breaks (Encoder site encoder sets services port connections turns) fault encodes refused is = setup_breaks (options site encoder sets services.items) fault refused is
-encoder_breaks job fault encodes refused is = absurd encodes
+encoder_wants : (job : Job) (fault : RunFault) → IsEncoder job → RefusesJob job fault → status_of fault ≡ 3 → fault ≡ run.OutOfMemory
+encoder_wants (Encoder site encoder sets services port connections turns) fault encodes refused is = setup_wants (options site encoder sets services.items) fault refused is
+encoder_wants job fault encodes refused is = absurd encodes
 
 server_refuses : (job : Job) (fault : RunFault) → IsServer job → RefusesJob job fault → status_of fault ≡ 2
 server_refuses (Server site encoder host port tries timeout turns reconnects) fault serves refused = ap status_of refused.0
@@ -135,13 +131,20 @@ module _ (job : Job) (serves : IsServer job) (unread unread' held held' told tol
         let both = apart fault 3 2 three.0 is in omega (arith, both))
   ]
 
-  pub server_failed : Begins told told' (error_lines fault) → status_of fault ≡ 3 → IsOutstanding job unread unread' held held' told told' ⊎ HasBroken told told'
+  pub server_failed : Begins told told' (error_lines fault) → status_of fault ≡ 3 → IsOutstanding job unread unread' held held' told told' ⊎ HasFailed job unread unread' held held' told told'
   server_failed begins is = elim sends [
     | inl (f, same, refused, reader, writer, connect) ↦ absurd (let both = apart f 2 3 (server_refuses job f serves refused) (sym (ap status_of (same_fault fault f same)) ∙ is) in omega (arith, both))
     | inr sent ↦ (sent_or_not job unread unread' held held' told told' fault sent (λ one. let both = apart fault 1 3 one is in omega (arith, both)) begins).1
   ]
 
 -- ---- an encoder
+-- none was served
+pub served_none : {C I O : Type 0} (opens : C → Option (I × O) → C → Type 0) (remaining : I → Option (List ℕ)) (contents : O → Option (List ℕ)) (job : Job) → IsEncoder job → (c c' : C) (held held' : Option (List ℕ)) →
+    c' ≡ c → held' ≡ held → ServedSome opens remaining contents job c c' held held'
+served_none opens remaining contents (Encoder site encoder sets services port connections turns) encodes c c' held held' unopened unwritten =
+    ([], _, omega arith, (refl, unopened), ([], [], refl, subst (λ now. Appends held now []) (sym unwritten) (Appends-nil held)))
+served_none opens remaining contents job encodes c c' held held' unopened unwritten = absurd encodes
+
 module _ {C I O : Type 0} (opens : C → Option (I × O) → C → Type 0) (remaining : I → Option (List ℕ)) (contents : O → Option (List ℕ)) (job : Job) (encodes : IsEncoder job) (c c' : C)
     (held held' told told' : Option (List ℕ)) (unwritten unopened : Type 0) (fault : RunFault)
     (serves : ((f : RunFault) × (stopped fault ≡ stopped f) × RefusesJob job f × unwritten × unopened) ⊎ Serves opens remaining contents job c c' held held' (stopped fault)) where
@@ -149,33 +152,32 @@ module _ {C I O : Type 0} (opens : C → Option (I × O) → C → Type 0) (rema
   encoder_not_one is = elim serves [
     | inl (f, same, refused, writer, connect) ↦ job_status job f refused (sym (ap status_of (same_fault fault f same)) ∙ is)
     | inr (inl (listening, fewer)) ↦ (let both : 1 ≡ 3 = sym is ∙ ap status_of listening in omega (arith, both))
-    | inr (inr fails) ↦ (let both : 1 ≡ 3 = not_failed fault 1 fails is in omega (arith, both))
+    | inr (inr (fails, some)) ↦ (let both : 1 ≡ 3 = not_failed fault 1 fails is in omega (arith, both))
   ]
 
   pub encoder_undescribed : status_of fault ≡ 2 → RefusesJob job fault × unwritten × unopened
   encoder_undescribed is = elim serves [
     | inl (f, same, refused, writer, connect) ↦ (subst (RefusesJob job) (sym (same_fault fault f same)) refused, writer, connect)
     | inr (inl (listening, fewer)) ↦ absurd (let both : 2 ≡ 3 = sym is ∙ ap status_of listening in omega (arith, both))
-    | inr (inr fails) ↦ absurd (let both : 2 ≡ 3 = not_failed fault 2 fails is in omega (arith, both))
+    | inr (inr (fails, some)) ↦ absurd (let both : 2 ≡ 3 = not_failed fault 2 fails is in omega (arith, both))
   ]
 
-  pub encoder_failed : Begins told told' (error_lines fault) → status_of fault ≡ 3 → HasNotListened opens remaining contents job c c' held held' told told' ⊎ HasBroken told told'
-  encoder_failed begins is = elim serves [
+  pub encoder_failed : (unopened → c' ≡ c) → (unwritten → held' ≡ held) → Begins told told' (error_lines fault) → status_of fault ≡ 3 →
+      HasNotListened opens remaining contents job c c' held held' told told' ⊎ HasBroken opens remaining contents job c c' held held' told told'
+  encoder_failed stays kept begins is = elim serves [
     | inl (f, same, refused, writer, connect) ↦
         (let same_as = same_fault fault f same in
-        inr (f, encoder_breaks job f encodes refused (sym (ap status_of same_as) ∙ is), subst (λ f. Begins told told' (error_lines f)) same_as begins))
+        let wanting : fault ≡ run.OutOfMemory = same_as ∙ encoder_wants job f encodes refused (sym (ap status_of same_as) ∙ is) in
+        inr (run.OutOfMemory, tt, served_none opens remaining contents job encodes c c' held held' (stays connect) (kept writer), subst (λ f. Begins told told' (error_lines f)) wanting begins))
     | inr (inl (listening, fewer)) ↦ inl (fewer, subst (λ f. Begins told told' (error_lines f)) listening begins)
-    | inr (inr fails) ↦ inr (fault, fails, begins)
+    | inr (inr (fails, some)) ↦ inr (fault, fails, some, begins)
   ]
-
-pub broken_failed : (told told' : Option (List ℕ)) → HasBroken told told' → HasFailed told told'
-broken_failed told told' (fault, fails, begins) = (fault, not_failed fault (status_of fault) fails refl, begins)
 
 -- ---- a run of a sender
 only_stops : {V : Type 0} (meaning : Meaning V) (v v' : V) (closing : V → List ℕ) (unread unread' held held' : Option (List ℕ)) (fault : RunFault) →
     RunsOutWhole meaning v closing unread unread' held held' (Err fault) v' → Fails fault ⊎ (status_of fault ≡ 1) ⊎ (fault ≡ run.Outstanding)
 only_stops meaning v v' closing unread unread' held held' fault whole = elim whole [
-  | inl (f, same, fails) ↦ inl (subst Fails (sym (same_fault fault f same)) fails)
+  | inl (f, same, breaks) ↦ inl (subst Fails (sym (same_fault fault f same)) (breaks_fails meaning v closing unread unread' held held' f breaks))
   | inr (input, lines, is_input, ran, appends) ↦ elim (stops meaning v v' (texts_of input) lines fault ran) [
     | inl (number, refusal, line) ↦ inr (inl (ap status_of line))
     | inr out ↦ inr (inr out)
@@ -229,10 +231,10 @@ lines_sent s s' unread unread' held held' whole = elim whole [
 pub lines_stopped : (s s' : SenderState) (unread unread' held held' : Option (List ℕ)) (fault : RunFault) →
     RunsOutWhole Sends s (λ _. []) unread unread' held held' (Err fault) s' → SendsLines s unread unread' held held' (Err (said fault s'.why))
 lines_stopped s s' unread unread' held held' fault whole = elim whole [
-  | inl (f, same, fails) ↦
+  | inl (f, same, breaks) ↦
       (let is_f = same_fault fault f same in
-      let breaks = subst Fails (sym is_f) fails in
-      inl (fault, ap stopped (said_fails fault s'.why breaks), breaks))
+      let fails = subst Fails (sym is_f) (breaks_fails Sends s (λ _. []) unread unread' held held' f breaks) in
+      inl (f, ap stopped (said_fails fault s'.why fails ∙ is_f), breaks))
   | inr (input, lines, is_input, ran, appends) ↦ inr (input, lines, s', is_input, appends, (fault, ran, refl))
 ]
 
@@ -241,6 +243,10 @@ lines_stopped s s' unread unread' held held' fault whole = elim whole [
 abbrev pub ServedBy : {C I O : Type 0} → (opens : C → Option (I × O) → C → Type 0) → (remaining : I → Option (List ℕ)) → (contents : O → Option (List ℕ)) → (connections turns : ℕ) → C → C → (held held' : Option (List ℕ)) → Options → Type 0
 ServedBy opens remaining contents connections turns c c' held held' o =
     IsSetup o × ((outcomes : List Outcome) × (e' : EncoderState Store) × (length outcomes ≡ connections) × Sessions step opens remaining contents turns (encoder_at_first o) c outcomes e' c' × Appends held held' (connection_lines 1 outcomes))
+
+abbrev pub SomeBy : {C I O : Type 0} → (C → Option (I × O) → C → Type 0) → (I → Option (List ℕ)) → (O → Option (List ℕ)) → (connections turns : ℕ) → C → C → (held held' : Option (List ℕ)) → Options → Type 0
+SomeBy opens remaining contents connections turns c c' held held' o =
+    (outcomes : List Outcome) × (e' : EncoderState Store) × (length outcomes ≤ connections) × Sessions step opens remaining contents turns (encoder_at_first o) c outcomes e' c' × Begins held held' (connection_lines 1 outcomes)
 
 abbrev pub FewerBy : {C I O : Type 0} → (opens : C → Option (I × O) → C → Type 0) → (remaining : I → Option (List ℕ)) → (contents : O → Option (List ℕ)) → (connections turns : ℕ) → C → C → (held held' : Option (List ℕ)) → Options → Type 0
 FewerBy {C} opens remaining contents connections turns c c' held held' o =
@@ -257,6 +263,10 @@ module _ {C I O : Type 0} (opens : C → Option (I × O) → C → Type 0) (rema
   pub fewer_by : (outcomes : List Outcome) × (last : C) × (length outcomes < connections) × Sessions step opens remaining contents turns e c outcomes e' last × opens last None c' × Appends held held' (connection_lines 1 outcomes) →
       FewerBy opens remaining contents connections turns c c' held held' o
   fewer_by (outcomes, last, count, sessions, none, appends) = (is_setup, (outcomes, e', last, count, subst (λ first. Sessions step opens remaining contents turns first c outcomes e' last) at_first sessions, none, appends))
+
+  pub some_by : (outcomes : List Outcome) × (length outcomes ≤ connections) × Sessions step opens remaining contents turns e c outcomes e' c' × Begins held held' (connection_lines 1 outcomes) →
+      SomeBy opens remaining contents connections turns c c' held held' o
+  some_by (outcomes, count, sessions, begins) = (outcomes, e', count, subst (λ first. Sessions step opens remaining contents turns first c outcomes e' c') at_first sessions, begins)
 
 -- connections that stopped for this
 abbrev pub halted : ServeStop → Result (Unit {0}) ServeStop

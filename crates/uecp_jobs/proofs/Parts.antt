@@ -2,7 +2,8 @@
 use Rattle.std.proofs.Common.{◌≡◌, ℕ, List, [], ◌∷◌, ◌++◌, Option, None, Some, Result, Ok, Err, ap, ◌∙◌, inl, inr}
 use Rattle.uecp_text.specs.declared.run_fault.RunFault.{RunFault}
 use Rattle.uecp_text.specs.Input.{texts_of}
-use Rattle.uecp_text.specs.Run.{Outcome, Meaning, Runs, Prints, RunsWhole}
+use Rattle.uecp_text.specs.declared.run_fault.RunFault.TheVariants.{Writing, OutOfMemory}
+use Rattle.uecp_text.specs.Run.{Outcome, Meaning, Runs, RunsFirst, Prints, WritesSome, Breaks, RunsWhole}
 
 module _ {V W F : Type 0} (meaning : Meaning V) (inner : Meaning W) (part : V → W) (flag : V → F)
     (by : (v : V) (text : List ℕ) (outcome : Outcome) (v' : V) → meaning v text outcome v' → inner (part v) text outcome (part v') × (flag v' ≡ flag v)) where
@@ -26,10 +27,34 @@ module _ {V W F : Type 0} (meaning : Meaning V) (inner : Meaning W) (part : V �
       (part v', lines, inside.0, is ∙ ap (λ l. lines ++ l) (closes v' ∙ ap (λ f. told f (part v')) inside.1))
   prints_part v closing told input (Err fault) written closes (v', ran) = (part v', (runs_part v v' (texts_of input) written (Some fault) ran).0)
 
+  -- some first texts
+  first_part : (v : V) (texts : List (ℕ × List ℕ)) (lines : List ℕ) → RunsFirst meaning v texts lines → RunsFirst inner (part v) texts lines
+  first_part v texts lines (first, later, v', texts_are, ran) = (first, later, part v', texts_are, (runs_part v v' first lines None ran).0)
+
+  some_part : (v : V) (closing : V → List ℕ) (told : F → W → List ℕ) (input : List ℕ) (held held' : Option (List ℕ)) (fault : RunFault) → ((v' : V) → closing v' ≡ told (flag v') (part v')) →
+      WritesSome meaning v closing input held held' fault → WritesSome inner (part v) (told (flag v)) input held held' fault
+  some_part v closing told input held held' OutOfMemory closes (lines, first, wrote) = (lines, first_part v (texts_of input) lines first, wrote)
+  some_part v closing told input held held' Writing closes (lines, up_to, begins) = (
+    lines,
+    elim up_to [
+      | inl first ↦ inl (first_part v (texts_of input) lines first)
+      | inr (result, prints) ↦ inr (result, prints_part v closing told input result lines closes prints)
+    ],
+    begins,
+  )
+  some_part v closing told input held held' fault closes breaks = absurd breaks
+
+  breaks_part : (v : V) (closing : V → List ℕ) (told : F → W → List ℕ) (unread unread' held held' : Option (List ℕ)) (fault : RunFault) → ((v' : V) → closing v' ≡ told (flag v') (part v')) →
+      Breaks meaning v closing unread unread' held held' fault → Breaks inner (part v) (told (flag v)) unread unread' held held' fault
+  breaks_part v closing told unread unread' held held' fault closes breaks = elim breaks [
+    | inl unwritten ↦ inl unwritten
+    | inr (input, is_input, some) ↦ inr (input, is_input, some_part v closing told input held held' fault closes some)
+  ]
+
   pub whole_part : (v : V) (closing : V → List ℕ) (told : F → W → List ℕ) (unread unread' held held' : Option (List ℕ)) (result : Result (Unit {0}) RunFault) →
       ((v' : V) → closing v' ≡ told (flag v') (part v')) → RunsWhole meaning v closing unread unread' held held' result →
       RunsWhole inner (part v) (told (flag v)) unread unread' held held' result
   whole_part v closing told unread unread' held held' result closes ran = elim ran [
-    | inl failed ↦ inl failed
+    | inl (fault, is, breaks) ↦ inl (fault, is, breaks_part v closing told unread unread' held held' fault closes breaks)
     | inr (input, written, is_input, prints, appends) ↦ inr (input, written, is_input, prints_part v closing told input result written closes prints, appends)
   ]

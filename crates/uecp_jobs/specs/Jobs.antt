@@ -5,9 +5,9 @@ use Rattle.uecp_frame.specs.Findings.{Closed}
 use Rattle.uecp_jobs.specs.declared.job.Job.{Job}
 use Rattle.uecp_jobs.specs.declared.job.Job.TheVariants.{Answer, Show, Make, Line, Encoder, Server}
 use Rattle.uecp_text.specs.declared.run_fault.RunFault.{RunFault}
-use Rattle.uecp_text.specs.Faults.{Fails, status_of, error_lines}
+use Rattle.uecp_text.specs.Faults.{status_of, error_lines}
 use Rattle.uecp_text.specs.Written.{Begins}
-use Rattle.uecp_text.specs.Run.{IsInput, Prints}
+use Rattle.uecp_text.specs.Run.{Meaning, IsInput, Prints, Breaks}
 use Rattle.uecp_jobs.specs.Setups.{Options, IsOneEncoder, IsSetup, RefusesSetup, RefusesAddress, encoder_at_first, line_at_first, sender_at_first}
 use Rattle.uecp_lines.specs.StoreLines.{last_lines}
 use Rattle.uecp_jobs.specs.Commands.{Shows, Answers}
@@ -25,18 +25,22 @@ IsLocal (Encoder site encoder sets services port connections turns) = ⊥
 IsLocal (Server site encoder host port tries timeout turns reconnects) = ⊥
 IsLocal job = Unit {0}
 
--- What the job writes of an input, by its command: the lines of the texts, and the closing ones where no line is refused; the result names the refused line. An encoder
--- over connections reads no input.
+-- What is told of a job by its command: by what texts mean to it, the value that it begins with, and its closing lines. An encoder over connections reads no input.
+abbrev pub ByCommand : Job → ((V : Type 0) → Meaning V → V → (closing : V → List ℕ) → Type 0) → Type 0
+ByCommand Show tells = tells _ Shows Closed (λ part. [])
+ByCommand Make tells = tells _ Makes None spelled_line
+ByCommand (Answer site encoder sets services store) tells = tells _ Answers (encoder_at_first (options site encoder sets services.items)) (λ e. last_lines store e.value)
+ByCommand (Line site encoder sets services store) tells = tells _ Plays (line_at_first (options site encoder sets services.items)) (closing_lines store)
+ByCommand (Server site encoder host port tries timeout turns reconnects) tells = tells _ Sends (sender_at_first site encoder tries turns reconnects) (λ s. [])
+ByCommand (Encoder site encoder sets services port connections turns) tells = ⊥
+
+-- What the job writes of an input: the lines of the texts, and the closing ones where no line is refused; the result names the refused line.
 abbrev pub JobPrints : Job → (input : List ℕ) → Result (Unit {0}) RunFault → (written : List ℕ) → Type 0
-JobPrints Show input result written = Prints Shows Closed (λ part. []) input result written
-JobPrints Make input result written = Prints Makes None spelled_line input result written
-JobPrints (Answer site encoder sets services store) input result written =
-    Prints Answers (encoder_at_first (options site encoder sets services.items)) (λ e. last_lines store e.value) input result written
-JobPrints (Line site encoder sets services store) input result written =
-    Prints Plays (line_at_first (options site encoder sets services.items)) (closing_lines store) input result written
-JobPrints (Server site encoder host port tries timeout turns reconnects) input result written =
-    Prints Sends (sender_at_first site encoder tries turns reconnects) (λ s. []) input result written
-JobPrints (Encoder site encoder sets services port connections turns) input result written = ⊥
+JobPrints job input result written = ByCommand job (λ V meaning v closing. Prints meaning v closing input result written)
+
+-- The job failed for this: its input was not read to its end, and nothing was written; or it was, and what was written is a beginning of what the job writes of it.
+abbrev pub JobBreaks : Job → (unread unread' : Option (List ℕ)) → (held held' : Option (List ℕ)) → RunFault → Type 0
+JobBreaks job unread unread' held held' fault = ByCommand job (λ V meaning v closing. Breaks meaning v closing unread unread' held held' fault)
 
 -- The options of a job describe an encoder, or where it is a server the address of one.
 abbrev pub IsDescribed : Job → Type 0
@@ -63,7 +67,7 @@ Wrote job unread unread' result held held' =
 
 -- The job was done, up to the line that was refused if there is one. Or it failed.
 abbrev pub DoesJob : Job → (unread unread' : Option (List ℕ)) → (held held' : Option (List ℕ)) → Result (Unit {0}) RunFault → Type 0
-DoesJob job unread unread' held held' result = ((fault : RunFault) × (result ≡ Err fault) × Fails fault) ⊎ Wrote job unread unread' result held held'
+DoesJob job unread unread' held held' result = ((fault : RunFault) × (result ≡ Err fault) × JobBreaks job unread unread' held held' fault) ⊎ Wrote job unread unread' result held held'
 
 -- ---- how a job ends
 -- All of it was done.
@@ -79,6 +83,6 @@ IsRefused job unread unread' held held' told told' =
 abbrev pub IsUndescribed : Job → (told told' : Option (List ℕ)) → Type 0
 IsUndescribed job told told' = (fault : RunFault) × RefusesJob job fault × Begins told told' (error_lines fault)
 
--- A run failed, or a text ended it, and that was said, or begun to be said.
-abbrev pub HasFailed : (told told' : Option (List ℕ)) → Type 0
-HasFailed told told' = (fault : RunFault) × (status_of fault ≡ 3) × Begins told told' (error_lines fault)
+-- Memory, reading or writing failed, and that was said, or begun to be said. What was written is a beginning of what the job writes of its input, and nothing where that was not read to its end.
+abbrev pub HasFailed : Job → (unread unread' held held' told told' : Option (List ℕ)) → Type 0
+HasFailed job unread unread' held held' told told' = (fault : RunFault) × JobBreaks job unread unread' held held' fault × Begins told told' (error_lines fault)

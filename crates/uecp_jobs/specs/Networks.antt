@@ -1,5 +1,5 @@
 -- What the jobs with connections do, and how they end (profile).
-use Rattle.std.specs.Prelude.{◌≡◌, ◌⊎◌, ◌<◌, ◌++◌, ℕ, List, codes, length, Option, Some, None, Result, Ok, Err, MatchResult}
+use Rattle.std.specs.Prelude.{◌≡◌, ◌⊎◌, ◌<◌, ◌≤◌, ◌++◌, ℕ, List, [], codes, length, Option, Some, None, Result, Ok, Err, MatchResult}
 use Rattle.std.specs.Io.KnownBytes.{Appends}
 use Rattle.rds_store.specs.Value.{Store}
 use Rattle.rds_store.specs.Step.{step}
@@ -7,9 +7,9 @@ use Rattle.uecp_elements.specs.declared.code.Code.{Code}
 use Rattle.uecp_encoder.specs.State.{EncoderState}
 use Rattle.uecp_text.specs.declared.run_fault.RunFault.{RunFault}
 use Rattle.uecp_text.specs.declared.run_fault.RunFault.TheVariants as run
-use Rattle.uecp_text.specs.Faults.{Fails, error_lines}
+use Rattle.uecp_text.specs.Faults.{Fails, status_of, error_lines}
 use Rattle.uecp_text.specs.Input.{texts_of}
-use Rattle.uecp_text.specs.Run.{Runs, IsInput}
+use Rattle.uecp_text.specs.Run.{Runs, IsInput, Breaks}
 use Rattle.uecp_text.specs.Written.{Begins}
 use Rattle.uecp_net.specs.declared.sending.Outstanding.{Outstanding}
 use Rattle.uecp_net.specs.declared.sending.Outstanding.TheVariants.{ConnectionFailed}
@@ -32,10 +32,6 @@ abbrev pub IsServer : Job → Type 0
 IsServer (Server site encoder host port tries timeout turns reconnects) = Unit {0}
 IsServer job = ⊥
 
--- Memory, reading or writing failed, and that was said, or begun to be said.
-abbrev pub HasBroken : (told told' : Option (List ℕ)) → Type 0
-HasBroken told told' = (fault : RunFault) × Fails fault × Begins told told' (error_lines fault)
-
 -- ---- `encoder`
 -- The options describe an encoder. It served as many connections as it should, one after another, each from the state that the one before left, and the writer got the line of each.
 abbrev pub ServedAll : {C I O : Type 0} → (opens : C → Option (I × O) → C → Type 0) → (remaining : I → Option (List ℕ)) → (contents : O → Option (List ℕ)) → Job → C → C → (held held' : Option (List ℕ)) → Type 0
@@ -55,17 +51,37 @@ ServedFewer {C} opens remaining contents (Encoder site encoder sets services por
     × Appends held held' (connection_lines 1 outcomes))
 ServedFewer opens remaining contents job c c' held held' = ⊥
 
--- What was served, by the result: all connections; or fewer, where there was none to be had. Or the run failed.
+-- An encoder served as many connections as it should, or fewer, one after another, and the writer got a beginning of their lines.
+abbrev pub ServedSome : {C I O : Type 0} → (opens : C → Option (I × O) → C → Type 0) → (remaining : I → Option (List ℕ)) → (contents : O → Option (List ℕ)) → Job → C → C → (held held' : Option (List ℕ)) → Type 0
+ServedSome opens remaining contents (Encoder site encoder sets services port connections turns) c c' held held' =
+    (outcomes : List Outcome) × (e' : EncoderState Store) × (length outcomes ≤ connections)
+    × Sessions step opens remaining contents turns (encoder_at_first (options site encoder sets services.items)) c outcomes e' c'
+    × Begins held held' (connection_lines 1 outcomes)
+ServedSome opens remaining contents job c c' held held' = ⊥
+
+-- What was served, by the result: all connections; or fewer, where there was none to be had; or some, where memory or writing failed.
 abbrev pub Serves : {C I O : Type 0} → (opens : C → Option (I × O) → C → Type 0) → (remaining : I → Option (List ℕ)) → (contents : O → Option (List ℕ)) → Job → C → C → (held held' : Option (List ℕ)) → Result (Unit {0}) RunFault → Type 0
 Serves opens remaining contents job c c' held held' result =
     MatchResult result
     (λ _. ServedAll opens remaining contents job c c' held held')
-    (λ fault. ((fault ≡ run.Listening) × ServedFewer opens remaining contents job c c' held held') ⊎ Fails fault)
+    (λ fault. ((fault ≡ run.Listening) × ServedFewer opens remaining contents job c c' held held') ⊎ (Fails fault × ServedSome opens remaining contents job c c' held held'))
 
 -- There was no connection to be had: fewer were served than should be, and that was said, or begun to be said.
 abbrev pub HasNotListened : {C I O : Type 0} → (opens : C → Option (I × O) → C → Type 0) → (remaining : I → Option (List ℕ)) → (contents : O → Option (List ℕ)) → Job → C → C → (held held' told told' : Option (List ℕ)) → Type 0
 HasNotListened opens remaining contents job c c' held held' told told' =
     ServedFewer opens remaining contents job c c' held held' × Begins told told' (error_lines run.Listening)
+
+-- Memory or writing failed where connections were served, and that was said, or begun to be said. The writer got a beginning of the lines of those that were served.
+abbrev pub HasBroken : {C I O : Type 0} → (opens : C → Option (I × O) → C → Type 0) → (remaining : I → Option (List ℕ)) → (contents : O → Option (List ℕ)) → Job → C → C → (held held' told told' : Option (List ℕ)) → Type 0
+HasBroken opens remaining contents job c c' held held' told told' =
+    (fault : RunFault) × Fails fault × ServedSome opens remaining contents job c c' held held' × Begins told told' (error_lines fault)
+
+-- What is left to say of connections of which nothing is known, where not all could be served or not all be told: the writer got a beginning of the lines of as many connections as should be
+-- served, or fewer, and why it stopped was said, or begun to be said.
+abbrev pub HasStopped : Job → (held held' told told' : Option (List ℕ)) → Type 0
+HasStopped (Encoder site encoder sets services port connections turns) held held' told told' =
+    (fault : RunFault) × (status_of fault ≡ 3) × ((outcomes : List Outcome) × (length outcomes ≤ connections) × Begins held held' (connection_lines 1 outcomes)) × Begins told told' (error_lines fault)
+HasStopped job held held' told told' = ⊥
 
 -- What is left to say of connections of which nothing is known: the options describe an encoder, and the writer got the lines of as many connections as it should serve.
 abbrev pub HasServed : Job → (held held' : Option (List ℕ)) → Type 0
@@ -95,7 +111,7 @@ as_run (Err stop) = Err (as_fault stop)
 -- From this sender on, the messages of all that the reader had left were sent, as far as the result says, and the writer got the lines of that, as far as both tell. Or the run failed.
 abbrev pub SendsLines : SenderState → (unread unread' held held' : Option (List ℕ)) → Result (Unit {0}) RunFault → Type 0
 SendsLines s unread unread' held held' result =
-    ((fault : RunFault) × (result ≡ Err fault) × Fails fault)
+    ((fault : RunFault) × (result ≡ Err fault) × Breaks Sends s (λ _. []) unread unread' held held' fault)
     ⊎ ((input : List ℕ) × (lines : List ℕ) × (s' : SenderState) × IsInput unread unread' input × Appends held held' lines
     × MatchResult result
     (λ _. Runs Sends s (texts_of input) lines None s')

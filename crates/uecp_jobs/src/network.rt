@@ -5,7 +5,7 @@ ghost use Rattle.uecp_net.specs.declared.serving.ServeStop.TheVariants.{Listenin
 ghost use Rattle.uecp_text.specs.Faults.{Fails};
 ghost use Rattle.uecp_text.specs.Streaming.{RunsOutWhole};
 ghost use Rattle.uecp_text.specs.declared.run_fault.RunFault.TheVariants.{Listening};
-ghost use Rattle.uecp_jobs.specs.Jobs.{IsDescribed, RefusesJob, IsDone, IsRefused, IsUndescribed};
+ghost use Rattle.uecp_jobs.specs.Jobs.{IsDescribed, RefusesJob, IsDone, IsRefused, IsUndescribed, HasFailed};
 ghost use Rattle.uecp_jobs.specs.Networks.{IsEncoder, IsServer, ServedAll, Serves, HasNotListened, HasBroken, as_fault, as_run, SendsLines, SendsAll, AreAcknowledged, IsOutstanding, said};
 
 use crate::job::Job;
@@ -49,8 +49,8 @@ pub fn run_encoder<W: Write, E: Write, C: Connect>(
     ensures done { result ≡ 0 → ServedAll C.opens C.Input.remaining C.Output.contents job.now connect.old connect.new (W.contents writer.old) (W.contents writer.new) × (errors.new ≡ errors.old) }
     // 2: the options describe no encoder. No connection was opened, and nothing was written.
     ensures undescribed { result ≡ 2 → IsUndescribed job.now (E.contents errors.old) (E.contents errors.new) × (writer.new ≡ writer.old) × (connect.new ≡ connect.old) }
-    // 3: there was no connection to be had; or memory or writing failed.
-    ensures failed { result ≡ 3 → HasNotListened C.opens C.Input.remaining C.Output.contents job.now connect.old connect.new (W.contents writer.old) (W.contents writer.new) (E.contents errors.old) (E.contents errors.new) ⊎ HasBroken (E.contents errors.old) (E.contents errors.new) }
+    // 3: there was no connection to be had, and each that was served has its line; or memory or writing failed, and a beginning of the lines of those that were served was written.
+    ensures failed { result ≡ 3 → HasNotListened C.opens C.Input.remaining C.Output.contents job.now connect.old connect.new (W.contents writer.old) (W.contents writer.new) (E.contents errors.old) (E.contents errors.new) ⊎ HasBroken C.opens C.Input.remaining C.Output.contents job.now connect.old connect.new (W.contents writer.old) (W.contents writer.new) (E.contents errors.old) (E.contents errors.new) }
 {
     match serve_all(alloc, job, writer, connect) {
         Ok(()) => 0,
@@ -97,7 +97,7 @@ fn serve_all<W: Write, C: Connect>(
 
 /// The fault of a run that stopped for this.
 fn fault_of_stop(stop: ServeStop) -> RunFault
-    ensures { ((stop ≡ ListeningFailed) × (result ≡ Listening)) ⊎ Fails result }
+    ensures { ((stop ≡ ListeningFailed) × (result ≡ Listening)) ⊎ ((stop ≢ ListeningFailed) × Fails result) }
 {
     match stop {
         ServeStop::ListeningFailed => RunFault::Listening,
@@ -126,8 +126,8 @@ pub fn run_server<R: Read, W: Write, E: Write, C: Connect>(
     ensures refused { result ≡ 1 → IsRefused job.now (R.remaining reader.old) (R.remaining reader.new) (W.contents writer.old) (W.contents writer.new) (E.contents errors.old) (E.contents errors.new) }
     // 2: the address is not that of one encoder. No connection was opened, and nothing was read or written.
     ensures undescribed { result ≡ 2 → IsUndescribed job.now (E.contents errors.old) (E.contents errors.new) × (reader.new ≡ reader.old) × (writer.new ≡ writer.old) × (connect.new ≡ connect.old) }
-    // 3: a message is outstanding; or memory, reading or writing failed.
-    ensures failed { result ≡ 3 → IsOutstanding job.now (R.remaining reader.old) (R.remaining reader.new) (W.contents writer.old) (W.contents writer.new) (E.contents errors.old) (E.contents errors.new) ⊎ HasBroken (E.contents errors.old) (E.contents errors.new) }
+    // 3: a message is outstanding; or memory, reading or writing failed, and what was written is a beginning of what the job writes of its input.
+    ensures failed { result ≡ 3 → IsOutstanding job.now (R.remaining reader.old) (R.remaining reader.new) (W.contents writer.old) (W.contents writer.new) (E.contents errors.old) (E.contents errors.new) ⊎ HasFailed job.now (R.remaining reader.old) (R.remaining reader.new) (W.contents writer.old) (W.contents writer.new) (E.contents errors.old) (E.contents errors.new) }
 {
     match send_all(alloc, job, reader, writer, connect) {
         Ok(()) => 0,

@@ -33,8 +33,8 @@ pub fn run_job<R: Read, W: Write, E: Write>(
     ensures refused { result ≡ 1 → IsRefused job.now (R.remaining reader.old) (R.remaining reader.new) (W.contents writer.old) (W.contents writer.new) (E.contents errors.old) (E.contents errors.new) }
     // 2: the options describe no encoder. Nothing was read or written.
     ensures undescribed { result ≡ 2 → IsUndescribed job.now (E.contents errors.old) (E.contents errors.new) × (reader.new ≡ reader.old) × (writer.new ≡ writer.old) }
-    // 3: memory, reading or writing failed.
-    ensures failed { result ≡ 3 → HasFailed (E.contents errors.old) (E.contents errors.new) }
+    // 3: memory, reading or writing failed, that was said, and what was written is a beginning of what the job writes of its input.
+    ensures failed { result ≡ 3 → HasFailed job.now (R.remaining reader.old) (R.remaining reader.new) (W.contents writer.old) (W.contents writer.new) (E.contents errors.old) (E.contents errors.new) }
 {
     match do_job(alloc, job, reader, writer) {
         Ok(()) => 0,

@@ -1,5 +1,8 @@
 -- One connection more.
 use Rattle.std.proofs.Common.{◌≡◌, ℕ, ◌+◌, List, [], ◌∷◌, ◌++◌, length, Option, Some, refl, ◌∙◌, ap, sym, subst, suc, arith, append_assoc, append-nil}
+use Rattle.std.specs.Io.KnownBytes.{Appends}
+use Rattle.std.proofs.KnownBytes.{Appends-trans}
+use Rattle.uecp_text.specs.Written.{Begins}
 use Rattle.uecp_encoder.specs.Target.{Step}
 use Rattle.uecp_encoder.specs.State.{EncoderState}
 use Rattle.uecp_net.specs.Sessions.{Outcome, Session, Sessions, connection_line, connection_lines}
@@ -17,3 +20,15 @@ lines_on number [] outcome = append-nil (connection_line number outcome) ∙ ap 
 lines_on number (first ∷ outcomes) outcome =
     ap (λ l. connection_line number first ++ l) (lines_on (number + 1) outcomes outcome) ∙ sym (append_assoc (connection_line number first) (connection_lines (number + 1) outcomes) (connection_line (number + 1 + length outcomes) outcome))
     ∙ ap (λ n. connection_line number first ++ connection_lines (number + 1) outcomes ++ connection_line n outcome) (let q : number + 1 + length outcomes ≡ number + suc (length outcomes) = omega arith in q)
+
+-- the lines of connections, and a beginning of the line of one more
+pub begun_on : (held now now' : Option (List ℕ)) (outcomes : List Outcome) (outcome : Outcome) (number : ℕ) → number ≡ length outcomes + 1 → Appends held now (connection_lines 1 outcomes) →
+    Begins now now' (connection_line number outcome) → Begins held now' (connection_lines 1 (outcomes ++ outcome ∷ []))
+begun_on held now now' outcomes outcome number number_is lines (part, rest, line_is, begun) = (
+  connection_lines 1 outcomes ++ part,
+  rest,
+  lines_on 1 outcomes outcome
+      ∙ ap (λ n. connection_lines 1 outcomes ++ connection_line n outcome) (let q : 1 + length outcomes ≡ number = omega (arith, number_is) in q)
+      ∙ ap (λ l. connection_lines 1 outcomes ++ l) line_is ∙ sym (append_assoc (connection_lines 1 outcomes) part rest),
+  Appends-trans held now now' (connection_lines 1 outcomes) part lines begun,
+)

@@ -1,7 +1,7 @@
 //! An encoder over one connection after another. Source: profile.
-ghost use Rattle.std.specs.Prelude.{◌≡◌, ◌<◌, ◌+◌, List, Some, None, Err, OnOk, IfSome, IfNone, length};
+ghost use Rattle.std.specs.Prelude.{◌≡◌, ◌≢◌, ◌<◌, ◌≤◌, ◌+◌, List, Some, None, Err, OnOk, IfErr, IfSome, IfNone, length};
 ghost use Rattle.std.specs.Io.KnownBytes.{Appends};
-ghost use Rattle.uecp_text.specs.Written.{Adds};
+ghost use Rattle.uecp_text.specs.Written.{Adds, Begins};
 ghost use Rattle.uecp_net.specs.declared.serving.ServeStop.TheVariants.{ListeningFailed};
 ghost use Rattle.uecp_net.specs.Sessions.{Outcome, Session, Sessions, connection_line, connection_lines};
 
@@ -40,6 +40,10 @@ pub fn serve_connections<T: Target, C: Connect, W: Write>(
         × Sessions T.step C.opens C.Input.remaining C.Output.contents turns encoder.old connect.old outcomes encoder.new last
         × C.opens last None connect.new
         × Appends (W.contents writer.old) (W.contents writer.new) (connection_lines 1 outcomes) }
+    // There was no memory for the line of the last one that was served, or writing failed: the writer got a beginning of the lines.
+    ensures broken { IfErr result (λ stop. stop ≢ ListeningFailed → (outcomes : List Outcome) × (length outcomes ≤ connections)
+        × Sessions T.step C.opens C.Input.remaining C.Output.contents turns encoder.old connect.old outcomes encoder.new connect.new
+        × Begins (W.contents writer.old) (W.contents writer.new) (connection_lines 1 outcomes)) }
 {
     let mut output = Output::new(alloc);
     for before in 0..connections {

@@ -1,5 +1,5 @@
 -- Runs over texts, part by part.
-use Rattle.std.proofs.Common.{◌≡◌, ℕ, ◌+◌, List, [], ◌∷◌, ◌++◌, Option, Some, None, Err, refl, sym, ap, ◌∙◌, append_assoc, append-nil, inl, inr, subst, IsTrue, ◌⊎◌}
+use Rattle.std.proofs.Common.{◌≡◌, ℕ, ◌+◌, List, [], ◌∷◌, ◌++◌, Option, Some, None, Err, refl, sym, ap, ◌∙◌, append_assoc, append-nil, inl, inr, subst, IsTrue, true, Result, Ok, ◌⊎◌}
 use Rattle.uecp_text.specs.declared.line_fault.LineFault.{LineFault}
 use Rattle.uecp_text.specs.declared.line_fault.LineFault.TheVariants as line
 use Rattle.uecp_text.specs.declared.run_fault.RunFault.{RunFault}
@@ -7,7 +7,7 @@ use Rattle.uecp_text.specs.declared.run_fault.RunFault.TheVariants as run
 use Rattle.uecp_text.specs.declared.interpreter.Taken.{Taken}
 use Rattle.uecp_text.specs.declared.interpreter.Taken.TheVariants as taken
 use Rattle.uecp_text.specs.Input.{under, numbered, said, lines_of}
-use Rattle.uecp_text.specs.Run.{Meaning, Brings, Ends, Refuses, Runs, RunsOn, fault_at, outcome_of}
+use Rattle.uecp_text.specs.Run.{Meaning, Brings, Refuses, Runs, RunsFirst, RunsOn, fault_at, outcome_of}
 use Rattle.uecp_text.specs.Written.{Kept, Writes, Adds}
 
 pub writes_then : (a b c : Kept) (x y : List ℕ) → Writes a b x → Writes b c y → Writes a c (x ++ y)
@@ -21,6 +21,22 @@ writes_nothing a = λ whole. (whole, sym (append-nil a.bytes))
 
 pub adds_whole : (a b : Kept) (x : List ℕ) → IsTrue b.is_whole → Adds a b x → Writes a b x
 adds_whole a b x whole adds = λ _. (whole, (adds whole).1)
+
+-- lines that were taken into an empty output, and then added
+pub writes_added : (empty taken before after : Kept) (lines : List ℕ) → empty.bytes ≡ [] → empty.is_whole ≡ true → Writes empty taken lines → after.bytes ≡ before.bytes ++ taken.bytes → after.is_whole ≡ before.is_whole → Writes before after lines
+writes_added empty taken before after lines none whole writes added same = λ w.
+    (same ∙ w, added ∙ ap (λ bytes. before.bytes ++ bytes) ((writes whole).1 ∙ ap (λ bytes. bytes ++ lines) none))
+
+-- ---- some first texts
+pub first_none : {V : Type 0} (meaning : Meaning V) (v : V) (texts : List (ℕ × List ℕ)) → RunsFirst meaning v texts []
+first_none meaning v texts = ([], texts, v, refl, (refl, refl, refl))
+
+pub first_all : {V : Type 0} (meaning : Meaning V) (v v' : V) (texts : List (ℕ × List ℕ)) (lines : List ℕ) → Runs meaning v texts lines None v' → RunsFirst meaning v texts lines
+first_all meaning v v' texts lines ran = (texts, [], v', sym (append-nil texts), ran)
+
+-- memory was wanting before anything was added
+pub wanting : {V : Type 0} (meaning : Meaning V) (v v' : V) (texts : List (ℕ × List ℕ)) (out : Kept) → RunsOn meaning v texts out (Err run.OutOfMemory) v' out
+wanting meaning v v' texts out = inl (refl, ([], first_none meaning v texts, writes_nothing out))
 
 -- after texts that were all taken, more texts
 pub runs_on : {V : Type 0} (meaning : Meaning V) (v m v' : V) (now later : List (ℕ × List ℕ)) (first rest : List ℕ) (stop : Option RunFault) →
@@ -60,41 +76,51 @@ takes_one meaning v v' number text lines said = inl (lines, [], v', said, sym (a
 refuses_one : {V : Type 0} (meaning : Meaning V) (v v' : V) (number : ℕ) (text : List ℕ) (fault : LineFault) → meaning v text (Refuses fault) v' → Runs meaning v ((number, text) ∷ []) [] (Some (run.Line number fault)) v'
 refuses_one meaning v v' number text fault said = inr (inl (fault, said, refl, refl))
 
--- a text that brought its lines, and ended the run
-pub ended_one : {V : Type 0} (meaning : Meaning V) (v v' : V) (number : ℕ) (text : Option (List ℕ)) (said : List ℕ) (before after : Kept) →
-    text ≡ Some said → (turn : Taken) → turn ≡ taken.Ends → (lines : List ℕ) × meaning v said (outcome_of turn lines) v' × Writes before after lines →
-    RunsOn meaning v (under number text []) before (Err run.Outstanding) v' after
-ended_one meaning v v' number text said before after text_is turn turn_is (lines, came, writes) =
-    let ends : meaning v said (Ends lines) v' = subst (λ t. meaning v said (outcome_of t lines) v') turn_is came in
-    subst (λ t. RunsOn meaning v (under number t []) before (Err run.Outstanding) v' after) (sym text_is) (inr (lines, inr (inr (ends, refl)), writes))
+-- what says how a run goes on after a text that was taken
+abbrev pub gone_on : Taken → Result (Unit {0}) RunFault
+gone_on taken.GoesOn = Ok tt
+gone_on taken.Ends = Err run.Outstanding
+
+-- a text that brought its lines into an empty output, which were then added
+pub taken_one : {V : Type 0} (meaning : Meaning V) (v v' : V) (number : ℕ) (text : Option (List ℕ)) (said : List ℕ) (turn : Taken) (empty took before after : Kept) →
+    text ≡ Some said → empty.bytes ≡ [] → empty.is_whole ≡ true → (lines : List ℕ) × meaning v said (outcome_of turn lines) v' × Writes empty took lines →
+    after.bytes ≡ before.bytes ++ took.bytes → after.is_whole ≡ before.is_whole → RunsOn meaning v (under number text []) before (gone_on turn) v' after
+taken_one meaning v v' number text said turn empty took before after text_is none whole (lines, came, writes) added same =
+    subst (λ t. RunsOn meaning v (under number t []) before (gone_on turn) v' after) (sym text_is) (by_turn turn came)
+  where
+    wrote : Writes before after lines
+    wrote = writes_added empty took before after lines none whole writes added same
+
+    by_turn : (turn : Taken) → meaning v said (outcome_of turn lines) v' → RunsOn meaning v ((number, said) ∷ []) before (gone_on turn) v' after
+    by_turn taken.GoesOn came = (lines, takes_one meaning v v' number said lines came, wrote)
+    by_turn taken.Ends came = inr (lines, inr (inr (came, refl)), wrote)
 
 -- a text whose taking failed with this fault, which the run reports under the line's number
-pub failed_one : {V : Type 0} (meaning : Meaning V) (v v' : V) (number : ℕ) (text : Option (List ℕ)) (said : List ℕ) (fault : LineFault) (reported : RunFault) (before after : Kept) →
-    text ≡ Some said → reported ≡ fault_at number fault → (fault ≡ line.OutOfMemory) ⊎ (meaning v said (Refuses fault) v' × Writes before after []) →
-    RunsOn meaning v (under number text []) before (Err reported) v' after
-failed_one meaning v v' number text said fault reported before after text_is reported_is failed =
-    subst (λ t. RunsOn meaning v (under number t []) before (Err reported) v' after) (sym text_is)
-    (subst (λ r. RunsOn meaning v ((number, said) ∷ []) before (Err r) v' after) (sym reported_is) (by_fault fault failed))
+pub failed_one : {V : Type 0} (meaning : Meaning V) (v v' : V) (number : ℕ) (text : Option (List ℕ)) (said : List ℕ) (fault : LineFault) (reported : RunFault) (empty took out : Kept) →
+    text ≡ Some said → reported ≡ fault_at number fault → (fault ≡ line.OutOfMemory) ⊎ (meaning v said (Refuses fault) v' × Writes empty took []) →
+    RunsOn meaning v (under number text []) out (Err reported) v' out
+failed_one meaning v v' number text said fault reported empty took out text_is reported_is failed =
+    subst (λ t. RunsOn meaning v (under number t []) out (Err reported) v' out) (sym text_is)
+    (subst (λ r. RunsOn meaning v ((number, said) ∷ []) out (Err r) v' out) (sym reported_is) (by_fault fault failed))
   where
-    named : (fault : LineFault) → meaning v said (Refuses fault) v' × Writes before after [] → RunsOn meaning v ((number, said) ∷ []) before (Err (run.Line number fault)) v' after
-    named fault (refused, writes) = inr ([], refuses_one meaning v v' number said fault refused, writes)
+    named : (fault : LineFault) → meaning v said (Refuses fault) v' × Writes empty took [] → RunsOn meaning v ((number, said) ∷ []) out (Err (run.Line number fault)) v' out
+    named fault (refused, writes) = inr ([], refuses_one meaning v v' number said fault refused, writes_nothing out)
 
-    by_fault : (fault : LineFault) → (fault ≡ line.OutOfMemory) ⊎ (meaning v said (Refuses fault) v' × Writes before after []) → RunsOn meaning v ((number, said) ∷ []) before (Err (fault_at number fault)) v' after
-    by_fault line.OutOfMemory h = inl refl
+    by_fault : (fault : LineFault) → (fault ≡ line.OutOfMemory) ⊎ (meaning v said (Refuses fault) v' × Writes empty took []) → RunsOn meaning v ((number, said) ∷ []) out (Err (fault_at number fault)) v' out
+    by_fault line.OutOfMemory h = wanting meaning v v' ((number, said) ∷ []) out
     by_fault line.NotHex h = elim h [ inl e ↦ absurd (let n : line.NotHex ≡ line.OutOfMemory = e in cc) | inr s ↦ named line.NotHex s ]
     by_fault line.NotACommand h = elim h [ inl e ↦ absurd (let n : line.NotACommand ≡ line.OutOfMemory = e in cc) | inr s ↦ named line.NotACommand s ]
     by_fault line.NoFrame h = elim h [ inl e ↦ absurd (let n : line.NoFrame ≡ line.OutOfMemory = e in cc) | inr s ↦ named line.NoFrame s ]
     by_fault line.MessageTooLong h = elim h [ inl e ↦ absurd (let n : line.MessageTooLong ≡ line.OutOfMemory = e in cc) | inr s ↦ named line.MessageTooLong s ]
 
 -- ---- one line after another
--- What was written so far, and that what the rest brings comes behind it.
+-- The texts before these were taken, and what they brought is written.
 abbrev pub Led : {V : Type 0} → Meaning V → V → List (ℕ × List ℕ) → Kept → V → List (ℕ × List ℕ) → Kept → Type 0
 Led {V} meaning start texts first v left now =
-    (so_far : List ℕ) × Writes first now so_far
-    × ((later : List ℕ) (stop : Option RunFault) (v' : V) → Runs meaning v left later stop v' → Runs meaning start texts (so_far ++ later) stop v')
+    (so_far : List ℕ) × (done : List (ℕ × List ℕ)) × Writes first now so_far × (texts ≡ done ++ left) × Runs meaning start done so_far None v
 
 pub led_at_first : {V : Type 0} (meaning : Meaning V) (v : V) (texts : List (ℕ × List ℕ)) (out : Kept) → Led meaning v texts out v texts out
-led_at_first meaning v texts out = ([], writes_nothing out, λ later stop v' ran. ran)
+led_at_first meaning v texts out = ([], [], writes_nothing out, refl, (refl, refl, refl))
 
 -- the texts of the rest, by its first line and what follows
 numbered-line : (number : ℕ) (line : List ℕ) (lines : List (List ℕ)) → numbered number (line ∷ lines) ≡ under number (said line) (numbered (number + 1) lines)
@@ -108,38 +134,51 @@ no_texts : (number : ℕ) → numbered number (lines_of []) ≡ []
 unfolding lines_of numbered
 no_texts number = refl
 
-pub led_on : {V : Type 0} (meaning : Meaning V) (start v m : V) (texts : List (ℕ × List ℕ)) (first out out' : Kept) (number : ℕ) (rest line more : List ℕ) →
-    Led meaning start texts first v (numbered number (lines_of rest)) out → lines_of rest ≡ line ∷ lines_of more →
-    (lines : List ℕ) × Runs meaning v (under number (said line) []) lines None m × Writes out out' lines →
-    Led meaning start texts first m (numbered (number + 1) (lines_of more)) out'
-led_on {V} meaning start v m texts first out out' number rest line more led lines_are taken =
-    (led.0 ++ taken.0, writes_then first out out' led.0 taken.0 led.1 taken.2, behind)
-  where
-    behind : (later : List ℕ) (stop : Option RunFault) (v' : V) → Runs meaning m (numbered (number + 1) (lines_of more)) later stop v' → Runs meaning start texts ((led.0 ++ taken.0) ++ later) stop v'
-    behind later stop v' ran =
-        subst (λ lines. Runs meaning start texts lines stop v') (sym (append_assoc led.0 taken.0 later))
-        (led.2 (taken.0 ++ later) stop v'
-        (subst (λ texts. Runs meaning v texts (taken.0 ++ later) stop v') (sym (texts_by_line number rest line more lines_are))
-        (runs_on meaning v m v' (under number (said line) []) (numbered (number + 1) (lines_of more)) taken.0 later stop taken.1 ran)))
+module _ {V : Type 0} (meaning : Meaning V) (start v : V) (texts : List (ℕ × List ℕ)) (first out out' : Kept) (number : ℕ) (rest line more : List ℕ)
+    (led : Led meaning start texts first v (numbered number (lines_of rest)) out) (lines_are : lines_of rest ≡ line ∷ lines_of more) where
+  -- the texts by the line at hand
+  abbrev now : List (ℕ × List ℕ)
+  now = under number (said line) []
 
-pub led_out : {V : Type 0} (meaning : Meaning V) (start v v' : V) (texts : List (ℕ × List ℕ)) (first out out' : Kept) (number : ℕ) (rest line more : List ℕ) (fault : RunFault) →
-    Led meaning start texts first v (numbered number (lines_of rest)) out → lines_of rest ≡ line ∷ lines_of more →
-    RunsOn meaning v (under number (said line) []) out (Err fault) v' out' → RunsOn meaning start texts first (Err fault) v' out'
-led_out meaning start v v' texts first out out' number rest line more fault led lines_are failed = elim failed [
-  | inl wanting ↦ inl wanting
-  | inr stopped ↦ inr (
-    led.0 ++ stopped.0,
-    led.2 stopped.0 (Some fault) v'
-        (subst (λ texts. Runs meaning v texts stopped.0 (Some fault) v') (sym (texts_by_line number rest line more lines_are))
-        (runs_up_to meaning v v' (under number (said line) []) (numbered (number + 1) (lines_of more)) stopped.0 fault stopped.1)),
-    writes_then first out out' led.0 stopped.0 led.1 stopped.2,
+  abbrev later : List (ℕ × List ℕ)
+  later = numbered (number + 1) (lines_of more)
+
+  texts_are : texts ≡ led.1 ++ (now ++ later)
+  texts_are = led.3 ∙ ap (λ left. led.1 ++ left) (texts_by_line number rest line more lines_are)
+
+  pub led_on : (m : V) → (lines : List ℕ) × Runs meaning v now lines None m × Writes out out' lines → Led meaning start texts first m later out'
+  led_on m (lines, ran, wrote) = (
+    led.0 ++ lines,
+    led.1 ++ now,
+    writes_then first out out' led.0 lines led.2 wrote,
+    texts_are ∙ sym (append_assoc led.1 now later),
+    runs_on meaning start v m led.1 now led.0 lines None led.4 ran,
   )
-]
+
+  pub led_first : (lines : List ℕ) → RunsFirst meaning v now lines → RunsFirst meaning start texts (led.0 ++ lines)
+  led_first lines (some, others, m, now_is, ran) = (
+    led.1 ++ some,
+    others ++ later,
+    m,
+    texts_are ∙ ap (λ left. led.1 ++ left) (ap (λ n. n ++ later) now_is ∙ append_assoc some others later) ∙ sym (append_assoc led.1 some (others ++ later)),
+    runs_on meaning start v m led.1 some led.0 lines None led.4 ran,
+  )
+
+  pub led_stop : (lines : List ℕ) (stop : RunFault) (v' : V) → Runs meaning v now lines (Some stop) v' → Runs meaning start texts (led.0 ++ lines) (Some stop) v'
+  led_stop lines stop v' ran =
+      subst (λ texts. Runs meaning start texts (led.0 ++ lines) (Some stop) v') (sym texts_are)
+      (runs_on meaning start v v' led.1 (now ++ later) led.0 lines (Some stop) led.4 (runs_up_to meaning v v' now later lines stop ran))
+
+  pub led_out : (v' : V) (fault : RunFault) → RunsOn meaning v now out (Err fault) v' out' → RunsOn meaning start texts first (Err fault) v' out'
+  led_out v' fault failed = elim failed [
+    | inl (is, (lines, some, wrote)) ↦ inl (is, (led.0 ++ lines, led_first lines some, writes_then first out out' led.0 lines led.2 wrote))
+    | inr (lines, ran, wrote) ↦ inr (led.0 ++ lines, led_stop lines fault v' ran, writes_then first out out' led.0 lines led.2 wrote)
+  ]
 
 pub led_end : {V : Type 0} (meaning : Meaning V) (start v : V) (texts : List (ℕ × List ℕ)) (first out : Kept) (number : ℕ) (rest : List ℕ) →
     Led meaning start texts first v (numbered number (lines_of rest)) out → rest ≡ [] → (lines : List ℕ) × Runs meaning start texts lines None v × Writes first out lines
-led_end meaning start v texts first out number rest led rest_is =
-    (led.0, subst (λ lines. Runs meaning start texts lines None v) (append-nil led.0) (led.2 [] None v (subst (λ left. Runs meaning v left [] None v) (sym none_left) (refl, refl, refl))), led.1)
+led_end meaning start v texts first out number rest (so_far, done, wrote, texts_are, ran) rest_is =
+    (so_far, subst (λ all. Runs meaning start all so_far None v) (sym (texts_are ∙ ap (λ left. done ++ left) none_left ∙ append-nil done)) ran, wrote)
   where
     none_left : numbered number (lines_of rest) ≡ []
     none_left = ap (λ r. numbered number (lines_of r)) rest_is ∙ no_texts number

@@ -3,29 +3,49 @@ use Rattle.std.proofs.Common.{◌≡◌, ◌∙◌, ℕ, ◌+◌, List, [], ◌�
 use Rattle.std.specs.Io.KnownBytes.{Appends}
 use Rattle.std.proofs.KnownBytes.{Appends-nil, Appends-trans}
 use Rattle.uecp_text.specs.declared.run_fault.RunFault.{RunFault}
-use Rattle.uecp_text.specs.declared.run_fault.RunFault.TheVariants.{Writing}
-use Rattle.uecp_text.specs.Faults.{Fails}
+use Rattle.uecp_text.specs.declared.run_fault.RunFault.TheVariants.{Writing, OutOfMemory}
 use Rattle.uecp_text.specs.Input.{under, numbered, said, lines_of, texts_of}
-use Rattle.uecp_text.specs.Run.{Meaning, Runs, RunsOn, IsInput}
-use Rattle.uecp_text.specs.Streaming.{RunsOut, RunsOutWhole}
-use Rattle.uecp_text.specs.Written.{Kept, Adds}
-use Rattle.uecp_text.proofs.Runs.{Led, led_at_first, led_on, led_out, led_end}
+use Rattle.uecp_text.specs.Run.{Meaning, Runs, RunsFirst, RunsOn, IsInput, WritesSome}
+use Rattle.uecp_text.specs.Streaming.{BreaksOut, RunsOut, RunsOutWhole}
+use Rattle.uecp_text.specs.Written.{Kept, Adds, Writes, Begins}
+use Rattle.uecp_text.proofs.Begun.{begun_on}
+use Rattle.uecp_text.proofs.Runs.{Led, first_all, led_at_first, led_on, led_first, led_stop, led_end}
 
 -- an output that holds these bytes, whole
 abbrev pub kept : List ℕ → Kept
 kept bytes = record { bytes = bytes; is_whole = true }
 
--- texts that were taken into a new output, which was written out
-pub out_of : {V : Type 0} (meaning : Meaning V) (v v' : V) (texts : List (ℕ × List ℕ)) (held held' : Option (List ℕ)) (before after : Kept) (result : Result (Unit {0}) RunFault) →
-    before.bytes ≡ [] → IsTrue before.is_whole → RunsOn meaning v texts before result v' after → Appends held held' after.bytes → RunsOut meaning v texts held held' result v'
-out_of meaning v v' texts held held' before after (Ok done) empty whole (lines, ran, writes) appends =
-    inr (lines, ran, subst (Appends held held') ((writes whole).1 ∙ ap (λ bytes. bytes ++ lines) empty) appends)
-out_of meaning v v' texts held held' before after (Err fault) empty whole stopped appends = elim stopped [
-  | inl wanting ↦ inl (fault, refl, subst Fails (sym wanting) tt)
-  | inr named ↦ inr (named.0, named.1, subst (Appends held held') ((named.2 whole).1 ∙ ap (λ bytes. bytes ++ named.0) empty) appends)
-]
+-- a run that stopped for this
+abbrev pub stopped : RunFault → Result (Unit {0}) RunFault
+stopped fault = Err fault
 
--- What was written so far, and that what the rest brings comes behind it.
+-- texts that were taken into a new output, which was written out or not
+module _ {V : Type 0} (meaning : Meaning V) (v v' : V) (texts : List (ℕ × List ℕ)) (held held' : Option (List ℕ)) (before after : Kept) (empty : before.bytes ≡ []) (is_whole : IsTrue before.is_whole) where
+  -- what was added to the output is all that it holds
+  holds : (lines : List ℕ) → Writes before after lines → after.bytes ≡ lines
+  holds lines writes = (writes is_whole).1 ∙ ap (λ bytes. bytes ++ lines) empty
+
+  pub out_of : (result : Result (Unit {0}) RunFault) → RunsOn meaning v texts before result v' after → Appends held held' after.bytes → RunsOut meaning v texts held held' result v'
+  out_of (Ok done) (lines, ran, writes) appends = inr (lines, ran, subst (Appends held held') (holds lines writes) appends)
+  out_of (Err fault) ran appends = elim ran [
+    | inl (is, (lines, some, writes)) ↦ inl (OutOfMemory, ap stopped is, (lines, some, subst (Appends held held') (holds lines writes) appends))
+    | inr (lines, runs, writes) ↦ inr (lines, runs, subst (Appends held held') (holds lines writes) appends)
+  ]
+
+  pub out_begun : (result : Result (Unit {0}) RunFault) (fault : RunFault) → RunsOn meaning v texts before result v' after → fault ≡ Writing → Begins held held' after.bytes →
+      RunsOut meaning v texts held held' (Err fault) v'
+  out_begun (Ok done) fault (lines, ran, writes) is begins =
+      inl (Writing, ap stopped is, (lines, inl (first_all meaning v v' texts lines ran), subst (Begins held held') (holds lines writes) begins))
+  out_begun (Err stop) fault ran is begins = inl (
+    Writing,
+    ap stopped is,
+    elim ran [
+      | inl (out, (lines, some, writes)) ↦ (lines, inl some, subst (Begins held held') (holds lines writes) begins)
+      | inr (lines, runs, writes) ↦ (lines, inr (stop, v', runs), subst (Begins held held') (holds lines writes) begins)
+    ],
+  )
+
+-- The texts before these were taken, and the writer got what they brought.
 abbrev pub Streams : {V : Type 0} → Meaning V → V → List (ℕ × List ℕ) → (held : Option (List ℕ)) → V → List (ℕ × List ℕ) → (held' : Option (List ℕ)) → Type 0
 Streams meaning start texts held v left held' = (so_far : List ℕ) × Appends held held' so_far × Led meaning start texts (kept []) v left (kept so_far)
 
@@ -34,39 +54,98 @@ streams_at_first meaning v texts held = ([], Appends-nil held, led_at_first mean
 
 module _ {V : Type 0} (meaning : Meaning V) (start v v' : V) (texts : List (ℕ × List ℕ)) (held now now' : Option (List ℕ)) (number : ℕ) (rest line more : List ℕ)
     (so_far : Streams meaning start texts held v (numbered number (lines_of rest)) now) (lines_are : lines_of rest ≡ line ∷ lines_of more) where
+  -- what was written for the texts so far is what they brought
+  same : so_far.2.0 ≡ so_far.0
+  same = sym ((so_far.2.2 refl).1)
+
   pub streams_on : (lines : List ℕ) × Runs meaning v (under number (said line) []) lines None v' × Appends now now' lines → Streams meaning start texts held v' (numbered (number + 1) (lines_of more)) now'
   streams_on (lines, ran, wrote) = (
     so_far.0 ++ lines,
     Appends-trans held now now' so_far.0 lines so_far.1 wrote,
-    led_on meaning start v v' texts (kept []) (kept so_far.0) (kept (so_far.0 ++ lines)) number rest line more so_far.2 lines_are (lines, ran, λ whole. (refl, refl)),
+    led_on meaning start v texts (kept []) (kept so_far.0) (kept (so_far.0 ++ lines)) number rest line more so_far.2 lines_are v' (lines, ran, λ whole. (refl, refl)),
   )
 
-  pub streams_out : (fault : RunFault) (lines : List ℕ) → Runs meaning v (under number (said line) []) lines (Some fault) v' → Appends now now' lines → RunsOut meaning start texts held now' (Err fault) v'
-  streams_out fault lines ran wrote =
-      out_of meaning start v' texts held now' (kept []) (kept (so_far.0 ++ lines)) (Err fault) refl refl
-      (led_out meaning start v v' texts (kept []) (kept so_far.0) (kept (so_far.0 ++ lines)) number rest line more fault so_far.2 lines_are (inr (lines, ran, λ whole. (refl, refl))))
-      (Appends-trans held now now' so_far.0 lines so_far.1 wrote)
+  first_out : (lines : List ℕ) → RunsFirst meaning v (under number (said line) []) lines → RunsFirst meaning start texts (so_far.0 ++ lines)
+  first_out lines some =
+      subst (λ l. RunsFirst meaning start texts (l ++ lines)) same
+      (led_first meaning start v texts (kept []) (kept so_far.0) (kept so_far.0) number rest line more so_far.2 lines_are lines some)
+
+  stop_out : (lines : List ℕ) (stop : RunFault) (w : V) → Runs meaning v (under number (said line) []) lines (Some stop) w → Runs meaning start texts (so_far.0 ++ lines) (Some stop) w
+  stop_out lines stop w ran =
+      subst (λ l. Runs meaning start texts (l ++ lines) (Some stop) w) same
+      (led_stop meaning start v texts (kept []) (kept so_far.0) (kept so_far.0) number rest line more so_far.2 lines_are lines stop w ran)
+
+  breaks_out : (fault : RunFault) → BreaksOut meaning v (under number (said line) []) now now' fault → BreaksOut meaning start texts held now' fault
+  breaks_out OutOfMemory (lines, some, wrote) = (so_far.0 ++ lines, first_out lines some, Appends-trans held now now' so_far.0 lines so_far.1 wrote)
+  breaks_out Writing (lines, up_to, begins) = (
+    so_far.0 ++ lines,
+    elim up_to [
+      | inl some ↦ inl (first_out lines some)
+      | inr (stop, w, ran) ↦ inr (stop, w, stop_out lines stop w ran)
+    ],
+    begun_on held now now' so_far.0 lines (so_far.0 ++ lines) refl so_far.1 begins,
+  )
+  breaks_out fault breaks = absurd breaks
+
+  pub streams_out : (fault : RunFault) → RunsOut meaning v (under number (said line) []) now now' (Err fault) v' → RunsOut meaning start texts held now' (Err fault) v'
+  streams_out fault ran = elim ran [
+    | inl (broken, is, breaks) ↦ inl (broken, is, breaks_out broken breaks)
+    | inr (lines, runs, wrote) ↦ inr (so_far.0 ++ lines, stop_out lines fault v' runs, Appends-trans held now now' so_far.0 lines so_far.1 wrote)
+  ]
 
 pub streams_end : {V : Type 0} (meaning : Meaning V) (start v : V) (texts : List (ℕ × List ℕ)) (held now : Option (List ℕ)) (number : ℕ) (rest : List ℕ) →
     Streams meaning start texts held v (numbered number (lines_of rest)) now → rest ≡ [] → RunsOut meaning start texts held now (Ok tt) v
 streams_end meaning start v texts held now number rest so_far none =
-    out_of meaning start v texts held now (kept []) (kept so_far.0) (Ok tt) refl refl (led_end meaning start v texts (kept []) (kept so_far.0) number rest so_far.2 none) so_far.1
+    out_of meaning start v texts held now (kept []) (kept so_far.0) refl refl (Ok tt) (led_end meaning start v texts (kept []) (kept so_far.0) number rest so_far.2 none) so_far.1
 
 pub is_no_fault : (fault : RunFault) → (let r : Result (Unit {0}) RunFault = Ok tt in r) ≡ Err fault → ⊥
 is_no_fault fault is = cc
 
--- the end of an input, and the closing lines after it
-pub whole_out : {V : Type 0} (meaning : Meaning V) (v v' : V) (closing : V → List ℕ) (unread unread' held between held' : Option (List ℕ)) (input : List ℕ) (before after : Kept) (result : Result (Unit {0}) RunFault) →
-    IsInput unread unread' input → RunsOut meaning v (texts_of input) held between (Ok tt) v' → before.bytes ≡ [] → Adds before after (closing v') → IsTrue after.is_whole →
-    OnOk result (Appends between held' after.bytes) → IfErr result (λ fault. fault ≡ Writing) → RunsOutWhole meaning v closing unread unread' held held' result v'
-whole_out meaning v v' closing unread unread' held between held' input before after (Err fault) is_input ran empty adds whole wrote failed = inl (fault, refl, subst Fails (sym failed) tt)
-whole_out meaning v v' closing unread unread' held between held' input before after (Ok done) is_input ran empty adds whole wrote failed = elim ran [
-  | inl (fault, is, fails) ↦ absurd (is_no_fault fault is)
-  | inr (lines, runs, appends) ↦ inr (
-    input,
-    lines,
-    is_input,
-    runs,
-    Appends-trans held between held' lines (closing v') appends (subst (Appends between held') ((adds whole).1 ∙ ap (λ bytes. bytes ++ closing v') empty) wrote),
-  )
-]
+-- ---- the end of an input, and the closing lines after it
+module _ {V : Type 0} (meaning : Meaning V) (v v' : V) (closing : V → List ℕ) (unread unread' held between held' : Option (List ℕ)) (input : List ℕ) (is_input : IsInput unread unread' input) where
+  -- a run that stopped before its end
+  pub whole_stopped : (fault : RunFault) → RunsOut meaning v (texts_of input) held between (Err fault) v' → RunsOutWhole meaning v closing unread unread' held between (Err fault) v'
+  whole_stopped fault ran = elim ran [
+    | inl (broken, is, breaks) ↦ inl (broken, is, inr (input, is_input, some_written broken breaks))
+    | inr (lines, runs, wrote) ↦ inr (input, lines, is_input, runs, wrote)
+  ]
+    where
+      some_written : (fault : RunFault) → BreaksOut meaning v (texts_of input) held between fault → WritesSome meaning v closing input held between fault
+      some_written OutOfMemory breaks = breaks
+      some_written Writing (lines, up_to, begins) = (lines, elim up_to [ inl some ↦ inl some | inr (stop, w, runs) ↦ inr (Err stop, (w, runs)) ], begins)
+      some_written fault breaks = absurd breaks
+
+  -- no memory for the closing lines
+  pub whole_wanting : RunsOut meaning v (texts_of input) held between (Ok tt) v' → RunsOutWhole meaning v closing unread unread' held between (Err OutOfMemory) v'
+  whole_wanting ran = elim ran [
+    | inl (fault, is, breaks) ↦ absurd (is_no_fault fault is)
+    | inr (lines, runs, wrote) ↦ inl (OutOfMemory, refl, inr (input, is_input, (lines, first_all meaning v v' (texts_of input) lines runs, wrote)))
+  ]
+
+  pub whole_out : (before after : Kept) (result : Result (Unit {0}) RunFault) → RunsOut meaning v (texts_of input) held between (Ok tt) v' → before.bytes ≡ [] → Adds before after (closing v') → IsTrue after.is_whole →
+      OnOk result (Appends between held' after.bytes) → Begins between held' after.bytes → IfErr result (λ fault. fault ≡ Writing) → RunsOutWhole meaning v closing unread unread' held held' result v'
+  whole_out before after result ran empty adds whole wrote begun failed = elim ran [
+    | inl (fault, is, breaks) ↦ absurd (is_no_fault fault is)
+    | inr (lines, runs, appends) ↦ by_result lines runs appends result wrote failed
+  ]
+    where
+      closed : after.bytes ≡ closing v'
+      closed = (adds whole).1 ∙ ap (λ bytes. bytes ++ closing v') empty
+
+      by_result : (lines : List ℕ) → Runs meaning v (texts_of input) lines None v' → Appends held between lines → (result : Result (Unit {0}) RunFault) → OnOk result (Appends between held' after.bytes) →
+          IfErr result (λ fault. fault ≡ Writing) → RunsOutWhole meaning v closing unread unread' held held' result v'
+      by_result lines runs appends (Ok done) wrote failed = inr (input, lines, is_input, runs, Appends-trans held between held' lines (closing v') appends (subst (Appends between held') closed wrote))
+      by_result lines runs appends (Err fault) wrote failed =
+          inl (
+            Writing,
+            ap stopped failed,
+            inr (
+              input,
+              is_input,
+              (
+                lines ++ closing v',
+                inr (Ok tt, (v', lines, runs, refl)),
+                begun_on held between held' lines (closing v') (lines ++ closing v') refl appends (subst (Begins between held') closed begun),
+              ),
+            ),
+          )

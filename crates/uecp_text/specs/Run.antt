@@ -8,8 +8,7 @@ use Rattle.uecp_text.specs.declared.run_fault.RunFault.TheVariants as run
 use Rattle.uecp_text.specs.declared.interpreter.Taken.{Taken}
 use Rattle.uecp_text.specs.declared.interpreter.Taken.TheVariants as taken
 use Rattle.uecp_text.specs.Input.{texts_of}
-use Rattle.uecp_text.specs.Faults.{Fails}
-use Rattle.uecp_text.specs.Written.{Kept, Writes}
+use Rattle.uecp_text.specs.Written.{Kept, Writes, Begins}
 
 -- What a text comes to.
 pub data Outcome : Type 0 where
@@ -55,12 +54,17 @@ Takes meaning v text before result v' after =
     (λ taken. (lines : List ℕ) × meaning v text (outcome_of taken lines) v' × Writes before after lines)
     (λ fault. (fault ≡ line.OutOfMemory) ⊎ (meaning v text (Refuses fault) v' × Writes before after []))
 
--- The texts were taken: what they bring was added to the output, up to the one at which the run stops, if there is one, and the result says why; or memory was wanting.
+-- Some first texts of these, or all, were taken one after another, and bring these lines.
+abbrev pub RunsFirst : {V : Type 0} → Meaning V → V → List (ℕ × List ℕ) → List ℕ → Type 0
+RunsFirst {V} meaning v texts lines = (first : List (ℕ × List ℕ)) × (later : List (ℕ × List ℕ)) × (v' : V) × (texts ≡ first ++ later) × Runs meaning v first lines None v'
+
+-- The texts were taken: what they bring was added to the output, up to the one at which the run stops, if there is one, and the result says why; or memory was wanting, and what was
+-- added is what some first texts bring.
 abbrev pub RunsOn : {V : Type 0} → Meaning V → V → List (ℕ × List ℕ) → Kept → Result (Unit {0}) RunFault → V → Kept → Type 0
 RunsOn meaning v texts before result v' after =
     MatchResult result
     (λ _. (lines : List ℕ) × Runs meaning v texts lines None v' × Writes before after lines)
-    (λ fault. (fault ≡ run.OutOfMemory) ⊎ ((lines : List ℕ) × Runs meaning v texts lines (Some fault) v' × Writes before after lines))
+    (λ fault. ((fault ≡ run.OutOfMemory) × ((lines : List ℕ) × RunsFirst meaning v texts lines × Writes before after lines)) ⊎ ((lines : List ℕ) × Runs meaning v texts lines (Some fault) v' × Writes before after lines))
 
 -- The whole input: all that the reader had left, as far as it tells, at most 1,048,576 bytes.
 abbrev pub IsInput : (unread unread' : Option (List ℕ)) → List ℕ → Type 0
@@ -74,14 +78,37 @@ Prints {V} meaning v closing input result written =
     (λ _. (v' : V) × (lines : List ℕ) × Runs meaning v (texts_of input) lines None v' × (written ≡ lines ++ closing v'))
     (λ fault. (v' : V) × Runs meaning v (texts_of input) written (Some fault) v')
 
--- A run over all that the reader had left added what is written of it to the output. Or it failed: the input could not be read or is too long, or memory was wanting.
-abbrev pub RunsInto : {V : Type 0} → Meaning V → V → (closing : V → List ℕ) → (unread unread' : Option (List ℕ)) → Kept → Result (Unit {0}) RunFault → Kept → Type 0
-RunsInto meaning v closing unread unread' before result after =
-    ((fault : RunFault) × (result ≡ Err fault) × Fails fault)
-    ⊎ ((input : List ℕ) × (written : List ℕ) × IsInput unread unread' input × Prints meaning v closing input result written × Writes before after written)
+-- Reading was given up for this, after these bytes: there is more to read than the limit, or a read failed, or memory was wanting.
+abbrev pub StopsReading : RunFault → (read : List ℕ) → Type 0
+StopsReading run.TooLong read = length read ≡ 1048577
+StopsReading run.Reading read = Unit {0}
+StopsReading run.OutOfMemory read = Unit {0}
+StopsReading fault read = ⊥
+
+-- The input was not read to its end, for this.
+abbrev pub IsUnread : (unread unread' : Option (List ℕ)) → RunFault → Type 0
+IsUnread unread unread' fault = (read : List ℕ) × Consumes unread unread' read × StopsReading fault read
+
+-- What a writer got of an input whose run failed for this: where memory was wanting, all that some first texts bring; where writing failed, a beginning of that or of what is written of the input.
+abbrev pub WritesSome : {V : Type 0} → Meaning V → V → (closing : V → List ℕ) → List ℕ → (held held' : Option (List ℕ)) → RunFault → Type 0
+WritesSome meaning v closing input held held' run.OutOfMemory = (lines : List ℕ) × RunsFirst meaning v (texts_of input) lines × Appends held held' lines
+WritesSome meaning v closing input held held' run.Writing =
+    (lines : List ℕ) × (RunsFirst meaning v (texts_of input) lines ⊎ ((result : Result (Unit {0}) RunFault) × Prints meaning v closing input result lines)) × Begins held held' lines
+WritesSome meaning v closing input held held' fault = ⊥
+
+-- A run over all that the reader had left failed for this: the input was not read to its end, and nothing was written; or it was, and what was written is a beginning of what is written of it.
+abbrev pub Breaks : {V : Type 0} → Meaning V → V → (closing : V → List ℕ) → (unread unread' : Option (List ℕ)) → (held held' : Option (List ℕ)) → RunFault → Type 0
+Breaks meaning v closing unread unread' held held' fault =
+    (IsUnread unread unread' fault × (held' ≡ held)) ⊎ ((input : List ℕ) × IsInput unread unread' input × WritesSome meaning v closing input held held' fault)
+
+-- A run over an input added what is written of it to the output; or memory was wanting, and what was added is what some first texts bring.
+abbrev pub RunsInto : {V : Type 0} → Meaning V → V → (closing : V → List ℕ) → List ℕ → Kept → Result (Unit {0}) RunFault → Kept → Type 0
+RunsInto meaning v closing input before result after =
+    ((result ≡ Err run.OutOfMemory) × ((lines : List ℕ) × RunsFirst meaning v (texts_of input) lines × Writes before after lines))
+    ⊎ ((written : List ℕ) × Prints meaning v closing input result written × Writes before after written)
 
 -- The writer got what is written of all that the reader had left, as far as both tell. Or the run failed.
 abbrev pub RunsWhole : {V : Type 0} → Meaning V → V → (closing : V → List ℕ) → (unread unread' : Option (List ℕ)) → (held held' : Option (List ℕ)) → Result (Unit {0}) RunFault → Type 0
 RunsWhole meaning v closing unread unread' held held' result =
-    ((fault : RunFault) × (result ≡ Err fault) × Fails fault)
+    ((fault : RunFault) × (result ≡ Err fault) × Breaks meaning v closing unread unread' held held' fault)
     ⊎ ((input : List ℕ) × (written : List ℕ) × IsInput unread unread' input × Prints meaning v closing input result written × Appends held held' written)

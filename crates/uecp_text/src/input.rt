@@ -1,10 +1,7 @@
 //! Standard input and its lines (profile).
 ghost use Rattle.std.specs.Prelude.{◌≡◌, ◌<◌, ◌≤◌, ◌∷◌, ℕ, List, Err, IfOk, IfErr, option_copied, length, drop};
-ghost use Rattle.std.specs.Io.KnownBytes.{Consumes};
-ghost use Rattle.uecp_text.specs.declared.run_fault.RunFault.TheVariants.{TooLong};
 ghost use Rattle.uecp_text.specs.Input.{lines_of, without_end, without_last_spaces, trimmed, said};
-ghost use Rattle.uecp_text.specs.Run.{IsInput};
-ghost use Rattle.uecp_text.specs.Faults.{Fails};
+ghost use Rattle.uecp_text.specs.Run.{IsInput, IsUnread};
 
 use crate::run_fault::RunFault;
 use memchr::memchr;
@@ -17,11 +14,12 @@ const INPUT_MAX: usize = 1_048_576;
 /// The most bytes that one read asks for.
 const READ_MAX: usize = 4096;
 
-/// All of the input up to its end, or `TooLong` as soon as one byte more than the limit was read.
+/// All of the input up to its end.
+///
+/// Errors: `TooLong` as soon as one byte more than the limit was read; `Reading` where a read failed; `OutOfMemory`.
 pub fn read_all<R: Read>(alloc: Global, reader: &mut R) -> Result<Vec<u8>, RunFault>
     ensures input { IfOk result (λ all. IsInput (R.remaining reader.old) (R.remaining reader.new) all.items) }
-    ensures refused { IfErr result Fails }
-    ensures too_long { result ≡ Err TooLong → (all : List ℕ) × (length all ≡ 1048577) × Consumes (R.remaining reader.old) (R.remaining reader.new) all }
+    ensures refused { IfErr result (IsUnread (R.remaining reader.old) (R.remaining reader.new)) }
 {
     let mut all = Vec::new(alloc);
     let mut buffer = [0u8; READ_MAX];

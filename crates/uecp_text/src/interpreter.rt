@@ -52,25 +52,28 @@ pub fn run<R: Read, W: Write, I: Interpreter>(
 ) -> Result<(), RunFault>
     ensures { RunsWhole I.meaning interpreter.old I.closing (R.remaining reader.old) (R.remaining reader.new) (W.contents writer.old) (W.contents writer.new) result }
 {
+    let input = read_all(alloc, reader)?;
     let mut output = Output::new(alloc);
-    let ran = run_into(alloc, reader, interpreter, &mut output);
+    let ran = run_into(alloc, input.as_slice(), interpreter, &mut output);
     output.write_out(writer)?;
     ran
 }
 
-/// The same, into an output.
-fn run_into<R: Read, I: Interpreter>(
+/// The same over an input, into an output.
+fn run_into<I: Interpreter>(
     alloc: Global,
-    reader: &mut R,
+    input: &[u8],
     interpreter: &mut I,
     output: &mut Output,
 ) -> Result<(), RunFault>
-    ensures { RunsInto I.meaning interpreter.old I.closing (R.remaining reader.old) (R.remaining reader.new) output.old result output.new }
+    ensures { RunsInto I.meaning interpreter.old I.closing input.now output.old result output.new }
 {
-    let input = read_all(alloc, reader)?;
-    run_lines(alloc, input.as_slice(), interpreter, output)?;
-    interpreter.close(output);
-    Ok(output.check()?)
+    let mut lines = Output::new(alloc);
+    run_lines(alloc, input, interpreter, &mut lines, output)?;
+    lines.clear();
+    interpreter.close(&mut lines);
+    lines.check()?;
+    Ok(output.append(&lines)?)
 }
 
 /// Takes what the lines of the input say, up to the first text at which the run stops.
@@ -78,6 +81,7 @@ fn run_lines<I: Interpreter>(
     alloc: Global,
     input: &[u8],
     interpreter: &mut I,
+    lines: &mut Output,
     output: &mut Output,
 ) -> Result<(), RunFault>
     ensures { RunsOn I.meaning interpreter.old (texts_of input.now) output.old result interpreter.new output.new }
@@ -86,29 +90,36 @@ fn run_lines<I: Interpreter>(
     let mut number = 1;
     while !rest.is_empty() {
         let (line, more) = first_line(rest);
-        take_line(alloc, number, line, interpreter, output)?;
+        take_line(alloc, number, line, interpreter, lines, output)?;
         rest = more;
         number += 1;
     }
     Ok(())
 }
 
-/// Takes what the line of this number says, if it says anything.
+/// Takes what the line of this number says, if it says anything. What it brings is kept in `lines` until it is whole, and then added
+/// to the output; so where memory is wanting the output stays.
 pub(crate) fn take_line<I: Interpreter>(
     alloc: Global,
     number: usize,
     line: &[u8],
     interpreter: &mut I,
+    lines: &mut Output,
     output: &mut Output,
 ) -> Result<(), RunFault>
     ensures { RunsOn I.meaning interpreter.old (under number (said line.now) []) output.old result interpreter.new output.new }
 {
-    match text_of(line) {
-        Some(text) => match interpreter.take(alloc, text, output) {
-            Ok(Taken::GoesOn) => Ok(()),
-            Ok(Taken::Ends) => Err(RunFault::Outstanding),
-            Err(fault) => Err(fault.at(number)),
-        },
-        None => Ok(()),
+    let Some(text) = text_of(line) else {
+        return Ok(());
+    };
+    lines.clear();
+    let taken = match interpreter.take(alloc, text, lines) {
+        Ok(taken) => taken,
+        Err(fault) => return Err(fault.at(number)),
+    };
+    output.append(lines)?;
+    match taken {
+        Taken::GoesOn => Ok(()),
+        Taken::Ends => Err(RunFault::Outstanding),
     }
 }

@@ -21,6 +21,7 @@ mod reporting;
 mod run_fault;
 mod streaming;
 mod words;
+mod writing;
 
 pub use input::{first_line, left, read_all, text_of};
 pub use interpreter::{Interpreter, Taken, run};

@@ -1,12 +1,13 @@
 //! The lines that a run writes (profile).
-ghost use Rattle.std.specs.Prelude.{◌≡◌, ◌==◌, ◌*◌, ◌/◌, ◌%◌, ◌++◌, ◌↔◌, [], ◌∷◌, length, slice_index, true, IsOk, OnOk, IfErr, IsTrue, codes, decimal, if◌then◌else◌};
+ghost use Rattle.std.specs.Prelude.{◌≡◌, ◌==◌, ◌*◌, ◌/◌, ◌%◌, ◌++◌, ◌↔◌, [], ◌∷◌, length, slice_index, true, IsOk, OnOk, OnErr, IfErr, IsTrue, codes, decimal, if◌then◌else◌};
 ghost use Rattle.std.specs.Io.KnownBytes.{Appends};
 ghost use Rattle.hex.specs.Hex.{encode_upper, upper_digits};
 ghost use Rattle.uecp_text.specs.Digits.{byte_word, number_word, row_word, decimal_word, flag_word};
 ghost use Rattle.uecp_text.specs.declared.run_fault.RunFault.TheVariants.{Writing};
-ghost use Rattle.uecp_text.specs.Written.{Kept, Adds};
+ghost use Rattle.uecp_text.specs.Written.{Kept, Adds, Begins};
 
 use crate::run_fault::RunFault;
+use crate::writing::write_whole;
 use itoa::Buffer;
 use std::alloc::{AllocError, Global};
 use std::io::Write;
@@ -14,6 +15,9 @@ use std::marker::Model;
 
 /// The digits of 0 to 15, in upper case.
 const DIGITS: &[u8; 16] = b"0123456789ABCDEF";
+
+/// How many bytes are copied at once.
+const PIECE: usize = 4096;
 
 /// What a run has to say, kept until it is written out. Once memory was refused it takes nothing more, so what it
 /// holds is always the beginning of the whole output.
@@ -39,6 +43,29 @@ impl Output {
             bytes: Vec::new(alloc),
             is_whole: true,
         }
+    }
+
+    /// Nothing is kept any longer, and the output is whole. Its memory is used again.
+    #[inline(always)]
+    pub(crate) fn clear(&mut self)
+        ensures empty { self.new.bytes ≡ [] }
+        ensures whole { self.new.is_whole ≡ true }
+    {
+        self.bytes.truncate(0);
+        self.is_whole = true;
+    }
+
+    /// Adds what another output keeps; nothing where memory is refused.
+    #[inline(always)]
+    pub(crate) fn append(&mut self, other: &Output) -> Result<(), AllocError>
+        ensures added { OnOk result (self.new.bytes ≡ self.old.bytes ++ other.now.bytes) }
+        ensures whole { self.new.is_whole ≡ self.old.is_whole }
+        ensures unchanged { OnErr result (self.new ≡ self.old) }
+    {
+        if other.bytes.is_empty() {
+            return Ok(());
+        }
+        put_after(other.bytes.as_slice(), &mut self.bytes)
     }
 
     /// Adds the bytes as they are.
@@ -136,21 +163,37 @@ impl Output {
         }
     }
 
-    /// Writes out what was taken, and flushes the writer; nothing is kept then. `Writing` where the writer fails.
+    /// Writes out what was taken, and flushes the writer; nothing is kept then. `Writing` where the writer fails: it has got a
+    /// beginning of that.
     pub fn write_out<W: Write>(&mut self, writer: &mut W) -> Result<(), RunFault>
         ensures written { OnOk result (Appends (W.contents writer.old) (W.contents writer.new) self.old.bytes) }
+        ensures begun { Begins (W.contents writer.old) (W.contents writer.new) self.old.bytes }
         ensures empty { OnOk result (self.new.bytes ≡ []) }
         ensures whole { self.new.is_whole ≡ self.old.is_whole }
         ensures failed { IfErr result (λ fault. fault ≡ Writing) }
     {
-        match writer.write_all(self.bytes.as_slice()) {
-            Ok(()) => {
-                self.bytes.clear();
-                writer.flush().map_err(|_| RunFault::Writing)
-            }
-            Err(_) => Err(RunFault::Writing),
-        }
+        write_whole(self.bytes.as_slice(), writer)?;
+        self.bytes.clear();
+        writer.flush().map_err(|_| RunFault::Writing)
     }
+}
+
+/// Puts the bytes after what is held, piece by piece; nothing where memory is refused. Room grows by a half, so that an output takes little more memory than
+/// it has bytes.
+fn put_after(bytes: &[u8], held: &mut Vec<u8>) -> Result<(), AllocError>
+    ensures added { OnOk result (held.new.items ≡ held.old.items ++ bytes.now) }
+    ensures unchanged { OnErr result (held.new.items ≡ held.old.items) }
+{
+    if held.capacity() - held.len() < bytes.len() {
+        held.reserve_exact(bytes.len().max(held.capacity() / 2))?;
+    }
+    let mut rest = bytes;
+    while !rest.is_empty() {
+        let (piece, more) = rest.split_at(rest.len().min(PIECE));
+        held.extend_from_slice(piece)?;
+        rest = more;
+    }
+    Ok(())
 }
 
 /// Puts two upper case digits for each byte after what is held; nothing where memory is refused.

@@ -1,11 +1,12 @@
 //! What is said of a run that stopped (profile).
-ghost use Rattle.std.specs.Prelude.{flat_map, OnOk};
+ghost use Rattle.std.specs.Prelude.{◌≡◌, flat_map, OnOk, IfErr};
 ghost use Rattle.std.specs.Io.KnownBytes.{Appends};
 ghost use Rattle.uecp_text.specs.Faults.{error_lines};
+ghost use Rattle.uecp_text.specs.declared.run_fault.RunFault.TheVariants.{Writing};
 ghost use Rattle.uecp_text.specs.Written.{Begins};
 
-use crate::input::left;
 use crate::run_fault::RunFault;
+use crate::writing::write_whole;
 use itoa::Buffer;
 use std::io::Write;
 
@@ -14,6 +15,7 @@ use std::io::Write;
 pub fn report<W: Write>(fault: &RunFault, writer: &mut W) -> Result<(), RunFault>
     ensures said { OnOk result (Appends (W.contents writer.old) (W.contents writer.new) (error_lines fault.now)) }
     ensures begun { Begins (W.contents writer.old) (W.contents writer.new) (error_lines fault.now) }
+    ensures failed { IfErr result (λ why. why ≡ Writing) }
 {
     let mut buffer = Buffer::new();
     match *fault {
@@ -40,24 +42,10 @@ pub fn report<W: Write>(fault: &RunFault, writer: &mut W) -> Result<(), RunFault
 fn write_parts<W: Write>(parts: &[&[u8]], writer: &mut W) -> Result<(), RunFault>
     ensures written { OnOk result (Appends (W.contents writer.old) (W.contents writer.new) (flat_map (λ part. part.now) parts.now)) }
     ensures begun { Begins (W.contents writer.old) (W.contents writer.new) (flat_map (λ part. part.now) parts.now) }
+    ensures failed { IfErr result (λ why. why ≡ Writing) }
 {
     for part in parts {
         write_whole(part, writer)?;
-    }
-    Ok(())
-}
-
-/// Writes the bytes, as far as the writer takes them.
-fn write_whole<W: Write>(bytes: &[u8], writer: &mut W) -> Result<(), RunFault>
-    ensures written { OnOk result (Appends (W.contents writer.old) (W.contents writer.new) bytes.now) }
-    ensures begun { Begins (W.contents writer.old) (W.contents writer.new) bytes.now }
-{
-    let mut rest = bytes;
-    while !rest.is_empty() {
-        match writer.write(rest) {
-            Ok(0) | Err(_) => return Err(RunFault::Writing),
-            Ok(count) => rest = left(rest, count),
-        }
     }
     Ok(())
 }

@@ -60,8 +60,9 @@ fn write_line<W: Write, I: Interpreter>(
 ) -> Result<(), RunFault>
     ensures { RunsOut I.meaning interpreter.old (under number (said line.now) []) (W.contents writer.old) (W.contents writer.new) result interpreter.new }
 {
+    let mut lines = Output::new(alloc);
     let mut output = Output::new(alloc);
-    let taken = take_line(alloc, number, line, interpreter, &mut output);
+    let taken = take_line(alloc, number, line, interpreter, &mut lines, &mut output);
     output.write_out(writer)?;
     taken
 }

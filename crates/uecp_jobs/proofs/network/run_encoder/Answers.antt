@@ -1,4 +1,4 @@
-use Rattle.std.proofs.Common.{◌≡◌, sym, ◌∙◌}
+use Rattle.std.proofs.Common.{◌≡◌, sym, ap, ◌∙◌}
 use Rattle.uecp_jobs.proofs.Networks.{encoder_not_one, encoder_undescribed, encoder_failed, few_statuses}
 use Rattle.uecp_jobs.proofs.network.run_encoder.Goals as goal
 
@@ -30,4 +30,4 @@ returns-in-Err-clause-failed g c = λ three.
     let now = c.serve_all.new in
     let fault = c.in-Err.fault in
     encoder_failed g.C.Connect.opens g.C.Input.Read.remaining g.C.Output.Write.contents c.args.job.now c.requires c.args.connect.now now.connect (held c.args.writer.now) (held now.writer) (told c.args.errors.now) (told c.fail.new.errors)
-    (◌≡◌ {A = g.row.W.Denot} now.writer c.args.writer.now) (◌≡◌ {A = g.row.C.Denot} now.connect c.args.connect.now) fault c.in-Err.ensures c.fail.ensures.said (sym c.fail.ensures.status ∙ three)
+    (◌≡◌ {A = g.row.W.Denot} now.writer c.args.writer.now) (◌≡◌ {A = g.row.C.Denot} now.connect c.args.connect.now) fault c.in-Err.ensures (λ same. same) (ap held) c.fail.ensures.said (sym c.fail.ensures.status ∙ three)

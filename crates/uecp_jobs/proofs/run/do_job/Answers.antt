@@ -39,7 +39,7 @@ returns-in_ok-answering-in-Answer-clause-does g c =
     c.as_slice-services.ensures.value
     (answered (options i.site i.encoder i.sets c.as_slice-services.result.now) i.store a.answering (left c.args.reader.now) (left now.new.reader) (held c.args.writer.now) (held now.new.writer) now.result
     a.ensures.made now.ensures))
-    (λ input written prints. prints)))
+    (λ tells told. told)))
 
 pub returns-in_ok-playing-in-Line-clause-does : goal.returns-in_ok-playing-in-Line-clause-does
 returns-in_ok-playing-in-Line-clause-does g c =
@@ -55,4 +55,4 @@ returns-in_ok-playing-in-Line-clause-does g c =
     c.as_slice-services-in-Line.ensures.value
     (played (options i.site i.encoder i.sets c.as_slice-services-in-Line.result.now) i.store p.playing (left c.args.reader.now) (left now.new.reader) (held c.args.writer.now) (held now.new.writer) now.result
     p.ensures.made now.ensures))
-    (λ input written prints. prints)))
+    (λ tells told. told)))

@@ -1,5 +1,5 @@
-use Rattle.std.proofs.Common.{◌≡◌, sym, ◌∙◌}
-use Rattle.uecp_jobs.proofs.Doing.{refused_by, undescribed_by}
+use Rattle.std.proofs.Common.{◌≡◌, sym, ap, ◌∙◌}
+use Rattle.uecp_jobs.proofs.Doing.{refused_by, undescribed_by, failed_by}
 use Rattle.uecp_jobs.proofs.run.run_job.Goals as goal
 
 pub returns-in-Err-clause-refused : goal.returns-in-Err-clause-refused
@@ -20,3 +20,14 @@ returns-in-Err-clause-undescribed g c = λ two.
     let is = sym c.fail.ensures.status ∙ two in
     let by = undescribed_by c.args.job.now (left c.args.reader.now) (left now.new.reader) (held c.args.writer.now) (held now.new.writer) (◌≡◌ {A = g.row.R.Denot} now.new.reader c.args.reader.now) (◌≡◌ {A = g.row.W.Denot} now.new.writer c.args.writer.now) fault c.in-Err.ensures.does is in
     ((fault, by.0, c.fail.ensures.said), by.1, by.2)
+
+pub returns-in-Err-clause-failed : goal.returns-in-Err-clause-failed
+returns-in-Err-clause-failed g c = λ three.
+    let left = g.R.Read.remaining in
+    let held = g.W.Write.contents in
+    let now = c.do_job in
+    let fault = c.in-Err.fault in
+    let is = sym c.fail.ensures.status ∙ three in
+    let by = failed_by c.args.job.now (left c.args.reader.now) (left now.new.reader) (held c.args.writer.now) (held now.new.writer) (◌≡◌ {A = g.row.R.Denot} now.new.reader c.args.reader.now) (◌≡◌ {A = g.row.W.Denot} now.new.writer c.args.writer.now) fault c.in-Err.ensures.does
+    c.requires (ap left) (ap held) is in
+    (fault, by, c.fail.ensures.said)

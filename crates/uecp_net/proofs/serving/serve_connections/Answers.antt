@@ -2,7 +2,8 @@ use Rattle.std.proofs.Common.{rules, arith, ◌≡◌, ℕ, ◌+◌, IsTrue, ◌
 use Rattle.std.specs.Io.KnownBytes.{Appends}
 use Rattle.std.proofs.KnownBytes.{Appends-nil, Appends-trans}
 use Rattle.uecp_net.specs.Sessions.{Sessions, connection_line, connection_lines}
-use Rattle.uecp_net.proofs.Following.{sessions_on, lines_on}
+use Rattle.uecp_text.specs.Written.{Begins}
+use Rattle.uecp_net.proofs.Following.{sessions_on, lines_on, begun_on}
 use Rattle.uecp_net.proofs.serving.serve_connections.Goals as goal
 
 pub loop-before-init : goal.loop-before-init
@@ -23,6 +24,35 @@ returns-in_default-clause-refused g c = λ _.
       subst (λ e. Sessions g.T.Target.step g.C.Connect.opens g.C.Input.Read.remaining g.C.Output.Write.contents c.args.turns c.args.encoder.now c.args.connect.now outcomes e c.loop-before.connect) (sym same) sessions,
       opened,
       lines,
+    )
+
+pub returns-then-is_err-clause-broken : goal.returns-then-is_err-clause-broken
+returns-then-is_err-clause-broken g c = λ _.
+    let (outcomes, number, sessions, lines, empty) = c.loop-before.invariant in
+    let (input, output, opened, session) = c.in-Some.ensures.some in
+    let outcome = c.in-Some.outcome in
+    let held = g.W.Write.contents in
+    let line : List ℕ = connection_line (c.loop-before.before + 1) outcome in (
+      outcomes ++ outcome ∷ [],
+      omega (arith, number, c.loop-before-test.true, length-append outcomes (outcome ∷ [])),
+      sessions_on g.T.Target.step g.C.Connect.opens g.C.Input.Read.remaining g.C.Output.Write.contents c.args.turns _ c.loop-before.encoder _ _ c.loop-before.connect _ outcomes outcome input output sessions opened session,
+      begun_on (held c.args.writer.now) (held c.loop-before.writer) (held c.loop-before.writer) outcomes outcome (c.loop-before.before + 1) (omega (arith, number)) lines ([], line, refl, Appends-nil _),
+    )
+
+pub returns-then-is_err-2-clause-broken : goal.returns-then-is_err-2-clause-broken
+returns-then-is_err-2-clause-broken g c = λ _.
+    let (outcomes, number, sessions, lines, empty) = c.loop-before.invariant in
+    let (input, output, opened, session) = c.in-Some.ensures.some in
+    let outcome = c.in-Some.outcome in
+    let held = g.W.Write.contents in
+    let line : List ℕ = connection_line (c.loop-before.before + 1) outcome in
+    let whole : IsTrue c.put_connection.new.output.is_whole = search rules in
+    let kept : c.put_connection.new.output.bytes ≡ line = (c.put_connection.ensures whole).1 ∙ ap (λ l. l ++ line) empty in (
+      outcomes ++ outcome ∷ [],
+      omega (arith, number, c.loop-before-test.true, length-append outcomes (outcome ∷ [])),
+      sessions_on g.T.Target.step g.C.Connect.opens g.C.Input.Read.remaining g.C.Output.Write.contents c.args.turns _ c.loop-before.encoder _ _ c.loop-before.connect _ outcomes outcome input output sessions opened session,
+      begun_on (held c.args.writer.now) (held c.loop-before.writer) (held c.write_out.new.writer) outcomes outcome (c.loop-before.before + 1) (omega (arith, number)) lines
+          (subst (Begins (held c.loop-before.writer) (held c.write_out.new.writer)) kept c.write_out.ensures.begun),
     )
 
 pub loop-before-preserved : goal.loop-before-preserved
