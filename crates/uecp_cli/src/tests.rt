@@ -1,6 +1,8 @@
 ghost use Rattle.std.specs.Prelude.{IfOk};
 ghost use Rattle.uecp_jobs.specs.Jobs.{IsLocal};
 
+mod limits;
+mod memory;
 mod network;
 
 use crate::program::run_words;

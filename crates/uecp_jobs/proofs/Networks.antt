@@ -8,7 +8,6 @@ use Rattle.rds_store.specs.Step.{step}
 use Rattle.uecp_encoder.specs.State.{EncoderState}
 use Rattle.uecp_net.specs.declared.serving.ServeStop.{ServeStop}
 use Rattle.uecp_net.specs.Sessions.{Outcome, Sessions, connection_lines}
-use Rattle.rds_store.specs.declared.fault.StoreFault.TheVariants as store
 use Rattle.uecp_text.specs.declared.line_fault.LineFault.{LineFault}
 use Rattle.uecp_text.specs.declared.run_fault.RunFault.{RunFault}
 use Rattle.uecp_text.specs.declared.run_fault.RunFault.TheVariants as run
@@ -24,7 +23,7 @@ use Rattle.uecp_net.specs.Sending.{SenderState, Sends}
 use Rattle.uecp_net.proofs.Acknowledging.{all_acknowledged_lem, up_to_the_outstanding_lem}
 use Rattle.uecp_jobs.specs.declared.job.Job.{Job}
 use Rattle.uecp_jobs.specs.declared.job.Job.TheVariants.{Encoder, Server}
-use Rattle.uecp_jobs.specs.Setups.{Options, IsSetup, RefusesSetup, encoder_at_first, sender_at_first, address_of}
+use Rattle.uecp_jobs.specs.Setups.{Options, IsSetup, encoder_at_first, sender_at_first, address_of}
 use Rattle.uecp_jobs.specs.Jobs.{options, IsDescribed, RefusesJob, IsDone, Wrote, HasFailed}
 use Rattle.uecp_jobs.specs.Networks.{IsEncoder, IsServer, ServedSome, Serves, HasNotListened, HasBroken, SendsLines, SendsAll, AreAcknowledged, IsOutstanding, said}
 use Rattle.uecp_jobs.proofs.Doing.{not_failed, breaks_fails, job_breaks_fails, setup_wants, job_status, stopped, same_fault}

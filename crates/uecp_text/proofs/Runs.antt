@@ -1,5 +1,5 @@
 -- Runs over texts, part by part.
-use Rattle.std.proofs.Common.{◌≡◌, ℕ, ◌+◌, List, [], ◌∷◌, ◌++◌, Option, Some, None, Err, refl, sym, ap, ◌∙◌, append_assoc, append-nil, inl, inr, subst, IsTrue, true, Result, Ok, ◌⊎◌}
+use Rattle.std.proofs.Common.{◌≡◌, ℕ, ◌+◌, List, [], ◌∷◌, ◌++◌, Option, Some, None, Err, refl, sym, ap, ◌∙◌, append_assoc, append-nil, inl, inr, subst, true, Result, Ok, ◌⊎◌}
 use Rattle.uecp_text.specs.declared.line_fault.LineFault.{LineFault}
 use Rattle.uecp_text.specs.declared.line_fault.LineFault.TheVariants as line
 use Rattle.uecp_text.specs.declared.run_fault.RunFault.{RunFault}
@@ -8,7 +8,7 @@ use Rattle.uecp_text.specs.declared.interpreter.Taken.{Taken}
 use Rattle.uecp_text.specs.declared.interpreter.Taken.TheVariants as taken
 use Rattle.uecp_text.specs.Input.{under, numbered, said, lines_of}
 use Rattle.uecp_text.specs.Run.{Meaning, Brings, Refuses, Runs, RunsFirst, RunsOn, fault_at, outcome_of}
-use Rattle.uecp_text.specs.Written.{Kept, Writes, Adds}
+use Rattle.uecp_text.specs.Written.{Kept, Writes}
 
 pub writes_then : (a b c : Kept) (x y : List ℕ) → Writes a b x → Writes b c y → Writes a c (x ++ y)
 writes_then a b c x y p q = λ whole.
@@ -18,9 +18,6 @@ writes_then a b c x y p q = λ whole.
 
 pub writes_nothing : (a : Kept) → Writes a a []
 writes_nothing a = λ whole. (whole, sym (append-nil a.bytes))
-
-pub adds_whole : (a b : Kept) (x : List ℕ) → IsTrue b.is_whole → Adds a b x → Writes a b x
-adds_whole a b x whole adds = λ _. (whole, (adds whole).1)
 
 -- lines that were taken into an empty output, and then added
 pub writes_added : (empty taken before after : Kept) (lines : List ℕ) → empty.bytes ≡ [] → empty.is_whole ≡ true → Writes empty taken lines → after.bytes ≡ before.bytes ++ taken.bytes → after.is_whole ≡ before.is_whole → Writes before after lines

@@ -1,5 +1,8 @@
 //! The two jobs with connections, over connections that were prepared, some of which break.
-use faulty_devices::{FaultyReader, FaultyWriter, Taken};
+ghost use Rattle.std.specs.Prelude.{IfOk};
+ghost use Rattle.uecp_jobs.specs.Networks.{IsEncoder, IsServer};
+
+use faulty_devices::{FaultyReader, FaultyWriter, ScarceMemory, Taken};
 use std::alloc::Global;
 use std::io;
 use std::io::{ErrorKind, Write};
@@ -64,6 +67,22 @@ impl<'a> Connect for Prepared<'a> {
 /// What a run comes to: its status, its output and its text of errors.
 type Comes<'a> = (u8, &'a [u8], &'a [u8]);
 
+/// `server` with the defaults of its options but for site and reconnects.
+fn server_job(alloc: Global, site: u16, reconnects: u32) -> Result<Job, Fail>
+    ensures { IfOk result IsServer }
+{
+    Ok(Job::Server {
+        site,
+        encoder: 1,
+        host: String::from_str(alloc, "127.0.0.1")?,
+        port: 4000,
+        tries: 3,
+        timeout: 1000,
+        turns: 16,
+        reconnects,
+    })
+}
+
 /// Runs `server` over these connections with the defaults of its options but for site and reconnects, and compares what it comes
 /// to and what each connection got that was opened.
 fn serves(
@@ -75,16 +94,7 @@ fn serves(
     (status, written, said): Comes<'_>,
     got: &[&[u8]],
 ) -> Result<(), Fail> {
-    let job = Job::Server {
-        site,
-        encoder: 1,
-        host: String::from_str(alloc, "127.0.0.1")?,
-        port: 4000,
-        tries: 3,
-        timeout: 1000,
-        turns: 16,
-        reconnects,
-    };
+    let job = server_job(alloc, site, reconnects)?;
     let mut outputs = [Taken::new(), Taken::new()];
     let mut prepared = Prepared {
         inputs: given.iter(),
@@ -129,7 +139,7 @@ fn a_message_of_server_over_connections(rt: HostRuntime) -> Result<(), Fail> {
         &rt,
         alloc,
         &[closed, good],
-        (1, 3),
+        (1, 1),
         "-\n",
         done,
         &[once, once],
@@ -154,6 +164,21 @@ fn input_of_server_without_a_message_or_with_a_refused_line(rt: HostRuntime) -> 
     serves(&rt, alloc, &[good], (0, 3), "-\n", no_address, &[])
 }
 
+/// `encoder` with these services and so many connections.
+fn encoder_job(alloc: Global, services: &[u8], connections: u32) -> Result<Job, Fail>
+    ensures { IfOk result IsEncoder }
+{
+    Ok(Job::Encoder {
+        site: 1,
+        encoder: 1,
+        sets: 1,
+        services: Vec::from_slice(alloc, services)?,
+        port: 4000,
+        connections,
+        turns: 100_000,
+    })
+}
+
 /// Runs `encoder` with these services and so many connections over these, with these writes of output failing, and compares what
 /// it comes to and what each connection got that was opened.
 fn encodes(
@@ -165,15 +190,7 @@ fn encodes(
     (status, written, said): Comes<'_>,
     got: &[&[u8]],
 ) -> Result<(), Fail> {
-    let job = Job::Encoder {
-        site: 1,
-        encoder: 1,
-        sets: 1,
-        services: Vec::from_slice(alloc, services)?,
-        port: 4000,
-        connections,
-        turns: 100_000,
-    };
+    let job = encoder_job(alloc, services, connections)?;
     let mut outputs = [Taken::new(), Taken::new()];
     let mut prepared = Prepared {
         inputs: given.iter(),
@@ -207,8 +224,99 @@ fn connections_of_encoder(rt: HostRuntime) -> Result<(), Fail> {
     let unwritten: Comes = (3, b"", b"uecp: writing failed\n");
     let mistaken: Comes = (2, b"", b"uecp: services: ServiceTwice\n");
     let two = [failing, good];
+    let no_line: Comes = (3, b"", b"uecp: listening failed\n");
     encodes(&rt, alloc, &two, (one, 2), &[], done, &[reply, reply])?;
+    encodes(&rt, alloc, &[], (one, 2), &[], no_line, &[])?;
     encodes(&rt, alloc, &two, (one, 3), &[], refused, &[reply, reply])?;
     encodes(&rt, alloc, &two, (one, 2), &[1], unwritten, &[reply])?;
     encodes(&rt, alloc, &two, (twice, 2), &[], mistaken, &[])
+}
+
+/// Whether a run was refused memory, with its text and a beginning of the output; else it wrote the output and said nothing.
+fn is_refused(rt: &impl Abort, status: u8, written: &[u8], said: &[u8], output: &[u8]) -> bool {
+    if status == 0 {
+        assert!(rt; written == output && said.is_empty());
+        return false;
+    }
+    assert_eq!(rt; status, 3);
+    assert!(rt; said == b"uecp: out of memory\n".as_slice() && output.starts_with(written));
+    true
+}
+
+/// How often memory is given back at most.
+const TIMES: usize = 1 << 15;
+
+/// Runs `server` with an empty message, over a connection that brings its reply, until memory suffices.
+fn server_in_the_end(rt: &impl Abort, alloc: Global, job: &Job) -> Result<(), Fail>
+    requires { IsServer job.now }
+{
+    let good: [Given; 1] = [(&APPLIED_1, &[])];
+    let mut memory = ScarceMemory::take_all(alloc, TIMES * 16)?;
+    for refused in 0..TIMES {
+        let mut outputs = [Taken::new()];
+        let mut prepared = Prepared {
+            inputs: good.iter(),
+            outputs: outputs.iter_mut(),
+            opened: 0,
+        };
+        let mut reader = b"-\n".as_slice();
+        let (mut writer, mut errors) = (FaultyWriter::new(), FaultyWriter::new());
+        let status = run_server(
+            alloc,
+            job,
+            &mut reader,
+            &mut writer,
+            &mut errors,
+            &mut prepared,
+        );
+        let output = b"acknowledged 00 tries 1\n".as_slice();
+        if !is_refused(rt, status, writer.taken(), errors.taken(), output) {
+            assert!(rt; refused > 0 && outputs[0].as_slice() == EMPTY_1.as_slice());
+            return Ok(());
+        }
+        memory.give();
+    }
+    Err("always refused".into())
+}
+
+#[test]
+fn a_server_that_is_refused_memory(rt: HostRuntime) -> Result<(), Fail> {
+    let job = server_job(rt.alloc(), 1, 3)?;
+    server_in_the_end(&rt, rt.alloc(), &job)
+}
+
+/// Runs `encoder` over a connection that breaks and one that ends, until memory suffices.
+fn encoder_in_the_end(rt: &impl Abort, alloc: Global, job: &Job) -> Result<(), Fail>
+    requires { IsEncoder job.now }
+{
+    let two: [Given; 2] = [(&ADD_1, &[2]), (&ADD_1, &[])];
+    let mut memory = ScarceMemory::take_all(alloc, TIMES * 16)?;
+    for refused in 0..TIMES {
+        let mut outputs = [Taken::new(), Taken::new()];
+        let mut prepared = Prepared {
+            inputs: two.iter(),
+            outputs: outputs.iter_mut(),
+            opened: 0,
+        };
+        let (mut writer, mut errors) = (FaultyWriter::new(), FaultyWriter::new());
+        let status = run_encoder(alloc, job, &mut writer, &mut errors, &mut prepared);
+        let output = b"connection 1 read failed\nconnection 2 replies 1\n".as_slice();
+        if !is_refused(rt, status, writer.taken(), errors.taken(), output) {
+            assert!(rt; refused > 0);
+            assert!(rt;
+                outputs
+                    .iter()
+                    .all(|got| got.as_slice() == APPLIED_1.as_slice())
+            );
+            return Ok(());
+        }
+        memory.give();
+    }
+    Err("always refused".into())
+}
+
+#[test]
+fn an_encoder_that_is_refused_memory(rt: HostRuntime) -> Result<(), Fail> {
+    let job = encoder_job(rt.alloc(), &[0x01], 2)?;
+    encoder_in_the_end(&rt, rt.alloc(), &job)
 }

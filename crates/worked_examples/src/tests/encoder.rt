@@ -2,6 +2,8 @@ ghost use Rattle.std.specs.Prelude.{◌≡◌, ◌+◌, ◌%◌, ◌^◌, IsTrue
 ghost use Rattle.uecp_frame.specs.Address.{is_exact};
 ghost use Rattle.uecp_elements.specs.declared.code.Code.TheVariants.{Applied};
 
+mod hostile;
+mod memory;
 mod serving;
 
 use rds_store::{RdsStore, Service};
@@ -264,9 +266,8 @@ fn a_full_set_refuses_and_the_refusal_is_kept(rt: HostRuntime) -> Result<(), Fai
     Ok(())
 }
 
-#[test]
-fn each_code_comes_in_the_reply(rt: HostRuntime) -> Result<(), Fail> {
-    let mut encoder = with_store(&rt, rt.alloc(), 2)?;
+/// An encoder of two data sets with nothing kept answers each code, and its store is as the messages make it.
+fn gives_each_code(rt: &impl Abort, encoder: &mut Encoder<RdsStore>) {
     let rows: [(u8, &[u8], u8); 14] = [
         (1, &[0x0a, 0x00, 0x00, 0x01, 0x00], 0x00),
         (2, &[0x0a, 0x00, 0x00, 0x00], 0x00),
@@ -284,7 +285,7 @@ fn each_code_comes_in_the_reply(rt: HostRuntime) -> Result<(), Fail> {
         (14, &[0x18, 0x00, 0x01], 0x09),
     ];
     for (counter, message, code) in rows {
-        comes_to(&rt, &mut encoder, counter, message, code);
+        comes_to(rt, encoder, counter, message, code);
     }
     let store = encoder.target();
     assert_eq!(rt;
@@ -292,6 +293,12 @@ fn each_code_comes_in_the_reply(rt: HostRuntime) -> Result<(), Fail> {
         (Some(0x1111), Some(0xabcd))
     );
     assert_eq!(rt; (store.current(), texts_of(store, 1)), (2, 0));
+}
+
+#[test]
+fn each_code_comes_in_the_reply(rt: HostRuntime) -> Result<(), Fail> {
+    let mut encoder = with_store(&rt, rt.alloc(), 2)?;
+    gives_each_code(&rt, &mut encoder);
     Ok(())
 }
 

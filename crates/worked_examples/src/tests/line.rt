@@ -4,7 +4,10 @@ ghost use Rattle.uecp_elements.specs.declared.code.Code.TheVariants.{Applied};
 
 mod counts;
 mod driving;
+mod failing;
+mod hostile;
 mod lateness;
+mod memory;
 mod noise;
 mod server;
 

@@ -1,3 +1,5 @@
+mod memory;
+
 use reply_ring::ReplyRing;
 use std::test::Fail;
 use uecp_elements::Code;

@@ -1,3 +1,5 @@
+mod memory;
+
 use rds_store::{Group, RdsStore, Service, StoreFault};
 use std::process::Abort;
 use std::test::Fail;

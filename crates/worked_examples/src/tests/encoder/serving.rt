@@ -1,8 +1,11 @@
 //! `serve` and its meters, over a reader and a writer that fail where they are told to.
-use super::{texts_of, with_store};
+use super::{pi_of, texts_of, with_store};
 use faulty_devices::{FaultyReader, FaultyWriter};
+use rds_store::RdsStore;
+use std::alloc::Global;
+use std::process::Abort;
 use std::test::Fail;
-use uecp_encoder::{Failed, Meter, ServeFault, Served, serve};
+use uecp_encoder::{Encoder, Failed, Meter, ServeFault, Served, serve};
 
 /// Adds the text "HI", counter 03.
 const ADD_3: [u8; 15] = *b"\xFE\x00\x41\x03\x07\x0A\x00\x00\x03\x40\x48\x49\xF4\x44\xFF";
@@ -78,5 +81,92 @@ fn a_failed_read_ends_the_call_and_loses_nothing(rt: HostRuntime) -> Result<(), 
     let served = serve(&mut encoder, &mut input, &mut output, 1);
     assert_eq!(rt; served, Err(ServeFault::TurnsSpent));
     assert_eq!(rt; output.into_inner().taken(), APPLIED_3.as_slice());
+    Ok(())
+}
+
+/// Adds the text "HI" under counter 01, and then sets PI FEFF under counter 02.
+const BOTH: [u8; 30] =
+    *b"\xFE\x00\x41\x01\x07\x0A\x00\x00\x03\x40\x48\x49\x32\x23\xFF\xFE\x00\x41\x02\x05\x01\x00\x00\xFD\x01\xFD\x02\xF1\x03\xFF";
+
+/// The line is lost, and both frames come again whole: both are answered, each has acted once, and nothing was dropped.
+fn serves_both(rt: &impl Abort, encoder: &mut Encoder<RdsStore>, repeats: u64) {
+    encoder.line_lost();
+    let mut input = Meter::new(FaultyReader::new(&BOTH));
+    let mut output = Meter::new(FaultyWriter::new());
+    let served = serve(encoder, &mut input, &mut output, 64);
+    let both = Served {
+        read: 30,
+        replies: 2,
+    };
+    assert_eq!(rt; served, Ok(both));
+    let counts = encoder.counts();
+    assert_eq!(rt;
+        (counts.fresh, counts.repeats, counts.dropped),
+        (2, repeats, 0)
+    );
+    assert_eq!(rt;
+        (texts_of(encoder.target(), 1), pi_of(encoder.target(), 1)),
+        (1, Some(0xfeff))
+    );
+}
+
+/// Reads give one byte, and this one fails: so much was written before, and so many frames come again.
+fn a_read_fails(
+    rt: &impl Abort,
+    alloc: Global,
+    failing: u32,
+    (written, repeats): (usize, u64),
+) -> Result<(), Fail> {
+    let mut encoder = with_store(rt, alloc, 1)?;
+    let calls = [failing];
+    let mut input = Meter::new(FaultyReader::new(&BOTH).giving(1).failing_at(&calls));
+    let mut output = Meter::new(FaultyWriter::new());
+    let served = serve(&mut encoder, &mut input, &mut output, 64);
+    assert_eq!(rt; served, Err(ServeFault::ReadFailed));
+    assert_eq!(rt; output.into_inner().taken().len(), written);
+    serves_both(rt, &mut encoder, repeats);
+    Ok(())
+}
+
+#[test]
+fn whichever_read_fails_each_frame_acts_once(rt: HostRuntime) -> Result<(), Fail> {
+    for failing in 1..=31 {
+        let row = match failing {
+            1..=15 => (0, 0),
+            16..=30 => (11, 1),
+            _ => (22, 2),
+        };
+        a_read_fails(&rt, rt.alloc(), failing, row)?;
+    }
+    Ok(())
+}
+
+/// The writer takes so many bytes, one at a call, and then fails; so many messages were applied before.
+fn writes_end(
+    rt: &impl Abort,
+    alloc: Global,
+    (output, written): (FaultyWriter<'_>, u64),
+    fresh: u64,
+) -> Result<(), Fail> {
+    let mut encoder = with_store(rt, alloc, 1)?;
+    let mut input = Meter::new(FaultyReader::new(&BOTH));
+    let mut output = Meter::new(output.taking(1));
+    let served = serve(&mut encoder, &mut input, &mut output, 64);
+    assert_eq!(rt; served, Err(ServeFault::WriteFailed { written }));
+    assert_eq!(rt; encoder.counts().fresh, fresh);
+    serves_both(rt, &mut encoder, fresh);
+    Ok(())
+}
+
+#[test]
+fn wherever_writes_end_each_frame_acts_once(rt: HostRuntime) -> Result<(), Fail> {
+    for written in 0..=21_u32 {
+        let calls = [written + 1];
+        let fresh = if written <= 10 { 1 } else { 2 };
+        let failing = FaultyWriter::new().failing_at(&calls);
+        writes_end(&rt, rt.alloc(), (failing, u64::from(written)), fresh)?;
+        let empty = FaultyWriter::new().taking_none_at(&calls);
+        writes_end(&rt, rt.alloc(), (empty, u64::from(written)), fresh)?;
+    }
     Ok(())
 }

@@ -1,0 +1,83 @@
+//! Bytes in which no frame stands.
+use super::{APPLIED_1, CountTarget, PI_1, comes_to, own_address, replies};
+use faulty_devices::{KNOWN_FRAMES, SlowFinding, altered, slow_findings, spelling_of};
+use std::alloc::Global;
+use std::process::Abort;
+use std::test::Fail;
+use uecp_encoder::{Counts, Encoder, Target};
+
+/// Whether the slow finder finds no frame in these bytes.
+fn holds_no_frame(alloc: Global, bytes: &[u8]) -> Result<bool, Fail> {
+    let findings = slow_findings(alloc, bytes)?;
+    Ok(
+        !findings
+            .iter()
+            .any(|finding| matches!(finding, SlowFinding::Frame(_))),
+    )
+}
+
+/// Feeds all of these bytes: each call uses one or more while any is left.
+fn hears<T: Target>(encoder: &mut Encoder<T>, bytes: &[u8]) {
+    let mut rest = bytes;
+    for _ in bytes {
+        let used = encoder.feed(rest).used;
+        rest = &rest[used..];
+    }
+}
+
+/// An encoder that counts, which has applied one message, under counter 01.
+fn with_one_message(rt: &impl Abort, alloc: Global) -> Result<Encoder<CountTarget>, Fail> {
+    match Encoder::new(alloc, own_address(rt), CountTarget::default()) {
+        Ok(mut encoder) => {
+            replies(rt, &mut encoder, &PI_1, &APPLIED_1, true);
+            Ok(encoder)
+        }
+        Err(_) => Err("no memory".into()),
+    }
+}
+
+/// Hears one place of the bytes with each value, where that leaves no frame, and then loses the line. Its target stays.
+fn hears_altered(
+    rt: &impl Abort,
+    alloc: Global,
+    encoder: &mut Encoder<CountTarget>,
+    bytes: &[u8],
+    place: usize,
+) -> Result<(), Fail> {
+    let before = *encoder.target();
+    for value in 0..=255 {
+        let hostile = altered(bytes, place, value);
+        if holds_no_frame(alloc, hostile.as_slice())? {
+            hears(encoder, hostile.as_slice());
+            encoder.line_lost();
+            assert_eq!(rt; *encoder.target(), before, "{place} {value}");
+        }
+    }
+    Ok(())
+}
+
+#[test]
+fn bytes_without_a_frame_change_neither_target_nor_kept_replies(
+    rt: HostRuntime,
+) -> Result<(), Fail> {
+    let mut encoder = with_one_message(&rt, rt.alloc())?;
+    for line in KNOWN_FRAMES.lines() {
+        let bytes = spelling_of(line).ok_or("no spelling")?;
+        for place in 0..bytes.len() {
+            hears_altered(&rt, rt.alloc(), &mut encoder, bytes.as_slice(), place)?;
+        }
+    }
+    let counts = encoder.counts();
+    let expected = Counts {
+        fresh: 1,
+        dropped: counts.dropped,
+        ..Counts::default()
+    };
+    assert_eq!(rt; counts, expected);
+    // One kept reply more, and the first would be gone after these.
+    for counter in 0x02..0x80 {
+        comes_to(&rt, &mut encoder, counter, &[], 0x00);
+    }
+    replies(&rt, &mut encoder, &PI_1, &APPLIED_1, false);
+    Ok(())
+}

@@ -1,0 +1,48 @@
+//! An encoder where memory is wanting.
+use super::{APPLIED_1, CountTarget, PI_1, gives_each_code, own_address, replies, with_store};
+use faulty_devices::{FaultyReader, FaultyWriter, ScarceMemory};
+use std::test::Fail;
+use uecp_encoder::{Encoder, Meter, Served, serve};
+
+#[test]
+fn a_new_encoder_hands_the_target_back_where_memory_is_wanting(
+    rt: HostRuntime,
+) -> Result<(), Fail> {
+    let mut memory = ScarceMemory::take_all(rt.alloc(), 4096)?;
+    let target = CountTarget {
+        messages: 3,
+        bytes: 5,
+    };
+    for refused in 0..128 {
+        match Encoder::new(rt.alloc(), own_address(&rt), target) {
+            Ok(mut encoder) => {
+                replies(&rt, &mut encoder, &PI_1, &APPLIED_1, true);
+                assert!(rt; refused > 0, "never refused");
+                return Ok(());
+            }
+            Err(fault) => assert_eq!(rt; fault.target, target),
+        }
+        memory.give();
+    }
+    Err("always refused".into())
+}
+
+#[test]
+fn an_encoder_takes_no_memory_for_what_it_hears(rt: HostRuntime) -> Result<(), Fail> {
+    let mut encoder = with_store(&rt, rt.alloc(), 2)?;
+    let mut input = Meter::new(FaultyReader::new(&PI_1));
+    let mut output = Meter::new(FaultyWriter::new());
+    let _memory = ScarceMemory::take_all(rt.alloc(), 0)?;
+    gives_each_code(&rt, &mut encoder);
+    for _ in 0..10_000 {
+        replies(&rt, &mut encoder, &PI_1, &APPLIED_1, false);
+        assert_eq!(rt; encoder.feed(b"\xFE\x00\xFF\xFE").used, 3);
+    }
+    let served = serve(&mut encoder, &mut input, &mut output, 2);
+    let one = Served {
+        read: 13,
+        replies: 1,
+    };
+    assert_eq!(rt; served, Ok(one));
+    Ok(())
+}
