@@ -12,7 +12,7 @@ const ALL: [u8; 44] =
 #[test]
 fn a_new_store_answers_want_of_memory(rt: HostRuntime) -> Result<(), Fail> {
     let mut memory = ScarceMemory::take_all(rt.alloc(), 1 << 18)?;
-    for refused in 0..1 << 13 {
+    for refused in 0..1 << 14 {
         match RdsStore::new(rt.alloc(), 8, &[1, 2, 3, 4, 5, 6, 7, 8]) {
             Ok(store) => {
                 assert_eq!(rt; (store.set_count(), store.service_number(7)), (8, Some(8)));
