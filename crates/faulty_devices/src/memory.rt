@@ -13,7 +13,7 @@ const PART: usize = 4096;
 const STEP: usize = 16;
 /// Why memory could not be taken.
 const NONE: &str = "no memory to begin with";
-
+/// Why it can't be taken to its end.
 const ENDLESS: &str = "memory does not end here: run this by rt test";
 
 /// All the memory that a process can have. What it asks for from then on is refused, until some is given back.

@@ -1,6 +1,6 @@
 //! What is asked of the program (profile).
 
-/// One command with its options. `parse` answers no other numbers than the ranges named here.
+/// One command with its options. `uecp_cli`'s `parse` answers no other numbers than the ranges named here.
 #[derive(Debug, Drop, PartialEq, Eq)]
 pub enum Job {
     /// What an encoder answers to the pieces on standard input.
