@@ -4,7 +4,6 @@ Written from docs/PROTOCOL.md and docs/MANUAL.md; tests/fuzz compares the progra
 word in tests/long_schedule.py too, so on these the two are one opinion. It is slow and
 keeps no state that it could look up: it cuts a stream into segments first, then takes the stuffing out, then judges."""
 
-import copy
 from typing import NamedTuple
 
 START, ESCAPE, END = 0xFE, 0xFD, 0xFF
@@ -13,6 +12,7 @@ MOST_MESSAGE = 255
 MOST_INPUT = 1_048_576
 KEPT_REPLIES = 127
 LATENESS = 126
+WINDOW = 8
 MOST_TEXTS = 8
 MOST_GROUPS = 32
 
@@ -229,12 +229,13 @@ class Store:
             self.groups = kept + [(fields[0], bytes([fields[1][0] & 0x1F]), fields[2], fields[3])]
         else:
             for service in self.named(fields[0][0], fields[1][0]):
-                take(service, name, *fields[2:])
+                put(service, name, *fields[2:])
         return 0x00
 
     def apply(self, message):
         """The code of the reply to a message; where it is not 00 the store is what it was."""
-        before = copy.deepcopy((self.data, self.current, self.groups))
+        # a service's fields and the queue are only ever exchanged for others, so no copy need go deeper
+        before = {place: dict(service) for place, service in self.data.items()}, self.current, self.groups
         code = self.apply_in_turn(message)
         if code:
             self.data, self.current, self.groups = before
@@ -255,11 +256,16 @@ class Store:
             names = f"{digits(service['pi'])} {digits(service['ps'])}"
             written.append(f"service {number} {psn:02X} {names} {flags} texts {len(service['texts'])}")
             written += [f"text {head & 1} {head >> 1 & 0xF} {digits(text)}" for head, text in service["texts"]]
-        return written + [f"queued {' '.join(map(digits, group))}" for group in self.groups]
+        return written + [f"queued {words_of(group)}" for group in self.groups]
 
 
-def take(service, name, content, text=None):
-    """What a service has once it took an element that was not refused."""
+def words_of(group):
+    """A group, or a hyphen for none."""
+    return " ".join(map(digits, group)) or "-"
+
+
+def put(service, name, content, text=None):
+    """What a service has after an element that was not refused."""
     if name in ("pi", "ps"):
         service[name] = content
     elif name == "pty":
@@ -309,12 +315,19 @@ class Encoder:
         for counter, code in self.replies:
             if counter == finding.counter:
                 return f"reply {digits(self.reply(counter, code))} kept"
+        if finding.counter != (1 + self.replies[-1][0] % 255 if self.replies else 1):
+            return "not next"
         code = self.store.apply(finding.message)
         self.replies = (self.replies + [(finding.counter, code)])[-KEPT_REPLIES:]
         return f"reply {digits(self.reply(finding.counter, code))} new"
 
 
 # The line with both ends
+
+
+def least_outside(numbers):
+    """The least number that is not among these."""
+    return min(set(range(len(numbers) + 1)).difference(numbers))
 
 
 class Line:
@@ -325,14 +338,19 @@ class Line:
         self.sent, self.codes, self.acknowledged = [], {}, set()
         self.noise = {"encoder": b"", "server": b""}  # since the last whole frame, or the last loss
 
-    def is_outstanding(self):
-        return len(self.acknowledged) < len(self.sent)
+    def held(self):
+        """The numbers that the server holds: from the first that is not acknowledged on, acknowledged ones behind it too."""
+        return range(least_outside(self.acknowledged), len(self.sent))
+
+    def next(self):
+        """The only number that the encoder may apply now."""
+        return least_outside(self.codes)
 
     def is_late(self, number):
         return len(self.sent) - 1 - number > LATENESS
 
     def submit(self, message):
-        if self.is_outstanding():
+        if len(self.held()) == WINDOW:
             return "refused 1 Busy"
         self.sent.append(message)
         return f"numbered {len(self.sent) - 1}"
@@ -342,11 +360,13 @@ class Line:
             return "refused 2 NotSent"
         if self.is_late(number):
             return "refused 3 TooLate"
-        self.noise["encoder"] = b""
-        word = "kept" if number in self.codes else "new"
-        if word == "new":
-            self.codes[number] = self.store.apply(self.sent[number])
-        return f"delivered {number} {word} {self.codes[number]:02X}"
+        self.noise["encoder"] = b""  # whatever the encoder makes of it, a whole frame came
+        if number in self.codes:
+            return f"delivered {number} kept {self.codes[number]:02X}"
+        if number != self.next():
+            return f"not next {number}"
+        self.codes[number] = self.store.apply(self.sent[number])
+        return f"delivered {number} new {self.codes[number]:02X}"
 
     def reply(self, number):
         if number not in self.codes:
@@ -370,8 +390,14 @@ class Line:
         self.noise[end] = b""
         return "lost"
 
+    def take(self):
+        """The modulator takes the group that waits longest; no number, code or noise has a part in it."""
+        waiting = self.store.groups
+        self.store.groups = waiting[1:]
+        return f"taken {words_of(waiting[0] if waiting else ())}"
+
     def totals(self):
-        return f"sent {len(self.sent)} applied {len(self.codes)} acknowledged {len(self.acknowledged)}"
+        return f"sent {len(self.sent)} applied {len(self.codes)} acknowledged {least_outside(self.acknowledged)}"
 
 
 # Input lines
@@ -431,6 +457,8 @@ def play(line, words):
         return line.disturb(name[6:].decode(), bytes_of(rest[0], "not a command"))
     if name == b"line-lost" and rest in ([b"encoder"], [b"server"]):
         return line.lose(rest[0].decode())
+    if name == b"take" and not rest:
+        return line.take()
     raise Refused("not a command")
 
 

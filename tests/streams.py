@@ -9,7 +9,7 @@ from model import END, ESCAPE, START, Frame
 MARKS = bytes([ESCAPE, START, END, 0x00, 0x01, 0x02])
 KNOWN = bytes(model.ELEMENTS)
 # how many frames back a repeat lies: near, about the 127 kept replies, anywhere
-NEAR, EDGE = range(0, 6), range(122, 133)
+NEAR, EDGE = range(0, 10), range(122, 133)
 
 
 def setup_of(chance):
@@ -82,6 +82,10 @@ class Maker:
         mode = self.chance.choice([self.head(), *[0x40 | self.chance.randrange(32)] * 9])
         return bytes([self.type(), mode]) + self.some(4)
 
+    def groups(self, count):
+        """A message that adds so many groups, each another, and nothing else."""
+        return b"".join(bytes([0x24, self.chance.randrange(32), 0x40]) + self.chance.randbytes(4) for _ in range(count))
+
     def element(self):
         code = self.chance.choice(KNOWN + b"\x0a\x0a\x24\x24")
         if code == 0x24:
@@ -106,6 +110,8 @@ class Maker:
         if kind == 1:
             return self.some(chance.choice([1, 5, 100, 255]))
         elements = b"".join(self.element() for _ in range(chance.choice([1, 1, 1, 2, 3])))
+        if kind == 6:
+            return self.groups(chance.choice([1, 2, 5, 16, 31, 32, 33]))
         if kind == 2:
             elements = b"".join(self.element() for _ in range(60))
         elif kind == 3:
@@ -167,10 +173,11 @@ class Studio(Maker):
 
     def __init__(self, chance, setup):
         super().__init__(chance, setup)
-        self.counter, self.frames = chance.choice([0, 0, 250, chance.randrange(256)]), []
+        # an encoder that has heard nothing takes no other than 01
+        self.counter, self.frames = chance.choice([0] * 9 + [chance.randrange(256)]), []
         often = chance.choice([0.2, 1, 1, 4])
         self.kinds = {
-            self.next: 60, self.again: 14, self.under_any_counter: 2, self.to_others: 5, self.unnumbered: 3,
+            self.next: 60, self.again: 14, self.window: 2, self.ahead: 2, self.under_any_counter: 2, self.to_others: 5, self.unnumbered: 3,
             self.noise: 6 * often, self.torn: 5 * often, self.hurt: 6 * often, self.ill_made: 10 * often,
         }  # fmt: skip
 
@@ -190,6 +197,17 @@ class Studio(Maker):
         back = self.chance.choice(self.chance.choice([NEAR, EDGE, EDGE, range(len(self.frames) + 1)]))
         return self.frames[-1 - back] if back < len(self.frames) else b""
 
+    def window(self):
+        """Frames of up to eight messages in any order, and then all of them in theirs, as from a server that heard no reply."""
+        chance, frames = self.chance, [self.numbered() for _ in range(self.chance.randint(2, model.WINDOW))]
+        self.frames += frames
+        return b"".join(chance.choice([frames[::-1], frames[1:], chance.sample(frames, len(frames))]) + frames)
+
+    def ahead(self):
+        """A frame that comes before its turn."""
+        counter = (self.counter + self.chance.choice([1, 1, 2, 7])) % 255 + 1
+        return model.spelling(Frame(self.address(), counter, self.message()))
+
     def under_any_counter(self):
         return model.spelling(Frame(self.address(), self.chance.randrange(256), self.message()))
 
@@ -203,8 +221,10 @@ class Studio(Maker):
         return self.some(self.chance.choice([1, 2, 5, 20, 100]))
 
     def spoilt(self, frame, got):
-        """What a bad line left of a frame; often the whole frame comes after it, as from a server that heard no reply."""
+        """What a bad line left of a frame; often the whole frame comes after it, as from a server that heard no reply. Where it does not,
+        the next message has its counter, so that it is the next."""
         if self.chance.random() < 0.5:
+            self.counter -= 1
             return got
         self.frames.append(frame)
         return got + frame
@@ -284,6 +304,7 @@ NO_EVENTS = [
     *(b"frame 0 65536", b"frame 0 -1", b"frame 0 1A", b"frame 0 #", b"reply", b"reply 0000000000", b"reply 0 99999999999999999999"),
     *(b"noise-encoder", b"noise-encoder -", b"noise-server FE FF", b"noise-server F", b"noise-line FE"),
     *(b"line-lost", b"line-lost both", b"line-lost Server", b"line-lost server encoder"),
+    *(b"take 1", b"take -", b"take 0", b"take now", b"take take", b"take\t", b"take #", b"Take", b"TAKE", b"taken", b"tak", b"take-group"),
 ]
 
 
@@ -294,16 +315,60 @@ class Script(Maker):
         super().__init__(chance, setup)
         self.line, self.writer, self.waiting = model.Line(setup), Writer(chance), []
         self.loss = chance.choice([0.05, 0.3, 0.6])
+        self.taking = 0.4  # how likely a take is
+        self.window, self.turn = 1, min  # how many messages a server wants to hold, and which of several comes first
+
+    def drift(self):
+        """Now and then the modulator, the server's wishes and the order on the line change."""
+        chance = self.chance
+        if chance.random() < 0.03:
+            # a modulator that is away for a while lets the queue fill, and one that is quick empties it
+            self.taking = chance.choice([0, 0, 0.02, 0.1, 0.4, 0.98])
+        if chance.random() < 0.05:
+            self.window = chance.choice([1, 2, 3, 4, 5, 6, 7, model.WINDOW, model.WINDOW])
+        if chance.random() < 0.05:
+            self.turn = chance.choice([min, max, chance.choice])
 
     def event(self):
+        self.drift()
+        if self.chance.random() < self.taking_now():
+            return "take"
         if self.waiting:
             return self.waiting.pop(0)
         if self.chance.random() < self.loss:
             return self.disturbance()
-        if not self.line.is_outstanding():
-            return f"submit {self.row(self.message()) or '-'}"
-        number = len(self.line.sent) - 1
-        return f"{'reply' if number in self.line.codes else 'frame'} {number}{self.cuts()}"
+        return self.progress()
+
+    def progress(self):
+        """What brings messages on, in the order of the time: a new one, a frame that may bring a reply, a reply that was not heard."""
+        line, chance, held = self.line, self.chance, self.line.held()
+        unapplied = [number for number in held if number not in line.codes]
+        unheard = [number for number in held if number in line.codes and number not in line.acknowledged]
+        if not held or len(held) < self.window and chance.random() < 0.5:
+            return self.submission(self.next_message())
+        if unapplied and (not unheard or chance.random() < 0.6):
+            # only the first is applied, so it comes at least as often as all others
+            return f"frame {chance.choice([unapplied[0], self.turn(unapplied)])}{self.cuts()}"
+        if unheard:
+            return f"reply {self.turn(unheard)}{self.cuts()}"
+        return self.submission(self.next_message())
+
+    def submission(self, message):
+        return f"submit {self.row(message) or '-'}"
+
+    def taking_now(self):
+        """How likely a take is: less where none waits, more where a message found no room."""
+        if not self.line.store.groups:
+            return min(self.taking, 0.15)
+        return max(self.taking, 0.2) if self.found_no_room() else self.taking
+
+    def found_no_room(self):
+        """Whether the message that was applied last did not."""
+        return self.line.codes.get(len(self.line.codes) - 1) == 0x0B
+
+    def next_message(self):
+        """A message; one that found no room often comes again under a new number."""
+        return self.line.sent[len(self.line.codes) - 1] if self.found_no_room() and self.chance.random() < 0.5 else self.message()
 
     def disturbance(self):
         chance, end = self.chance, self.chance.choice(["encoder", "server"])
@@ -311,15 +376,21 @@ class Script(Maker):
         if kind < 5:
             return f"{chance.choice(['frame', 'reply'])} {self.any_number()}{self.cuts()}"
         if kind == 5:
-            return f"submit {self.row(self.message()) or '-'}"
+            # a ninth message is tried more often than one too many for the server's wishes
+            return self.submission(self.message()) if len(self.line.held()) in (0, model.WINDOW) or chance.random() < 0.3 else self.progress()
         if kind < 8:
             return f"line-lost {end}"
         if kind < 10:
             return self.noise_line(end, self.some(chance.choice([1, 2, 8, 30])))
         frame = self.frame_on_line(end)
         at = chance.randrange(len(frame) + 1)
-        parts = chance.choice([[frame], [frame[:at]], [frame[at:]], [frame[:at], frame[at:]], [self.damaged(frame)], [self.ill_made()]])
+        hurt = self.damaged(frame)
+        parts = chance.choice([[frame], [frame[:at]], [frame[at:]], [frame[:at], frame[at:]], [hurt], [hurt[:at], hurt[at:]], [self.ill_made()]])
         self.waiting = [self.noise_line(end, part) for part in parts if part] or ["line-lost server"]
+        if chance.random() < 0.2:
+            # another frame or reply comes amid the noise, often the frame of the newest message
+            other = chance.choice([f"frame {max(len(self.line.sent) - 1, 0)}", f"frame {self.any_number()}", f"reply {self.any_number()}"])
+            self.waiting.insert(1, other)
         return self.waiting.pop(0)
 
     def any_number(self):
@@ -356,7 +427,7 @@ class Script(Maker):
 
 
 def script_text(chance, setup):
-    return Script(chance, setup).text(chance.choice([20, 150, 300, 600]))
+    return Script(chance, setup).text(chance.choice([20, 20, 150, 300, 600, 800]))
 
 
 def refused_texts():

@@ -13,7 +13,8 @@ use Rattle.rds_store.specs.Value.{StoredText, ServiceData, Store}
 use Rattle.rds_store.specs.Names.{names}
 use Rattle.rds_store.specs.Content.{opening_service, taken}
 use Rattle.rds_store.specs.Put.{put}
-use Rattle.rds_store.specs.Step.{step}
+use Rattle.rds_store.specs.Step.{step, group_taken}
+use Rattle.rds_store.specs.Laws.{TakesOut}
 use Rattle.rds_store.specs.Opening.{opening, opening_places, fault_of}
 use Rattle.rds_store.specs.declared.fault.StoreFault.TheVariants.{SetCount, ServiceCount, ServiceZero, ServiceTwice}
 use Rattle.rds_store.proofs.Places.{place_total}
@@ -127,6 +128,22 @@ range_before_room = refl
 
 one_group_again : (after one_set (replicate 32 (group_element 0x43) ++ group_element 0x03 ∷ [])).groups ≡ waiting_group ∷ []
 one_group_again = refl
+
+-- takes
+abbrev two_groups : List Element
+two_groups = Group 0x00 0x40 0x0000 0x0000 ∷ Group 0x01 0x40 0x0000 0x0000 ∷ []
+
+abbrev zero_group : (kind : ℕ) → WaitingGroup
+zero_group kind = record { kind = kind; bits = 0x00; block3 = 0x0000; block4 = 0x0000 }
+
+first_in_first_out : TakesOut (after one_set two_groups) (zero_group 0x00 ∷ zero_group 0x01 ∷ []) one_set
+first_in_first_out = (refl, (refl, refl))
+
+none_to_take : group_taken one_set ≡ (one_set, None)
+none_to_take = refl
+
+room_after_a_take : code_after (group_taken (after one_set (replicate 32 (group_element 0x43)))).0 [] (group_element 0x43) ≡ Applied
+room_after_a_take = refl
 
 -- messages
 before_an_unknown_element : step one_set (0x01 ∷ 0x00 ∷ 0x00 ∷ 0x12 ∷ 0x34 ∷ 0x99 ∷ []) ≡ (one_set, UnknownElement)

@@ -7,13 +7,14 @@ use Rattle.uecp_elements.specs.declared.code.Code.TheVariants.{Applied, UnknownE
 use Rattle.uecp_elements.specs.Grammar.{Element, Pi, Ps, TaTp, Ms, Pty, Rt, NoText, Text, Select, Group, Ack}
 use Rattle.uecp_elements.specs.Folding.{is_applied, folded}
 use Rattle.uecp_elements.specs.Reading.{Item, items}
+use Rattle.rds_store.specs.declared.group.Group.{Group as WaitingGroup}
 use Rattle.rds_store.specs.Value.{ServiceData, Store}
 use Rattle.rds_store.specs.Names.{address, names, names_place}
 use Rattle.rds_store.specs.Content.{taken}
 use Rattle.rds_store.specs.Refusals.{code_of}
 use Rattle.rds_store.specs.Put.{put, stored, stored_on}
-use Rattle.rds_store.specs.Step.{element_by_element, whole_or_none, step}
-use Rattle.rds_store.specs.Laws.{RefusalChangesNothing, ChangesNamedPlacesAlone, KeepsSelectionAndGroups, KeepsSetsAndServices, MessagesKeepSetsAndServices, IsKnownByPlaces}
+use Rattle.rds_store.specs.Step.{element_by_element, whole_or_none}
+use Rattle.rds_store.specs.Laws.{RefusalChangesNothing, ChangesNamedPlacesAlone, KeepsSelectionAndGroups, KeepsSetsAndServices, MessagesKeepSetsAndServices, TakesOut, GroupsGoOutInOrder, IsKnownByPlaces}
 use Rattle.rds_store.proofs.Places.{get-change_where, same_places}
 
 -- ---- A refusal.
@@ -162,3 +163,11 @@ messages_keep_sets_and_services v m = (
   whole-stays (λ w. w.sets) v (element_by_element v m) (elements_keep_sets v m),
   whole-stays (λ w. w.services) v (element_by_element v m) (elements_keep_services v m),
 )
+
+-- ---- Takes.
+all_taken : (v : Store) (groups : List WaitingGroup) → TakesOut (record v { groups = groups }) groups (record v { groups = [] })
+all_taken v [] = refl
+all_taken v (group ∷ groups) = (refl, all_taken v groups)
+
+pub groups_go_out_in_order : GroupsGoOutInOrder
+groups_go_out_in_order v = (all_taken v v.groups, refl)

@@ -1,11 +1,11 @@
 -- The laws of a store under messages.
-use Rattle.std.proofs.Common.{◌≡◌, ◌≢◌, ℕ, List, [], ◌∷◌, ◌++◌, map, Ok, Err, Bool, true, false, Option, Some, None, refl, sym, ap, subst, ◌∙◌, slice_index, if◌then◌else◌}
+use Rattle.std.proofs.Common.{◌≡◌, ◌≢◌, ℕ, List, [], ◌∷◌, ◌++◌, map, Ok, Bool, true, false, Option, Some, None, refl, sym, ap, subst, ◌∙◌, slice_index, if◌then◌else◌}
 use Rattle.std.specs.FinMap.{get}
 use Rattle.uecp_elements.specs.declared.code.Code.{Code}
 use Rattle.uecp_elements.specs.declared.code.Code.TheVariants.{Applied, UnknownElement, DataSet, Service, OutOfRange, ElementLength, NotHere, BufferFull}
 use Rattle.uecp_elements.specs.declared.fault.ElementFault.{ElementFault}
 use Rattle.uecp_elements.specs.Grammar.{Element, Reading, Reads, AreBytes, EndsWith, is_known}
-use Rattle.uecp_elements.specs.Reading.{Item, items, items_of, fault_item}
+use Rattle.uecp_elements.specs.Reading.{items, items_of, fault_item}
 use Rattle.uecp_elements.specs.Folding.{is_applied, where_applied, folded}
 use Rattle.uecp_elements.proofs.Items.{has_reading, only_reading}
 use Rattle.rds_store.specs.Value.{Store}

@@ -1,4 +1,4 @@
--- Laws of a store under elements and messages, in the words of places.
+-- Laws of a store under elements, messages and takes, in the words of places.
 use Rattle.std.specs.Prelude.{◌≡◌, ◌≢◌, ℕ, ◌&&◌, Some, None, List, [], ◌∷◌, if◌then◌else◌}
 use Rattle.std.specs.Option.{option_map}
 use Rattle.std.specs.FinMap.{get}
@@ -9,7 +9,8 @@ use Rattle.rds_store.specs.Value.{Data, Store}
 use Rattle.rds_store.specs.Names.{address, names}
 use Rattle.rds_store.specs.Content.{taken}
 use Rattle.rds_store.specs.Put.{put}
-use Rattle.rds_store.specs.Step.{step}
+use Rattle.rds_store.specs.declared.group.Group.{Group}
+use Rattle.rds_store.specs.Step.{step, group_taken}
 
 -- An element that is answered with another code than 00 leaves the store as it was.
 abbrev pub RefusalChangesNothing : Type 0
@@ -61,6 +62,16 @@ abbrev pub WholeMessageIsApplied : Type 0
 WholeMessageIsApplied =
     (v : Store) (message : List ℕ) (reading : Reading) (after : Store) → AreBytes message → Reads message reading
     → reading.fault ≡ None → PutsEach v reading.elements after → step v message ≡ (after, Applied)
+
+-- The groups go out one by one, in this order, and leave that store.
+abbrev pub TakesOut : Store → List Group → (after : Store) → Type 0
+TakesOut v [] after = after ≡ v
+TakesOut v (group ∷ groups) after = ((group_taken v).1 ≡ Some group) × TakesOut (group_taken v).0 groups after
+
+-- The groups that wait go out in the order in which they wait, and nothing else changes; then there is none to go out.
+abbrev pub GroupsGoOutInOrder : Type 0
+GroupsGoOutInOrder =
+    (v : Store) → TakesOut v v.groups (record v { groups = [] }) × (group_taken (record v { groups = [] }) ≡ (record v { groups = [] }, None))
 
 -- What is kept at each place is all that there is to know of the data.
 abbrev pub IsKnownByPlaces : Type 0

@@ -5,7 +5,7 @@ ghost use Rattle.std.specs.Option.{option_copied};
 ghost use Rattle.std.specs.List.{list_any};
 ghost use Rattle.std.specs.FinMap.{get};
 ghost use Rattle.rds_store.specs.Value.{IsGroup};
-ghost use Rattle.rds_store.specs.Step.{element_by_element};
+ghost use Rattle.rds_store.specs.Step.{element_by_element, group_taken};
 ghost use Rattle.rds_store.specs.Opening.{opening, fault_of};
 
 use crate::group::Group;
@@ -96,6 +96,13 @@ impl DataSets {
             Ok(()) => {}
             Err(_) => unreachable!(),
         }
+    }
+
+    /// Removes the first group, and gives it.
+    pub(crate) fn take_group(&mut self) -> Option<Group>
+        ensures { (self.new, result) ≡ group_taken self.old }
+    {
+        self.groups.pop_at(0)
     }
 
     /// The current data set.

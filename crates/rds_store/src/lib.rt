@@ -2,7 +2,7 @@
 //! each service, and one queue of free-format groups.
 //!
 //! A store is changed by elements and by whole messages, and answers each with a code. It knows no frames, no
-//! counters and no replies, and it schedules no groups. `RdsStore` is the store; `Service`, `RadioText` and `Group`
+//! counters and no replies. It schedules no groups, but hands them out one by one. `RdsStore` is the store; `Service`, `RadioText` and `Group`
 //! are what it lends. All memory is taken by `RdsStore::new`.
 //!
 //! The law to rely on: a message is applied whole or not at all, and so is an element that is put alone. Where the code

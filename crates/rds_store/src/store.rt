@@ -8,7 +8,7 @@ ghost use Rattle.uecp_elements.specs.Grammar as grammar;
 ghost use Rattle.uecp_elements.specs.View.{element_of};
 ghost use Rattle.rds_store.specs.Value.{IsGroup};
 ghost use Rattle.rds_store.specs.Put.{put};
-ghost use Rattle.rds_store.specs.Step.{step};
+ghost use Rattle.rds_store.specs.Step.{step, group_taken};
 ghost use Rattle.rds_store.specs.Opening.{opening, fault_of};
 
 use crate::data_sets::DataSets;
@@ -116,6 +116,19 @@ impl RdsStore {
             self.trial.copy_from(&self.main);
         }
         code
+    }
+
+    /// Removes the first group that waits, and gives it; nothing else changes. None exactly where none waits.
+    ///
+    /// ```
+    /// store.apply(&[0x24, 0x00, 0x43, 0x12, 0x34, 0x56, 0x78]);
+    /// let group = store.take_group(); // kind 00, bits 03, blocks 1234 and 5678; the next call answers None
+    /// ```
+    pub fn take_group(&mut self) -> Option<Group>
+        ensures { (self.new, result) ≡ group_taken self.old }
+    {
+        self.trial.take_group();
+        self.main.take_group()
     }
 
     /// The current data set, 1 to their number. It is 1 at the start.

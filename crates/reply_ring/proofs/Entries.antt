@@ -5,7 +5,7 @@ use Rattle.std.proofs.lemmas.List.Elements.{All-nil, All-cons}
 use Rattle.std.proofs.lemmas.Bool.{eqb-true, eqb-false}
 use Rattle.std.proofs.lemmas.Grind.{common_steps}
 use Rattle.uecp_elements.specs.declared.code.Code.{Code}
-use Rattle.reply_ring.specs.Ring.{kept_code, HasEachOnce}
+use Rattle.reply_ring.specs.Ring.{kept_code, newest, HasEachOnce}
 use Rattle.reply_ring.specs.Table.{pairs_of}
 
 held_later : (pair : ℕ × Code) (older : List (ℕ × Code)) (counter : ℕ) (o : Option Code) → IfSome o (λ code. Contains older (counter, code))
@@ -35,6 +35,16 @@ none_is_held (pair ∷ older) counter = by (pair.0 == counter) refl (none_is_hel
       | None ↦ λ all. All-cons (λ (pair : ℕ × Code). pair.0 ≢ counter) pair older (eqb-false pair.0 counter e) all
       | Some code ↦ λ h. h
     ] more
+
+-- the first counter is the newest pair's
+pub first_is_newest : (counters : List ℕ) (codes : List (Option Code)) → slice_get counters 0 ≡ newest (pairs_of counters codes)
+first_is_newest [] codes = refl
+first_is_newest (c ∷ cs) codes = refl
+
+-- there is a newest pair exactly where there is one
+pub newest_none : (ring : List (ℕ × Code)) → (newest ring ≡ None → length ring ≡ 0) × (length ring ≡ 0 → newest ring ≡ None)
+newest_none [] = (λ h. refl, λ h. refl)
+newest_none (pair ∷ older) = (λ h. absurd (cc), λ h. absurd (omega (arith, h)))
 
 -- an entry of a counter that no pair has is no matter of the pairs
 pub pairs_apart : (counters : List ℕ) (codes : List (Option Code)) (k : ℕ) (e : Option Code) → kept_code (pairs_of counters codes) k ≡ None

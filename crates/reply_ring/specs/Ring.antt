@@ -7,6 +7,11 @@ abbrev pub kept_code : List (ℕ × Code) → ℕ → Option Code
 kept_code [] counter = None
 kept_code (pair ∷ older) counter = if pair.0 == counter then Some pair.1 else kept_code older counter
 
+-- The counter of the newest pair, or none where no pair is held (profile).
+abbrev pub newest : List (ℕ × Code) → Option ℕ
+newest [] = None
+newest (pair ∷ older) = Some pair.0
+
 -- The ring once a pair is kept: it stands in front, and of all pairs the first 127 are left (profile).
 abbrev pub keep : List (ℕ × Code) → ℕ → Code → List (ℕ × Code)
 keep ring counter code = take 127 ((counter, code) ∷ ring)

@@ -1,6 +1,6 @@
 //! The ring of kept replies. Source: profile.
 ghost use Rattle.std.specs.Prelude.{◌≡◌, ◌≢◌, ◌≤◌, ◌↔◌, [], length, IsTrue, IfOk, IfSome, IfNone, None, Contains, All};
-ghost use Rattle.reply_ring.specs.Ring.{kept_code, keep, IsRing};
+ghost use Rattle.reply_ring.specs.Ring.{kept_code, newest, keep, IsRing};
 
 use circular_buffer::HeapCircularBuffer;
 use std::alloc::{AllocError, Global};
@@ -8,7 +8,7 @@ use std::marker::Model;
 use uecp_elements::Code;
 
 /// How many pairs are held at most: the least that serves 126 newer messages. With one fewer, the oldest message that may
-/// still come again would have no reply here and be taken for a new one.
+/// still come again would have no reply here.
 const HELD_MAX: usize = 127;
 
 /// The reply codes of the last numbered messages, each under its message's counter: at most 127 pairs, no counter twice.
@@ -57,6 +57,21 @@ impl ReplyRing {
         ensures none { IfNone result (All (λ pair. pair.0 ≢ counter) self.now) }
     {
         self.codes[usize::from(counter)]
+    }
+
+    /// The counter of the newest pair, which was kept last, or None where no pair is held.
+    ///
+    /// ```
+    /// let mut ring = ReplyRing::new(alloc)?;
+    /// ring.keep(7, Code::Applied);
+    /// let last = ring.newest(); // Some(7)
+    /// ```
+    #[tactic(auto, using(crate::proofs::Entries::first_is_newest, crate::proofs::Entries::newest_none))]
+    pub fn newest(&self) -> Option<u8>
+        ensures value { result ≡ newest self.now }
+        ensures none { (result ≡ None) ↔ (length self.now ≡ 0) }
+    {
+        self.counters.front().copied()
     }
 
     /// Keeps the code for the counter, and drops the oldest pair where 127 are held.

@@ -4,6 +4,7 @@ use Rattle.std.specs.Prelude.{flat_map}
 use Rattle.std.proofs.lemmas.List.Concat.{flat_map-append}
 use Rattle.uecp_elements.specs.declared.code.Code.{Code}
 use Rattle.reply_ring.specs.Ring.{kept_code}
+use Rattle.uecp_frame.specs.declared.frame.Frame.{Frame}
 use Rattle.uecp_frame.specs.Address.{reaches}
 use Rattle.uecp_frame.specs.Frame.{spelling}
 use Rattle.uecp_frame.specs.Findings.{Finding, OpenPart, Closed, Doomed, Part, has_frame, found, open_part}
@@ -11,7 +12,7 @@ use Rattle.uecp_frame.specs.Beyond.{found_beyond, open_beyond, unended}
 use Rattle.uecp_frame.proofs.Pieces.{in_pieces_lem, new_start_lem, comes_after_lem}
 use Rattle.uecp_frame.proofs.HeardLemmas.{always_heard_lem}
 use Rattle.uecp_encoder.specs.Target.{Step}
-use Rattle.uecp_encoder.specs.State.{EncoderState, raised, numbered, after_finding, after_findings, fed}
+use Rattle.uecp_encoder.specs.State.{EncoderState, raised, is_next, applied, numbered, after_finding, after_findings, fed}
 use Rattle.uecp_encoder.specs.Answering.{response_to, responses, responses_to, bytes_sent, answers}
 use Rattle.uecp_encoder.specs.Laws.{IsInPieces, found_in_pieces, joined, IsHeardAfterNoise}
 
@@ -28,6 +29,10 @@ responses-append step e (x ∷ xs) ys = ap (λ rs. response_to step e x ∷ rs) 
 abbrev with_open : {V : Type 0} → EncoderState V → OpenPart → EncoderState V
 with_open e o = record e { part = o }
 
+next_open : {V : Type 0} (step : Step V) (e : EncoderState V) (o : OpenPart) (f : Frame) (next : Bool) → cond next (applied step (with_open e o) f) (with_open e o) ≡ with_open (cond next (applied step e f) e) o
+next_open step e o f true = refl
+next_open step e o f false = refl
+
 finding_open : {V : Type 0} (step : Step V) (e : EncoderState V) (o : OpenPart) (x : Finding) → after_finding step (with_open e o) x ≡ with_open (after_finding step e x) o
 finding_open step e o (Err fault) = refl
 finding_open step e o (Ok f) = go (reaches f.address e.address) (f.counter == 0) (kept_code e.ring f.counter)
@@ -37,7 +42,7 @@ finding_open step e o (Ok f) = go (reaches f.address e.address) (f.counter == 0)
         ≡ with_open (cond r (cond z (record e { counts = record e.counts { unnumbered = raised e.counts.unnumbered } }) (numbered step e f k)) (record e { counts = record e.counts { not_for_me = raised e.counts.not_for_me } })) o
     go true true k = refl
     go true false (Some c) = refl
-    go true false None = refl
+    go true false None = next_open step e o f (is_next e.ring f.counter)
     go false z k = refl
 
 pub findings_open : {V : Type 0} (step : Step V) (e : EncoderState V) (o : OpenPart) (xs : List Finding) → after_findings step (with_open e o) xs ≡ with_open (after_findings step e xs) o

@@ -1,6 +1,7 @@
 pub mod Replies
 pub mod Feeding
 pub mod Repeating
+pub mod Ordering
 pub mod InPieces
 pub mod Damage
 pub mod InParts

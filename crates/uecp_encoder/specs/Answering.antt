@@ -13,7 +13,7 @@ use Rattle.uecp_encoder.specs.declared.answer.What.{What}
 use Rattle.uecp_encoder.specs.declared.answer.What.TheVariants as what
 use Rattle.uecp_encoder.specs.declared.answer.Answer.{Answer}
 use Rattle.uecp_encoder.specs.Target.{Step}
-use Rattle.uecp_encoder.specs.State.{EncoderState, after_finding}
+use Rattle.uecp_encoder.specs.State.{EncoderState, is_next, after_finding}
 
 -- the encoder's reply to a numbered message: from its own address, unnumbered, with the message's code and counter
 abbrev pub reply_of : (address counter : ℕ) → Code → Frame
@@ -24,15 +24,17 @@ pub data Response : Type 0 where
   Replied : (bytes : List ℕ) (fresh : Bool) → Response
   NotForMe : Response
   Unnumbered : Response
+  NotNext : Response
   Dropped : FrameFault → Response
 
--- To a numbered frame for it, by the code that is kept for the counter: the kept code again, or the code of the message applied now.
+-- To a numbered frame for it, by the code that is kept for the counter: the kept code again; else the code of the message applied now where its counter
+-- is the next, and no reply where it is not.
 abbrev pub replied : {V : Type 0} → Step V → EncoderState V → Frame → Option Code → Response
 replied step e f (Some code) = Replied (spelling (reply_of e.address f.counter code)) false
-replied step e f None = Replied (spelling (reply_of e.address f.counter (step e.value f.message).1)) true
+replied step e f None = if is_next e.ring f.counter then Replied (spelling (reply_of e.address f.counter (step e.value f.message).1)) true else NotNext
 
 -- To one finding, from this state: a fault is dropped, a frame for another and one with counter 00 are named, and a numbered
--- frame for this encoder gets a reply.
+-- frame for this encoder gets a reply, unless it is neither a repeat nor the next.
 abbrev pub response_to : {V : Type 0} → Step V → EncoderState V → Finding → Response
 response_to step e (Err fault) = Dropped fault
 response_to step e (Ok f) =
@@ -48,6 +50,7 @@ abbrev pub bytes_sent : Response → List ℕ
 bytes_sent (Replied bytes fresh) = bytes
 bytes_sent NotForMe = []
 bytes_sent Unnumbered = []
+bytes_sent NotNext = []
 bytes_sent (Dropped fault) = []
 
 -- to what these bytes find
@@ -64,6 +67,7 @@ responses_of what.Nothing = []
 responses_of (what.Reply reply fresh) = Replied reply.now.items fresh ∷ []
 responses_of what.NotForMe = NotForMe ∷ []
 responses_of what.Unnumbered = Unnumbered ∷ []
+responses_of what.NotNext = NotNext ∷ []
 responses_of (what.Dropped fault) = Dropped fault ∷ []
 
 -- The bytes of the piece up to the one at which the first finding is judged are used, or all where there is none; and the answer is to that finding.

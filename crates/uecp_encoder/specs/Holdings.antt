@@ -5,7 +5,7 @@ use Rattle.uecp_encoder.specs.declared.holdings.Holdings.{Holdings}
 use Rattle.uecp_encoder.specs.declared.holdings.Outcome.{Outcome}
 use Rattle.uecp_encoder.specs.declared.holdings.Outcome.TheVariants as outcome
 use Rattle.uecp_encoder.specs.State.{EncoderState}
-use Rattle.uecp_encoder.specs.Answering.{Response, Replied, NotForMe, Unnumbered, Dropped, reply_of}
+use Rattle.uecp_encoder.specs.Answering.{Response, Replied, NotForMe, Unnumbered, NotNext, Dropped, reply_of}
 use Rattle.uecp_frame.specs.Frame.{spelling}
 
 -- an encoder with these holdings, and with this part of the stream open
@@ -18,4 +18,5 @@ said_of address outcome.Nothing = []
 said_of address (outcome.Dropped fault) = Dropped fault ∷ []
 said_of address outcome.NotForMe = NotForMe ∷ []
 said_of address outcome.Unnumbered = Unnumbered ∷ []
+said_of address outcome.NotNext = NotNext ∷ []
 said_of address (outcome.Reply code counter fresh) = Replied (spelling (reply_of address counter code)) fresh ∷ []

@@ -1,13 +1,14 @@
 -- What users of an encoder rely on, for every target. Source: profile.
-use Rattle.std.specs.Prelude.{◌≡◌, ℕ, ◌+◌, ◌-◌, ◌^◌, ◌<◌, ◌≤◌, min, true, false, List, [], ◌∷◌, ◌++◌, length, flat_map, Ok, if◌then◌else◌}
+use Rattle.std.specs.Prelude.{◌≡◌, ℕ, ◌+◌, ◌-◌, ◌%◌, ◌^◌, ◌<◌, ◌≤◌, ◌==◌, min, true, false, List, [], ◌∷◌, ◌++◌, length, get_or, flat_map, Option, Some, Ok, Err, if◌then◌else◌}
 use Rattle.uecp_frame.specs.declared.frame.Frame.{Frame}
 use Rattle.uecp_frame.specs.Frame.{spelling}
 use Rattle.uecp_frame.specs.Findings.{Finding, OpenPart, Closed, has_frame, is_quiet}
 use Rattle.uecp_frame.specs.Beyond.{found_beyond, open_beyond}
+use Rattle.reply_ring.specs.Ring.{newest}
 use Rattle.uecp_encoder.specs.declared.counts.Counts.{Counts}
 use Rattle.uecp_encoder.specs.Target.{Step}
-use Rattle.uecp_encoder.specs.State.{EncoderState, after_finding, fed}
-use Rattle.uecp_encoder.specs.Answering.{Response, Replied, NotForMe, Unnumbered, Dropped, response_to, responses_to, answers}
+use Rattle.uecp_encoder.specs.State.{EncoderState, opening, next_after, after_finding, fed}
+use Rattle.uecp_encoder.specs.Answering.{Response, Replied, NotForMe, Unnumbered, NotNext, Dropped, response_to, responses_to, answers}
 
 -- ---- A retry acts once.
 
@@ -32,6 +33,7 @@ abbrev pub fresh_in : Response → ℕ
 fresh_in (Replied bytes fresh) = if fresh then 1 else 0
 fresh_in NotForMe = 0
 fresh_in Unnumbered = 0
+fresh_in NotNext = 0
 fresh_in (Dropped fault) = 0
 
 -- how many messages a happening applied
@@ -58,6 +60,52 @@ RetryActsOnce {V} step =
     response_to step e (Ok f) ≡ Replied bytes true →
     applied_among step (after_finding step e (Ok f)) between ≤ 126 →
     IsRepeat step (after_happenings step (after_finding step e (Ok f)) between) f bytes
+
+-- ---- No message is applied twice.
+
+-- The frame is not applied: neither target nor kept replies change.
+pub record IsNotApplied {V : Type 0} (step : Step V) (e : EncoderState V) (f : Frame) : Type 0 where
+  pub none : fresh_in (response_to step e (Ok f)) ≡ 0
+  pub value : (after_finding step e (Ok f)).value ≡ e.value
+  pub ring : (after_finding step e (Ok f)).ring ≡ e.ring
+
+-- A frame that was applied and comes again, after any happenings among which at most 253 further messages were applied, is not applied again, though its reply may
+-- be kept no more: the counters have not come round.
+abbrev pub AppliedOnce : {V : Type 0} → Step V → Type 0
+AppliedOnce {V} step =
+    (e : EncoderState V) (f : Frame) (bytes : List ℕ) (between : List (Happening V)) →
+    response_to step e (Ok f) ≡ Replied bytes true →
+    applied_among step (after_finding step e (Ok f)) between ≤ 253 →
+    IsNotApplied step (after_happenings step (after_finding step e (Ok f)) between) f
+
+-- ---- Messages are applied in the order of their counters.
+
+-- the counter of the message that a happening applied, if it applied one
+abbrev pub counter_in : {V : Type 0} → Step V → EncoderState V → Happening V → List ℕ
+counter_in step e (Finds (Ok f)) = if applied_in step e (Finds (Ok f)) == 1 then f.counter ∷ [] else []
+counter_in step e (Finds (Err fault)) = []
+counter_in step e (Becomes value counts part) = []
+
+-- the counters of the messages that were applied, one after another
+abbrev pub counters_applied : {V : Type 0} → Step V → EncoderState V → List (Happening V) → List ℕ
+counters_applied step e [] = []
+counters_applied step e (h ∷ hs) = counter_in step e h ++ counters_applied step (after_happening step e h) hs
+
+-- Each of these counters is the next after the one before it, and the first the next after this one.
+abbrev pub Follow : (last : Option ℕ) → List ℕ → Type 0
+Follow last [] = Unit {0}
+Follow last (counter ∷ later) = (counter ≡ next_after last) × Follow (Some counter) later
+
+-- Whatever happens to an encoder, the counters of the messages that it applies follow the newest that it had kept, one after another.
+abbrev pub AppliesInOrder : {V : Type 0} → Step V → Type 0
+AppliesInOrder {V} step = (e : EncoderState V) (hs : List (Happening V)) → Follow (newest e.ring) (counters_applied step e hs)
+
+-- Whatever happens to a new encoder, the first message that it applies has counter 01, and so on up to FF and from 01 again.
+abbrev pub AppliesFrom01 : {V : Type 0} → Step V → Type 0
+AppliesFrom01 {V} step =
+    (address : ℕ) (value : V) (hs : List (Happening V)) (k : ℕ) →
+    k < length (counters_applied step (opening address value) hs) →
+    get_or (counters_applied step (opening address value) hs) k 0 ≡ 1 + k % 255
 
 -- ---- Where the stream is cut makes no difference.
 

@@ -6,7 +6,7 @@ use Rattle.uecp_encoder.specs.declared.serving.ServeFault.{ServeFault}
 use Rattle.uecp_encoder.specs.declared.serving.ServeFault.TheVariants.{ReadFailed, WriteFailed, TurnsSpent}
 use Rattle.uecp_encoder.specs.Target.{Step}
 use Rattle.uecp_encoder.specs.State.{EncoderState, fed}
-use Rattle.uecp_encoder.specs.Answering.{Response, Replied, NotForMe, Unnumbered, Dropped, responses_to, answers}
+use Rattle.uecp_encoder.specs.Answering.{Response, Replied, NotForMe, Unnumbered, NotNext, Dropped, responses_to, answers}
 use Rattle.uecp_encoder.specs.Metered.{counted}
 
 -- 1 for a reply, else 0
@@ -14,6 +14,7 @@ abbrev pub replies_in : Response → ℕ
 replies_in (Replied bytes fresh) = 1
 replies_in NotForMe = 0
 replies_in Unnumbered = 0
+replies_in NotNext = 0
 replies_in (Dropped fault) = 0
 
 -- how many of these are replies

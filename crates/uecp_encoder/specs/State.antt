@@ -1,11 +1,11 @@
 -- An encoder as one value, and what findings do to it. Source: profile.
-use Rattle.std.specs.Prelude.{ℕ, ◌+◌, ◌-◌, ◌^◌, ◌==◌, min, List, [], ◌∷◌, Option, Some, None, Ok, Err, if◌then◌else◌}
+use Rattle.std.specs.Prelude.{ℕ, ◌+◌, ◌-◌, ◌%◌, ◌^◌, ◌==◌, min, Bool, List, [], ◌∷◌, Option, Some, None, Ok, Err, if◌then◌else◌}
 use Rattle.uecp_frame.specs.declared.frame.Frame.{Frame}
 use Rattle.uecp_frame.specs.Address.{reaches}
 use Rattle.uecp_frame.specs.Findings.{Finding, OpenPart, Closed}
 use Rattle.uecp_frame.specs.Beyond.{found_beyond, open_beyond}
 use Rattle.uecp_elements.specs.declared.code.Code.{Code}
-use Rattle.reply_ring.specs.Ring.{kept_code, keep}
+use Rattle.reply_ring.specs.Ring.{kept_code, newest, keep}
 use Rattle.uecp_encoder.specs.declared.counts.Counts.{Counts}
 use Rattle.uecp_encoder.specs.Target.{Step}
 
@@ -29,17 +29,30 @@ opening address value = record { address = address; value = value; ring = []; co
 abbrev pub raised : ℕ → ℕ
 raised n = min (n + 1) (2 ^ 64 - 1)
 
--- A numbered frame for the encoder, by the code that is kept for its counter: a repeat changes nothing but a count;
--- else the message is applied and its code is kept.
-abbrev pub numbered : {V : Type 0} → Step V → EncoderState V → Frame → Option Code → EncoderState V
-numbered step e f (Some code) = record e { counts = record e.counts { repeats = raised e.counts.repeats } }
-numbered step e f None = record {
+-- the counter after the last message's, FF being followed by 01, and 01 where there was no message
+abbrev pub next_after : (last : Option ℕ) → ℕ
+next_after None = 1
+next_after (Some last) = 1 + last % 255
+
+-- whether a counter is the next, by the newest of the kept ones
+abbrev pub is_next : List (ℕ × Code) → ℕ → Bool
+is_next ring counter = counter == next_after (newest ring)
+
+-- the encoder once it has applied a frame's message: its code is kept for the frame's counter
+abbrev pub applied : {V : Type 0} → Step V → EncoderState V → Frame → EncoderState V
+applied step e f = record {
   address = e.address;
   value = (step e.value f.message).0;
   ring = keep e.ring f.counter (step e.value f.message).1;
   counts = record e.counts { fresh = raised e.counts.fresh };
   part = e.part;
 }
+
+-- A numbered frame for the encoder, by the code that is kept for its counter: a repeat changes nothing but a count;
+-- else the message is applied where its counter is the next, and nothing changes at all where it is not.
+abbrev pub numbered : {V : Type 0} → Step V → EncoderState V → Frame → Option Code → EncoderState V
+numbered step e f (Some code) = record e { counts = record e.counts { repeats = raised e.counts.repeats } }
+numbered step e f None = if is_next e.ring f.counter then applied step e f else e
 
 -- The encoder after one finding, judged in this order: a fault is counted, and so is a frame whose address does not reach the
 -- encoder, and one with counter 00; any other frame is a numbered one for it. None of this touches the open part.

@@ -17,6 +17,9 @@ pub enum What<'a> {
     NotForMe,
     /// A frame with counter 00, which is ignored.
     Unnumbered,
+    /// A numbered frame for this encoder that is no repeat and whose counter is not the next. Nothing changed, and there is no
+    /// reply: its message is for later, and is to be sent again once those before it were applied.
+    NotNext,
     /// A segment that is no frame.
     Dropped(FrameFault),
 }

@@ -13,6 +13,7 @@ use crate::counts::Counts;
 use crate::holdings::{Holdings, Outcome};
 use crate::replying::spell_reply;
 use crate::target::Target;
+use rds_store::Group;
 use reply_ring::ReplyRing;
 use std::alloc::Global;
 use std::marker::Model;
@@ -25,8 +26,8 @@ pub struct EncoderFault<T> {
     pub target: T,
 }
 
-/// An encoder at its address: it applies each numbered message once, keeps the replies to the last 127, and answers a
-/// repeat with the kept one. Contracts see it as one value, `EncoderState`.
+/// An encoder at its address: it applies each numbered message once and in its turn, keeps the replies to the last 127, and
+/// answers a repeat with the kept one. Contracts see it as one value, `EncoderState`.
 #[derive(Drop)]
 pub struct Encoder<T: Target> {
     /// Finds the frames in what is fed.
@@ -96,6 +97,7 @@ impl<T: Target> Encoder<T> {
             Outcome::Dropped(fault) => What::Dropped(fault),
             Outcome::NotForMe => What::NotForMe,
             Outcome::Unnumbered => What::Unnumbered,
+            Outcome::NotNext => What::NotNext,
             Outcome::Reply {
                 code,
                 counter,
@@ -120,6 +122,19 @@ impl<T: Target> Encoder<T> {
         ensures { self.new ≡ record self.old { part = Closed } }
     {
         self.deframer.line_lost();
+    }
+
+    /// Takes from the target the group that is to go out next, or None where it has none. Nothing but the target changes: the
+    /// kept replies, the counts and what is open stay, so that a message which was applied before is still known.
+    ///
+    /// ```
+    /// let group = encoder.take_group(); // of a store: the first group that waits
+    /// ```
+    pub fn take_group(&mut self) -> Option<Group>
+        ensures state { self.new ≡ record self.old { value = (T.taken self.old.value).0 } }
+        ensures group { result ≡ (T.taken self.old.value).1 }
+    {
+        self.holdings.target.take()
     }
 
     /// The deframer, whose open part is the encoder's.

@@ -1,9 +1,10 @@
 //! What an encoder holds apart from the open part of the line, and what a finding does to it. Source: profile.
 ghost use Rattle.std.specs.Prelude.{◌≡◌, Ok, [], ◌∷◌};
+ghost use Rattle.reply_ring.specs.Ring.{newest};
 ghost use Rattle.uecp_frame.specs.Findings.{OpenPart};
 ghost use Rattle.uecp_frame.specs.Feeding.{findings_of};
 ghost use Rattle.uecp_frame.specs.Lent.{found_lent, frame_lent};
-ghost use Rattle.uecp_encoder.specs.State.{after_finding, after_findings};
+ghost use Rattle.uecp_encoder.specs.State.{next_after, after_finding, after_findings};
 ghost use Rattle.uecp_encoder.specs.Answering.{response_to, responses};
 ghost use Rattle.uecp_encoder.specs.Holdings.{with_part, said_of};
 
@@ -33,6 +34,7 @@ pub(crate) enum Outcome {
     Dropped(FrameFault),
     NotForMe,
     Unnumbered,
+    NotNext,
     Reply {
         code: Code,
         counter: u8,
@@ -58,7 +60,8 @@ impl<T: Target> Holdings<T> {
         }
     }
 
-    /// Takes a frame: in order, the address, counter 00, a counter that is kept, and else the message is applied.
+    /// Takes a frame: in order, the address, counter 00, a counter that is kept, one that is not the next, and else the message
+    /// is applied.
     #[inline(never)]
     fn take_frame(&mut self, frame: &FrameRef<'_>) -> Outcome
         ensures holds { (part : OpenPart) → with_part self.new part ≡ after_finding T.step (with_part self.old part) (Ok (frame_lent frame.now)) }
@@ -82,6 +85,9 @@ impl<T: Target> Holdings<T> {
                 fresh: false,
             };
         }
+        if counter != self.next_counter() {
+            return Outcome::NotNext;
+        }
         let code = self.target.apply(frame.message);
         self.ring.keep(counter, code);
         self.counts.fresh = self.counts.fresh.saturating_add(1);
@@ -89,6 +95,17 @@ impl<T: Target> Holdings<T> {
             code,
             counter,
             fresh: true,
+        }
+    }
+
+    /// The counter of the message that is to be applied next: 01 where no reply is kept, else the one after the newest kept,
+    /// FF being followed by 01.
+    fn next_counter(&self) -> u8
+        ensures { result ≡ next_after (newest self.now.ring) }
+    {
+        match self.ring.newest() {
+            None => 1,
+            Some(last) => 1 + last % 255,
         }
     }
 }

@@ -1,16 +1,31 @@
 //! Laws of the definitions, each the contract of a function that does nothing.
 ghost use Rattle.std.specs.Prelude.{ℕ, List};
 ghost use Rattle.uecp_encoder.specs.State.{EncoderState};
-ghost use Rattle.uecp_encoder.specs.Laws.{RetryActsOnce, IsInPieces, IsHeardAfterNoise, DamageChangesNothing};
+ghost use Rattle.uecp_encoder.specs.Laws.{RetryActsOnce, AppliedOnce, AppliesInOrder, AppliesFrom01, IsInPieces, IsHeardAfterNoise, DamageChangesNothing};
 
 use crate::target::Target;
 
 /// A frame that was applied and comes again within the next 126 applied messages gets the reply that it got, byte for byte,
 /// and changes neither the target nor the kept replies. Between them anything may be found in what comes (messages, faults,
 /// frames for others, unnumbered frames, repeats), and anything else may happen that leaves the encoder's address and its kept
-/// replies: noise that ends no segment, a lost line, a change of the target from outside.
+/// replies: noise that ends no segment, a lost line, a group taken from the target.
 pub fn a_retry_acts_once<T: Target>()
     ensures { RetryActsOnce T.step }
+{}
+
+/// A frame that was applied and comes again within the next 253 applied messages is not applied again. Within 126 it gets its reply
+/// ([`a_retry_acts_once`]); after that its counter is neither kept nor the next, until 254 further messages have brought the
+/// counters round.
+pub fn applied_once<T: Target>()
+    ensures { AppliedOnce T.step }
+{}
+
+/// Messages are applied in the order of their counters: each has the counter after that of the one before, FF being followed by
+/// 01, and the first of a new encoder has 01. What comes may hold anything, in any order, and anything else may happen that
+/// leaves the encoder's address and its kept replies.
+pub fn applied_in_order<T: Target>()
+    ensures each { AppliesInOrder T.step }
+    ensures from_01 { AppliesFrom01 T.step }
 {}
 
 /// An encoder does the same with a stream however it is cut into pieces.

@@ -189,9 +189,11 @@ fn write_answer<W: Write>(writer: &mut Meter<W>, what: What<'_>) -> Result<Sent,
             }),
             Err(written) => Err(written as u64),
         },
-        What::Nothing | What::NotForMe | What::Unnumbered | What::Dropped(_) => Ok(Sent {
-            replies: 0,
-            bytes: 0,
-        }),
+        What::Nothing | What::NotForMe | What::Unnumbered | What::NotNext | What::Dropped(_) => {
+            Ok(Sent {
+                replies: 0,
+                bytes: 0,
+            })
+        }
     }
 }

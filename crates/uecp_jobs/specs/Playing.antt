@@ -1,12 +1,12 @@
 -- What playing one event on a line comes to (profile).
 use Rattle.std.specs.Prelude.{◌≡◌, ◌≢◌, ◌⊎◌, ℕ, Bool, List, ◌++◌, length, codes, Ok, Err}
 use Rattle.rds_store.specs.Value.{Store}
-use Rattle.rds_store.specs.Step.{step}
+use Rattle.rds_store.specs.Step.{step, group_taken}
 use Rattle.uecp_link.specs.declared.stepped.Stepped.{Stepped}
 use Rattle.uecp_link.specs.declared.refusal.LineRefusal.{LineRefusal}
-use Rattle.uecp_link.specs.Once.{Event, Once}
+use Rattle.uecp_link.specs.Once.{Event, Once, least_missing}
 use Rattle.uecp_link.specs.Events.{Refuses}
-use Rattle.uecp_link.specs.Holds.{LineState, Holds, StepsAs}
+use Rattle.uecp_link.specs.Holds.{LineState, is_acknowledged, Holds, StepsAs}
 use Rattle.uecp_lines.specs.Steps.{step_words, totals_line}
 use Rattle.uecp_words.specs.EventWords.{named_message, Names, IsFaultOf}
 use Rattle.uecp_text.specs.Words.{words}
@@ -19,7 +19,7 @@ use Rattle.uecp_text.specs.declared.line_fault.LineFault.TheVariants.{OutOfMemor
 pub record TakesPlace (old : LineState Store) (event : Event) (lines : List ℕ) (new : LineState Store) : Type 0 where
   pub answer : Stepped
   pub said : lines ≡ step_words (Ok answer) (named_message event) ++ codes "\n"
-  pub steps : (o : Once Store) → Holds old o → StepsAs step old o event answer new
+  pub steps : (o : Once Store) → Holds old o → StepsAs step group_taken old o event answer new
 
 -- The event is refused, as the once-machine refuses it, or for want of memory: the line stays as it was, and this is said of the refusal.
 pub record IsRefused (old : LineState Store) (event : Event) (lines : List ℕ) (new : LineState Store) : Type 0 where
@@ -41,4 +41,4 @@ Plays line text (Declines why) line' = (why ≢ OutOfMemory) × IsFaultOf (words
 
 -- The last lines: the totals, and the store where it is asked for.
 abbrev pub closing_lines : (asked : Bool) → LineState Store → List ℕ
-closing_lines asked line = totals_line (length line.sent) (length line.codes) line.acknowledged ++ last_lines asked line.encoder.value
+closing_lines asked line = totals_line (length line.sent) (length line.codes) (least_missing (is_acknowledged line) (length line.sent)) ++ last_lines asked line.encoder.value

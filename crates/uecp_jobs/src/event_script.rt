@@ -87,6 +87,7 @@ fn line_event(event: &EventLine) -> LineEvent<'_>
         EventLine::Noise(Side::Encoder, bytes) => LineEvent::NoiseToEncoder(bytes.as_slice()),
         EventLine::Noise(Side::Server, bytes) => LineEvent::NoiseToServer(bytes.as_slice()),
         EventLine::LineLost(side) => LineEvent::LineLost(*side),
+        EventLine::Take => LineEvent::Take,
     }
 }
 

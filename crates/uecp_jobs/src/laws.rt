@@ -14,8 +14,8 @@ pub fn answers_one_stream()
 {}
 
 /// After any script of `line`, also one that stops at a refused line, the encoder's store is what a prefix of the sent
-/// messages makes, each applied once and in order; every message that is acknowledged is in it with its one reply, and every
-/// message that is missing is still outstanding.
+/// messages with the takes between makes, each applied once and in order; every message that is acknowledged is in it with its
+/// one reply, and every message that is missing is still outstanding.
 pub fn scripts_keep_the_headline()
     ensures { ScriptsKeepHeadline }
 {}

@@ -8,7 +8,7 @@ use Rattle.uecp_elements.specs.Codes.{byte_of}
 use Rattle.uecp_elements.specs.Reading.{Item, items}
 use Rattle.uecp_frame.specs.declared.frame.Frame.{Frame}
 use Rattle.uecp_frame.specs.Findings.{Finding}
-use Rattle.uecp_encoder.specs.Answering.{Response, Replied, NotForMe, Unnumbered, Dropped}
+use Rattle.uecp_encoder.specs.Answering.{Response, Replied, NotForMe, Unnumbered, NotNext, Dropped}
 use Rattle.uecp_text.specs.Digits.{byte_word, number_word, row_word, decimal_word}
 
 -- What an element's line says after the numbers of data set and service, for the part of a RadioText.
@@ -60,4 +60,5 @@ abbrev pub response_line : Response → List ℕ
 response_line (Replied bytes fresh) = codes "reply" ++ row_word bytes ++ (if fresh then codes " new\n" else codes " kept\n")
 response_line NotForMe = codes "not for me\n"
 response_line Unnumbered = codes "unnumbered\n"
+response_line NotNext = codes "not next\n"
 response_line (Dropped fault) = dropped_line fault

@@ -31,9 +31,13 @@ text_line t = flagged (codes "text") t.toggle ++ decimal_word t.transmissions ++
 abbrev pub texts_lines : List StoredText → List ℕ
 texts_lines texts = counted (codes " texts") (length texts) ++ codes "\n" ++ flat_map text_line texts
 
--- The line of a group: its type, the last five bits of block 2, and blocks 3 and 4.
+-- A group: its type, the last five bits of block 2, and blocks 3 and 4.
+unfoldable pub group_words : Group → List ℕ
+group_words g = byte_word g.kind ++ byte_word g.bits ++ number_word g.block3 ++ number_word g.block4
+
+-- The line of a group that waits.
 abbrev pub group_line : Group → List ℕ
-group_line g = codes "queued" ++ byte_word g.kind ++ byte_word g.bits ++ number_word g.block3 ++ number_word g.block4 ++ codes "\n"
+group_line g = codes "queued" ++ group_words g ++ codes "\n"
 
 -- The lines of a service: where it stands, what it has, and its texts.
 abbrev pub service_lines : (set number : ℕ) → ServiceData → List ℕ

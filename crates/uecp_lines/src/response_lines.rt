@@ -8,7 +8,7 @@ use crate::finding_lines::put_fault;
 use uecp_encoder::What;
 use uecp_text::Output;
 
-/// The line of what an encoder answers, if it answers: a reply, new or kept; not for it; not numbered; or no frame.
+/// The line of what an encoder answers, if it answers: a reply, new or kept; not for it; not numbered; not the next; or no frame.
 pub fn put_answer(what: What<'_>, output: &mut Output)
     ensures { Adds output.old output.new (flat_map response_line (responses_of what.entry)) }
 {
@@ -21,6 +21,7 @@ pub fn put_answer(what: What<'_>, output: &mut Output)
         }
         What::NotForMe => output.text("not for me\n"),
         What::Unnumbered => output.text("unnumbered\n"),
+        What::NotNext => output.text("not next\n"),
         What::Dropped(fault) => put_fault(fault, output),
     }
 }

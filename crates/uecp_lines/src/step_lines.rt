@@ -2,10 +2,13 @@
 ghost use Rattle.std.specs.Prelude.{◌++◌, length, codes};
 ghost use Rattle.uecp_elements.specs.Codes.{byte_of};
 ghost use Rattle.uecp_text.specs.Digits.{byte_word, counted};
-ghost use Rattle.uecp_lines.specs.Steps.{step_words, totals_line};
+ghost use Rattle.uecp_link.specs.Once.{least_missing};
+ghost use Rattle.uecp_link.specs.Holds.{is_acknowledged};
+ghost use Rattle.uecp_lines.specs.Steps.{step_words, taken_words, totals_line};
 ghost use Rattle.uecp_text.specs.Written.{Adds};
 
-use rds_store::RdsStore;
+use crate::store_lines::put_group_words;
+use rds_store::{Group, RdsStore};
 use uecp_elements::Code;
 use uecp_link::{Line, LineRefusal, Stepped};
 use uecp_text::Output;
@@ -28,15 +31,30 @@ fn put_words(stepped: Result<Stepped, LineRefusal>, named: usize, output: &mut O
             put_count("delivered", named, output);
             put_code(if fresh { " new" } else { " kept" }, code, output);
         }
+        Ok(Stepped::NotNext) => put_count("not next", named, output),
         Ok(Stepped::Acknowledged(code)) => put_code("acknowledged", code, output),
         Ok(Stepped::Stray) => output.text("stray"),
         Ok(Stepped::Noise { dropped }) => put_count("noise", dropped, output),
         Ok(Stepped::Lost) => output.text("lost"),
+        Ok(Stepped::Taken(group)) => {
+            output.text("taken");
+            put_taken(group, output);
+        }
         Err(refusal) => {
             put_count("refused", usize::from(refusal.number()), output);
             output.text(" ");
             output.text(refusal.name());
         }
+    }
+}
+
+/// The group that a take gave, or a hyphen where there was none.
+fn put_taken(group: Option<Group>, output: &mut Output)
+    ensures { Adds output.old output.new (taken_words group) }
+{
+    match group {
+        None => output.text(" -"),
+        Some(group) => put_group_words(&group, output),
     }
 }
 
@@ -58,7 +76,7 @@ fn put_code(name: &str, code: Code, output: &mut Output)
 
 /// The line of totals.
 pub fn put_totals(line: &Line<RdsStore>, output: &mut Output)
-    ensures { Adds output.old output.new (totals_line (length line.now.sent) (length line.now.codes) line.now.acknowledged) }
+    ensures { Adds output.old output.new (totals_line (length line.now.sent) (length line.now.codes) (least_missing (is_acknowledged line.now) (length line.now.sent))) }
 {
     put_counts(
         line.sent().len(),

@@ -2,7 +2,7 @@
 ghost use Rattle.std.specs.Prelude.{◌++◌, codes, length, flat_map, take};
 ghost use Rattle.rds_store.specs.Refusals.{set_numbers};
 ghost use Rattle.uecp_text.specs.Digits.{flagged};
-ghost use Rattle.uecp_lines.specs.StoreLines.{place_words, name_words, flag_words, value_words, text_line, texts_lines, group_line, service_lines, lines_at, set_lines, store_lines, last_lines};
+ghost use Rattle.uecp_lines.specs.StoreLines.{place_words, name_words, flag_words, value_words, text_line, texts_lines, group_words, group_line, service_lines, lines_at, set_lines, store_lines, last_lines};
 ghost use Rattle.uecp_text.specs.Written.{Adds};
 
 use crate::step_lines::put_count;
@@ -143,14 +143,22 @@ fn put_groups(groups: &[Group], output: &mut Output)
     }
 }
 
-/// The line of a group.
+/// The line of a group that waits.
 fn put_group(group: &Group, output: &mut Output)
     ensures { Adds output.old output.new (group_line group.now) }
 {
     output.text("queued");
+    put_group_words(group, output);
+    output.end();
+}
+
+/// A group's type, bits and blocks.
+#[tactic(auto, unfolding(crate::specs::StoreLines::group_words))]
+pub(crate) fn put_group_words(group: &Group, output: &mut Output)
+    ensures { Adds output.old output.new (group_words group.now) }
+{
     output.byte(group.kind);
     output.byte(group.bits);
     output.number(group.block3);
     output.number(group.block4);
-    output.end();
 }

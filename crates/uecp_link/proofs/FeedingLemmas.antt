@@ -15,9 +15,10 @@ use Rattle.uecp_frame.specs.declared.fed.Fed.{Fed}
 use Rattle.uecp_frame.specs.Feeding.{Feeds, findings_of}
 use Rattle.uecp_frame.proofs.Pieces.{in_pieces_lem, new_start_lem}
 use Rattle.uecp_encoder.specs.Target.{Step}
-use Rattle.uecp_encoder.specs.State.{EncoderState, after_finding, after_findings, fed}
-use Rattle.uecp_encoder.specs.Answering.{Response, Replied, NotForMe, Unnumbered, Dropped, reply_of, replied, responses}
+use Rattle.uecp_encoder.specs.State.{EncoderState, is_next, after_finding, after_findings, fed}
+use Rattle.uecp_encoder.specs.Answering.{Response, Replied, NotForMe, Unnumbered, NotNext, Dropped, reply_of, replied, responses}
 use Rattle.uecp_encoder.proofs.InPieces.{in_pieces_of_encoder, findings_open, fed-part}
+use Rattle.uecp_link.specs.declared.heard.HeardWhat.{HeardWhat}
 use Rattle.uecp_link.specs.Server.{ServerState, acknowledges, freed, heard_finding, heard_findings, heard, heard_as, all_heard_as}
 use Rattle.uecp_link.specs.Replying.{coded, reply_to, replies_to, replies, code_heard, acknowledgements, IsInPieces}
 
@@ -88,6 +89,7 @@ has_reply [] = false
 has_reply (Replied bytes fresh ∷ rs) = true
 has_reply (NotForMe ∷ rs) = has_reply rs
 has_reply (Unnumbered ∷ rs) = has_reply rs
+has_reply (NotNext ∷ rs) = has_reply rs
 has_reply (Dropped fault ∷ rs) = has_reply rs
 
 pub not_replied : {V : Type 0} (step : Step V) (e : EncoderState V) (fs : List Finding) → has_reply (responses step e fs) ≡ false → replies_to step e fs ≡ []
@@ -99,10 +101,16 @@ not_replied {V} step e (Ok f ∷ fs) h = go (reaches f.address e.address) (f.cou
     e1 = after_finding step e (Ok f)
 
     go : (r z : Bool) (k : Option Code) → (has_reply (responses step e1 fs) ≡ false → replies_to step e1 fs ≡ []) → has_reply (cond r (cond z Unnumbered (replied step e f k)) NotForMe ∷ responses step e1 fs) ≡ false →
-        cons_option (cond r (cond z None (Some (coded step e f k))) None) (replies_to step e1 fs) ≡ []
+        cons_option (cond r (cond z None (coded step e f k)) None) (replies_to step e1 fs) ≡ []
     go true true k rest h = rest h
     go true false (Some c) rest h = absurd (cc)
-    go true false None rest h = absurd (cc)
+    go true false None rest h = by (is_next e.ring f.counter) rest h
+      where
+        by : (n : Bool) → (has_reply (responses step e1 fs) ≡ false → replies_to step e1 fs ≡ []) →
+            has_reply (cond n (Replied (spelling (reply_of e.address f.counter (step e.value f.message).1)) true) NotNext ∷ responses step e1 fs) ≡ false →
+            cons_option (cond n (Some (true, (step e.value f.message).1)) None) (replies_to step e1 fs) ≡ []
+        by true rest h = absurd (cc)
+        by false rest h = rest h
     go false z k rest h = rest h
 
 -- a reply as bytes is a reply with its code
@@ -127,12 +135,16 @@ replied_one step e (Ok f ∷ []) bytes fresh h = go (reaches f.address e.address
       spelled = cc;
       replies = rw (a, b, c) (ap (λ (n : Bool). let r : List (Bool × Code) = (n, d) ∷ [] in r) (let same : false ≡ fresh = cc in same));
     }
-    go true false None a b c h = record {
-      counter = f.counter;
-      code = (step e.value f.message).1;
-      spelled = cc;
-      replies = rw (a, b, c) (ap (λ (n : Bool). let r : List (Bool × Code) = (n, (step e.value f.message).1) ∷ [] in r) (let same : true ≡ fresh = cc in same));
-    }
+    go true false None a b c h = by (is_next e.ring f.counter) refl h
+      where
+        by : (n : Bool) → is_next e.ring f.counter ≡ n → cond n (Replied (spelling (reply_of e.address f.counter (step e.value f.message).1)) true) NotNext ∷ [] ≡ Replied bytes fresh ∷ [] → IsCoded step e (Ok f ∷ []) bytes fresh
+        by true d h = record {
+          counter = f.counter;
+          code = (step e.value f.message).1;
+          spelled = cc;
+          replies = rw (a, b, c, d) (ap (λ (n : Bool). let r : List (Bool × Code) = (n, (step e.value f.message).1) ∷ [] in r) (let same : true ≡ fresh = cc in same));
+        }
+        by false d h = absurd (cc)
     go false z k a b c h = absurd (cc)
 
 pub empty_is : (xs : List ℕ) → true ≡ (length xs == 0) → xs ≡ []
@@ -164,22 +176,18 @@ all_heard_as-append : (s : ServerState) (xs ys : List Finding) → all_heard_as 
 all_heard_as-append s [] ys = refl
 all_heard_as-append s (x ∷ xs) ys = ap (λ ws. heard_as s x ∷ ws) (all_heard_as-append (heard_finding s x) xs ys)
 
-abbrev with_open : ServerState → OpenPart → ServerState
+abbrev pub with_open : ServerState → OpenPart → ServerState
 with_open s o = record s { part = o }
 
 finding_open : (s : ServerState) (o : OpenPart) (x : Finding) → heard_finding (with_open s o) x ≡ with_open (heard_finding s x) o
 finding_open s o (Err fault) = refl
-finding_open s o (Ok f) = ap (λ (k : Option Code). freed (with_open s o) k) (same s.outstanding) ∙ go (acknowledges s s.outstanding f)
+finding_open s o (Ok f) = go (acknowledges s f)
   where
-    same : (m : Option (List ℕ)) → acknowledges (with_open s o) m f ≡ acknowledges s m f
-    same None = refl
-    same (Some m) = refl
-
-    go : (k : Option Code) → freed (with_open s o) k ≡ with_open (freed s k) o
+    go : (k : Option (ℕ × Code)) → freed (with_open s o) k ≡ with_open (freed s k) o
     go None = refl
-    go (Some c) = refl
+    go (Some reply) = refl
 
-heard_open : (s : ServerState) (o : OpenPart) (xs : List Finding) → heard_findings (with_open s o) xs ≡ with_open (heard_findings s xs) o
+pub heard_open : (s : ServerState) (o : OpenPart) (xs : List Finding) → heard_findings (with_open s o) xs ≡ with_open (heard_findings s xs) o
 heard_open s o [] = refl
 heard_open s o (x ∷ xs) = ap (λ t. heard_findings t xs) (finding_open s o x) ∙ heard_open (heard_finding s x) o xs
 
@@ -191,11 +199,7 @@ all_open s o (x ∷ xs) =
   where
     same : (x : Finding) → heard_as (with_open s o) x ≡ heard_as s x
     same (Err fault) = refl
-    same (Ok f) = told_same s.outstanding
-      where
-        told_same : (m : Option (List ℕ)) → heard_as (record s { part = o; outstanding = m }) (Ok f) ≡ heard_as (record s { outstanding = m }) (Ok f)
-        told_same None = refl
-        told_same (Some m) = refl
+    same (Ok f) = refl
 
 heard-part : (s : ServerState) (x : List ℕ) → (heard s x).part ≡ open_beyond s.part x
 heard-part s x = ap (λ t. t.part) (heard_open s (open_beyond s.part x) (found_beyond s.part x))
@@ -211,18 +215,23 @@ heard-append s x y =
     ∙ ap (λ t. heard_findings t ys) (heard_open s o (found_beyond s.part x) ∙ sym (ap (λ t. with_open t o) (heard_open s (open_beyond s.part x) (found_beyond s.part x))))
     ∙ ap (λ p. heard_findings (with_open (heard s x) (open_beyond p y)) (found_beyond p y)) (sym (heard-part s x))
 
-acknowledgements-append : (s : ServerState) (x y : List ℕ) → acknowledgements s (x ++ y) ≡ acknowledgements s x ++ acknowledgements (heard s x) y
-acknowledgements-append s x y =
+-- what the server says of two pieces, as far as it is of one kind
+pub said-append : {A : Type 0} (kind : HeardWhat → Option A) (s : ServerState) (x y : List ℕ)
+    → filter_map kind (all_heard_as s (found_beyond s.part (x ++ y))) ≡ filter_map kind (all_heard_as s (found_beyond s.part x)) ++ filter_map kind (all_heard_as (heard s x) (found_beyond (heard s x).part y))
+said-append kind s x y =
     let pieces = in_pieces_lem s.part x y in
     let xs : List Finding = found_beyond s.part x in
     let ys : List Finding = found_beyond (open_beyond s.part x) y in
-    ap (λ fs. filter_map code_heard (all_heard_as s fs)) pieces.found
-    ∙ ap (filter_map code_heard) (all_heard_as-append s xs ys)
-    ∙ filter_map-append code_heard (all_heard_as s xs) (all_heard_as (heard_findings s xs) ys)
-    ∙ ap (λ ws. acknowledgements s x ++ filter_map code_heard ws)
+    ap (λ fs. filter_map kind (all_heard_as s fs)) pieces.found
+    ∙ ap (filter_map kind) (all_heard_as-append s xs ys)
+    ∙ filter_map-append kind (all_heard_as s xs) (all_heard_as (heard_findings s xs) ys)
+    ∙ ap (λ ws. filter_map kind (all_heard_as s xs) ++ filter_map kind ws)
     (sym (all_open (heard_findings s xs) (open_beyond s.part x) ys)
     ∙ ap (λ t. all_heard_as t ys) (sym (heard_open s (open_beyond s.part x) xs))
     ∙ ap (λ p. all_heard_as (heard s x) (found_beyond p y)) (sym (heard-part s x)))
+
+acknowledgements-append : (s : ServerState) (x y : List ℕ) → acknowledgements s (x ++ y) ≡ acknowledgements s x ++ acknowledgements (heard s x) y
+acknowledgements-append s x y = said-append code_heard s x y
 
 pub server_in_pieces : (s : ServerState) (x y : List ℕ) → IsInPieces heard acknowledgements s x y
 server_in_pieces s x y = record { state = heard-append s x y; said = acknowledgements-append s x y }

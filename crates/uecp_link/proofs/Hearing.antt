@@ -1,5 +1,5 @@
 -- What findings do to the two ends.
-use Rattle.std.proofs.Common.{◌≡◌, ℕ, ◌%◌, ◌≤◌, ◌==◌, ◌&&◌, ◌/◌, ◌||◌, Bool, true, false, List, [], ◌∷◌, ◌++◌, Option, Some, None, refl, ap, ◌∙◌, eq-eqb, length, Ok, Err, not}
+use Rattle.std.proofs.Common.{◌≡◌, ℕ, ◌%◌, ◌≤◌, ◌==◌, ◌&&◌, ◌/◌, ◌||◌, Bool, true, false, cond, List, [], ◌∷◌, ◌++◌, Option, Some, None, refl, ap, ◌∙◌, eq-eqb, length, Ok, Err, not}
 use Rattle.std.proofs.lemmas.Bool.{ne_eqb}
 use Rattle.uecp_elements.specs.declared.code.Code.{Code}
 use Rattle.uecp_elements.specs.declared.code.Code.TheVariants.{Applied, UnknownElement, DataSet, Service, OutOfRange, ElementLength, NotHere, BufferFull}
@@ -14,9 +14,9 @@ use Rattle.uecp_link.proofs.Wire.{found_more, whole}
 use Rattle.uecp_encoder.specs.Target.{Step}
 use Rattle.uecp_elements.specs.Codes.{byte_of, code_of_byte}
 use Rattle.reply_ring.specs.Ring.{kept_code, keep}
-use Rattle.uecp_encoder.specs.State.{EncoderState, after_finding, after_findings, fed, numbered}
+use Rattle.uecp_encoder.specs.State.{EncoderState, is_next, after_finding, after_findings, fed, numbered}
 use Rattle.uecp_encoder.specs.Answering.{reply_of}
-use Rattle.uecp_link.specs.Server.{ServerState, heard_finding, heard_findings, heard, acknowledges, freed}
+use Rattle.uecp_link.specs.Server.{ServerState, Held, waiting_among, waits_for, marked_at, freed_of, heard_finding, heard_findings, heard, acknowledges, freed}
 
 pub has_frame-append : (xs ys : List Finding) → has_frame (xs ++ ys) ≡ false → has_frame ys ≡ false
 has_frame-append [] ys h = h
@@ -47,10 +47,10 @@ after_faults step e a v r (Err n ∷ fs) h is =
     after_faults step (after_finding step e (Err n)) a v r fs h (record { address = is.address; value = is.value; ring = is.ring })
 after_faults step e a v r (Ok f ∷ fs) h is = cc
 
-pub heard_faults : (s : ServerState) (a l : ℕ) (m : Option (List ℕ)) (fs : List Finding) → has_frame fs ≡ false → ServerIs s a l m → ServerIs (heard_findings s fs) a l m
-heard_faults s a l m [] h is = is
-heard_faults s a l m (Err n ∷ fs) h is = heard_faults (heard_finding s (Err n)) a l m fs h (record { address = is.address; last = is.last; outstanding = is.outstanding })
-heard_faults s a l m (Ok f ∷ fs) h is = cc
+pub heard_faults : (s : ServerState) (a l : ℕ) (hs : List Held) (fs : List Finding) → has_frame fs ≡ false → ServerIs s a l hs → ServerIs (heard_findings s fs) a l hs
+heard_faults s a l hs [] h is = is
+heard_faults s a l hs (Err n ∷ fs) h is = heard_faults (heard_finding s (Err n)) a l hs fs h (record { address = is.address; last = is.last; held = is.held })
+heard_faults s a l hs (Ok f ∷ fs) h is = cc
 
 pub reaches_self : (a : ℕ) → reaches a a ≡ true
 reaches_self a = rw (eq-eqb (a / 64) (a / 64) refl, eq-eqb (a % 64) (a % 64) refl) (go (a / 64 == 0) (a % 64 == 0))
@@ -72,13 +72,13 @@ numbered_kept step e a v r f (Some c) code is_o is = record { address = is.addre
 numbered_kept step e a v r f None code is_o is = cc
 
 pub numbered_fresh : {V : Type 0} (step : Step V) (e : EncoderState V) (a : ℕ) (v : V) (r : List (ℕ × Code)) (f : Frame) (o : Option Code)
-    → o ≡ None → EncoderIs e a v r → EncoderIs (numbered step e f o) a (step v f.message).0 (keep r f.counter (step v f.message).1)
-numbered_fresh step e a v r f (Some c) is_o is = cc
-numbered_fresh step e a v r f None is_o is = record {
+    → o ≡ None → is_next r f.counter ≡ true → EncoderIs e a v r → EncoderIs (numbered step e f o) a (step v f.message).0 (keep r f.counter (step v f.message).1)
+numbered_fresh step e a v r f (Some c) is_o next is = cc
+numbered_fresh step e a v r f None is_o next is = rw (ap (λ ring. is_next ring f.counter) is.ring ∙ next) (record {
   address = is.address;
   value = ap (λ x. (step x f.message).0) is.value;
   ring = rw (is.ring, is.value);
-}
+})
 
 -- a code comes back from its byte
 pub code_of_byte-byte_of : (c : Code) → code_of_byte (byte_of c) ≡ Some c
@@ -92,23 +92,24 @@ code_of_byte-byte_of ElementLength = refl
 code_of_byte-byte_of NotHere = refl
 code_of_byte-byte_of BufferFull = refl
 
--- a reply to an idle server is stray
-pub heard_idle : (s : ServerState) (a l : ℕ) (f : Frame) → ServerIs s a l None → ServerIs (heard_finding s (Ok f)) a l None
-heard_idle s a l f is = rw is.outstanding (record { address = is.address; last = is.last; outstanding = refl })
+-- a reply acknowledges where its counter waits
+pub acknowledges_reply : (s : ServerState) (a l : ℕ) (hs : List Held) (counter : ℕ) (code : Code) → ServerIs s a l hs
+    → acknowledges s (reply_of a counter code) ≡ cond (waits_for (waiting_among hs) counter) (Some (counter, code)) None
+acknowledges_reply s a l hs counter code is = rw (is.held, is.address, eq-eqb a a refl, code_of_byte-byte_of code) refl
 
--- a reply to the outstanding message frees the server
-pub heard_match : (s : ServerState) (a l : ℕ) (m : List ℕ) (counter : ℕ) (code : Code) → counter ≡ l → ServerIs s a l (Some m)
-    → ServerIs (heard_finding s (Ok (reply_of a counter code))) a l None
-heard_match s a l m counter code e is =
-    rw (is.outstanding, is.address, is.last, eq-eqb a a refl, eq-eqb counter l e, code_of_byte-byte_of code)
-    (record { address = refl; last = refl; outstanding = refl })
+-- a reply to a message that waits marks it, and lets go what may go
+pub heard_match : (s : ServerState) (a l : ℕ) (hs : List Held) (counter : ℕ) (code : Code) → waits_for (waiting_among hs) counter ≡ true → ServerIs s a l hs
+    → ServerIs (heard_finding s (Ok (reply_of a counter code))) a l (freed_of (marked_at counter hs))
+heard_match s a l hs counter code waits is =
+    rw (acknowledges_reply s a l hs counter code is, waits)
+    (record { address = is.address; last = is.last; held = ap (λ x. freed_of (marked_at counter x)) is.held })
 
 -- a reply to another counter is stray
-pub heard_other : (s : ServerState) (a l : ℕ) (m : List ℕ) (counter : ℕ) (code : Code) → (counter ≡ l → ⊥) → ServerIs s a l (Some m)
-    → ServerIs (heard_finding s (Ok (reply_of a counter code))) a l (Some m)
-heard_other s a l m counter code ne is =
-    rw (is.outstanding, is.address, is.last, eq-eqb a a refl, ne_eqb counter l ne)
-    (record { address = refl; last = refl; outstanding = refl })
+pub heard_other : (s : ServerState) (a l : ℕ) (hs : List Held) (counter : ℕ) (code : Code) → waits_for (waiting_among hs) counter ≡ false → ServerIs s a l hs
+    → ServerIs (heard_finding s (Ok (reply_of a counter code))) a l hs
+heard_other s a l hs counter code waits is =
+    rw (acknowledges_reply s a l hs counter code is, waits)
+    (record { address = is.address; last = is.last; held = is.held })
 
 -- Bytes.
 
@@ -119,11 +120,11 @@ fed_faults step e a v r x none is =
     after_faults step (record e { part = open_beyond e.part x }) a v r (found_beyond e.part x) none
     (record { address = is.address; value = is.value; ring = is.ring })
 
-pub heard_bytes_faults : (s : ServerState) (a l : ℕ) (m : Option (List ℕ)) (x : List ℕ)
-    → has_frame (found_beyond s.part x) ≡ false → ServerIs s a l m → ServerIs (heard s x) a l m
-heard_bytes_faults s a l m x none is =
-    heard_faults (record s { part = open_beyond s.part x }) a l m (found_beyond s.part x) none
-    (record { address = is.address; last = is.last; outstanding = is.outstanding })
+pub heard_bytes_faults : (s : ServerState) (a l : ℕ) (hs : List Held) (x : List ℕ)
+    → has_frame (found_beyond s.part x) ≡ false → ServerIs s a l hs → ServerIs (heard s x) a l hs
+heard_bytes_faults s a l hs x none is =
+    heard_faults (record s { part = open_beyond s.part x }) a l hs (found_beyond s.part x) none
+    (record { address = is.address; last = is.last; held = is.held })
 
 -- a frame comes as one finding to an end that is as it was, but for its counts and its open part
 pub fed_frame : {V : Type 0} (step : Step V) (e : EncoderState V) (a : ℕ) (v : V) (r : List (ℕ × Code)) (f : Frame)
@@ -137,27 +138,27 @@ fed_frame step e a v r f is_f is =
       ap (after_findings step e1) w.2 ∙ after_findings-append step e1 w.0 (Ok f ∷ []),
     )
 
-pub heard_frame : (s : ServerState) (a l : ℕ) (m : Option (List ℕ)) (f : Frame)
-    → length f.message ≤ 255 → ServerIs s a l m
-    → (s' : ServerState) × ServerIs s' a l m × (heard s (spelling f) ≡ heard_finding s' (Ok f))
-heard_frame s a l m f is_f is =
+pub heard_frame : (s : ServerState) (a l : ℕ) (hs : List Held) (f : Frame)
+    → length f.message ≤ 255 → ServerIs s a l hs
+    → (s' : ServerState) × ServerIs s' a l hs × (heard s (spelling f) ≡ heard_finding s' (Ok f))
+heard_frame s a l hs f is_f is =
     let w = whole s.part f is_f in
     let s1 : ServerState = record s { part = open_beyond s.part (spelling f) } in (
       heard_findings s1 w.0,
-      heard_faults s1 a l m w.0 w.1 (record { address = is.address; last = is.last; outstanding = is.outstanding }),
+      heard_faults s1 a l hs w.0 w.1 (record { address = is.address; last = is.last; held = is.held }),
       ap (heard_findings s1) w.2 ∙ heard_findings-append s1 w.0 (Ok f ∷ []),
     )
 
 -- The open part.
 
-freed-part : (s : ServerState) (o : Option Code) → (freed s o).part ≡ s.part
+freed-part : (s : ServerState) (o : Option (ℕ × Code)) → (freed s o).part ≡ s.part
 freed-part s None = refl
-freed-part s (Some c) = refl
+freed-part s (Some reply) = refl
 
 heard_findings-part : (s : ServerState) (fs : List Finding) → (heard_findings s fs).part ≡ s.part
 heard_findings-part s [] = refl
 heard_findings-part s (Err n ∷ fs) = heard_findings-part (heard_finding s (Err n)) fs
-heard_findings-part s (Ok f ∷ fs) = heard_findings-part (heard_finding s (Ok f)) fs ∙ freed-part s (acknowledges s s.outstanding f)
+heard_findings-part s (Ok f ∷ fs) = heard_findings-part (heard_finding s (Ok f)) fs ∙ freed-part s (acknowledges s f)
 
 pub heard-part : (s : ServerState) (x : List ℕ) → (heard s x).part ≡ open_beyond s.part x
 heard-part s x = heard_findings-part (record s { part = open_beyond s.part x }) (found_beyond s.part x)

@@ -1,12 +1,17 @@
 pub mod Wire
 pub mod Ring
 pub mod Hearing
+pub mod HeldFields
+pub mod Waiting
 pub mod Damage
 pub mod Numbering
+pub mod HeldNumbers
+pub mod Least
 pub mod Steps
 pub mod Folding
 pub mod Freshness
 pub mod Lawful
+pub mod Using
 pub mod FeedingLemmas
 pub mod Goes
 pub mod Playing
@@ -18,3 +23,4 @@ pub mod Opening
 pub mod Stepping
 pub mod Answered
 pub mod Tries
+pub mod Windowing

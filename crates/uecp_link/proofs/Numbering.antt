@@ -1,12 +1,12 @@
 -- Small facts on numbers, sets and lists of messages.
-use Rattle.std.proofs.Common.{◌≡◌, ℕ, zero, suc, ◌+◌, ◌<◌, ◌≤◌, Bool, true, false, cond, List, [], ◌∷◌, ◌++◌, length, Option, Some, None, nat_lt, refl, ap, sym, ◌∙◌, arith, inl, inr, eq-eqb}
+use Rattle.std.proofs.Common.{◌≡◌, ℕ, zero, suc, ◌+◌, ◌<◌, Bool, true, false, List, [], ◌∷◌, ◌++◌, length, Option, Some, None, nat_lt, refl, ap, sym, ◌∙◌, arith, inl, inr, eq-eqb}
 use Rattle.std.specs.Prelude.{is_some, unwrap_or}
 use Rattle.std.proofs.lemmas.Bool.{cases_eq, ne_eqb, lt-ltb, le-ltb, cases_lt}
 use Rattle.std.proofs.lemmas.List.{get_or_push, get_or_append_left}
 use Rattle.uecp_elements.specs.declared.code.Code.{Code}
 use Rattle.uecp_elements.specs.declared.code.Code.TheVariants.{Applied}
 use Rattle.uecp_link.specs.Counters.{next_counter, counter_of}
-use Rattle.uecp_link.specs.Once.{message_at, unacknowledged, has_none, with_code, with_member}
+use Rattle.uecp_link.specs.Once.{message_at, with_code, with_member}
 use Rattle.uecp_link.specs.Kept.{last_counter, code_at, IsMessage}
 
 pub last_counter-next : (n : ℕ) → next_counter (last_counter n) ≡ last_counter (n + 1)
@@ -47,19 +47,26 @@ below_next p j ne =
       | inr g ↦ le-ltb j p g ∙ sym (le-ltb j (p + 1) (omega arith))
     ]
 
--- a set of the numbers below q, with q
-pub with_member-next : (set : ℕ → Bool) (q : ℕ) → ((k : ℕ) → set k ≡ nat_lt k q) → (j : ℕ) → with_member set q j ≡ nat_lt j (q + 1)
-with_member-next set q is j =
-    elim (cases_eq j q) [
-      | inl e ↦ rw (eq-eqb j q e, lt-ltb j (q + 1) (omega arith))
-      | inr ne ↦ rw (ne_eqb j q ne) (is j ∙ below_next q j ne)
+pub with_member-same : (set : ℕ → Bool) (k j : ℕ) → j ≡ k → with_member set k j ≡ true
+with_member-same set k j e = rw (eq-eqb j k e)
+
+pub with_member-other : (set : ℕ → Bool) (k j : ℕ) → (j ≡ k → ⊥) → with_member set k j ≡ set j
+with_member-other set k j ne = rw (ne_eqb j k ne)
+
+-- a member that the set has already
+pub with_member-old : (set : ℕ → Bool) (k : ℕ) → set k ≡ true → (j : ℕ) → with_member set k j ≡ set j
+with_member-old set k h j =
+    elim (cases_eq j k) [
+      | inl e ↦ with_member-same set k j e ∙ sym (ap set e ∙ h)
+      | inr ne ↦ with_member-other set k j ne
     ]
 
-pub with_member-old : (set : ℕ → Bool) (q k : ℕ) → ((k : ℕ) → set k ≡ nat_lt k q) → k < q → (j : ℕ) → with_member set k j ≡ nat_lt j q
-with_member-old set q k is l j =
+-- what the set has stays
+pub with_member-true : (set : ℕ → Bool) (k j : ℕ) → set j ≡ true → with_member set k j ≡ true
+with_member-true set k j h =
     elim (cases_eq j k) [
-      | inl e ↦ rw (eq-eqb j k e, lt-ltb j q (omega arith))
-      | inr ne ↦ rw (ne_eqb j k ne) (is j)
+      | inl e ↦ with_member-same set k j e
+      | inr ne ↦ with_member-other set k j ne ∙ h
     ]
 
 -- a map that has the numbers below p, with p
@@ -69,36 +76,6 @@ with_code-next codes p c is j =
       | inl e ↦ rw (eq-eqb j p e, lt-ltb j (p + 1) (omega arith))
       | inr ne ↦ rw (ne_eqb j p ne) (is j ∙ below_next p j ne)
     ]
-
--- Where no number is left, each is there.
-
-has_none-append : (xs ys : List ℕ) → has_none (xs ++ ys) ≡ true → (has_none xs ≡ true) × (has_none ys ≡ true)
-has_none-append [] ys h = (refl, h)
-has_none-append (x ∷ xs) ys h = cc
-
-member_from : (b : Bool) (n : ℕ) → has_none (cond b [] (n ∷ [])) ≡ true → b ≡ true
-member_from true n h = refl
-member_from false n h = cc
-
-pub none_left : (set : ℕ → Bool) (n : ℕ) → has_none (unacknowledged set n) ≡ true → (k : ℕ) → k < n → set k ≡ true
-none_left set zero h k l = absurd (omega arith)
-none_left set (suc n) h k l =
-    let parts = has_none-append (unacknowledged set n) (cond (set n) [] (n ∷ [])) h in
-    elim (cases_eq k n) [
-      | inl e ↦ ap set e ∙ member_from (set n) n parts.1
-      | inr ne ↦ none_left set n parts.0 k (omega arith)
-    ]
-
--- of the numbers below q the first n are all there
-pub unacknowledged_below : (set : ℕ → Bool) (q n : ℕ) → ((k : ℕ) → set k ≡ nat_lt k q) → n ≤ q → unacknowledged set n ≡ []
-unacknowledged_below set q zero is l = refl
-unacknowledged_below set q (suc n) is l = rw (is n, lt-ltb n q (omega arith), unacknowledged_below set q n is (omega arith))
-
--- and of one number more the last is left
-pub unacknowledged_last : (set : ℕ → Bool) (q n : ℕ) → ((k : ℕ) → set k ≡ nat_lt k q) → n ≡ q + 1 → unacknowledged set n ≡ q ∷ []
-unacknowledged_last set q n is e =
-    let h : n ≡ suc q = omega arith in
-    rw h (rw (is q, le-ltb q q (omega arith), unacknowledged_below set q q is (omega arith)))
 
 -- Messages.
 

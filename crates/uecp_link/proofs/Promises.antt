@@ -4,11 +4,11 @@ use Rattle.std.specs.Prelude.{is_none, slice_get}
 use mathlib.Core.Path.{fun_ext}
 use Rattle.uecp_frame.specs.Findings.{Finding, has_frame, is_quiet, OpenPart, found, open_part}
 use Rattle.uecp_frame.specs.Beyond.{found_beyond}
-use Rattle.uecp_encoder.specs.Target.{Step}
+use Rattle.uecp_encoder.specs.Target.{Step, Taken}
 use Rattle.uecp_link.specs.declared.stepped.Stepped.{Stepped}
 use Rattle.uecp_link.specs.declared.refusal.LineRefusal.{LineRefusal}
 use Rattle.uecp_link.specs.declared.refusal.LineRefusal.TheVariants as line_refusal
-use Rattle.uecp_link.specs.Once.{Event, Submit, FrameComes, ReplyComes, NoiseToEncoder, NoiseToServer, EncoderLost, ServerLost, Once, Noise, Refusal, HoldsAFrame, refusal_of, after, answer_of}
+use Rattle.uecp_link.specs.Once.{Event, Submit, FrameComes, ReplyComes, NoiseToEncoder, NoiseToServer, EncoderLost, ServerLost, Take, Once, Noise, Refusal, HoldsAFrame, refusal_of, after, answer_of}
 use Rattle.uecp_link.specs.Law.{Fits}
 use Rattle.uecp_link.specs.Events.{Refuses}
 use Rattle.uecp_link.specs.Holds.{LineState, once_of, Holds, StepsAs}
@@ -64,25 +64,27 @@ accepted line o (NoiseToEncoder x) h p = refusal_none (is_quiet (o.to_encoder ++
 accepted line o (NoiseToServer x) h p = refusal_none (is_quiet (o.to_server ++ x)) (quiet_on o.to_server x line.server.part h.open_parts.server h.open_parts.server_quiet false p)
 accepted line o EncoderLost h p = refl
 accepted line o ServerLost h p = refl
+accepted line o Take h p = refl
 
-answered : {V : Type 0} (step : Step V) (line : LineState V) (o : Once V) (event : Event) → Holds line o → line_answer step line event ≡ answer_of step o event
-answered step line o (Submit m) h = ap (λ (x : Once _). answer_of step x (Submit m)) (same_once line o h)
-answered step line o (FrameComes k) h = ap (λ (x : Once _). answer_of step x (FrameComes k)) (same_once line o h)
-answered step line o (ReplyComes k) h = ap (λ (x : Once _). answer_of step x (ReplyComes k)) (same_once line o h)
-answered step line o (NoiseToEncoder x) h = ap (λ n. Noise n) (noise_counted o.to_encoder x line.encoder.part h.open_parts.encoder)
-answered step line o (NoiseToServer x) h = ap (λ n. Noise n) (noise_counted o.to_server x line.server.part h.open_parts.server)
-answered step line o EncoderLost h = refl
-answered step line o ServerLost h = refl
+answered : {V : Type 0} (step : Step V) (taken : Taken V) (line : LineState V) (o : Once V) (event : Event) → Holds line o → line_answer step taken line event ≡ answer_of step taken o event
+answered step taken line o (Submit m) h = ap (λ (x : Once _). answer_of step taken x (Submit m)) (same_once line o h)
+answered step taken line o (FrameComes k) h = ap (λ (x : Once _). answer_of step taken x (FrameComes k)) (same_once line o h)
+answered step taken line o (ReplyComes k) h = ap (λ (x : Once _). answer_of step taken x (ReplyComes k)) (same_once line o h)
+answered step taken line o (NoiseToEncoder x) h = ap (λ n. Noise n) (noise_counted o.to_encoder x line.encoder.part h.open_parts.encoder)
+answered step taken line o (NoiseToServer x) h = ap (λ n. Noise n) (noise_counted o.to_server x line.server.part h.open_parts.server)
+answered step taken line o EncoderLost h = refl
+answered step taken line o ServerLost h = refl
+answered step taken line o Take h = ap (λ (x : Once _). answer_of step taken x Take) (same_once line o h)
 
-pub goes_promise : {V : Type 0} (step : Step V) (line line' : LineState V) (event : Event) (stepped : Stepped) → Fits event → Goes step line event stepped line' → (o : Once V) → Holds line o → StepsAs step line o event stepped line'
-goes_promise step line line' event stepped fit goes o h =
-    let taken : refusal_of o event ≡ None = accepted line o event h goes.passes in
+pub goes_promise : {V : Type 0} (step : Step V) (taken : Taken V) (line line' : LineState V) (event : Event) (stepped : Stepped) → Fits event → Goes step taken line event stepped line' → (o : Once V) → Holds line o → StepsAs step taken line o event stepped line'
+goes_promise step taken line line' event stepped fit goes o h =
+    let open_ : refusal_of o event ≡ None = accepted line o event h goes.passes in
     record {
-      accepted = taken;
-      answer = goes.answer ∙ answered step line o event h;
-      encoder = ap (λ (l : LineState _). l.encoder) goes.next ∙ encoder_same step line.encoder.address (once_of line) o line.encoder event h.sent;
-      server = ap (λ (l : LineState _). l.server) goes.next ∙ server_same step line.encoder.address (once_of line) o line.server event h.codes;
-      holds = subst (λ (l : LineState _). Holds l (after step o event)) (sym goes.next) (goes_on step line o event fit (ap is_none taken) goes.line h).1;
+      accepted = open_;
+      answer = goes.answer ∙ answered step taken line o event h;
+      encoder = ap (λ (l : LineState _). l.encoder) goes.next ∙ encoder_same step taken line.encoder.address (once_of line) o line.encoder event h.sent;
+      server = ap (λ (l : LineState _). l.server) goes.next ∙ server_same step taken line.encoder.address (once_of line) o line.server event h.codes;
+      holds = subst (λ (l : LineState _). Holds l (after step taken o event)) (sym goes.next) (goes_on step taken line o event fit (ap is_none open_) goes.line h).1;
     }
 
 -- ---- where it is refused
@@ -106,3 +108,4 @@ stops_promise line (NoiseToServer x) refusal r o h =
     holds_a_frame o (NoiseToServer x) refusal r.0 (refusal_some (is_quiet (o.to_server ++ x)) (quiet_on o.to_server x line.server.part h.open_parts.server h.open_parts.server_quiet true r.1))
 stops_promise line EncoderLost refusal r o h = refused_same (once_of line) o EncoderLost refl refusal r
 stops_promise line ServerLost refusal r o h = refused_same (once_of line) o ServerLost refl refusal r
+stops_promise line Take refusal r o h = refused_same (once_of line) o Take refl refusal r

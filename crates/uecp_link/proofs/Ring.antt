@@ -1,8 +1,9 @@
 -- The ring: numbers that meet have different counters, so the ring answers as a map from numbers.
-use Rattle.std.proofs.Common.{◌≡◌, ℕ, zero, suc, ◌+◌, ◌<◌, ◌≤◌, List, [], ◌∷◌, take, Some, None, refl, ap, sym, ◌∙◌, arith, inl, inr, eq-eqb}
+use Rattle.std.proofs.Common.{◌≡◌, ℕ, zero, suc, ◌+◌, ◌%◌, ◌<◌, ◌≤◌, true, List, [], ◌∷◌, take, Some, None, refl, ap, sym, ◌∙◌, arith, inl, inr, eq-eqb}
 use Rattle.std.proofs.lemmas.Bool.{cases_eq, ne_eqb}
 use Rattle.uecp_elements.specs.declared.code.Code.{Code}
 use Rattle.reply_ring.specs.Ring.{kept_code, keep}
+use Rattle.uecp_encoder.specs.State.{is_next}
 use Rattle.uecp_link.specs.Counters.{counter_of}
 use Rattle.uecp_link.specs.Kept.{pairs}
 
@@ -39,6 +40,11 @@ kept_code-absent c (suc w) (suc p) j l h =
     let apart : j < p + 255 = omega arith in
     kept_code-other (counter_of p) (counter_of j) (c p) (take w (pairs c p)) (λ e. counters_differ j p below apart (sym e))
     ∙ kept_code-absent c w p j (omega arith) (omega arith)
+
+-- the number after the last w has the next counter
+pub next_is : (c : ℕ → Code) (w p : ℕ) → is_next (take (suc w) (pairs c p)) (counter_of p) ≡ true
+next_is c w zero = refl
+next_is c w (suc p) = eq-eqb (counter_of (suc p)) (1 + counter_of p % 255) (omega arith)
 
 -- the pairs depend on the codes below p alone
 pub pairs_agree : (c d : ℕ → Code) (p : ℕ) → ((k : ℕ) → k < p → c k ≡ d k) → pairs c p ≡ pairs d p

@@ -1,44 +1,63 @@
 -- What every event keeps.
-use Rattle.std.proofs.Common.{◌≡◌, ℕ, suc, ◌+◌, ◌<◌, ◌≤◌, ◌==◌, Bool, true, false, cond, List, [], ◌∷◌, ◌++◌, length, take, Option, Some, None, nat_lt, refl, ap, sym, ◌∙◌, arith, inl, inr, eq-eqb, length-append, Ok}
+use Rattle.std.proofs.Common.{◌≡◌, ℕ, suc, ◌+◌, ◌<◌, ◌≤◌, ◌-◌, ◌||◌, ◌==◌, Bool, true, false, cond, List, [], ◌∷◌, ◌++◌, length, take, Option, Some, None, nat_lt, refl, ap, sym, ◌∙◌, arith, inl, inr, length-append, Ok}
 use Rattle.std.specs.Prelude.{is_some, is_none, unwrap_or}
-use Rattle.std.proofs.lemmas.Bool.{cases_eq, ne_eqb, ltb-true, ltb-false, lt-ltb, le-ltb, cases_lt, leb-true, false≢true}
+use Rattle.std.proofs.lemmas.Bool.{cases_Bool, cases_eq, eqb-true, ltb-true, ltb-false, lt-ltb, le-ltb, cases_lt, leb-true, false≢true}
 use Rattle.uecp_elements.specs.declared.code.Code.{Code}
 use Rattle.uecp_elements.specs.declared.code.Code.TheVariants.{Applied}
 use Rattle.uecp_frame.specs.Findings.{has_frame, is_quiet, Closed, open_part}
 use Rattle.uecp_frame.specs.Beyond.{found_beyond, open_beyond}
 use Rattle.uecp_frame.specs.Frame.{spelling}
 use Rattle.uecp_frame.specs.Address.{reaches}
-use Rattle.uecp_encoder.specs.Target.{Step}
+use Rattle.uecp_encoder.specs.Target.{Step, Taken}
 use Rattle.reply_ring.specs.Ring.{kept_code, keep}
-use Rattle.uecp_encoder.specs.State.{EncoderState, fed, numbered}
+use Rattle.uecp_encoder.specs.State.{EncoderState, fed, applied, numbered}
+use Rattle.uecp_encoder.specs.State.{is_next as is_next_kept}
 use Rattle.uecp_encoder.specs.Answering.{reply_of}
-use Rattle.uecp_link.specs.Counters.{is_recent, counter_of}
-use Rattle.uecp_link.specs.Server.{ServerState, heard, submitted, heard_finding}
-use Rattle.uecp_link.specs.Once.{Event, Submit, FrameComes, ReplyComes, NoiseToEncoder, NoiseToServer, EncoderLost, ServerLost, Once, message_at, unacknowledged, has_none, with_code, with_member, refusal_of, after, delivered}
+use Rattle.uecp_link.specs.Counters.{is_recent, counter_of, next_counter}
+use Rattle.uecp_link.specs.Server.{ServerState, Held, is_marked, freed_of, heard, submitted, heard_finding}
+use Rattle.uecp_link.specs.Once.{Event, Submit, FrameComes, ReplyComes, NoiseToEncoder, NoiseToServer, EncoderLost, ServerLost, Take, Once, message_at, least_missing, has_room, with_code, with_member, refusal_of, after, applied_once, delivered}
+use Rattle.uecp_link.specs.Once.{is_next as is_next_number}
 use Rattle.uecp_link.specs.Law.{frame_of, encoder_after, server_after, reply_bytes, Fits}
-use Rattle.uecp_link.specs.Kept.{pairs, last_counter, code_at, IsMessage, EncoderIs, ServerIs, Waits, Kept, Hears}
+use Rattle.uecp_link.specs.Kept.{pairs, last_counter, code_at, held_from, IsMessage, EncoderIs, ServerIs, Kept, Hears}
 use Rattle.uecp_encoder.proofs.InPieces.{fed-part}
 use Rattle.uecp_link.proofs.Wire.{found_none, left_none, left_more, ended}
-use Rattle.uecp_link.proofs.Ring.{pairs_agree, kept_code-found, kept_code-absent, keep_next, counters_differ}
-use Rattle.uecp_link.proofs.Hearing.{fed_faults, heard_bytes_faults, fed_frame, heard_frame, after_whole, numbered_fresh, heard-part, quiet_rest, heard_idle, heard_match, heard_other, reaches_self}
-use Rattle.uecp_link.proofs.Numbering.{last_counter-next, last_counter-at, code_at-some, some_code_at, none_of, is_none-of, with_code-same, with_code-other, with_code-next, with_member-next, with_member-old, none_left, message_at-push, fits_push}
+use Rattle.uecp_link.proofs.Ring.{pairs_agree, kept_code-found, kept_code-absent, keep_next}
+use Rattle.uecp_link.proofs.Hearing.{fed_faults, heard_bytes_faults, fed_frame, heard_frame, after_whole, heard-part, quiet_rest, heard_match, heard_other, reaches_self}
+use Rattle.uecp_link.proofs.Numbering.{last_counter-next, last_counter-at, code_at-some, some_code_at, none_of, is_none-of, with_code-same, with_code-other, with_code-next, with_member-other, with_member-old, with_member-true, fits_push}
+use Rattle.uecp_link.proofs.HeldNumbers.{held_from-agree, held_from-submitted, marked-held, freed-held, length-held_from, waits_not, waits_so}
+use Rattle.uecp_link.proofs.Least.{least_is, next_number, turn_is, marked_or_gone}
 
--- how many are applied, and acknowledged, after an event that is not refused
-abbrev pub one_more : ℕ → Option Code → ℕ
-one_more p None = p + 1
-one_more p (Some code) = p
+-- how many are applied after an event that is not refused
+abbrev pub one_more : ℕ → Option Code → Bool → ℕ
+one_more p None next = cond next (p + 1) p
+one_more p (Some code) next = p
 
 abbrev pub applied_after : {V : Type 0} → Once V → Event → ℕ → ℕ
-applied_after o (FrameComes k) p = one_more p (o.codes k)
+applied_after o (FrameComes k) p = one_more p (o.codes k) (is_next_number o.codes (length o.sent) k)
 applied_after o _ p = p
 
-abbrev pub acknowledged_after : Event → ℕ → ℕ
-acknowledged_after (ReplyComes k) q = cond (k == q) (q + 1) q
-acknowledged_after _ q = q
+-- all that were sent are acknowledged up to the last eight at most
+pub sent_le : {V : Type 0} (address : ℕ) (e : EncoderState V) (s : ServerState) (o : Once V) (p q : ℕ) → Kept address e s o p q → (q ≤ length o.sent) × (length o.sent ≤ q + 8)
+sent_le address e s o p q kept = (omega (arith, kept.count_is), omega (arith, kept.count_is, kept.few))
 
-pub sent_le : {V : Type 0} (o : Once V) (q : ℕ) (m : Option (List ℕ)) → Waits o.sent q m → (q ≤ length o.sent) × (length o.sent ≤ q + 1)
-sent_le o q m (inl w) = (omega arith, omega arith)
-sent_le o q m (inr w) = (omega arith, omega arith)
+-- the least number that is not acknowledged is q
+pub least_acknowledged : {V : Type 0} (address : ℕ) (e : EncoderState V) (s : ServerState) (o : Once V) (p q : ℕ) → Kept address e s o p q → least_missing o.acknowledged (length o.sent) ≡ q
+least_acknowledged address e s o p q kept = least_is o.acknowledged q kept.count (length o.sent) kept.count_is kept.below kept.oldest
+
+-- the server holds all but the first q
+pub let_go_is : {V : Type 0} (address : ℕ) (e : EncoderState V) (s : ServerState) (o : Once V) (p q : ℕ) → Kept address e s o p q → length o.sent - length s.held ≡ q
+let_go_is address e s o p q kept =
+    let held : length s.held ≡ kept.count = ap length kept.server.held ∙ length-held_from o.sent o.acknowledged q kept.count in
+    omega (arith, held, kept.count_is)
+
+-- what the server shows to be acknowledged is
+pub acknowledged_are : {V : Type 0} (address : ℕ) (e : EncoderState V) (s : ServerState) (o : Once V) (p q : ℕ) → Kept address e s o p q
+    → (k : ℕ) → (nat_lt k (length o.sent - length s.held) || is_marked s.held (k - (length o.sent - length s.held))) ≡ o.acknowledged k
+acknowledged_are address e s o p q kept k =
+    ap (λ (x : ℕ). nat_lt k x || is_marked s.held (k - x)) (let_go_is address e s o p q kept)
+    ∙ (ap (λ (hs : List Held). nat_lt k q || is_marked hs (k - q)) kept.server.held
+    ∙ marked_or_gone o.sent o.acknowledged q kept.count (length o.sent) kept.count_is kept.below
+    (λ j there. let l : j < p = kept.within j there in omega (arith, l, kept.p_le)) k)
 
 -- What is known of an event that is not refused.
 
@@ -58,7 +77,6 @@ test_of_one false x h = cc
 pub ring_answers : {V : Type 0} (address : ℕ) (e : EncoderState V) (s : ServerState) (o : Once V) (p q : ℕ) → Kept address e s o p q
     → (k : ℕ) → k < length o.sent → length o.sent ≤ k + 127 → kept_code e.ring (counter_of k) ≡ o.codes k
 ring_answers address e s o p q kept k l r =
-    let n = sent_le o q kept.waits kept.waits_is in
     rw kept.encoder.ring (elim (cases_lt k p) [
       | inl below ↦
           let some : is_some (o.codes k) ≡ true = kept.applied k ∙ lt-ltb k p below in
@@ -66,9 +84,17 @@ ring_answers address e s o p q kept k l r =
           kept_code-found (code_at o.codes) 127 p k (omega arith) below near ∙ some_code_at (o.codes k) some
       | inr above ↦
           let none : is_some (o.codes k) ≡ false = kept.applied k ∙ le-ltb k p above in
-          let far : k + 127 < p + 255 = omega (arith, kept.q_le, n.1) in
+          let far : k + 127 < p + 255 = omega (arith, kept.q_le, kept.count_is, kept.few) in
           kept_code-absent (code_at o.codes) 127 p k above far ∙ none_of (o.codes k) none
     ])
+
+-- of the numbers that are not applied, the encoder takes the next alone
+pub in_turn : {V : Type 0} (address : ℕ) (e : EncoderState V) (s : ServerState) (o : Once V) (p q : ℕ) → Kept address e s o p q
+    → (k : ℕ) → k < length o.sent → o.codes k ≡ None → is_next_kept (take 127 (pairs (code_at o.codes) p)) (counter_of k) ≡ (k == p)
+in_turn address e s o p q kept k below is =
+    let n = sent_le address e s o p q kept in
+    let above : p ≤ k = ltb-false k p (sym (kept.applied k) ∙ is_none-of (o.codes k) is) in
+    turn_is o.codes p k above (omega (arith, n.1, kept.q_le))
 
 pub reply_fits : (address k : ℕ) (code : Code) → length (reply_of address (counter_of k) code).message ≤ 255
 reply_fits address k code = omega arith
@@ -92,35 +118,47 @@ quiet_none = rw found_none refl
 
 -- The events.
 
-module _ {V : Type 0} (step : Step V) (address : ℕ) where
+module _ {V : Type 0} (step : Step V) (taken : Taken V) (address : ℕ) where
   pub keeps_submit : (e : EncoderState V) (s : ServerState) (o : Once V) (p q : ℕ) (m : List ℕ) → IsMessage m → is_none (refusal_of o (Submit m)) ≡ true
-      → Kept address e s o p q → Kept address e (submitted s m) (after step o (Submit m)) p q
+      → Kept address e s o p q → Kept address e (submitted s m) (after step taken o (Submit m)) p q
   keeps_submit e s o p q m fit open_ kept =
-      let none : has_none (unacknowledged o.acknowledged (length o.sent)) ≡ true = test_of_one (has_none (unacknowledged o.acknowledged (length o.sent))) _ open_ in
-      let n = sent_le o q kept.waits kept.waits_is in
-      let all : length o.sent ≡ q = elim (cases_lt q (length o.sent)) [
-        | inl l ↦ absurd (false≢true (sym (le-ltb q q (omega arith)) ∙ (sym (kept.acknowledged q) ∙ none_left o.acknowledged (length o.sent) none q l)))
-        | inr g ↦ omega (arith, n.0)
+      let room : length o.sent < q + 8 =
+      (let l = ltb-true (length o.sent) (least_missing o.acknowledged (length o.sent) + 8) (test_of_one (has_room o.acknowledged (length o.sent)) _ open_) in
+      omega (arith, l, least_acknowledged address e s o p q kept)) in
+      let n : ℕ = length o.sent in
+      let more : length (o.sent ++ m ∷ []) ≡ n + 1 = length-append o.sent (m ∷ []) in
+      let new : o.acknowledged n ≡ false = elim (cases_Bool (o.acknowledged n)) [
+        | inl acked ↦ let under : n < p = kept.within n acked in absurd (omega (arith, under, kept.p_le))
+        | inr unacked ↦ unacked
       ] in
-      let more : length (o.sent ++ m ∷ []) ≡ length o.sent + 1 = length-append o.sent (m ∷ []) in
+      let counter : next_counter s.last ≡ counter_of n = ap next_counter kept.server.last ∙ last_counter-next n ∙ last_counter-at (n + 1) n refl in
       record {
         encoder = kept.encoder;
-        waits = Some m;
+        count = suc kept.count;
         server = record {
           address = kept.server.address;
           last = rw (kept.server.last, more) (last_counter-next (length o.sent));
-          outstanding = refl;
+          held =
+              ap (λ hs. hs ++ record { counter = next_counter s.last; message = m; marked = false } ∷ []) kept.server.held
+              ∙ ap (λ (c : ℕ). held_from o.sent o.acknowledged q kept.count ++ record { counter = c; message = m; marked = false } ∷ []) counter
+              ∙ held_from-submitted o.sent m o.acknowledged q kept.count n refl kept.count_is new;
         };
-        waits_is = inr (omega (arith, more, all), ap (λ x. Some x) (sym (message_at-push o.sent m q (sym all))));
+        count_is = omega (arith, more, kept.count_is);
+        few = omega (arith, room, kept.count_is);
+        below = kept.below;
+        oldest = λ _. elim (cases_lt 0 kept.count) [
+          | inl some ↦ kept.oldest some
+          | inr none ↦ ap o.acknowledged (let last : q ≡ n = omega (arith, none, kept.count_is) in last) ∙ new
+        ];
         applied = kept.applied;
-        acknowledged = kept.acknowledged;
+        within = kept.within;
         p_le = omega (arith, more, kept.p_le);
         q_le = kept.q_le;
         fits = fits_push o.sent m fit kept.fits;
       }
 
   pub keeps_frame : (e : EncoderState V) (s : ServerState) (o : Once V) (p q k : ℕ) → is_none (refusal_of o (FrameComes k)) ≡ true
-      → Kept address e s o p q → Kept address (fed step e (spelling (frame_of address o k))) s (after step o (FrameComes k)) (one_more p (o.codes k)) q
+      → Kept address e s o p q → Kept address (fed step e (spelling (frame_of address o k))) s (after step taken o (FrameComes k)) (applied_after o (FrameComes k) p) q
   keeps_frame e s o p q k open_ kept =
       let tests = test_of (nat_lt k (length o.sent)) (is_recent (length o.sent) k) _ _ open_ in
       let below : k < length o.sent = ltb-true k (length o.sent) tests.0 in
@@ -134,38 +172,67 @@ module _ {V : Type 0} (step : Step V) (address : ℕ) where
       rw (whole, known) (go (o.codes k) refl came.0 came.1 below)
     where
       go : (c : Option Code) → o.codes k ≡ c → (e' : EncoderState V) → EncoderIs e' address o.value (take 127 (pairs (code_at o.codes) p)) → k < length o.sent
-          → Kept address (numbered step e' (frame_of address o k) c) s (delivered step o k c) (one_more p c) q
+          → Kept address (numbered step e' (frame_of address o k) c) s (delivered step o k c) (one_more p c (is_next_number o.codes (length o.sent) k)) q
       go (Some c) is e' e'_is below = record {
         encoder = record { address = e'_is.address; value = e'_is.value; ring = e'_is.ring };
-        waits = kept.waits;
+        count = kept.count;
         server = kept.server;
-        waits_is = kept.waits_is;
+        count_is = kept.count_is;
+        few = kept.few;
+        below = kept.below;
+        oldest = kept.oldest;
         applied = kept.applied;
-        acknowledged = kept.acknowledged;
+        within = kept.within;
         p_le = kept.p_le;
         q_le = kept.q_le;
         fits = kept.fits;
       }
       go None is e' e'_is below =
-          let n = sent_le o q kept.waits kept.waits_is in
-          let above : p ≤ k = ltb-false k p (sym (kept.applied k) ∙ is_none-of (o.codes k) is) in
-          let next : k ≡ p = omega (arith, n.1, kept.q_le) in
-          let code : Code = (step o.value (message_at o.sent k)).1 in
-          let fresh = numbered_fresh step e' address o.value (take 127 (pairs (code_at o.codes) p)) (frame_of address o k) None refl e'_is in
-          record {
-            encoder = record { address = fresh.address; value = fresh.value; ring = fresh.ring ∙ ring_next o.codes p k code next };
-            waits = kept.waits;
+          let turn : is_next_kept e'.ring (counter_of k) ≡ (k == p) = ap (λ ring. is_next_kept ring (counter_of k)) e'_is.ring ∙ in_turn address e s o p q kept k below is in
+          rw (turn, next_number o.codes p (length o.sent) k kept.applied kept.p_le) (by (k == p) refl)
+        where
+          m : List ℕ
+          m = message_at o.sent k
+
+          by : (b : Bool) → (k == p) ≡ b → Kept address (cond b (applied step e' (frame_of address o k)) e') s (cond b (applied_once step o k) (record o { to_encoder = [] })) (cond b (p + 1) p) q
+          by true same =
+              let next : k ≡ p = eqb-true k p same in
+              let code : Code = (step o.value m).1 in
+              record {
+                encoder = record {
+                  address = e'_is.address;
+                  value = ap (λ x. (step x m).0) e'_is.value;
+                  ring = ap (λ r. keep r (counter_of k) (step e'.value m).1) e'_is.ring ∙ (ap (λ x. keep (take 127 (pairs (code_at o.codes) p)) (counter_of k) (step x m).1) e'_is.value ∙ ring_next o.codes p k code next);
+                };
+                count = kept.count;
+                server = kept.server;
+                count_is = kept.count_is;
+                few = kept.few;
+                below = kept.below;
+                oldest = kept.oldest;
+                applied = λ j. with_code-next o.codes k code (λ i. kept.applied i ∙ ap (nat_lt i) (sym next)) j ∙ ap (λ x. nat_lt j (x + 1)) next;
+                within = λ j acked. let under : j < p = kept.within j acked in omega (arith, under);
+                p_le = omega (arith, below, next);
+                q_le = omega (arith, kept.q_le);
+                fits = kept.fits;
+              }
+          by false other = record {
+            encoder = record { address = e'_is.address; value = e'_is.value; ring = e'_is.ring };
+            count = kept.count;
             server = kept.server;
-            waits_is = kept.waits_is;
-            applied = λ j. with_code-next o.codes k code (λ i. kept.applied i ∙ ap (nat_lt i) (sym next)) j ∙ ap (λ x. nat_lt j (x + 1)) next;
-            acknowledged = kept.acknowledged;
-            p_le = omega arith;
-            q_le = omega (arith, kept.q_le);
+            count_is = kept.count_is;
+            few = kept.few;
+            below = kept.below;
+            oldest = kept.oldest;
+            applied = kept.applied;
+            within = kept.within;
+            p_le = kept.p_le;
+            q_le = kept.q_le;
             fits = kept.fits;
           }
 
   pub keeps_reply : (e : EncoderState V) (s : ServerState) (o : Once V) (p q k : ℕ) → is_none (refusal_of o (ReplyComes k)) ≡ true
-      → Kept address e s o p q → Kept address e (heard s (reply_bytes address k (o.codes k))) (after step o (ReplyComes k)) p (cond (k == q) (q + 1) q)
+      → Kept address e s o p q → (q' : ℕ) × Kept address e (heard s (reply_bytes address k (o.codes k))) (after step taken o (ReplyComes k)) p q'
   keeps_reply e s o p q k open_ kept = go (o.codes k) refl
     where
       tests : (is_some (o.codes k) ≡ true) × (is_recent (length o.sent) k ≡ true)
@@ -177,107 +244,170 @@ module _ {V : Type 0} (step : Step V) (address : ℕ) where
       below : k < p
       below = ltb-true k p (sym (kept.applied k) ∙ tests.0)
 
-      kept_with : (s' : ServerState) (m : Option (List ℕ)) (q' : ℕ) → ServerIs s' address (last_counter (length o.sent)) m → Waits o.sent q' m
-          → ((j : ℕ) → with_member o.acknowledged k j ≡ nat_lt j q') → q' ≤ p → Kept address e s' (after step o (ReplyComes k)) p q'
-      kept_with s' m q' is w all le = record {
+      n : ℕ
+      n = length o.sent
+
+      set : ℕ → Bool
+      set = with_member o.acknowledged k
+
+      -- the numbers that the server holds, and which of them is the least that is not acknowledged
+      kept_with : (s' : ServerState) (q' count : ℕ) → ServerIs s' address (last_counter n) (held_from o.sent set q' count) → n ≡ q' + count → q ≤ q' → ((j : ℕ) → q ≤ j → j < q' → set j ≡ true) → (0 < count → set q' ≡ false)
+          → Kept address e s' (after step taken o (ReplyComes k)) p q'
+      kept_with s' q' count is all from_ there least = record {
         encoder = kept.encoder;
-        waits = m;
-        server = record { address = is.address; last = is.last; outstanding = is.outstanding };
-        waits_is = w;
+        count = count;
+        server = is;
+        count_is = all;
+        few = omega (arith, all, kept.count_is, kept.few, from_);
+        below = below_all;
+        oldest = least;
         applied = kept.applied;
-        acknowledged = all;
+        within = among;
         p_le = kept.p_le;
-        q_le = le;
+        q_le = elim (cases_lt p q') [
+          | inl l ↦ absurd (let under : p < p = among p (below_all p l) in omega (arith, under))
+          | inr g ↦ g
+        ];
         fits = kept.fits;
       }
-
-      heard_as : (code : Code) (m : Option (List ℕ)) → Waits o.sent q m → (s' : ServerState) → ServerIs s' address (last_counter (length o.sent)) m
-          → Kept address e (heard_finding s' (Ok (reply_of address (counter_of k) code))) (after step o (ReplyComes k)) p (cond (k == q) (q + 1) q)
-      heard_as code m (inl w) s' is =
-          let old : k < q = omega (arith, kept.p_le, below, w.0) in
-          let here : ServerIs s' address (last_counter (length o.sent)) None = rw w.1 at is in
-          rw (ne_eqb k q (λ h. omega (arith, old)))
-          (kept_with (heard_finding s' (Ok (reply_of address (counter_of k) code))) None q
-          (heard_idle s' address (last_counter (length o.sent)) (reply_of address (counter_of k) code) here)
-          (inl (w.0, refl)) (with_member-old o.acknowledged q k kept.acknowledged old) kept.q_le)
-      heard_as code m (inr w) s' is =
-          let here : ServerIs s' address (last_counter (length o.sent)) (Some (message_at o.sent q)) = rw w.1 at is in
-          let last : last_counter (length o.sent) ≡ counter_of q = last_counter-at (length o.sent) q w.0 in
-          elim (cases_eq k q) [
-            | inl e ↦
-                rw (eq-eqb k q e)
-                (kept_with (heard_finding s' (Ok (reply_of address (counter_of k) code))) None (q + 1)
-                (heard_match s' address (last_counter (length o.sent)) (message_at o.sent q) (counter_of k) code (ap counter_of e ∙ sym last) here)
-                (inl (w.0, refl))
-                (λ j. with_member-next o.acknowledged k (λ i. kept.acknowledged i ∙ ap (nat_lt i) (sym e)) j ∙ ap (λ x. nat_lt j (x + 1)) e)
-                (omega (arith, below)))
-            | inr ne ↦
-                let old : k < q = omega (arith, kept.p_le, below, w.0) in
-                let apart : q < k + 255 = omega (arith, near, w.0) in
-                rw (ne_eqb k q ne)
-                (kept_with (heard_finding s' (Ok (reply_of address (counter_of k) code))) (Some (message_at o.sent q)) q
-                (heard_other s' address (last_counter (length o.sent)) (message_at o.sent q) (counter_of k) code (λ h. counters_differ q k old apart (sym (h ∙ last))) here)
-                (inr (w.0, refl)) (with_member-old o.acknowledged q k kept.acknowledged old) kept.q_le)
+        where
+          below_all : (j : ℕ) → j < q' → set j ≡ true
+          below_all j l = elim (cases_lt j q) [
+            | inl old ↦ with_member-true o.acknowledged k j (kept.below j old)
+            | inr new ↦ there j new l
           ]
 
+          among : (j : ℕ) → set j ≡ true → j < p
+          among j acked = elim (cases_eq j k) [
+            | inl e ↦ omega (arith, below, e)
+            | inr ne ↦ kept.within j (sym (with_member-other o.acknowledged k j ne) ∙ acked)
+          ]
+
+      -- the reply to a number that was acknowledged before
+      heard_again : (code : Code) → o.acknowledged k ≡ true → (s' : ServerState) → ServerIs s' address (last_counter n) (held_from o.sent o.acknowledged q kept.count)
+          → (q' : ℕ) × Kept address e (heard_finding s' (Ok (reply_of address (counter_of k) code))) (after step taken o (ReplyComes k)) p q'
+      heard_again code acked s' is =
+          let other : k ≡ q → ⊥ = λ same. false≢true (sym (kept.oldest (omega (arith, below, kept.p_le, kept.count_is, same))) ∙ (ap o.acknowledged (sym same) ∙ acked)) in
+          let stays = heard_other s' address (last_counter n) (held_from o.sent o.acknowledged q kept.count) (counter_of k) code
+          (waits_not o.sent o.acknowledged k q kept.count acked (omega (arith, near, kept.count_is)) (omega (arith, below, kept.p_le, kept.count_is, kept.few))) is in
+          let agree : held_from o.sent o.acknowledged q kept.count ≡ held_from o.sent set q kept.count = held_from-agree o.sent o.sent o.acknowledged set q kept.count (λ j a b. refl) (λ j a b. sym (with_member-old o.acknowledged k acked j)) in (
+            q,
+            kept_with (heard_finding s' (Ok (reply_of address (counter_of k) code))) q kept.count
+                (record { address = stays.address; last = stays.last; held = stays.held ∙ agree }) kept.count_is (omega arith) (λ j a b. absurd (omega (arith, a, b)))
+                (λ some. with_member-other o.acknowledged k q (λ same. other (sym same)) ∙ kept.oldest some),
+          )
+
+      -- the first reply to a number
+      heard_first : (code : Code) → o.acknowledged k ≡ false → (s' : ServerState) → ServerIs s' address (last_counter n) (held_from o.sent o.acknowledged q kept.count)
+          → (q' : ℕ) × Kept address e (heard_finding s' (Ok (reply_of address (counter_of k) code))) (after step taken o (ReplyComes k)) p q'
+      heard_first code unacked s' is =
+          let here : q ≤ k = elim (cases_lt k q) [
+            | inl l ↦ absurd (false≢true (sym unacked ∙ kept.below k l))
+            | inr g ↦ g
+          ] in
+          let inside : k < q + kept.count = omega (arith, below, kept.p_le, kept.count_is) in
+          let left = freed-held o.sent set q kept.count in
+          let marks = heard_match s' address (last_counter n) (held_from o.sent o.acknowledged q kept.count) (counter_of k) code (waits_so o.sent o.acknowledged k q kept.count unacked here inside) is in
+          let marked = marked-held o.sent o.acknowledged k q kept.count (omega (arith, near, kept.count_is)) (omega (arith, inside, kept.few)) in (
+            left.at,
+            kept_with (heard_finding s' (Ok (reply_of address (counter_of k) code))) left.at left.many
+                (record { address = marks.address; last = marks.last; held = marks.held ∙ ap freed_of marked ∙ left.is }) (omega (arith, left.whole, kept.count_is)) left.from left.below left.least,
+          )
+
+      heard_as : (code : Code) (s' : ServerState) → ServerIs s' address (last_counter n) (held_from o.sent o.acknowledged q kept.count)
+          → (q' : ℕ) × Kept address e (heard_finding s' (Ok (reply_of address (counter_of k) code))) (after step taken o (ReplyComes k)) p q'
+      heard_as code s' is = elim (cases_Bool (o.acknowledged k)) [
+        | inl acked ↦ heard_again code acked s' is
+        | inr unacked ↦ heard_first code unacked s' is
+      ]
+
       go : (c : Option Code) → o.codes k ≡ c
-          → Kept address e (heard s (reply_bytes address k c)) (after step o (ReplyComes k)) p (cond (k == q) (q + 1) q)
+          → (q' : ℕ) × Kept address e (heard s (reply_bytes address k c)) (after step taken o (ReplyComes k)) p q'
       go None is = absurd (false≢true (sym (is_none-of (o.codes k) is) ∙ tests.0))
       go (Some code) is =
-          let came = heard_frame s address (last_counter (length o.sent)) kept.waits (reply_of address (counter_of k) code) (reply_fits address k code) kept.server in
-          rw came.2 (heard_as code kept.waits kept.waits_is came.0 came.1)
+          let came = heard_frame s address (last_counter n) (held_from o.sent o.acknowledged q kept.count) (reply_of address (counter_of k) code) (reply_fits address k code) kept.server in
+          rw came.2 (heard_as code came.0 came.1)
 
   pub keeps_noise_to_encoder : (e : EncoderState V) (s : ServerState) (o : Once V) (p q : ℕ) (x : List ℕ) → has_frame (found_beyond e.part x) ≡ false
-      → Kept address e s o p q → Kept address (fed step e x) s (after step o (NoiseToEncoder x)) p q
+      → Kept address e s o p q → Kept address (fed step e x) s (after step taken o (NoiseToEncoder x)) p q
   keeps_noise_to_encoder e s o p q x none kept = record {
     encoder = fed_faults step e address o.value (take 127 (pairs (code_at o.codes) p)) x none kept.encoder;
-    waits = kept.waits;
+    count = kept.count;
     server = kept.server;
-    waits_is = kept.waits_is;
+    count_is = kept.count_is;
+    few = kept.few;
+    below = kept.below;
+    oldest = kept.oldest;
     applied = kept.applied;
-    acknowledged = kept.acknowledged;
+    within = kept.within;
     p_le = kept.p_le;
     q_le = kept.q_le;
     fits = kept.fits;
   }
 
   pub keeps_noise_to_server : (e : EncoderState V) (s : ServerState) (o : Once V) (p q : ℕ) (x : List ℕ) → has_frame (found_beyond s.part x) ≡ false
-      → Kept address e s o p q → Kept address e (heard s x) (after step o (NoiseToServer x)) p q
+      → Kept address e s o p q → Kept address e (heard s x) (after step taken o (NoiseToServer x)) p q
   keeps_noise_to_server e s o p q x none kept = record {
     encoder = kept.encoder;
-    waits = kept.waits;
-    server = heard_bytes_faults s address (last_counter (length o.sent)) kept.waits x none kept.server;
-    waits_is = kept.waits_is;
+    count = kept.count;
+    server = heard_bytes_faults s address (last_counter (length o.sent)) (held_from o.sent o.acknowledged q kept.count) x none kept.server;
+    count_is = kept.count_is;
+    few = kept.few;
+    below = kept.below;
+    oldest = kept.oldest;
     applied = kept.applied;
-    acknowledged = kept.acknowledged;
+    within = kept.within;
     p_le = kept.p_le;
     q_le = kept.q_le;
     fits = kept.fits;
   }
 
   pub keeps_encoder_lost : (e : EncoderState V) (s : ServerState) (o : Once V) (p q : ℕ) → Kept address e s o p q
-      → Kept address (record e { part = Closed }) s (after step o EncoderLost) p q
+      → Kept address (record e { part = Closed }) s (after step taken o EncoderLost) p q
   keeps_encoder_lost e s o p q kept = record {
     encoder = record { address = kept.encoder.address; value = kept.encoder.value; ring = kept.encoder.ring };
-    waits = kept.waits;
+    count = kept.count;
     server = kept.server;
-    waits_is = kept.waits_is;
+    count_is = kept.count_is;
+    few = kept.few;
+    below = kept.below;
+    oldest = kept.oldest;
     applied = kept.applied;
-    acknowledged = kept.acknowledged;
+    within = kept.within;
     p_le = kept.p_le;
     q_le = kept.q_le;
     fits = kept.fits;
   }
 
   pub keeps_server_lost : (e : EncoderState V) (s : ServerState) (o : Once V) (p q : ℕ) → Kept address e s o p q
-      → Kept address e (record s { part = Closed }) (after step o ServerLost) p q
+      → Kept address e (record s { part = Closed }) (after step taken o ServerLost) p q
   keeps_server_lost e s o p q kept = record {
     encoder = kept.encoder;
-    waits = kept.waits;
-    server = record { address = kept.server.address; last = kept.server.last; outstanding = kept.server.outstanding };
-    waits_is = kept.waits_is;
+    count = kept.count;
+    server = record { address = kept.server.address; last = kept.server.last; held = kept.server.held };
+    count_is = kept.count_is;
+    few = kept.few;
+    below = kept.below;
+    oldest = kept.oldest;
     applied = kept.applied;
-    acknowledged = kept.acknowledged;
+    within = kept.within;
+    p_le = kept.p_le;
+    q_le = kept.q_le;
+    fits = kept.fits;
+  }
+
+  pub keeps_take : (e : EncoderState V) (s : ServerState) (o : Once V) (p q : ℕ) → Kept address e s o p q
+      → Kept address (encoder_after step taken address o e Take) s (after step taken o Take) p q
+  keeps_take e s o p q kept = record {
+    encoder = record { address = kept.encoder.address; value = ap (λ v. (taken v).0) kept.encoder.value; ring = kept.encoder.ring };
+    count = kept.count;
+    server = kept.server;
+    count_is = kept.count_is;
+    few = kept.few;
+    below = kept.below;
+    oldest = kept.oldest;
+    applied = kept.applied;
+    within = kept.within;
     p_le = kept.p_le;
     q_le = kept.q_le;
     fits = kept.fits;
@@ -285,20 +415,21 @@ module _ {V : Type 0} (step : Step V) (address : ℕ) where
 
   -- an event that is not refused keeps the facts
   pub keeps : (e : EncoderState V) (s : ServerState) (o : Once V) (p q : ℕ) (event : Event) → Fits event → is_none (refusal_of o event) ≡ true → Hears e s o → Kept address e s o p q
-      → Kept address (encoder_after step address o e event) (server_after address o s event) (after step o event) (applied_after o event p) (acknowledged_after event q)
-  keeps e s o p q (Submit m) fit open_ hears kept = keeps_submit e s o p q m fit open_ kept
-  keeps e s o p q (FrameComes k) fit open_ hears kept = keeps_frame e s o p q k open_ kept
+      → (q' : ℕ) × Kept address (encoder_after step taken address o e event) (server_after address o s event) (after step taken o event) (applied_after o event p) q'
+  keeps e s o p q (Submit m) fit open_ hears kept = (q, keeps_submit e s o p q m fit open_ kept)
+  keeps e s o p q (FrameComes k) fit open_ hears kept = (q, keeps_frame e s o p q k open_ kept)
   keeps e s o p q (ReplyComes k) fit open_ hears kept = keeps_reply e s o p q k open_ kept
   keeps e s o p q (NoiseToEncoder x) fit open_ hears kept =
-      keeps_noise_to_encoder e s o p q x (quiet_rest e.part o.to_encoder x hears.encoder (test_of_one (is_quiet (o.to_encoder ++ x)) _ open_)) kept
+      (q, keeps_noise_to_encoder e s o p q x (quiet_rest e.part o.to_encoder x hears.encoder (test_of_one (is_quiet (o.to_encoder ++ x)) _ open_)) kept)
   keeps e s o p q (NoiseToServer x) fit open_ hears kept =
-      keeps_noise_to_server e s o p q x (quiet_rest s.part o.to_server x hears.server (test_of_one (is_quiet (o.to_server ++ x)) _ open_)) kept
-  keeps e s o p q EncoderLost fit open_ hears kept = keeps_encoder_lost e s o p q kept
-  keeps e s o p q ServerLost fit open_ hears kept = keeps_server_lost e s o p q kept
+      (q, keeps_noise_to_server e s o p q x (quiet_rest s.part o.to_server x hears.server (test_of_one (is_quiet (o.to_server ++ x)) _ open_)) kept)
+  keeps e s o p q EncoderLost fit open_ hears kept = (q, keeps_encoder_lost e s o p q kept)
+  keeps e s o p q ServerLost fit open_ hears kept = (q, keeps_server_lost e s o p q kept)
+  keeps e s o p q Take fit open_ hears kept = (q, keeps_take e s o p q kept)
 
   -- and so do the open parts
   pub hears_after : (e : EncoderState V) (s : ServerState) (o : Once V) (p q : ℕ) (event : Event) → is_none (refusal_of o event) ≡ true → Kept address e s o p q → Hears e s o
-      → Hears (encoder_after step address o e event) (server_after address o s event) (after step o event)
+      → Hears (encoder_after step taken address o e event) (server_after address o s event) (after step taken o event)
   hears_after e s o p q (Submit m) open_ kept h = record { encoder = h.encoder; server = h.server; encoder_quiet = h.encoder_quiet; server_quiet = h.server_quiet }
   hears_after e s o p q (FrameComes k) open_ kept h = go (o.codes k)
     where
@@ -307,13 +438,17 @@ module _ {V : Type 0} (step : Step V) (address : ℕ) where
 
       go : (c : Option Code) → Hears (fed step e (spelling (frame_of address o k))) s (delivered step o k c)
       go (Some code) = record { encoder = closed; server = h.server; encoder_quiet = quiet_none; server_quiet = h.server_quiet }
-      go None = record { encoder = closed; server = h.server; encoder_quiet = quiet_none; server_quiet = h.server_quiet }
+      go None = by (is_next_number o.codes (length o.sent) k)
+        where
+          by : (b : Bool) → Hears (fed step e (spelling (frame_of address o k))) s (cond b (applied_once step o k) (record o { to_encoder = [] }))
+          by true = record { encoder = closed; server = h.server; encoder_quiet = quiet_none; server_quiet = h.server_quiet }
+          by false = record { encoder = closed; server = h.server; encoder_quiet = quiet_none; server_quiet = h.server_quiet }
   hears_after e s o p q (ReplyComes k) open_ kept h = go (o.codes k) refl
     where
       tests : (is_some (o.codes k) ≡ true) × (is_recent (length o.sent) k ≡ true)
       tests = test_of (is_some (o.codes k)) (is_recent (length o.sent) k) _ _ open_
 
-      go : (c : Option Code) → o.codes k ≡ c → Hears e (heard s (reply_bytes address k c)) (after step o (ReplyComes k))
+      go : (c : Option Code) → o.codes k ≡ c → Hears e (heard s (reply_bytes address k c)) (after step taken o (ReplyComes k))
       go None is = absurd (false≢true (sym (is_none-of (o.codes k) is) ∙ tests.0))
       go (Some code) is = record {
         encoder = h.encoder;
@@ -335,3 +470,4 @@ module _ {V : Type 0} (step : Step V) (address : ℕ) where
   }
   hears_after e s o p q EncoderLost open_ kept h = record { encoder = sym left_none; server = h.server; encoder_quiet = quiet_none; server_quiet = h.server_quiet }
   hears_after e s o p q ServerLost open_ kept h = record { encoder = h.encoder; server = sym left_none; encoder_quiet = h.encoder_quiet; server_quiet = quiet_none }
+  hears_after e s o p q Take open_ kept h = record { encoder = h.encoder; server = h.server; encoder_quiet = h.encoder_quiet; server_quiet = h.server_quiet }

@@ -1,6 +1,6 @@
 -- What `drive` and `resend` do over a reader and a writer; a reader has to believe it. Source: profile.
 use Rattle.std.specs.Prelude.{◌≡◌, ℕ, ◌+◌, ◌-◌, ◌*◌, ◌^◌, ◌<◌, ◌≤◌, zero, suc, List, [], ◌∷◌, ◌++◌, length, take, Option, Some, None, Result, Ok, Err}
-use Rattle.std.specs.Option.{option_or}
+use Rattle.std.specs.Option.{option_or, option_map}
 use Rattle.std.specs.Io.KnownBytes.{Appends, Consumes, IsAtEnd}
 use Rattle.uecp_frame.specs.Findings.{Finding}
 use Rattle.uecp_frame.specs.Beyond.{found_beyond}
@@ -24,17 +24,17 @@ abbrev pub bytes_or_none : Option (List ℕ) → List ℕ
 bytes_or_none None = []
 bytes_or_none (Some bytes) = bytes
 
--- The frame of the outstanding message as it is sent; no bytes where nothing is outstanding.
+-- The frame of the oldest message that waits as it is sent; no bytes where none waits.
 abbrev pub frame_sent : ServerState → List ℕ
 frame_sent s = bytes_or_none (outgoing_bytes s)
 
 -- ---- What is heard.
 
--- The code of the first of these findings that acknowledges the outstanding message, if one does.
+-- The code of the first of these findings that acknowledges a message, if one does.
 abbrev pub first_code : ServerState → List Finding → Option Code
 first_code s [] = None
 first_code s (Err fault ∷ fs) = first_code s fs
-first_code s (Ok f ∷ fs) = option_or (acknowledges s s.outstanding f) (first_code s fs)
+first_code s (Ok f ∷ fs) = option_or (option_map (λ reply. reply.1) (acknowledges s f)) (first_code s fs)
 
 -- The code of the first acknowledgement among what some bytes find, after the server's open part.
 abbrev pub acknowledged_in : ServerState → List ℕ → Option Code
@@ -47,9 +47,9 @@ pub record IsAcknowledged (s : ServerState) (bytes : List ℕ) (code : Code) : T
 
 -- ---- What a call leaves of the server.
 
--- The message is acknowledged: nothing is outstanding, and one acknowledgement more is counted. Of the rest only the other counts and the open part may have changed.
+-- The message is acknowledged: nothing is held, and one acknowledgement more is counted. Of the rest only the other counts and the open part may have changed.
 abbrev pub IsFreed : ServerState → ServerState → Type 0
-IsFreed old new = new ≡ record old { outstanding = None; counts = record new.counts { acknowledged = raised old.counts.acknowledged }; part = new.part }
+IsFreed old new = new ≡ record old { held = []; counts = record new.counts { acknowledged = raised old.counts.acknowledged }; part = new.part }
 
 -- The message is outstanding under its counter as before, and no acknowledgement is counted. Of the rest only the other counts and the open part may have changed.
 abbrev pub StillWaits : ServerState → ServerState → Type 0

@@ -8,7 +8,7 @@ use Rattle.uecp_link.specs.declared.event.Side.TheVariants as side
 use Rattle.uecp_link.specs.declared.event.LineEvent.TheVariants as event
 use Rattle.uecp_link.specs.declared.stepped.Stepped.TheVariants as stepped
 use Rattle.uecp_link.specs.declared.refusal.LineRefusal.TheVariants as line
-use Rattle.uecp_link.specs.Once.{Event, Submit, FrameComes, ReplyComes, NoiseToEncoder, NoiseToServer, EncoderLost, ServerLost, Answer, Numbered, Delivered, Acknowledged, Stray, Noise, Lost, Busy, NotSent, TooLate, HoldsAFrame, Once, refusal_of}
+use Rattle.uecp_link.specs.Once.{Event, Submit, FrameComes, ReplyComes, NoiseToEncoder, NoiseToServer, EncoderLost, ServerLost, Take, Answer, Numbered, Delivered, NotNext, Acknowledged, Stray, Noise, Lost, Took, Busy, NotSent, TooLate, HoldsAFrame, Once, refusal_of}
 
 -- The loss of the line at one end.
 abbrev pub lost_of : Side → Event
@@ -23,15 +23,18 @@ event_of (event.Reply k cut) = ReplyComes k
 event_of (event.NoiseToEncoder x) = NoiseToEncoder x.now
 event_of (event.NoiseToServer x) = NoiseToServer x.now
 event_of (event.LineLost s) = lost_of s
+event_of event.Take = Take
 
 -- What a line answers, as the once-machine says it.
 abbrev pub answer_seen : Stepped → Answer
 answer_seen (stepped.Numbered n) = Numbered n
 answer_seen (stepped.Delivered fresh code) = Delivered fresh code
+answer_seen stepped.NotNext = NotNext
 answer_seen (stepped.Acknowledged code) = Acknowledged code
 answer_seen stepped.Stray = Stray
 answer_seen (stepped.Noise dropped) = Noise dropped
 answer_seen stepped.Lost = Lost
+answer_seen (stepped.Taken group) = Took group
 
 -- The event is a submission.
 abbrev pub IsSubmit : Event → Type 0

@@ -1,11 +1,11 @@
 -- What holds of a line at every moment, by how many numbers were applied and acknowledged; for proofs alone, but for `Hears`. Source: profile.
-use Rattle.std.specs.Prelude.{ℕ, zero, suc, ◌≡◌, ◌+◌, ◌≤◌, ◌⊎◌, nat_lt, true, List, [], ◌∷◌, length, take, Option, Some, None, is_some, unwrap_or}
+use Rattle.std.specs.Prelude.{ℕ, zero, suc, ◌≡◌, ◌+◌, ◌<◌, ◌≤◌, nat_lt, Bool, true, false, List, [], ◌∷◌, length, take, Option, is_some, unwrap_or}
 use Rattle.uecp_elements.specs.declared.code.Code.{Code}
 use Rattle.uecp_elements.specs.declared.code.Code.TheVariants.{Applied}
 use Rattle.uecp_frame.specs.Findings.{is_quiet, open_part}
 use Rattle.uecp_encoder.specs.State.{EncoderState}
 use Rattle.uecp_link.specs.Counters.{counter_of}
-use Rattle.uecp_link.specs.Server.{ServerState}
+use Rattle.uecp_link.specs.Server.{ServerState, Held}
 use Rattle.uecp_link.specs.Once.{Once, message_at}
 
 -- The pairs of counter and code of all numbers below p, the newest first.
@@ -32,25 +32,33 @@ pub record EncoderIs {V : Type 0} (e : EncoderState V) (a : ℕ) (v : V) (r : Li
   pub value : e.value ≡ v
   pub ring : e.ring ≡ r
 
+-- The message of a number as a server holds it: under its counter, marked where the number is acknowledged.
+abbrev pub held_number : List (List ℕ) → (ℕ → Bool) → ℕ → Held
+held_number sent set k = record { counter = counter_of k; message = message_at sent k; marked = set k }
+
+-- The messages of so many numbers, from number q on.
+abbrev pub held_from : List (List ℕ) → (ℕ → Bool) → ℕ → ℕ → List Held
+held_from sent set q zero = []
+held_from sent set q (suc count) = held_number sent set q ∷ held_from sent set (suc q) count
+
 -- Where a server is, but for its counts and its open part.
-pub record ServerIs (s : ServerState) (a l : ℕ) (m : Option (List ℕ)) : Type 0 where
+pub record ServerIs (s : ServerState) (a l : ℕ) (hs : List Held) : Type 0 where
   pub address : s.address ≡ a
   pub last : s.last ≡ l
-  pub outstanding : s.outstanding ≡ m
+  pub held : s.held ≡ hs
 
--- What waits at the server where the numbers below q are acknowledged: nothing where those are all, else the message of number q, the last.
-abbrev pub Waits : List (List ℕ) → ℕ → Option (List ℕ) → Type 0
-Waits sent q m = ((length sent ≡ q) × (m ≡ None)) ⊎ ((length sent ≡ q + 1) × (m ≡ Some (message_at sent q)))
-
--- Of a line's numbers those below p are applied and those below q acknowledged; the encoder keeps the last 127 of the applied ones, and the server waits
--- for the one that is left, if any.
+-- Of a line's numbers those below p are applied, those below q acknowledged, and no number that is not applied; the encoder keeps the last 127 of the
+-- applied ones, and the server holds the numbers from q on, eight at most, of which q is not acknowledged.
 pub record Kept {V : Type 0} (address : ℕ) (e : EncoderState V) (s : ServerState) (o : Once V) (p q : ℕ) : Type 0 where
   pub encoder : EncoderIs e address o.value (take 127 (pairs (code_at o.codes) p))
-  pub waits : Option (List ℕ)
-  pub server : ServerIs s address (last_counter (length o.sent)) waits
-  pub waits_is : Waits o.sent q waits
+  pub count : ℕ
+  pub server : ServerIs s address (last_counter (length o.sent)) (held_from o.sent o.acknowledged q count)
+  pub count_is : length o.sent ≡ q + count
+  pub few : count ≤ 8
+  pub below : (k : ℕ) → k < q → o.acknowledged k ≡ true
+  pub oldest : 0 < count → o.acknowledged q ≡ false
   pub applied : (k : ℕ) → is_some (o.codes k) ≡ nat_lt k p
-  pub acknowledged : (k : ℕ) → o.acknowledged k ≡ nat_lt k q
+  pub within : (k : ℕ) → o.acknowledged k ≡ true → k < p
   pub p_le : p ≤ length o.sent
   pub q_le : q ≤ p
   pub fits : (k : ℕ) → IsMessage (message_at o.sent k)

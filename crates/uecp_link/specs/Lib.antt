@@ -1,10 +1,11 @@
 pub mod Counters
 pub mod Frames
-pub mod Sending
 pub mod Server
+pub mod Holding
 pub mod Damage
 pub mod Replying
 pub mod Once
+pub mod History
 pub mod Fold
 pub mod Law
 pub mod Kept
@@ -14,5 +15,7 @@ pub mod Holds
 pub mod Next
 pub mod Whole
 pub mod Headline
+pub mod Using
 pub mod Driving
 pub mod Listening
+pub mod Window

@@ -8,21 +8,21 @@ use Rattle.uecp_frame.specs.Beyond.{found_beyond}
 use Rattle.uecp_elements.specs.declared.code.Code.{Code}
 use Rattle.reply_ring.specs.Ring.{kept_code}
 use Rattle.uecp_encoder.specs.Target.{Step}
-use Rattle.uecp_encoder.specs.State.{EncoderState, after_finding}
+use Rattle.uecp_encoder.specs.State.{EncoderState, is_next, after_finding}
 use Rattle.uecp_link.specs.declared.heard.HeardWhat.{HeardWhat}
 use Rattle.uecp_link.specs.declared.heard.HeardWhat.TheVariants as what
 use Rattle.uecp_link.specs.Server.{ServerState, all_heard_as}
 
--- Whether the encoder's reply to a numbered frame is fresh, and its code, by the code that is kept for its counter.
-abbrev pub coded : {V : Type 0} → Step V → EncoderState V → Frame → Option Code → Bool × Code
-coded step e f (Some code) = (false, code)
-coded step e f None = (true, (step e.value f.message).1)
+-- Whether the encoder's reply to a numbered frame is fresh, and its code, by the code that is kept for its counter; none where it is neither kept nor the next.
+abbrev pub coded : {V : Type 0} → Step V → EncoderState V → Frame → Option Code → Option (Bool × Code)
+coded step e f (Some code) = Some (false, code)
+coded step e f None = if is_next e.ring f.counter then Some (true, (step e.value f.message).1) else None
 
--- The encoder's reply to a finding, if it gives one: to a frame that reaches it and is numbered.
+-- The encoder's reply to a finding, if it gives one: to a frame that reaches it and is numbered, and is a repeat or the next.
 abbrev pub reply_to : {V : Type 0} → Step V → EncoderState V → Finding → Option (Bool × Code)
 reply_to step e (Err fault) = None
 reply_to step e (Ok f) =
-    if reaches f.address e.address then (if f.counter == 0 then None else Some (coded step e f (kept_code e.ring f.counter))) else None
+    if reaches f.address e.address then (if f.counter == 0 then None else coded step e f (kept_code e.ring f.counter)) else None
 
 -- The encoder's replies to findings, in order.
 abbrev pub replies_to : {V : Type 0} → Step V → EncoderState V → List Finding → List (Bool × Code)
@@ -35,7 +35,7 @@ replies step e bytes = replies_to step e (found_beyond e.part bytes)
 
 -- The code of what the server says, where that is an acknowledgement.
 abbrev pub code_heard : HeardWhat → Option Code
-code_heard (what.Acknowledged code) = Some code
+code_heard (what.Acknowledged counter code) = Some code
 code_heard _ = None
 
 -- The codes that the server hears acknowledged in some bytes, in order.

@@ -1,6 +1,7 @@
 -- The server's end as one value, and what findings do to it; a reader has to believe it. Source: RDS Forum SPB 490, two-way mode; profile for what is marked so.
-use Rattle.std.specs.Prelude.{◌≡◌, ℕ, ◌<◌, ◌==◌, ◌&&◌, List, [], ◌∷◌, length, take, Option, Some, None, Ok, Err, if◌then◌else◌}
-use Rattle.std.specs.Option.{option_map}
+use Rattle.std.specs.Prelude.{◌≡◌, ℕ, ◌<◌, ◌==◌, ◌&&◌, ◌||◌, Bool, false, List, [], ◌∷◌, ◌++◌, length, map, take, slice_get, Option, Some, None, Ok, Err, if◌then◌else◌}
+use Rattle.std.specs.List.{list_any}
+use Rattle.std.specs.Option.{option_map_or, option_map}
 use Rattle.uecp_frame.specs.Frame.{spelling}
 use Rattle.uecp_link.specs.Counters.{next_counter}
 use Rattle.uecp_link.specs.Frames.{frame_under}
@@ -15,12 +16,18 @@ use Rattle.uecp_link.specs.declared.heard.HeardWhat.{HeardWhat}
 use Rattle.uecp_link.specs.declared.heard.HeardWhat.TheVariants as what
 use Rattle.uecp_link.specs.declared.heard.Heard.{Heard}
 
--- A server is five things: the address of its encoder, the counter of its last message (0 before the first), the message that is outstanding, the counts of
--- what it has heard, and the part of the stream that is open. (profile)
+-- A message that a server holds: its counter, its bytes, and whether it is marked, which it is once its reply has come. (profile)
+pub record Held : Type 0 where
+  pub counter : ℕ
+  pub message : List ℕ
+  pub marked : Bool
+
+-- A server is five things: the address of its encoder, the counter of its last message (0 before the first), the messages that it holds, the oldest first,
+-- the counts of what it has heard, and the part of the stream that is open. (profile)
 pub record ServerState : Type 0 where
   pub address : ℕ
   pub last : ℕ
-  pub outstanding : Option (List ℕ)
+  pub held : List Held
   pub counts : ServerCounts
   pub part : OpenPart
 
@@ -28,44 +35,73 @@ pub record ServerState : Type 0 where
 abbrev pub nothing_counted : ServerCounts
 nothing_counted = record { acknowledged = 0; stray = 0; dropped = 0 }
 
--- A new server has sent nothing, has nothing outstanding, has heard nothing and has nothing open. (profile)
+-- A new server has sent nothing, holds nothing, has heard nothing and has nothing open. (profile)
 abbrev pub idle_at : ℕ → ServerState
-idle_at address = record { address = address; last = 0; outstanding = None; counts = nothing_counted; part = Closed }
+idle_at address = record { address = address; last = 0; held = []; counts = nothing_counted; part = Closed }
 
--- A message that is submitted is outstanding, under the next counter. (profile)
+-- ---- The messages that are held.
+
+-- A message that is submitted is held, the newest, under the next counter and not marked. (profile)
 abbrev pub submitted : ServerState → List ℕ → ServerState
-submitted s m = record s { last = next_counter s.last; outstanding = Some m }
+submitted s m = record s { last = next_counter s.last; held = s.held ++ record { counter = next_counter s.last; message = m; marked = false } ∷ [] }
 
--- The outstanding message with its counter, as a list of one, or of none.
-abbrev pub waiting_as : ℕ → Option (List ℕ) → List (ℕ × List ℕ)
-waiting_as last None = []
-waiting_as last (Some m) = (last, m) ∷ []
+-- Of the messages that are held, those that are not marked, in the same order, each with its counter.
+abbrev pub waiting_among : List Held → List (ℕ × List ℕ)
+waiting_among [] = []
+waiting_among (h ∷ hs) = if h.marked then waiting_among hs else (h.counter, h.message) ∷ waiting_among hs
 
--- The messages that wait for a reply at a server, each with its counter.
+-- The messages that wait for a reply at a server, the oldest first, each with its counter.
 abbrev pub waiting : ServerState → List (ℕ × List ℕ)
-waiting s = waiting_as s.last s.outstanding
+waiting s = waiting_among s.held
 
--- The code that a reply's message gives for a counter: the message is 18, a code of the table and that counter, three bytes in all. (profile, layout of
--- element 18)
-abbrev pub code_in : ℕ → List ℕ → Option Code
-code_in counter (a ∷ b ∷ c ∷ []) = if a == 0x18 && c == counter then code_of_byte b else None
-code_in counter _ = None
+-- Whether one of these messages has this counter.
+abbrev pub waits_for : List (ℕ × List ℕ) → ℕ → Bool
+waits_for ws counter = list_any (λ w. w.0 == counter) ws
 
--- The code with which a frame acknowledges the outstanding message: it carries the encoder's own address and counter 00, and its message gives a code
--- for the last counter. Every other frame acknowledges nothing. (profile)
-abbrev pub acknowledges : ServerState → Option (List ℕ) → Frame → Option Code
-acknowledges s None f = None
-acknowledges s (Some m) f = if f.address == s.address && f.counter == 0 then code_in s.last f.message else None
+-- A message, marked where it has this counter, else as it was.
+abbrev pub marked_for : ℕ → Held → Held
+marked_for counter h = record h { marked = h.counter == counter || h.marked }
 
--- Any code acknowledges, a refusal too, and then nothing is outstanding; what does not acknowledge is counted as stray and changes nothing else. (profile)
-abbrev pub freed : ServerState → Option Code → ServerState
+-- The message under a counter is marked; the others are as they were. (profile)
+abbrev pub marked_at : ℕ → List Held → List Held
+marked_at counter hs = map (marked_for counter) hs
+
+-- Whether the message at a place among these is marked.
+abbrev pub is_marked : List Held → ℕ → Bool
+is_marked hs place = option_map_or (λ h. h.marked) (slice_get hs place) false
+
+-- Marked messages are let go from the oldest on, up to the first that is not marked: a marked one stays as long as an older one waits. (profile)
+abbrev pub freed_of : List Held → List Held
+freed_of [] = []
+freed_of (h ∷ hs) = if h.marked then freed_of hs else h ∷ hs
+
+-- ---- What acknowledges.
+
+-- The counter and the code that a reply's message gives: it is 18, a code of the table and the counter, three bytes in all. (profile, layout of element 18)
+abbrev pub reply_in : List ℕ → Option (ℕ × Code)
+reply_in (a ∷ b ∷ c ∷ []) = if a == 0x18 then option_map (λ code. (c, code)) (code_of_byte b) else None
+reply_in _ = None
+
+-- A reply, where one of these messages has its counter.
+abbrev pub reply_to_one : List (ℕ × List ℕ) → Option (ℕ × Code) → Option (ℕ × Code)
+reply_to_one ws None = None
+reply_to_one ws (Some reply) = if waits_for ws reply.0 then Some reply else None
+
+-- The counter and the code with which a frame acknowledges: it carries the encoder's own address and counter 00, and its message gives a code for the
+-- counter of a message that waits. Every other frame acknowledges nothing. (profile)
+abbrev pub acknowledges : ServerState → Frame → Option (ℕ × Code)
+acknowledges s f = if f.address == s.address && f.counter == 0 then reply_to_one (waiting s) (reply_in f.message) else None
+
+-- Any code acknowledges, a refusal too: the message is marked, and what may be let go is; what does not acknowledge is counted as stray and changes nothing
+-- else. (profile)
+abbrev pub freed : ServerState → Option (ℕ × Code) → ServerState
 freed s None = record s { counts = record s.counts { stray = raised s.counts.stray } }
-freed s (Some code) = record s { outstanding = None; counts = record s.counts { acknowledged = raised s.counts.acknowledged } }
+freed s (Some reply) = record s { held = freed_of (marked_at reply.0 s.held); counts = record s.counts { acknowledged = raised s.counts.acknowledged } }
 
--- The server after one finding: a fault is counted as dropped and changes nothing else, a frame frees the server where it acknowledges. (profile)
+-- The server after one finding: a fault is counted as dropped and changes nothing else, a frame marks a message where it acknowledges. (profile)
 abbrev pub heard_finding : ServerState → Finding → ServerState
 heard_finding s (Err fault) = record s { counts = record s.counts { dropped = raised s.counts.dropped } }
-heard_finding s (Ok f) = freed s (acknowledges s s.outstanding f)
+heard_finding s (Ok f) = freed s (acknowledges s f)
 
 -- The server after findings, one after another.
 abbrev pub heard_findings : ServerState → List Finding → ServerState
@@ -78,15 +114,15 @@ heard s bytes = heard_findings (record s { part = open_beyond s.part bytes }) (f
 
 -- ---- What a server says.
 
--- What it says to a frame, by the code with which that acknowledges: acknowledged with this code, or stray. (profile)
-abbrev pub told : Option Code → HeardWhat
+-- What it says to a frame, by the counter and the code with which that acknowledges: acknowledged with these, or stray. (profile)
+abbrev pub told : Option (ℕ × Code) → HeardWhat
 told None = what.Stray
-told (Some code) = what.Acknowledged code
+told (Some reply) = what.Acknowledged reply.0 reply.1
 
 -- What it says to one finding: a fault was dropped, a frame acknowledges or is stray. (profile)
 abbrev pub heard_as : ServerState → Finding → HeardWhat
 heard_as s (Err fault) = what.Dropped fault
-heard_as s (Ok f) = told (acknowledges s s.outstanding f)
+heard_as s (Ok f) = told (acknowledges s f)
 
 -- What it says to findings, one after another.
 abbrev pub all_heard_as : ServerState → List Finding → List HeardWhat
@@ -104,6 +140,12 @@ pub record HearsPiece (old : ServerState) (piece : List ℕ) (answer : Heard) : 
   pub first : (k : ℕ) → k < answer.used → found_beyond old.part (take k piece) ≡ []
   pub all : answer.what ≡ what.Nothing → answer.used ≡ length piece
 
--- The frame of the outstanding message as it is sent, the same each time; none where nothing is outstanding. (SPB 490, frame format)
+-- ---- What a server lends.
+
+-- The frames of the messages that wait as they are sent, the oldest first, each the same each time. (SPB 490, frame format)
+abbrev pub frames_waiting : ServerState → List (List ℕ)
+frames_waiting s = map (λ w. spelling (frame_under s.address w)) (waiting s)
+
+-- The frame of the oldest message that waits; none where none waits.
 abbrev pub outgoing_bytes : ServerState → Option (List ℕ)
-outgoing_bytes s = option_map (λ m. spelling (frame_under s.address (s.last, m))) s.outstanding
+outgoing_bytes s = slice_get (frames_waiting s) 0

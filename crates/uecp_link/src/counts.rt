@@ -4,7 +4,7 @@
 /// there.
 #[derive(Clone, Copy, Debug, Default, PartialEq, Eq)]
 pub struct ServerCounts {
-    /// Replies that acknowledged the outstanding message.
+    /// Replies that acknowledged a message.
     pub acknowledged: u64,
     /// All other frames.
     pub stray: u64,

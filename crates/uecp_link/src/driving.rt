@@ -1,8 +1,8 @@
 //! A server over a reader and a writer: a message is sent again until its reply comes. Source: profile.
-ghost use Rattle.std.specs.Prelude.{◌≡◌, ◌≢◌, ◌<◌, ◌≤◌, None, length, take, IfOk, IfErr};
+ghost use Rattle.std.specs.Prelude.{◌≡◌, ◌<◌, ◌≤◌, [], length, take, IfOk, IfErr};
 ghost use Rattle.std.specs.Io.KnownBytes.{Appends};
 ghost use Rattle.uecp_encoder.specs.Metered.{failures_after};
-ghost use Rattle.uecp_link.specs.Server.{submitted};
+ghost use Rattle.uecp_link.specs.Server.{submitted, waiting};
 ghost use Rattle.uecp_link.specs.Driving.{Drives, IsFreed, StillWaits, frame_sent};
 ghost use Rattle.uecp_link.specs.Listening.{Listens};
 
@@ -61,7 +61,7 @@ pub fn drive<R: Read, W: Write>(
     tries: u32,
     turns: u32,
 ) -> Result<Driven, DriveFault>
-    requires { server.old.outstanding ≡ None }
+    requires { server.old.held ≡ [] }
     ensures drives { Drives R.remaining W.contents (submitted server.old message.now) server.new reader.old reader.new writer.old writer.new tries turns result }
     ensures idle { IfOk result (λ _. IsFreed (submitted server.old message.now) server.new) }
     ensures outstanding { IfErr result (λ _. StillWaits (submitted server.old message.now) server.new) }
@@ -72,7 +72,7 @@ pub fn drive<R: Read, W: Write>(
 
 /// Sends the outstanding message again until it is acknowledged. Each of at most `tries` tries writes its frame whole and makes
 /// at most `turns` reads of at most 64 bytes; a failed read ends the try. After the acknowledgement the rest of what was read
-/// with it is still heard. After each fault the message is outstanding. The server is not idle; see [`Server::is_idle`].
+/// with it is still heard. After each fault the message is outstanding. One message waits; see [`Server::waiting`].
 ///
 /// ```
 /// server.line_lost();
@@ -85,7 +85,7 @@ pub fn resend<R: Read, W: Write>(
     tries: u32,
     turns: u32,
 ) -> Result<Driven, DriveFault>
-    requires { server.old.outstanding ≢ None }
+    requires { length (waiting server.old) ≡ 1 }
     ensures drives { Drives R.remaining W.contents server.old server.new reader.old reader.new writer.old writer.new tries turns result }
     ensures idle { IfOk result (λ _. IsFreed server.old server.new) }
     ensures outstanding { IfErr result (λ _. StillWaits server.old server.new) }
@@ -132,6 +132,7 @@ fn send_frame<W: Write>(server: &Server, writer: &mut Meter<W>) -> Result<usize,
 
 /// Makes at most `turns` reads, until the reply comes.
 fn listen<R: Read>(server: &mut Server, reader: &mut Meter<R>, turns: u32) -> Listened
+    requires { length (waiting server.old) ≤ 1 }
     ensures { Listens R.remaining server.old server.new reader.old reader.new turns result }
 {
     let mut buffer = [0u8; 64];

@@ -1,4 +1,4 @@
-//! What may happen on a line. Source: profile.
+//! What may happen on a line, and at its encoder. Source: profile.
 use uecp_frame::Message;
 
 /// One end of the line.
@@ -38,4 +38,6 @@ pub enum LineEvent<'a> {
     NoiseToServer(&'a [u8]),
     /// That end alone forgets a segment that has not ended.
     LineLost(Side),
+    /// The modulator takes from the encoder the group that is to go out next. It is never refused.
+    Take,
 }

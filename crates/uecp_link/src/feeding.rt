@@ -17,7 +17,7 @@ use uecp_encoder::{Encoder, Target, What};
 use uecp_frame::{Deframer, Found, decode, is_segment};
 
 /// What is left of a piece once this many bytes of it were used.
-fn left(piece: &[u8], used: usize) -> &[u8]
+pub(crate) fn left(piece: &[u8], used: usize) -> &[u8]
     requires { used ≤ length piece.now }
     ensures { result.now ≡ drop used piece.now }
 {
@@ -80,7 +80,8 @@ impl<T: Target> End for Encoder<T> {
         let used = answer.used;
         match answer.what {
             What::Reply(reply, fresh) => (used, coded(reply.as_slice(), fresh)),
-            What::Nothing | What::NotForMe | What::Unnumbered | What::Dropped(_) => (used, None),
+            What::Nothing | What::NotForMe | What::Unnumbered | What::NotNext | What::Dropped(_) =>
+                (used, None),
         }
     }
 
@@ -97,7 +98,7 @@ impl End for Server {
     fn give_first(&mut self, piece: &[u8]) -> (usize, Option<Code>) {
         let heard = self.hear(piece);
         match heard.what {
-            HeardWhat::Acknowledged(code) => (heard.used, Some(code)),
+            HeardWhat::Acknowledged { counter: _, code } => (heard.used, Some(code)),
             HeardWhat::Nothing | HeardWhat::Stray | HeardWhat::Dropped(_) => (heard.used, None),
         }
     }

@@ -7,9 +7,14 @@ use uecp_frame::FrameFault;
 pub enum HeardWhat {
     /// No segment ended; the whole piece was used.
     Nothing,
-    /// The reply to the outstanding message, which is outstanding no more. Any code acknowledges, a refusal too: the encoder
-    /// had the message, and has this to say of it.
-    Acknowledged(Code),
+    /// The reply to a message that waited, which waits no more. Any code acknowledges, a refusal too: the encoder had the message,
+    /// and has this to say of it.
+    Acknowledged {
+        /// The counter of the message.
+        counter: u8,
+        /// What the encoder says of it.
+        code: Code,
+    },
     /// Another frame, as a reply that came again.
     Stray,
     /// A segment that is no frame.

@@ -6,14 +6,15 @@
 //! line between them; it is the place where what holds of both ends together is proved, and it is for tests and for playing
 //! scripts, not for sending.
 //!
-//! - [`Server`]: numbers messages, one outstanding at a time, and knows the reply to it; [`Heard`] is its answer, and
+//! - [`Server`]: numbers messages, up to eight outstanding at a time, and knows the replies to them; [`Heard`] is its answer, and
 //!   [`ServerCounts`] what it has heard so far.
+//! - [`drive`], [`resend`] and [`send_window`]: a server over a reader and a writer, with one message or with all that wait.
 //! - [`Line`]: both ends, with [`LineEvent`], [`Stepped`] and [`LineRefusal`] as what happens, what comes of it, and why not.
 //! - [`laws`]: what holds of the definitions over every list of events.
 //!
 //! The law that users rely on stands at [`Line::play`], clause `headline`: over every list of events the encoder's store is what
-//! a prefix of the sent messages makes, each applied once and in order; every acknowledged message is in it with its one
-//! reply, and every message that is missing is still outstanding. It holds as long as neither end starts anew, damage leaves
+//! a prefix of the sent messages with the takes between makes, each applied once and in order; every acknowledged message is in it
+//! with its one reply, and every message that is missing is still outstanding. It holds as long as neither end starts anew, damage leaves
 //! no frame behind, and nothing comes after 127 newer messages were numbered; the line tests the last two and refuses by name.
 #![tactic(auto)]
 
@@ -23,12 +24,14 @@ mod driving;
 mod event;
 mod feeding;
 mod heard;
+mod holding;
 pub mod laws;
 mod line;
 mod line_steps;
 mod refusal;
 mod server;
 mod stepped;
+mod window;
 
 pub use counts::ServerCounts;
 pub use driving::{DriveFault, Driven, drive, resend};
@@ -38,3 +41,4 @@ pub use line::Line;
 pub use refusal::LineRefusal;
 pub use server::Server;
 pub use stepped::Stepped;
+pub use window::{Windowed, send_window};

@@ -1,11 +1,11 @@
 //! A line: its two ends, and what was sent between them. Source: profile.
-ghost use Rattle.std.specs.Prelude.{◌≡◌, ◌≤◌, ◌+◌, ℕ, IsTrue, IfOk, IfErr, length, map};
+ghost use Rattle.std.specs.Prelude.{◌≡◌, ◌≤◌, ◌<◌, ◌+◌, ℕ, IsTrue, IfOk, IfErr, length, map};
 ghost use Rattle.std.specs.List.{AllByRecursion};
 ghost use Rattle.uecp_frame.specs.Address.{is_exact};
-ghost use Rattle.uecp_link.specs.Once.{Once, at_first};
+ghost use Rattle.uecp_link.specs.Once.{Once, at_first, least_missing};
 ghost use Rattle.uecp_link.specs.Law.{Law, Numbers, Fits};
 ghost use Rattle.uecp_link.specs.Events.{event_of, Refuses};
-ghost use Rattle.uecp_link.specs.Holds.{new_line, Holds, StepsAs, RunsAs, world_of};
+ghost use Rattle.uecp_link.specs.Holds.{new_line, is_acknowledged, Holds, StepsAs, RunsAs, history_by, world_of};
 ghost use Rattle.uecp_link.specs.Headline.{IsHeadline};
 
 use crate::event::LineEvent;
@@ -33,8 +33,6 @@ pub struct Line<T: Target> {
     pub(crate) sent: Vec<Message>,
     /// The codes of the applied numbers, from 0, with room for all that were sent.
     pub(crate) codes: Vec<Code>,
-    /// How many numbers are acknowledged: those below it.
-    pub(crate) acknowledged: usize,
 }
 
 impl<T: Target> Model for Line<T> {
@@ -44,9 +42,9 @@ impl<T: Target> Model for Line<T> {
 
     ghost Value = { LineState T };
 
-    ghost view = { λ l. record { encoder = l.encoder; server = l.server; sent = l.sent.items; codes = l.codes.items; acknowledged = l.acknowledged } };
+    ghost view = { λ l. record { encoder = l.encoder; server = l.server; sent = l.sent.items; codes = l.codes.items } };
 
-    ghost invariant = { λ l. IsWhole l.address (record { encoder = l.encoder; server = l.server; sent = l.sent.items; codes = l.codes.items; acknowledged = l.acknowledged }) (vec_capacity l.codes) };
+    ghost invariant = { λ l. IsWhole l.address (record { encoder = l.encoder; server = l.server; sent = l.sent.items; codes = l.codes.items }) (vec_capacity l.codes) };
 }
 
 impl<T: Target> Line<T> {
@@ -65,7 +63,6 @@ impl<T: Target> Line<T> {
             encoder,
             sent: Vec::new(alloc),
             codes: Vec::new(alloc),
-            acknowledged: 0,
         })
     }
 
@@ -79,15 +76,16 @@ impl<T: Target> Line<T> {
     ) -> Result<(Line<T>, usize), EncoderFault<T>>
         requires { IsTrue (is_exact address) }
         // From a new line each event in turn is a step, as `step` promises it for one, and the number counts those that were refused.
-        ensures plays { IfOk result (λ played. RunsAs T.step (new_line address target) (at_first target) (map event_of events.now) played.1 played.0) }
-        // The encoder's store is what a prefix of the sent messages makes, each applied once and in order; every message that is
-        // acknowledged is in it with its one reply, and every message that is missing is still outstanding.
-        ensures headline { IfOk result (λ played. IsHeadline T.step address target played.0) }
+        ensures plays { IfOk result (λ played. RunsAs T.step T.taken (new_line address target) (at_first target) (map event_of events.now) played.1 played.0) }
+        // The encoder's store is what a prefix of the sent messages with the takes between makes, each applied once and in order; every message that is
+        // acknowledged is in it with its one reply, and every message that is missing is still outstanding. The history is that of these events.
+        ensures headline { IfOk result (λ played. (runs : RunsAs T.step T.taken (new_line address target) (at_first target) (map event_of events.now) played.1 played.0)
+            × IsHeadline T.step T.taken address target (history_by (map event_of events.now) runs.outcomes) played.0) }
         // Between the two ends that are left counters and kept replies never confuse two messages.
         ensures numbers { IfOk result (λ played. (o : Once T) → Holds played.0 o → Numbers T.step address (world_of played.0 o) (length played.0.codes)) }
         // Of the definitions alone, and not of the line that is answered: two ends that are fed the bytes of these events do what the once-machine does, in
         // numbers and in values.
-        ensures law { IfOk result (λ played. Law T.step address target (map event_of events.now)) }
+        ensures law { IfOk result (λ played. Law T.step T.taken address target (map event_of events.now)) }
         ensures handed_back { IfErr result (λ fault. fault.target ≡ target) }
     {
         let mut line = Line::new(alloc, address, target)?;
@@ -99,7 +97,7 @@ impl<T: Target> Line<T> {
     /// there was no memory is one of them.
     pub fn run(&mut self, events: &[LineEvent<'_>]) -> usize
         // Each event in turn is a step, as `step` promises it for one, and the answer counts those that were refused.
-        ensures plays { (o : Once T) → Holds self.old o → RunsAs T.step self.old o (map event_of events.now) result self.new }
+        ensures plays { (o : Once T) → Holds self.old o → RunsAs T.step T.taken self.old o (map event_of events.now) result self.new }
         // Every message of an event fits a frame.
         ensures fits { AllByRecursion Fits (map event_of events.now) }
         ensures address { self.new.encoder.address ≡ self.old.encoder.address }
@@ -118,7 +116,7 @@ impl<T: Target> Line<T> {
     /// submission takes memory: room for the message and for its code, both before anything changes.
     pub fn step(&mut self, event: &LineEvent<'_>) -> Result<Stepped, LineRefusal>
         // The line goes on as the once-machine does.
-        ensures steps { IfOk result (λ stepped. (o : Once T) → Holds self.old o → StepsAs T.step self.old o (event_of event.now) stepped self.new) }
+        ensures steps { IfOk result (λ stepped. (o : Once T) → Holds self.old o → StepsAs T.step T.taken self.old o (event_of event.now) stepped self.new) }
         // It refuses where the once-machine does, for its reason, or a submission for want of memory.
         ensures refused { IfErr result (λ refusal. (o : Once T) → Holds self.old o → Refuses o (event_of event.now) refusal) }
         ensures unchanged { IfErr result (λ refusal. self.new ≡ self.old) }
@@ -133,6 +131,7 @@ impl<T: Target> Line<T> {
             LineEvent::NoiseToEncoder(noise) => self.disturb_encoder(noise),
             LineEvent::NoiseToServer(noise) => self.disturb_server(noise),
             LineEvent::LineLost(side) => Ok(self.lose(side)),
+            LineEvent::Take => Ok(self.take_group()),
         }
     }
 
@@ -164,20 +163,29 @@ impl<T: Target> Line<T> {
         self.codes.as_slice()
     }
 
-    /// How many messages were applied: the numbers below this, which are all that were sent, or all but the last.
+    /// How many messages were applied: the numbers below this, which are all that were sent but the last eight at most.
     pub fn applied(&self) -> usize
         ensures value { result ≡ length self.now.codes }
         ensures within { result ≤ length self.now.sent }
-        ensures all_but_one { length self.now.sent ≤ result + 1 }
+        ensures all_but_eight { length self.now.sent ≤ result + 8 }
     {
         self.codes.len()
     }
 
-    /// How many messages are acknowledged: the numbers below this, each of which is applied.
+    /// The least number that is not acknowledged: all below it are, and so are applied.
     pub fn acknowledged(&self) -> usize
-        ensures value { result ≡ self.now.acknowledged }
+        ensures value { result ≡ least_missing (is_acknowledged self.now) (length self.now.sent) }
         ensures within { result ≤ length self.now.codes }
     {
-        self.acknowledged
+        self.sent.len() - self.server.held_count()
+    }
+
+    /// Whether the message of a number is acknowledged: the server knows that it was applied.
+    pub fn is_acknowledged(&self, number: usize) -> bool
+        ensures value { result ≡ is_acknowledged self.now number }
+        ensures applied { IsTrue result → number < length self.now.codes }
+    {
+        let least = self.acknowledged();
+        number < least || self.server.is_marked(number - least)
     }
 }

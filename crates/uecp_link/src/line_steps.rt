@@ -6,11 +6,11 @@ ghost use Rattle.uecp_encoder.specs.State.{fed};
 ghost use Rattle.uecp_link.specs.Replying.{replies, acknowledgements};
 ghost use Rattle.uecp_link.specs.Server.{heard};
 ghost use Rattle.uecp_frame.specs.Frame.{spelling};
-ghost use Rattle.uecp_link.specs.Once.{Submit, FrameComes, ReplyComes, NoiseToEncoder, NoiseToServer};
+ghost use Rattle.uecp_link.specs.Once.{Submit, FrameComes, ReplyComes, NoiseToEncoder, NoiseToServer, Take};
 ghost use Rattle.uecp_link.specs.Events.{lost_of};
 ghost use Rattle.uecp_link.specs.Law.{Fits, frame_of, reply_bytes};
 ghost use Rattle.uecp_link.specs.Holds.{once_of};
-ghost use Rattle.uecp_link.specs.Next.{Goes, Stops, stepped_by, one_if};
+ghost use Rattle.uecp_link.specs.Next.{Goes, Stops, codes_by, delivered_by, stepped_by};
 
 use crate::counters::{counter_of, is_recent};
 use crate::event::Side;
@@ -48,53 +48,56 @@ fn add<A: Drop>(values: &mut Vec<A>, value: A)
     }
 }
 
-/// Feeds the encoder a frame that it replies to, and keeps the code of a fresh reply.
+/// Feeds the encoder a frame, and keeps the code of a fresh reply; None where there is no reply.
 fn take_in<T: Target>(
     encoder: &mut Encoder<T>,
     codes: &mut Vec<Code>,
     bytes: &[u8],
     cut: &[u16],
-) -> (bool, Code)
-    requires { (reply : Bool × CodeValue) × (last_or None (replies T.step encoder.old bytes.now) ≡ Some reply) × (reply.0 ≡ true → vec_len codes.old < vec_capacity codes.old) }
+) -> Option<(bool, Code)>
+    requires { (code : CodeValue) → last_or None (replies T.step encoder.old bytes.now) ≡ Some (true, code) → vec_len codes.old < vec_capacity codes.old }
     ensures state { encoder.new ≡ fed T.step encoder.old bytes.now }
-    ensures reply { Some result ≡ last_or None (replies T.step encoder.old bytes.now) }
-    ensures codes { codes.new.items ≡ (if result.0 then codes.old.items ++ result.1 ∷ [] else codes.old.items) }
+    ensures reply { result ≡ last_or None (replies T.step encoder.old bytes.now) }
+    ensures codes { codes.new.items ≡ codes_by codes.old.items result }
     ensures room { vec_capacity codes.old ≤ vec_capacity codes.new }
 {
-    let Some((fresh, code)) = give_cut(encoder, bytes, cut) else {
-        unreachable!();
-    };
-    if fresh {
+    let reply = give_cut(encoder, bytes, cut);
+    if let Some((true, code)) = reply {
         add(codes, code);
     }
-    (fresh, code)
+    reply
 }
 
-/// Lets the server hear a reply, and counts it where it acknowledges.
-fn hear_reply(server: &mut Server, acknowledged: &mut usize, bytes: &[u8], cut: &[u16]) -> Stepped
-    requires { acknowledged.old < usize.MAX }
+/// The answer to a frame, by the reply to it.
+fn delivered(reply: Option<(bool, Code)>) -> Stepped
+    ensures { result ≡ delivered_by reply }
+{
+    match reply {
+        None => Stepped::NotNext,
+        Some((fresh, code)) => Stepped::Delivered { fresh, code },
+    }
+}
+
+/// Feeds the server a reply, and says whether it acknowledges.
+fn hear_reply(server: &mut Server, bytes: &[u8], cut: &[u16]) -> Stepped
     ensures state { server.new ≡ heard server.old bytes.now }
     ensures answer { result ≡ stepped_by (last_or None (acknowledgements server.old bytes.now)) }
-    ensures count { acknowledged.new ≡ acknowledged.old + one_if (last_or None (acknowledgements server.old bytes.now)) }
 {
     match give_cut(server, bytes, cut) {
         None => Stepped::Stray,
-        Some(code) => {
-            *acknowledged += 1;
-            Stepped::Acknowledged(code)
-        }
+        Some(code) => Stepped::Acknowledged(code),
     }
 }
 
 impl<T: Target> Line<T> {
     /// The next message is given to the server.
     pub(crate) fn submit(&mut self, message: &Message) -> Result<Stepped, LineRefusal>
-        ensures goes { IfOk result (λ stepped. Goes T.step self.old (Submit message.now) stepped self.new) }
+        ensures goes { IfOk result (λ stepped. Goes T.step T.taken self.old (Submit message.now) stepped self.new) }
         ensures stops { IfErr result (λ refusal. Stops self.old (Submit message.now) refusal self.new) }
         ensures fits { Fits (Submit message.now) }
     {
         let copy = message.copy();
-        if !self.server.is_idle() {
+        if !self.server.has_room() {
             return Err(LineRefusal::Busy);
         }
         let number = self.sent.len();
@@ -119,7 +122,7 @@ impl<T: Target> Line<T> {
 
     /// The frame of a message comes to the encoder.
     pub(crate) fn deliver(&mut self, number: usize, cut: &[u16]) -> Result<Stepped, LineRefusal>
-        ensures goes { IfOk result (λ stepped. Goes T.step self.old (FrameComes number) stepped self.new) }
+        ensures goes { IfOk result (λ stepped. Goes T.step T.taken self.old (FrameComes number) stepped self.new) }
         ensures stops { IfErr result (λ refusal. Stops self.old (FrameComes number) refusal self.new) }
     {
         if number >= self.sent.len() {
@@ -129,8 +132,8 @@ impl<T: Target> Line<T> {
             return Err(LineRefusal::TooLate);
         }
         let bytes = self.spelled_frame(number);
-        let (fresh, code) = take_in(&mut self.encoder, &mut self.codes, bytes.as_slice(), cut);
-        Ok(Stepped::Delivered { fresh, code })
+        let reply = take_in(&mut self.encoder, &mut self.codes, bytes.as_slice(), cut);
+        Ok(delivered(reply))
     }
 
     /// The encoder's reply to a message, which was applied.
@@ -147,7 +150,7 @@ impl<T: Target> Line<T> {
 
     /// The encoder's reply to a message comes to the server.
     pub(crate) fn acknowledge(&mut self, number: usize, cut: &[u16]) -> Result<Stepped, LineRefusal>
-        ensures goes { IfOk result (λ stepped. Goes T.step self.old (ReplyComes number) stepped self.new) }
+        ensures goes { IfOk result (λ stepped. Goes T.step T.taken self.old (ReplyComes number) stepped self.new) }
         ensures stops { IfErr result (λ refusal. Stops self.old (ReplyComes number) refusal self.new) }
     {
         if number >= self.codes.len() {
@@ -157,17 +160,12 @@ impl<T: Target> Line<T> {
             return Err(LineRefusal::TooLate);
         }
         let bytes = self.spelled_reply(number);
-        Ok(hear_reply(
-            &mut self.server,
-            &mut self.acknowledged,
-            bytes.as_slice(),
-            cut,
-        ))
+        Ok(hear_reply(&mut self.server, bytes.as_slice(), cut))
     }
 
     /// Noise comes to the encoder.
     pub(crate) fn disturb_encoder(&mut self, noise: &[u8]) -> Result<Stepped, LineRefusal>
-        ensures goes { IfOk result (λ stepped. Goes T.step self.old (NoiseToEncoder noise.now) stepped self.new) }
+        ensures goes { IfOk result (λ stepped. Goes T.step T.taken self.old (NoiseToEncoder noise.now) stepped self.new) }
         ensures stops { IfErr result (λ refusal. Stops self.old (NoiseToEncoder noise.now) refusal self.new) }
     {
         let Some(dropped) = dropped_by(self.encoder.deframer(), noise) else {
@@ -179,7 +177,7 @@ impl<T: Target> Line<T> {
 
     /// Noise comes to the server.
     pub(crate) fn disturb_server(&mut self, noise: &[u8]) -> Result<Stepped, LineRefusal>
-        ensures goes { IfOk result (λ stepped. Goes T.step self.old (NoiseToServer noise.now) stepped self.new) }
+        ensures goes { IfOk result (λ stepped. Goes T.step T.taken self.old (NoiseToServer noise.now) stepped self.new) }
         ensures stops { IfErr result (λ refusal. Stops self.old (NoiseToServer noise.now) refusal self.new) }
     {
         let Some(dropped) = dropped_by(self.server.deframer(), noise) else {
@@ -191,12 +189,18 @@ impl<T: Target> Line<T> {
 
     /// One end forgets a segment that has not ended.
     pub(crate) fn lose(&mut self, side: Side) -> Stepped
-        ensures { Goes T.step self.old (lost_of side) result self.new }
+        ensures { Goes T.step T.taken self.old (lost_of side) result self.new }
     {
         match side {
             Side::Encoder => self.encoder.line_lost(),
             Side::Server => self.server.line_lost(),
         }
         Stepped::Lost
+    }
+    /// The modulator takes a group from the encoder.
+    pub(crate) fn take_group(&mut self) -> Stepped
+        ensures { Goes T.step T.taken self.old Take result self.new }
+    {
+        Stepped::Taken(self.encoder.take_group())
     }
 }

@@ -5,7 +5,7 @@ ghost use Rattle.uecp_link.specs.Refusal.{number_of, name_of};
 /// Why an event was refused, in the order in which the reasons are looked for. A refused event has changed nothing.
 #[derive(Clone, Copy, Debug, PartialEq, Eq)]
 pub enum LineRefusal {
-    /// A message is outstanding, so none may be submitted.
+    /// Eight messages were sent from the oldest one on that is not acknowledged, so none may be submitted.
     Busy,
     /// There is no such message yet, or no reply to it yet.
     NotSent,

@@ -1,30 +1,32 @@
 //! The server's end of the line. Source: RDS Forum SPB 490, two-way mode; profile for the order of counters and for what acknowledges.
-ghost use Rattle.std.specs.Prelude.{◌≡◌, ◌<◌, ◌≤◌, ◌↔◌, None, IsNone, IfSome, IsTrue, length, take};
+ghost use Rattle.std.specs.Prelude.{◌≡◌, ◌<◌, ◌≤◌, ◌==◌, ◌↔◌, [], IsNone, IfSome, IsTrue, length, take, slice_get, nat_lt};
 ghost use Rattle.std.specs.Option.{option_copied};
 ghost use Rattle.uecp_frame.specs.Address.{is_exact};
 ghost use Rattle.uecp_frame.specs.Findings.{Closed};
 ghost use Rattle.uecp_frame.specs.Lent.{frame_lent};
-ghost use Rattle.uecp_link.specs.Server.{idle_at, nothing_counted, submitted, acknowledges, heard, HearsPiece, outgoing_bytes};
+ghost use Rattle.uecp_link.specs.Server.{idle_at, nothing_counted, submitted, waiting, is_marked, acknowledges, heard, HearsPiece, frames_waiting, outgoing_bytes};
+ghost use Rattle.uecp_link.specs.Holding.{held_in};
 
 use crate::counters::counter_of;
 use crate::counts::ServerCounts;
 use crate::heard::{Heard, HeardWhat};
+use crate::holding::{HeldMessage, count_waiting, frame_at, is_waiting, let_go, mark};
+use arrayvec::ArrayVec;
 use std::marker::Model;
 use uecp_elements::Code;
 use uecp_frame::{Address, Deframer, FoundRef, Frame, FrameBytes, FrameRef, Message, encode};
 
-/// A server that sends messages to one encoder, one at a time: it numbers a message, lends its frame as often as the caller
-/// sends it, and knows the encoder's reply to it from all else. Contracts see it as one value, `ServerState`.
+/// A server that sends messages to one encoder, up to eight outstanding at a time: it numbers a message, lends its frame as
+/// often as the caller sends it, and knows the encoder's reply to it from all else. Contracts see it as one value,
+/// `ServerState`.
 #[derive(Drop)]
 pub struct Server {
     /// The encoder's address.
     address: Address,
     /// The counter of the last message, 0 before the first.
     last: u8,
-    /// The message that no reply has come to.
-    outstanding: Option<Message>,
-    /// The spelling of that message's frame.
-    frame: FrameBytes,
+    /// The messages that are held, the oldest first: those that no reply has come to, and those marked ones that are newer.
+    held: ArrayVec<HeldMessage, 8>,
     /// What was heard, by kind.
     counts: ServerCounts,
     /// Finds the frames in what is heard.
@@ -33,18 +35,18 @@ pub struct Server {
 
 impl Model for Server {
     ghost use Rattle.uecp_link.specs.Server.{ServerState};
-    ghost use Rattle.uecp_link.specs.Sending.{IsSpelled};
+    ghost use Rattle.uecp_link.specs.Holding.{held_in, IsHolding};
 
     ghost Value = { ServerState };
 
-    ghost view = { λ s. record { address = s.address; last = s.last; outstanding = s.outstanding; counts = s.counts; part = s.deframer } };
+    ghost view = { λ s. record { address = s.address; last = s.last; held = held_in s.held.items; counts = s.counts; part = s.deframer } };
 
-    ghost invariant = { λ s. IsSpelled s.address s.last s.outstanding s.frame.items };
+    ghost invariant = { λ s. IsHolding s.address s.last s.held.items };
 }
 
 impl Server {
     /// A server for the encoder at this address, which is that encoder's own: neither part is 0. It has sent nothing, its first
-    /// message will have counter 01, nothing is outstanding and nothing is counted.
+    /// message will have counter 01, it holds nothing and nothing is counted.
     pub fn new(address: Address) -> Server
         requires { IsTrue (is_exact address) }
         ensures { result ≡ idle_at address }
@@ -52,25 +54,32 @@ impl Server {
         Server {
             address,
             last: 0,
-            outstanding: None,
-            frame: FrameBytes::new(),
+            held: ArrayVec::new(),
             counts: ServerCounts::default(),
             deframer: Deframer::new(),
         }
     }
 
-    /// Whether no message is outstanding, and so the next one may be submitted.
+    /// Whether no message waits for its reply. An idle server holds none.
     pub fn is_idle(&self) -> bool
-        ensures { IsTrue result ↔ (self.now.outstanding ≡ None) }
+        ensures waits_for_none { IsTrue result ↔ (waiting self.now ≡ []) }
+        ensures holds_none { IsTrue result ↔ (self.now.held ≡ []) }
     {
-        self.outstanding.is_none()
+        self.held.is_empty()
     }
 
-    /// Takes a message to be sent, under the next counter: 01 to FF in turn, and 01 again. The server is idle; see
-    /// [`is_idle`](Server::is_idle). Send what [`outgoing`](Server::outgoing) lends, again whenever no reply has come in time,
-    /// until [`hear`](Server::hear) answers `Acknowledged`. The counts stay.
+    /// Whether fewer than eight messages are held, and so the next one may be submitted.
+    pub fn has_room(&self) -> bool
+        ensures { IsTrue result ↔ (length self.now.held < 8) }
+    {
+        !self.held.is_full()
+    }
+
+    /// Takes a message to be sent, under the next counter: 01 to FF in turn, and 01 again. The server has room; see
+    /// [`has_room`](Server::has_room). Send what [`frame`](Server::frame) lends, again whenever no reply has come in time, until
+    /// [`hear`](Server::hear) answers `Acknowledged` with its counter. The counts stay.
     pub fn submit(&mut self, message: &Message)
-        requires { self.old.outstanding ≡ None }
+        requires { length self.old.held < 8 }
         ensures { self.new ≡ submitted self.old message.now }
     {
         let frame = Frame {
@@ -78,31 +87,59 @@ impl Server {
             counter: counter_of(usize::from(self.last)),
             message: message.copy(),
         };
-        encode(&frame, &mut self.frame);
+        let mut spelled = FrameBytes::new();
+        encode(&frame, &mut spelled);
         let Frame {
             address: _,
             counter,
             message,
         } = frame;
         self.last = counter;
-        self.outstanding = Some(message);
+        self.held.push(HeldMessage {
+            counter,
+            message,
+            marked: false,
+            frame: spelled,
+        });
     }
 
-    /// The frame of the outstanding message, the same 8 to 524 bytes each time. None where the server is idle.
+    /// How many messages wait for their reply, at most eight. Of those that are held they are the ones that are not marked.
+    pub fn waiting(&self) -> usize
+        ensures value { result ≡ length (waiting self.now) }
+        ensures few { result ≤ 8 }
+    {
+        count_waiting(self.held.as_slice())
+    }
+
+    /// The frame of one of the messages that wait, the oldest first, from 0: the same 8 to 524 bytes each time. None from
+    /// [`waiting`](Server::waiting) on.
+    ///
+    /// ```
+    /// for place in 0..server.waiting() {
+    ///     let frame = server.frame(place); // Some bytes
+    /// }
+    /// ```
+    pub fn frame(&self, place: usize) -> Option<&[u8]>
+        ensures value { option_copied result ≡ slice_get (frames_waiting self.now) place }
+        ensures none { IsNone result ↔ (length (waiting self.now) ≤ place) }
+        ensures few { IfSome result (λ frame. length frame.now ≤ 524) }
+    {
+        frame_at(self.held.as_slice(), place)
+    }
+
+    /// The frame of the oldest message that waits, the same 8 to 524 bytes each time. None where the server is idle.
     pub fn outgoing(&self) -> Option<&[u8]>
-        ensures idle { IsNone result ↔ (self.now.outstanding ≡ None) }
+        ensures idle { IsNone result ↔ (waiting self.now ≡ []) }
         ensures frame { option_copied result ≡ outgoing_bytes self.now }
         ensures few { IfSome result (λ frame. length frame.now ≤ 524) }
     {
-        match &self.outstanding {
-            None => None,
-            Some(_) => Some(self.frame.as_slice()),
-        }
+        self.frame(0)
     }
 
     /// Takes a piece of what comes over the line: uses its bytes up to and with the one that ends a segment, or all, and
-    /// answers what that brought. Hear the rest of the piece next, until all is used. Where a fault was dropped, the outstanding
-    /// message and its frame are as before. What the answer says is counted.
+    /// answers what that brought. Hear the rest of the piece next, until all is used. A reply marks its message; the marked ones
+    /// are let go from the oldest on, up to the first that waits. Where a fault was dropped, the messages and their frames are as
+    /// before. What the answer says is counted.
     pub fn hear(&mut self, piece: &[u8]) -> Heard
         ensures fits { result.used ≤ length piece.now }
         ensures moves { 0 < length piece.now → 0 < result.used }
@@ -119,18 +156,18 @@ impl Server {
             }
             FoundRef::Frame(frame) => match acknowledging(
                 self.address,
-                self.last,
-                &self.outstanding,
+                self.held.as_slice(),
                 frame,
             ) {
                 None => {
                     self.counts.stray = self.counts.stray.saturating_add(1);
                     HeardWhat::Stray
                 }
-                Some(code) => {
-                    self.outstanding = None;
+                Some((counter, code)) => {
+                    mark(self.held.as_mut_slice(), counter);
+                    let_go(&mut self.held);
                     self.counts.acknowledged = self.counts.acknowledged.saturating_add(1);
-                    HeardWhat::Acknowledged(code)
+                    HeardWhat::Acknowledged { counter, code }
                 }
             },
         };
@@ -149,6 +186,24 @@ impl Server {
         self.counts
     }
 
+    /// How many messages are held, marked ones too.
+    pub(crate) fn held_count(&self) -> usize
+        ensures { result ≡ length self.now.held }
+    {
+        self.held.len()
+    }
+
+    /// Whether the message at a place among those that are held, the oldest first, is marked.
+    #[tactic(auto, using(crate::proofs::HeldFields::mark_at))]
+    pub(crate) fn is_marked(&self, place: usize) -> bool
+        ensures { result ≡ is_marked self.now.held place }
+    {
+        match self.held.as_slice().get(place) {
+            None => false,
+            Some(held) => held.marked,
+        }
+    }
+
     /// The deframer, whose open part is the server's.
     pub(crate) fn deframer(&self) -> &Deframer
         ensures { result.now ≡ self.now.part }
@@ -156,7 +211,7 @@ impl Server {
         &self.deframer
     }
 
-    /// Forgets a segment that has not ended, as where the line was lost. What is outstanding stays so, and so do the counts.
+    /// Forgets a segment that has not ended, as where the line was lost. What is held stays so, and so do the counts.
     pub fn line_lost(&mut self)
         ensures { self.new ≡ record self.old { part = Closed } }
     {
@@ -164,20 +219,20 @@ impl Server {
     }
 }
 
-/// The code with which a frame acknowledges the outstanding message of a server with this address and last counter.
-fn acknowledging(
-    address: Address,
-    last: u8,
-    outstanding: &Option<Message>,
-    frame: &FrameRef<'_>,
-) -> Option<Code>
-    ensures { result ≡ acknowledges (record { address = address; last = last; outstanding = outstanding.now; counts = nothing_counted; part = Closed }) outstanding.now (frame_lent frame.now) }
+/// The counter and the code with which a frame acknowledges one of the messages of a server with this address.
+fn acknowledging(address: Address, held: &[HeldMessage], frame: &FrameRef<'_>) -> Option<(u8, Code)>
+    ensures { result ≡ acknowledges (record { address = address; last = 0; held = held_in held.now; counts = nothing_counted; part = Closed }) (frame_lent frame.now) }
 {
-    if outstanding.is_none() || *frame.address != address || frame.counter != 0 {
+    if *frame.address != address || frame.counter != 0 {
         return None;
     }
-    match frame.message {
-        [0x18, code, counter] if *counter == last => Code::from_byte(*code),
-        _ => None,
+    let [0x18, code, counter] = frame.message else {
+        return None;
+    };
+    let code = Code::from_byte(*code)?;
+    if is_waiting(held, *counter) {
+        Some((*counter, code))
+    } else {
+        None
     }
 }

@@ -1,4 +1,5 @@
 //! What an event on a line came to. Source: profile.
+use rds_store::Group;
 use uecp_elements::Code;
 
 /// The answer to an event that was not refused.
@@ -13,6 +14,8 @@ pub enum Stepped {
         /// What the encoder replies.
         code: Code,
     },
+    /// The encoder has passed over the message: one before it was not applied yet.
+    NotNext,
     /// The server knows that the message arrived, and its code.
     Acknowledged(Code),
     /// The server knew that already.
@@ -24,4 +27,6 @@ pub enum Stepped {
     },
     /// The end forgot what was open.
     Lost,
+    /// The modulator has this group, or there was none to take.
+    Taken(Option<Group>),
 }

@@ -87,11 +87,11 @@ acknowledged_line code tries = codes "acknowledged" ++ byte_word (byte_of code) 
 -- outstanding, which is said, and the run ends. Nothing is sent where one is outstanding already. A text that spells no message, or a longer one, is refused and changes nothing.
 abbrev pub Sends : Meaning SenderState
 Sends s text (Brings lines) s' =
-    (message : List ℕ) × (code : Code) × (tries : ℕ) × Spells text message × (length message ≤ 255) × (s.server.outstanding ≡ None) × (lines ≡ acknowledged_line code tries)
+    (message : List ℕ) × (code : Code) × (tries : ℕ) × Spells text message × (length message ≤ 255) × (s.server.held ≡ []) × (lines ≡ acknowledged_line code tries)
     × (1 ≤ tries) × (tries ≤ s.tries) × IsFreed (submitted s.server message) s'.server × (s'.tries ≡ s.tries)
 Sends s text (Ends lines) s' =
     (message : List ℕ) × Spells text message × (length message ≤ 255) × (lines ≡ codes "outstanding\n")
-    × (((s.server.outstanding ≡ None) × StillWaits (submitted s.server message) s'.server) ⊎ ((s.server.outstanding ≢ None) × (s' ≡ s)))
+    × (((s.server.held ≡ []) × StillWaits (submitted s.server message) s'.server) ⊎ ((s.server.held ≢ []) × (s' ≡ s)))
 Sends s text (Refuses fault) s' =
     (((fault ≡ NotHex) × (text ≢ codes "-") × IsErr (bytes_in text)) ⊎ ((fault ≡ MessageTooLong) × ((message : List ℕ) × Spells text message × (255 < length message)))) × (s' ≡ s)
 

@@ -1,7 +1,7 @@
 //! A server over connections that may break. Source: profile.
-ghost use Rattle.std.specs.Prelude.{◌≡◌, ◌≢◌, ◌≤◌, ◌↔◌, Some, None, IfOk, IfErr, IfSome, IfNone, IsTrue, false};
+ghost use Rattle.std.specs.Prelude.{◌≡◌, ◌≤◌, ◌↔◌, [], length, Some, None, IfOk, IfErr, IfSome, IfNone, IsTrue, false};
 ghost use Rattle.uecp_frame.specs.Findings.{Closed};
-ghost use Rattle.uecp_link.specs.Server.{submitted};
+ghost use Rattle.uecp_link.specs.Server.{submitted, waiting};
 ghost use Rattle.uecp_link.specs.Driving.{IsFreed, StillWaits};
 ghost use Rattle.uecp_link.specs.declared.driving.DriveFault.TheVariants.{TriesSpent};
 ghost use Rattle.uecp_net.specs.Sending.{Goes, Starts, IsBroken, Delivers};
@@ -73,7 +73,7 @@ impl<'a, C: Connect> Sender<'a, C> {
 
     /// Whether no message is outstanding, and so the next one may be sent.
     pub fn is_idle(&self) -> bool
-        ensures { IsTrue result ↔ (self.now.server.outstanding ≡ None) }
+        ensures { IsTrue result ↔ (self.now.server.held ≡ []) }
     {
         self.server.is_idle()
     }
@@ -90,7 +90,7 @@ impl<'a, C: Connect> Sender<'a, C> {
     ///
     /// Where the message is acknowledged the server is idle again; else the message is outstanding.
     pub fn send(&mut self, message: &Message) -> Result<Driven, Outstanding>
-        requires { self.old.server.outstanding ≡ None }
+        requires { self.old.server.held ≡ [] }
         ensures idle { IfOk result (λ _. IsFreed (submitted self.old.server message.now) self.new.server) }
         ensures tries { IfOk result (λ driven. (1 ≤ driven.tries) × (driven.tries ≤ self.old.tries)) }
         ensures outstanding { IfErr result (λ _. StillWaits (submitted self.old.server message.now) self.new.server) }
@@ -110,7 +110,7 @@ impl<'a, C: Connect> Sender<'a, C> {
 
     /// Sends the outstanding message on the connection that there is, and on new ones as long as reconnects are left.
     fn send_on_any(&mut self) -> Result<Driven, Outstanding>
-        requires { self.old.server.outstanding ≢ None }
+        requires { length (waiting self.old.server) ≡ 1 }
         ensures idle { IfOk result (λ _. IsFreed self.old.server self.new.server) }
         ensures tries { IfOk result (λ driven. (1 ≤ driven.tries) × (driven.tries ≤ self.old.tries)) }
         ensures outstanding { IfErr result (λ _. StillWaits self.old.server self.new.server) }
@@ -140,7 +140,7 @@ impl<'a, C: Connect> Sender<'a, C> {
     /// Sends the outstanding message on the connection that there is, or on a new one, and says how that went; or None where there
     /// is none to be had.
     fn send_on_one(&mut self) -> Option<Result<Driven, DriveFault>>
-        requires { self.old.server.outstanding ≢ None }
+        requires { length (waiting self.old.server) ≡ 1 }
         ensures goes { Goes C.opens C.Input.remaining C.Output.contents self.old.tries self.old.turns self.old.server self.new.server result }
         ensures idle { IfSome result (λ went. IfOk went (λ driven. IsFreed self.old.server self.new.server × (1 ≤ driven.tries) × (driven.tries ≤ self.old.tries))) }
         ensures outstanding { IfSome result (λ went. IfErr went (λ _. StillWaits self.old.server self.new.server)) }

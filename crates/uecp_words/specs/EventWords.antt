@@ -2,7 +2,7 @@
 use Rattle.std.specs.Prelude.{◌≡◌, ℕ, ◌≤◌, ◌<◌, Bool, true, List, [], ◌∷◌, length, codes, Some, Ok, is_some}
 use Rattle.std.specs.List.{list_all}
 use Rattle.hex.specs.Hex.{decode_of}
-use Rattle.uecp_link.specs.Once.{Event, Submit, FrameComes, ReplyComes, NoiseToEncoder, NoiseToServer, EncoderLost, ServerLost}
+use Rattle.uecp_link.specs.Once.{Event, Submit, FrameComes, ReplyComes, NoiseToEncoder, NoiseToServer, EncoderLost, ServerLost, Take}
 use Rattle.uecp_link.specs.Events.{lost_of}
 use Rattle.uecp_link.specs.declared.event.Side.{Side}
 use Rattle.uecp_link.specs.declared.event.Side.TheVariants as side
@@ -21,6 +21,7 @@ name_of (NoiseToEncoder bytes) = codes "noise-encoder"
 name_of (NoiseToServer bytes) = codes "noise-server"
 name_of EncoderLost = codes "line-lost"
 name_of ServerLost = codes "line-lost"
+name_of Take = codes "take"
 
 -- The word of one end.
 abbrev pub end_word : Side → List ℕ
@@ -56,6 +57,7 @@ Tells words (NoiseToEncoder bytes) = TellsNoise words bytes
 Tells words (NoiseToServer bytes) = TellsNoise words bytes
 Tells words EncoderLost = words ≡ codes "encoder" ∷ []
 Tells words ServerLost = words ≡ codes "server" ∷ []
+Tells words Take = words ≡ []
 
 -- The words name the event: the first is its name, and the others tell the rest.
 abbrev pub Names : List (List ℕ) → Event → Type 0
@@ -90,6 +92,7 @@ event_seen (line.Frame number cut) = FrameComes number
 event_seen (line.Reply number cut) = ReplyComes number
 event_seen (line.Noise end bytes) = noise_to end bytes.items
 event_seen (line.LineLost end) = lost_of end
+event_seen line.Take = Take
 
 -- The number of the message that an event names, or 0 where it names none.
 abbrev pub named_message : Event → ℕ
@@ -100,3 +103,4 @@ named_message (NoiseToEncoder bytes) = 0
 named_message (NoiseToServer bytes) = 0
 named_message EncoderLost = 0
 named_message ServerLost = 0
+named_message Take = 0

@@ -28,6 +28,8 @@ pub enum EventLine {
     Noise(Side, Vec<u8>),
     /// Tells the encoder or the server that its line was lost.
     LineLost(Side),
+    /// Takes from the encoder the group that is to go out next.
+    Take,
 }
 
 /// Reads the words of a line.
@@ -58,6 +60,8 @@ fn event_named(alloc: Global, name: &[u8], words: &[&[u8]]) -> Result<EventLine,
         noise_of(alloc, Side::Server, words)
     } else if name == b"line-lost".as_slice() {
         loss_of(words)
+    } else if name == b"take".as_slice() {
+        take_of(words)
     } else {
         Err(LineFault::NotACommand)
     }
@@ -126,6 +130,17 @@ fn loss_of(words: &[&[u8]]) -> Result<EventLine, LineFault>
         [word] => Ok(EventLine::LineLost(end_of(word)?)),
         _ => Err(LineFault::NotACommand),
     }
+}
+
+/// A take; no words tell more of it.
+fn take_of(words: &[&[u8]]) -> Result<EventLine, LineFault>
+    ensures named { IfOk result (λ e. Names (codes "take" ∷ texts words.now) (event_seen e)) }
+    ensures refused { IfErr result (λ e. IsFaultOf (codes "take" ∷ texts words.now) e) }
+{
+    if !words.is_empty() {
+        return Err(LineFault::NotACommand);
+    }
+    Ok(EventLine::Take)
 }
 
 /// The end of that name.

@@ -18,12 +18,12 @@ const ROOM: usize = TIMES * 16;
 /// The frame that sets PI C201.
 const PIECE: &str = "FE 00 41 01 05 01 00 00 C2 01 67 A8 FF\n";
 
-/// Adds the text "HI", twice under counter 03.
+/// Adds the text "HI", twice under counter 01.
 const TWICE: &str =
-    "FE 00 41 03 07 0A 00 00 03 40 48 49 F4 44 FF\nFE 00 41 03 07 0A 00 00 03 40 48 49 F4 44 FF\n";
+    "FE 00 41 01 07 0A 00 00 03 40 48 49 32 23 FF\nFE 00 41 01 07 0A 00 00 03 40 48 49 32 23 FF\n";
 
 const STORED: &str =
-    "reply FE0041000318000360FCFF new\nreply FE0041000318000360FCFF kept\ncurrent 1\nservice 1 01 0000 2020202020202020 tp 0 ta 0 ms 0 pty 00 texts 1\ntext 0 0 4849\n";
+    "reply FE0041000318000140BEFF new\nreply FE0041000318000140BEFF kept\ncurrent 1\nservice 1 01 0000 2020202020202020 tp 0 ta 0 ms 0 pty 00 texts 1\ntext 0 0 4849\n";
 
 const SCRIPT: &str = "frame 0041 03\nrt 00 00 40 4849\nframe 0041 01\npi 00 00 1234\nraw 99\n";
 
@@ -33,8 +33,14 @@ const EVENTS: &str =
     "submit 0A000003404849\nsubmit -\nframe 0 1 2\nframe 0\nreply 0\nreply 0\nframe 1\n";
 
 const PLAYED: &str =
-    "numbered 0\nrefused 1 Busy\ndelivered 0 new 00\ndelivered 0 kept 00\nacknowledged 00\nstray\nrefused 2 NotSent\nsent 1 applied 1 acknowledged 1\n";
-/// The same where there was no memory for either message.
+    "numbered 0\nnumbered 1\ndelivered 0 new 00\ndelivered 0 kept 00\nacknowledged 00\nstray\ndelivered 1 new 00\nsent 2 applied 2 acknowledged 1\n";
+/// The same where there was memory for one of the messages, whichever it is.
+const FIRST_ALONE: &str =
+    "numbered 0\nrefused 5 OutOfMemory\ndelivered 0 new 00\ndelivered 0 kept 00\nacknowledged 00\nstray\nrefused 2 NotSent\nsent 1 applied 1 acknowledged 1\n";
+
+const SECOND_ALONE: &str =
+    "refused 5 OutOfMemory\nnumbered 0\ndelivered 0 new 00\ndelivered 0 kept 00\nacknowledged 00\nstray\nrefused 2 NotSent\nsent 1 applied 1 acknowledged 1\n";
+/// The same where there was memory for neither.
 const UNPLAYED: &str =
     "refused 5 OutOfMemory\nrefused 5 OutOfMemory\nrefused 2 NotSent\nrefused 2 NotSent\nrefused 2 NotSent\nrefused 2 NotSent\nrefused 2 NotSent\nsent 0 applied 0 acknowledged 0\n";
 
@@ -143,5 +149,6 @@ fn a_script_of_events(rt: HostRuntime) -> Result<(), Fail> {
         services: Vec::from_slice(rt.alloc(), &[0x01])?,
         store: false,
     };
-    runs_in_the_end(&rt, rt.alloc(), &job, EVENTS, &[PLAYED, UNPLAYED])
+    let outputs = [PLAYED, FIRST_ALONE, SECOND_ALONE, UNPLAYED];
+    runs_in_the_end(&rt, rt.alloc(), &job, EVENTS, &outputs)
 }

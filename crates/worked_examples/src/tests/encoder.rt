@@ -1,12 +1,13 @@
-ghost use Rattle.std.specs.Prelude.{◌≡◌, ◌+◌, ◌%◌, ◌^◌, IsTrue, length};
+ghost use Rattle.std.specs.Prelude.{◌≡◌, ◌+◌, ◌%◌, ◌^◌, None, IsTrue, length};
 ghost use Rattle.uecp_frame.specs.Address.{is_exact};
 ghost use Rattle.uecp_elements.specs.declared.code.Code.TheVariants.{Applied};
 
 mod hostile;
 mod memory;
+mod order;
 mod serving;
 
-use rds_store::{RdsStore, Service};
+use rds_store::{Group, RdsStore, Service};
 use std::alloc::Global;
 use std::process::Abort;
 use std::test::Fail;
@@ -20,6 +21,8 @@ const PI_1: [u8; 13] = *b"\xFE\x00\x41\x01\x05\x01\x00\x00\xC2\x01\x67\xA8\xFF";
 const PI_2: [u8; 15] = *b"\xFE\x00\x41\x02\x05\x01\x00\x00\xFD\x01\xFD\x02\xF1\x03\xFF";
 /// No element, counter 01, for all encoders of all sites.
 const EMPTY_1_FOR_ALL: [u8; 8] = *b"\xFE\x00\x00\x01\x00\x48\x0E\xFF";
+/// No element, counter 01.
+const EMPTY_1: [u8; 8] = *b"\xFE\x00\x41\x01\x00\x62\x93\xFF";
 /// No element, counter 02.
 const EMPTY_2: [u8; 8] = *b"\xFE\x00\x41\x02\x00\x37\xC0\xFF";
 /// No element, counter 00.
@@ -43,10 +46,16 @@ struct CountTarget {
 impl Target for CountTarget {
     ghost step = { λ v m. (record { messages = (v.messages + 1) % 2 ^ 64; bytes = (v.bytes + length m) % 2 ^ 64 }, Applied) };
 
+    ghost taken = { λ v. (v, None) };
+
     fn apply(&mut self, message: &[u8]) -> Code {
         self.messages = self.messages.wrapping_add(1);
         self.bytes = self.bytes.wrapping_add(message.len() as u64);
         Code::Applied
+    }
+
+    fn take(&mut self) -> Option<Group> {
+        None
     }
 }
 
@@ -86,14 +95,8 @@ fn replies<T: Target>(
     }
 }
 
-/// Sends a message under a new counter, and asserts the code of its reply.
-fn comes_to<T: Target>(
-    rt: &impl Abort,
-    encoder: &mut Encoder<T>,
-    counter: u8,
-    message: &[u8],
-    code: u8,
-) {
+/// The frame of a message under a counter.
+fn framed(rt: &impl Abort, counter: u8, message: &[u8]) -> FrameBytes {
     let frame = Frame {
         address: own_address(rt),
         counter,
@@ -101,6 +104,18 @@ fn comes_to<T: Target>(
     };
     let mut bytes = FrameBytes::new();
     encode(&frame, &mut bytes);
+    bytes
+}
+
+/// Sends a message under the next counter, and asserts the code of its reply.
+fn comes_to<T: Target>(
+    rt: &impl Abort,
+    encoder: &mut Encoder<T>,
+    counter: u8,
+    message: &[u8],
+    code: u8,
+) {
+    let bytes = framed(rt, counter, message);
     match encoder.feed(bytes.as_slice()).what {
         What::Reply(reply, true) => assert_eq!(rt; reply.get(6).copied(), Some(code)),
         _ => assert!(rt; false, "no fresh reply"),
@@ -123,16 +138,23 @@ fn a_new_encoder_applies_a_message_and_answers_its_code(rt: HostRuntime) -> Resu
     // An unknown element follows the last of them, so nothing of its message is kept.
     let unknown = b"\xFE\x00\x41\x01\x06\x01\x00\x00\x12\x34\x99\xFD\x02\xA8\xFF";
     let refusal = b"\xFE\x00\x41\x00\x03\x18\x03\x01\x15\xED\xFF";
-    let rows: [(&[u8], &[u8], u16); 3] = [
-        (&PI_1, &APPLIED_1, 0xc201),
-        (&PI_2, &APPLIED_2, 0xfeff),
-        (unknown, refusal, 0x0000),
-    ];
+    let rows: [(&[u8], &[u8], u16); 2] = [(&PI_1, &APPLIED_1, 0xc201), (unknown, refusal, 0x0000)];
     for (frame, reply, pi) in rows {
         let mut encoder = with_store(&rt, rt.alloc(), 1)?;
         replies(&rt, &mut encoder, frame, reply, true);
         assert_eq!(rt; pi_of(encoder.target(), 1), Some(pi));
     }
+    Ok(())
+}
+
+#[test]
+fn a_second_message_waits_for_the_first(rt: HostRuntime) -> Result<(), Fail> {
+    let mut encoder = with_store(&rt, rt.alloc(), 1)?;
+    assert!(rt; matches!(encoder.feed(&PI_2).what, What::NotNext));
+    assert_eq!(rt; pi_of(encoder.target(), 1), Some(0));
+    replies(&rt, &mut encoder, &EMPTY_1, &APPLIED_1, true);
+    replies(&rt, &mut encoder, &PI_2, &APPLIED_2, true);
+    assert_eq!(rt; pi_of(encoder.target(), 1), Some(0xfeff));
     Ok(())
 }
 
@@ -185,6 +207,7 @@ fn a_frame_begun_in_an_open_segment_comes_byte_by_byte(rt: HostRuntime) -> Resul
 #[test]
 fn an_empty_message_changes_nothing_and_its_reply_is_kept(rt: HostRuntime) -> Result<(), Fail> {
     let mut encoder = with_store(&rt, rt.alloc(), 1)?;
+    replies(&rt, &mut encoder, &EMPTY_1, &APPLIED_1, true);
     replies(&rt, &mut encoder, &EMPTY_2, &APPLIED_2, true);
     assert_eq!(rt;
         (pi_of(encoder.target(), 1), texts_of(encoder.target(), 1)),
@@ -203,6 +226,8 @@ fn a_text_sent_twice_is_added_once(rt: HostRuntime) -> Result<(), Fail> {
     let add = b"\xFE\x00\x41\x03\x07\x0A\x00\x00\x03\x40\x48\x49\xF4\x44\xFF";
     let reply = b"\xFE\x00\x41\x00\x03\x18\x00\x03\x60\xFC\xFF";
     let mut encoder = with_store(&rt, rt.alloc(), 1)?;
+    replies(&rt, &mut encoder, &EMPTY_1, &APPLIED_1, true);
+    replies(&rt, &mut encoder, &EMPTY_2, &APPLIED_2, true);
     replies(&rt, &mut encoder, add, reply, true);
     replies(&rt, &mut encoder, add, reply, false);
     let Some(text) = encoder
@@ -227,17 +252,17 @@ fn a_reply_is_kept_for_126_further_messages_and_no_longer(rt: HostRuntime) -> Re
     replies(&rt, &mut encoder, &ADD_1, &APPLIED_1, false);
     assert_eq!(rt; texts_of(encoder.target(), 1), 1);
     comes_to(&rt, &mut encoder, 0x80, &[], 0x00);
-    replies(&rt, &mut encoder, &ADD_1, &APPLIED_1, true);
-    assert_eq!(rt; texts_of(encoder.target(), 1), 2);
+    // It is known no more, and it is not the next either: it is not applied again.
+    assert!(rt; matches!(encoder.feed(&ADD_1).what, What::NotNext));
+    assert_eq!(rt; texts_of(encoder.target(), 1), 1);
     Ok(())
 }
 
 #[test]
-fn numbered_unnumbered_for_another_and_for_all(rt: HostRuntime) -> Result<(), Fail> {
+fn out_of_order_unnumbered_for_another_and_for_all(rt: HostRuntime) -> Result<(), Fail> {
     let mut encoder = with_store(&rt, rt.alloc(), 1)?;
-    let first = b"\xFE\x00\x41\x07\x00\xC8\x35\xFF";
-    let reply = b"\xFE\x00\x41\x00\x03\x18\x00\x07\x20\x78\xFF";
-    replies(&rt, &mut encoder, first, reply, true);
+    let seventh = b"\xFE\x00\x41\x07\x00\xC8\x35\xFF";
+    assert!(rt; matches!(encoder.feed(seventh).what, What::NotNext));
     assert!(rt; matches!(encoder.feed(&EMPTY_0).what, What::Unnumbered));
     assert!(rt; matches!(encoder.feed(&EMPTY_1_FOR_ANOTHER).what, What::NotForMe));
     replies(&rt, &mut encoder, &EMPTY_1_FOR_ALL, &APPLIED_1, true);
@@ -348,5 +373,36 @@ fn any_target_is_given_each_message_once(rt: HostRuntime) -> Result<(), Fail> {
         dropped: 0,
     };
     assert_eq!(rt; encoder.counts(), counts);
+    Ok(())
+}
+
+#[test]
+fn a_group_taken_from_an_encoder_leaves_its_kept_replies(rt: HostRuntime) -> Result<(), Fail> {
+    let mut encoder = with_store(&rt, rt.alloc(), 1)?;
+    assert_eq!(rt; encoder.take_group(), None);
+    comes_to(
+        &rt,
+        &mut encoder,
+        0x01,
+        &[0x24, 0x00, 0x43, 0x12, 0x34, 0x56, 0x78],
+        0x00,
+    );
+    let frame = Frame {
+        address: own_address(&rt),
+        counter: 0x01,
+        message: Message::from_bytes(&[0x24, 0x00, 0x43, 0x12, 0x34, 0x56, 0x78]).expect(
+            &rt, "short",
+        ),
+    };
+    let mut bytes = FrameBytes::new();
+    encode(&frame, &mut bytes);
+    let counts = encoder.counts();
+    assert_eq!(rt;
+        encoder.take_group().map(|group| group.block4),
+        Some(0x5678)
+    );
+    assert_eq!(rt; encoder.counts(), counts);
+    replies(&rt, &mut encoder, bytes.as_slice(), &APPLIED_1, false);
+    assert_eq!(rt; encoder.take_group(), None);
     Ok(())
 }

@@ -8,8 +8,11 @@ use uecp_elements::Code;
 fn two_replies_kept_and_none_for_a_third_counter(rt: HostRuntime) -> Result<(), Fail> {
     let mut ring = ReplyRing::new(rt.alloc())?;
     assert!(rt; ring.is_empty());
+    assert_eq!(rt; ring.newest(), None);
     ring.keep(1, Code::Applied);
+    assert_eq!(rt; ring.newest(), Some(1));
     ring.keep(2, Code::BufferFull);
+    assert_eq!(rt; ring.newest(), Some(2));
     assert_eq!(rt; ring.find(1), Some(Code::Applied));
     assert_eq!(rt; ring.find(2), Some(Code::BufferFull));
     assert_eq!(rt; ring.find(3), None);
@@ -28,6 +31,7 @@ fn the_128th_reply_drops_the_first(rt: HostRuntime) -> Result<(), Fail> {
     assert_eq!(rt; ring.find(1), None);
     assert_eq!(rt; ring.find(2), Some(Code::DataSet));
     assert_eq!(rt; ring.find(128), Some(Code::DataSet));
+    assert_eq!(rt; ring.newest(), Some(128));
     assert_eq!(rt; ring.len(), 127);
     Ok(())
 }
@@ -63,6 +67,7 @@ fn a_thousand_replies_beside_a_plain_list_of_pairs(rt: HostRuntime) -> Result<()
         for asked in 0..=255 {
             assert_eq!(rt; ring.find(asked), find_in(&pairs, asked));
         }
+        assert_eq!(rt; ring.newest(), pairs.first().map(|pair| pair.0));
         assert_eq!(rt; ring.len(), pairs.len());
     }
     Ok(())

@@ -81,7 +81,7 @@ fn sends_first(rt: &impl Abort, server: &mut Server, end: &mut End) {
 
 /// Sends it again, and hears the reply to the first.
 fn sends_again(rt: &impl Abort, server: &mut Server, end: &mut End) {
-    assert!(rt; !server.is_idle());
+    assert_eq!(rt; server.waiting(), 1);
     let driven = resend(server, &mut end.input, &mut end.output, 1, 16);
     let applied = Driven {
         code: Code::Applied,

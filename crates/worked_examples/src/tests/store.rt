@@ -268,3 +268,29 @@ fn a_service_shows_what_its_elements_told(rt: HostRuntime) -> Result<(), Fail> {
     assert_eq!(rt; text.text(), b"HI".as_slice());
     Ok(())
 }
+
+#[test]
+fn groups_are_taken_one_by_one_and_a_refused_message_brings_none_back(
+    rt: HostRuntime,
+) -> Result<(), Fail> {
+    let mut store = RdsStore::new(rt.alloc(), 1, &[0x01])?;
+    assert_eq!(rt; store.take_group(), None);
+    for kind in 0..3u8 {
+        answers(
+            &rt,
+            &mut store,
+            &[(&[0x24, kind, 0x40, 0, 0, 0, 0], Code::Applied)],
+        );
+    }
+    assert_eq!(rt; store.take_group().map(|group| group.kind), Some(0));
+    // A group that stands alone, and then an unknown element: the message is undone, up to the take before it.
+    let refused: &[u8] = &[0x24, 0x05, 0x00, 0, 0, 0, 0, 0x99];
+    answers(&rt, &mut store, &[(refused, Code::UnknownElement)]);
+    assert_eq!(rt; store.groups().len(), 2);
+    assert_eq!(rt; store.take_group().map(|group| group.kind), Some(1));
+    assert_eq!(rt; store.take_group().map(|group| group.kind), Some(2));
+    assert_eq!(rt; store.take_group(), None);
+    answers(&rt, &mut store, &[(refused, Code::UnknownElement)]);
+    assert!(rt; store.groups().is_empty());
+    Ok(())
+}

@@ -1,6 +1,7 @@
-use Rattle.std.proofs.Common.{arith}
+use Rattle.std.proofs.Common.{◌≤◌, ℕ, List, length, ap, arith}
+use Rattle.uecp_link.specs.Server.{waiting}
 use Rattle.uecp_link.proofs.Tries.{tried_none, tried_on, write_failed_at, acknowledged_at, closed_at, spent_at}
-use Rattle.uecp_link.proofs.Answered.{still_waits, is_freed}
+use Rattle.uecp_link.proofs.Answered.{still_waits, is_freed, same_waiting}
 use Rattle.uecp_link.proofs.driving.resend.Goals as goal
 
 pub loop-before-init : goal.loop-before-init
@@ -28,7 +29,8 @@ pub returns-in-Acknowledged-clause-idle : goal.returns-in-Acknowledged-clause-id
 returns-in-Acknowledged-clause-idle g c =
     let (sent_is, wrote) = c.in-Ok.ensures.ok in
     let d = acknowledged_at g.R.Read.remaining g.W.Write.contents _ _ _ _ _ c.loop-before.writer c.args.turns _ _ c.loop-before.invariant c.listen.new.server c.listen.new.reader c.send_frame.new.writer c.args.tries c.in-Acknowledged.code (omega arith) wrote c.in-Ok.ensures.failures c.in-Acknowledged.ensures in
-    is_freed c.args.server.now c.listen.new.server d.read c.in-Acknowledged.code d.state d.ends.4.comes
+    let few : length (waiting c.args.server.now) ≤ 1 = omega (arith, c.requires) in
+    is_freed c.args.server.now c.listen.new.server d.read c.in-Acknowledged.code few d.state d.ends.4.comes
 
 pub returns-in-Ended-clause-drives : goal.returns-in-Ended-clause-drives
 returns-in-Ended-clause-drives g c =
@@ -46,3 +48,7 @@ returns-clause-drives g c = spent_at g.R.Read.remaining g.W.Write.contents _ _ _
 
 pub returns-clause-outstanding : goal.returns-clause-outstanding
 returns-clause-outstanding g c = still_waits c.args.server.now c.loop-before.server c.loop-before.invariant.read c.loop-before.invariant.state c.loop-before.invariant.silent
+
+pub listen-requires : goal.listen-requires
+listen-requires g c =
+    omega (arith, c.requires, ap (λ d. length (waiting d)) c.loop-before.invariant.state, ap (λ (ws : List (ℕ × List ℕ)). length ws) (same_waiting c.args.server.now c.loop-before.invariant.read c.loop-before.invariant.silent))

@@ -4,5 +4,5 @@ use Rattle.uecp_link.proofs.Lawful.{law}
 use Rattle.uecp_link.proofs.laws.numbers.Goals as goal
 
 pub returns : goal.returns
-returns c = λ address code events fit.
-    let l = law (all_kept code) address [] events fit in (l.0, l.1)
+returns c = λ address code taken events fit.
+    let l = law (all_kept code) taken address [] events fit in (l.0, l.1)

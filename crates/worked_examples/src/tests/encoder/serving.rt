@@ -1,16 +1,11 @@
 //! `serve` and its meters, over a reader and a writer that fail where they are told to.
-use super::{pi_of, texts_of, with_store};
+use super::{ADD_1, APPLIED_1, APPLIED_2, PI_2, pi_of, texts_of, with_store};
 use faulty_devices::{FaultyReader, FaultyWriter};
 use rds_store::RdsStore;
 use std::alloc::Global;
 use std::process::Abort;
 use std::test::Fail;
 use uecp_encoder::{Encoder, Failed, Meter, ServeFault, Served, serve};
-
-/// Adds the text "HI", counter 03.
-const ADD_3: [u8; 15] = *b"\xFE\x00\x41\x03\x07\x0A\x00\x00\x03\x40\x48\x49\xF4\x44\xFF";
-/// Code 00 to counter 03.
-const APPLIED_3: [u8; 11] = *b"\xFE\x00\x41\x00\x03\x18\x00\x03\x60\xFC\xFF";
 
 #[test]
 fn a_meter_counts_calls_and_failures(rt: HostRuntime) {
@@ -47,13 +42,13 @@ fn a_whole_write_says_where_it_stopped(rt: HostRuntime) {
 fn a_reply_that_was_cut_short_is_given_again(rt: HostRuntime) -> Result<(), Fail> {
     let mut encoder = with_store(&rt, rt.alloc(), 1)?;
     let mut narrow = Meter::new(FaultyWriter::new().taking(3).failing_at(&[2]));
-    let mut input = Meter::new(FaultyReader::new(&ADD_3));
+    let mut input = Meter::new(FaultyReader::new(&ADD_1));
     let served = serve(&mut encoder, &mut input, &mut narrow, 64);
     assert_eq!(rt; served, Err(ServeFault::WriteFailed { written: 3 }));
     assert_eq!(rt; texts_of(encoder.target(), 1), 1);
     encoder.line_lost();
     let mut whole = Meter::new(FaultyWriter::new());
-    let mut input = Meter::new(FaultyReader::new(&ADD_3).giving(4));
+    let mut input = Meter::new(FaultyReader::new(&ADD_1).giving(4));
     let served = serve(&mut encoder, &mut input, &mut whole, 64);
     assert_eq!(rt;
         served,
@@ -66,7 +61,7 @@ fn a_reply_that_was_cut_short_is_given_again(rt: HostRuntime) -> Result<(), Fail
         serve(&mut encoder, &mut input, &mut whole, 0),
         Err(ServeFault::TurnsSpent)
     );
-    assert_eq!(rt; whole.into_inner().taken(), APPLIED_3.as_slice());
+    assert_eq!(rt; whole.into_inner().taken(), APPLIED_1.as_slice());
     assert_eq!(rt; texts_of(encoder.target(), 1), 1);
     Ok(())
 }
@@ -75,12 +70,34 @@ fn a_reply_that_was_cut_short_is_given_again(rt: HostRuntime) -> Result<(), Fail
 fn a_failed_read_ends_the_call_and_loses_nothing(rt: HostRuntime) -> Result<(), Fail> {
     let mut encoder = with_store(&rt, rt.alloc(), 1)?;
     let mut output = Meter::new(FaultyWriter::new());
-    let mut input = Meter::new(FaultyReader::new(&ADD_3).failing_at(&[1]));
+    let mut input = Meter::new(FaultyReader::new(&ADD_1).failing_at(&[1]));
     let served = serve(&mut encoder, &mut input, &mut output, 1);
     assert_eq!(rt; served, Err(ServeFault::ReadFailed));
     let served = serve(&mut encoder, &mut input, &mut output, 1);
     assert_eq!(rt; served, Err(ServeFault::TurnsSpent));
-    assert_eq!(rt; output.into_inner().taken(), APPLIED_3.as_slice());
+    assert_eq!(rt; output.into_inner().taken(), APPLIED_1.as_slice());
+    Ok(())
+}
+
+#[test]
+fn a_frame_out_of_its_turn_gets_no_reply(rt: HostRuntime) -> Result<(), Fail> {
+    let mut encoder = with_store(&rt, rt.alloc(), 1)?;
+    let rows: [(&[u8], &[u8]); 3] = [(&PI_2, b""), (&ADD_1, &APPLIED_1), (&PI_2, &APPLIED_2)];
+    for (frame, reply) in rows {
+        let mut input = Meter::new(FaultyReader::new(frame));
+        let mut output = Meter::new(FaultyWriter::new());
+        let served = serve(&mut encoder, &mut input, &mut output, 64);
+        let all = Served {
+            read: 15,
+            replies: if reply.is_empty() { 0 } else { 1 },
+        };
+        assert_eq!(rt; served, Ok(all));
+        assert_eq!(rt; output.into_inner().taken(), reply);
+    }
+    assert_eq!(rt;
+        (texts_of(encoder.target(), 1), pi_of(encoder.target(), 1)),
+        (1, Some(0xfeff))
+    );
     Ok(())
 }
 

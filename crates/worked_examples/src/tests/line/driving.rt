@@ -60,7 +60,7 @@ fn outstanding_after_the_end_of_input(rt: HostRuntime) {
         4,
     );
     assert_eq!(rt; driven, Err(DriveFault::Closed));
-    assert!(rt; !server.is_idle());
+    assert_eq!(rt; server.waiting(), 1);
     server.line_lost();
     let mut reader = Meter::new(FaultyReader::new(&APPLIED_1));
     let driven = resend(&mut server, &mut reader, &mut writer, 2, 4);
@@ -75,7 +75,7 @@ fn no_try_writes_nothing(rt: HostRuntime) {
     let mut writer = Meter::new(FaultyWriter::new());
     let driven = drive(&mut server, &mut reader, &mut writer, &Message::new(), 0, 4);
     assert_eq!(rt; driven, Err(DriveFault::TriesSpent));
-    assert!(rt; !server.is_idle());
+    assert_eq!(rt; server.waiting(), 1);
     assert_eq!(rt; writer.calls(), 0);
     assert_eq!(rt; reader.calls(), 0);
 }
@@ -87,7 +87,7 @@ fn a_failed_write_says_how_much_was_written(rt: HostRuntime) {
     let mut writer = Meter::new(FaultyWriter::new().taking(5).taking_none_at(&[4]));
     let driven = drive(&mut server, &mut reader, &mut writer, &Message::new(), 3, 4);
     assert_eq!(rt; driven, Err(DriveFault::WriteFailed { written: 13 }));
-    assert!(rt; !server.is_idle());
+    assert_eq!(rt; server.waiting(), 1);
     let driven = resend(&mut server, &mut reader, &mut writer, 1, 1);
     assert_eq!(rt; driven, applied(1));
 }

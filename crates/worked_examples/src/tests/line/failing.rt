@@ -17,7 +17,7 @@ fn drives(rt: &impl Abort, failing: &[u32], fault: DriveFault) {
     let mut narrow = Meter::new(FaultyWriter::new().taking(1).failing_at(failing));
     let driven = drive(&mut server, &mut silent, &mut narrow, &Message::new(), 2, 4);
     assert_eq!(rt; driven, Err(fault));
-    assert!(rt; !server.is_idle());
+    assert_eq!(rt; server.waiting(), 1);
     let mut reader = Meter::new(FaultyReader::new(&APPLIED_1));
     let mut writer = Meter::new(FaultyWriter::new());
     let once = Driven {

@@ -55,6 +55,10 @@ fn bytes_without_a_frame_leave_the_message_outstanding(rt: HostRuntime) -> Resul
         }
     }
     let heard = server.hear(&APPLIED_1).what;
-    assert_eq!(rt; heard, HeardWhat::Acknowledged(Code::Applied));
+    let acknowledged = HeardWhat::Acknowledged {
+        counter: 0x01,
+        code: Code::Applied,
+    };
+    assert_eq!(rt; heard, acknowledged);
     Ok(())
 }

@@ -60,7 +60,9 @@ fn a_submission_is_refused_where_memory_is_wanting_and_taken_later(
     let submit = LineEvent::Submit(&add);
     let mut line = with_target(&rt, rt.alloc(), TARGET)?;
     let mut waiting = with_target(&rt, rt.alloc(), TARGET)?;
-    assert_eq!(rt; waiting.step(&submit), Ok(Stepped::Numbered(0)));
+    for number in 0..8 {
+        assert_eq!(rt; waiting.step(&submit), Ok(Stepped::Numbered(number)));
+    }
     let mut memory = ScarceMemory::take_all(rt.alloc(), 1 << 16)?;
     for refused in 0..1 << 11 {
         assert_eq!(rt; waiting.step(&submit), Err(LineRefusal::Busy));

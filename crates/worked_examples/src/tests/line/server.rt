@@ -15,6 +15,14 @@ fn hears(rt: &impl Abort, server: &mut Server, bytes: &[u8], what: HeardWhat) {
     assert_eq!(rt; (heard.used, heard.what), (bytes.len(), what));
 }
 
+/// Acknowledged with code 00 to this counter.
+fn acknowledged(counter: u8) -> HeardWhat {
+    HeardWhat::Acknowledged {
+        counter,
+        code: Code::Applied,
+    }
+}
+
 #[test]
 fn after_counter_ff_comes_01(rt: HostRuntime) {
     let empty_254 = b"\xFE\x00\x41\xFD\x02\x00\x52\x5D\xFF";
@@ -32,7 +40,7 @@ fn after_counter_ff_comes_01(rt: HostRuntime) {
             _ => assert!(rt; server.outgoing().is_some()),
         }
         let reply = reply_made(&rt, 0x00, counter);
-        let what = HeardWhat::Acknowledged(Code::Applied);
+        let what = acknowledged(counter);
         hears(&rt, &mut server, reply.as_slice(), what);
         assert!(rt; server.outgoing().is_none());
     }
@@ -40,12 +48,11 @@ fn after_counter_ff_comes_01(rt: HostRuntime) {
 
 #[test]
 fn the_encoders_reply_to_the_outstanding_counter_alone_acknowledges(rt: HostRuntime) {
-    let acknowledged = HeardWhat::Acknowledged(Code::Applied);
     let mut server = Server::new(own_address(&rt));
     let empty = Message::new();
     assert!(rt; server.is_idle());
     server.submit(&empty);
-    hears(&rt, &mut server, &APPLIED_1, acknowledged);
+    hears(&rt, &mut server, &APPLIED_1, acknowledged(0x01));
     assert!(rt; server.is_idle());
     server.submit(&empty);
     hears(&rt, &mut server, &APPLIED_1, HeardWhat::Stray);
@@ -60,7 +67,7 @@ fn the_encoders_reply_to_the_outstanding_counter_alone_acknowledges(rt: HostRunt
     server.line_lost();
     hears(&rt, &mut server, ended, HeardWhat::Nothing);
     hears(&rt, &mut server, begun, HeardWhat::Nothing);
-    hears(&rt, &mut server, ended, acknowledged);
+    hears(&rt, &mut server, ended, acknowledged(0x02));
     hears(&rt, &mut server, &APPLIED_2, HeardWhat::Stray);
     let short = HeardWhat::Dropped(FrameFault::TooShort);
     hears(&rt, &mut server, b"\xFE\xFF", short);

@@ -27,6 +27,7 @@ fn a_ring_takes_no_memory_for_replies(rt: HostRuntime) -> Result<(), Fail> {
             ring.keep(counter, Code::BufferFull);
         }
         assert_eq!(rt; ring.find(counter), Some(Code::BufferFull));
+        assert!(rt; ring.newest().is_some());
     }
     assert_eq!(rt; ring.len(), 127);
     Ok(())

@@ -8,7 +8,7 @@ use Rattle.uecp_encoder.specs.Answering.{Response, Replied, reply_of, responses_
 use Rattle.uecp_encoder.specs.Holdings.{with_part, said_of}
 use Rattle.uecp_encoder.proofs.Feeding.{fed_is, answers_piece}
 use Rattle.uecp_encoder.proofs.encoder.Encoder.feed.Goals as goal
-use Rattle.uecp_encoder.proofs.encoder.Encoder.feed.Goals.{in-Nothing, in-Dropped, in-NotForMe, in-Unnumbered, in-Reply}
+use Rattle.uecp_encoder.proofs.encoder.Encoder.feed.Goals.{in-Nothing, in-Dropped, in-NotForMe, in-Unnumbered, in-NotNext, in-Reply}
 
 pub returns : goal.returns
 returns g c =
@@ -25,6 +25,7 @@ returns g c =
       | in-Dropped w ↦ ap responses_of w.what-is ∙ sym (ap (said_of address) w.in-Dropped.is)
       | in-NotForMe w ↦ ap responses_of w.what-is ∙ sym (ap (said_of address) w.in-NotForMe.is)
       | in-Unnumbered w ↦ ap responses_of w.what-is ∙ sym (ap (said_of address) w.in-Unnumbered.is)
+      | in-NotNext w ↦ ap responses_of w.what-is ∙ sym (ap (said_of address) w.in-NotNext.is)
       | in-Reply w ↦
           ap responses_of w.what-is
           ∙ ap (λ (bytes : List ℕ). let r : List Response = Replied bytes w.in-Reply.fresh ∷ [] in r)
@@ -37,6 +38,7 @@ returns g c =
       | in-Dropped w ↦ ap (λ p. p.0) w.self-is
       | in-NotForMe w ↦ ap (λ p. p.0) w.self-is
       | in-Unnumbered w ↦ ap (λ p. p.0) w.self-is
+      | in-NotNext w ↦ ap (λ p. p.0) w.self-is
       | in-Reply w ↦ ap (λ p. p.0) w.self-is
     ] ∙ ap (with_part c.take.new.self) rests in
     let state : c.match-take.self.0 ≡ fed step c.args.self.now (take c.feed_ref.result.used c.args.piece.now) =

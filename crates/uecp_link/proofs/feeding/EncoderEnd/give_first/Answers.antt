@@ -23,7 +23,8 @@ returns-in-Nothing g c =
       | inl is ↦ ap quiet is
       | inr (inl is) ↦ ap quiet is
       | inr (inr (inl is)) ↦ ap quiet is
-      | inr (inr (inr (fault, is))) ↦ ap quiet is
+      | inr (inr (inr (inl is))) ↦ ap quiet is
+      | inr (inr (inr (inr (fault, is)))) ↦ ap quiet is
     ] in
     record {
       fits = c.feed-answer.ensures.fits;

@@ -13,7 +13,7 @@ use Rattle.uecp_link.proofs.line.Line.run.Goals.{in-Ok, in-Err}
 pub loop-event-init : goal.loop-event-init
 loop-event-init g c = record {
   few = omega arith;
-  plays = λ o h. runs-none g.T.Target.step c.args.self.now o h;
+  plays = λ o h. runs-none g.T.Target.step g.T.Target.taken c.args.self.now o h;
   fits = tt;
   address = refl;
 }
@@ -34,9 +34,9 @@ loop-event-preserved g c =
         plays = λ o h.
             let r = c.loop-event.invariant.plays o h in
             let s = w.in-Ok.ensures.steps r.last r.holds in
-            subst (λ (xs : List Event). RunsAs g.T.Target.step c.args.self.now o xs c.match-step.refused c.step.new.self) (sym more)
-            (subst (λ (n : ℕ). RunsAs g.T.Target.step c.args.self.now o (before ++ event ∷ []) n c.step.new.self) (sym w.refused-is)
-            (runs-taken g.T.Target.step c.args.self.now o before c.loop-event.refused c.loop-event.self r event w.in-Ok.field-0 c.step.new.self c.step.ensures.fits s));
+            subst (λ (xs : List Event). RunsAs g.T.Target.step g.T.Target.taken c.args.self.now o xs c.match-step.refused c.step.new.self) (sym more)
+            (subst (λ (n : ℕ). RunsAs g.T.Target.step g.T.Target.taken c.args.self.now o (before ++ event ∷ []) n c.step.new.self) (sym w.refused-is)
+            (runs-taken g.T.Target.step g.T.Target.taken c.args.self.now o before c.loop-event.refused c.loop-event.self r event w.in-Ok.field-0 c.step.new.self c.step.ensures.fits s));
         fits = fits;
         address = c.step.ensures.address ∙ c.loop-event.invariant.address;
       }
@@ -44,9 +44,9 @@ loop-event-preserved g c =
         few = omega (arith, w.refused-is, c.loop-event.invariant.few);
         plays = λ o h.
             let r = c.loop-event.invariant.plays o h in
-            subst (λ (xs : List Event). RunsAs g.T.Target.step c.args.self.now o xs c.match-step.refused c.step.new.self) (sym more)
-            (subst (λ (n : ℕ). RunsAs g.T.Target.step c.args.self.now o (before ++ event ∷ []) n c.step.new.self) (sym w.refused-is)
-            (runs-refused g.T.Target.step c.args.self.now o before c.loop-event.refused c.loop-event.self r event w.in-Err.field-0 c.step.new.self
+            subst (λ (xs : List Event). RunsAs g.T.Target.step g.T.Target.taken c.args.self.now o xs c.match-step.refused c.step.new.self) (sym more)
+            (subst (λ (n : ℕ). RunsAs g.T.Target.step g.T.Target.taken c.args.self.now o (before ++ event ∷ []) n c.step.new.self) (sym w.refused-is)
+            (runs-refused g.T.Target.step g.T.Target.taken c.args.self.now o before c.loop-event.refused c.loop-event.self r event w.in-Err.field-0 c.step.new.self
             (w.in-Err.ensures.refused r.last r.holds) w.in-Err.ensures.unchanged));
         fits = fits;
         address = c.step.ensures.address ∙ c.loop-event.invariant.address;
@@ -56,7 +56,7 @@ loop-event-preserved g c =
 pub returns-clause-plays : goal.returns-clause-plays
 returns-clause-plays g c = λ o h.
     let all : take c.loop-event.event-index c.args.events.now ≡ c.args.events.now = take_all c.loop-event.event-index c.args.events.now c.loop-event-test.false in
-    subst (λ (xs : List LineEvent). RunsAs g.T.Target.step c.args.self.now o (map event_of xs) c.loop-event.refused c.loop-event.self) all (c.loop-event.invariant.plays o h)
+    subst (λ (xs : List LineEvent). RunsAs g.T.Target.step g.T.Target.taken c.args.self.now o (map event_of xs) c.loop-event.refused c.loop-event.self) all (c.loop-event.invariant.plays o h)
 
 pub returns-clause-fits : goal.returns-clause-fits
 returns-clause-fits g c =

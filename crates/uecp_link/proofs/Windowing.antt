@@ -1,0 +1,290 @@
+-- A try for all messages that wait: what is written, what is read, and the marks that this brings.
+use Rattle.std.proofs.Common.{◌≡◌, ◌≢◌, ℕ, ◌+◌, ◌-◌, ◌<◌, ◌≤◌, List, [], ◌∷◌, ◌++◌, length, take, drop, get_or, Option, Some, None, Result, Ok, Err, refl, ◌∙◌, ap, sym, arith, inl, inr, length-append, append_assoc, append-nil, take-append-drop}
+use Rattle.std.specs.Prelude.{filter_map, slice_get}
+use Rattle.std.specs.List.{concat}
+use Rattle.std.proofs.Math.Seq.{take-append-add}
+use Rattle.std.proofs.lemmas.List.{take-append-le, take_more, drop_more}
+use Rattle.std.proofs.lemmas.List.Folds.{concat-append}
+use Rattle.std.proofs.lemmas.Option.{slice_get_within, get_or_from_slice_get}
+use Rattle.std.specs.Io.KnownBytes.{Appends, Consumes, Keeps, IsAtEnd}
+use Rattle.std.proofs.KnownBytes.{Consumes-nil, Consumes-kept, Consumes-trans}
+use Rattle.uecp_elements.specs.declared.code.Code.{Code}
+use Rattle.uecp_frame.specs.Findings.{Finding, OpenPart}
+use Rattle.uecp_frame.specs.Beyond.{found_beyond, open_beyond}
+use Rattle.uecp_frame.proofs.Pieces.{new_start_lem}
+use Rattle.uecp_encoder.specs.Metered.{Metered, counted}
+use Rattle.uecp_link.specs.declared.driving.DriveFault.{DriveFault}
+use Rattle.uecp_link.specs.declared.driving.DriveFault.TheVariants.{WriteFailed, Closed, TriesSpent}
+use Rattle.uecp_link.specs.declared.heard.HeardWhat.{HeardWhat}
+use Rattle.uecp_link.specs.declared.heard.HeardWhat.TheVariants as what
+use Rattle.uecp_link.specs.declared.window.Windowed.{Windowed}
+use Rattle.uecp_link.specs.declared.window.Windowed.TheVariants.{Idle, Spent}
+use Rattle.uecp_link.specs.Server.{ServerState, waiting, freed, acknowledges, heard_finding, heard_findings, heard, all_heard_as, told, whats_of}
+use Rattle.uecp_link.specs.Window.{mark_in, marks_in, window_sent, window_failures, ReadsEnd, WindowEnds, Windows, Gathers, Gathered}
+use Rattle.uecp_link.proofs.Waiting.{acknowledged_waits, marking_lowers}
+use Rattle.uecp_link.proofs.Answered.{idle_hears}
+use Rattle.uecp_link.proofs.FeedingLemmas.{heard_none, said-append, heard_open, server_in_pieces}
+
+-- ---- frames, one after another
+
+module _ (fs : List (List ℕ)) (place : ℕ) (f : List ℕ) (here : slice_get fs place ≡ Some f) where
+  below : place < length fs
+  below = slice_get_within fs place f here
+
+  at : get_or fs place [] ≡ f
+  at = get_or_from_slice_get fs place f [] here
+
+  -- one frame more
+  pub frames_more : concat (take (place + 1) fs) ≡ concat (take place fs) ++ f
+  frames_more =
+      ap concat (take_more fs place [] below) ∙ concat-append (take place fs) (get_or fs place [] ∷ [])
+      ∙ ap (λ l. concat (take place fs) ++ l) (append-nil (get_or fs place []) ∙ at)
+
+  -- the frames before it, it, and those after it
+  frames_split : concat fs ≡ concat (take place fs) ++ (f ++ concat (drop (place + 1) fs))
+  frames_split =
+      ap concat (sym (take-append-drop place fs) ∙ ap (λ l. take place fs ++ l) (drop_more fs place [] below))
+      ∙ concat-append (take place fs) (get_or fs place [] ∷ drop (place + 1) fs)
+      ∙ ap (λ l. concat (take place fs) ++ (l ++ concat (drop (place + 1) fs))) at
+
+  -- so many whole frames and a part of one are the front of all
+  pub part_sent : (part : ℕ) → part ≤ length f → take (length (concat (take place fs)) + part) (concat fs) ≡ concat (take place fs) ++ take part f
+  part_sent part within =
+      ap (take (length (concat (take place fs)) + part)) frames_split
+      ∙ take-append-add (concat (take place fs)) (f ++ concat (drop (place + 1) fs)) part
+      ∙ ap (λ l. concat (take place fs) ++ l) (take-append-le part f (concat (drop (place + 1) fs)) within)
+
+  pub part_below : (part : ℕ) → part < length f → length (concat (take place fs)) + part < length (concat fs)
+  part_below part within =
+      omega (arith, within, ap length frames_split, length-append (concat (take place fs)) (f ++ concat (drop (place + 1) fs)), length-append f (concat (drop (place + 1) fs)))
+
+-- ---- marks
+
+pub marks_none : (s : ServerState) → marks_in s [] ≡ []
+marks_none s = ap (λ fs. filter_map mark_in (all_heard_as s fs)) (new_start_lem s.part []).nothing
+
+pub marks-append : (s : ServerState) (x y : List ℕ) → marks_in s (x ++ y) ≡ marks_in s x ++ marks_in (heard s x) y
+marks-append s x y = said-append mark_in s x y
+
+-- each mark is one message fewer that waits
+marks_fit_findings : (s : ServerState) (fs : List Finding) → length (filter_map mark_in (all_heard_as s fs)) + length (waiting (heard_findings s fs)) ≤ length (waiting s)
+marks_fit_findings s [] = omega arith
+marks_fit_findings s (Err fault ∷ fs) = marks_fit_findings (heard_finding s (Err fault)) fs
+marks_fit_findings s (Ok f ∷ fs) = go (acknowledges s f) refl (λ k. marks_fit_findings (freed s k) fs)
+  where
+    go : (k : Option (ℕ × Code)) → acknowledges s f ≡ k → ((k : Option (ℕ × Code)) → length (filter_map mark_in (all_heard_as (freed s k) fs)) + length (waiting (heard_findings (freed s k) fs)) ≤ length (waiting (freed s k)))
+        → length (filter_map mark_in (told k ∷ all_heard_as (freed s k) fs)) + length (waiting (heard_findings (freed s k) fs)) ≤ length (waiting s)
+    go None is later = later None
+    go (Some reply) is later =
+        let rest = later (Some reply) in
+        let lower = marking_lowers s reply (acknowledged_waits s f reply is) in
+        omega arith
+
+marks_fit_opened : (s : ServerState) (fs : List Finding) (o : OpenPart) → length (filter_map mark_in (all_heard_as s fs)) + length (waiting (heard_findings (record s { part = o }) fs)) ≤ length (waiting s)
+marks_fit_opened s fs o =
+    let same = ap (λ (t : ServerState). length (waiting t)) (heard_open s o fs) in
+    omega (arith, marks_fit_findings s fs, same)
+
+pub marks_fit : (s : ServerState) (bytes : List ℕ) → length (marks_in s bytes) + length (waiting (heard s bytes)) ≤ length (waiting s)
+marks_fit s bytes = marks_fit_opened s (found_beyond s.part bytes) (open_beyond s.part bytes)
+
+-- the mark in what one call of `hear` says
+pub said_mark : (s : ServerState) (x : List ℕ) (w : HeardWhat) (counter : ℕ) (code : Code) → all_heard_as s (found_beyond s.part x) ≡ whats_of w → w ≡ what.Acknowledged counter code → marks_in s x ≡ (counter, code) ∷ []
+said_mark s x w counter code said is = ap (filter_map mark_in) (said ∙ ap whats_of is)
+
+pub said_no_mark : (s : ServerState) (x : List ℕ) (w : HeardWhat) → all_heard_as s (found_beyond s.part x) ≡ whats_of w → ((counter : ℕ) (code : Code) → w ≡ what.Acknowledged counter code → ⊥) → marks_in s x ≡ []
+said_no_mark s x w said other = ap (filter_map mark_in) said ∙ go w other
+  where
+    go : (w : HeardWhat) → ((counter : ℕ) (code : Code) → w ≡ what.Acknowledged counter code → ⊥) → filter_map mark_in (whats_of w) ≡ []
+    go what.Nothing other = refl
+    go (what.Acknowledged counter code) other = absurd (other counter code refl)
+    go what.Stray other = refl
+    go (what.Dropped fault) other = refl
+
+-- one call of `hear` more
+pub record HearsOn (s s' : ServerState) (rest rest' : List ℕ) (m m' : List (ℕ × Code)) : Type 0 where
+  pub state : heard s' rest' ≡ heard s rest
+  pub marks : m' ++ marks_in s' rest' ≡ m ++ marks_in s rest
+  pub room : length m + length (waiting s) ≤ 8 → length m' + length (waiting s') ≤ 8
+
+pub hears_on : (s s' : ServerState) (n : ℕ) (rest rest' : List ℕ) (m m' : List (ℕ × Code)) → s' ≡ heard s (take n rest) → rest' ≡ drop n rest → m' ≡ m ++ marks_in s (take n rest) → HearsOn s s' rest rest' m m'
+hears_on s s' n rest rest' m m' state left marked =
+    let x : List ℕ = take n rest in
+    let y : List ℕ = drop n rest in
+    let whole : x ++ y ≡ rest = take-append-drop n rest in
+    let fit = marks_fit s x in
+    record {
+      state = ap (λ (t : ServerState). heard t rest') state ∙ ap (heard (heard s x)) left ∙ sym (server_in_pieces s x y).state ∙ ap (heard s) whole;
+      marks =
+          ap (λ ms. ms ++ marks_in s' rest') marked ∙ ap (λ (t : ServerState). (m ++ marks_in s x) ++ marks_in t rest') state
+          ∙ ap (λ (bs : List ℕ). (m ++ marks_in s x) ++ marks_in (heard s x) bs) left ∙ append_assoc m (marks_in s x) (marks_in (heard s x) y)
+          ∙ ap (λ ms. m ++ ms) (sym (marks-append s x y) ∙ ap (marks_in s) whole);
+      room = λ room. omega (arith, room, fit, ap length marked, length-append m (marks_in s x), ap (λ (t : ServerState). length (waiting t)) state);
+    }
+
+-- ---- reads
+
+pub gathered_none : {R : Type 0} (remaining : R → Option (List ℕ)) (s : ServerState) (reader : Metered R) (marks : List (ℕ × Code)) → s.held ≢ [] → length marks + length (waiting s) ≤ 8 → Gathered remaining s s reader reader marks marks 0
+gathered_none remaining s reader marks busy room = record {
+  read = [];
+  consumed = Consumes-nil _;
+  state = sym (heard_none s);
+  marked = sym (ap (λ ms. marks ++ ms) (marks_none s) ∙ append-nil marks);
+  busy = busy;
+  room = room;
+  few_bytes = omega arith;
+  calls = λ h. omega arith;
+  read_failures = refl;
+}
+
+module _ {R : Type 0} (remaining : R → Option (List ℕ)) (s0 s1 : ServerState) (r0 r1 : Metered R) (m0 m1 : List (ℕ × Code)) (reads : ℕ) (so_far : Gathered remaining s0 s1 r0 r1 m0 m1 reads) where
+  more_marks : (piece : List ℕ) (m2 : List (ℕ × Code)) → m2 ≡ m1 ++ marks_in s1 piece → m2 ≡ m0 ++ marks_in s0 (so_far.read ++ piece)
+  more_marks piece m2 marked =
+      marked ∙ ap (λ ms. ms ++ marks_in s1 piece) so_far.marked ∙ ap (λ (d : ServerState). (m0 ++ marks_in s0 so_far.read) ++ marks_in d piece) so_far.state
+      ∙ append_assoc m0 (marks_in s0 so_far.read) (marks_in (heard s0 so_far.read) piece) ∙ ap (λ ms. m0 ++ ms) (sym (marks-append s0 so_far.read piece))
+
+  more_state : (piece : List ℕ) (s2 : ServerState) → s2 ≡ heard s1 piece → s2 ≡ heard s0 (so_far.read ++ piece)
+  more_state piece s2 state = state ∙ ap (λ d. heard d piece) so_far.state ∙ sym (server_in_pieces s0 so_far.read piece).state
+
+  -- one read more, after which messages wait
+  pub gathered_on : (s2 : ServerState) (r2 : Metered R) (m2 : List (ℕ × Code)) (piece : List ℕ) → Consumes (remaining r1.device) (remaining r2.device) piece → length piece ≤ 64 → s2 ≡ heard s1 piece → m2 ≡ m1 ++ marks_in s1 piece →
+      s2.held ≢ [] → length m2 + length (waiting s2) ≤ 8 → r2.calls ≡ counted r1.calls → r2.failures ≡ r1.failures → Gathered remaining s0 s2 r0 r2 m0 m2 (reads + 1)
+  gathered_on s2 r2 m2 piece took few state marked busy room calls failures = record {
+    read = so_far.read ++ piece;
+    consumed = Consumes-trans _ _ _ _ _ so_far.consumed took;
+    state = more_state piece s2 state;
+    marked = more_marks piece m2 marked;
+    busy = busy;
+    room = room;
+    few_bytes = omega (arith, length-append so_far.read piece, few, so_far.few_bytes);
+    calls = λ h. omega (arith, calls, so_far.calls (omega (arith, h)), h);
+    read_failures = failures ∙ so_far.read_failures;
+  }
+
+  -- one read more, after which none waits
+  pub gathers_idle : (s2 : ServerState) (r2 : Metered R) (m2 : List (ℕ × Code)) (piece : List ℕ) (turns : ℕ) → Consumes (remaining r1.device) (remaining r2.device) piece → length piece ≤ 64 → s2 ≡ heard s1 piece → m2 ≡ m1 ++ marks_in s1 piece →
+      s2.held ≡ [] → r2.calls ≡ counted r1.calls → r2.failures ≡ r1.failures → reads < turns → Gathers remaining s0 s2 r0 r2 m0 m2 turns (Ok Idle)
+  gathers_idle s2 r2 m2 piece turns took few state marked idle calls failures below = record {
+    read = so_far.read ++ piece;
+    reads = reads + 1;
+    failed = 0;
+    consumed = Consumes-trans _ _ _ _ _ so_far.consumed took;
+    state = more_state piece s2 state;
+    marked = more_marks piece m2 marked;
+    ends = (idle, late, refl, omega arith);
+    few_reads = omega (arith, below);
+    few_bytes = omega (arith, length-append so_far.read piece, few, so_far.few_bytes);
+    calls = λ h. omega (arith, calls, so_far.calls (omega (arith, h)), h);
+    read_failures = λ h. omega (arith, failures, so_far.read_failures, h);
+  }
+    where
+      late : (heard s0 (take (length (so_far.read ++ piece) - 64) (so_far.read ++ piece))).held ≡ [] → ⊥
+      late before =
+          let within : length (so_far.read ++ piece) - 64 ≤ length so_far.read = omega (arith, length-append so_far.read piece, few) in
+          let front = take-append-le (length (so_far.read ++ piece) - 64) so_far.read piece within in
+          let x : List ℕ = take (length (so_far.read ++ piece) - 64) so_far.read in
+          let y : List ℕ = drop (length (so_far.read ++ piece) - 64) so_far.read in
+          let early : (heard s0 x).held ≡ [] = ap (λ (bs : List ℕ). (heard s0 bs).held) (sym front) ∙ before in
+          let later : (heard s0 (x ++ y)).held ≡ [] = ap (λ (t : ServerState). t.held) (server_in_pieces s0 x y).state ∙ idle_hears (heard s0 x) y early in
+          so_far.busy (ap (λ (t : ServerState). t.held) so_far.state ∙ ap (λ (bs : List ℕ). (heard s0 bs).held) (sym (take-append-drop (length (so_far.read ++ piece) - 64) so_far.read)) ∙ later)
+
+  -- all turns were made
+  pub gathers_all : (turns : ℕ) → reads ≡ turns → Gathers remaining s0 s1 r0 r1 m0 m1 turns (Ok Spent)
+  gathers_all turns all = record {
+    read = so_far.read;
+    reads = reads;
+    failed = 0;
+    consumed = so_far.consumed;
+    state = so_far.state;
+    marked = so_far.marked;
+    ends = (so_far.busy, inr (refl, all));
+    few_reads = omega (arith, all);
+    few_bytes = so_far.few_bytes;
+    calls = so_far.calls;
+    read_failures = λ h. omega (arith, so_far.read_failures);
+  }
+
+  -- a read failed
+  pub gathers_failed : (r2 : Metered R) (turns : ℕ) → Keeps (remaining r1.device) (remaining r2.device) → r2.calls ≡ counted r1.calls → r2.failures ≡ counted r1.failures → reads < turns → Gathers remaining s0 s1 r0 r2 m0 m1 turns (Ok Spent)
+  gathers_failed r2 turns kept calls failures below = record {
+    read = so_far.read;
+    reads = reads + 1;
+    failed = 1;
+    consumed = Consumes-kept _ _ _ _ so_far.consumed kept;
+    state = so_far.state;
+    marked = so_far.marked;
+    ends = (so_far.busy, inl (refl, omega arith));
+    few_reads = omega (arith, below);
+    few_bytes = omega (arith, so_far.few_bytes);
+    calls = λ h. omega (arith, calls, so_far.calls (omega (arith, h)), h);
+    read_failures = λ h. omega (arith, failures, so_far.read_failures, h);
+  }
+
+  -- the input ended
+  pub gathers_closed : (r2 : Metered R) (turns : ℕ) → Consumes (remaining r1.device) (remaining r2.device) [] → IsAtEnd (remaining r2.device) → r2.calls ≡ counted r1.calls → r2.failures ≡ r1.failures → reads < turns →
+      Gathers remaining s0 s1 r0 r2 m0 m1 turns (Err Closed)
+  gathers_closed r2 turns took end calls failures below = record {
+    read = so_far.read ++ [];
+    reads = reads + 1;
+    failed = 0;
+    consumed = Consumes-trans _ _ _ _ _ so_far.consumed took;
+    state = so_far.state ∙ ap (heard s0) (sym (append-nil so_far.read));
+    marked = so_far.marked ∙ ap (λ (bs : List ℕ). m0 ++ marks_in s0 bs) (sym (append-nil so_far.read));
+    ends = (so_far.busy, refl, omega arith, end);
+    few_reads = omega (arith, below);
+    few_bytes = omega (arith, so_far.few_bytes, ap length (append-nil so_far.read));
+    calls = λ h. omega (arith, calls, so_far.calls (omega (arith, h)), h);
+    read_failures = λ h. omega (arith, failures, so_far.read_failures);
+  }
+
+-- ---- a whole try
+
+pub windows_failed : {R W : Type 0} (remaining : R → Option (List ℕ)) (contents : W → Option (List ℕ)) (s : ServerState) (r : Metered R) (w0 w1 : Metered W) (marks : List (ℕ × Code)) (turns written : ℕ) → written < length (window_sent s) →
+    Appends (contents w0.device) (contents w1.device) (take written (window_sent s)) → w1.failures ≡ counted w0.failures → Windows remaining contents s s r r w0 w1 marks marks turns (Err (WriteFailed written))
+windows_failed remaining contents s r w0 w1 marks turns written below wrote failures = record {
+  read = [];
+  sent = take written (window_sent s);
+  reads = 0;
+  failed = 0;
+  consumed = Consumes-nil _;
+  appended = wrote;
+  state = sym (heard_none s);
+  marked = sym (ap (λ ms. marks ++ ms) (marks_none s) ∙ append-nil marks);
+  ends = (refl, below, refl, refl, refl);
+  few_reads = omega arith;
+  few_bytes = omega arith;
+  calls = λ h. omega arith;
+  read_failures = λ h. omega arith;
+  write_failures = failures;
+}
+
+pub windows_read : {R W : Type 0} (remaining : R → Option (List ℕ)) (contents : W → Option (List ℕ)) (s0 s1 : ServerState) (r0 r1 : Metered R) (w0 w1 : Metered W) (m0 m1 : List (ℕ × Code)) (turns : ℕ) (result : Result Windowed DriveFault) →
+    Appends (contents w0.device) (contents w1.device) (window_sent s0) → w1.failures ≡ w0.failures → Gathers remaining s0 s1 r0 r1 m0 m1 turns result → Windows remaining contents s0 s1 r0 r1 w0 w1 m0 m1 turns result
+windows_read remaining contents s0 s1 r0 r1 w0 w1 m0 m1 turns result wrote failures reads = record {
+  read = reads.read;
+  sent = window_sent s0;
+  reads = reads.reads;
+  failed = reads.failed;
+  consumed = reads.consumed;
+  appended = wrote;
+  state = reads.state;
+  marked = reads.marked;
+  ends = go result reads.ends;
+  few_reads = reads.few_reads;
+  few_bytes = reads.few_bytes;
+  calls = reads.calls;
+  read_failures = reads.read_failures;
+  write_failures = kept result reads.ends;
+}
+  where
+    go : (result : Result Windowed DriveFault) → ReadsEnd s0 s1 reads.read (remaining r1.device) turns reads.reads reads.failed result → WindowEnds s0 s1 reads.read (window_sent s0) (remaining r1.device) turns reads.reads reads.failed result
+    go (Ok windowed) ends = (refl, ends)
+    go (Err Closed) ends = (refl, ends)
+    go (Err (WriteFailed w)) ends = absurd ends
+    go (Err TriesSpent) ends = ends
+
+    kept : (result : Result Windowed DriveFault) → ReadsEnd s0 s1 reads.read (remaining r1.device) turns reads.reads reads.failed result → w1.failures ≡ window_failures result w0.failures
+    kept (Ok windowed) ends = failures
+    kept (Err Closed) ends = failures
+    kept (Err (WriteFailed w)) ends = absurd ends
+    kept (Err TriesSpent) ends = failures

@@ -1,0 +1,36 @@
+use Rattle.std.proofs.Common.{◌≡◌, ℕ, ◌+◌, List, ◌++◌, length, take, Some, ◌∙◌, ap, sym, subst, arith, length-append}
+use Rattle.std.specs.Prelude.{slice_get}
+use Rattle.std.specs.List.{concat}
+use Rattle.std.specs.Io.KnownBytes.{Appends}
+use Rattle.std.proofs.KnownBytes.{Appends-trans}
+use Rattle.uecp_link.specs.Server.{frames_waiting}
+use Rattle.uecp_link.proofs.Windowing.{frames_more, part_sent, part_below}
+use Rattle.uecp_link.proofs.window.write_window.Goals as goal
+
+pub returns-in-Err-clause-err : goal.returns-in-Err-clause-err
+returns-in-Err-clause-err g c =
+    let fs : List (List ℕ) = frames_waiting c.args.server.now in
+    let place : ℕ = c.loop-place.place in
+    let f : List ℕ = c.in-Some.frame.now in
+    let here : slice_get fs place ≡ Some f = sym c.in-Some.ensures.value in
+    let part : ℕ = c.in-Err.part in
+    let (within, wrote) = c.in-Err.ensures.err in
+    let sent : take (c.loop-place.written + part) (concat fs) ≡ concat (take place fs) ++ take part f =
+    ap (λ n. take (n + part) (concat fs)) c.loop-place.invariant.written ∙ part_sent fs place f here part (omega (arith, within)) in (
+      omega (arith, part_below fs place f here part within, c.loop-place.invariant.written),
+      subst (Appends (g.W.Write.contents c.args.writer.now.device) (g.W.Write.contents c.write_whole.new.self.device)) (sym sent) (Appends-trans _ _ _ _ _ c.loop-place.invariant.appended wrote),
+    )
+
+pub loop-place-preserved : goal.loop-place-preserved
+loop-place-preserved g c =
+    let fs : List (List ℕ) = frames_waiting c.args.server.now in
+    let place : ℕ = c.loop-place.place in
+    let f : List ℕ = c.in-Some.frame.now in
+    let here : slice_get fs place ≡ Some f = sym c.in-Some.ensures.value in
+    let more : concat (take (place + 1) fs) ≡ concat (take place fs) ++ f = frames_more fs place f here in
+    record {
+      written = omega (arith, c.loop-place.invariant.written, ap length more, length-append (concat (take place fs)) f);
+      few = omega (arith, c.loop-place.invariant.few, c.in-Some.ensures.few);
+      appended = subst (Appends (g.W.Write.contents c.args.writer.now.device) (g.W.Write.contents c.write_whole.new.self.device)) (sym more) (Appends-trans _ _ _ _ _ c.loop-place.invariant.appended c.in_default-write_whole.ensures.ok);
+      failures = c.in_default-write_whole.ensures.failures ∙ c.loop-place.invariant.failures;
+    }

@@ -1,0 +1,94 @@
+-- What `send_window` does over a reader and a writer; a reader has to believe it, but for `Gathers` and `Gathered`. Source: profile.
+use Rattle.std.specs.Prelude.{◌≡◌, ◌≢◌, ℕ, ◌+◌, ◌-◌, ◌*◌, ◌^◌, ◌<◌, ◌≤◌, ◌⊎◌, List, [], ◌++◌, length, take, filter_map, Option, Some, None, Result, Ok, Err}
+use Rattle.std.specs.List.{concat}
+use Rattle.std.specs.Io.KnownBytes.{Appends, Consumes, IsAtEnd}
+use Rattle.uecp_frame.specs.Beyond.{found_beyond}
+use Rattle.uecp_elements.specs.declared.code.Code.{Code}
+use Rattle.uecp_encoder.specs.Metered.{Metered, counted}
+use Rattle.uecp_link.specs.declared.heard.HeardWhat.{HeardWhat}
+use Rattle.uecp_link.specs.declared.heard.HeardWhat.TheVariants as what
+use Rattle.uecp_link.specs.declared.driving.DriveFault.{DriveFault}
+use Rattle.uecp_link.specs.declared.driving.DriveFault.TheVariants.{WriteFailed, Closed, TriesSpent}
+use Rattle.uecp_link.specs.declared.window.Windowed.{Windowed}
+use Rattle.uecp_link.specs.declared.window.Windowed.TheVariants.{Idle, Spent}
+use Rattle.uecp_link.specs.Server.{ServerState, waiting, heard, all_heard_as, frames_waiting}
+
+-- The frames of all messages that wait, one after another, the oldest first.
+abbrev pub window_sent : ServerState → List ℕ
+window_sent s = concat (frames_waiting s)
+
+-- The counter and the code in what a server says, where that is an acknowledgement.
+abbrev pub mark_in : HeardWhat → Option (ℕ × Code)
+mark_in (what.Acknowledged counter code) = Some (counter, code)
+mark_in _ = None
+
+-- The counter and the code of each message that some bytes acknowledge, in order.
+abbrev pub marks_in : ServerState → List ℕ → List (ℕ × Code)
+marks_in s bytes = filter_map mark_in (all_heard_as s (found_beyond s.part bytes))
+
+-- How the reads of a try ended, from one state of the server to another. No message waits: so it is, and it was not so 64 bytes before. Spent: messages wait, and
+-- one read failed, or none and all turns were made. Closed: messages wait, and the input is at its end.
+abbrev pub ReadsEnd : (old new : ServerState) → (read : List ℕ) → (unread : Option (List ℕ)) → (turns reads failed : ℕ) → Result Windowed DriveFault → Type 0
+ReadsEnd old new read unread turns reads failed (Ok Idle) = (new.held ≡ []) × ((heard old (take (length read - 64) read)).held ≢ []) × (failed ≡ 0) × (1 ≤ reads)
+ReadsEnd old new read unread turns reads failed (Ok Spent) = (new.held ≢ []) × (((failed ≡ 1) × (1 ≤ reads)) ⊎ ((failed ≡ 0) × (reads ≡ turns)))
+ReadsEnd old new read unread turns reads failed (Err Closed) = (new.held ≢ []) × (failed ≡ 0) × (1 ≤ reads) × IsAtEnd unread
+ReadsEnd old new read unread turns reads failed (Err (WriteFailed w)) = ⊥
+ReadsEnd old new read unread turns reads failed (Err TriesSpent) = ⊥
+
+-- How a try ended. A write failed: of the frames that waited the first w bytes were sent, not all, and no read was made. Else they were sent whole, and the reads ended.
+abbrev pub WindowEnds : (old new : ServerState) → (read sent : List ℕ) → (unread : Option (List ℕ)) → (turns reads failed : ℕ) → Result Windowed DriveFault → Type 0
+WindowEnds old new read sent unread turns reads failed (Err (WriteFailed w)) = (sent ≡ take w (window_sent old)) × (w < length (window_sent old)) × (read ≡ []) × (reads ≡ 0) × (failed ≡ 0)
+WindowEnds old new read sent unread turns reads failed (Err Closed) = (sent ≡ window_sent old) × ReadsEnd old new read unread turns reads failed (Err Closed)
+WindowEnds old new read sent unread turns reads failed (Err TriesSpent) = ⊥
+WindowEnds old new read sent unread turns reads failed (Ok windowed) = (sent ≡ window_sent old) × ReadsEnd old new read unread turns reads failed (Ok windowed)
+
+-- the writer's failures after the try: one more at `WriteFailed`
+abbrev pub window_failures : Result Windowed DriveFault → ℕ → ℕ
+window_failures (Err (WriteFailed w)) failures = counted failures
+window_failures (Err Closed) failures = failures
+window_failures (Err TriesSpent) failures = failures
+window_failures (Ok windowed) failures = failures
+
+-- A try from one state of the server to another, over a reader and a writer before and after it: what was sent and read, by how many reads, how it ended, and that to the marks
+-- those were added which the read bytes bring.
+pub record Windows {R W : Type 0} (remaining : R → Option (List ℕ)) (contents : W → Option (List ℕ)) (old new : ServerState) (reader reader' : Metered R) (writer writer' : Metered W) (marks marks' : List (ℕ × Code)) (turns : ℕ) (result : Result Windowed DriveFault) : Type 0 where
+  pub read : List ℕ
+  pub sent : List ℕ
+  pub reads : ℕ
+  pub failed : ℕ
+  pub consumed : Consumes (remaining reader.device) (remaining reader'.device) read
+  pub appended : Appends (contents writer.device) (contents writer'.device) sent
+  pub state : new ≡ heard old read
+  pub marked : marks' ≡ marks ++ marks_in old read
+  pub ends : WindowEnds old new read sent (remaining reader'.device) turns reads failed result
+  pub few_reads : reads ≤ turns
+  pub few_bytes : length read ≤ 64 * reads
+  pub calls : reader.calls + reads < 2 ^ 128 → reader'.calls ≡ reader.calls + reads
+  pub read_failures : reader.failures + failed < 2 ^ 128 → reader'.failures ≡ reader.failures + failed
+  pub write_failures : writer'.failures ≡ window_failures result writer.failures
+
+-- The reads of a try (private).
+pub record Gathers {R : Type 0} (remaining : R → Option (List ℕ)) (old new : ServerState) (reader reader' : Metered R) (marks marks' : List (ℕ × Code)) (turns : ℕ) (result : Result Windowed DriveFault) : Type 0 where
+  pub read : List ℕ
+  pub reads : ℕ
+  pub failed : ℕ
+  pub consumed : Consumes (remaining reader.device) (remaining reader'.device) read
+  pub state : new ≡ heard old read
+  pub marked : marks' ≡ marks ++ marks_in old read
+  pub ends : ReadsEnd old new read (remaining reader'.device) turns reads failed result
+  pub few_reads : reads ≤ turns
+  pub few_bytes : length read ≤ 64 * reads
+  pub calls : reader.calls + reads < 2 ^ 128 → reader'.calls ≡ reader.calls + reads
+  pub read_failures : reader.failures + failed < 2 ^ 128 → reader'.failures ≡ reader.failures + failed
+
+-- So many reads, none of which failed, after which messages wait (private).
+pub record Gathered {R : Type 0} (remaining : R → Option (List ℕ)) (old new : ServerState) (reader reader' : Metered R) (marks marks' : List (ℕ × Code)) (reads : ℕ) : Type 0 where
+  pub read : List ℕ
+  pub consumed : Consumes (remaining reader.device) (remaining reader'.device) read
+  pub state : new ≡ heard old read
+  pub marked : marks' ≡ marks ++ marks_in old read
+  pub busy : new.held ≢ []
+  pub room : length marks' + length (waiting new) ≤ 8
+  pub few_bytes : length read ≤ 64 * reads
+  pub calls : reader.calls + reads < 2 ^ 128 → reader'.calls ≡ reader.calls + reads
+  pub read_failures : reader'.failures ≡ reader.failures

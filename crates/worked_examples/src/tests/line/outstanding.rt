@@ -1,0 +1,151 @@
+//! Up to eight messages outstanding on a line.
+use super::{
+    ADD, CountTarget, delivered, frame, is_taken, message, reply, with_store, with_target,
+};
+use std::process::Abort;
+use std::test::Fail;
+use uecp_elements::Code;
+use uecp_encoder::Target;
+use uecp_link::{Line, LineEvent, LineRefusal, Stepped};
+
+const ACKNOWLEDGED: Result<Stepped, LineRefusal> = Ok(Stepped::Acknowledged(Code::Applied));
+
+/// The next message finds eight outstanding from the oldest on.
+fn is_busy<T: Target>(rt: &impl Abort, line: &mut Line<T>) {
+    let empty = message(rt, &[]);
+    assert_eq!(rt;
+        line.step(&LineEvent::Submit(&empty)),
+        Err(LineRefusal::Busy)
+    );
+}
+
+/// Eight messages go out; a gap among the replies keeps the window shut until the oldest is acknowledged.
+fn opens_with_the_oldest<T: Target>(rt: &impl Abort, line: &mut Line<T>) {
+    for _ in 0..8 {
+        is_taken(rt, line, &[]);
+    }
+    is_busy(rt, line);
+    assert_eq!(rt; line.step(&frame(1)), Ok(Stepped::NotNext));
+    assert_eq!(rt; line.step(&reply(1)), Err(LineRefusal::NotSent));
+    assert_eq!(rt; line.step(&frame(0)), delivered(true, Code::Applied));
+    assert_eq!(rt; line.step(&frame(1)), delivered(true, Code::Applied));
+    assert_eq!(rt; line.step(&reply(1)), ACKNOWLEDGED);
+    assert_eq!(rt; (line.acknowledged(), line.is_acknowledged(1)), (0, true));
+    is_busy(rt, line);
+    assert_eq!(rt; line.step(&reply(0)), ACKNOWLEDGED);
+    assert_eq!(rt; (line.acknowledged(), line.server().waiting()), (2, 6));
+    assert_eq!(rt; line.step(&reply(1)), Ok(Stepped::Stray));
+    is_taken(rt, line, &[]);
+    is_taken(rt, line, &[]);
+    assert_eq!(rt; line.sent().len(), 10);
+    is_busy(rt, line);
+    assert!(rt; !line.is_acknowledged(2) && !line.is_acknowledged(10));
+}
+
+#[test]
+fn a_window_opens_with_its_oldest_message(rt: HostRuntime) -> Result<(), Fail> {
+    let mut line = with_target(&rt, rt.alloc(), CountTarget::default())?;
+    opens_with_the_oldest(&rt, &mut line);
+    assert_eq!(rt; line.encoder().target().messages, 2);
+    let mut line = with_store(&rt, rt.alloc())?;
+    opens_with_the_oldest(&rt, &mut line);
+    assert_eq!(rt; line.encoder().counts().fresh, 2);
+    Ok(())
+}
+
+#[test]
+fn a_message_before_its_turn_is_passed_over_and_applied_later(rt: HostRuntime) -> Result<(), Fail> {
+    let mut line = with_store(&rt, rt.alloc())?;
+    for _ in 0..8 {
+        is_taken(&rt, &mut line, &ADD);
+    }
+    for number in (1..8).rev() {
+        assert_eq!(rt; line.step(&frame(number)), Ok(Stepped::NotNext));
+    }
+    let counts = line.encoder().counts();
+    assert_eq!(rt; (counts.fresh, counts.repeats, counts.dropped), (0, 0, 0));
+    // Noise before a frame is over with it, also where that frame is passed over.
+    let open = LineEvent::NoiseToEncoder(&[0xfe, 0x00]);
+    assert_eq!(rt; line.step(&open), Ok(Stepped::Noise { dropped: 0 }));
+    assert_eq!(rt; line.step(&frame(7)), Ok(Stepped::NotNext));
+    let rest = LineEvent::NoiseToEncoder(&[0xff]);
+    assert_eq!(rt; line.step(&rest), Ok(Stepped::Noise { dropped: 0 }));
+    for number in 0..8 {
+        assert_eq!(rt; line.step(&frame(number)), delivered(true, Code::Applied));
+    }
+    for number in (0..8).rev() {
+        assert_eq!(rt; line.step(&reply(number)), ACKNOWLEDGED);
+        assert_eq!(rt; line.acknowledged(), if number == 0 { 8 } else { 0 });
+    }
+    assert_eq!(rt; super::texts_of(line.encoder().target()), 8);
+    assert!(rt; line.server().is_idle());
+    Ok(())
+}
+
+/// One number that is outstanding: its frame comes, and by chance its reply. What comes of both is told by how many were applied,
+/// and by whether this one is acknowledged.
+fn comes<T: Target>(rt: &impl Abort, line: &mut Line<T>, number: usize, replied: bool) {
+    let applied = line.applied();
+    let was = line.is_acknowledged(number);
+    let wanted = if number < applied {
+        delivered(false, Code::Applied)
+    } else if number == applied {
+        delivered(true, Code::Applied)
+    } else {
+        Ok(Stepped::NotNext)
+    };
+    assert_eq!(rt; line.step(&frame(number)), wanted);
+    if replied {
+        let wanted = if number > applied {
+            Err(LineRefusal::NotSent)
+        } else if was {
+            Ok(Stepped::Stray)
+        } else {
+            ACKNOWLEDGED
+        };
+        assert_eq!(rt; line.step(&reply(number)), wanted);
+        assert_eq!(rt; line.is_acknowledged(number), number <= applied);
+    }
+}
+
+/// Three turns of the counter with at most so many messages outstanding, frames and replies in an order of their own.
+fn goes_round<T: Target>(rt: &impl Abort, line: &mut Line<T>, window: usize, seed: u32) {
+    let mut chance = seed;
+    for _ in 0..40_000u32 {
+        chance = chance.wrapping_mul(1_103_515_245).wrapping_add(12_345);
+        let least = line.acknowledged();
+        let waiting = line.sent().len().saturating_sub(least);
+        let place = chance as usize / 4096 % 8;
+        if chance / 256 % 3 == 0 && waiting < window && least < 770 {
+            is_taken(rt, line, &[]);
+        } else if place < waiting {
+            comes(
+                rt,
+                line,
+                least.saturating_add(place),
+                chance / 65_536 % 2 == 0,
+            );
+        }
+    }
+    // Nothing is lost any more: each frame once, and each reply once, and no message is outstanding.
+    for number in line.acknowledged()..line.sent().len() {
+        assert!(rt; line.step(&frame(number)).is_ok());
+        assert!(rt; line.step(&reply(number)).is_ok());
+    }
+    let sent = line.sent().len();
+    assert!(rt; line.server().is_idle() && sent >= 770);
+    assert_eq!(rt; (line.applied(), line.acknowledged()), (sent, sent));
+}
+
+#[test]
+fn windows_of_1_to_8_over_three_turns_of_the_counter(rt: HostRuntime) -> Result<(), Fail> {
+    for window in 1..=8u32 {
+        let mut line = with_target(&rt, rt.alloc(), CountTarget::default())?;
+        goes_round(&rt, &mut line, window as usize, window);
+        assert_eq!(rt; line.encoder().target().messages, line.sent().len() as u64);
+        let mut line = with_store(&rt, rt.alloc())?;
+        goes_round(&rt, &mut line, window as usize, window + 8);
+        assert_eq!(rt; line.encoder().counts().fresh, line.sent().len() as u64);
+    }
+    Ok(())
+}

@@ -1,0 +1,168 @@
+//! Up to eight messages outstanding, and replies to them in any order.
+use super::{APPLIED_1, EMPTY_1, own_address, reply_made};
+use arrayvec::ArrayVec;
+use faulty_devices::{FaultyReader, FaultyWriter};
+use std::alloc::Global;
+use std::process::Abort;
+use std::test::Fail;
+use uecp_elements::Code;
+use uecp_encoder::Meter;
+use uecp_frame::{Frame, FrameBytes, Message, encode};
+use uecp_link::{DriveFault, HeardWhat, Server, Windowed, send_window};
+
+/// Code 00 to counter 02.
+const APPLIED_2: [u8; 11] = *b"\xFE\x00\x41\x00\x03\x18\x00\x02\x70\xDD\xFF";
+
+/// The frame of the empty message under this counter.
+fn empty_under(rt: &impl Abort, counter: u8) -> FrameBytes {
+    let frame = Frame {
+        address: own_address(rt),
+        counter,
+        message: Message::new(),
+    };
+    let mut bytes = FrameBytes::new();
+    encode(&frame, &mut bytes);
+    bytes
+}
+
+/// The server waits for replies to these counters, the oldest first, and lends their frames.
+fn waits_for(rt: &impl Abort, server: &Server, counters: &[u8]) {
+    assert_eq!(rt; server.waiting(), counters.len());
+    assert_eq!(rt; server.is_idle(), counters.is_empty());
+    for (place, counter) in counters.iter().enumerate() {
+        let frame = empty_under(rt, *counter);
+        assert!(rt; server.frame(place) == Some(frame.as_slice()));
+    }
+    assert!(rt; server.frame(counters.len()).is_none());
+    assert!(rt; server.outgoing() == server.frame(0));
+}
+
+/// The reply with code 00 to this counter comes, and then comes again.
+fn is_acknowledged(rt: &impl Abort, server: &mut Server, counter: u8) {
+    let reply = reply_made(rt, 0x00, counter);
+    let acknowledged = HeardWhat::Acknowledged {
+        counter,
+        code: Code::Applied,
+    };
+    assert_eq!(rt; server.hear(reply.as_slice()).what, acknowledged);
+    assert_eq!(rt; server.hear(reply.as_slice()).what, HeardWhat::Stray);
+}
+
+/// How many messages are held: those from the oldest that waits up to the last one.
+fn held(waiting: &[u8], last: u8) -> usize {
+    match waiting {
+        [] => 0,
+        [oldest, ..] => (usize::from(last) + 255 - usize::from(*oldest)) % 255 + 1,
+    }
+}
+
+/// Three turns of the counter with at most so many messages that wait. The replies come in an order that has nothing to do with
+/// that of the messages.
+fn three_turns(rt: &impl Abort, alloc: Global, window: usize) -> Result<(), Fail> {
+    let mut server = Server::new(own_address(rt));
+    let mut waiting: Vec<u8> = Vec::new(alloc);
+    let (mut last, mut sent) = (0u8, 0u32);
+    for step in 0..3000usize {
+        if step % 3 != 0 && waiting.len() < window && server.has_room() {
+            last = if last == 0xff { 0x01 } else { last + 1 };
+            sent = sent.saturating_add(1);
+            server.submit(&Message::new());
+            waiting.push(last)?;
+        } else if !waiting.is_empty() {
+            let place = step / 3 * 5 % waiting.len();
+            let counter = waiting.remove(place);
+            is_acknowledged(rt, &mut server, counter);
+        }
+        waits_for(rt, &server, waiting.as_slice());
+        assert_eq!(rt; server.has_room(), held(waiting.as_slice(), last) < 8);
+    }
+    assert!(rt; sent >= 3 * 255, "{sent}");
+    Ok(())
+}
+
+#[test]
+fn windows_of_one_to_eight_messages(rt: HostRuntime) -> Result<(), Fail> {
+    for window in 1..=8 {
+        three_turns(&rt, rt.alloc(), window)?;
+    }
+    Ok(())
+}
+
+#[test]
+fn a_marked_message_is_held_while_an_older_one_waits(rt: HostRuntime) {
+    let mut server = Server::new(own_address(&rt));
+    for _ in 0..8u32 {
+        assert!(rt; server.has_room());
+        server.submit(&Message::new());
+    }
+    assert!(rt; !server.has_room());
+    for counter in 2..=8 {
+        is_acknowledged(&rt, &mut server, counter);
+        assert!(rt; !server.has_room());
+    }
+    waits_for(&rt, &server, &[0x01]);
+    is_acknowledged(&rt, &mut server, 0x01);
+    assert!(rt; server.is_idle());
+    assert!(rt; server.has_room());
+}
+
+/// One try of four turns for all messages that wait.
+fn tries(
+    rt: &impl Abort,
+    server: &mut Server,
+    reader: &mut Meter<FaultyReader<'_>>,
+    writer: &mut Meter<FaultyWriter<'_>>,
+    marks: &mut ArrayVec<(u8, Code), 8>,
+) -> Result<Windowed, DriveFault> {
+    assert!(rt; !server.is_idle());
+    assert!(rt; marks.len() + server.waiting() <= 8);
+    send_window(server, reader, writer, 4, marks)
+}
+
+#[test]
+fn one_try_for_two_messages_and_one_more_for_the_first(rt: HostRuntime) {
+    let mut server = Server::new(own_address(&rt));
+    for _ in 0..2u32 {
+        assert!(rt; server.has_room());
+        server.submit(&Message::new());
+    }
+    let mut replies = [0; 22];
+    replies[..11].copy_from_slice(&APPLIED_2);
+    replies[11..].copy_from_slice(&APPLIED_1);
+    let mut reader = Meter::new(FaultyReader::new(&replies).giving(11).failing_at(&[2]));
+    let mut writer = Meter::new(FaultyWriter::new());
+    let mut marks = ArrayVec::new();
+    let tried = tries(&rt, &mut server, &mut reader, &mut writer, &mut marks);
+    assert_eq!(rt; tried, Ok(Windowed::Spent));
+    assert!(rt; marks.as_slice() == [(0x02, Code::Applied)].as_slice());
+    let tried = tries(&rt, &mut server, &mut reader, &mut writer, &mut marks);
+    assert_eq!(rt; tried, Ok(Windowed::Idle));
+    let both = [(0x02, Code::Applied), (0x01, Code::Applied)];
+    assert!(rt; marks.as_slice() == both.as_slice());
+    assert_eq!(rt; (reader.calls(), reader.failures()), (3, 1));
+    let output = writer.into_inner();
+    let taken = output.taken();
+    assert_eq!(rt; taken.len(), 24);
+    assert!(rt; taken.starts_with(&EMPTY_1));
+    assert!(rt; taken.get(8..16) == Some(empty_under(&rt, 0x02).as_slice()));
+    assert!(rt; taken.ends_with(&EMPTY_1));
+}
+
+#[test]
+fn marks_are_kept_where_the_input_ends_and_where_a_write_fails(rt: HostRuntime) {
+    let mut server = Server::new(own_address(&rt));
+    for _ in 0..2u32 {
+        assert!(rt; server.has_room());
+        server.submit(&Message::new());
+    }
+    let mut reader = Meter::new(FaultyReader::new(&APPLIED_2));
+    let mut writer = Meter::new(FaultyWriter::new());
+    let mut narrow = Meter::new(FaultyWriter::new().taking(5).failing_at(&[2]));
+    let mut marks = ArrayVec::new();
+    let tried = tries(&rt, &mut server, &mut reader, &mut writer, &mut marks);
+    assert_eq!(rt; tried, Err(DriveFault::Closed));
+    let tried = tries(&rt, &mut server, &mut reader, &mut narrow, &mut marks);
+    assert_eq!(rt; tried, Err(DriveFault::WriteFailed { written: 5 }));
+    assert!(rt; marks.as_slice() == [(0x02, Code::Applied)].as_slice());
+    assert_eq!(rt; (server.waiting(), reader.calls()), (1, 2));
+}
