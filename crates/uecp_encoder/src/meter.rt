@@ -1,5 +1,5 @@
 //! A reader or a writer whose calls are counted. Source: profile.
-ghost use Rattle.std.specs.Prelude.{◌≡◌, ◌<◌, length, take, OnOk, IfOk, IfErr};
+ghost use Rattle.std.specs.Prelude.{◌≡◌, ◌<◌, ◌≤◌, ◌+◌, ◌^◌, length, take, OnOk, IfOk, IfErr};
 ghost use Rattle.std.specs.Io.{ReadsAtMost, WritesAtMost};
 ghost use Rattle.std.specs.Io.KnownBytes.{Appends, ReadConsumes, WriteAppends};
 ghost use Rattle.uecp_encoder.specs.Metered.{counted, failures_after};
@@ -111,11 +111,13 @@ impl<D: Write> Meter<D> {
         }
     }
 
-    /// Writes all of the bytes, by as many writes as it takes, or says how many of them were written before one failed.
+    /// Writes all of the bytes, by as many writes as it takes, one for each byte at most, or says how many of them were written before
+    /// one failed.
     pub fn write_whole(&mut self, bytes: &[u8]) -> Result<(), usize>
         ensures ok { OnOk result (Appends (D.contents self.old.device) (D.contents self.new.device) bytes.now) }
         ensures err { IfErr result (λ w. (w < length bytes.now)
             × Appends (D.contents self.old.device) (D.contents self.new.device) (take w bytes.now)) }
+        ensures calls { self.old.calls + length bytes.now < 2 ^ 128 → (self.old.calls ≤ self.new.calls) × (self.new.calls ≤ self.old.calls + length bytes.now) }
         ensures failures { self.new.failures ≡ failures_after result self.old.failures }
     {
         let mut at = 0;
