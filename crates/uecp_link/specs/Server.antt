@@ -146,6 +146,10 @@ pub record HearsPiece (old : ServerState) (piece : List ℕ) (answer : Heard) : 
 abbrev pub frames_waiting : ServerState → List (List ℕ)
 frames_waiting s = map (λ w. spelling (frame_under s.address w)) (waiting s)
 
+-- The counters of the messages that wait, the oldest first.
+abbrev pub counters_waiting : ServerState → List ℕ
+counters_waiting s = map (λ w. w.0) (waiting s)
+
 -- The frame of the oldest message that waits; none where none waits.
 abbrev pub outgoing_bytes : ServerState → Option (List ℕ)
 outgoing_bytes s = slice_get (frames_waiting s) 0

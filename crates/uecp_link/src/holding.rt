@@ -64,6 +64,23 @@ pub(crate) fn frame_at(held: &[HeldMessage], place: usize) -> Option<&[u8]>
     None
 }
 
+/// The counter of one of these messages that wait, by its place among them, from 0.
+pub(crate) fn counter_at(held: &[HeldMessage], place: usize) -> Option<u8>
+    ensures { result ≡ slice_get (map (λ w. w.0) (waiting_among (held_in held.now))) place }
+{
+    let mut older = place;
+    for message in held {
+        let waits = !message.marked;
+        if waits && older == 0 {
+            return Some(message.counter);
+        }
+        if waits {
+            older -= 1;
+        }
+    }
+    None
+}
+
 /// Whether one of these messages waits under this counter.
 pub(crate) fn is_waiting(held: &[HeldMessage], counter: u8) -> bool
     ensures { result ≡ waits_for (waiting_among (held_in held.now)) counter }

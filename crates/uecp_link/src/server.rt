@@ -4,13 +4,13 @@ ghost use Rattle.std.specs.Option.{option_copied};
 ghost use Rattle.uecp_frame.specs.Address.{is_exact};
 ghost use Rattle.uecp_frame.specs.Findings.{Closed};
 ghost use Rattle.uecp_frame.specs.Lent.{frame_lent};
-ghost use Rattle.uecp_link.specs.Server.{idle_at, nothing_counted, submitted, waiting, is_marked, acknowledges, heard, HearsPiece, frames_waiting, outgoing_bytes};
+ghost use Rattle.uecp_link.specs.Server.{idle_at, nothing_counted, submitted, waiting, is_marked, acknowledges, heard, HearsPiece, frames_waiting, counters_waiting, outgoing_bytes};
 ghost use Rattle.uecp_link.specs.Holding.{held_in};
 
 use crate::counters::counter_of;
 use crate::counts::ServerCounts;
 use crate::heard::{Heard, HeardWhat};
-use crate::holding::{HeldMessage, count_waiting, frame_at, is_waiting, let_go, mark};
+use crate::holding::{HeldMessage, count_waiting, counter_at, frame_at, is_waiting, let_go, mark};
 use arrayvec::ArrayVec;
 use std::marker::Model;
 use uecp_elements::Code;
@@ -125,6 +125,20 @@ impl Server {
         ensures few { IfSome result (λ frame. length frame.now ≤ 524) }
     {
         frame_at(self.held.as_slice(), place)
+    }
+
+    /// The counter of one of the messages that wait, the oldest first, from 0: that of the frame which [`frame`](Server::frame)
+    /// lends at this place. None from [`waiting`](Server::waiting) on.
+    ///
+    /// ```
+    /// server.submit(&message);
+    /// let counter = server.counter(server.waiting() - 1); // the new message's
+    /// ```
+    pub fn counter(&self, place: usize) -> Option<u8>
+        ensures value { result ≡ slice_get (counters_waiting self.now) place }
+        ensures none { IsNone result ↔ (length (waiting self.now) ≤ place) }
+    {
+        counter_at(self.held.as_slice(), place)
     }
 
     /// The frame of the oldest message that waits, the same 8 to 524 bytes each time. None where the server is idle.

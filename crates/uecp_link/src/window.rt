@@ -42,7 +42,8 @@ pub fn send_window<R: Read, W: Write>(
 ) -> Result<Windowed, DriveFault>
     requires busy { server.old.held ≢ [] }
     requires room { length marks.old.items + length (waiting server.old) ≤ 8 }
-    ensures { Windows R.remaining W.contents server.old server.new reader.old reader.new writer.old writer.new marks.old.items marks.new.items turns result }
+    ensures windows { Windows R.remaining W.contents server.old server.new reader.old reader.new writer.old writer.new marks.old.items marks.new.items turns result }
+    ensures room { length marks.new.items + length (waiting server.new) ≤ 8 }
 {
     if let Err(written) = write_window(server, writer) {
         return Err(DriveFault::WriteFailed { written });
@@ -79,7 +80,8 @@ fn gather<R: Read>(
 ) -> Result<Windowed, DriveFault>
     requires busy { server.old.held ≢ [] }
     requires room { length marks.old.items + length (waiting server.old) ≤ 8 }
-    ensures { Gathers R.remaining server.old server.new reader.old reader.new marks.old.items marks.new.items turns result }
+    ensures gathers { Gathers R.remaining server.old server.new reader.old reader.new marks.old.items marks.new.items turns result }
+    ensures room { length marks.new.items + length (waiting server.new) ≤ 8 }
 {
     let mut buffer = [0u8; 64];
     for _turn in 0..turns {

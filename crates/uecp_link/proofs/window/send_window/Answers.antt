@@ -1,12 +1,12 @@
 use Rattle.uecp_link.proofs.Windowing.{windows_failed, windows_read}
 use Rattle.uecp_link.proofs.window.send_window.Goals as goal
 
-pub returns-in-Err : goal.returns-in-Err
-returns-in-Err g c =
+pub returns-in-Err-clause-windows : goal.returns-in-Err-clause-windows
+returns-in-Err-clause-windows g c =
     let (below, wrote) = c.in-Err.ensures.err in
     windows_failed g.R.Read.remaining g.W.Write.contents c.args.server.now c.args.reader.now c.args.writer.now c.write_window.new.writer c.args.marks.now.items c.args.turns c.in-Err.written below wrote c.in-Err.ensures.failures
 
-pub returns : goal.returns
-returns g c =
+pub returns-clause-windows : goal.returns-clause-windows
+returns-clause-windows g c =
     windows_read g.R.Read.remaining g.W.Write.contents c.args.server.now c.gather.new.server c.args.reader.now c.gather.new.reader c.args.writer.now c.write_window.new.writer c.args.marks.now.items c.gather.new.marks.items
-    c.args.turns c.gather.result c.in_default.ensures.ok c.in_default.ensures.failures c.gather.ensures
+    c.args.turns c.gather.result c.in_default.ensures.ok c.in_default.ensures.failures c.gather.ensures.gathers
