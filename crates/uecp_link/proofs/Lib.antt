@@ -24,3 +24,4 @@ pub mod Stepping
 pub mod Answered
 pub mod Tries
 pub mod Windowing
+pub mod Marks

@@ -1,5 +1,5 @@
 -- The server's end as one value, and what findings do to it; a reader has to believe it. Source: RDS Forum SPB 490, two-way mode; profile for what is marked so.
-use Rattle.std.specs.Prelude.{◌≡◌, ℕ, ◌<◌, ◌==◌, ◌&&◌, ◌||◌, Bool, false, List, [], ◌∷◌, ◌++◌, length, map, take, slice_get, Option, Some, None, Ok, Err, if◌then◌else◌}
+use Rattle.std.specs.Prelude.{◌≡◌, ℕ, zero, suc, ◌<◌, ◌==◌, ◌&&◌, ◌||◌, Bool, false, List, [], ◌∷◌, ◌++◌, length, map, take, slice_get, Option, Some, None, Ok, Err, if◌then◌else◌}
 use Rattle.std.specs.List.{list_any}
 use Rattle.std.specs.Option.{option_map_or, option_map}
 use Rattle.uecp_frame.specs.Frame.{spelling}
@@ -97,6 +97,11 @@ acknowledges s f = if f.address == s.address && f.counter == 0 then reply_to_one
 abbrev pub freed : ServerState → Option (ℕ × Code) → ServerState
 freed s None = record s { counts = record s.counts { stray = raised s.counts.stray } }
 freed s (Some reply) = record s { held = freed_of (marked_at reply.0 s.held); counts = record s.counts { acknowledged = raised s.counts.acknowledged } }
+
+-- Counted so many times: `raised` so many times.
+abbrev pub raised_by : ℕ → ℕ → ℕ
+raised_by zero count = count
+raised_by (suc n) count = raised_by n (raised count)
 
 -- The server after one finding: a fault is counted as dropped and changes nothing else, a frame marks a message where it acknowledges. (profile)
 abbrev pub heard_finding : ServerState → Finding → ServerState

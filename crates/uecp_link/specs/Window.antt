@@ -1,6 +1,7 @@
 -- What `send_window` does over a reader and a writer; a reader has to believe it, but for `Gathers` and `Gathered`. Source: profile.
-use Rattle.std.specs.Prelude.{◌≡◌, ◌≢◌, ℕ, ◌+◌, ◌-◌, ◌*◌, ◌^◌, ◌<◌, ◌≤◌, ◌⊎◌, List, [], ◌++◌, length, take, filter_map, Option, Some, None, Result, Ok, Err}
+use Rattle.std.specs.Prelude.{◌≡◌, ◌≢◌, ℕ, ◌+◌, ◌-◌, ◌*◌, ◌^◌, ◌<◌, ◌≤◌, ◌==◌, ◌⊎◌, List, [], ◌++◌, length, take, filter_map, Option, Some, None, Result, Ok, Err}
 use Rattle.std.specs.List.{concat}
+use Rattle.std.specs.Map.{lookup}
 use Rattle.std.specs.Io.KnownBytes.{Appends, Consumes, IsAtEnd}
 use Rattle.uecp_frame.specs.Beyond.{found_beyond}
 use Rattle.uecp_elements.specs.declared.code.Code.{Code}
@@ -25,6 +26,10 @@ mark_in _ = None
 -- The counter and the code of each message that some bytes acknowledge, in order.
 abbrev pub marks_in : ServerState → List ℕ → List (ℕ × Code)
 marks_in s bytes = filter_map mark_in (all_heard_as s (found_beyond s.part bytes))
+
+-- The code of the first mark with this counter; none where there is none.
+abbrev pub code_under : ℕ → List (ℕ × Code) → Option Code
+code_under counter marks = lookup (λ k. k == counter) marks
 
 -- How the reads of a try ended, from one state of the server to another. No message waits: so it is, and it was not so 64 bytes before. Spent: messages wait, and
 -- one read failed, or none and all turns were made. Closed: messages wait, and the input is at its end.
