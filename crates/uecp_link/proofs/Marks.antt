@@ -14,7 +14,8 @@ use Rattle.uecp_link.specs.Counters.{counter_of}
 use Rattle.uecp_link.specs.Server.{ServerState, Held, waiting_among, waiting, waits_for, marked_at, acknowledges, freed, raised_by, heard_finding, heard_findings, heard, told, all_heard_as, counters_waiting}
 use Rattle.uecp_link.specs.Window.{mark_in, marks_in, code_under}
 use Rattle.uecp_link.specs.declared.holding.HeldMessage.{HeldMessage}
-use Rattle.uecp_link.specs.Holding.{held_in, AreInTurn}
+use Rattle.uecp_link.specs.Holding.{held_in, with_mark, left_of, AreInTurn, IsHolding}
+use Rattle.uecp_link.proofs.HeldFields.{marked_in, left_in}
 use Rattle.uecp_link.proofs.Waiting.{acknowledged_waits, freed_waits}
 use Rattle.uecp_link.proofs.FeedingLemmas.{heard_open}
 
@@ -269,3 +270,14 @@ in_turn-distinct last (h ∷ g ∷ hs) turn few =
     let rest = in_turn-distinct last (g ∷ hs) turn.1 (omega (arith, few)) in
     let others = later_differ last h.counter 0 g hs (omega (arith, turn.0)) turn.1 (omega (arith, few)) in
     with_first (IsDistinct ◌==◌) h (g ∷ hs) rest (others, rest)
+
+-- once one that waits is marked, and what may be let go is, one fewer waits
+pub marked_one : (address last counter : ℕ) (hs left : List HeldMessage) → IsHolding address last hs → waits_for (waiting_among (held_in hs)) counter ≡ true → left ≡ left_of (map (with_mark counter) hs)
+    → 1 + length (waiting_among (held_in left)) ≡ length (waiting_among (held_in hs))
+marked_one address last counter hs left is waits left_is =
+    let ws : List (ℕ × List ℕ) = waiting_among (held_in hs) in
+    let after : waiting_among (held_in left) ≡ filter (unlike counter) ws =
+    ap (λ (l : List HeldMessage). waiting_among (held_in l)) left_is ∙ ap waiting_among (left_in (map (with_mark counter) hs)) ∙ freed_waits (held_in (map (with_mark counter) hs))
+    ∙ ap waiting_among (marked_in counter hs) ∙ marked_others counter (held_in hs) in
+    let one = one_gone counter ws (in_turn-distinct last hs is.in_turn is.few) waits in
+    omega (arith, one, ap (λ (l : List (ℕ × List ℕ)). length l) after)

@@ -1,10 +1,11 @@
 //! The server's end of the line. Source: RDS Forum SPB 490, two-way mode; profile for the order of counters and for what acknowledges.
-ghost use Rattle.std.specs.Prelude.{◌≡◌, ◌<◌, ◌≤◌, ◌==◌, ◌↔◌, [], IsNone, IfSome, IsTrue, length, take, slice_get, nat_lt};
+ghost use Rattle.std.specs.Prelude.{◌≡◌, ◌+◌, ◌<◌, ◌≤◌, ◌==◌, ◌↔◌, [], IsNone, IfSome, IsTrue, length, take, slice_get, nat_lt, option_to_list};
 ghost use Rattle.std.specs.Option.{option_copied};
 ghost use Rattle.uecp_frame.specs.Address.{is_exact};
 ghost use Rattle.uecp_frame.specs.Findings.{Closed};
 ghost use Rattle.uecp_frame.specs.Lent.{frame_lent};
 ghost use Rattle.uecp_link.specs.Server.{idle_at, nothing_counted, submitted, waiting, is_marked, acknowledges, heard, HearsPiece, frames_waiting, counters_waiting, outgoing_bytes};
+ghost use Rattle.uecp_link.specs.Window.{mark_in};
 ghost use Rattle.uecp_link.specs.Holding.{held_in};
 
 use crate::counters::counter_of;
@@ -159,6 +160,7 @@ impl Server {
         ensures moves { 0 < length piece.now → 0 < result.used }
         ensures hears { HearsPiece self.old piece.now result }
         ensures state { self.new ≡ heard self.old (take result.used piece.now) }
+        ensures one_fewer { length (option_to_list (mark_in result.what)) + length (waiting self.new) ≡ length (waiting self.old) }
     {
         let fed = self.deframer.feed_ref(piece);
         let used = fed.used;
