@@ -1,8 +1,8 @@
 -- Held messages, of which at most one waits.
-use Rattle.std.proofs.Common.{◌≡◌, ℕ, ◌+◌, ◌≤◌, ◌==◌, ◌&&◌, ◌||◌, Bool, true, false, cond, List, [], ◌∷◌, length, Option, Some, None, refl, ap, sym, ◌∙◌, arith}
+use Rattle.std.proofs.Common.{◌≡◌, ℕ, ◌≤◌, ◌==◌, ◌&&◌, ◌||◌, Bool, true, false, cond, List, [], ◌∷◌, length, Option, Some, None, refl, ap, sym, ◌∙◌, arith}
 use Rattle.uecp_elements.specs.declared.code.Code.{Code}
 use Rattle.uecp_frame.specs.declared.frame.Frame.{Frame}
-use Rattle.uecp_link.specs.Server.{ServerState, Held, waiting_among, waiting, waits_for, marked_at, freed_of, reply_in, reply_to_one, acknowledges, freed}
+use Rattle.uecp_link.specs.Server.{ServerState, Held, waiting_among, waiting, waits_for, marked_at, freed_of, reply_in, reply_to_one, acknowledges}
 
 pub or_true : (b : Bool) → (b || true) ≡ true
 or_true true = refl
@@ -70,34 +70,3 @@ freed_waits (h ∷ hs) = go h.marked refl (freed_waits hs)
     go : (b : Bool) → h.marked ≡ b → waiting_among (freed_of hs) ≡ waiting_among hs → waiting_among (cond b (freed_of hs) (h ∷ hs)) ≡ cond b (waiting_among hs) ((h.counter, h.message) ∷ waiting_among hs)
     go true is rest = rest
     go false is rest = rw is refl
-
--- a mark leaves no more that wait
-marked_le : (counter : ℕ) (hs : List Held) → length (waiting_among (marked_at counter hs)) ≤ length (waiting_among hs)
-marked_le counter [] = omega arith
-marked_le counter (h ∷ hs) = go h.marked (h.counter == counter) (marked_le counter hs)
-  where
-    go : (b same : Bool) → length (waiting_among (marked_at counter hs)) ≤ length (waiting_among hs)
-        → length (cond (same || b) (waiting_among (marked_at counter hs)) ((h.counter, h.message) ∷ waiting_among (marked_at counter hs))) ≤ length (cond b (waiting_among hs) ((h.counter, h.message) ∷ waiting_among hs))
-    go true true rest = rest
-    go true false rest = rest
-    go false true rest = omega arith
-    go false false rest = omega arith
-
--- and one fewer where the counter waited
-marked_lt : (counter : ℕ) (hs : List Held) → waits_for (waiting_among hs) counter ≡ true → length (waiting_among (marked_at counter hs)) + 1 ≤ length (waiting_among hs)
-marked_lt counter [] waits = absurd (cc)
-marked_lt counter (h ∷ hs) waits = go h.marked (h.counter == counter) refl waits (marked_lt counter hs) (marked_le counter hs)
-  where
-    go : (b same : Bool) → (h.counter == counter) ≡ same → waits_for (cond b (waiting_among hs) ((h.counter, h.message) ∷ waiting_among hs)) counter ≡ true
-        → (waits_for (waiting_among hs) counter ≡ true → length (waiting_among (marked_at counter hs)) + 1 ≤ length (waiting_among hs)) → length (waiting_among (marked_at counter hs)) ≤ length (waiting_among hs)
-        → length (cond (same || b) (waiting_among (marked_at counter hs)) ((h.counter, h.message) ∷ waiting_among (marked_at counter hs))) + 1 ≤ length (cond b (waiting_among hs) ((h.counter, h.message) ∷ waiting_among hs))
-    go true true is waits rest le = rest waits
-    go true false is waits rest le = rest waits
-    go false true is waits rest le = omega arith
-    go false false is waits rest le =
-        let later = rest (ap (λ (b : Bool). b || waits_for (waiting_among hs) counter) (sym is) ∙ waits) in
-        omega arith
-
-pub marking_lowers : (s : ServerState) (reply : ℕ × Code) → waits_for (waiting s) reply.0 ≡ true → length (waiting (freed s (Some reply))) + 1 ≤ length (waiting s)
-marking_lowers s reply waits =
-    omega (arith, marked_lt reply.0 s.held waits, ap (λ (ws : List (ℕ × List ℕ)). length ws) (freed_waits (marked_at reply.0 s.held)))

@@ -1,6 +1,6 @@
 -- A try for all messages that wait: what is written, what is read, and the marks that this brings.
 use Rattle.std.proofs.Common.{◌≡◌, ◌≢◌, ℕ, ◌+◌, ◌-◌, ◌<◌, ◌≤◌, List, [], ◌∷◌, ◌++◌, length, take, drop, get_or, Option, Some, None, Result, Ok, Err, refl, ◌∙◌, ap, sym, arith, inl, inr, length-append, append_assoc, append-nil, take-append-drop}
-use Rattle.std.specs.Prelude.{filter_map, slice_get}
+use Rattle.std.specs.Prelude.{filter_map, slice_get, option_to_list}
 use Rattle.std.specs.List.{concat}
 use Rattle.std.proofs.Math.Seq.{take-append-add}
 use Rattle.std.proofs.lemmas.List.{take-append-le, take_more, drop_more}
@@ -9,8 +9,7 @@ use Rattle.std.proofs.lemmas.Option.{slice_get_within, get_or_from_slice_get}
 use Rattle.std.specs.Io.KnownBytes.{Appends, Consumes, Keeps, IsAtEnd}
 use Rattle.std.proofs.KnownBytes.{Consumes-nil, Consumes-kept, Consumes-trans}
 use Rattle.uecp_elements.specs.declared.code.Code.{Code}
-use Rattle.uecp_frame.specs.Findings.{Finding, OpenPart}
-use Rattle.uecp_frame.specs.Beyond.{found_beyond, open_beyond}
+use Rattle.uecp_frame.specs.Beyond.{found_beyond}
 use Rattle.uecp_frame.proofs.Pieces.{new_start_lem}
 use Rattle.uecp_encoder.specs.Metered.{Metered, counted}
 use Rattle.uecp_link.specs.declared.driving.DriveFault.{DriveFault}
@@ -19,11 +18,10 @@ use Rattle.uecp_link.specs.declared.heard.HeardWhat.{HeardWhat}
 use Rattle.uecp_link.specs.declared.heard.HeardWhat.TheVariants as what
 use Rattle.uecp_link.specs.declared.window.Windowed.{Windowed}
 use Rattle.uecp_link.specs.declared.window.Windowed.TheVariants.{Idle, Spent}
-use Rattle.uecp_link.specs.Server.{ServerState, waiting, freed, acknowledges, heard_finding, heard_findings, heard, all_heard_as, told, whats_of}
+use Rattle.uecp_link.specs.Server.{ServerState, waiting, heard, all_heard_as, whats_of}
 use Rattle.uecp_link.specs.Window.{mark_in, marks_in, window_sent, window_failures, ReadsEnd, WindowEnds, Windows, Gathers, Gathered}
-use Rattle.uecp_link.proofs.Waiting.{acknowledged_waits, marking_lowers}
 use Rattle.uecp_link.proofs.Answered.{idle_hears}
-use Rattle.uecp_link.proofs.FeedingLemmas.{heard_none, said-append, heard_open, server_in_pieces}
+use Rattle.uecp_link.proofs.FeedingLemmas.{heard_none, said-append, server_in_pieces}
 
 -- ---- frames, one after another
 
@@ -66,72 +64,54 @@ marks_none s = ap (λ fs. filter_map mark_in (all_heard_as s fs)) (new_start_lem
 pub marks-append : (s : ServerState) (x y : List ℕ) → marks_in s (x ++ y) ≡ marks_in s x ++ marks_in (heard s x) y
 marks-append s x y = said-append mark_in s x y
 
--- each mark is one message fewer that waits
-marks_fit_findings : (s : ServerState) (fs : List Finding) → length (filter_map mark_in (all_heard_as s fs)) + length (waiting (heard_findings s fs)) ≤ length (waiting s)
-marks_fit_findings s [] = omega arith
-marks_fit_findings s (Err fault ∷ fs) = marks_fit_findings (heard_finding s (Err fault)) fs
-marks_fit_findings s (Ok f ∷ fs) = go (acknowledges s f) refl (λ k. marks_fit_findings (freed s k) fs)
-  where
-    go : (k : Option (ℕ × Code)) → acknowledges s f ≡ k → ((k : Option (ℕ × Code)) → length (filter_map mark_in (all_heard_as (freed s k) fs)) + length (waiting (heard_findings (freed s k) fs)) ≤ length (waiting (freed s k)))
-        → length (filter_map mark_in (told k ∷ all_heard_as (freed s k) fs)) + length (waiting (heard_findings (freed s k) fs)) ≤ length (waiting s)
-    go None is later = later None
-    go (Some reply) is later =
-        let rest = later (Some reply) in
-        let lower = marking_lowers s reply (acknowledged_waits s f reply is) in
-        omega arith
-
-marks_fit_opened : (s : ServerState) (fs : List Finding) (o : OpenPart) → length (filter_map mark_in (all_heard_as s fs)) + length (waiting (heard_findings (record s { part = o }) fs)) ≤ length (waiting s)
-marks_fit_opened s fs o =
-    let same = ap (λ (t : ServerState). length (waiting t)) (heard_open s o fs) in
-    omega (arith, marks_fit_findings s fs, same)
-
-pub marks_fit : (s : ServerState) (bytes : List ℕ) → length (marks_in s bytes) + length (waiting (heard s bytes)) ≤ length (waiting s)
-marks_fit s bytes = marks_fit_opened s (found_beyond s.part bytes) (open_beyond s.part bytes)
-
 -- the mark in what one call of `hear` says
-pub said_mark : (s : ServerState) (x : List ℕ) (w : HeardWhat) (counter : ℕ) (code : Code) → all_heard_as s (found_beyond s.part x) ≡ whats_of w → w ≡ what.Acknowledged counter code → marks_in s x ≡ (counter, code) ∷ []
-said_mark s x w counter code said is = ap (filter_map mark_in) (said ∙ ap whats_of is)
-
-pub said_no_mark : (s : ServerState) (x : List ℕ) (w : HeardWhat) → all_heard_as s (found_beyond s.part x) ≡ whats_of w → ((counter : ℕ) (code : Code) → w ≡ what.Acknowledged counter code → ⊥) → marks_in s x ≡ []
-said_no_mark s x w said other = ap (filter_map mark_in) said ∙ go w other
+pub said_marks : (s : ServerState) (x : List ℕ) (w : HeardWhat) → all_heard_as s (found_beyond s.part x) ≡ whats_of w → marks_in s x ≡ option_to_list (mark_in w)
+said_marks s x w said = ap (filter_map mark_in) said ∙ go w
   where
-    go : (w : HeardWhat) → ((counter : ℕ) (code : Code) → w ≡ what.Acknowledged counter code → ⊥) → filter_map mark_in (whats_of w) ≡ []
-    go what.Nothing other = refl
-    go (what.Acknowledged counter code) other = absurd (other counter code refl)
-    go what.Stray other = refl
-    go (what.Dropped fault) other = refl
+    go : (w : HeardWhat) → filter_map mark_in (whats_of w) ≡ option_to_list (mark_in w)
+    go what.Nothing = refl
+    go (what.Acknowledged counter code) = refl
+    go what.Stray = refl
+    go (what.Dropped fault) = refl
+
+pub no_mark : (w : HeardWhat) → ((counter : ℕ) (code : Code) → w ≡ what.Acknowledged counter code → ⊥) → mark_in w ≡ None
+no_mark what.Nothing other = refl
+no_mark (what.Acknowledged counter code) other = absurd (other counter code refl)
+no_mark what.Stray other = refl
+no_mark (what.Dropped fault) other = refl
 
 -- one call of `hear` more
 pub record HearsOn (s s' : ServerState) (rest rest' : List ℕ) (m m' : List (ℕ × Code)) : Type 0 where
   pub state : heard s' rest' ≡ heard s rest
   pub marks : m' ++ marks_in s' rest' ≡ m ++ marks_in s rest
-  pub room : length m + length (waiting s) ≤ 8 → length m' + length (waiting s') ≤ 8
+  pub room : length m' + length (waiting s') ≡ length m + length (waiting s)
 
-pub hears_on : (s s' : ServerState) (n : ℕ) (rest rest' : List ℕ) (m m' : List (ℕ × Code)) → s' ≡ heard s (take n rest) → rest' ≡ drop n rest → m' ≡ m ++ marks_in s (take n rest) → HearsOn s s' rest rest' m m'
-hears_on s s' n rest rest' m m' state left marked =
+pub hears_on : (s s' : ServerState) (n : ℕ) (rest rest' : List ℕ) (w : HeardWhat) (m m' : List (ℕ × Code)) → s' ≡ heard s (take n rest) → rest' ≡ drop n rest → all_heard_as s (found_beyond s.part (take n rest)) ≡ whats_of w
+    → length (option_to_list (mark_in w)) + length (waiting s') ≡ length (waiting s) → m' ≡ m ++ option_to_list (mark_in w) → HearsOn s s' rest rest' m m'
+hears_on s s' n rest rest' w m m' state left said fewer added =
     let x : List ℕ = take n rest in
     let y : List ℕ = drop n rest in
     let whole : x ++ y ≡ rest = take-append-drop n rest in
-    let fit = marks_fit s x in
+    let marked : m' ≡ m ++ marks_in s x = added ∙ ap (λ ms. m ++ ms) (sym (said_marks s x w said)) in
     record {
       state = ap (λ (t : ServerState). heard t rest') state ∙ ap (heard (heard s x)) left ∙ sym (server_in_pieces s x y).state ∙ ap (heard s) whole;
       marks =
           ap (λ ms. ms ++ marks_in s' rest') marked ∙ ap (λ (t : ServerState). (m ++ marks_in s x) ++ marks_in t rest') state
           ∙ ap (λ (bs : List ℕ). (m ++ marks_in s x) ++ marks_in (heard s x) bs) left ∙ append_assoc m (marks_in s x) (marks_in (heard s x) y)
           ∙ ap (λ ms. m ++ ms) (sym (marks-append s x y) ∙ ap (marks_in s) whole);
-      room = λ room. omega (arith, room, fit, ap length marked, length-append m (marks_in s x), ap (λ (t : ServerState). length (waiting t)) state);
+      room = omega (arith, fewer, ap length added, length-append m (option_to_list (mark_in w)));
     }
 
 -- ---- reads
 
-pub gathered_none : {R : Type 0} (remaining : R → Option (List ℕ)) (s : ServerState) (reader : Metered R) (marks : List (ℕ × Code)) → s.held ≢ [] → length marks + length (waiting s) ≤ 8 → Gathered remaining s s reader reader marks marks 0
-gathered_none remaining s reader marks busy room = record {
+pub gathered_none : {R : Type 0} (remaining : R → Option (List ℕ)) (s : ServerState) (reader : Metered R) (marks : List (ℕ × Code)) → s.held ≢ [] → Gathered remaining s s reader reader marks marks 0
+gathered_none remaining s reader marks busy = record {
   read = [];
   consumed = Consumes-nil _;
   state = sym (heard_none s);
   marked = sym (ap (λ ms. marks ++ ms) (marks_none s) ∙ append-nil marks);
   busy = busy;
-  room = room;
+  room = refl;
   few_bytes = omega arith;
   calls = λ h. omega arith;
   read_failures = refl;
@@ -148,14 +128,14 @@ module _ {R : Type 0} (remaining : R → Option (List ℕ)) (s0 s1 : ServerState
 
   -- one read more, after which messages wait
   pub gathered_on : (s2 : ServerState) (r2 : Metered R) (m2 : List (ℕ × Code)) (piece : List ℕ) → Consumes (remaining r1.device) (remaining r2.device) piece → length piece ≤ 64 → s2 ≡ heard s1 piece → m2 ≡ m1 ++ marks_in s1 piece →
-      s2.held ≢ [] → length m2 + length (waiting s2) ≤ 8 → r2.calls ≡ counted r1.calls → r2.failures ≡ r1.failures → Gathered remaining s0 s2 r0 r2 m0 m2 (reads + 1)
+      s2.held ≢ [] → length m2 + length (waiting s2) ≡ length m1 + length (waiting s1) → r2.calls ≡ counted r1.calls → r2.failures ≡ r1.failures → Gathered remaining s0 s2 r0 r2 m0 m2 (reads + 1)
   gathered_on s2 r2 m2 piece took few state marked busy room calls failures = record {
     read = so_far.read ++ piece;
     consumed = Consumes-trans _ _ _ _ _ so_far.consumed took;
     state = more_state piece s2 state;
     marked = more_marks piece m2 marked;
     busy = busy;
-    room = room;
+    room = room ∙ so_far.room;
     few_bytes = omega (arith, length-append so_far.read piece, few, so_far.few_bytes);
     calls = λ h. omega (arith, calls, so_far.calls (omega (arith, h)), h);
     read_failures = failures ∙ so_far.read_failures;

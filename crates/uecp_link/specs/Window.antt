@@ -93,7 +93,7 @@ pub record Gathered {R : Type 0} (remaining : R → Option (List ℕ)) (old new 
   pub state : new ≡ heard old read
   pub marked : marks' ≡ marks ++ marks_in old read
   pub busy : new.held ≢ []
-  pub room : length marks' + length (waiting new) ≤ 8
+  pub room : length marks' + length (waiting new) ≡ length marks + length (waiting old)
   pub few_bytes : length read ≤ 64 * reads
   pub calls : reader.calls + reads < 2 ^ 128 → reader'.calls ≡ reader.calls + reads
   pub read_failures : reader'.failures ≡ reader.failures

@@ -1,5 +1,6 @@
 //! The server's end of the line. Source: RDS Forum SPB 490, two-way mode; profile for the order of counters and for what acknowledges.
 ghost use Rattle.std.specs.Prelude.{◌≡◌, ◌+◌, ◌<◌, ◌≤◌, ◌==◌, ◌↔◌, [], IsNone, IfSome, IsTrue, length, take, slice_get, nat_lt, option_to_list};
+ghost use Rattle.std.specs.List.{IsDistinct};
 ghost use Rattle.std.specs.Option.{option_copied};
 ghost use Rattle.uecp_frame.specs.Address.{is_exact};
 ghost use Rattle.uecp_frame.specs.Findings.{Closed};
@@ -104,10 +105,12 @@ impl Server {
         });
     }
 
-    /// How many messages wait for their reply, at most eight. Of those that are held they are the ones that are not marked.
+    /// How many messages wait for their reply, at most eight, no two under the same counter. Of those that are held they are the ones
+    /// that are not marked.
     pub fn waiting(&self) -> usize
         ensures value { result ≡ length (waiting self.now) }
         ensures few { result ≤ 8 }
+        ensures distinct { IsDistinct ◌==◌ (counters_waiting self.now) }
     {
         count_waiting(self.held.as_slice())
     }

@@ -25,8 +25,8 @@ pub enum Windowed {
 
 /// One try for all messages that wait: writes their frames, the oldest first, and makes at most `turns` reads of at most 64 bytes,
 /// until no message waits; a failed read ends the try. What was read with the last reply is heard to its end. Each
-/// acknowledgement adds its counter and its code to `marks`, whichever way the try ends. Some message waits, see
-/// [`Server::is_idle`], and as many as wait find room in `marks`.
+/// acknowledgement adds its counter and its code to `marks`, whichever way the try ends: each is of one message that waits no
+/// more. Some message waits, see [`Server::is_idle`], and as many as wait find room in `marks`.
 ///
 /// It never answers `TriesSpent`. Where it answers `Spent`, call it again, with the same `marks`.
 ///
@@ -43,7 +43,7 @@ pub fn send_window<R: Read, W: Write>(
     requires busy { server.old.held ≢ [] }
     requires room { length marks.old.items + length (waiting server.old) ≤ 8 }
     ensures windows { Windows R.remaining W.contents server.old server.new reader.old reader.new writer.old writer.new marks.old.items marks.new.items turns result }
-    ensures room { length marks.new.items + length (waiting server.new) ≤ 8 }
+    ensures room { length marks.new.items + length (waiting server.new) ≡ length marks.old.items + length (waiting server.old) }
 {
     if let Err(written) = write_window(server, writer) {
         return Err(DriveFault::WriteFailed { written });
@@ -81,7 +81,7 @@ fn gather<R: Read>(
     requires busy { server.old.held ≢ [] }
     requires room { length marks.old.items + length (waiting server.old) ≤ 8 }
     ensures gathers { Gathers R.remaining server.old server.new reader.old reader.new marks.old.items marks.new.items turns result }
-    ensures room { length marks.new.items + length (waiting server.new) ≤ 8 }
+    ensures room { length marks.new.items + length (waiting server.new) ≡ length marks.old.items + length (waiting server.old) }
 {
     let mut buffer = [0u8; 64];
     for _turn in 0..turns {
@@ -104,7 +104,7 @@ fn hear_marks(server: &mut Server, piece: &[u8], marks: &mut ArrayVec<(u8, Code)
     requires { length marks.old.items + length (waiting server.old) ≤ 8 }
     ensures state { server.new ≡ heard server.old piece.now }
     ensures marks { marks.new.items ≡ marks.old.items ++ marks_in server.old piece.now }
-    ensures room { length marks.new.items + length (waiting server.new) ≤ 8 }
+    ensures room { length marks.new.items + length (waiting server.new) ≡ length marks.old.items + length (waiting server.old) }
 {
     let mut rest = piece;
     while !rest.is_empty() {

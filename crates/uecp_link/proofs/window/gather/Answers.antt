@@ -4,7 +4,7 @@ use Rattle.uecp_link.proofs.Windowing.{gathered_none, gathered_on, gathers_idle,
 use Rattle.uecp_link.proofs.window.gather.Goals as goal
 
 pub loop-turn-init : goal.loop-turn-init
-loop-turn-init g c = gathered_none g.R.Read.remaining c.args.server.now c.args.reader.now c.args.marks.now.items c.requires.busy c.requires.room
+loop-turn-init g c = gathered_none g.R.Read.remaining c.args.server.now c.args.reader.now c.args.marks.now.items c.requires.busy
 
 pub returns-clause-gathers : goal.returns-clause-gathers
 returns-clause-gathers g c = gathers_all g.R.Read.remaining _ _ _ _ _ _ c.loop-turn._turn c.loop-turn.invariant c.args.turns (omega arith)

@@ -1,38 +1,34 @@
-use Rattle.std.proofs.Common.{◌≡◌, ℕ, ◌<◌, List, [], ◌∷◌, ◌++◌, length, take, ◌∙◌, ap, sym, arith, rules, append-nil}
+use Rattle.std.proofs.Common.{ℕ, ◌<◌, List, ◌++◌, length, Option, ◌∙◌, ap, sym, arith, rules, append-nil}
+use Rattle.std.specs.Prelude.{option_to_list}
 use Rattle.uecp_elements.specs.declared.code.Code.{Code}
-use Rattle.uecp_link.specs.Server.{ServerState, heard}
-use Rattle.uecp_link.specs.Window.{marks_in}
+use Rattle.uecp_link.specs.Server.{heard}
+use Rattle.uecp_link.specs.declared.heard.HeardWhat.{HeardWhat}
+use Rattle.uecp_link.specs.Window.{mark_in, marks_in}
 use Rattle.uecp_link.proofs.FeedingLemmas.{empty_is, heard_none}
-use Rattle.uecp_link.proofs.Windowing.{marks_none, marks_fit, said_mark, said_no_mark, hears_on}
+use Rattle.uecp_link.proofs.Windowing.{marks_none, no_mark, hears_on}
 use Rattle.uecp_link.proofs.window.hear_marks.Goals as goal
 
 pub push-requires : goal.push-requires
 push-requires c =
-    let s : ServerState = c.loop-rest.server in
-    let x : List ℕ = take c.hear-heard.result.used c.loop-rest.rest.now in
-    let mark : marks_in s x ≡ (c.in-Acknowledged.counter, c.in-Acknowledged.code) ∷ [] = said_mark s x c.hear-heard.result.what c.in-Acknowledged.counter c.in-Acknowledged.code c.hear-heard.ensures.hears.said c.in-Acknowledged.is in
-    let room : length c.loop-rest.marks.items < 8 = omega (arith, marks_fit s x, ap length mark, c.loop-rest.invariant.room) in
+    let one = ap (λ (w : HeardWhat). length (option_to_list (mark_in w))) c.in-Acknowledged.is in
+    let room : length c.loop-rest.marks.items < 8 = omega (arith, one, c.hear-heard.ensures.one_fewer, c.loop-rest.invariant.room, c.requires) in
     search rules
 
 pub loop-rest-preserved-in-Acknowledged : goal.loop-rest-preserved-in-Acknowledged
 loop-rest-preserved-in-Acknowledged c =
-    let s : ServerState = c.loop-rest.server in
-    let n : ℕ = c.hear-heard.result.used in
-    let x : List ℕ = take n c.loop-rest.rest.now in
-    let mark : marks_in s x ≡ (c.in-Acknowledged.counter, c.in-Acknowledged.code) ∷ [] = said_mark s x c.hear-heard.result.what c.in-Acknowledged.counter c.in-Acknowledged.code c.hear-heard.ensures.hears.said c.in-Acknowledged.is in
-    let on = hears_on s c.hear-heard.new.self n c.loop-rest.rest.now c.left-rest.result.now c.loop-rest.marks.items c.push.new.self.items c.hear-heard.ensures.state c.left-rest.ensures
-    (c.push.ensures.items ∙ ap (λ (ms : List (ℕ × Code)). c.loop-rest.marks.items ++ ms) (sym mark)) in
-    record { state = on.state ∙ c.loop-rest.invariant.state; marks = on.marks ∙ c.loop-rest.invariant.marks; room = on.room c.loop-rest.invariant.room }
+    let w : HeardWhat = c.hear-heard.result.what in
+    let one = ap (λ (w : HeardWhat). option_to_list (mark_in w)) c.in-Acknowledged.is in
+    let on = hears_on c.loop-rest.server c.hear-heard.new.self c.hear-heard.result.used c.loop-rest.rest.now c.left-rest.result.now w c.loop-rest.marks.items c.push.new.self.items c.hear-heard.ensures.state c.left-rest.ensures
+    c.hear-heard.ensures.hears.said c.hear-heard.ensures.one_fewer (c.push.ensures.items ∙ ap (λ (ms : List (ℕ × Code)). c.loop-rest.marks.items ++ ms) (sym one)) in
+    record { state = on.state ∙ c.loop-rest.invariant.state; marks = on.marks ∙ c.loop-rest.invariant.marks; room = on.room ∙ c.loop-rest.invariant.room }
 
 pub loop-rest-preserved : goal.loop-rest-preserved
 loop-rest-preserved c =
-    let s : ServerState = c.loop-rest.server in
-    let n : ℕ = c.hear-heard.result.used in
-    let x : List ℕ = take n c.loop-rest.rest.now in
-    let mark : marks_in s x ≡ [] = said_no_mark s x c.hear-heard.result.what c.hear-heard.ensures.hears.said c.in_default.not-Acknowledged in
-    let on = hears_on s c.hear-heard.new.self n c.loop-rest.rest.now c.left-rest.result.now c.loop-rest.marks.items c.loop-rest.marks.items c.hear-heard.ensures.state c.left-rest.ensures
-    (sym (ap (λ (ms : List (ℕ × Code)). c.loop-rest.marks.items ++ ms) mark ∙ append-nil c.loop-rest.marks.items)) in
-    record { state = on.state ∙ c.loop-rest.invariant.state; marks = on.marks ∙ c.loop-rest.invariant.marks; room = on.room c.loop-rest.invariant.room }
+    let w : HeardWhat = c.hear-heard.result.what in
+    let none = ap (λ (o : Option (ℕ × Code)). option_to_list o) (no_mark w c.in_default.not-Acknowledged) in
+    let on = hears_on c.loop-rest.server c.hear-heard.new.self c.hear-heard.result.used c.loop-rest.rest.now c.left-rest.result.now w c.loop-rest.marks.items c.loop-rest.marks.items c.hear-heard.ensures.state c.left-rest.ensures
+    c.hear-heard.ensures.hears.said c.hear-heard.ensures.one_fewer (sym (ap (λ (ms : List (ℕ × Code)). c.loop-rest.marks.items ++ ms) none ∙ append-nil c.loop-rest.marks.items)) in
+    record { state = on.state ∙ c.loop-rest.invariant.state; marks = on.marks ∙ c.loop-rest.invariant.marks; room = on.room ∙ c.loop-rest.invariant.room }
 
 pub returns-clause-state : goal.returns-clause-state
 returns-clause-state c =
