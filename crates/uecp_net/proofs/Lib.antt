@@ -1,3 +1,5 @@
 pub mod Following
 pub mod Acknowledging
+pub mod Ahead
 pub mod Breaking
+pub mod Told

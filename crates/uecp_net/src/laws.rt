@@ -1,12 +1,17 @@
 //! Laws of the definitions, each the contract of a function that does nothing.
-ghost use Rattle.uecp_net.specs.Laws.{AllAcknowledged, UpToTheOutstanding};
+ghost use Rattle.uecp_net.specs.Laws.{AllAcknowledged, BeforeARefusedLine, UpToTheOutstanding};
 
 /// A run of a sender that stops at no text has one line for each message of its input, in order, and leaves the server idle.
 pub fn all_acknowledged()
     ensures { AllAcknowledged }
 {}
 
-/// A run that ends at a message which is outstanding has the lines of the messages before it, and then the line of that one.
+/// A run that stops at a line which is refused has one line for each message before that, in order, and leaves the server idle.
+pub fn before_a_refused_line()
+    ensures { BeforeARefusedLine }
+{}
+
+/// A run that ends at a batch which is outstanding has the lines of the batches before it, and then the line of that one.
 pub fn up_to_the_outstanding()
     ensures { UpToTheOutstanding }
 {}

@@ -6,7 +6,9 @@
 //!
 //! - [`Connect`]: opens connections, with [`Listening`] and [`Dialing`].
 //! - [`serve_connections`]: an encoder over one connection after another.
-//! - [`Sender`]: a server with the connection that it has, and [`Outstanding`] as why a message is not acknowledged.
+//! - [`Sender`]: a server with the connection that it has, which sends its messages in batches; [`Settled`] is how a batch went, and
+//!   [`Outstanding`] why its messages are not acknowledged.
+//! - [`messages_ahead`]: how many messages an input has before its end, or before the first line that is refused.
 #![tactic(auto)]
 
 mod connect;
@@ -17,6 +19,7 @@ mod tcp;
 mod texts;
 
 pub use connect::Connect;
-pub use sending::{Outstanding, Sender};
+pub use sending::{Outstanding, Sender, Settled};
 pub use serving::{ServeStop, serve_connections};
 pub use tcp::{Dialing, Listening};
+pub use texts::messages_ahead;

@@ -1,17 +1,18 @@
 //! What the lines of an input say to a sender: one message each. Source: profile.
 ghost use Rattle.std.specs.Prelude.{◌≡◌, ◌≢◌, ◌⊎◌, ◌<◌, ◌≤◌, ℕ, List, [], length, codes, Err, IfOk, IfErr, IsErr};
 ghost use Rattle.uecp_text.specs.declared.line_fault.LineFault.TheVariants.{OutOfMemory, NotHex, MessageTooLong};
+ghost use Rattle.uecp_text.specs.Input.{texts_of};
 ghost use Rattle.uecp_text.specs.Run.{outcome_of};
 ghost use Rattle.uecp_text.specs.Words.{bytes_in};
 ghost use Rattle.uecp_text.specs.Written.{Adds};
-ghost use Rattle.uecp_net.specs.Sending.{Sends, Spells, acknowledged_line};
+ghost use Rattle.uecp_net.specs.Sending.{Sends, Spells, is_message, messages_first, acknowledged_line, batch_lines};
 
 use crate::connect::Connect;
-use crate::sending::Sender;
+use crate::sending::{Sender, Settled};
 use std::alloc::Global;
+use uecp_elements::Code;
 use uecp_frame::Message;
-use uecp_link::Driven;
-use uecp_text::{Interpreter, LineFault, Output, PieceBuffer, Taken};
+use uecp_text::{Interpreter, LineFault, Output, PieceBuffer, Taken, first_line, text_of};
 use uecp_words::message_of;
 
 impl<'a, C: Connect> Interpreter for Sender<'a, C> {
@@ -34,7 +35,30 @@ impl<'a, C: Connect> Interpreter for Sender<'a, C> {
     fn close(&self, _output: &mut Output) {}
 }
 
-/// Sends the message where none is outstanding, and says what came of it.
+/// How many messages come first in an input: before its end, or before the first line that is refused. A [`Sender`] is told at its
+/// start, so that it leaves no message of a batch unsent there.
+///
+/// Errors: `OutOfMemory` alone.
+pub fn messages_ahead(alloc: Global, input: &[u8]) -> Result<usize, LineFault>
+    ensures ahead { IfOk result (λ count. count ≡ messages_first (texts_of input.now)) }
+    ensures refused { IfErr result (λ fault. fault ≡ OutOfMemory) }
+{
+    let mut rest = input;
+    let mut count = 0;
+    while !rest.is_empty() {
+        let (line, more) = first_line(rest);
+        if let Some(text) = text_of(line) {
+            if !spells_message(alloc, text)? {
+                return Ok(count);
+            }
+            count += 1;
+        }
+        rest = more;
+    }
+    Ok(count)
+}
+
+/// Submits the message where none is outstanding, sends the batch that it makes whole, and says what came of that.
 fn send_or_not<C: Connect>(
     sender: &mut Sender<'_, C>,
     message: &Message,
@@ -43,13 +67,16 @@ fn send_or_not<C: Connect>(
     ensures { (text : List ℕ) → Spells text message.now → length message.now ≤ 255 → (lines : List ℕ)
         × Sends sender.old text (outcome_of result lines) sender.new × Adds output.old output.new lines }
 {
-    if !sender.is_idle() {
+    if !sender.is_free() {
         output.text("outstanding\n");
         return Taken::Ends;
     }
-    match sender.send(message) {
-        Ok(driven) => {
-            put_acknowledged(driven, output);
+    if !sender.submit(message) {
+        return Taken::GoesOn;
+    }
+    match sender.settle() {
+        Ok(settled) => {
+            put_settled(&settled, output);
             Taken::GoesOn
         }
         Err(_) => {
@@ -73,13 +100,36 @@ fn message_in(alloc: Global, text: &[u8]) -> Result<Message, LineFault>
     }
 }
 
-/// The line of a message that was acknowledged.
-fn put_acknowledged(driven: Driven, output: &mut Output)
-    ensures { Adds output.old output.new (acknowledged_line driven.code driven.tries) }
+/// Whether a text spells a message that is not too long.
+fn spells_message(alloc: Global, text: &[u8]) -> Result<bool, LineFault>
+    ensures value { IfOk result (λ spells. spells ≡ is_message text.now) }
+    ensures refused { IfErr result (λ fault. fault ≡ OutOfMemory) }
+{
+    match message_in(alloc, text) {
+        Ok(_) => Ok(true),
+        Err(fault) => match fault {
+            LineFault::OutOfMemory => Err(fault),
+            _ => Ok(false),
+        },
+    }
+}
+
+/// The lines of a batch whose messages were acknowledged, in order.
+fn put_settled(settled: &Settled, output: &mut Output)
+    ensures { Adds output.old output.new (batch_lines settled.now.codes.items settled.now.tries) }
+{
+    for code in settled.codes.as_slice() {
+        put_acknowledged(*code, settled.tries, output);
+    }
+}
+
+/// The line of a message that was acknowledged with this code in so many tries.
+fn put_acknowledged(code: Code, tries: u32, output: &mut Output)
+    ensures { Adds output.old output.new (acknowledged_line code tries) }
 {
     output.text("acknowledged");
-    output.byte(driven.code.byte());
+    output.byte(code.byte());
     output.text(" tries");
-    output.decimal(driven.tries as usize);
+    output.decimal(tries as usize);
     output.end();
 }

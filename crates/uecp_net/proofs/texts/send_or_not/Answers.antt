@@ -1,18 +1,39 @@
-use Rattle.std.proofs.Common.{rules, ◌≡◌, [], codes, refl, inl}
-use Rattle.uecp_net.specs.Sending.{acknowledged_line}
+use Rattle.std.proofs.Common.{[], codes, refl, ap, sym, subst, inl, inr, append-nil}
+use Rattle.uecp_link.specs.Server.{submitted}
+use Rattle.uecp_net.specs.Sending.{StillWait, batch_lines}
+use Rattle.uecp_net.proofs.Told.{is_sent}
 use Rattle.uecp_net.proofs.texts.send_or_not.Goals as goal
+
+pub returns-then-not-submit : goal.returns-then-not-submit
+returns-then-not-submit g c = λ text spells short.
+    let free = c.is_free.ensures.0 c.if-not-is_free.false in
+    ([], (c.args.message.now, spells, short, free, inl (λ whole. (let told = c.submit.ensures.whole.1 whole in cc), refl, c.submit.ensures.submits)), λ whole. (whole, sym (append-nil c.args.output.now.bytes)))
 
 pub returns-in-Ok : goal.returns-in-Ok
 returns-in-Ok g c = λ text spells short.
-    let driven = c.in-Ok.driven in
-    let idle : c.args.sender.now.server.held ≡ [] = search rules in
+    let settled = c.in-Ok.settled in
+    let s = c.args.sender.now in
+    let free = c.is_free.ensures.0 c.if-not-is_free.false in
+    let whole = c.submit.ensures.whole.0 c.if-not-submit.false in
     let (some, most) = c.in-Ok.ensures.tries in (
-      acknowledged_line driven.code driven.tries,
-      (c.args.message.now, driven.code, driven.tries, spells, short, idle, refl, some, most, c.in-Ok.ensures.idle, c.send.ensures.tries_stay),
-      c.put_acknowledged.ensures,
+      batch_lines settled.codes.items settled.tries,
+      (
+        c.args.message.now,
+        spells,
+        short,
+        free,
+        inr (
+          whole,
+          is_sent s c.submit.new.self c.settle.new.self (submitted s.server c.args.message.now) settled.codes.items settled.tries c.submit.ensures.submits c.in-Ok.ensures.freed c.in-Ok.ensures.all some most c.in-Ok.ensures.no_reason c.settle.ensures.stays,
+        ),
+      ),
+      c.put_settled.ensures,
     )
 
 pub returns-in-Err : goal.returns-in-Err
 returns-in-Err g c = λ text spells short.
-    let idle : c.args.sender.now.server.held ≡ [] = search rules in
-    (codes "outstanding\n", (c.args.message.now, spells, short, refl, inl (idle, c.in-Err.ensures.outstanding)), c.text-in-Err.ensures)
+    let free = c.is_free.ensures.0 c.if-not-is_free.false in
+    let whole = c.submit.ensures.whole.0 c.if-not-submit.false in
+    let server_is = ap (λ d. d.server) c.submit.ensures.submits in
+    let waits = subst (λ d. StillWait d c.settle.new.self.server) server_is c.in-Err.ensures.outstanding in
+    (codes "outstanding\n", (c.args.message.now, spells, short, refl, inl (free, whole, waits, (c.in-Err.field-0, c.in-Err.ensures.why))), c.text-in-Err.ensures)

@@ -1,7 +1,20 @@
-use Rattle.std.proofs.Common.{rules, arith, ◌≡◌, ◌<◌, ◌+◌, ◌-◌, ◌++◌, ◌∷◌, [], Err, length, length-append, ap, sym, subst, ◌∙◌, inr}
-use Rattle.uecp_net.specs.Sending.{Attempts, Break, IsBroken}
+use Rattle.std.proofs.Common.{rules, arith, ◌≡◌, ◌<◌, ◌+◌, ◌-◌, ◌++◌, ◌∷◌, [], Err, length, length-append, refl, ap, sym, subst, ◌∙◌, inr}
+use Rattle.uecp_net.specs.Sending.{Attempts, Break, IsBroken, Follows}
 use Rattle.uecp_net.proofs.Breaking.{break_on}
+use Rattle.uecp_net.proofs.Told.{follows_on}
 use Rattle.uecp_net.proofs.sending.Sender.send_on_any.Goals as goal
+
+pub returns-in-Some-Ok-clause-follows : goal.returns-in-Some-Ok-clause-follows
+returns-in-Some-Ok-clause-follows g c = follows_on _ c.connections.self.server _ _ c.connections.marks.items _ c.connections.invariant.follows c.send_on_one.ensures.follows
+
+pub returns-then-not-is_broken-clause-follows : goal.returns-then-not-is_broken-clause-follows
+returns-then-not-is_broken-clause-follows g c = follows_on _ c.connections.self.server _ _ c.connections.marks.items _ c.connections.invariant.follows c.send_on_one.ensures.follows
+
+pub returns-then-self-eq0-clause-follows : goal.returns-then-self-eq0-clause-follows
+returns-then-self-eq0-clause-follows g c =
+    let same : c.hang_up.new.self.server ≡ c.send_on_one.new.self.server = ap (λ s. s.server) c.hang_up.ensures in
+    subst (λ d. Follows c.args.self.now.server d [] c.send_on_one.new.marks.items) (sym same)
+    (follows_on _ c.connections.self.server _ _ c.connections.marks.items _ c.connections.invariant.follows c.send_on_one.ensures.follows)
 
 pub returns-then-self-eq0-clause-delivers : goal.returns-then-self-eq0-clause-delivers
 returns-then-self-eq0-clause-delivers g c =
@@ -11,13 +24,17 @@ returns-then-self-eq0-clause-delivers g c =
     let same : c.hang_up.new.self.server ≡ c.send_on_one.new.self.server = ap (λ s. s.server) c.hang_up.ensures in
     let none : c.hang_up.new.self.left ≡ 0 = search rules in
     let stays : c.hang_up.new.self.left ≡ c.connections.self.left = search rules in
-    let went : Attempts g.C.Input.Read.remaining g.C.Output.Write.contents c.args.self.now.tries c.args.self.now.turns c.connections.self.server c.send_on_one.new.self.server (Err fault) = search rules in
+    let there : Attempts g.C.Input.Read.remaining g.C.Output.Write.contents c.connections.self.tries c.connections.self.turns c.connections.self.server c.send_on_one.new.self.server c.connections.marks.items c.send_on_one.new.marks.items (Err fault) = search rules in
+    let went : Attempts g.C.Input.Read.remaining g.C.Output.Write.contents c.args.self.now.tries c.args.self.now.turns c.connections.self.server c.send_on_one.new.self.server c.connections.marks.items c.send_on_one.new.marks.items (Err fault) =
+    subst (λ t. Attempts g.C.Input.Read.remaining g.C.Output.Write.contents t c.args.self.now.turns c.connections.self.server c.send_on_one.new.self.server c.connections.marks.items c.send_on_one.new.marks.items (Err fault)) (ap (λ s. s.tries) c.connections.invariant.stays)
+    (subst (λ t. Attempts g.C.Input.Read.remaining g.C.Output.Write.contents c.connections.self.tries t c.connections.self.server c.send_on_one.new.self.server c.connections.marks.items c.send_on_one.new.marks.items (Err fault)) (ap (λ s. s.turns) c.connections.invariant.stays) there) in
     let count : length (faults ++ fault ∷ []) ≡ c.args.self.now.left + 1 = omega (arith, cost, none, stays, length-append faults (fault ∷ [])) in
     record {
       faults = faults ++ fault ∷ [];
       last = c.send_on_one.new.self.server;
-      broke = break_on g.C.Input.Read.remaining g.C.Output.Write.contents _ _ _ c.connections.self.server _ faults fault broke broken went;
-      ends = (same, inr (none, count));
+      some = c.send_on_one.new.marks.items;
+      broke = break_on g.C.Input.Read.remaining g.C.Output.Write.contents _ _ _ c.connections.self.server _ _ c.connections.marks.items _ faults fault broke broken went;
+      ends = (same, refl, inr (none, count));
     }
 
 pub connections-preserved : goal.connections-preserved
@@ -28,17 +45,21 @@ connections-preserved g c =
     let same : c.self.inside.server ≡ c.send_on_one.new.self.server = ap (λ s. s.server) c.self.view_is ∙ ap (λ s. s.server) c.hang_up.ensures in
     let some : 0 < c.self.inside.left = search rules in
     let stays : c.self.inside.left ≡ c.connections.self.left = search rules in
-    let went : Attempts g.C.Input.Read.remaining g.C.Output.Write.contents c.args.self.now.tries c.args.self.now.turns c.connections.self.server c.send_on_one.new.self.server (Err fault) = search rules in
+    let there : Attempts g.C.Input.Read.remaining g.C.Output.Write.contents c.connections.self.tries c.connections.self.turns c.connections.self.server c.send_on_one.new.self.server c.connections.marks.items c.send_on_one.new.marks.items (Err fault) = search rules in
+    let went : Attempts g.C.Input.Read.remaining g.C.Output.Write.contents c.args.self.now.tries c.args.self.now.turns c.connections.self.server c.send_on_one.new.self.server c.connections.marks.items c.send_on_one.new.marks.items (Err fault) =
+    subst (λ t. Attempts g.C.Input.Read.remaining g.C.Output.Write.contents t c.args.self.now.turns c.connections.self.server c.send_on_one.new.self.server c.connections.marks.items c.send_on_one.new.marks.items (Err fault)) (ap (λ s. s.tries) c.connections.invariant.stays)
+    (subst (λ t. Attempts g.C.Input.Read.remaining g.C.Output.Write.contents c.connections.self.tries t c.connections.self.server c.send_on_one.new.self.server c.connections.marks.items c.send_on_one.new.marks.items (Err fault)) (ap (λ s. s.turns) c.connections.invariant.stays) there) in
     let count : c.args.self.now.left ≡ (c.self.inside.left - 1) + length (faults ++ fault ∷ []) = omega (arith, cost, some, stays, length-append faults (fault ∷ [])) in
     record {
-      waits = search rules;
-      tries = search rules;
-      turns = search rules;
-      left = search rules;
+      busy = search rules;
+      follows =
+          subst (λ d. Follows c.args.self.now.server d [] c.send_on_one.new.marks.items) (sym same)
+          (follows_on _ c.connections.self.server _ _ c.connections.marks.items _ c.connections.invariant.follows c.send_on_one.ensures.follows);
+      stays = search rules;
       broke = (
         faults ++ fault ∷ [],
-        subst (λ d. Break g.C.Input.Read.remaining g.C.Output.Write.contents c.args.self.now.tries c.args.self.now.turns c.args.self.now.server (faults ++ fault ∷ []) d) (sym same)
-            (break_on g.C.Input.Read.remaining g.C.Output.Write.contents _ _ _ c.connections.self.server _ faults fault broke broken went),
+        subst (λ d. Break g.C.Input.Read.remaining g.C.Output.Write.contents c.args.self.now.tries c.args.self.now.turns c.args.self.now.server [] (faults ++ fault ∷ []) d c.send_on_one.new.marks.items) (sym same)
+            (break_on g.C.Input.Read.remaining g.C.Output.Write.contents _ _ _ c.connections.self.server _ _ c.connections.marks.items _ faults fault broke broken went),
         count,
       );
     }

@@ -1,17 +1,15 @@
-use Rattle.std.proofs.Common.{◌≡◌, ◌+◌, ◌≤◌, List, length}
-use Rattle.uecp_link.specs.Driving.{StillWaits}
+use Rattle.std.proofs.Common.{◌≡◌, ◌≢◌, ◌+◌, List, [], length}
 use Rattle.uecp_link.specs.declared.driving.DriveFault.{DriveFault}
-use Rattle.uecp_net.specs.Sending.{Break}
+use Rattle.uecp_net.specs.Sending.{Break, Follows}
 use Rattle.uecp_net.proofs.sending.Sender.send_on_any.Given as goal
 
--- the message is outstanding, and nothing but the reconnects has changed: each connection so far broke, and cost one
+-- messages are outstanding, and nothing but the server and the reconnects has changed: each connection so far broke, and cost one
 abbrev pub invariant-connections : goal.invariant-connections
 invariant-connections g l = record {
-  waits : StillWaits l.fn.self.server l.self.server;
-  tries : l.self.tries ≡ l.fn.self.tries;
-  turns : l.self.turns ≡ l.fn.self.turns;
-  left : l.self.left ≤ l.fn.self.left;
-  broke : (faults : List DriveFault) × Break g.C.Input.Read.remaining g.C.Output.Write.contents l.fn.self.tries l.fn.self.turns l.fn.self.server faults l.self.server
+  busy : l.self.server.held ≢ [];
+  follows : Follows l.fn.self.server l.self.server [] l.marks.items;
+  stays : record l.self { server = l.fn.self.server; left = l.fn.self.left } ≡ l.fn.self;
+  broke : (faults : List DriveFault) × Break g.C.Input.Read.remaining g.C.Output.Write.contents l.fn.self.tries l.fn.self.turns l.fn.self.server [] faults l.self.server l.marks.items
       × (l.fn.self.left ≡ l.self.left + length faults);
 }
 

@@ -1,0 +1,11 @@
+use Rattle.std.proofs.Common.{◌≢◌, []}
+use Rattle.uecp_net.specs.Sending.{SpentCalls, Follows}
+use Rattle.uecp_net.proofs.sending.send_waiting.Given as goal
+
+-- messages wait after each call so far
+abbrev pub invariant-loop-before : goal.invariant-loop-before
+invariant-loop-before g l = record {
+  busy : l.server.held ≢ [];
+  spent : SpentCalls g.R.Read.remaining g.W.Write.contents l.fn.turns l.before l.fn.server l.server l.fn.reader l.reader l.fn.writer l.writer l.fn.marks.items l.marks.items;
+  follows : Follows l.fn.server l.server l.fn.marks.items l.marks.items;
+}
