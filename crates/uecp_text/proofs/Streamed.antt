@@ -1,13 +1,13 @@
 -- Runs whose lines are written out as they come.
-use Rattle.std.proofs.Common.{◌≡◌, ◌∙◌, ℕ, ◌+◌, List, [], ◌∷◌, ◌++◌, Option, Some, None, Result, Ok, Err, refl, ap, subst, sym, inl, inr, IsTrue, true, OnOk, IfErr}
+use Rattle.std.proofs.Common.{◌≡◌, ◌∙◌, ℕ, ◌+◌, List, [], ◌∷◌, ◌++◌, Option, Some, None, Result, Ok, Err, refl, ap, subst, sym, inl, inr, IsTrue, true}
 use Rattle.std.specs.Io.KnownBytes.{Appends}
 use Rattle.std.proofs.KnownBytes.{Appends-nil, Appends-trans}
 use Rattle.uecp_text.specs.declared.run_fault.RunFault.{RunFault}
 use Rattle.uecp_text.specs.declared.run_fault.RunFault.TheVariants.{Writing, OutOfMemory}
-use Rattle.uecp_text.specs.Input.{under, numbered, said, lines_of, texts_of}
-use Rattle.uecp_text.specs.Run.{Meaning, Runs, RunsFirst, RunsOn, IsInput, WritesSome}
-use Rattle.uecp_text.specs.Streaming.{BreaksOut, RunsOut, RunsOutWhole}
-use Rattle.uecp_text.specs.Written.{Kept, Adds, Writes, Begins}
+use Rattle.uecp_text.specs.Input.{under, numbered, said, lines_of}
+use Rattle.uecp_text.specs.Run.{Meaning, Runs, RunsFirst, RunsOn}
+use Rattle.uecp_text.specs.Streaming.{BreaksOut, RunsOut}
+use Rattle.uecp_text.specs.Written.{Kept, Writes, Begins}
 use Rattle.uecp_text.proofs.Begun.{begun_on}
 use Rattle.uecp_text.proofs.Runs.{Led, first_all, led_at_first, led_on, led_first, led_stop, led_end}
 
@@ -100,52 +100,3 @@ streams_end meaning start v texts held now number rest so_far none =
 
 pub is_no_fault : (fault : RunFault) → (let r : Result (Unit {0}) RunFault = Ok tt in r) ≡ Err fault → ⊥
 is_no_fault fault is = cc
-
--- ---- the end of an input, and the closing lines after it
-module _ {V : Type 0} (meaning : Meaning V) (v v' : V) (closing : V → List ℕ) (unread unread' held between held' : Option (List ℕ)) (input : List ℕ) (is_input : IsInput unread unread' input) where
-  -- a run that stopped before its end
-  pub whole_stopped : (fault : RunFault) → RunsOut meaning v (texts_of input) held between (Err fault) v' → RunsOutWhole meaning v closing unread unread' held between (Err fault) v'
-  whole_stopped fault ran = elim ran [
-    | inl (broken, is, breaks) ↦ inl (broken, is, inr (input, is_input, some_written broken breaks))
-    | inr (lines, runs, wrote) ↦ inr (input, lines, is_input, runs, wrote)
-  ]
-    where
-      some_written : (fault : RunFault) → BreaksOut meaning v (texts_of input) held between fault → WritesSome meaning v closing input held between fault
-      some_written OutOfMemory breaks = breaks
-      some_written Writing (lines, up_to, begins) = (lines, elim up_to [ inl some ↦ inl some | inr (stop, w, runs) ↦ inr (Err stop, (w, runs)) ], begins)
-      some_written fault breaks = absurd breaks
-
-  -- no memory for the closing lines
-  pub whole_wanting : RunsOut meaning v (texts_of input) held between (Ok tt) v' → RunsOutWhole meaning v closing unread unread' held between (Err OutOfMemory) v'
-  whole_wanting ran = elim ran [
-    | inl (fault, is, breaks) ↦ absurd (is_no_fault fault is)
-    | inr (lines, runs, wrote) ↦ inl (OutOfMemory, refl, inr (input, is_input, (lines, first_all meaning v v' (texts_of input) lines runs, wrote)))
-  ]
-
-  pub whole_out : (before after : Kept) (result : Result (Unit {0}) RunFault) → RunsOut meaning v (texts_of input) held between (Ok tt) v' → before.bytes ≡ [] → Adds before after (closing v') → IsTrue after.is_whole →
-      OnOk result (Appends between held' after.bytes) → Begins between held' after.bytes → IfErr result (λ fault. fault ≡ Writing) → RunsOutWhole meaning v closing unread unread' held held' result v'
-  whole_out before after result ran empty adds whole wrote begun failed = elim ran [
-    | inl (fault, is, breaks) ↦ absurd (is_no_fault fault is)
-    | inr (lines, runs, appends) ↦ by_result lines runs appends result wrote failed
-  ]
-    where
-      closed : after.bytes ≡ closing v'
-      closed = (adds whole).1 ∙ ap (λ bytes. bytes ++ closing v') empty
-
-      by_result : (lines : List ℕ) → Runs meaning v (texts_of input) lines None v' → Appends held between lines → (result : Result (Unit {0}) RunFault) → OnOk result (Appends between held' after.bytes) →
-          IfErr result (λ fault. fault ≡ Writing) → RunsOutWhole meaning v closing unread unread' held held' result v'
-      by_result lines runs appends (Ok done) wrote failed = inr (input, lines, is_input, runs, Appends-trans held between held' lines (closing v') appends (subst (Appends between held') closed wrote))
-      by_result lines runs appends (Err fault) wrote failed =
-          inl (
-            Writing,
-            ap stopped failed,
-            inr (
-              input,
-              is_input,
-              (
-                lines ++ closing v',
-                inr (Ok tt, (v', lines, runs, refl)),
-                begun_on held between held' lines (closing v') (lines ++ closing v') refl appends (subst (Begins between held') closed begun),
-              ),
-            ),
-          )

@@ -1,10 +1,9 @@
 -- A run whose lines are written out as they come (profile).
-use Rattle.std.specs.Prelude.{◌≡◌, ◌⊎◌, ℕ, List, ◌++◌, Option, Some, None, Result, Ok, Err, MatchResult}
+use Rattle.std.specs.Prelude.{◌≡◌, ◌⊎◌, ℕ, List, Option, Some, None, Result, Ok, Err}
 use Rattle.std.specs.Io.KnownBytes.{Appends}
 use Rattle.uecp_text.specs.declared.run_fault.RunFault.{RunFault}
 use Rattle.uecp_text.specs.declared.run_fault.RunFault.TheVariants as run
-use Rattle.uecp_text.specs.Input.{texts_of}
-use Rattle.uecp_text.specs.Run.{Meaning, Runs, RunsFirst, IsInput, Breaks}
+use Rattle.uecp_text.specs.Run.{Meaning, Runs, RunsFirst}
 use Rattle.uecp_text.specs.Written.{Begins}
 
 -- why a run stopped before its texts did, if it stopped
@@ -24,10 +23,3 @@ BreaksOut meaning v texts held held' fault = ⊥
 abbrev pub RunsOut : {V : Type 0} → Meaning V → V → List (ℕ × List ℕ) → (held held' : Option (List ℕ)) → Result (Unit {0}) RunFault → V → Type 0
 RunsOut meaning v texts held held' result v' =
     ((fault : RunFault) × (result ≡ Err fault) × BreaksOut meaning v texts held held' fault) ⊎ ((lines : List ℕ) × Runs meaning v texts lines (stop_of result) v' × Appends held held' lines)
-
--- The same of all that a reader had left, with the closing lines of the value that is left where the run stops at no text.
-abbrev pub RunsOutWhole : {V : Type 0} → Meaning V → V → (closing : V → List ℕ) → (unread unread' : Option (List ℕ)) → (held held' : Option (List ℕ)) → Result (Unit {0}) RunFault → V → Type 0
-RunsOutWhole meaning v closing unread unread' held held' result v' =
-    ((fault : RunFault) × (result ≡ Err fault) × Breaks meaning v closing unread unread' held held' fault)
-    ⊎ ((input : List ℕ) × (lines : List ℕ) × IsInput unread unread' input × Runs meaning v (texts_of input) lines (stop_of result) v'
-    × MatchResult result (λ _. Appends held held' (lines ++ closing v')) (λ _. Appends held held' lines))

@@ -1,37 +1,20 @@
 //! A run over the texts of an input whose lines are written out as they come (profile).
 ghost use Rattle.std.specs.Prelude.{[]};
 ghost use Rattle.uecp_text.specs.Input.{said, under, texts_of};
-ghost use Rattle.uecp_text.specs.Streaming.{RunsOut, RunsOutWhole};
+ghost use Rattle.uecp_text.specs.Streaming.{RunsOut};
 
-use crate::input::{first_line, read_all};
+use crate::input::first_line;
 use crate::interpreter::{Interpreter, take_line};
 use crate::output::Output;
 use crate::run_fault::RunFault;
 use std::alloc::Global;
-use std::io::{Read, Write};
+use std::io::Write;
 
-/// Runs the interpreter over all that the reader has, as [`run`](crate::run) does, but writes out what each text brings, and flushes
-/// the writer, before the next text is taken.
+/// Takes what the lines of an input say, up to the first text at which the run stops, and writes out what each brings, and flushes
+/// the writer, before the next text is taken. The closing lines are left out.
 ///
-/// Errors: those of [`run`](crate::run).
-pub fn run_line_by_line<R: Read, W: Write, I: Interpreter>(
-    alloc: Global,
-    reader: &mut R,
-    interpreter: &mut I,
-    writer: &mut W,
-) -> Result<(), RunFault>
-    ensures { RunsOutWhole I.meaning interpreter.old I.closing (R.remaining reader.old) (R.remaining reader.new) (W.contents writer.old) (W.contents writer.new) result interpreter.new }
-{
-    let input = read_all(alloc, reader)?;
-    write_lines(alloc, input.as_slice(), interpreter, writer)?;
-    let mut output = Output::new(alloc);
-    interpreter.close(&mut output);
-    output.check()?;
-    output.write_out(writer)
-}
-
-/// Takes what the lines of the input say, up to the first text at which the run stops, and writes out what each brings.
-fn write_lines<W: Write, I: Interpreter>(
+/// Errors: those of [`run`](crate::run) that come of the texts, of memory and of the writer.
+pub fn run_lines_out<W: Write, I: Interpreter>(
     alloc: Global,
     input: &[u8],
     interpreter: &mut I,

@@ -1,7 +1,7 @@
 use Rattle.std.proofs.Common.{◌+◌, ◌≤◌, length}
 use Rattle.uecp_text.specs.Input.{lines_of, numbered, texts_of}
 use Rattle.uecp_text.proofs.Streamed.{Streams}
-use Rattle.uecp_text.proofs.streaming.write_lines.Given as goal
+use Rattle.uecp_text.proofs.streaming.run_lines_out.Given as goal
 
 -- what the lines so far brought is written, and what the rest brings comes behind it
 abbrev pub invariant-loop-rest : goal.invariant-loop-rest

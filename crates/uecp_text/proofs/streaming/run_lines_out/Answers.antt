@@ -3,7 +3,7 @@ use Rattle.uecp_text.specs.Input.{texts_of}
 use Rattle.uecp_text.specs.Streaming.{RunsOut}
 use Rattle.uecp_text.proofs.Lines.{empty_is}
 use Rattle.uecp_text.proofs.Streamed.{is_no_fault, streams_at_first, streams_on, streams_out, streams_end}
-use Rattle.uecp_text.proofs.streaming.write_lines.Goals as goal
+use Rattle.uecp_text.proofs.streaming.run_lines_out.Goals as goal
 
 pub loop-rest-init : goal.loop-rest-init
 loop-rest-init g c = record { count = omega arith; streams = streams_at_first g.I.Interpreter.meaning c.args.interpreter.now (texts_of c.args.input.now) (g.W.Write.contents c.args.writer.now) }
