@@ -77,13 +77,14 @@ pub record AreListening (rows : List Row) (port connections turns : ℕ) : Type 
   pub is_turns : IsOption (one_of (codes "turns") rows) 1 1000000 turns
 
 -- Where a server finds its encoder, and its bounds, are those that the matches of its command have.
-pub record AreSending (rows : List Row) (host : List ℕ) (port tries timeout turns reconnects : ℕ) : Type 0 where
+pub record AreSending (rows : List Row) (host : List ℕ) (port tries timeout turns reconnects window : ℕ) : Type 0 where
   pub is_host : host ≡ host_text rows
   pub is_port : IsPort rows port
   pub is_tries : IsOption (one_of (codes "tries") rows) 1 100 tries
   pub is_timeout : IsOption (one_of (codes "timeout") rows) 1 60000 timeout
   pub is_turns : IsOption (one_of (codes "turns") rows) 1 1000 turns
   pub is_reconnects : IsOption (one_of (codes "reconnects") rows) 0 100 reconnects
+  pub is_window : IsOption (one_of (codes "window") rows) 1 8 window
 
 -- The job is that of the command of this name, with the options that its matches have.
 abbrev pub IsJobOf : (name : List ℕ) → List Row → Job → Type 0
@@ -93,8 +94,8 @@ IsJobOf name rows (Line site encoder sets services store) =
     (name ≡ codes "line") × AreOptions rows site encoder sets services.items × IsStore rows store
 IsJobOf name rows (Encoder site encoder sets services port connections turns) =
     (name ≡ codes "encoder") × AreOptions rows site encoder sets services.items × AreListening rows port connections turns
-IsJobOf name rows (Server site encoder host port tries timeout turns reconnects) =
-    (name ≡ codes "server") × IsPlace rows site encoder × AreSending rows (string_bytes host) port tries timeout turns reconnects
+IsJobOf name rows (Server site encoder host port tries timeout turns reconnects window) =
+    (name ≡ codes "server") × IsPlace rows site encoder × AreSending rows (string_bytes host) port tries timeout turns reconnects window
 IsJobOf name rows Make = name ≡ codes "make"
 IsJobOf name rows Show = name ≡ codes "show"
 
@@ -151,7 +152,8 @@ listening_command =
 -- The options of a server's bounds.
 abbrev pub bound_options : List Rule
 bound_options =
-    number_option (codes "tries") 1 100 (Some (codes "3")) ∷ number_option (codes "timeout") 1 60000 (Some (codes "1000")) ∷ number_option (codes "turns") 1 1000 (Some (codes "16")) ∷ number_option (codes "reconnects") 0 100 (Some (codes "3")) ∷ []
+    number_option (codes "tries") 1 100 (Some (codes "3")) ∷ number_option (codes "timeout") 1 60000 (Some (codes "1000")) ∷ number_option (codes "turns") 1 1000 (Some (codes "16")) ∷ number_option (codes "reconnects") 0 100 (Some (codes "3"))
+    ∷ number_option (codes "window") 1 8 (Some (codes "1")) ∷ []
 
 -- The command `server`.
 abbrev pub sending_command : Shape

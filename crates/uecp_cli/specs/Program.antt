@@ -40,7 +40,7 @@ HasDone words unread unread' held held' = (job : Job) × Asks words job × IsAll
 abbrev pub HasRefused : (words : List (List ℕ)) → (unread unread' held held' told told' : Option (List ℕ)) → Type 0
 HasRefused words unread unread' held held' told told' = (job : Job) × Asks words job × IsRefused job unread unread' held held' told told'
 
--- The job came to no end, and that was said: memory, reading or writing failed, and what was written is a beginning of what the job writes of its input; or a message is outstanding; or connections
+-- The job came to no end, and that was said: memory, reading or writing failed, and what was written is a beginning of what the job writes of its input; or messages are outstanding; or connections
 -- could not be served, and no input was read.
 abbrev pub HasNotEnded : Job → (unread unread' held held' told told' : Option (List ℕ)) → Type 0
 HasNotEnded job unread unread' held held' told told' =

@@ -184,3 +184,17 @@ pub fn reconnects<'a>(alloc: Global) -> Arg<'a>
         .value_parser(value_parser!(u32).range(0..=100))
         .default_value("3")
 }
+
+/// The option `window`.
+pub fn window<'a>(alloc: Global) -> Arg<'a>
+    ensures rule { rule_of result ≡ number_option (codes "window") 1 8 (Some (codes "1")) }
+    ensures own { result.global ≡ false }
+{
+    Arg::new(alloc, "window")
+        .long("window")
+        .value_name("N")
+        .help("How many messages are on their way at once, 1 to 8")
+        .action(ArgAction::Set)
+        .value_parser(value_parser!(u8).range(1..=8))
+        .default_value("1")
+}

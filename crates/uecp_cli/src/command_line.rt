@@ -8,7 +8,7 @@ ghost use Rattle.uecp_cli.specs.CommandLine.{Asks, RefusesWords, command_with, p
 
 use crate::arguments::{
     connections, encoder, host, port, reconnects, serve_turns, services, sets, site, store,
-    timeout, tries, try_turns,
+    timeout, tries, try_turns, window,
 };
 use crate::matched::{answer_of, encoder_of, line_of, server_of};
 use crate::usage::Usage;
@@ -132,7 +132,8 @@ fn server_command<'a>(alloc: Global) -> Result<Command<'a>, AllocError>
         .arg(tries(alloc))?
         .arg(timeout(alloc))?
         .arg(try_turns(alloc))?
-        .arg(reconnects(alloc))
+        .arg(reconnects(alloc))?
+        .arg(window(alloc))
 }
 
 /// The command with the options of an encoder and the flag for its store.

@@ -117,5 +117,6 @@ pub fn server_of(alloc: Global, found: &ArgMatches<'_>) -> Result<Job, Usage>
         timeout: large_of(found, "timeout", 1, 60_000),
         turns: large_of(found, "turns", 1, 1000),
         reconnects: large_of(found, "reconnects", 0, 100),
+        window: small_of(found, "window", 8),
     })
 }

@@ -250,6 +250,17 @@ fn words_come_to_a_status(rt: HostRuntime) -> Result<(), Fail> {
     assert_eq!(rt; said.as_slice(), b"uecp: services: NotAList\n".as_slice());
     words_come_to(&rt, alloc, &["uecp", "answer", "--site", "0"], 2, 0)?;
     words_come_to(&rt, alloc, &["uecp", "listen"], 2, 0)?;
+    let server = ["uecp", "server", "--port", "4000", "--window"];
+    for window in ["0", "9"] {
+        let [program, command, port, number, option] = server;
+        words_come_to(
+            &rt,
+            alloc,
+            &[program, command, port, number, option, window],
+            2,
+            0,
+        )?;
+    }
     let said = words_come_to(&rt, alloc, &["uecp", "--version"], 0, 0)?;
     assert!(rt; said.is_empty());
     Ok(())

@@ -9,7 +9,7 @@ use Rattle.uecp_text.specs.declared.run_fault.RunFault.{RunFault}
 use Rattle.uecp_text.specs.declared.run_fault.RunFault.TheVariants as run
 use Rattle.uecp_text.specs.Faults.{Fails, status_of}
 use Rattle.uecp_text.specs.Input.{texts_of}
-use Rattle.uecp_text.specs.Run.{Meaning, Ends, Runs, Prints, Breaks, RunsWhole}
+use Rattle.uecp_text.specs.Run.{Meaning, Ends, Runs, Prints, RunsWhole}
 use Rattle.uecp_jobs.specs.declared.answering.Answering.{Answering}
 use Rattle.uecp_jobs.specs.declared.event_script.Playing.{Playing}
 use Rattle.uecp_jobs.specs.declared.frame_script.Making.{Making}
@@ -21,19 +21,19 @@ use Rattle.uecp_jobs.specs.FrameScript.{Makes, spelled_line}
 use Rattle.uecp_jobs.specs.Playing.{Plays, closing_lines}
 use Rattle.uecp_net.specs.Sending.{Sends}
 use Rattle.uecp_jobs.specs.Setups.{Options, RefusesSetup, encoder_at_first, line_at_first}
-use Rattle.uecp_jobs.specs.Jobs.{options, IsLocal, ByCommand, JobPrints, JobBreaks, RefusesJob, DoesJob, Wrote}
+use Rattle.uecp_jobs.specs.Jobs.{options, IsLocal, ByCommand, BreaksFrom, JobPrints, JobBreaks, RefusesJob, DoesJob, Wrote}
 use Rattle.uecp_jobs.proofs.Parts.{whole_part}
 
--- what is told of a meaning, a value and closing lines
+-- what is told of a meaning, a value that depends on the input, and closing lines
 abbrev Tells : Type 1
-Tells = (V : Type 0) → Meaning V → V → (closing : V → List ℕ) → Type 0
+Tells = (V : Type 0) → Meaning V → (start : List ℕ → V) → (closing : V → List ℕ) → Type 0
 
 -- a job whose command ran
 pub does_by : {V : Type 0} (job : Job) (meaning : Meaning V) (v : V) (closing : V → List ℕ) (unread unread' held held' : Option (List ℕ)) (result : Result (Unit {0}) RunFault) →
-    RunsWhole meaning v closing unread unread' held held' result → ((tells : Tells) → tells V meaning v closing → ByCommand job tells) → DoesJob job unread unread' held held' result
+    RunsWhole meaning v closing unread unread' held held' result → ((tells : Tells) → tells V meaning (λ input. v) closing → ByCommand job tells) → DoesJob job unread unread' held held' result
 does_by job meaning v closing unread unread' held held' result ran by = elim ran [
-  | inl (fault, is, breaks) ↦ inl (fault, is, by (λ V meaning v closing. Breaks meaning v closing unread unread' held held' fault) breaks)
-  | inr (input, written, is_input, prints, appends) ↦ inr (input, written, is_input, by (λ V meaning v closing. Prints meaning v closing input result written) prints, appends)
+  | inl (fault, is, breaks) ↦ inl (fault, is, by (λ V meaning start closing. BreaksFrom meaning start closing unread unread' held held' fault) breaks)
+  | inr (input, written, is_input, prints, appends) ↦ inr (input, written, is_input, by (λ V meaning start closing. Prints meaning (start input) closing input result written) prints, appends)
 ]
 
 -- ---- each command
@@ -93,33 +93,33 @@ not_failed run.Connection status f is = absurd f
 not_failed run.Outstanding status f is = absurd f
 
 -- what a job failed for
-pub breaks_fails : {V : Type 0} (meaning : Meaning V) (v : V) (closing : V → List ℕ) (unread unread' held held' : Option (List ℕ)) (fault : RunFault) → Breaks meaning v closing unread unread' held held' fault → Fails fault
-breaks_fails meaning v closing unread unread' held held' run.TooLong breaks = tt
-breaks_fails meaning v closing unread unread' held held' run.Reading breaks = tt
-breaks_fails meaning v closing unread unread' held held' run.Writing breaks = tt
-breaks_fails meaning v closing unread unread' held held' run.OutOfMemory breaks = tt
-breaks_fails meaning v closing unread unread' held held' fault breaks = elim breaks [ inl ((read, consumed, stops), same) ↦ absurd stops | inr (input, is_input, some) ↦ absurd some ]
+breaks_fails : {V : Type 0} (meaning : Meaning V) (start : List ℕ → V) (closing : V → List ℕ) (unread unread' held held' : Option (List ℕ)) (fault : RunFault) → BreaksFrom meaning start closing unread unread' held held' fault → Fails fault
+breaks_fails meaning start closing unread unread' held held' run.TooLong breaks = tt
+breaks_fails meaning start closing unread unread' held held' run.Reading breaks = tt
+breaks_fails meaning start closing unread unread' held held' run.Writing breaks = tt
+breaks_fails meaning start closing unread unread' held held' run.OutOfMemory breaks = tt
+breaks_fails meaning start closing unread unread' held held' fault breaks = elim breaks [ inl ((read, consumed, stops), same) ↦ absurd stops | inr (input, is_input, some) ↦ absurd some ]
 
 -- what follows from what is told of any meaning
-from_command : (job : Job) (tells : Tells) (P : Type 0) → ((V : Type 0) (meaning : Meaning V) (v : V) (closing : V → List ℕ) → tells V meaning v closing → P) → ByCommand job tells → P
+from_command : (job : Job) (tells : Tells) (P : Type 0) → ((V : Type 0) (meaning : Meaning V) (start : List ℕ → V) (closing : V → List ℕ) → tells V meaning start closing → P) → ByCommand job tells → P
 from_command Show tells P follows told = follows _ _ _ _ told
 from_command Make tells P follows told = follows _ _ _ _ told
 from_command (Answer site encoder sets services store) tells P follows told = follows _ _ _ _ told
 from_command (Line site encoder sets services store) tells P follows told = follows _ _ _ _ told
-from_command (Server site encoder host port tries timeout turns reconnects) tells P follows told = follows _ _ _ _ told
+from_command (Server site encoder host port tries timeout turns reconnects window) tells P follows told = follows _ _ _ _ told
 from_command (Encoder site encoder sets services port connections turns) tells P follows told = absurd told
 
 pub job_breaks_fails : (job : Job) (unread unread' held held' : Option (List ℕ)) (fault : RunFault) → JobBreaks job unread unread' held held' fault → Fails fault
 job_breaks_fails job unread unread' held held' fault breaks =
-    from_command job (λ V meaning v closing. Breaks meaning v closing unread unread' held held' fault) (Fails fault) (λ V meaning v closing. breaks_fails meaning v closing unread unread' held held' fault) breaks
+    from_command job (λ V meaning start closing. BreaksFrom meaning start closing unread unread' held held' fault) (Fails fault) (λ V meaning start closing. breaks_fails meaning start closing unread unread' held held' fault) breaks
 
 -- what is told of every meaning
-of_local : (job : Job) → IsLocal job → (tells : Tells) → ((V : Type 0) (meaning : Meaning V) (v : V) (closing : V → List ℕ) → tells V meaning v closing) → ByCommand job tells
+of_local : (job : Job) → IsLocal job → (tells : Tells) → ((V : Type 0) (meaning : Meaning V) (start : List ℕ → V) (closing : V → List ℕ) → tells V meaning start closing) → ByCommand job tells
 of_local Show local tells told = told _ _ _ _
 of_local Make local tells told = told _ _ _ _
 of_local (Answer site encoder sets services store) local tells told = told _ _ _ _
 of_local (Line site encoder sets services store) local tells told = told _ _ _ _
-of_local (Server site encoder host port tries timeout turns reconnects) local tells told = absurd local
+of_local (Server site encoder host port tries timeout turns reconnects window) local tells told = absurd local
 of_local (Encoder site encoder sets services port connections turns) local tells told = absurd local
 
 -- a text that stops a run has status 1 or 3
@@ -140,7 +140,7 @@ prints_status Show input written fault (v', ran) is = stop_status Shows _ v' (te
 prints_status Make input written fault (v', ran) is = stop_status Makes _ v' (texts_of input) written fault ran is
 prints_status (Answer site encoder sets services store) input written fault (v', ran) is = stop_status Answers _ v' (texts_of input) written fault ran is
 prints_status (Line site encoder sets services store) input written fault (v', ran) is = stop_status Plays _ v' (texts_of input) written fault ran is
-prints_status (Server site encoder host port tries timeout turns reconnects) input written fault (v', ran) is = stop_status Sends _ v' (texts_of input) written fault ran is
+prints_status (Server site encoder host port tries timeout turns reconnects window) input written fault (v', ran) is = stop_status Sends _ v' (texts_of input) written fault ran is
 prints_status (Encoder site encoder sets services port connections turns) input written fault prints is = absurd prints
 
 -- where no text ends a run, one that a text stops has status 1
@@ -160,7 +160,7 @@ local_status Show local input written fault (v', ran) is = no_end Shows (λ v te
 local_status Make local input written fault (v', ran) is = no_end Makes (λ v text lines v' ended. ended) _ v' (texts_of input) written fault ran is
 local_status (Answer site encoder sets services store) local input written fault (v', ran) is = no_end Answers (λ v text lines v' ended. ended) _ v' (texts_of input) written fault ran is
 local_status (Line site encoder sets services store) local input written fault (v', ran) is = no_end Plays (λ v text lines v' ended. ended) _ v' (texts_of input) written fault ran is
-local_status (Server site encoder host port tries timeout turns reconnects) local input written fault prints is = local
+local_status (Server site encoder host port tries timeout turns reconnects window) local input written fault prints is = local
 local_status (Encoder site encoder sets services port connections turns) local input written fault prints is = local
 
 -- a refusal of status 3 is want of memory
@@ -177,14 +177,14 @@ job_wants Show local fault refused is = absurd refused
 job_wants Make local fault refused is = absurd refused
 job_wants (Answer site encoder sets services store) local fault refused is = setup_wants (options site encoder sets services.items) fault refused is
 job_wants (Line site encoder sets services store) local fault refused is = setup_wants (options site encoder sets services.items) fault refused is
-job_wants (Server site encoder host port tries timeout turns reconnects) local fault refused is = absurd local
+job_wants (Server site encoder host port tries timeout turns reconnects window) local fault refused is = absurd local
 job_wants (Encoder site encoder sets services port connections turns) local fault refused is = absurd local
 
 -- a job for which memory was wanting before anything was read
 wants_first : (job : Job) → IsLocal job → (unread unread' held held' : Option (List ℕ)) → unread' ≡ unread → held' ≡ held → JobBreaks job unread unread' held held' run.OutOfMemory
 wants_first job local unread unread' held held' unmoved unwritten =
-    of_local job local (λ V meaning v closing. Breaks meaning v closing unread unread' held held' run.OutOfMemory)
-    (λ V meaning v closing. inl (([], subst (λ left. Consumes unread left []) (sym unmoved) (Consumes-nil unread), tt), unwritten))
+    of_local job local (λ V meaning start closing. BreaksFrom meaning start closing unread unread' held held' run.OutOfMemory)
+    (λ V meaning start closing. inl (([], subst (λ left. Consumes unread left []) (sym unmoved) (Consumes-nil unread), tt), unwritten))
 
 says_status : (o : Options) (fault : RunFault) → RefusesSetup o fault → status_of fault ≡ 1 → ⊥
 says_status o fault (inl (store.OutOfMemory, refused, says)) is = let two : 3 ≡ 1 = sym (ap status_of says) ∙ is in omega (arith, two)
@@ -200,7 +200,7 @@ job_status Make fault refused is = refused
 job_status (Answer site encoder sets services store) fault refused is = says_status (options site encoder sets services.items) fault refused is
 job_status (Line site encoder sets services store) fault refused is = says_status (options site encoder sets services.items) fault refused is
 job_status (Encoder site encoder sets services port connections turns) fault refused is = says_status (options site encoder sets services.items) fault refused is
-job_status (Server site encoder host port tries timeout turns reconnects) fault refused is = let two : 2 ≡ 1 = sym (ap status_of refused.0) ∙ is in omega (arith, two)
+job_status (Server site encoder host port tries timeout turns reconnects window) fault refused is = let two : 2 ≡ 1 = sym (ap status_of refused.0) ∙ is in omega (arith, two)
 
 -- a run that stopped for this
 abbrev pub stopped : RunFault → Result (Unit {0}) RunFault

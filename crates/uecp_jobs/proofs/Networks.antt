@@ -11,22 +11,22 @@ use Rattle.uecp_net.specs.Sessions.{Outcome, Sessions, connection_lines}
 use Rattle.uecp_text.specs.declared.line_fault.LineFault.{LineFault}
 use Rattle.uecp_text.specs.declared.run_fault.RunFault.{RunFault}
 use Rattle.uecp_text.specs.declared.run_fault.RunFault.TheVariants as run
-use Rattle.uecp_text.specs.Faults.{Fails, status_of, error_lines}
+use Rattle.uecp_text.specs.Faults.{status_of, error_lines}
 use Rattle.uecp_text.specs.Input.{texts_of}
-use Rattle.uecp_text.specs.Run.{Meaning, Runs}
+use Rattle.uecp_text.specs.Run.{Meaning, Runs, IsInput, WritesSome}
 use Rattle.uecp_text.specs.Written.{Begins}
-use Rattle.uecp_text.specs.Streaming.{RunsOutWhole}
+use Rattle.uecp_text.specs.Streaming.{BreaksOut, RunsOut}
 use Rattle.uecp_net.specs.declared.sending.Outstanding.{Outstanding}
 use Rattle.uecp_net.specs.declared.sending.Outstanding.TheVariants.{TriesSpent, ConnectionFailed}
 use Rattle.uecp_link.specs.Server.{ServerState, idle_at}
 use Rattle.uecp_net.specs.Sending.{SenderState, Sends}
-use Rattle.uecp_net.proofs.Acknowledging.{all_acknowledged_lem, up_to_the_outstanding_lem}
+use Rattle.uecp_net.proofs.Acknowledging.{all_acknowledged_lem, before_a_refused_line_lem, up_to_the_outstanding_lem}
 use Rattle.uecp_jobs.specs.declared.job.Job.{Job}
 use Rattle.uecp_jobs.specs.declared.job.Job.TheVariants.{Encoder, Server}
 use Rattle.uecp_jobs.specs.Setups.{Options, IsSetup, encoder_at_first, sender_at_first, address_of}
-use Rattle.uecp_jobs.specs.Jobs.{options, IsDescribed, RefusesJob, IsDone, Wrote, HasFailed}
-use Rattle.uecp_jobs.specs.Networks.{IsEncoder, IsServer, ServedSome, Serves, HasNotListened, HasBroken, SendsLines, SendsAll, AreAcknowledged, IsOutstanding, said}
-use Rattle.uecp_jobs.proofs.Doing.{not_failed, breaks_fails, job_breaks_fails, setup_wants, job_status, stopped, same_fault}
+use Rattle.uecp_jobs.specs.Jobs.{options, sender_over, IsDescribed, RefusesJob, IsDone, Wrote, HasFailed}
+use Rattle.uecp_jobs.specs.Networks.{IsEncoder, IsServer, ServedSome, Serves, HasNotListened, HasBroken, SendsTexts, SendsLines, SendsAll, AreAcknowledged, AreAcknowledgedBefore, IsOutstanding, said}
+use Rattle.uecp_jobs.proofs.Doing.{not_failed, job_breaks_fails, setup_wants, job_status, stopped, same_fault}
 
 -- ---- why a run stops
 stops : {V : Type 0} (meaning : Meaning V) (v v' : V) (texts : List (ℕ × List ℕ)) (lines : List ℕ) (fault : RunFault) → Runs meaning v texts lines (Some fault) v' →
@@ -56,27 +56,32 @@ apart fault a b is_a is_b = sym is_a ∙ is_b
 -- ---- a server
 sent : (job : Job) (unread unread' held held' : Option (List ℕ)) → IsDescribed job → SendsAll job unread unread' held held' went →
     IsDone job unread unread' held held' × AreAcknowledged unread unread' held held'
-sent (Server site encoder host port tries timeout turns reconnects) unread unread' held held' described sends = elim sends [
+sent (Server site encoder host port tries timeout turns reconnects window) unread unread' held held' described sends = elim sends [
   | inl (fault, is, fails) ↦ absurd (no_fault fault is)
   | inr (input, lines, s', is_input, appends, ran) ↦
-      let told = all_acknowledged_lem (sender_at_first site encoder tries turns reconnects) s' (texts_of input) lines refl ran in (
+      let told = all_acknowledged_lem (sender_over site encoder tries turns reconnects window input) s' (texts_of input) lines (record { idle = refl; none = refl; ahead = refl }) ran in (
         (described, (input, lines, is_input, (s', lines, ran, sym (append-nil lines)), appends)),
         (input, told.0, is_input, told.1, subst (Appends held held') told.2 appends),
       )
 ]
 sent job unread unread' held held' described sends = absurd sends
 
-sent_up_to : (job : Job) (unread unread' held held' : Option (List ℕ)) (fault : RunFault) → SendsAll job unread unread' held held' (Err fault) → status_of fault ≡ 1 → Wrote job unread unread' (Err fault) held held'
-sent_up_to (Server site encoder host port tries timeout turns reconnects) unread unread' held held' fault sends is = elim sends [
+sent_up_to : (job : Job) (unread unread' held held' : Option (List ℕ)) (fault : RunFault) → SendsAll job unread unread' held held' (Err fault) → status_of fault ≡ 1 →
+    Wrote job unread unread' (Err fault) held held' × AreAcknowledgedBefore unread unread' held held'
+sent_up_to (Server site encoder host port tries timeout turns reconnects window) unread unread' held held' fault sends is = elim sends [
   | inl (f, same, breaks) ↦
-      (let job = Server site encoder host port tries timeout turns reconnects in
+      (let job = Server site encoder host port tries timeout turns reconnects window in
       absurd (let one : 1 ≡ 3 = not_failed f 1 (job_breaks_fails job unread unread' held held' f breaks) (sym (ap status_of (same_fault fault f same)) ∙ is) in omega (arith, one)))
   | inr (input, lines, s', is_input, appends, (stop, ran, is_said)) ↦
-      (let sender = sender_at_first site encoder tries turns reconnects in
+      (let sender = sender_over site encoder tries turns reconnects window input in
       elim (stops Sends sender s' (texts_of input) lines stop ran) [
         | inl (number, refusal, line) ↦
             let same : fault ≡ stop = is_said ∙ ap (λ f. said f s'.why) line ∙ sym line in
-            (input, lines, is_input, (s', subst (λ f. Runs Sends sender (texts_of input) lines (Some f) s') (sym same) ran), appends)
+            let told =
+            before_a_refused_line_lem sender s' (texts_of input) lines number refusal (record { idle = refl; none = refl; ahead = refl }) (subst (λ f. Runs Sends sender (texts_of input) lines (Some f) s') line ran) in (
+              (input, lines, is_input, (s', subst (λ f. Runs Sends sender (texts_of input) lines (Some f) s') (sym same) ran), appends),
+              (input, told.0, is_input, told.1, subst (Appends held held') told.2 appends),
+            )
         | inr out ↦ absurd (let three : 1 ≡ 3 = sym is ∙ ap status_of (is_said ∙ ap (λ f. said f s'.why) out) ∙ outstanding_status s'.why in omega (arith, three))
       ])
 ]
@@ -84,18 +89,18 @@ sent_up_to job unread unread' held held' fault sends is = absurd sends
 
 sent_or_not : (job : Job) (unread unread' held held' told told' : Option (List ℕ)) (fault : RunFault) → SendsAll job unread unread' held held' (Err fault) → (status_of fault ≡ 1 → ⊥) → Begins told told' (error_lines fault) →
     (status_of fault ≡ 3) × (IsOutstanding job unread unread' held held' told told' ⊎ HasFailed job unread unread' held held' told told')
-sent_or_not (Server site encoder host port tries timeout turns reconnects) unread unread' held held' told told' fault sends not_one begins = elim sends [
+sent_or_not (Server site encoder host port tries timeout turns reconnects window) unread unread' held held' told told' fault sends not_one begins = elim sends [
   | inl (f, same, breaks) ↦
       (let is = same_fault fault f same in
-      let fails = job_breaks_fails (Server site encoder host port tries timeout turns reconnects) unread unread' held held' f breaks in
+      let fails = job_breaks_fails (Server site encoder host port tries timeout turns reconnects window) unread unread' held held' f breaks in
       (not_failed f (status_of fault) fails (sym (ap status_of is)), inr (f, breaks, subst (λ f. Begins told told' (error_lines f)) is begins)))
   | inr (input, lines, s', is_input, appends, (stop, ran, is_said)) ↦
-      (let sender = sender_at_first site encoder tries turns reconnects in
+      (let sender = sender_over site encoder tries turns reconnects window input in
       elim (stops Sends sender s' (texts_of input) lines stop ran) [
         | inl (number, refusal, line) ↦ absurd (not_one (ap status_of (is_said ∙ ap (λ f. said f s'.why) line)))
         | inr out ↦
             let ended = subst (λ f. Runs Sends sender (texts_of input) lines (Some f) s') out ran in
-            let up_to = up_to_the_outstanding_lem sender s' (texts_of input) lines refl ended in
+            let up_to = up_to_the_outstanding_lem sender s' (texts_of input) lines (record { idle = refl; none = refl; ahead = refl }) ended in
             let told_is = is_said ∙ ap (λ f. said f s'.why) out in (
               ap status_of told_is ∙ outstanding_status s'.why,
               inl (input, lines, s', is_input, appends, ended, (up_to.0, up_to.1, up_to.2), subst (λ f. Begins told told' (error_lines f)) told_is begins),
@@ -110,12 +115,12 @@ encoder_wants (Encoder site encoder sets services port connections turns) fault 
 encoder_wants job fault encodes refused is = absurd encodes
 
 server_refuses : (job : Job) (fault : RunFault) → IsServer job → RefusesJob job fault → status_of fault ≡ 2
-server_refuses (Server site encoder host port tries timeout turns reconnects) fault serves refused = ap status_of refused.0
+server_refuses (Server site encoder host port tries timeout turns reconnects window) fault serves refused = ap status_of refused.0
 server_refuses job fault serves refused = absurd serves
 
 module _ (job : Job) (serves : IsServer job) (unread unread' held held' told told' : Option (List ℕ)) (unmoved unwritten unopened : Type 0) (fault : RunFault)
     (sends : ((f : RunFault) × (stopped fault ≡ stopped f) × RefusesJob job f × unmoved × unwritten × unopened) ⊎ SendsAll job unread unread' held held' (stopped fault)) where
-  pub server_refused : status_of fault ≡ 1 → Wrote job unread unread' (Err fault) held held'
+  pub server_refused : status_of fault ≡ 1 → Wrote job unread unread' (Err fault) held held' × AreAcknowledgedBefore unread unread' held held'
   server_refused is = elim sends [
     | inl (f, same, refused, reader, writer, connect) ↦ absurd (job_status job f refused (sym (ap status_of (same_fault fault f same)) ∙ is))
     | inr sent ↦ sent_up_to job unread unread' held held' fault sent is
@@ -173,68 +178,61 @@ module _ {C I O : Type 0} (opens : C → Option (I × O) → C → Type 0) (rema
   ]
 
 -- ---- a run of a sender
-only_stops : {V : Type 0} (meaning : Meaning V) (v v' : V) (closing : V → List ℕ) (unread unread' held held' : Option (List ℕ)) (fault : RunFault) →
-    RunsOutWhole meaning v closing unread unread' held held' (Err fault) v' → Fails fault ⊎ (status_of fault ≡ 1) ⊎ (fault ≡ run.Outstanding)
-only_stops meaning v v' closing unread unread' held held' fault whole = elim whole [
-  | inl (f, same, breaks) ↦ inl (subst Fails (sym (same_fault fault f same)) (breaks_fails meaning v closing unread unread' held held' f breaks))
-  | inr (input, lines, is_input, ran, appends) ↦ elim (stops meaning v v' (texts_of input) lines fault ran) [
-    | inl (number, refusal, line) ↦ inr (inl (ap status_of line))
-    | inr out ↦ inr (inr out)
-  ]
-]
-
--- the faults that no run over an input has
+-- the faults that no run over texts has
 abbrev pub IsOfNoRun : RunFault → Type 0
+IsOfNoRun run.TooLong = Unit {0}
+IsOfNoRun run.Reading = Unit {0}
 IsOfNoRun (run.Services name) = Unit {0}
 IsOfNoRun run.Address = Unit {0}
 IsOfNoRun run.Listening = Unit {0}
 IsOfNoRun run.Connection = Unit {0}
 IsOfNoRun fault = ⊥
 
-no_run_fails : (fault : RunFault) → IsOfNoRun fault → Fails fault → ⊥
-no_run_fails (run.Services name) of fails = fails
-no_run_fails run.Address of fails = fails
-no_run_fails run.Listening of fails = fails
-no_run_fails run.Connection of fails = fails
-no_run_fails fault of fails = of
+no_run_breaks : {V : Type 0} (meaning : Meaning V) (v : V) (texts : List (ℕ × List ℕ)) (held held' : Option (List ℕ)) (fault : RunFault) → IsOfNoRun fault → BreaksOut meaning v texts held held' fault → ⊥
+no_run_breaks meaning v texts held held' run.Writing of breaks = of
+no_run_breaks meaning v texts held held' run.OutOfMemory of breaks = of
+no_run_breaks meaning v texts held held' fault of breaks = breaks
 
-no_run_one : (fault : RunFault) → IsOfNoRun fault → status_of fault ≡ 1 → ⊥
-no_run_one (run.Services name) of is = omega (arith, is)
-no_run_one run.Address of is = omega (arith, is)
-no_run_one run.Listening of is = omega (arith, is)
-no_run_one run.Connection of is = omega (arith, is)
-no_run_one fault of is = of
-
-pub not_by_a_run : {V : Type 0} (meaning : Meaning V) (v v' : V) (closing : V → List ℕ) (unread unread' held held' : Option (List ℕ)) (result : Result (Unit {0}) RunFault) (fault : RunFault) →
-    RunsOutWhole meaning v closing unread unread' held held' result v' → result ≡ Err fault → IsOfNoRun fault → ⊥
-not_by_a_run meaning v v' closing unread unread' held held' result fault whole is of =
-    elim (only_stops meaning v v' closing unread unread' held held' fault (subst (λ r. RunsOutWhole meaning v closing unread unread' held held' r v') is whole)) [
-      | inl fails ↦ no_run_fails fault of fails
-      | inr (inl one) ↦ no_run_one fault of one
-      | inr (inr out) ↦ subst IsOfNoRun out of
-    ]
-
-said_fails : (fault : RunFault) (why : Option Outstanding) → Fails fault → said fault why ≡ fault
-said_fails run.TooLong why fails = refl
-said_fails run.Reading why fails = refl
-said_fails run.Writing why fails = refl
-said_fails run.OutOfMemory why fails = refl
-said_fails fault why fails = absurd fails
-
-pub lines_sent : (s s' : SenderState) (unread unread' held held' : Option (List ℕ)) → RunsOutWhole Sends s (λ _. []) unread unread' held held' went s' → SendsLines s unread unread' held held' went
-lines_sent s s' unread unread' held held' whole = elim whole [
-  | inl (f, same, fails) ↦ absurd (no_fault f same)
-  | inr (input, lines, is_input, ran, appends) ↦ inr (input, lines, s', is_input, subst (Appends held held') (append-nil lines) appends, ran)
+pub not_by_a_run : {V : Type 0} (meaning : Meaning V) (v v' : V) (texts : List (ℕ × List ℕ)) (held held' : Option (List ℕ)) (result : Result (Unit {0}) RunFault) (fault : RunFault) →
+    RunsOut meaning v texts held held' result v' → result ≡ Err fault → IsOfNoRun fault → ⊥
+not_by_a_run meaning v v' texts held held' result fault ran is of = elim (subst (λ r. RunsOut meaning v texts held held' r v') is ran) [
+  | inl (f, same, breaks) ↦ no_run_breaks meaning v texts held held' f (subst IsOfNoRun (same_fault fault f same) of) breaks
+  | inr (lines, runs, appends) ↦ elim (stops meaning v v' texts lines fault runs) [
+    | inl (number, refusal, line) ↦ subst IsOfNoRun line of
+    | inr out ↦ subst IsOfNoRun out of
+  ]
 ]
 
-pub lines_stopped : (s s' : SenderState) (unread unread' held held' : Option (List ℕ)) (fault : RunFault) →
-    RunsOutWhole Sends s (λ _. []) unread unread' held held' (Err fault) s' → SendsLines s unread unread' held held' (Err (said fault s'.why))
-lines_stopped s s' unread unread' held held' fault whole = elim whole [
-  | inl (f, same, breaks) ↦
-      (let is_f = same_fault fault f same in
-      let fails = subst Fails (sym is_f) (breaks_fails Sends s (λ _. []) unread unread' held held' f breaks) in
-      inl (f, ap stopped (said_fails fault s'.why fails ∙ is_f), breaks))
-  | inr (input, lines, is_input, ran, appends) ↦ inr (input, lines, s', is_input, appends, (fault, ran, refl))
+said_breaks : (s : SenderState) (texts : List (ℕ × List ℕ)) (held held' : Option (List ℕ)) (fault : RunFault) (why : Option Outstanding) → BreaksOut Sends s texts held held' fault → said fault why ≡ fault
+said_breaks s texts held held' run.Writing why breaks = refl
+said_breaks s texts held held' run.OutOfMemory why breaks = refl
+said_breaks s texts held held' fault why breaks = absurd breaks
+
+pub texts_sent : (s s' : SenderState) (texts : List (ℕ × List ℕ)) (held held' : Option (List ℕ)) → RunsOut Sends s texts held held' went s' → SendsTexts s texts held held' went
+texts_sent s s' texts held held' ran = elim ran [
+  | inl (f, same, breaks) ↦ absurd (no_fault f same)
+  | inr (lines, runs, appends) ↦ inr (lines, s', appends, runs)
+]
+
+pub texts_stopped : (s s' : SenderState) (texts : List (ℕ × List ℕ)) (held held' : Option (List ℕ)) (fault : RunFault) →
+    RunsOut Sends s texts held held' (Err fault) s' → SendsTexts s texts held held' (Err (said fault s'.why))
+texts_stopped s s' texts held held' fault ran = elim ran [
+  | inl (f, same, breaks) ↦ inl (f, ap stopped (ap (λ f. said f s'.why) (same_fault fault f same) ∙ said_breaks s texts held held' f s'.why breaks), breaks)
+  | inr (lines, runs, appends) ↦ inr (lines, s', appends, (fault, runs, refl))
+]
+
+-- ---- an input of a sender
+some_written : (s : SenderState) (input : List ℕ) (held held' : Option (List ℕ)) (fault : RunFault) → BreaksOut Sends s (texts_of input) held held' fault → WritesSome Sends s (λ _. []) input held held' fault
+some_written s input held held' run.OutOfMemory breaks = breaks
+some_written s input held held' run.Writing (lines, up_to, begins) = (lines, elim up_to [ inl some ↦ inl some | inr (stop, s', runs) ↦ inr (Err stop, (s', runs)) ], begins)
+some_written s input held held' fault breaks = absurd breaks
+
+-- its messages were sent
+pub sends_texts : (start : List ℕ → SenderState) (unread unread' held held' : Option (List ℕ)) (input : List ℕ) (result : Result (Unit {0}) RunFault) → IsInput unread unread' input →
+    SendsTexts (start input) (texts_of input) held held' result → SendsLines start unread unread' held held' result
+sends_texts start unread unread' held held' input result is_input sends = elim sends [
+  | inl (fault, is, breaks) ↦ inl (fault, is, inr (input, is_input, some_written (start input) input held held' fault breaks))
+  | inr (lines, s', appends, sent) ↦ inr (input, lines, s', is_input, appends, sent)
 ]
 
 -- ---- a run of connections
@@ -284,7 +282,11 @@ sent_all job unread unread' held held' unmoved unwritten unopened described send
   | inr all ↦ sent job unread unread' held held' described all
 ]
 
-pub sender_is : (s : SenderState) (server : ServerState) (address site encoder tries turns reconnects : ℕ) →
-    s ≡ record { server = server; tries = tries; turns = turns; left = reconnects; why = None } → server ≡ idle_at address → address ≡ address_of site encoder → s ≡ sender_at_first site encoder tries turns reconnects
-sender_is s server address site encoder tries turns reconnects made idle is =
-    made ∙ ap (λ (server : ServerState). let s : SenderState = record { server = server; tries = tries; turns = turns; left = reconnects; why = None } in s) (idle ∙ ap idle_at is)
+pub sender_is : (s : SenderState) (server : ServerState) (address site encoder tries turns reconnects window ahead : ℕ) →
+    s ≡ record { server = server; tries = tries; turns = turns; left = reconnects; window = window; ahead = ahead; why = None } → server ≡ idle_at address → address ≡ address_of site encoder →
+    s ≡ sender_at_first site encoder tries turns reconnects window ahead
+sender_is s server address site encoder tries turns reconnects window ahead made idle is =
+    made
+    ∙ ap
+    (λ (server : ServerState). let s : SenderState = record { server = server; tries = tries; turns = turns; left = reconnects; window = window; ahead = ahead; why = None } in s)
+    (idle ∙ ap idle_at is)

@@ -9,18 +9,19 @@ use Rattle.uecp_text.specs.declared.run_fault.RunFault.{RunFault}
 use Rattle.uecp_text.specs.declared.run_fault.RunFault.TheVariants as run
 use Rattle.uecp_text.specs.Faults.{Fails, status_of, error_lines}
 use Rattle.uecp_text.specs.Input.{texts_of}
-use Rattle.uecp_text.specs.Run.{Runs, IsInput, Breaks}
+use Rattle.uecp_text.specs.Run.{Runs, IsInput}
+use Rattle.uecp_text.specs.Streaming.{BreaksOut}
 use Rattle.uecp_text.specs.Written.{Begins}
 use Rattle.uecp_net.specs.declared.sending.Outstanding.{Outstanding}
 use Rattle.uecp_net.specs.declared.sending.Outstanding.TheVariants.{ConnectionFailed}
-use Rattle.uecp_net.specs.Sending.{SenderState, Sends, acknowledged_lines}
+use Rattle.uecp_net.specs.Sending.{SenderState, Sends, acknowledged_lines, messages_first}
 use Rattle.uecp_net.specs.Sessions.{Outcome, Sessions, connection_lines}
 use Rattle.uecp_jobs.specs.declared.job.Job.{Job}
 use Rattle.uecp_jobs.specs.declared.job.Job.TheVariants.{Encoder, Server}
 use Rattle.uecp_jobs.specs.declared.network.Stop.{Stop}
 use Rattle.uecp_jobs.specs.declared.network.Stop.TheVariants as stop
-use Rattle.uecp_jobs.specs.Setups.{IsSetup, encoder_at_first, sender_at_first}
-use Rattle.uecp_jobs.specs.Jobs.{options}
+use Rattle.uecp_jobs.specs.Setups.{IsSetup, encoder_at_first}
+use Rattle.uecp_jobs.specs.Jobs.{options, sender_over, BreaksFrom}
 
 -- The job is that of `encoder`.
 abbrev pub IsEncoder : Job → Type 0
@@ -29,7 +30,7 @@ IsEncoder job = ⊥
 
 -- The job is that of `server`.
 abbrev pub IsServer : Job → Type 0
-IsServer (Server site encoder host port tries timeout turns reconnects) = Unit {0}
+IsServer (Server site encoder host port tries timeout turns reconnects window) = Unit {0}
 IsServer job = ⊥
 
 -- ---- `encoder`
@@ -90,7 +91,7 @@ HasServed (Encoder site encoder sets services port connections turns) held held'
 HasServed job held held' = ⊥
 
 -- ---- `server`
--- The fault that a run of a sender ends with: where a message is outstanding since no connection is left, that.
+-- The fault that a run of a sender ends with: where messages are outstanding since no connection is left, that.
 abbrev pub said : RunFault → (why : Option Outstanding) → RunFault
 said run.Outstanding (Some ConnectionFailed) = run.Connection
 said fault why = fault
@@ -98,8 +99,6 @@ said fault why = fault
 -- Why a run stopped, as its fault.
 abbrev pub as_fault : Stop → RunFault
 as_fault (stop.Line number refusal) = run.Line number refusal
-as_fault stop.TooLong = run.TooLong
-as_fault stop.Reading = run.Reading
 as_fault stop.Writing = run.Writing
 as_fault stop.OutOfMemory = run.OutOfMemory
 as_fault stop.Outstanding = run.Outstanding
@@ -108,19 +107,29 @@ abbrev pub as_run : Result (Unit {0}) Stop → Result (Unit {0}) RunFault
 as_run (Ok done) = Ok done
 as_run (Err stop) = Err (as_fault stop)
 
--- From this sender on, the messages of all that the reader had left were sent, as far as the result says, and the writer got the lines of that, as far as both tell. Or the run failed.
-abbrev pub SendsLines : SenderState → (unread unread' held held' : Option (List ℕ)) → Result (Unit {0}) RunFault → Type 0
-SendsLines s unread unread' held held' result =
-    ((fault : RunFault) × (result ≡ Err fault) × Breaks Sends s (λ _. []) unread unread' held held' fault)
-    ⊎ ((input : List ℕ) × (lines : List ℕ) × (s' : SenderState) × IsInput unread unread' input × Appends held held' lines
-    × MatchResult result
-    (λ _. Runs Sends s (texts_of input) lines None s')
-    (λ fault. (first : RunFault) × Runs Sends s (texts_of input) lines (Some first) s' × (fault ≡ said first s'.why)))
+-- The texts were taken one after another by this sender, as far as the result says, and bring these lines.
+abbrev pub Sent : SenderState → List (ℕ × List ℕ) → (lines : List ℕ) → SenderState → Result (Unit {0}) RunFault → Type 0
+Sent s texts lines s' result =
+    MatchResult result
+    (λ _. Runs Sends s texts lines None s')
+    (λ fault. (first : RunFault) × Runs Sends s texts lines (Some first) s' × (fault ≡ said first s'.why))
+
+-- From this sender on the texts were sent, as far as the result says, and the writer got the lines of that, as far as it tells. Or the run failed.
+abbrev pub SendsTexts : SenderState → List (ℕ × List ℕ) → (held held' : Option (List ℕ)) → Result (Unit {0}) RunFault → Type 0
+SendsTexts s texts held held' result =
+    ((fault : RunFault) × (result ≡ Err fault) × BreaksOut Sends s texts held held' fault) ⊎ ((lines : List ℕ) × (s' : SenderState) × Appends held held' lines × Sent s texts lines s' result)
+
+-- From the sender with which its input begins, the messages of all that the reader had left were sent, as far as the result says, and the writer got the lines of that, as far as both tell. Or the run
+-- failed.
+abbrev pub SendsLines : (start : List ℕ → SenderState) → (unread unread' held held' : Option (List ℕ)) → Result (Unit {0}) RunFault → Type 0
+SendsLines start unread unread' held held' result =
+    ((fault : RunFault) × (result ≡ Err fault) × BreaksFrom Sends start (λ _. []) unread unread' held held' fault)
+    ⊎ ((input : List ℕ) × (lines : List ℕ) × (s' : SenderState) × IsInput unread unread' input × Appends held held' lines × Sent (start input) (texts_of input) lines s' result)
 
 -- The same from the sender that the options describe.
 abbrev pub SendsAll : Job → (unread unread' held held' : Option (List ℕ)) → Result (Unit {0}) RunFault → Type 0
-SendsAll (Server site encoder host port tries timeout turns reconnects) unread unread' held held' result =
-    SendsLines (sender_at_first site encoder tries turns reconnects) unread unread' held held' result
+SendsAll (Server site encoder host port tries timeout turns reconnects window) unread unread' held held' result =
+    SendsLines (sender_over site encoder tries turns reconnects window) unread unread' held held' result
 SendsAll job unread unread' held held' result = ⊥
 
 -- The writer got one line for each message of all that the reader had left, in order, with the code and the tries of its acknowledgement, as far as both tell.
@@ -128,11 +137,17 @@ abbrev pub AreAcknowledged : (unread unread' held held' : Option (List ℕ)) →
 AreAcknowledged unread unread' held held' =
     (input : List ℕ) × (told : List (Code × ℕ)) × IsInput unread unread' input × (length told ≡ length (texts_of input)) × Appends held held' (acknowledged_lines told)
 
--- A message is outstanding: the writer got the lines of the messages before it, and its own; and where no connection was left that was said, or begun to be said, and nothing where the tries were spent.
+-- The writer got such a line for each message that comes before the first line that is refused, in order, and no other line, as far as both tell.
+abbrev pub AreAcknowledgedBefore : (unread unread' held held' : Option (List ℕ)) → Type 0
+AreAcknowledgedBefore unread unread' held held' =
+    (input : List ℕ) × (told : List (Code × ℕ)) × IsInput unread unread' input × (length told ≡ messages_first (texts_of input)) × Appends held held' (acknowledged_lines told)
+
+-- A batch is outstanding: the writer got the lines of the messages of the batches before it, and its own one; and where no connection was left that was said, or begun to be said, and nothing where the
+-- tries were spent.
 abbrev pub IsOutstanding : Job → (unread unread' held held' told told' : Option (List ℕ)) → Type 0
-IsOutstanding (Server site encoder host port tries timeout turns reconnects) unread unread' held held' told told' =
+IsOutstanding (Server site encoder host port tries timeout turns reconnects window) unread unread' held held' told told' =
     (input : List ℕ) × (lines : List ℕ) × (s' : SenderState) × IsInput unread unread' input × Appends held held' lines
-    × Runs Sends (sender_at_first site encoder tries turns reconnects) (texts_of input) lines (Some run.Outstanding) s'
+    × Runs Sends (sender_over site encoder tries turns reconnects window input) (texts_of input) lines (Some run.Outstanding) s'
     × ((acknowledged : List (Code × ℕ)) × (length acknowledged < length (texts_of input)) × (lines ≡ acknowledged_lines acknowledged ++ codes "outstanding\n"))
     × Begins told told' (error_lines (said run.Outstanding s'.why))
 IsOutstanding job unread unread' held held' told told' = ⊥

@@ -46,9 +46,9 @@ encoder_at_first o = state.opening (address_of o.site o.encoder) (opening o.sets
 abbrev pub line_at_first : Options → LineState Store
 line_at_first o = new_line (address_of o.site o.encoder) (opening o.sets o.services)
 
--- A server of that encoder at first, with so many tries and turns on each connection and so many reconnects in all.
-abbrev pub sender_at_first : (site encoder tries turns reconnects : ℕ) → SenderState
-sender_at_first site encoder tries turns reconnects = record { server = idle_at (address_of site encoder); tries = tries; turns = turns; left = reconnects; why = None }
+-- A server of that encoder at first, with so many tries and turns on each connection, so many reconnects in all and so many messages on their way at once, and so many messages ahead.
+abbrev pub sender_at_first : (site encoder tries turns reconnects window ahead : ℕ) → SenderState
+sender_at_first site encoder tries turns reconnects window ahead = record { server = idle_at (address_of site encoder); tries = tries; turns = turns; left = reconnects; window = window; ahead = ahead; why = None }
 
 -- What a run says where no store was made: want of memory, else the services, by the fault's name.
 abbrev pub SaysStoreFault : StoreFault → RunFault → Type 0

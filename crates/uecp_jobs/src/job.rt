@@ -50,7 +50,7 @@ pub enum Job {
         /// How many reads one connection may take, 1 to 1000000.
         turns: u32,
     },
-    /// A server that sends the messages on standard input to an encoder, each until it is acknowledged.
+    /// A server that sends the messages on standard input to an encoder, batch by batch, each until it is acknowledged.
     Server {
         /// The site of its encoder, 1 to 1023.
         site: u16,
@@ -68,5 +68,7 @@ pub enum Job {
         turns: u32,
         /// How many connections may be opened in all after the first, 0 to 100.
         reconnects: u32,
+        /// How many messages may be on their way at once, 1 to 8.
+        window: u8,
     },
 }

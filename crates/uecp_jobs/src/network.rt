@@ -3,10 +3,11 @@ ghost use Rattle.std.specs.Prelude.{◌≡◌, ◌≢◌, ◌⊎◌, ◌≤◌, 
 ghost use Rattle.uecp_text.specs.declared.run_fault.RunFault.{RunFault};
 ghost use Rattle.uecp_net.specs.declared.serving.ServeStop.TheVariants.{ListeningFailed};
 ghost use Rattle.uecp_text.specs.Faults.{Fails};
-ghost use Rattle.uecp_text.specs.Streaming.{RunsOutWhole};
+ghost use Rattle.uecp_text.specs.Input.{texts_of};
+ghost use Rattle.uecp_text.specs.Streaming.{RunsOut};
 ghost use Rattle.uecp_text.specs.declared.run_fault.RunFault.TheVariants.{Listening};
 ghost use Rattle.uecp_jobs.specs.Jobs.{IsDescribed, RefusesJob, IsDone, IsRefused, IsUndescribed, HasFailed};
-ghost use Rattle.uecp_jobs.specs.Networks.{IsEncoder, IsServer, ServedAll, Serves, HasNotListened, HasBroken, as_fault, as_run, SendsLines, SendsAll, AreAcknowledged, IsOutstanding, said};
+ghost use Rattle.uecp_jobs.specs.Networks.{IsEncoder, IsServer, ServedAll, Serves, HasNotListened, HasBroken, as_fault, as_run, SendsTexts, SendsAll, AreAcknowledged, AreAcknowledgedBefore, IsOutstanding, said};
 
 use crate::job::Job;
 use crate::run::fail;
@@ -14,23 +15,19 @@ use crate::setup::{Setup, address_of, new_encoder};
 use std::alloc::Global;
 use std::io::{Read, Write};
 use uecp_link::Server;
-use uecp_net::{Connect, Outstanding, Sender, ServeStop, serve_connections};
-use uecp_text::{Interpreter, LineFault, RunFault, run_line_by_line};
+use uecp_net::{Connect, Outstanding, Sender, ServeStop, messages_ahead, serve_connections};
+use uecp_text::{Interpreter, LineFault, RunFault, read_all, run_lines_out};
 
-/// Why a run over an input stopped: the faults of such a run alone.
+/// Why a run over the lines of an input stopped: the faults of such a run alone.
 #[derive(Clone, Copy, Debug)]
 pub enum Stop {
     /// The line of this number, counted from 1, was refused.
     Line(usize, LineFault),
-    /// The input has more than 1,048,576 bytes.
-    TooLong,
-    /// The input could not be read.
-    Reading,
     /// The output could not be written.
     Writing,
     /// There was no memory.
     OutOfMemory,
-    /// A message is outstanding.
+    /// A batch is outstanding.
     Outstanding,
 }
 
@@ -106,8 +103,9 @@ fn fault_of_stop(stop: ServeStop) -> RunFault
     }
 }
 
-/// Does the job of `server` and answers the exit status: 0 done, 1 a line was refused, 2 the address was refused, 3 a message is
-/// outstanding, or memory, reading or writing failed. Each line is written out before the next message is sent.
+/// Does the job of `server` and answers the exit status: 0 done, 1 a line was refused, 2 the address was refused, 3 a batch of
+/// messages is outstanding, or memory, reading or writing failed. The input is read to its end before the first message is sent;
+/// what is written of a batch is written out before the next one is sent.
 pub fn run_server<R: Read, W: Write, E: Write, C: Connect>(
     alloc: Global,
     job: &Job,
@@ -122,11 +120,13 @@ pub fn run_server<R: Read, W: Write, E: Write, C: Connect>(
     ensures done { result ≡ 0 → IsDone job.now (R.remaining reader.old) (R.remaining reader.new) (W.contents writer.old) (W.contents writer.new) × (errors.new ≡ errors.old) }
     // 0: that is one line for each message, in order.
     ensures acknowledged { result ≡ 0 → AreAcknowledged (R.remaining reader.old) (R.remaining reader.new) (W.contents writer.old) (W.contents writer.new) }
-    // 1: a line was refused, the messages before it were acknowledged, and the line's number and fault were said.
+    // 1: a line was refused, what was said of the messages before it was written, and the line's number and fault were said.
     ensures refused { result ≡ 1 → IsRefused job.now (R.remaining reader.old) (R.remaining reader.new) (W.contents writer.old) (W.contents writer.new) (E.contents errors.old) (E.contents errors.new) }
+    // 1: that is one line for each of those messages, in order: all were acknowledged.
+    ensures acknowledged_before { result ≡ 1 → AreAcknowledgedBefore (R.remaining reader.old) (R.remaining reader.new) (W.contents writer.old) (W.contents writer.new) }
     // 2: the address is not that of one encoder. No connection was opened, and nothing was read or written.
     ensures undescribed { result ≡ 2 → IsUndescribed job.now (E.contents errors.old) (E.contents errors.new) × (reader.new ≡ reader.old) × (writer.new ≡ writer.old) × (connect.new ≡ connect.old) }
-    // 3: a message is outstanding; or memory, reading or writing failed, and what was written is a beginning of what the job writes of its input.
+    // 3: a batch is outstanding; or memory, reading or writing failed, and what was written is a beginning of what the job writes of its input.
     ensures failed { result ≡ 3 → IsOutstanding job.now (R.remaining reader.old) (R.remaining reader.new) (W.contents writer.old) (W.contents writer.new) (E.contents errors.old) (E.contents errors.new) ⊎ HasFailed job.now (R.remaining reader.old) (R.remaining reader.new) (W.contents writer.old) (W.contents writer.new) (E.contents errors.old) (E.contents errors.new) }
 {
     match send_all(alloc, job, reader, writer, connect) {
@@ -154,51 +154,64 @@ fn send_all<R: Read, W: Write, C: Connect>(
             tries,
             turns,
             reconnects,
+            window,
             ..
         } => {
             let Some(address) = address_of(*site, *encoder) else {
                 return Err(RunFault::Address);
             };
+            let input = read_all(alloc, reader)?;
+            let Ok(ahead) = messages_ahead(alloc, input.as_slice()) else {
+                return Err(RunFault::OutOfMemory);
+            };
             let server = Server::new(address);
-            let mut sender = Sender::new(connect, server, *tries, *turns, *reconnects);
-            send_lines(alloc, reader, &mut sender, writer)
+            let mut sender = Sender::new(
+                connect,
+                server,
+                *tries,
+                *turns,
+                *reconnects,
+                *window,
+                ahead,
+            );
+            send_lines(alloc, input.as_slice(), &mut sender, writer)
         }
         _ => unreachable!(),
     }
 }
 
 /// Sends the messages of the input by this sender.
-fn send_lines<R: Read, W: Write, C: Connect>(
+fn send_lines<W: Write, C: Connect>(
     alloc: Global,
-    reader: &mut R,
+    input: &[u8],
     sender: &mut Sender<'_, C>,
     writer: &mut W,
 ) -> Result<(), RunFault>
-    ensures { SendsLines sender.old (R.remaining reader.old) (R.remaining reader.new) (W.contents writer.old) (W.contents writer.new) result }
+    ensures { SendsTexts sender.old (texts_of input.now) (W.contents writer.old) (W.contents writer.new) result }
 {
-    match run_to_stop(alloc, reader, sender, writer) {
+    match run_to_stop(alloc, input, sender, writer) {
         Ok(()) => Ok(()),
         Err(stop) => Err(fault_of(stop, sender.why())),
     }
 }
 
-/// Runs the interpreter line by line over all that the reader has.
-fn run_to_stop<R: Read, W: Write, I: Interpreter>(
+/// Runs the interpreter over the lines of the input, each of which is written out before the next is taken.
+fn run_to_stop<W: Write, I: Interpreter>(
     alloc: Global,
-    reader: &mut R,
+    input: &[u8],
     interpreter: &mut I,
     writer: &mut W,
 ) -> Result<(), Stop>
-    ensures { RunsOutWhole I.meaning interpreter.old I.closing (R.remaining reader.old) (R.remaining reader.new) (W.contents writer.old) (W.contents writer.new) (as_run result) interpreter.new }
+    ensures { RunsOut I.meaning interpreter.old (texts_of input.now) (W.contents writer.old) (W.contents writer.new) (as_run result) interpreter.new }
 {
-    match run_line_by_line(alloc, reader, interpreter, writer) {
+    match run_lines_out(alloc, input, interpreter, writer) {
         Ok(()) => Ok(()),
         Err(RunFault::Line(number, refusal)) => Err(Stop::Line(number, refusal)),
-        Err(RunFault::TooLong) => Err(Stop::TooLong),
-        Err(RunFault::Reading) => Err(Stop::Reading),
         Err(RunFault::Writing) => Err(Stop::Writing),
         Err(RunFault::OutOfMemory) => Err(Stop::OutOfMemory),
         Err(RunFault::Outstanding) => Err(Stop::Outstanding),
+        Err(RunFault::TooLong) => unreachable!(),
+        Err(RunFault::Reading) => unreachable!(),
         Err(RunFault::Services(_)) => unreachable!(),
         Err(RunFault::Address) => unreachable!(),
         Err(RunFault::Listening) => unreachable!(),
@@ -206,14 +219,12 @@ fn run_to_stop<R: Read, W: Write, I: Interpreter>(
     }
 }
 
-/// The fault of a run that stopped for this, by why a message is outstanding.
+/// The fault of a run that stopped for this, by why a batch is outstanding.
 fn fault_of(stop: Stop, why: Option<Outstanding>) -> RunFault
     ensures { result ≡ said (as_fault stop) why }
 {
     match stop {
         Stop::Line(number, refusal) => RunFault::Line(number, refusal),
-        Stop::TooLong => RunFault::TooLong,
-        Stop::Reading => RunFault::Reading,
         Stop::Writing => RunFault::Writing,
         Stop::OutOfMemory => RunFault::OutOfMemory,
         Stop::Outstanding => match why {

@@ -18,6 +18,13 @@ const EMPTY_1: [u8; 8] = *b"\xFE\x00\x41\x01\x00\x62\x93\xFF";
 const ADD_1: [u8; 15] = *b"\xFE\x00\x41\x01\x07\x0A\x00\x00\x03\x40\x48\x49\x32\x23\xFF";
 /// Code 00 to counter 01.
 const APPLIED_1: [u8; 11] = *b"\xFE\x00\x41\x00\x03\x18\x00\x01\x40\xBE\xFF";
+/// Code 00 to counter 02.
+const APPLIED_2: [u8; 11] = *b"\xFE\x00\x41\x00\x03\x18\x00\x02\x70\xDD\xFF";
+/// Code 00 to counter 01, and to counter 02.
+const APPLIED_BOTH: [u8; 22] =
+    *b"\xFE\x00\x41\x00\x03\x18\x00\x01\x40\xBE\xFF\xFE\x00\x41\x00\x03\x18\x00\x02\x70\xDD\xFF";
+/// No element, counter 01, and no element, counter 02.
+const EMPTY_BOTH: [u8; 16] = *b"\xFE\x00\x41\x01\x00\x62\x93\xFF\xFE\x00\x41\x02\x00\x37\xC0\xFF";
 
 /// What a connection gives: its bytes, and the reads that fail.
 type Given<'a> = (&'a [u8], &'a [u32]);
@@ -41,10 +48,11 @@ impl Write for Kept<'_> {
     }
 }
 
-/// One connection after another, as prepared.
+/// One connection after another, as prepared, which give at most so many bytes a read.
 #[derive(Drop)]
 struct Prepared<'a> {
     inputs: Iter<'a, Given<'a>>,
+    at_most: usize,
     outputs: IterMut<'a, Taken>,
     opened: usize,
 }
@@ -60,15 +68,21 @@ impl<'a> Connect for Prepared<'a> {
         let (bytes, failing) = *self.inputs.next()?;
         let taken = self.outputs.next()?;
         self.opened = self.opened.saturating_add(1);
-        Some((FaultyReader::new(bytes).failing_at(failing), Kept { taken }))
+        let input = FaultyReader::new(bytes)
+            .giving(self.at_most)
+            .failing_at(failing);
+        Some((input, Kept { taken }))
     }
 }
 
 /// What a run comes to: its status, its output and its text of errors.
 type Comes<'a> = (u8, &'a [u8], &'a [u8]);
 
-/// `server` with the defaults of its options but for site and reconnects.
-fn server_job(alloc: Global, site: u16, reconnects: u32) -> Result<Job, Fail>
+/// How many bytes a reply has here.
+const REPLY_SIZE: usize = APPLIED_1.len();
+
+/// `server` with the defaults of its options but for site, reconnects and window.
+fn server_job(alloc: Global, site: u16, reconnects: u32, window: u8) -> Result<Job, Fail>
     ensures { IfOk result IsServer }
 {
     Ok(Job::Server {
@@ -80,24 +94,26 @@ fn server_job(alloc: Global, site: u16, reconnects: u32) -> Result<Job, Fail>
         timeout: 1000,
         turns: 16,
         reconnects,
+        window,
     })
 }
 
-/// Runs `server` over these connections with the defaults of its options but for site and reconnects, and compares what it comes
-/// to and what each connection got that was opened.
+/// Runs `server` over these connections, a reply a read, with the defaults of its options but for site, reconnects and window, and
+/// compares what it comes to and what each connection got that was opened.
 fn serves(
     rt: &impl Abort,
     alloc: Global,
     given: &[Given<'_>],
-    (site, reconnects): (u16, u32),
+    (site, reconnects, window): (u16, u32, u8),
     input: &str,
     (status, written, said): Comes<'_>,
     got: &[&[u8]],
 ) -> Result<(), Fail> {
-    let job = server_job(alloc, site, reconnects)?;
+    let job = server_job(alloc, site, reconnects, window)?;
     let mut outputs = [Taken::new(), Taken::new()];
     let mut prepared = Prepared {
         inputs: given.iter(),
+        at_most: REPLY_SIZE,
         outputs: outputs.iter_mut(),
         opened: 0,
     };
@@ -134,19 +150,35 @@ fn a_message_of_server_over_connections(rt: HostRuntime) -> Result<(), Fail> {
     let done: Comes = (0, b"acknowledged 00 tries 1\n", b"");
     let failed: Comes = (3, b"outstanding\n", b"uecp: connection failed\n");
     let spent: Comes = (3, b"outstanding\n", b"");
-    serves(&rt, alloc, &[good], (1, 3), "-\n", done, &[once])?;
+    serves(&rt, alloc, &[good], (1, 3, 1), "-\n", done, &[once])?;
     serves(
         &rt,
         alloc,
         &[closed, good],
-        (1, 1),
+        (1, 1, 1),
         "-\n",
         done,
         &[once, once],
     )?;
-    serves(&rt, alloc, &[closed, good], (1, 0), "-\n", failed, &[once])?;
-    serves(&rt, alloc, &[], (1, 3), "-\n", failed, &[])?;
-    serves(&rt, alloc, &[silent, good], (1, 3), "-\n", spent, &[thrice])
+    serves(
+        &rt,
+        alloc,
+        &[closed, good],
+        (1, 0, 1),
+        "-\n",
+        failed,
+        &[once],
+    )?;
+    serves(&rt, alloc, &[], (1, 3, 1), "-\n", failed, &[])?;
+    serves(
+        &rt,
+        alloc,
+        &[silent, good],
+        (1, 3, 1),
+        "-\n",
+        spent,
+        &[thrice],
+    )
 }
 
 #[test]
@@ -158,10 +190,107 @@ fn input_of_server_without_a_message_or_with_a_refused_line(rt: HostRuntime) -> 
     let first: Comes = (1, b"", b"uecp: line 1: not hex\n");
     let second: Comes = (1, b"acknowledged 00 tries 1\n", b"uecp: line 2: not hex\n");
     let no_address: Comes = (2, b"", b"uecp: address: NotExact\n");
-    serves(&rt, alloc, &[good], (1, 3), "\n# nothing\n", nothing, &[])?;
-    serves(&rt, alloc, &[good], (1, 3), "0\n-\n", first, &[])?;
-    serves(&rt, alloc, &[good], (1, 3), "-\n0\n", second, &[once])?;
-    serves(&rt, alloc, &[good], (0, 3), "-\n", no_address, &[])
+    serves(
+        &rt,
+        alloc,
+        &[good],
+        (1, 3, 1),
+        "\n# nothing\n",
+        nothing,
+        &[],
+    )?;
+    serves(&rt, alloc, &[good], (1, 3, 1), "0\n-\n", first, &[])?;
+    serves(&rt, alloc, &[good], (1, 3, 1), "-\n0\n", second, &[once])?;
+    serves(&rt, alloc, &[good], (0, 3, 1), "-\n", no_address, &[])
+}
+
+#[test]
+fn two_messages_of_server_on_their_way_at_once(rt: HostRuntime) -> Result<(), Fail> {
+    let alloc = rt.alloc();
+    let turned =
+        b"\xFE\x00\x41\x00\x03\x18\x00\x02\x70\xDD\xFF\xFE\x00\x41\x00\x03\x18\x00\x01\x40\xBE\xFF".as_slice();
+    let retried: Given = (turned, &[2]);
+    let silent: Given = (turned, &[2, 3, 4]);
+    let second: Given = (&APPLIED_2, &[]);
+    let first: Given = (&APPLIED_1, &[]);
+    let once = EMPTY_1.as_slice();
+    let both = EMPTY_BOTH.as_slice();
+    let and_again =
+        b"\xFE\x00\x41\x01\x00\x62\x93\xFF\xFE\x00\x41\x02\x00\x37\xC0\xFF\xFE\x00\x41\x01\x00\x62\x93\xFF".as_slice();
+    let and_twice =
+        b"\xFE\x00\x41\x01\x00\x62\x93\xFF\xFE\x00\x41\x02\x00\x37\xC0\xFF\xFE\x00\x41\x01\x00\x62\x93\xFF\xFE\x00\x41\x01\x00\x62\x93\xFF".as_slice();
+    let two: Comes = (
+        0,
+        b"acknowledged 00 tries 2\nacknowledged 00 tries 2\n",
+        b"",
+    );
+    let moved: Comes = (
+        0,
+        b"acknowledged 00 tries 1\nacknowledged 00 tries 1\n",
+        b"",
+    );
+    let spent: Comes = (3, b"outstanding\n", b"");
+    let failed: Comes = (3, b"outstanding\n", b"uecp: connection failed\n");
+    let input = "-\n-\n";
+    serves(&rt, alloc, &[retried], (1, 3, 2), input, two, &[and_again])?;
+    serves(
+        &rt,
+        alloc,
+        &[second, first],
+        (1, 1, 2),
+        input,
+        moved,
+        &[both, once],
+    )?;
+    serves(&rt, alloc, &[silent], (1, 3, 2), input, spent, &[and_twice])?;
+    serves(&rt, alloc, &[second], (1, 0, 2), input, failed, &[both])
+}
+
+#[test]
+fn a_batch_of_server_that_ends_before_its_window(rt: HostRuntime) -> Result<(), Fail> {
+    let alloc = rt.alloc();
+    let both: Given = (&APPLIED_BOTH, &[]);
+    let three: Given = (
+        b"\xFE\x00\x41\x00\x03\x18\x00\x01\x40\xBE\xFF\xFE\x00\x41\x00\x03\x18\x00\x02\x70\xDD\xFF\xFE\x00\x41\x00\x03\x18\x00\x03\x60\xFC\xFF",
+        &[],
+    );
+    let sent_both = EMPTY_BOTH.as_slice();
+    let sent_three =
+        b"\xFE\x00\x41\x01\x00\x62\x93\xFF\xFE\x00\x41\x02\x00\x37\xC0\xFF\xFE\x00\x41\x03\x07\x0A\x00\x00\x03\x40\x48\x49\xF4\x44\xFF".as_slice();
+    let lines = b"acknowledged 00 tries 1\nacknowledged 00 tries 1\n".as_slice();
+    let refused: Comes = (1, lines, b"uecp: line 3: not hex\n");
+    let done: Comes = (
+        0,
+        b"acknowledged 00 tries 1\nacknowledged 00 tries 1\nacknowledged 00 tries 1\n",
+        b"",
+    );
+    serves(
+        &rt,
+        alloc,
+        &[both],
+        (1, 3, 2),
+        "-\n-\n0\n",
+        refused,
+        &[sent_both],
+    )?;
+    serves(
+        &rt,
+        alloc,
+        &[both],
+        (1, 3, 8),
+        "-\n-\n0\n-\n",
+        refused,
+        &[sent_both],
+    )?;
+    serves(
+        &rt,
+        alloc,
+        &[three],
+        (1, 3, 8),
+        "-\n-\n0A000003404849\n",
+        done,
+        &[sent_three],
+    )
 }
 
 /// `encoder` with these services and so many connections.
@@ -194,6 +323,7 @@ fn encodes(
     let mut outputs = [Taken::new(), Taken::new()];
     let mut prepared = Prepared {
         inputs: given.iter(),
+        at_most: usize::MAX,
         outputs: outputs.iter_mut(),
         opened: 0,
     };
@@ -246,20 +376,27 @@ fn is_refused(rt: &impl Abort, status: u8, written: &[u8], said: &[u8], output: 
 /// How often memory is given back at most.
 const TIMES: usize = 1 << 15;
 
-/// Runs `server` with an empty message, over a connection that brings its reply, until memory suffices.
-fn server_in_the_end(rt: &impl Abort, alloc: Global, job: &Job) -> Result<(), Fail>
+/// Runs `server` with this input, over a connection that gives this, until memory suffices and it writes this output and sends this.
+fn server_in_the_end(
+    rt: &impl Abort,
+    alloc: Global,
+    job: &Job,
+    (given, input): (&[u8], &[u8]),
+    (output, sent): (&[u8], &[u8]),
+) -> Result<(), Fail>
     requires { IsServer job.now }
 {
-    let good: [Given; 1] = [(&APPLIED_1, &[])];
+    let good: [Given; 1] = [(given, &[])];
     let mut memory = ScarceMemory::take_all(alloc, TIMES * 16)?;
     for refused in 0..TIMES {
         let mut outputs = [Taken::new()];
         let mut prepared = Prepared {
             inputs: good.iter(),
+            at_most: REPLY_SIZE,
             outputs: outputs.iter_mut(),
             opened: 0,
         };
-        let mut reader = b"-\n".as_slice();
+        let mut reader = input;
         let (mut writer, mut errors) = (FaultyWriter::new(), FaultyWriter::new());
         let status = run_server(
             alloc,
@@ -269,9 +406,8 @@ fn server_in_the_end(rt: &impl Abort, alloc: Global, job: &Job) -> Result<(), Fa
             &mut errors,
             &mut prepared,
         );
-        let output = b"acknowledged 00 tries 1\n".as_slice();
         if !is_refused(rt, status, writer.taken(), errors.taken(), output) {
-            assert!(rt; refused > 0 && outputs[0].as_slice() == EMPTY_1.as_slice());
+            assert!(rt; refused > 0 && outputs[0].as_slice() == sent);
             return Ok(());
         }
         memory.give();
@@ -281,8 +417,18 @@ fn server_in_the_end(rt: &impl Abort, alloc: Global, job: &Job) -> Result<(), Fa
 
 #[test]
 fn a_server_that_is_refused_memory(rt: HostRuntime) -> Result<(), Fail> {
-    let job = server_job(rt.alloc(), 1, 3)?;
-    server_in_the_end(&rt, rt.alloc(), &job)
+    let job = server_job(rt.alloc(), 1, 3, 1)?;
+    let given = (APPLIED_1.as_slice(), b"-\n".as_slice());
+    let output = b"acknowledged 00 tries 1\n".as_slice();
+    server_in_the_end(&rt, rt.alloc(), &job, given, (output, &EMPTY_1))
+}
+
+#[test]
+fn a_server_with_a_batch_of_two_that_is_refused_memory(rt: HostRuntime) -> Result<(), Fail> {
+    let job = server_job(rt.alloc(), 1, 3, 2)?;
+    let given = (APPLIED_BOTH.as_slice(), b"-\n-\n".as_slice());
+    let output = b"acknowledged 00 tries 1\nacknowledged 00 tries 1\n".as_slice();
+    server_in_the_end(&rt, rt.alloc(), &job, given, (output, &EMPTY_BOTH))
 }
 
 /// Runs `encoder` over a connection that breaks and one that ends, until memory suffices.
@@ -295,6 +441,7 @@ fn encoder_in_the_end(rt: &impl Abort, alloc: Global, job: &Job) -> Result<(), F
         let mut outputs = [Taken::new(), Taken::new()];
         let mut prepared = Prepared {
             inputs: two.iter(),
+            at_most: usize::MAX,
             outputs: outputs.iter_mut(),
             opened: 0,
         };

@@ -12,5 +12,6 @@ returns-clause-job c = (
     is_timeout = c.large_of-2.ensures;
     is_turns = c.large_of-3.ensures;
     is_reconnects = c.large_of-4.ensures;
+    is_window = c.small_of-2.ensures;
   },
 )

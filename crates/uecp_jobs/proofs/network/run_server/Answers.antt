@@ -25,13 +25,20 @@ returns-in-Err-clause-refused g c = λ one.
     let told = g.E.Write.contents in
     let now = c.send_all.new in
     let fault = c.in-Err.fault in
-    let is = sym c.fail.ensures.status ∙ one in (
-      fault,
-      is,
-      server_refused c.args.job.now c.requires (left c.args.reader.now) (left now.reader) (held c.args.writer.now) (held now.writer) (told c.args.errors.now) (told c.fail.new.errors)
-          (◌≡◌ {A = g.row.R.Denot} now.reader c.args.reader.now) (◌≡◌ {A = g.row.W.Denot} now.writer c.args.writer.now) (◌≡◌ {A = g.row.C.Denot} now.connect c.args.connect.now) fault c.in-Err.ensures.sends is,
-      c.fail.ensures.said,
-    )
+    let is = sym c.fail.ensures.status ∙ one in
+    let refused = server_refused c.args.job.now c.requires (left c.args.reader.now) (left now.reader) (held c.args.writer.now) (held now.writer) (told c.args.errors.now) (told c.fail.new.errors)
+    (◌≡◌ {A = g.row.R.Denot} now.reader c.args.reader.now) (◌≡◌ {A = g.row.W.Denot} now.writer c.args.writer.now) (◌≡◌ {A = g.row.C.Denot} now.connect c.args.connect.now) fault c.in-Err.ensures.sends is in
+    (fault, is, refused.0, c.fail.ensures.said)
+
+pub returns-in-Err-clause-acknowledged_before : goal.returns-in-Err-clause-acknowledged_before
+returns-in-Err-clause-acknowledged_before g c = λ one.
+    let left = g.R.Read.remaining in
+    let held = g.W.Write.contents in
+    let told = g.E.Write.contents in
+    let now = c.send_all.new in
+    let refused = server_refused c.args.job.now c.requires (left c.args.reader.now) (left now.reader) (held c.args.writer.now) (held now.writer) (told c.args.errors.now) (told c.fail.new.errors)
+    (◌≡◌ {A = g.row.R.Denot} now.reader c.args.reader.now) (◌≡◌ {A = g.row.W.Denot} now.writer c.args.writer.now) (◌≡◌ {A = g.row.C.Denot} now.connect c.args.connect.now) c.in-Err.fault c.in-Err.ensures.sends (sym c.fail.ensures.status ∙ one) in
+    refused.1
 
 pub returns-in-Err-clause-undescribed : goal.returns-in-Err-clause-undescribed
 returns-in-Err-clause-undescribed g c = λ two.
