@@ -381,11 +381,13 @@ fn server_in_the_end(
     rt: &impl Abort,
     alloc: Global,
     job: &Job,
-    (given, input): (&[u8], &[u8]),
-    (output, sent): (&[u8], &[u8]),
+    brought: (&[u8], &[u8]),
+    comes: (&[u8], &[u8]),
 ) -> Result<(), Fail>
     requires { IsServer job.now }
 {
+    let (given, input) = brought;
+    let (output, sent) = comes;
     let good: [Given; 1] = [(given, &[])];
     let mut memory = ScarceMemory::take_all(alloc, TIMES * 16)?;
     for refused in 0..TIMES {
