@@ -7,7 +7,7 @@ use Rattle.uecp_link.specs.declared.driving.DriveFault.{DriveFault}
 use Rattle.uecp_link.specs.declared.driving.DriveFault.TheVariants.{WriteFailed, Closed, TriesSpent}
 use Rattle.uecp_link.specs.declared.window.Windowed.TheVariants.{Idle, Spent}
 use Rattle.uecp_link.proofs.FeedingLemmas.{heard_none}
-use Rattle.uecp_net.specs.Sending.{Marks, Starts, SpentCalls, Tried, Attempts, Break, IsBroken}
+use Rattle.uecp_net.specs.Sending.{SenderState, Marks, Starts, SpentCalls, Tried, Attempts, Break, IsBroken}
 
 module _ {I O : Type 0} (remaining : I → Option (List ℕ)) (contents : O → Option (List ℕ)) where
   -- ---- what one call leaves
@@ -59,3 +59,9 @@ module _ {I O : Type 0} (remaining : I → Option (List ℕ)) (contents : O → 
       (s2, m2, broken, subst (λ n. Attempts remaining contents tries turns s s2 n m2 (Err fault)) same_marks (subst (λ d. Attempts remaining contents tries turns d s2 m1 m2 (Err fault)) same went), (refl, refl))
   break_on tries turns s s1 s2 m m1 m2 (first ∷ faults) fault (next, some, first_broken, first_went, rest) broken went =
       (next, some, first_broken, first_went, break_on tries turns next s1 s2 some m1 m2 faults fault rest broken went)
+
+  -- by the tries and turns of a sender of which only the server and the reconnects have changed
+  pub attempted_as : (now then : SenderState) (old new : ServerState) (marks marks' : Marks) (result : Result ℕ DriveFault) → record now { server = then.server; left = then.left } ≡ then →
+      Attempts remaining contents now.tries now.turns old new marks marks' result → Attempts remaining contents then.tries then.turns old new marks marks' result
+  attempted_as now then old new marks marks' result stays went =
+      subst (λ (s : SenderState). Attempts remaining contents s.tries s.turns old new marks marks' result) stays went

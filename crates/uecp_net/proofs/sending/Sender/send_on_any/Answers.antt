@@ -1,6 +1,6 @@
 use Rattle.std.proofs.Common.{rules, arith, ◌≡◌, ◌<◌, ◌+◌, ◌-◌, ◌++◌, ◌∷◌, [], Err, length, length-append, refl, ap, sym, subst, ◌∙◌, inr}
 use Rattle.uecp_net.specs.Sending.{Attempts, Break, IsBroken, Follows}
-use Rattle.uecp_net.proofs.Breaking.{break_on}
+use Rattle.uecp_net.proofs.Breaking.{break_on, attempted_as}
 use Rattle.uecp_net.proofs.Told.{follows_on}
 use Rattle.uecp_net.proofs.sending.Sender.send_on_any.Goals as goal
 
@@ -25,9 +25,7 @@ returns-then-self-eq0-clause-delivers g c =
     let none : c.hang_up.new.self.left ≡ 0 = search rules in
     let stays : c.hang_up.new.self.left ≡ c.connections.self.left = search rules in
     let there : Attempts g.C.Input.Read.remaining g.C.Output.Write.contents c.connections.self.tries c.connections.self.turns c.connections.self.server c.send_on_one.new.self.server c.connections.marks.items c.send_on_one.new.marks.items (Err fault) = search rules in
-    let went : Attempts g.C.Input.Read.remaining g.C.Output.Write.contents c.args.self.now.tries c.args.self.now.turns c.connections.self.server c.send_on_one.new.self.server c.connections.marks.items c.send_on_one.new.marks.items (Err fault) =
-    subst (λ t. Attempts g.C.Input.Read.remaining g.C.Output.Write.contents t c.args.self.now.turns c.connections.self.server c.send_on_one.new.self.server c.connections.marks.items c.send_on_one.new.marks.items (Err fault)) (ap (λ s. s.tries) c.connections.invariant.stays)
-    (subst (λ t. Attempts g.C.Input.Read.remaining g.C.Output.Write.contents c.connections.self.tries t c.connections.self.server c.send_on_one.new.self.server c.connections.marks.items c.send_on_one.new.marks.items (Err fault)) (ap (λ s. s.turns) c.connections.invariant.stays) there) in
+    let went = attempted_as g.C.Input.Read.remaining g.C.Output.Write.contents c.connections.self c.args.self.now c.connections.self.server c.send_on_one.new.self.server c.connections.marks.items c.send_on_one.new.marks.items (Err fault) c.connections.invariant.stays there in
     let count : length (faults ++ fault ∷ []) ≡ c.args.self.now.left + 1 = omega (arith, cost, none, stays, length-append faults (fault ∷ [])) in
     record {
       faults = faults ++ fault ∷ [];
@@ -46,9 +44,7 @@ connections-preserved g c =
     let some : 0 < c.self.inside.left = search rules in
     let stays : c.self.inside.left ≡ c.connections.self.left = search rules in
     let there : Attempts g.C.Input.Read.remaining g.C.Output.Write.contents c.connections.self.tries c.connections.self.turns c.connections.self.server c.send_on_one.new.self.server c.connections.marks.items c.send_on_one.new.marks.items (Err fault) = search rules in
-    let went : Attempts g.C.Input.Read.remaining g.C.Output.Write.contents c.args.self.now.tries c.args.self.now.turns c.connections.self.server c.send_on_one.new.self.server c.connections.marks.items c.send_on_one.new.marks.items (Err fault) =
-    subst (λ t. Attempts g.C.Input.Read.remaining g.C.Output.Write.contents t c.args.self.now.turns c.connections.self.server c.send_on_one.new.self.server c.connections.marks.items c.send_on_one.new.marks.items (Err fault)) (ap (λ s. s.tries) c.connections.invariant.stays)
-    (subst (λ t. Attempts g.C.Input.Read.remaining g.C.Output.Write.contents c.connections.self.tries t c.connections.self.server c.send_on_one.new.self.server c.connections.marks.items c.send_on_one.new.marks.items (Err fault)) (ap (λ s. s.turns) c.connections.invariant.stays) there) in
+    let went = attempted_as g.C.Input.Read.remaining g.C.Output.Write.contents c.connections.self c.args.self.now c.connections.self.server c.send_on_one.new.self.server c.connections.marks.items c.send_on_one.new.marks.items (Err fault) c.connections.invariant.stays there in
     let count : c.args.self.now.left ≡ (c.self.inside.left - 1) + length (faults ++ fault ∷ []) = omega (arith, cost, some, stays, length-append faults (fault ∷ [])) in
     record {
       busy = search rules;
