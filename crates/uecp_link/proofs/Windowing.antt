@@ -1,13 +1,13 @@
 -- A try for all messages that wait: what is written, what is read, and the marks that this brings.
-use Rattle.std.proofs.Common.{◌≡◌, ◌≢◌, ℕ, ◌+◌, ◌-◌, ◌<◌, ◌≤◌, List, [], ◌∷◌, ◌++◌, length, take, drop, get_or, Option, Some, None, Result, Ok, Err, refl, ◌∙◌, ap, sym, arith, inl, inr, length-append, append_assoc, append-nil, take-append-drop}
+use Rattle.std.proofs.Common.{◌≡◌, ◌≢◌, ℕ, ◌+◌, ◌-◌, ◌^◌, ◌<◌, ◌≤◌, List, [], ◌∷◌, ◌++◌, length, take, drop, get_or, Option, Some, None, Result, Ok, Err, refl, ◌∙◌, ap, sym, subst, arith, length-append, append_assoc, append-nil, take-append-drop}
 use Rattle.std.specs.Prelude.{filter_map, slice_get, option_to_list}
 use Rattle.std.specs.List.{concat}
 use Rattle.std.proofs.Math.Seq.{take-append-add}
 use Rattle.std.proofs.lemmas.List.{take-append-le, take_more, drop_more}
 use Rattle.std.proofs.lemmas.List.Folds.{concat-append}
 use Rattle.std.proofs.lemmas.Option.{slice_get_within, get_or_from_slice_get}
-use Rattle.std.specs.Io.KnownBytes.{Appends, Consumes, Keeps, IsAtEnd}
-use Rattle.std.proofs.KnownBytes.{Consumes-nil, Consumes-kept, Consumes-trans}
+use Rattle.std.specs.Io.KnownBytes.{Appends, Consumes}
+use Rattle.std.proofs.KnownBytes.{Consumes-nil, Consumes-trans}
 use Rattle.uecp_elements.specs.declared.code.Code.{Code}
 use Rattle.uecp_frame.specs.Beyond.{found_beyond}
 use Rattle.uecp_frame.proofs.Pieces.{new_start_lem}
@@ -17,7 +17,6 @@ use Rattle.uecp_link.specs.declared.driving.DriveFault.TheVariants.{WriteFailed,
 use Rattle.uecp_link.specs.declared.heard.HeardWhat.{HeardWhat}
 use Rattle.uecp_link.specs.declared.heard.HeardWhat.TheVariants as what
 use Rattle.uecp_link.specs.declared.window.Windowed.{Windowed}
-use Rattle.uecp_link.specs.declared.window.Windowed.TheVariants.{Idle, Spent}
 use Rattle.uecp_link.specs.Server.{ServerState, waiting, heard, all_heard_as, whats_of}
 use Rattle.uecp_link.specs.Window.{mark_in, marks_in, window_sent, window_failures, ReadsEnd, WindowEnds, Windows, Gathers, Gathered}
 use Rattle.uecp_link.proofs.Answered.{idle_hears}
@@ -141,17 +140,18 @@ module _ {R : Type 0} (remaining : R → Option (List ℕ)) (s0 s1 : ServerState
     read_failures = failures ∙ so_far.read_failures;
   }
 
-  -- one read more, after which none waits
-  pub gathers_idle : (s2 : ServerState) (r2 : Metered R) (m2 : List (ℕ × Code)) (piece : List ℕ) (turns : ℕ) → Consumes (remaining r1.device) (remaining r2.device) piece → length piece ≤ 64 → s2 ≡ heard s1 piece → m2 ≡ m1 ++ marks_in s1 piece →
-      s2.held ≡ [] → r2.calls ≡ counted r1.calls → r2.failures ≡ r1.failures → reads < turns → Gathers remaining s0 s2 r0 r2 m0 m2 turns (Ok Idle)
-  gathers_idle s2 r2 m2 piece turns took few state marked idle calls failures below = record {
+  -- the reads end with one more, which brought bytes
+  pub gathers_more : (s2 : ServerState) (r2 : Metered R) (m2 : List (ℕ × Code)) (piece : List ℕ) (turns : ℕ) (result : Result Windowed DriveFault) → Consumes (remaining r1.device) (remaining r2.device) piece → length piece ≤ 64
+      → s2 ≡ heard s1 piece → m2 ≡ m1 ++ marks_in s1 piece → r2.calls ≡ counted r1.calls → r2.failures ≡ r1.failures → reads < turns
+      → ((heard s0 (take (length (so_far.read ++ piece) - 64) (so_far.read ++ piece))).held ≢ [] → ReadsEnd s0 s2 (so_far.read ++ piece) (remaining r2.device) turns (reads + 1) 0 result) → Gathers remaining s0 s2 r0 r2 m0 m2 turns result
+  gathers_more s2 r2 m2 piece turns result took few state marked calls failures below ends = record {
     read = so_far.read ++ piece;
     reads = reads + 1;
     failed = 0;
     consumed = Consumes-trans _ _ _ _ _ so_far.consumed took;
     state = more_state piece s2 state;
     marked = more_marks piece m2 marked;
-    ends = (idle, late, refl, omega arith);
+    ends = ends late;
     few_reads = omega (arith, below);
     few_bytes = omega (arith, length-append so_far.read piece, few, so_far.few_bytes);
     calls = λ h. omega (arith, calls, so_far.calls (omega (arith, h)), h);
@@ -168,69 +168,38 @@ module _ {R : Type 0} (remaining : R → Option (List ℕ)) (s0 s1 : ServerState
           let later : (heard s0 (x ++ y)).held ≡ [] = ap (λ (t : ServerState). t.held) (server_in_pieces s0 x y).state ∙ idle_hears (heard s0 x) y early in
           so_far.busy (ap (λ (t : ServerState). t.held) so_far.state ∙ ap (λ (bs : List ℕ). (heard s0 bs).held) (sym (take-append-drop (length (so_far.read ++ piece) - 64) so_far.read)) ∙ later)
 
-  -- all turns were made
-  pub gathers_all : (turns : ℕ) → reads ≡ turns → Gathers remaining s0 s1 r0 r1 m0 m1 turns (Ok Spent)
-  gathers_all turns all = record {
+  -- they end with no more, or with one more that brought none
+  pub gathers_quiet : (s2 : ServerState) (r2 : Metered R) (m2 : List (ℕ × Code)) (turns more failed : ℕ) (result : Result Windowed DriveFault) → Consumes (remaining r1.device) (remaining r2.device) [] → s2 ≡ s1 → m2 ≡ m1
+      → (r1.calls + more < 2 ^ 128 → r2.calls ≡ r1.calls + more) → (r1.failures + failed < 2 ^ 128 → r2.failures ≡ r1.failures + failed) → reads + more ≤ turns
+      → ReadsEnd s0 s1 so_far.read (remaining r2.device) turns (reads + more) failed result → Gathers remaining s0 s2 r0 r2 m0 m2 turns result
+  gathers_quiet s2 r2 m2 turns more failed result took stays same calls failures below ends = record {
     read = so_far.read;
-    reads = reads;
-    failed = 0;
-    consumed = so_far.consumed;
-    state = so_far.state;
-    marked = so_far.marked;
-    ends = (so_far.busy, inr (refl, all));
-    few_reads = omega (arith, all);
-    few_bytes = so_far.few_bytes;
-    calls = so_far.calls;
-    read_failures = λ h. omega (arith, so_far.read_failures);
-  }
-
-  -- a read failed
-  pub gathers_failed : (r2 : Metered R) (turns : ℕ) → Keeps (remaining r1.device) (remaining r2.device) → r2.calls ≡ counted r1.calls → r2.failures ≡ counted r1.failures → reads < turns → Gathers remaining s0 s1 r0 r2 m0 m1 turns (Ok Spent)
-  gathers_failed r2 turns kept calls failures below = record {
-    read = so_far.read;
-    reads = reads + 1;
-    failed = 1;
-    consumed = Consumes-kept _ _ _ _ so_far.consumed kept;
-    state = so_far.state;
-    marked = so_far.marked;
-    ends = (so_far.busy, inl (refl, omega arith));
-    few_reads = omega (arith, below);
+    reads = reads + more;
+    failed = failed;
+    consumed = subst (Consumes (remaining r0.device) (remaining r2.device)) (append-nil so_far.read) (Consumes-trans _ _ _ _ _ so_far.consumed took);
+    state = stays ∙ so_far.state;
+    marked = same ∙ so_far.marked;
+    ends = subst (λ (s : ServerState). ReadsEnd s0 s so_far.read (remaining r2.device) turns (reads + more) failed result) (sym stays) ends;
+    few_reads = below;
     few_bytes = omega (arith, so_far.few_bytes);
     calls = λ h. omega (arith, calls, so_far.calls (omega (arith, h)), h);
     read_failures = λ h. omega (arith, failures, so_far.read_failures, h);
   }
 
-  -- the input ended
-  pub gathers_closed : (r2 : Metered R) (turns : ℕ) → Consumes (remaining r1.device) (remaining r2.device) [] → IsAtEnd (remaining r2.device) → r2.calls ≡ counted r1.calls → r2.failures ≡ r1.failures → reads < turns →
-      Gathers remaining s0 s1 r0 r2 m0 m1 turns (Err Closed)
-  gathers_closed r2 turns took end calls failures below = record {
-    read = so_far.read ++ [];
-    reads = reads + 1;
-    failed = 0;
-    consumed = Consumes-trans _ _ _ _ _ so_far.consumed took;
-    state = so_far.state ∙ ap (heard s0) (sym (append-nil so_far.read));
-    marked = so_far.marked ∙ ap (λ (bs : List ℕ). m0 ++ marks_in s0 bs) (sym (append-nil so_far.read));
-    ends = (so_far.busy, refl, omega arith, end);
-    few_reads = omega (arith, below);
-    few_bytes = omega (arith, so_far.few_bytes, ap length (append-nil so_far.read));
-    calls = λ h. omega (arith, calls, so_far.calls (omega (arith, h)), h);
-    read_failures = λ h. omega (arith, failures, so_far.read_failures);
-  }
-
 -- ---- a whole try
 
-pub windows_failed : {R W : Type 0} (remaining : R → Option (List ℕ)) (contents : W → Option (List ℕ)) (s : ServerState) (r : Metered R) (w0 w1 : Metered W) (marks : List (ℕ × Code)) (turns written : ℕ) → written < length (window_sent s) →
-    Appends (contents w0.device) (contents w1.device) (take written (window_sent s)) → w1.failures ≡ counted w0.failures → Windows remaining contents s s r r w0 w1 marks marks turns (Err (WriteFailed written))
-windows_failed remaining contents s r w0 w1 marks turns written below wrote failures = record {
+pub windows_unread : {R W : Type 0} (remaining : R → Option (List ℕ)) (contents : W → Option (List ℕ)) (s : ServerState) (r : Metered R) (w0 w1 : Metered W) (marks : List (ℕ × Code)) (turns : ℕ) (sent : List ℕ) (result : Result Windowed DriveFault) →
+    Appends (contents w0.device) (contents w1.device) sent → WindowEnds s s [] sent (remaining r.device) turns 0 0 result → w1.failures ≡ window_failures result w0.failures → Windows remaining contents s s r r w0 w1 marks marks turns result
+windows_unread remaining contents s r w0 w1 marks turns sent result wrote ends failures = record {
   read = [];
-  sent = take written (window_sent s);
+  sent = sent;
   reads = 0;
   failed = 0;
   consumed = Consumes-nil _;
   appended = wrote;
   state = sym (heard_none s);
   marked = sym (ap (λ ms. marks ++ ms) (marks_none s) ∙ append-nil marks);
-  ends = (refl, below, refl, refl, refl);
+  ends = ends;
   few_reads = omega arith;
   few_bytes = omega arith;
   calls = λ h. omega arith;

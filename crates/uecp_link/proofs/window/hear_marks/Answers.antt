@@ -1,4 +1,4 @@
-use Rattle.std.proofs.Common.{ℕ, ◌<◌, List, ◌++◌, length, Option, ◌∙◌, ap, sym, arith, rules, append-nil}
+use Rattle.std.proofs.Common.{◌≡◌, ℕ, ◌<◌, List, [], ◌∷◌, ◌++◌, length, Option, ◌∙◌, ap, sym, arith, rules, append-nil}
 use Rattle.std.specs.Prelude.{option_to_list}
 use Rattle.uecp_elements.specs.declared.code.Code.{Code}
 use Rattle.uecp_link.specs.Server.{heard}
@@ -17,17 +17,18 @@ push-requires c =
 pub loop-rest-preserved-in-Acknowledged : goal.loop-rest-preserved-in-Acknowledged
 loop-rest-preserved-in-Acknowledged c =
     let w : HeardWhat = c.hear-heard.result.what in
-    let one = ap (λ (w : HeardWhat). option_to_list (mark_in w)) c.in-Acknowledged.is in
-    let on = hears_on c.loop-rest.server c.hear-heard.new.self c.hear-heard.result.used c.loop-rest.rest.now c.left-rest.result.now w c.loop-rest.marks.items c.push.new.self.items c.hear-heard.ensures.state c.left-rest.ensures
-    c.hear-heard.ensures.hears.said c.hear-heard.ensures.one_fewer (c.push.ensures.items ∙ ap (λ (ms : List (ℕ × Code)). c.loop-rest.marks.items ++ ms) (sym one)) in
+    let said : option_to_list (mark_in w) ≡ (c.in-Acknowledged.counter, c.in-Acknowledged.code) ∷ [] = ap (λ (w : HeardWhat). option_to_list (mark_in w)) c.in-Acknowledged.is in
+    let added : c.push.new.self.items ≡ c.loop-rest.marks.items ++ (c.in-Acknowledged.counter, c.in-Acknowledged.code) ∷ [] = search rules in
+    let on = hears_on c.loop-rest.server c.hear-heard.new.self c.hear-heard.result.used c.loop-rest.rest.now c.left-rest.result.now w c.loop-rest.marks.items c.push.new.self.items (search rules) (search rules)
+    (search rules) (search rules) (added ∙ ap (λ (ms : List (ℕ × Code)). c.loop-rest.marks.items ++ ms) (sym said)) in
     record { state = on.state ∙ c.loop-rest.invariant.state; marks = on.marks ∙ c.loop-rest.invariant.marks; room = on.room ∙ c.loop-rest.invariant.room }
 
 pub loop-rest-preserved : goal.loop-rest-preserved
 loop-rest-preserved c =
     let w : HeardWhat = c.hear-heard.result.what in
     let none = ap (λ (o : Option (ℕ × Code)). option_to_list o) (no_mark w c.in_default.not-Acknowledged) in
-    let on = hears_on c.loop-rest.server c.hear-heard.new.self c.hear-heard.result.used c.loop-rest.rest.now c.left-rest.result.now w c.loop-rest.marks.items c.loop-rest.marks.items c.hear-heard.ensures.state c.left-rest.ensures
-    c.hear-heard.ensures.hears.said c.hear-heard.ensures.one_fewer (sym (ap (λ (ms : List (ℕ × Code)). c.loop-rest.marks.items ++ ms) none ∙ append-nil c.loop-rest.marks.items)) in
+    let on = hears_on c.loop-rest.server c.hear-heard.new.self c.hear-heard.result.used c.loop-rest.rest.now c.left-rest.result.now w c.loop-rest.marks.items c.loop-rest.marks.items (search rules) (search rules)
+    (search rules) (search rules) (sym (ap (λ (ms : List (ℕ × Code)). c.loop-rest.marks.items ++ ms) none ∙ append-nil c.loop-rest.marks.items)) in
     record { state = on.state ∙ c.loop-rest.invariant.state; marks = on.marks ∙ c.loop-rest.invariant.marks; room = on.room ∙ c.loop-rest.invariant.room }
 
 pub returns-clause-state : goal.returns-clause-state

@@ -1,4 +1,4 @@
-use Rattle.std.proofs.Common.{◌≡◌, ℕ, ◌+◌, List, ◌++◌, length, take, Some, ◌∙◌, ap, sym, subst, arith, length-append}
+use Rattle.std.proofs.Common.{◌≡◌, ℕ, ◌+◌, List, ◌++◌, length, take, Some, ◌∙◌, ap, sym, subst, arith, rules, length-append}
 use Rattle.std.specs.Prelude.{slice_get}
 use Rattle.std.specs.List.{concat}
 use Rattle.std.specs.Io.KnownBytes.{Appends}
@@ -12,7 +12,7 @@ returns-in-Err-clause-err g c =
     let fs : List (List ℕ) = frames_waiting c.args.server.now in
     let place : ℕ = c.loop-place.place in
     let f : List ℕ = c.in-Some.frame.now in
-    let here : slice_get fs place ≡ Some f = sym c.in-Some.ensures.value in
+    let here : slice_get fs place ≡ Some f = search rules in
     let part : ℕ = c.in-Err.part in
     let (within, wrote) = c.in-Err.ensures.err in
     let sent : take (c.loop-place.written + part) (concat fs) ≡ concat (take place fs) ++ take part f =
@@ -26,7 +26,7 @@ loop-place-preserved g c =
     let fs : List (List ℕ) = frames_waiting c.args.server.now in
     let place : ℕ = c.loop-place.place in
     let f : List ℕ = c.in-Some.frame.now in
-    let here : slice_get fs place ≡ Some f = sym c.in-Some.ensures.value in
+    let here : slice_get fs place ≡ Some f = search rules in
     let more : concat (take (place + 1) fs) ≡ concat (take place fs) ++ f = frames_more fs place f here in
     record {
       written = omega (arith, c.loop-place.invariant.written, ap length more, length-append (concat (take place fs)) f);
