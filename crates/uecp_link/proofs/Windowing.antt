@@ -18,7 +18,7 @@ use Rattle.uecp_link.specs.declared.heard.HeardWhat.{HeardWhat}
 use Rattle.uecp_link.specs.declared.heard.HeardWhat.TheVariants as what
 use Rattle.uecp_link.specs.declared.window.Windowed.{Windowed}
 use Rattle.uecp_link.specs.Server.{ServerState, waiting, heard, all_heard_as, whats_of}
-use Rattle.uecp_link.specs.Window.{mark_in, marks_in, window_sent, window_failures, ReadsEnd, WindowEnds, Windows, Gathers, Gathered}
+use Rattle.uecp_link.specs.Window.{mark_in, marks_in, window_sent, window_failures, ReadsEnd, WindowEnds, Windows, Gathers, Gathered, Hearing}
 use Rattle.uecp_link.proofs.Answered.{idle_hears}
 use Rattle.uecp_link.proofs.FeedingLemmas.{heard_none, said-append, server_in_pieces}
 
@@ -55,6 +55,14 @@ module _ (fs : List (List ℕ)) (place : ℕ) (f : List ℕ) (here : slice_get f
   part_below part within =
       omega (arith, within, ap length frames_split, length-append (concat (take place fs)) (f ++ concat (drop (place + 1) fs)), length-append f (concat (drop (place + 1) fs)))
 
+  -- so many bytes of all frames, the whole ones before and a part of this one
+  pub part_appended : (before after : Option (List ℕ)) (written part : ℕ) → part < length f → written ≡ length (concat (take place fs)) + part → Appends before after (concat (take place fs) ++ take part f)
+      → (written < length (concat fs)) × Appends before after (take written (concat fs))
+  part_appended before after written part within count wrote = (
+    omega (arith, count, part_below part within),
+    subst (Appends before after) (sym (ap (λ n. take n (concat fs)) count ∙ part_sent part (omega (arith, within)))) wrote,
+  )
+
 -- ---- marks
 
 pub marks_none : (s : ServerState) → marks_in s [] ≡ []
@@ -79,26 +87,24 @@ no_mark (what.Acknowledged counter code) other = absurd (other counter code refl
 no_mark what.Stray other = refl
 no_mark (what.Dropped fault) other = refl
 
--- one call of `hear` more
-pub record HearsOn (s s' : ServerState) (rest rest' : List ℕ) (m m' : List (ℕ × Code)) : Type 0 where
-  pub state : heard s' rest' ≡ heard s rest
-  pub marks : m' ++ marks_in s' rest' ≡ m ++ marks_in s rest
-  pub room : length m' + length (waiting s') ≡ length m + length (waiting s)
+pub with_added : (m' m said marks : List (ℕ × Code)) → said ≡ marks → m' ≡ m ++ said → m' ≡ m ++ marks
+with_added m' m said marks is added = added ∙ ap (λ ms. m ++ ms) is
 
-pub hears_on : (s s' : ServerState) (n : ℕ) (rest rest' : List ℕ) (w : HeardWhat) (m m' : List (ℕ × Code)) → s' ≡ heard s (take n rest) → rest' ≡ drop n rest → all_heard_as s (found_beyond s.part (take n rest)) ≡ whats_of w
-    → length (option_to_list (mark_in w)) + length (waiting s') ≡ length (waiting s) → m' ≡ m ++ option_to_list (mark_in w) → HearsOn s s' rest rest' m m'
-hears_on s s' n rest rest' w m m' state left said fewer added =
+-- one call of `hear` more
+pub hears_on : (s0 s s' : ServerState) (n : ℕ) (piece rest rest' : List ℕ) (w : HeardWhat) (m0 m m' : List (ℕ × Code)) → Hearing s0 s piece rest m0 m → s' ≡ heard s (take n rest) → rest' ≡ drop n rest
+    → all_heard_as s (found_beyond s.part (take n rest)) ≡ whats_of w → length (option_to_list (mark_in w)) + length (waiting s') ≡ length (waiting s) → m' ≡ m ++ option_to_list (mark_in w) → Hearing s0 s' piece rest' m0 m'
+hears_on s0 s s' n piece rest rest' w m0 m m' so_far state left said fewer added =
     let x : List ℕ = take n rest in
     let y : List ℕ = drop n rest in
     let whole : x ++ y ≡ rest = take-append-drop n rest in
     let marked : m' ≡ m ++ marks_in s x = added ∙ ap (λ ms. m ++ ms) (sym (said_marks s x w said)) in
     record {
-      state = ap (λ (t : ServerState). heard t rest') state ∙ ap (heard (heard s x)) left ∙ sym (server_in_pieces s x y).state ∙ ap (heard s) whole;
-      marks =
+      state = ap (λ (t : ServerState). heard t rest') state ∙ ap (heard (heard s x)) left ∙ sym (server_in_pieces s x y).state ∙ ap (heard s) whole ∙ so_far.state;
+      marked =
           ap (λ ms. ms ++ marks_in s' rest') marked ∙ ap (λ (t : ServerState). (m ++ marks_in s x) ++ marks_in t rest') state
           ∙ ap (λ (bs : List ℕ). (m ++ marks_in s x) ++ marks_in (heard s x) bs) left ∙ append_assoc m (marks_in s x) (marks_in (heard s x) y)
-          ∙ ap (λ ms. m ++ ms) (sym (marks-append s x y) ∙ ap (marks_in s) whole);
-      room = omega (arith, fewer, ap length added, length-append m (option_to_list (mark_in w)));
+          ∙ ap (λ ms. m ++ ms) (sym (marks-append s x y) ∙ ap (marks_in s) whole) ∙ so_far.marked;
+      room = omega (arith, fewer, ap length added, length-append m (option_to_list (mark_in w)), so_far.room);
     }
 
 -- ---- reads

@@ -97,3 +97,9 @@ pub record Gathered {R : Type 0} (remaining : R → Option (List ℕ)) (old new 
   pub few_bytes : length read ≤ 64 * reads
   pub calls : reader.calls + reads < 2 ^ 128 → reader'.calls ≡ reader.calls + reads
   pub read_failures : reader'.failures ≡ reader.failures
+
+-- A piece is heard up to its rest, which brings what is left of the marks; each mark more is one message fewer that waits (private).
+pub record Hearing (old new : ServerState) (piece rest : List ℕ) (marks marks' : List (ℕ × Code)) : Type 0 where
+  pub state : heard new rest ≡ heard old piece
+  pub marked : marks' ++ marks_in new rest ≡ marks ++ marks_in old piece
+  pub room : length marks' + length (waiting new) ≡ length marks + length (waiting old)

@@ -4,22 +4,16 @@ use Rattle.std.specs.List.{concat}
 use Rattle.std.specs.Io.KnownBytes.{Appends}
 use Rattle.std.proofs.KnownBytes.{Appends-trans}
 use Rattle.uecp_link.specs.Server.{frames_waiting}
-use Rattle.uecp_link.proofs.Windowing.{frames_more, part_sent, part_below}
+use Rattle.uecp_link.proofs.Windowing.{frames_more, part_appended}
 use Rattle.uecp_link.proofs.window.write_window.Goals as goal
 
 pub returns-in-Err-clause-err : goal.returns-in-Err-clause-err
 returns-in-Err-clause-err g c =
     let fs : List (List ℕ) = frames_waiting c.args.server.now in
-    let place : ℕ = c.loop-place.place in
     let f : List ℕ = c.in-Some.frame.now in
-    let here : slice_get fs place ≡ Some f = search rules in
-    let part : ℕ = c.in-Err.part in
+    let here : slice_get fs c.loop-place.place ≡ Some f = search rules in
     let (within, wrote) = c.in-Err.ensures.err in
-    let sent : take (c.loop-place.written + part) (concat fs) ≡ concat (take place fs) ++ take part f =
-    ap (λ n. take (n + part) (concat fs)) c.loop-place.invariant.written ∙ part_sent fs place f here part (omega (arith, within)) in (
-      omega (arith, part_below fs place f here part within, c.loop-place.invariant.written),
-      subst (Appends (g.W.Write.contents c.args.writer.now.device) (g.W.Write.contents c.write_whole.new.self.device)) (sym sent) (Appends-trans _ _ _ _ _ c.loop-place.invariant.appended wrote),
-    )
+    part_appended fs c.loop-place.place f here _ _ _ c.in-Err.part within (omega (arith, c.loop-place.invariant.written)) (Appends-trans _ _ _ _ _ c.loop-place.invariant.appended wrote)
 
 pub loop-place-preserved : goal.loop-place-preserved
 loop-place-preserved g c =
