@@ -381,19 +381,18 @@ fn server_in_the_end(
     rt: &impl Abort,
     alloc: Global,
     job: &Job,
-    brought: (&[u8], &[u8]),
+    given: &[Given<'_>],
+    input: &[u8],
     comes: (&[u8], &[u8]),
 ) -> Result<(), Fail>
     requires { IsServer job.now }
 {
-    let (given, input) = brought;
     let (output, sent) = comes;
-    let good: [Given; 1] = [(given, &[])];
     let mut memory = ScarceMemory::take_all(alloc, TIMES * 16)?;
     for refused in 0..TIMES {
         let mut outputs = [Taken::new()];
         let mut prepared = Prepared {
-            inputs: good.iter(),
+            inputs: given.iter(),
             at_most: REPLY_SIZE,
             outputs: outputs.iter_mut(),
             opened: 0,
@@ -420,17 +419,19 @@ fn server_in_the_end(
 #[test]
 fn a_server_that_is_refused_memory(rt: HostRuntime) -> Result<(), Fail> {
     let job = server_job(rt.alloc(), 1, 3, 1)?;
-    let given = (APPLIED_1.as_slice(), b"-\n".as_slice());
+    let good: Given = (&APPLIED_1, &[]);
     let output = b"acknowledged 00 tries 1\n".as_slice();
-    server_in_the_end(&rt, rt.alloc(), &job, given, (output, &EMPTY_1))
+    let sent = EMPTY_1.as_slice();
+    server_in_the_end(&rt, rt.alloc(), &job, &[good], b"-\n", (output, sent))
 }
 
 #[test]
 fn a_server_with_a_batch_of_two_that_is_refused_memory(rt: HostRuntime) -> Result<(), Fail> {
     let job = server_job(rt.alloc(), 1, 3, 2)?;
-    let given = (APPLIED_BOTH.as_slice(), b"-\n-\n".as_slice());
+    let both: Given = (&APPLIED_BOTH, &[]);
     let output = b"acknowledged 00 tries 1\nacknowledged 00 tries 1\n".as_slice();
-    server_in_the_end(&rt, rt.alloc(), &job, given, (output, &EMPTY_BOTH))
+    let sent = EMPTY_BOTH.as_slice();
+    server_in_the_end(&rt, rt.alloc(), &job, &[both], b"-\n-\n", (output, sent))
 }
 
 /// Runs `encoder` over a connection that breaks and one that ends, until memory suffices.

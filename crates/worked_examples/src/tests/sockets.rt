@@ -92,10 +92,14 @@ fn sends_again(rt: &impl Abort, server: &mut Server, end: &mut End) {
 
 /// Sends the text "HI" on a connection on which nothing is answered.
 fn is_outstanding<C: Connect>(rt: &impl Abort, sender: &mut Sender<'_, C>) {
-    assert!(rt; sender.is_idle());
+    assert!(rt; sender.is_free());
     let message = Message::from_bytes(&ADD).expect(rt, "short");
-    let sent = sender.send(&message);
-    assert_eq!(rt; sent, Err(Outstanding::TriesSpent));
+    assert!(rt; sender.submit(&message));
+    let Err(reason) = sender.settle() else {
+        assert!(rt; false, "acknowledged");
+        return;
+    };
+    assert_eq!(rt; reason, Outstanding::TriesSpent);
 }
 
 /// The service has the text "HI" once, and no other.
@@ -129,7 +133,7 @@ fn a_sender_and_an_encoder_over_one_connection(rt: HostRuntime) -> Result<(), Fa
     let listener = TcpListener::bind(&rt, ("127.0.0.1", 0))?;
     let port = listener.local_addr()?.port();
     let mut dialing = Dialing::new(&rt, "127.0.0.1", port, TIMEOUT);
-    let mut sender = Sender::new(&mut dialing, Server::new(own_address(&rt)), 1, 1, 0);
+    let mut sender = Sender::new(&mut dialing, Server::new(own_address(&rt)), 1, 1, 0, 1, 1);
     is_outstanding(&rt, &mut sender);
     let mut encoder = new_encoder(&rt, alloc)?;
     let mut lines = Vec::new(alloc);
