@@ -25,6 +25,7 @@ impl Connect for Listening {
 
     fn open(&mut self) -> Option<(TcpStream, TcpStream)> {
         let (stream, _) = self.listener.accept().ok()?;
+        send_at_once(&stream);
         let copy = stream.try_clone().ok()?;
         Some((stream, copy))
     }
@@ -62,7 +63,14 @@ impl<'a, R: Net<Stream = TcpStream>> Connect for Dialing<'a, R> {
         let stream = TcpStream::connect(self.net, (self.host, self.port)).ok()?;
         let timeout = Duration::from_millis(self.timeout);
         stream.set_read_timeout(Some(timeout)).ok()?;
+        send_at_once(&stream);
         let copy = stream.try_clone().ok()?;
         Some((stream, copy))
     }
+}
+
+/// Asks the system to send each frame and each reply as soon as it is written, where it would else hold a small one back until those
+/// before it have come. Where that is refused the connection is slower, and no more than that.
+fn send_at_once(stream: &TcpStream) {
+    let _ = stream.set_nodelay(true);
 }
