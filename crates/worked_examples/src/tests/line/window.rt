@@ -32,8 +32,10 @@ fn waits_for(rt: &impl Abort, server: &Server, counters: &[u8]) {
     for (place, counter) in counters.iter().enumerate() {
         let frame = empty_under(rt, *counter);
         assert!(rt; server.frame(place) == Some(frame.as_slice()));
+        assert_eq!(rt; server.counter(place), Some(*counter));
     }
     assert!(rt; server.frame(counters.len()).is_none());
+    assert_eq!(rt; server.counter(counters.len()), None);
     assert!(rt; server.outgoing() == server.frame(0));
 }
 
