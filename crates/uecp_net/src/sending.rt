@@ -65,8 +65,8 @@ impl<'a, C: Connect> Model for Sender<'a, C> {
 
 impl<'a, C: Connect> Sender<'a, C> {
     /// This server with no connection yet. Each connection has this many tries of this many turns, and this many reconnects
-    /// may be made in all. A batch has at most `window` messages, and at most eight; and `ahead` messages come, before the end of
-    /// the input or a line that is refused, see [`messages_ahead`](crate::messages_ahead).
+    /// may be made in all. A batch has at most `window` messages, from 1 (0 does as 1), and at most eight; and `ahead` messages
+    /// come, before the end of the input or a line that is refused, see [`messages_ahead`](crate::messages_ahead).
     pub fn new(
         connect: &'a mut C,
         server: Server,

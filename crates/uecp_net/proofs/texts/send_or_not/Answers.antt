@@ -1,4 +1,4 @@
-use Rattle.std.proofs.Common.{◌≡◌, [], codes, refl, ap, sym, subst, inl, inr, append-nil}
+use Rattle.std.proofs.Common.{[], codes, refl, sym, subst, inl, inr, append-nil}
 use Rattle.uecp_link.specs.Server.{submitted}
 use Rattle.uecp_net.specs.Sending.{SenderState, StillWait, batch_lines}
 use Rattle.uecp_net.proofs.Told.{is_sent}
@@ -34,6 +34,5 @@ pub returns-in-Err : goal.returns-in-Err
 returns-in-Err g c = λ text spells short.
     let free = c.is_free.ensures.0 c.if-not-is_free.false in
     let whole = c.submit.ensures.whole.0 c.if-not-submit.false in
-    let server_is : c.submit.new.self.server ≡ submitted c.args.sender.now.server c.args.message.now = ap (λ (d : SenderState). d.server) c.submit.ensures.submits in
-    let waits = subst (λ d. StillWait d c.settle.new.self.server) server_is c.in-Err.ensures.outstanding in
+    let waits = subst (λ (d : SenderState). StillWait d.server c.settle.new.self.server) c.submit.ensures.submits c.in-Err.ensures.outstanding in
     (codes "outstanding\n", (c.args.message.now, spells, short, refl, inl (free, whole, waits, (c.in-Err.field-0, c.in-Err.ensures.why))), c.text-in-Err.ensures)
