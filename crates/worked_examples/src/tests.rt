@@ -1,7 +1,5 @@
 mod elements;
 mod encoder;
 mod frame;
-mod line;
 mod ring;
-mod sockets;
 mod store;
