@@ -14,7 +14,7 @@ use crate::heard::HeardWhat;
 use crate::server::Server;
 use uecp_elements::Code;
 use uecp_encoder::{Encoder, Target, What};
-use uecp_frame::{Deframer, Found, decode, is_segment};
+use uecp_frame::{Deframer, Found, decode};
 
 /// What is left of a piece once this many bytes of it were used.
 pub(crate) fn left(piece: &[u8], used: usize) -> &[u8]
@@ -25,22 +25,20 @@ pub(crate) fn left(piece: &[u8], used: usize) -> &[u8]
 }
 
 /// A reply's code, with whether it is fresh.
-fn coded(reply: &[u8], fresh: bool) -> Option<(bool, Code)>
-    ensures { (address counter : ℕ) (code : CodeValue) → reply.now ≡ spelling (reply_of address counter code) → result ≡ Some (fresh, code) }
+fn coded(reply: &[u8], fresh: bool) -> (bool, Code)
+    requires { (address : ℕ) × (counter : ℕ) × (code : CodeValue) × (reply.now ≡ spelling (reply_of address counter code)) }
+    ensures { (address counter : ℕ) (code : CodeValue) → reply.now ≡ spelling (reply_of address counter code) → result ≡ (fresh, code) }
 {
-    if !is_segment(reply) {
-        return None;
-    }
-    match decode(reply) {
-        Err(_) => None,
-        Ok(frame) => match frame.message.bytes() {
-            [0x18, byte, _] => match Code::from_byte(*byte) {
-                Some(code) => Some((fresh, code)),
-                None => None,
-            },
-            _ => None,
-        },
-    }
+    let Ok(frame) = decode(reply) else {
+        unreachable!();
+    };
+    let [0x18, byte, _] = frame.message.bytes() else {
+        unreachable!();
+    };
+    let Some(code) = Code::from_byte(*byte) else {
+        unreachable!();
+    };
+    (fresh, code)
 }
 
 /// An end of the line, which is given the stream in pieces and says something of some segments.
@@ -79,7 +77,7 @@ impl<T: Target> End for Encoder<T> {
         let answer = self.feed(piece);
         let used = answer.used;
         match answer.what {
-            What::Reply(reply, fresh) => (used, coded(reply.as_slice(), fresh)),
+            What::Reply(reply, fresh) => (used, Some(coded(reply.as_slice(), fresh))),
             What::Nothing | What::NotForMe | What::Unnumbered | What::NotNext | What::Dropped(_) =>
                 (used, None),
         }
