@@ -42,7 +42,7 @@ other_is_none text other none = elim (cases_Bool (pointwise (λ a b. a == b) tex
   | inr differs ↦ ap (λ b. b || is_short (bytes_in text)) differs ∙ none
 ]
 
-hyphen_spells_none : (m : List ℕ) → bytes_in (codes "-") ≡ Ok m → ⊥
+pub hyphen_spells_none : (m : List ℕ) → bytes_in (codes "-") ≡ Ok m → ⊥
 hyphen_spells_none m is = cc
 
 pub not_hex_is_none : (text : List ℕ) → text ≢ codes "-" → IsErr (bytes_in text) → is_message text ≡ false

@@ -3,3 +3,5 @@ pub mod Acknowledging
 pub mod Ahead
 pub mod Breaking
 pub mod Told
+pub mod Went
+pub mod Widened

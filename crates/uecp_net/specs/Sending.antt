@@ -188,6 +188,24 @@ Sends s text (Brings lines) s' =
     ⊎ (IsWhole s (submitted s.server message) × IsSent s (submitted s.server message) lines s'))
 Sends s text (Ends lines) s' =
     (message : List ℕ) × Spells text message × (length message ≤ 255) × (lines ≡ codes "outstanding\n")
-    × ((IsFree s × IsWhole s (submitted s.server message) × StillWait (submitted s.server message) s'.server × ((reason : Outstanding) × (s'.why ≡ Some reason))) ⊎ ((IsFree s → ⊥) × (s' ≡ s)))
+    × ((IsFree s × IsWhole s (submitted s.server message) × StillWait (submitted s.server message) s'.server
+    × ((reason : Outstanding) × (s' ≡ record s { server = s'.server; left = s'.left; ahead = s.ahead - 1; why = Some reason })))
+    ⊎ ((IsFree s → ⊥) × (s' ≡ s)))
 Sends s text (Refuses fault) s' =
     (((fault ≡ NotHex) × (text ≢ codes "-") × IsErr (bytes_in text)) ⊎ ((fault ≡ MessageTooLong) × ((message : List ℕ) × Spells text message × (255 < length message)))) × (s' ≡ s)
+
+-- What the connections did where a text makes its batch whole. The codes that are said are those of the messages' own replies, and the tries those of the last connection; and a batch is
+-- outstanding where its tries or its connections are spent, and not before.
+abbrev pub Went : {C I O : Type 0} → (opens : C → Option (I × O) → C → Type 0) → (remaining : I → Option (List ℕ)) → (contents : O → Option (List ℕ)) → Meaning SenderState
+Went opens remaining contents s text (Brings lines) s' =
+    (message : List ℕ) → Spells text message → IsWhole s (submitted s.server message) →
+    (told : List Code) × (tries : ℕ) × (marks : Marks) × (lines ≡ batch_lines told tries)
+    × Delivers opens remaining contents s.tries s.turns (submitted s.server message) s.left (Ok tries) s'.server s'.left marks × AreTold (submitted s.server message) marks told
+Went opens remaining contents s text (Ends lines) s' =
+    (message : List ℕ) → Spells text message → IsFree s →
+    (reason : Outstanding) × (marks : Marks) × (s'.why ≡ Some reason) × Delivers opens remaining contents s.tries s.turns (submitted s.server message) s.left (Err reason) s'.server s'.left marks
+Went opens remaining contents s text (Refuses fault) s' = Unit {0}
+
+-- What a text brings to a sender over connections that do this: what it brings to any, and what the connections did.
+abbrev pub SendsOver : {C I O : Type 0} → (opens : C → Option (I × O) → C → Type 0) → (remaining : I → Option (List ℕ)) → (contents : O → Option (List ℕ)) → Meaning SenderState
+SendsOver opens remaining contents s text outcome s' = Sends s text outcome s' × Went opens remaining contents s text outcome s'

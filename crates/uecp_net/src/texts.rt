@@ -5,7 +5,7 @@ ghost use Rattle.uecp_text.specs.Input.{texts_of};
 ghost use Rattle.uecp_text.specs.Run.{outcome_of};
 ghost use Rattle.uecp_text.specs.Words.{bytes_in};
 ghost use Rattle.uecp_text.specs.Written.{Adds};
-ghost use Rattle.uecp_net.specs.Sending.{Sends, Spells, is_message, messages_first, acknowledged_line, batch_lines};
+ghost use Rattle.uecp_net.specs.Sending.{SendsOver, Spells, is_message, messages_first, acknowledged_line, batch_lines};
 
 use crate::connect::Connect;
 use crate::sending::{Sender, Settled};
@@ -16,7 +16,7 @@ use uecp_text::{Interpreter, LineFault, Output, PieceBuffer, Taken, first_line, 
 use uecp_words::message_of;
 
 impl<'a, C: Connect> Interpreter for Sender<'a, C> {
-    ghost meaning = { Sends };
+    ghost meaning = { SendsOver C.opens C.Input.remaining C.Output.contents };
 
     ghost closing = { λ _. [] };
 
@@ -65,7 +65,7 @@ fn send_or_not<C: Connect>(
     output: &mut Output,
 ) -> Taken
     ensures { (text : List ℕ) → Spells text message.now → length message.now ≤ 255 → (lines : List ℕ)
-        × Sends sender.old text (outcome_of result lines) sender.new × Adds output.old output.new lines }
+        × SendsOver C.opens C.Input.remaining C.Output.contents sender.old text (outcome_of result lines) sender.new × Adds output.old output.new lines }
 {
     if !sender.is_free() {
         output.text("outstanding\n");
