@@ -93,7 +93,7 @@ not_failed run.Connection status f is = absurd f
 not_failed run.Outstanding status f is = absurd f
 
 -- what a job failed for
-breaks_fails : {V : Type 0} (meaning : Meaning V) (start : List ℕ → V) (closing : V → List ℕ) (unread unread' held held' : Option (List ℕ)) (fault : RunFault) → BreaksFrom meaning start closing unread unread' held held' fault → Fails fault
+pub breaks_fails : {V : Type 0} (meaning : Meaning V) (start : List ℕ → V) (closing : V → List ℕ) (unread unread' held held' : Option (List ℕ)) (fault : RunFault) → BreaksFrom meaning start closing unread unread' held held' fault → Fails fault
 breaks_fails meaning start closing unread unread' held held' run.TooLong breaks = tt
 breaks_fails meaning start closing unread unread' held held' run.Reading breaks = tt
 breaks_fails meaning start closing unread unread' held held' run.Writing breaks = tt

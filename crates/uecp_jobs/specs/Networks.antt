@@ -5,16 +5,17 @@ use Rattle.rds_store.specs.Value.{Store}
 use Rattle.rds_store.specs.Step.{step}
 use Rattle.uecp_elements.specs.declared.code.Code.{Code}
 use Rattle.uecp_encoder.specs.State.{EncoderState}
+use Rattle.uecp_text.specs.declared.line_fault.LineFault.{LineFault}
 use Rattle.uecp_text.specs.declared.run_fault.RunFault.{RunFault}
 use Rattle.uecp_text.specs.declared.run_fault.RunFault.TheVariants as run
 use Rattle.uecp_text.specs.Faults.{Fails, status_of, error_lines}
 use Rattle.uecp_text.specs.Input.{texts_of}
-use Rattle.uecp_text.specs.Run.{Runs, IsInput}
+use Rattle.uecp_text.specs.Run.{Meaning, Runs, IsInput}
 use Rattle.uecp_text.specs.Streaming.{BreaksOut}
 use Rattle.uecp_text.specs.Written.{Begins}
 use Rattle.uecp_net.specs.declared.sending.Outstanding.{Outstanding}
 use Rattle.uecp_net.specs.declared.sending.Outstanding.TheVariants.{ConnectionFailed}
-use Rattle.uecp_net.specs.Sending.{SenderState, Sends, acknowledged_lines, messages_first}
+use Rattle.uecp_net.specs.Sending.{SenderState, Sends, SendsOver, acknowledged_lines, messages_first}
 use Rattle.uecp_net.specs.Sessions.{Outcome, Sessions, connection_lines}
 use Rattle.uecp_jobs.specs.declared.job.Job.{Job}
 use Rattle.uecp_jobs.specs.declared.job.Job.TheVariants.{Encoder, Server}
@@ -108,29 +109,30 @@ as_run (Ok done) = Ok done
 as_run (Err stop) = Err (as_fault stop)
 
 -- The texts were taken one after another by this sender, as far as the result says, and bring these lines.
-abbrev pub Sent : SenderState → List (ℕ × List ℕ) → (lines : List ℕ) → SenderState → Result (Unit {0}) RunFault → Type 0
-Sent s texts lines s' result =
+abbrev pub Sent : Meaning SenderState → SenderState → List (ℕ × List ℕ) → (lines : List ℕ) → SenderState → Result (Unit {0}) RunFault → Type 0
+Sent meaning s texts lines s' result =
     MatchResult result
-    (λ _. Runs Sends s texts lines None s')
-    (λ fault. (first : RunFault) × Runs Sends s texts lines (Some first) s' × (fault ≡ said first s'.why))
+    (λ _. Runs meaning s texts lines None s')
+    (λ fault. (first : RunFault) × Runs meaning s texts lines (Some first) s' × (fault ≡ said first s'.why))
 
 -- From this sender on the texts were sent, as far as the result says, and the writer got the lines of that, as far as it tells. Or the run failed.
-abbrev pub SendsTexts : SenderState → List (ℕ × List ℕ) → (held held' : Option (List ℕ)) → Result (Unit {0}) RunFault → Type 0
-SendsTexts s texts held held' result =
-    ((fault : RunFault) × (result ≡ Err fault) × BreaksOut Sends s texts held held' fault) ⊎ ((lines : List ℕ) × (s' : SenderState) × Appends held held' lines × Sent s texts lines s' result)
+abbrev pub SendsTexts : Meaning SenderState → SenderState → List (ℕ × List ℕ) → (held held' : Option (List ℕ)) → Result (Unit {0}) RunFault → Type 0
+SendsTexts meaning s texts held held' result =
+    ((fault : RunFault) × (result ≡ Err fault) × BreaksOut meaning s texts held held' fault)
+    ⊎ ((lines : List ℕ) × (s' : SenderState) × Appends held held' lines × Sent meaning s texts lines s' result)
 
 -- From the sender with which its input begins, the messages of all that the reader had left were sent, as far as the result says, and the writer got the lines of that, as far as both tell. Or the run
 -- failed.
-abbrev pub SendsLines : (start : List ℕ → SenderState) → (unread unread' held held' : Option (List ℕ)) → Result (Unit {0}) RunFault → Type 0
-SendsLines start unread unread' held held' result =
-    ((fault : RunFault) × (result ≡ Err fault) × BreaksFrom Sends start (λ _. []) unread unread' held held' fault)
-    ⊎ ((input : List ℕ) × (lines : List ℕ) × (s' : SenderState) × IsInput unread unread' input × Appends held held' lines × Sent (start input) (texts_of input) lines s' result)
+abbrev pub SendsLines : Meaning SenderState → (start : List ℕ → SenderState) → (unread unread' held held' : Option (List ℕ)) → Result (Unit {0}) RunFault → Type 0
+SendsLines meaning start unread unread' held held' result =
+    ((fault : RunFault) × (result ≡ Err fault) × BreaksFrom meaning start (λ _. []) unread unread' held held' fault)
+    ⊎ ((input : List ℕ) × (lines : List ℕ) × (s' : SenderState) × IsInput unread unread' input × Appends held held' lines × Sent meaning (start input) (texts_of input) lines s' result)
 
 -- The same from the sender that the options describe.
-abbrev pub SendsAll : Job → (unread unread' held held' : Option (List ℕ)) → Result (Unit {0}) RunFault → Type 0
-SendsAll (Server site encoder host port tries timeout turns reconnects window) unread unread' held held' result =
-    SendsLines (sender_over site encoder tries turns reconnects window) unread unread' held held' result
-SendsAll job unread unread' held held' result = ⊥
+abbrev pub SendsAll : Meaning SenderState → Job → (unread unread' held held' : Option (List ℕ)) → Result (Unit {0}) RunFault → Type 0
+SendsAll meaning (Server site encoder host port tries timeout turns reconnects window) unread unread' held held' result =
+    SendsLines meaning (sender_over site encoder tries turns reconnects window) unread unread' held held' result
+SendsAll meaning job unread unread' held held' result = ⊥
 
 -- The writer got one line for each message of all that the reader had left, in order, with the code and the tries of its acknowledgement, as far as both tell.
 abbrev pub AreAcknowledged : (unread unread' held held' : Option (List ℕ)) → Type 0
@@ -142,7 +144,7 @@ abbrev pub AreAcknowledgedBefore : (unread unread' held held' : Option (List ℕ
 AreAcknowledgedBefore unread unread' held held' =
     (input : List ℕ) × (told : List (Code × ℕ)) × IsInput unread unread' input × (length told ≡ messages_first (texts_of input)) × Appends held held' (acknowledged_lines told)
 
--- A batch is outstanding: the writer got the lines of the messages of the batches before it, and its own one; and where no connection was left that was said, or begun to be said, and nothing where the
+-- A batch is outstanding: the writer got the lines of the messages of the batches before it, and the line `outstanding`; and where no connection was left that was said, or begun to be said, and nothing where the
 -- tries were spent.
 abbrev pub IsOutstanding : Job → (unread unread' held held' told told' : Option (List ℕ)) → Type 0
 IsOutstanding (Server site encoder host port tries timeout turns reconnects window) unread unread' held held' told told' =
@@ -151,3 +153,34 @@ IsOutstanding (Server site encoder host port tries timeout turns reconnects wind
     × ((acknowledged : List (Code × ℕ)) × (length acknowledged < length (texts_of input)) × (lines ≡ acknowledged_lines acknowledged ++ codes "outstanding\n"))
     × Begins told told' (error_lines (said run.Outstanding s'.why))
 IsOutstanding job unread unread' held held' told told' = ⊥
+
+-- ---- `server` over connections of which this is known
+-- From the sender that the options describe the messages of all that the reader had left were sent over such connections, up to the text at which the run stopped, if there is one; and the writer got the
+-- lines of that, as far as both tell. So each line is what the connections brought. This sender is left.
+abbrev pub SentOver : {C I O : Type 0} → (opens : C → Option (I × O) → C → Type 0) → (remaining : I → Option (List ℕ)) → (contents : O → Option (List ℕ)) → Job → (unread unread' held held' : Option (List ℕ)) → (stop : Option RunFault) → SenderState → Type 0
+SentOver opens remaining contents (Server site encoder host port tries timeout turns reconnects window) unread unread' held held' stop s' =
+    (input : List ℕ) × (lines : List ℕ) × IsInput unread unread' input × Appends held held' lines
+    × Runs (SendsOver opens remaining contents) (sender_over site encoder tries turns reconnects window input) (texts_of input) lines stop s'
+SentOver opens remaining contents job unread unread' held held' stop s' = ⊥
+
+-- All messages were sent so.
+abbrev pub SentAllOver : {C I O : Type 0} → (opens : C → Option (I × O) → C → Type 0) → (remaining : I → Option (List ℕ)) → (contents : O → Option (List ℕ)) → Job → (unread unread' held held' : Option (List ℕ)) → Type 0
+SentAllOver opens remaining contents job unread unread' held held' = (s' : SenderState) × SentOver opens remaining contents job unread unread' held held' None s'
+
+-- The messages before a line that is refused were sent so; and the line's number and fault were said, or begun to be said.
+abbrev pub SentBeforeOver : {C I O : Type 0} → (opens : C → Option (I × O) → C → Type 0) → (remaining : I → Option (List ℕ)) → (contents : O → Option (List ℕ)) → Job → (unread unread' held held' told told' : Option (List ℕ)) → Type 0
+SentBeforeOver opens remaining contents job unread unread' held held' told told' =
+    (number : ℕ) × (refusal : LineFault) × (s' : SenderState) × SentOver opens remaining contents job unread unread' held held' (Some (run.Line number refusal)) s'
+    × Begins told told' (error_lines (run.Line number refusal))
+
+-- A batch is outstanding, since its tries or its connections were spent, and not before; the batches before it were sent so. Where no connection was left that was said, or begun to be said, and nothing
+-- where the tries were spent.
+abbrev pub IsGivenUpOver : {C I O : Type 0} → (opens : C → Option (I × O) → C → Type 0) → (remaining : I → Option (List ℕ)) → (contents : O → Option (List ℕ)) → Job → (unread unread' held held' told told' : Option (List ℕ)) → Type 0
+IsGivenUpOver opens remaining contents job unread unread' held held' told told' =
+    (s' : SenderState) × SentOver opens remaining contents job unread unread' held held' (Some run.Outstanding) s' × Begins told told' (error_lines (said run.Outstanding s'.why))
+
+-- Memory, reading or writing failed, and that was said, or begun to be said. What was written is a beginning of the lines of messages that were sent so, and nothing where the input was not read to its end.
+abbrev pub HasFailedOver : {C I O : Type 0} → (opens : C → Option (I × O) → C → Type 0) → (remaining : I → Option (List ℕ)) → (contents : O → Option (List ℕ)) → Job → (unread unread' held held' told told' : Option (List ℕ)) → Type 0
+HasFailedOver opens remaining contents (Server site encoder host port tries timeout turns reconnects window) unread unread' held held' told told' =
+    (fault : RunFault) × BreaksFrom (SendsOver opens remaining contents) (sender_over site encoder tries turns reconnects window) (λ _. []) unread unread' held held' fault × Begins told told' (error_lines fault)
+HasFailedOver opens remaining contents job unread unread' held held' told told' = ⊥

@@ -6,8 +6,9 @@ ghost use Rattle.uecp_text.specs.Faults.{Fails};
 ghost use Rattle.uecp_text.specs.Input.{texts_of};
 ghost use Rattle.uecp_text.specs.Streaming.{RunsOut};
 ghost use Rattle.uecp_text.specs.declared.run_fault.RunFault.TheVariants.{Listening};
+ghost use Rattle.uecp_net.specs.Sending.{SendsOver};
 ghost use Rattle.uecp_jobs.specs.Jobs.{IsDescribed, RefusesJob, IsDone, IsRefused, IsUndescribed, HasFailed};
-ghost use Rattle.uecp_jobs.specs.Networks.{IsEncoder, IsServer, ServedAll, Serves, HasNotListened, HasBroken, as_fault, as_run, SendsTexts, SendsAll, AreAcknowledged, AreAcknowledgedBefore, IsOutstanding, said};
+ghost use Rattle.uecp_jobs.specs.Networks.{IsEncoder, IsServer, ServedAll, Serves, HasNotListened, HasBroken, as_fault, as_run, SendsTexts, SendsAll, AreAcknowledged, AreAcknowledgedBefore, IsOutstanding, SentAllOver, SentBeforeOver, IsGivenUpOver, HasFailedOver, said};
 
 use crate::job::Job;
 use crate::run::fail;
@@ -120,14 +121,20 @@ pub fn run_server<R: Read, W: Write, E: Write, C: Connect>(
     ensures done { result ≡ 0 → IsDone job.now (R.remaining reader.old) (R.remaining reader.new) (W.contents writer.old) (W.contents writer.new) × (errors.new ≡ errors.old) }
     // 0: that is one line for each message, in order.
     ensures acknowledged { result ≡ 0 → AreAcknowledged (R.remaining reader.old) (R.remaining reader.new) (W.contents writer.old) (W.contents writer.new) }
+    // 0: and it is what came of each batch over the connections that were opened.
+    ensures sent { result ≡ 0 → SentAllOver C.opens C.Input.remaining C.Output.contents job.now (R.remaining reader.old) (R.remaining reader.new) (W.contents writer.old) (W.contents writer.new) }
     // 1: a line was refused, what was said of the messages before it was written, and the line's number and fault were said.
     ensures refused { result ≡ 1 → IsRefused job.now (R.remaining reader.old) (R.remaining reader.new) (W.contents writer.old) (W.contents writer.new) (E.contents errors.old) (E.contents errors.new) }
     // 1: that is one line for each of those messages, in order: all were acknowledged.
     ensures acknowledged_before { result ≡ 1 → AreAcknowledgedBefore (R.remaining reader.old) (R.remaining reader.new) (W.contents writer.old) (W.contents writer.new) }
+    // 1: and it is what came of each batch over the connections that were opened.
+    ensures sent_before { result ≡ 1 → SentBeforeOver C.opens C.Input.remaining C.Output.contents job.now (R.remaining reader.old) (R.remaining reader.new) (W.contents writer.old) (W.contents writer.new) (E.contents errors.old) (E.contents errors.new) }
     // 2: the address is not that of one encoder. No connection was opened, and nothing was read or written.
     ensures undescribed { result ≡ 2 → IsUndescribed job.now (E.contents errors.old) (E.contents errors.new) × (reader.new ≡ reader.old) × (writer.new ≡ writer.old) × (connect.new ≡ connect.old) }
     // 3: a batch is outstanding; or memory, reading or writing failed, and what was written is a beginning of what the job writes of its input.
     ensures failed { result ≡ 3 → IsOutstanding job.now (R.remaining reader.old) (R.remaining reader.new) (W.contents writer.old) (W.contents writer.new) (E.contents errors.old) (E.contents errors.new) ⊎ HasFailed job.now (R.remaining reader.old) (R.remaining reader.new) (W.contents writer.old) (W.contents writer.new) (E.contents errors.old) (E.contents errors.new) }
+    // 3: and that is what came of each batch over the connections that were opened: none is outstanding before its tries are spent, or its connections.
+    ensures given_up { result ≡ 3 → IsGivenUpOver C.opens C.Input.remaining C.Output.contents job.now (R.remaining reader.old) (R.remaining reader.new) (W.contents writer.old) (W.contents writer.new) (E.contents errors.old) (E.contents errors.new) ⊎ HasFailedOver C.opens C.Input.remaining C.Output.contents job.now (R.remaining reader.old) (R.remaining reader.new) (W.contents writer.old) (W.contents writer.new) (E.contents errors.old) (E.contents errors.new) }
 {
     match send_all(alloc, job, reader, writer, connect) {
         Ok(()) => 0,
@@ -145,7 +152,7 @@ fn send_all<R: Read, W: Write, C: Connect>(
 ) -> Result<(), RunFault>
     requires { IsServer job.now }
     ensures described { IfOk result (λ _. IsDescribed job.now) }
-    ensures sends { ((fault : RunFault) × (result ≡ Err fault) × RefusesJob job.now fault × (reader.new ≡ reader.old) × (writer.new ≡ writer.old) × (connect.new ≡ connect.old)) ⊎ SendsAll job.now (R.remaining reader.old) (R.remaining reader.new) (W.contents writer.old) (W.contents writer.new) result }
+    ensures sends { ((fault : RunFault) × (result ≡ Err fault) × RefusesJob job.now fault × (reader.new ≡ reader.old) × (writer.new ≡ writer.old) × (connect.new ≡ connect.old)) ⊎ SendsAll (SendsOver C.opens C.Input.remaining C.Output.contents) job.now (R.remaining reader.old) (R.remaining reader.new) (W.contents writer.old) (W.contents writer.new) result }
 {
     match job {
         Job::Server {
@@ -187,7 +194,7 @@ fn send_lines<W: Write, C: Connect>(
     sender: &mut Sender<'_, C>,
     writer: &mut W,
 ) -> Result<(), RunFault>
-    ensures { SendsTexts sender.old (texts_of input.now) (W.contents writer.old) (W.contents writer.new) result }
+    ensures { SendsTexts (SendsOver C.opens C.Input.remaining C.Output.contents) sender.old (texts_of input.now) (W.contents writer.old) (W.contents writer.new) result }
 {
     match run_to_stop(alloc, input, sender, writer) {
         Ok(()) => Ok(()),

@@ -1,8 +1,9 @@
 -- What one meaning says of each text of a run another may say less of.
-use Rattle.std.proofs.Common.{ℕ, List, [], ◌∷◌, Option, Some, Result, inl, inr}
+use Rattle.std.proofs.Common.{ℕ, List, [], ◌∷◌, Option, Some, Result, Ok, Err, inl, inr}
 use Rattle.uecp_text.specs.declared.run_fault.RunFault.{RunFault}
 use Rattle.uecp_text.specs.declared.run_fault.RunFault.TheVariants as run
-use Rattle.uecp_text.specs.Run.{Outcome, Brings, Ends, Meaning, Runs, RunsFirst}
+use Rattle.uecp_text.specs.Input.{texts_of}
+use Rattle.uecp_text.specs.Run.{Outcome, Brings, Ends, Meaning, Runs, RunsFirst, Prints, WritesSome}
 use Rattle.uecp_text.specs.Streaming.{BreaksOut, RunsOut}
 use Rattle.uecp_net.specs.Sending.{SenderState, Sends, SendsOver}
 
@@ -35,6 +36,22 @@ module _ {V : Type 0} (meaning wider : Meaning V) (widened : (v : V) (text : Lis
     | inl (fault, is, breaks) ↦ inl (fault, is, breaks_widened v texts held held' fault breaks)
     | inr (lines, ran, appends) ↦ inr (lines, runs_widened v v' texts lines _ ran, appends)
   ]
+
+  pub prints_widened : (v : V) (closing : V → List ℕ) (input : List ℕ) (result : Result (Unit {0}) RunFault) (written : List ℕ) → Prints meaning v closing input result written → Prints wider v closing input result written
+  prints_widened v closing input (Ok done) written (v', lines, ran, are) = (v', lines, runs_widened v v' (texts_of input) lines _ ran, are)
+  prints_widened v closing input (Err fault) written (v', ran) = (v', runs_widened v v' (texts_of input) written _ ran)
+
+  pub writes_widened : (v : V) (closing : V → List ℕ) (input : List ℕ) (held held' : Option (List ℕ)) (fault : RunFault) → WritesSome meaning v closing input held held' fault → WritesSome wider v closing input held held' fault
+  writes_widened v closing input held held' run.OutOfMemory (lines, first, appends) = (lines, first_widened v (texts_of input) lines first, appends)
+  writes_widened v closing input held held' run.Writing (lines, up_to, begins) = (
+    lines,
+    elim up_to [
+      | inl first ↦ inl (first_widened v (texts_of input) lines first)
+      | inr (result, prints) ↦ inr (result, prints_widened v closing input result lines prints)
+    ],
+    begins,
+  )
+  writes_widened v closing input held held' fault breaks = absurd breaks
 
 -- of a run over connections that of a sender of whose connections nothing is known
 pub sends_widened : {C I O : Type 0} (opens : C → Option (I × O) → C → Type 0) (remaining : I → Option (List ℕ)) (contents : O → Option (List ℕ)) (s : SenderState) (text : List ℕ) (outcome : Outcome) (s' : SenderState) →
