@@ -106,14 +106,14 @@ pub record Batch (s : SenderState) (texts : List (ℕ × List ℕ)) : Type 0 whe
   pub more : 0 < length s.server.held → 0 < s.ahead
 
 -- A text that was taken brings the lines of as many messages as wait no more.
-record Step (s next : SenderState) (text : List ℕ) (texts : List (ℕ × List ℕ)) (lines : List ℕ) : Type 0 where
+pub record Step (s next : SenderState) (text : List ℕ) (texts : List (ℕ × List ℕ)) (lines : List ℕ) : Type 0 where
   told : List (Code × ℕ)
   lines_are : lines ≡ acknowledged_lines told
   number : length told + length next.server.held ≡ length s.server.held + 1
   message : is_message text ≡ true
-  batch : Batch next texts
+  pub batch : Batch next texts
 
-ready_is_open : (s : SenderState) (texts : List (ℕ × List ℕ)) → IsReady s texts → Batch s texts
+pub ready_is_open : (s : SenderState) (texts : List (ℕ × List ℕ)) → IsReady s texts → Batch s texts
 ready_is_open s texts ready =
     let empty : length s.server.held ≡ 0 = ap length ready.idle in
     let none : length (waiting s.server) ≡ 0 = ap (λ (hs : List Held). length (waiting_among hs)) ready.idle in
@@ -168,7 +168,7 @@ module _ (s next : SenderState) (number : ℕ) (text : List ℕ) (texts : List (
         };
       }
 
-  taken : (lines : List ℕ) → Sends s text (Brings lines) next → Step s next text texts lines
+  pub taken : (lines : List ℕ) → Sends s text (Brings lines) next → Step s next text texts lines
   taken lines (m, spells, few, free, came) =
       let is = spelled_is_message text m spells few in
       elim came [

@@ -5,3 +5,4 @@ pub mod Breaking
 pub mod Told
 pub mod Went
 pub mod Widened
+pub mod LastBatch
