@@ -2,7 +2,7 @@
 ghost use Rattle.std.specs.Prelude.{IsTrue};
 ghost use Rattle.uecp_frame.specs.Address.{is_exact};
 
-use rds_store::{RdsStore, Service};
+use rds_store::RdsStore;
 use std::alloc::Global;
 use std::net::{TcpListener, TcpStream};
 use std::process::Abort;
@@ -102,12 +102,42 @@ fn is_outstanding<C: Connect>(rt: &impl Abort, sender: &mut Sender<'_, C>) {
     assert_eq!(rt; reason, Outstanding::TriesSpent);
 }
 
-/// The service has the text "HI" once, and no other.
-fn has_one_text(rt: &impl Abort, service: &Service) {
+/// Service 01 has the text "HI" once, and no other.
+fn has_one_text(rt: &impl Abort, encoder: &Encoder<RdsStore>) {
+    let service = encoder.target().service(1, 0x01).expect(rt, "service 01");
     assert_eq!(rt; service.texts().len(), 1);
     for text in service.texts() {
         assert_eq!(rt; text.text(), b"HI".as_slice());
     }
+}
+
+/// The text is sent and served, and then sent again and served as a repeat.
+fn acts_once(
+    rt: &impl Abort,
+    client: &mut End,
+    accepted: &mut End,
+    encoder: &mut Encoder<RdsStore>,
+) {
+    let mut server = Server::new(own_address(rt));
+    sends_first(rt, &mut server, client);
+    serve_until(rt, encoder, accepted, (1, 0));
+    sends_again(rt, &mut server, client);
+    serve_until(rt, encoder, accepted, (1, 1));
+    has_one_text(rt, encoder);
+}
+
+/// Serves one connection for one turn.
+fn serves_one_turn(
+    rt: &impl Abort,
+    alloc: Global,
+    encoder: &mut Encoder<RdsStore>,
+    listening: &mut Listening,
+) {
+    let mut lines = Vec::new(alloc);
+    let served = serve_connections(alloc, encoder, 1, 1, listening, &mut lines);
+    assert_eq!(rt; served, Ok(()));
+    assert_eq!(rt; lines.as_slice(), b"connection 1 turns spent\n".as_slice());
+    has_one_text(rt, encoder);
 }
 
 #[test]
@@ -115,15 +145,9 @@ fn a_message_sent_twice_over_sockets_acts_once(rt: HostRuntime) -> Result<(), Fa
     let listener = TcpListener::bind(&rt, ("127.0.0.1", 0))?;
     let port = listener.local_addr()?.port();
     let mut client = open(&mut Dialing::new(&rt, "127.0.0.1", port, TIMEOUT))?;
-    let mut server = Server::new(own_address(&rt));
-    sends_first(&rt, &mut server, &mut client);
     let mut accepted = open(&mut Listening::new(listener))?;
     let mut encoder = new_encoder(&rt, rt.alloc())?;
-    serve_until(&rt, &mut encoder, &mut accepted, (1, 0));
-    sends_again(&rt, &mut server, &mut client);
-    serve_until(&rt, &mut encoder, &mut accepted, (1, 1));
-    let service = encoder.target().service(1, 0x01).ok_or("no service")?;
-    has_one_text(&rt, service);
+    acts_once(&rt, &mut client, &mut accepted, &mut encoder);
     Ok(())
 }
 
@@ -136,12 +160,6 @@ fn a_sender_and_an_encoder_over_one_connection(rt: HostRuntime) -> Result<(), Fa
     let mut sender = Sender::new(&mut dialing, Server::new(own_address(&rt)), 1, 1, 0, 1, 1);
     is_outstanding(&rt, &mut sender);
     let mut encoder = new_encoder(&rt, alloc)?;
-    let mut lines = Vec::new(alloc);
-    let mut listening = Listening::new(listener);
-    let served = serve_connections(alloc, &mut encoder, 1, 1, &mut listening, &mut lines);
-    assert_eq!(rt; served, Ok(()));
-    assert_eq!(rt; lines.as_slice(), b"connection 1 turns spent\n".as_slice());
-    let service = encoder.target().service(1, 0x01).ok_or("no service")?;
-    has_one_text(&rt, service);
+    serves_one_turn(&rt, alloc, &mut encoder, &mut Listening::new(listener));
     Ok(())
 }

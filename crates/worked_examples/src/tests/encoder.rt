@@ -147,19 +147,24 @@ fn a_new_encoder_applies_a_message_and_answers_its_code(rt: HostRuntime) -> Resu
     Ok(())
 }
 
-#[test]
-fn a_second_message_waits_for_the_first(rt: HostRuntime) -> Result<(), Fail> {
-    let mut encoder = with_store(&rt, rt.alloc(), 1)?;
+/// The second message comes before and after the first.
+fn waits_for_the_first(rt: &impl Abort, encoder: &mut Encoder<RdsStore>) {
     assert!(rt; matches!(encoder.feed(&PI_2).what, What::NotNext));
     assert_eq!(rt; pi_of(encoder.target(), 1), Some(0));
-    replies(&rt, &mut encoder, &EMPTY_1, &APPLIED_1, true);
-    replies(&rt, &mut encoder, &PI_2, &APPLIED_2, true);
+    replies(rt, encoder, &EMPTY_1, &APPLIED_1, true);
+    replies(rt, encoder, &PI_2, &APPLIED_2, true);
     assert_eq!(rt; pi_of(encoder.target(), 1), Some(0xfeff));
-    Ok(())
 }
 
 #[test]
-fn damaged_frames_are_dropped_and_counted(rt: HostRuntime) -> Result<(), Fail> {
+fn a_second_message_waits_for_the_first(rt: HostRuntime) -> Result<(), Fail> {
+    let mut encoder = with_store(&rt, rt.alloc(), 1)?;
+    waits_for_the_first(&rt, &mut encoder);
+    Ok(())
+}
+
+/// Five damaged frames come, and then two whole ones.
+fn drops_what_is_damaged(rt: &impl Abort, encoder: &mut Encoder<RdsStore>) {
     let stuffed_03 = b"\xFE\x00\x41\x02\x05\x01\x00\x00\xFD\x01\xFD\x03\xF1\x03\xFF";
     let stuffed_ff = b"\xFE\x00\x41\x02\x05\x01\x00\x00\xFD\x01\xFD\x02\xF1\x03\xFD\xFF";
     let other_length = b"\xFE\x00\x41\x01\x04\x01\x00\x00\xC2\x01\x67\xA8\xFF";
@@ -171,7 +176,6 @@ fn damaged_frames_are_dropped_and_counted(rt: HostRuntime) -> Result<(), Fail> {
         (other_check, FrameFault::WrongCheck),
         (b"\xFE\xFF", FrameFault::TooShort),
     ];
-    let mut encoder = with_store(&rt, rt.alloc(), 1)?;
     for (bytes, fault) in rows {
         let answer = encoder.feed(bytes);
         assert!(rt; matches!(answer.what, What::Dropped(found) if found == fault));
@@ -179,14 +183,19 @@ fn damaged_frames_are_dropped_and_counted(rt: HostRuntime) -> Result<(), Fail> {
     assert_eq!(rt; encoder.counts().dropped, 5);
     assert_eq!(rt; pi_of(encoder.target(), 1), Some(0));
     // Nothing was kept for the counters that stood in them.
-    replies(&rt, &mut encoder, &PI_1, &APPLIED_1, true);
-    replies(&rt, &mut encoder, &PI_2, &APPLIED_2, true);
-    Ok(())
+    replies(rt, encoder, &PI_1, &APPLIED_1, true);
+    replies(rt, encoder, &PI_2, &APPLIED_2, true);
 }
 
 #[test]
-fn a_frame_begun_in_an_open_segment_comes_byte_by_byte(rt: HostRuntime) -> Result<(), Fail> {
+fn damaged_frames_are_dropped_and_counted(rt: HostRuntime) -> Result<(), Fail> {
     let mut encoder = with_store(&rt, rt.alloc(), 1)?;
+    drops_what_is_damaged(&rt, &mut encoder);
+    Ok(())
+}
+
+/// A segment is open when a frame begins, and the frame comes in pieces of one byte.
+fn comes_byte_by_byte(rt: &impl Abort, encoder: &mut Encoder<RdsStore>) {
     for byte in [0xfe, 0x00, 0x41] {
         assert!(rt; matches!(encoder.feed(&[byte]).what, What::Nothing));
     }
@@ -199,8 +208,14 @@ fn a_frame_begun_in_an_open_segment_comes_byte_by_byte(rt: HostRuntime) -> Resul
     for place in 1..12 {
         assert!(rt; matches!(encoder.feed(&[PI_1[place]]).what, What::Nothing));
     }
-    replies(&rt, &mut encoder, &[0xff], &APPLIED_1, true);
+    replies(rt, encoder, &[0xff], &APPLIED_1, true);
     assert_eq!(rt; pi_of(encoder.target(), 1), Some(0xc201));
+}
+
+#[test]
+fn a_frame_begun_in_an_open_segment_comes_byte_by_byte(rt: HostRuntime) -> Result<(), Fail> {
+    let mut encoder = with_store(&rt, rt.alloc(), 1)?;
+    comes_byte_by_byte(&rt, &mut encoder);
     Ok(())
 }
 
@@ -242,19 +257,24 @@ fn a_text_sent_twice_is_added_once(rt: HostRuntime) -> Result<(), Fail> {
     Ok(())
 }
 
-#[test]
-fn a_reply_is_kept_for_126_further_messages_and_no_longer(rt: HostRuntime) -> Result<(), Fail> {
-    let mut encoder = with_store(&rt, rt.alloc(), 1)?;
-    replies(&rt, &mut encoder, &ADD_1, &APPLIED_1, true);
+/// A text and 127 empty messages, and the frame of the text before and after the last of them.
+fn is_kept_for_126_messages(rt: &impl Abort, encoder: &mut Encoder<RdsStore>) {
+    replies(rt, encoder, &ADD_1, &APPLIED_1, true);
     for counter in 0x02..0x80 {
-        comes_to(&rt, &mut encoder, counter, &[], 0x00);
+        comes_to(rt, encoder, counter, &[], 0x00);
     }
-    replies(&rt, &mut encoder, &ADD_1, &APPLIED_1, false);
+    replies(rt, encoder, &ADD_1, &APPLIED_1, false);
     assert_eq!(rt; texts_of(encoder.target(), 1), 1);
-    comes_to(&rt, &mut encoder, 0x80, &[], 0x00);
+    comes_to(rt, encoder, 0x80, &[], 0x00);
     // It is known no more, and it is not the next either: it is not applied again.
     assert!(rt; matches!(encoder.feed(&ADD_1).what, What::NotNext));
     assert_eq!(rt; texts_of(encoder.target(), 1), 1);
+}
+
+#[test]
+fn a_reply_is_kept_for_126_further_messages_and_no_longer(rt: HostRuntime) -> Result<(), Fail> {
+    let mut encoder = with_store(&rt, rt.alloc(), 1)?;
+    is_kept_for_126_messages(&rt, &mut encoder);
     Ok(())
 }
 
@@ -269,25 +289,30 @@ fn out_of_order_unnumbered_for_another_and_for_all(rt: HostRuntime) -> Result<()
     Ok(())
 }
 
-#[test]
-fn a_full_set_refuses_and_the_refusal_is_kept(rt: HostRuntime) -> Result<(), Fail> {
-    let mut encoder = with_store(&rt, rt.alloc(), 2)?;
+/// Eight texts fill set 2, a text for both sets is refused, and comes again when there is room.
+fn keeps_its_refusal(rt: &impl Abort, encoder: &mut Encoder<RdsStore>) {
     let to_set_2 = [0x0a, 0x02, 0x00, 0x03, 0x40, 0x48, 0x49];
     for counter in 1..9 {
-        comes_to(&rt, &mut encoder, counter, &to_set_2, 0x00);
+        comes_to(rt, encoder, counter, &to_set_2, 0x00);
     }
     let to_all = b"\xFE\x00\x41\x09\x07\x0A\xFD\x02\x00\x03\x40\x48\x49\x4F\x63\xFF";
     let full = b"\xFE\x00\x41\x00\x03\x18\x0B\x09\x1D\x4C\xFF";
-    replies(&rt, &mut encoder, to_all, full, true);
+    replies(rt, encoder, to_all, full, true);
     // There is room again, and the refused message is not applied late.
     let empties_set_2 = [0x0a, 0x02, 0x00, 0x00];
     assert_eq!(rt; texts_of(encoder.target(), 2), 8);
-    comes_to(&rt, &mut encoder, 0x0a, &empties_set_2, 0x00);
-    replies(&rt, &mut encoder, to_all, full, false);
+    comes_to(rt, encoder, 0x0a, &empties_set_2, 0x00);
+    replies(rt, encoder, to_all, full, false);
     assert_eq!(rt;
         (texts_of(encoder.target(), 1), texts_of(encoder.target(), 2)),
         (0, 0)
     );
+}
+
+#[test]
+fn a_full_set_refuses_and_the_refusal_is_kept(rt: HostRuntime) -> Result<(), Fail> {
+    let mut encoder = with_store(&rt, rt.alloc(), 2)?;
+    keeps_its_refusal(&rt, &mut encoder);
     Ok(())
 }
 
@@ -327,10 +352,9 @@ fn each_code_comes_in_the_reply(rt: HostRuntime) -> Result<(), Fail> {
     Ok(())
 }
 
-#[test]
-fn a_lost_line_drops_the_open_segment_alone(rt: HostRuntime) -> Result<(), Fail> {
-    let mut encoder = with_store(&rt, rt.alloc(), 1)?;
-    replies(&rt, &mut encoder, &ADD_1, &APPLIED_1, true);
+/// The line is lost in the middle of a frame.
+fn loses_the_line(rt: &impl Abort, encoder: &mut Encoder<RdsStore>) {
+    replies(rt, encoder, &ADD_1, &APPLIED_1, true);
     let (begun, rest) = PI_2.split_at(9);
     assert!(rt; matches!(encoder.feed(begun).what, What::Nothing));
     let mut copy = encoder.deframer().copy();
@@ -340,8 +364,14 @@ fn a_lost_line_drops_the_open_segment_alone(rt: HostRuntime) -> Result<(), Fail>
     assert_eq!(rt; answer.used, rest.len());
     assert!(rt; matches!(answer.what, What::Nothing));
     assert_eq!(rt; encoder.counts().dropped, 0);
-    replies(&rt, &mut encoder, &ADD_1, &APPLIED_1, false);
+    replies(rt, encoder, &ADD_1, &APPLIED_1, false);
     assert_eq!(rt; texts_of(encoder.target(), 1), 1);
+}
+
+#[test]
+fn a_lost_line_drops_the_open_segment_alone(rt: HostRuntime) -> Result<(), Fail> {
+    let mut encoder = with_store(&rt, rt.alloc(), 1)?;
+    loses_the_line(&rt, &mut encoder);
     Ok(())
 }
 
@@ -376,33 +406,30 @@ fn any_target_is_given_each_message_once(rt: HostRuntime) -> Result<(), Fail> {
     Ok(())
 }
 
-#[test]
-fn a_group_taken_from_an_encoder_leaves_its_kept_replies(rt: HostRuntime) -> Result<(), Fail> {
-    let mut encoder = with_store(&rt, rt.alloc(), 1)?;
+/// A group is queued and taken, and its message comes again.
+fn takes_its_group(rt: &impl Abort, encoder: &mut Encoder<RdsStore>) {
+    let group = [0x24, 0x00, 0x43, 0x12, 0x34, 0x56, 0x78];
     assert_eq!(rt; encoder.take_group(), None);
-    comes_to(
-        &rt,
-        &mut encoder,
-        0x01,
-        &[0x24, 0x00, 0x43, 0x12, 0x34, 0x56, 0x78],
-        0x00,
-    );
-    let frame = Frame {
-        address: own_address(&rt),
-        counter: 0x01,
-        message: Message::from_bytes(&[0x24, 0x00, 0x43, 0x12, 0x34, 0x56, 0x78]).expect(
-            &rt, "short",
-        ),
-    };
-    let mut bytes = FrameBytes::new();
-    encode(&frame, &mut bytes);
+    comes_to(rt, encoder, 0x01, &group, 0x00);
     let counts = encoder.counts();
     assert_eq!(rt;
         encoder.take_group().map(|group| group.block4),
         Some(0x5678)
     );
     assert_eq!(rt; encoder.counts(), counts);
-    replies(&rt, &mut encoder, bytes.as_slice(), &APPLIED_1, false);
+    replies(
+        rt,
+        encoder,
+        framed(rt, 0x01, &group).as_slice(),
+        &APPLIED_1,
+        false,
+    );
     assert_eq!(rt; encoder.take_group(), None);
+}
+
+#[test]
+fn a_group_taken_from_an_encoder_leaves_its_kept_replies(rt: HostRuntime) -> Result<(), Fail> {
+    let mut encoder = with_store(&rt, rt.alloc(), 1)?;
+    takes_its_group(&rt, &mut encoder);
     Ok(())
 }

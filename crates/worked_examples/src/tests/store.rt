@@ -120,9 +120,8 @@ fn groups_of_a_refused_message_leave_the_queue(rt: HostRuntime) -> Result<(), Fa
     Ok(())
 }
 
-#[test]
-fn texts_that_are_empty_removed_cut_or_of_a_wrong_rule(rt: HostRuntime) -> Result<(), Fail> {
-    let mut store = RdsStore::new(rt.alloc(), 1, &[0x01])?;
+/// Texts that a set takes, and texts that it refuses.
+fn takes_and_refuses_texts(rt: &impl Abort, store: &mut RdsStore) {
     let exchanges: [(Exchange<'_>, usize); 7] = [
         ((&[0x0a, 0x00, 0x00, 0x01, 0x00], Code::Applied), 1),
         ((&[0x0a, 0x00, 0x00, 0x00], Code::Applied), 0),
@@ -136,15 +135,20 @@ fn texts_that_are_empty_removed_cut_or_of_a_wrong_rule(rt: HostRuntime) -> Resul
         ((&ADD, Code::Applied), 1),
     ];
     for (exchange, texts) in exchanges {
-        answers(&rt, &mut store, &[exchange]);
-        assert_eq!(rt; texts_of(&store, 1), texts);
+        answers(rt, store, &[exchange]);
+        assert_eq!(rt; texts_of(store, 1), texts);
     }
-    Ok(())
 }
 
 #[test]
-fn groups_up_to_the_last_that_there_is_room_for(rt: HostRuntime) -> Result<(), Fail> {
+fn texts_that_are_empty_removed_cut_or_of_a_wrong_rule(rt: HostRuntime) -> Result<(), Fail> {
     let mut store = RdsStore::new(rt.alloc(), 1, &[0x01])?;
+    takes_and_refuses_texts(&rt, &mut store);
+    Ok(())
+}
+
+/// Groups fill the queue, and then one that stands alone takes the place of all.
+fn fills_its_queue(rt: &impl Abort, store: &mut RdsStore) {
     let add = [0x24, 0x00, 0x43, 0x12, 0x34, 0x56, 0x78];
     let group = Group {
         kind: 0x00,
@@ -153,7 +157,7 @@ fn groups_up_to_the_last_that_there_is_room_for(rt: HostRuntime) -> Result<(), F
         block4: 0x5678,
     };
     for count in 1..33 {
-        answers(&rt, &mut store, &[(&add, Code::Applied)]);
+        answers(rt, store, &[(&add, Code::Applied)]);
         assert_eq!(rt; store.groups().len(), count);
     }
     assert_eq!(rt; store.groups().first().copied(), Some(group));
@@ -164,11 +168,17 @@ fn groups_up_to_the_last_that_there_is_room_for(rt: HostRuntime) -> Result<(), F
             Code::OutOfRange,
         ),
     ];
-    answers(&rt, &mut store, &late);
+    answers(rt, store, &late);
     assert_eq!(rt; store.groups().len(), 32);
     let alone = [0x24, 0x00, 0x03, 0x12, 0x34, 0x56, 0x78];
-    answers(&rt, &mut store, &[(&alone, Code::Applied)]);
+    answers(rt, store, &[(&alone, Code::Applied)]);
     assert_eq!(rt; store.groups(), [group].as_slice());
+}
+
+#[test]
+fn groups_up_to_the_last_that_there_is_room_for(rt: HostRuntime) -> Result<(), Fail> {
+    let mut store = RdsStore::new(rt.alloc(), 1, &[0x01])?;
+    fills_its_queue(&rt, &mut store);
     Ok(())
 }
 
@@ -217,9 +227,8 @@ fn sets_and_services_that_make_no_store(rt: HostRuntime) -> Result<(), Fail> {
     Ok(())
 }
 
-#[test]
-fn a_new_store_shows_its_sets_and_services(rt: HostRuntime) -> Result<(), Fail> {
-    let store = RdsStore::new(rt.alloc(), 8, &[0x05, 0x02])?;
+/// A new store of eight sets with services 05 and 02.
+fn is_new(rt: &impl Abort, store: &RdsStore) {
     assert_eq!(rt; store.set_count(), 8);
     assert_eq!(rt;
         (store.service_number(0), store.service_number(1)),
@@ -227,19 +236,22 @@ fn a_new_store_shows_its_sets_and_services(rt: HostRuntime) -> Result<(), Fail> 
     );
     assert_eq!(rt; store.service_number(2), None);
     assert!(rt; store.service(1, 0x00).is_none() && store.service(9, 0x02).is_none());
-    let Some(new) = store.service(8, 0x02) else {
-        return Err("no service".into());
-    };
+    let new = store.service(8, 0x02).expect(rt, "service 02 of set 8");
     assert_eq!(rt; (new.pi(), new.pty(), new.texts().len()), (0, 0, 0));
     assert_eq!(rt; new.ps(), b"        ");
     assert!(rt; !new.tp() && !new.ta() && !new.music() && store.groups().is_empty());
     assert_eq!(rt; store.current(), 1);
-    Ok(())
 }
 
 #[test]
-fn a_service_shows_what_its_elements_told(rt: HostRuntime) -> Result<(), Fail> {
-    let mut store = RdsStore::new(rt.alloc(), 8, &[0x05, 0x02])?;
+fn a_new_store_shows_its_sets_and_services(rt: HostRuntime) -> Result<(), Fail> {
+    let store = RdsStore::new(rt.alloc(), 8, &[0x05, 0x02])?;
+    is_new(&rt, &store);
+    Ok(())
+}
+
+/// Elements for service 02 of set 8 tell its attributes.
+fn shows_what_was_told(rt: &impl Abort, store: &mut RdsStore) {
     let exchanges: [Exchange<'_>; 4] = [
         (b"\x02\x08\x02RADIO 1 ", Code::Applied),
         (
@@ -249,24 +261,48 @@ fn a_service_shows_what_its_elements_told(rt: HostRuntime) -> Result<(), Fail> {
         (&[0x07, 0x08, 0x02, 0x1f], Code::Applied),
         (&[0x0a, 0x08, 0x02, 0x03, 0x9f, 0x48, 0x49], Code::Applied),
     ];
-    answers(&rt, &mut store, &exchanges);
+    answers(rt, store, &exchanges);
     let select = Element::Select { dsn: 0x08 };
     assert_eq!(rt; store.apply_element(&select), Code::Applied);
     assert_eq!(rt; store.current(), 8);
-    let Some(shown) = store.service(8, 0x02) else {
-        return Err("no service".into());
-    };
+    let shown = store.service(8, 0x02).expect(rt, "service 02 of set 8");
     assert_eq!(rt; shown.ps(), b"RADIO 1 ");
     assert_eq!(rt;
         (shown.tp(), shown.ta(), shown.music(), shown.pty()),
         (false, true, true, 0x1f)
     );
-    let Some(text) = shown.texts().first() else {
-        return Err("no text".into());
-    };
+    let text = shown.texts().first().expect(rt, "a text");
     assert_eq!(rt; (text.toggle(), text.transmissions()), (true, 15));
     assert_eq!(rt; text.text(), b"HI".as_slice());
+}
+
+#[test]
+fn a_service_shows_what_its_elements_told(rt: HostRuntime) -> Result<(), Fail> {
+    let mut store = RdsStore::new(rt.alloc(), 8, &[0x05, 0x02])?;
+    shows_what_was_told(&rt, &mut store);
     Ok(())
+}
+
+/// Groups are queued and taken, and some are undone.
+fn gives_its_groups(rt: &impl Abort, store: &mut RdsStore) {
+    assert_eq!(rt; store.take_group(), None);
+    for kind in 0..3u8 {
+        answers(
+            rt,
+            store,
+            &[(&[0x24, kind, 0x40, 0, 0, 0, 0], Code::Applied)],
+        );
+    }
+    assert_eq!(rt; store.take_group().map(|group| group.kind), Some(0));
+    // A group that stands alone, and then an unknown element: the message is undone, up to the take before it.
+    let refused: &[u8] = &[0x24, 0x05, 0x00, 0, 0, 0, 0, 0x99];
+    answers(rt, store, &[(refused, Code::UnknownElement)]);
+    assert_eq!(rt; store.groups().len(), 2);
+    assert_eq!(rt; store.take_group().map(|group| group.kind), Some(1));
+    assert_eq!(rt; store.take_group().map(|group| group.kind), Some(2));
+    assert_eq!(rt; store.take_group(), None);
+    answers(rt, store, &[(refused, Code::UnknownElement)]);
+    assert!(rt; store.groups().is_empty());
 }
 
 #[test]
@@ -274,23 +310,6 @@ fn groups_are_taken_one_by_one_and_a_refused_message_brings_none_back(
     rt: HostRuntime,
 ) -> Result<(), Fail> {
     let mut store = RdsStore::new(rt.alloc(), 1, &[0x01])?;
-    assert_eq!(rt; store.take_group(), None);
-    for kind in 0..3u8 {
-        answers(
-            &rt,
-            &mut store,
-            &[(&[0x24, kind, 0x40, 0, 0, 0, 0], Code::Applied)],
-        );
-    }
-    assert_eq!(rt; store.take_group().map(|group| group.kind), Some(0));
-    // A group that stands alone, and then an unknown element: the message is undone, up to the take before it.
-    let refused: &[u8] = &[0x24, 0x05, 0x00, 0, 0, 0, 0, 0x99];
-    answers(&rt, &mut store, &[(refused, Code::UnknownElement)]);
-    assert_eq!(rt; store.groups().len(), 2);
-    assert_eq!(rt; store.take_group().map(|group| group.kind), Some(1));
-    assert_eq!(rt; store.take_group().map(|group| group.kind), Some(2));
-    assert_eq!(rt; store.take_group(), None);
-    answers(&rt, &mut store, &[(refused, Code::UnknownElement)]);
-    assert!(rt; store.groups().is_empty());
+    gives_its_groups(&rt, &mut store);
     Ok(())
 }

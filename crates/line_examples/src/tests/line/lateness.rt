@@ -1,5 +1,5 @@
 //! The edge of lateness: the frame of a number comes again while at most 126 messages were numbered after it.
-use super::{CountTarget, delivered, frame, goes_over, is_taken, reply, with_target};
+use super::{CountTarget, delivered, frame, goes_over, is_taken, reply, steps, with_target};
 use std::alloc::Global;
 use std::process::Abort;
 use std::test::Fail;
@@ -18,7 +18,7 @@ fn all_acknowledged(rt: &impl Abort, alloc: Global) -> Result<Line<CountTarget>,
 
 /// The frame of this number is a repeat.
 fn is_repeat(rt: &impl Abort, line: &mut Line<CountTarget>, number: usize) {
-    assert_eq!(rt; line.step(&frame(number)), delivered(false, Code::Applied));
+    steps(rt, line, &frame(number), delivered(false, Code::Applied));
 }
 
 #[test]
@@ -26,7 +26,7 @@ fn the_last_127_come_again(rt: HostRuntime) -> Result<(), Fail> {
     let mut line = all_acknowledged(&rt, rt.alloc())?;
     for number in (0..127).rev() {
         is_repeat(&rt, &mut line, number);
-        assert_eq!(rt; line.step(&reply(number)), Ok(Stepped::Stray));
+        steps(&rt, &mut line, &reply(number), Ok(Stepped::Stray));
     }
     let counts = ServerCounts {
         acknowledged: 127,
@@ -43,9 +43,9 @@ fn the_last_127_come_again(rt: HostRuntime) -> Result<(), Fail> {
 fn the_128th_makes_the_first_too_late(rt: HostRuntime) -> Result<(), Fail> {
     let mut line = all_acknowledged(&rt, rt.alloc())?;
     is_taken(&rt, &mut line, &[]);
-    assert_eq!(rt; line.step(&frame(0)), Err(LineRefusal::TooLate));
+    steps(&rt, &mut line, &frame(0), Err(LineRefusal::TooLate));
     is_repeat(&rt, &mut line, 1);
-    assert_eq!(rt; line.step(&frame(127)), delivered(true, Code::Applied));
+    steps(&rt, &mut line, &frame(127), delivered(true, Code::Applied));
     is_repeat(&rt, &mut line, 1);
     assert_eq!(rt; line.encoder().target().messages, 128);
     Ok(())

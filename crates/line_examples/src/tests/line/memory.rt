@@ -1,9 +1,10 @@
 //! A line and a server where memory is wanting.
 use super::{
-    ADD, APPLIED_1, CountTarget, EMPTY_1, delivered, frame, goes_over, message, own_address, reply,
-    with_target,
+    ADD, APPLIED_1, CountTarget, EMPTY_1, delivered, frame, goes_over, is_lost, is_taken, message,
+    own_address, reply, steps, with_target,
 };
 use faulty_devices::{FaultyReader, FaultyWriter, ScarceMemory};
+use std::process::Abort;
 use std::test::Fail;
 use uecp_elements::Code;
 use uecp_encoder::Meter;
@@ -61,11 +62,11 @@ fn a_submission_is_refused_where_memory_is_wanting_and_taken_later(
     let mut line = with_target(&rt, rt.alloc(), TARGET)?;
     let mut waiting = with_target(&rt, rt.alloc(), TARGET)?;
     for number in 0..8 {
-        assert_eq!(rt; waiting.step(&submit), Ok(Stepped::Numbered(number)));
+        steps(&rt, &mut waiting, &submit, Ok(Stepped::Numbered(number)));
     }
     let mut memory = ScarceMemory::take_all(rt.alloc(), 1 << 16)?;
     for refused in 0..1 << 11 {
-        assert_eq!(rt; waiting.step(&submit), Err(LineRefusal::Busy));
+        steps(&rt, &mut waiting, &submit, Err(LineRefusal::Busy));
         let stepped = line.step(&submit);
         if stepped == Ok(Stepped::Numbered(0)) {
             // Room for the message and room for its code were wanting in turn.
@@ -80,25 +81,25 @@ fn a_submission_is_refused_where_memory_is_wanting_and_taken_later(
     Err("always refused".into())
 }
 
-#[test]
-fn a_line_takes_no_memory_for_what_goes_over_it(rt: HostRuntime) -> Result<(), Fail> {
-    let add = message(&rt, &ADD);
-    let mut line = with_target(&rt, rt.alloc(), TARGET)?;
-    assert_eq!(rt;
-        line.step(&LineEvent::Submit(&add)),
-        Ok(Stepped::Numbered(0))
-    );
-    let _memory = ScarceMemory::take_all(rt.alloc(), 0)?;
-    let lost = LineEvent::LineLost(Side::Encoder);
+/// The last message goes over the line, and then comes again many times.
+fn comes_again(rt: &impl Abort, line: &mut Line<CountTarget>) {
     let noise = LineEvent::NoiseToServer(b"\xFE\xFF\x00");
-    goes_over(&rt, &mut line, Code::Applied);
+    goes_over(rt, line, Code::Applied);
     for _ in 0..10_000 {
-        assert_eq!(rt; line.step(&frame(0)), delivered(false, Code::Applied));
-        assert_eq!(rt; line.step(&reply(0)), Ok(Stepped::Stray));
-        assert_eq!(rt; line.step(&noise), Ok(Stepped::Noise { dropped: 1 }));
-        assert_eq!(rt; line.step(&lost), Ok(Stepped::Lost));
+        steps(rt, line, &frame(0), delivered(false, Code::Applied));
+        steps(rt, line, &reply(0), Ok(Stepped::Stray));
+        steps(rt, line, &noise, Ok(Stepped::Noise { dropped: 1 }));
+        is_lost(rt, line, Side::Encoder);
     }
     assert_eq!(rt; (line.applied(), line.acknowledged()), (1, 1));
+}
+
+#[test]
+fn a_line_takes_no_memory_for_what_goes_over_it(rt: HostRuntime) -> Result<(), Fail> {
+    let mut line = with_target(&rt, rt.alloc(), TARGET)?;
+    is_taken(&rt, &mut line, &ADD);
+    let _memory = ScarceMemory::take_all(rt.alloc(), 0)?;
+    comes_again(&rt, &mut line);
     Ok(())
 }
 

@@ -1,22 +1,19 @@
 //! Up to eight messages outstanding on a line.
 use super::{
-    ADD, CountTarget, delivered, frame, is_taken, message, reply, with_store, with_target,
+    ADD, CountTarget, acknowledged, delivered, frame, is_taken, message, reply, steps, texts_of,
+    with_store, with_target,
 };
+use rds_store::RdsStore;
 use std::process::Abort;
 use std::test::Fail;
 use uecp_elements::Code;
 use uecp_encoder::Target;
 use uecp_link::{Line, LineEvent, LineRefusal, Stepped};
 
-const ACKNOWLEDGED: Result<Stepped, LineRefusal> = Ok(Stepped::Acknowledged(Code::Applied));
-
 /// The next message finds eight outstanding from the oldest on.
 fn is_busy<T: Target>(rt: &impl Abort, line: &mut Line<T>) {
     let empty = message(rt, &[]);
-    assert_eq!(rt;
-        line.step(&LineEvent::Submit(&empty)),
-        Err(LineRefusal::Busy)
-    );
+    steps(rt, line, &LineEvent::Submit(&empty), Err(LineRefusal::Busy));
 }
 
 /// Eight messages go out; a gap among the replies keeps the window shut until the oldest is acknowledged.
@@ -25,16 +22,16 @@ fn opens_with_the_oldest<T: Target>(rt: &impl Abort, line: &mut Line<T>) {
         is_taken(rt, line, &[]);
     }
     is_busy(rt, line);
-    assert_eq!(rt; line.step(&frame(1)), Ok(Stepped::NotNext));
-    assert_eq!(rt; line.step(&reply(1)), Err(LineRefusal::NotSent));
-    assert_eq!(rt; line.step(&frame(0)), delivered(true, Code::Applied));
-    assert_eq!(rt; line.step(&frame(1)), delivered(true, Code::Applied));
-    assert_eq!(rt; line.step(&reply(1)), ACKNOWLEDGED);
+    steps(rt, line, &frame(1), Ok(Stepped::NotNext));
+    steps(rt, line, &reply(1), Err(LineRefusal::NotSent));
+    steps(rt, line, &frame(0), delivered(true, Code::Applied));
+    steps(rt, line, &frame(1), delivered(true, Code::Applied));
+    steps(rt, line, &reply(1), acknowledged(Code::Applied));
     assert_eq!(rt; (line.acknowledged(), line.is_acknowledged(1)), (0, true));
     is_busy(rt, line);
-    assert_eq!(rt; line.step(&reply(0)), ACKNOWLEDGED);
+    steps(rt, line, &reply(0), acknowledged(Code::Applied));
     assert_eq!(rt; (line.acknowledged(), line.server().waiting()), (2, 6));
-    assert_eq!(rt; line.step(&reply(1)), Ok(Stepped::Stray));
+    steps(rt, line, &reply(1), Ok(Stepped::Stray));
     is_taken(rt, line, &[]);
     is_taken(rt, line, &[]);
     assert_eq!(rt; line.sent().len(), 10);
@@ -47,38 +44,48 @@ fn a_window_opens_with_its_oldest_message(rt: HostRuntime) -> Result<(), Fail> {
     let mut line = with_target(&rt, rt.alloc(), CountTarget::default())?;
     opens_with_the_oldest(&rt, &mut line);
     assert_eq!(rt; line.encoder().target().messages, 2);
+    Ok(())
+}
+
+#[test]
+fn a_window_over_a_store_opens_with_its_oldest_message(rt: HostRuntime) -> Result<(), Fail> {
     let mut line = with_store(&rt, rt.alloc())?;
     opens_with_the_oldest(&rt, &mut line);
     assert_eq!(rt; line.encoder().counts().fresh, 2);
     Ok(())
 }
 
-#[test]
-fn a_message_before_its_turn_is_passed_over_and_applied_later(rt: HostRuntime) -> Result<(), Fail> {
-    let mut line = with_store(&rt, rt.alloc())?;
+/// The frames of eight texts come from the last to the second, and then in order.
+fn comes_before_its_turn(rt: &impl Abort, line: &mut Line<RdsStore>) {
     for _ in 0..8 {
-        is_taken(&rt, &mut line, &ADD);
+        is_taken(rt, line, &ADD);
     }
     for number in (1..8).rev() {
-        assert_eq!(rt; line.step(&frame(number)), Ok(Stepped::NotNext));
+        steps(rt, line, &frame(number), Ok(Stepped::NotNext));
     }
     let counts = line.encoder().counts();
     assert_eq!(rt; (counts.fresh, counts.repeats, counts.dropped), (0, 0, 0));
     // Noise before a frame is over with it, also where that frame is passed over.
     let open = LineEvent::NoiseToEncoder(&[0xfe, 0x00]);
-    assert_eq!(rt; line.step(&open), Ok(Stepped::Noise { dropped: 0 }));
-    assert_eq!(rt; line.step(&frame(7)), Ok(Stepped::NotNext));
+    steps(rt, line, &open, Ok(Stepped::Noise { dropped: 0 }));
+    steps(rt, line, &frame(7), Ok(Stepped::NotNext));
     let rest = LineEvent::NoiseToEncoder(&[0xff]);
-    assert_eq!(rt; line.step(&rest), Ok(Stepped::Noise { dropped: 0 }));
+    steps(rt, line, &rest, Ok(Stepped::Noise { dropped: 0 }));
     for number in 0..8 {
-        assert_eq!(rt; line.step(&frame(number)), delivered(true, Code::Applied));
+        steps(rt, line, &frame(number), delivered(true, Code::Applied));
     }
     for number in (0..8).rev() {
-        assert_eq!(rt; line.step(&reply(number)), ACKNOWLEDGED);
+        steps(rt, line, &reply(number), acknowledged(Code::Applied));
         assert_eq!(rt; line.acknowledged(), if number == 0 { 8 } else { 0 });
     }
-    assert_eq!(rt; super::texts_of(line.encoder().target()), 8);
+    assert_eq!(rt; texts_of(line.encoder().target()), 8);
     assert!(rt; line.server().is_idle());
+}
+
+#[test]
+fn a_message_before_its_turn_is_passed_over_and_applied_later(rt: HostRuntime) -> Result<(), Fail> {
+    let mut line = with_store(&rt, rt.alloc())?;
+    comes_before_its_turn(&rt, &mut line);
     Ok(())
 }
 
@@ -94,16 +101,16 @@ fn comes<T: Target>(rt: &impl Abort, line: &mut Line<T>, number: usize, replied:
     } else {
         Ok(Stepped::NotNext)
     };
-    assert_eq!(rt; line.step(&frame(number)), wanted);
+    steps(rt, line, &frame(number), wanted);
     if replied {
         let wanted = if number > applied {
             Err(LineRefusal::NotSent)
         } else if was {
             Ok(Stepped::Stray)
         } else {
-            ACKNOWLEDGED
+            acknowledged(Code::Applied)
         };
-        assert_eq!(rt; line.step(&reply(number)), wanted);
+        steps(rt, line, &reply(number), wanted);
         assert_eq!(rt; line.is_acknowledged(number), number <= applied);
     }
 }
@@ -143,6 +150,15 @@ fn windows_of_1_to_8_over_three_turns_of_the_counter(rt: HostRuntime) -> Result<
         let mut line = with_target(&rt, rt.alloc(), CountTarget::default())?;
         goes_round(&rt, &mut line, window as usize, window);
         assert_eq!(rt; line.encoder().target().messages, line.sent().len() as u64);
+    }
+    Ok(())
+}
+
+#[test]
+fn windows_of_1_to_8_over_a_store_and_three_turns_of_the_counter(
+    rt: HostRuntime,
+) -> Result<(), Fail> {
+    for window in 1..=8u32 {
         let mut line = with_store(&rt, rt.alloc())?;
         goes_round(&rt, &mut line, window as usize, window + 8);
         assert_eq!(rt; line.encoder().counts().fresh, line.sent().len() as u64);

@@ -1,9 +1,9 @@
 //! Groups that the modulator takes between the messages.
 use super::{
-    ADD, CountTarget, delivered, frame, goes_over, is_taken, message, own_address, reply, texts_of,
-    with_store, with_target,
+    ADD, CountTarget, acknowledged, delivered, frame, goes_over, is_lost, is_taken, message,
+    played, reply, steps, texts_of, with_store, with_target,
 };
-use rds_store::Group;
+use rds_store::{Group, RdsStore};
 use std::process::Abort;
 use std::test::Fail;
 use uecp_elements::Code;
@@ -23,7 +23,7 @@ const QUEUED: Group = Group {
 
 /// A take gives this group, or none.
 fn gives<T: Target>(rt: &impl Abort, line: &mut Line<T>, group: Option<Group>) {
-    assert_eq!(rt; line.step(&LineEvent::Take), Ok(Stepped::Taken(group)));
+    steps(rt, line, &LineEvent::Take, Ok(Stepped::Taken(group)));
 }
 
 /// A message is submitted, applied with this code and acknowledged.
@@ -32,79 +32,82 @@ fn is_sent<T: Target>(rt: &impl Abort, line: &mut Line<T>, bytes: &[u8], code: C
     goes_over(rt, line, code);
 }
 
-#[test]
-fn a_taken_group_does_not_come_back_with_a_retry(rt: HostRuntime) -> Result<(), Fail> {
-    let mut line = with_store(&rt, rt.alloc())?;
-    is_taken(&rt, &mut line, &GROUP);
-    assert_eq!(rt; line.step(&frame(0)), delivered(true, Code::Applied));
-    gives(&rt, &mut line, Some(QUEUED));
-    gives(&rt, &mut line, None);
-    assert_eq!(rt; line.step(&frame(0)), delivered(false, Code::Applied));
+/// A group is queued and taken, and its message comes again.
+fn is_taken_once(rt: &impl Abort, line: &mut Line<RdsStore>) {
+    is_taken(rt, line, &GROUP);
+    steps(rt, line, &frame(0), delivered(true, Code::Applied));
+    gives(rt, line, Some(QUEUED));
+    gives(rt, line, None);
+    steps(rt, line, &frame(0), delivered(false, Code::Applied));
     assert!(rt; line.encoder().target().groups().is_empty());
-    gives(&rt, &mut line, None);
-    assert_eq!(rt;
-        line.step(&reply(0)),
-        Ok(Stepped::Acknowledged(Code::Applied))
-    );
+    gives(rt, line, None);
+    steps(rt, line, &reply(0), acknowledged(Code::Applied));
     let numbers = (line.sent().len(), line.applied(), line.acknowledged());
     assert_eq!(rt; numbers, (1, 1, 1));
-    Ok(())
 }
 
 #[test]
-fn groups_go_out_in_the_order_in_which_they_were_queued(rt: HostRuntime) -> Result<(), Fail> {
+fn a_taken_group_does_not_come_back_with_a_retry(rt: HostRuntime) -> Result<(), Fail> {
     let mut line = with_store(&rt, rt.alloc())?;
+    is_taken_once(&rt, &mut line);
+    Ok(())
+}
+
+/// Two groups are queued, and three are taken.
+fn go_out_in_order(rt: &impl Abort, line: &mut Line<RdsStore>) {
     for kind in 0..2u8 {
-        is_sent(
-            &rt,
-            &mut line,
-            &[0x24, kind, 0x40, 0, 0, 0, 0],
-            Code::Applied,
-        );
+        is_sent(rt, line, &[0x24, kind, 0x40, 0, 0, 0, 0], Code::Applied);
     }
     for kind in 0..2u8 {
         let group = Group {
             kind,
             ..Group::default()
         };
-        gives(&rt, &mut line, Some(group));
+        gives(rt, line, Some(group));
     }
-    gives(&rt, &mut line, None);
+    gives(rt, line, None);
+}
+
+#[test]
+fn groups_go_out_in_the_order_in_which_they_were_queued(rt: HostRuntime) -> Result<(), Fail> {
+    let mut line = with_store(&rt, rt.alloc())?;
+    go_out_in_order(&rt, &mut line);
     Ok(())
+}
+
+/// One group is taken from a full queue.
+fn makes_room(rt: &impl Abort, line: &mut Line<RdsStore>) {
+    for _ in 0..32u8 {
+        is_sent(rt, line, &GROUP, Code::Applied);
+    }
+    is_taken(rt, line, &GROUP);
+    steps(rt, line, &frame(32), delivered(true, Code::BufferFull));
+    gives(rt, line, Some(QUEUED));
+    steps(rt, line, &frame(32), delivered(false, Code::BufferFull));
+    assert_eq!(rt; line.encoder().target().groups().len(), 31);
+    steps(rt, line, &reply(32), acknowledged(Code::BufferFull));
+    is_sent(rt, line, &GROUP, Code::Applied);
+    assert_eq!(rt; line.encoder().target().groups().len(), 32);
 }
 
 #[test]
 fn a_take_makes_room_for_one_group(rt: HostRuntime) -> Result<(), Fail> {
     let mut line = with_store(&rt, rt.alloc())?;
-    for _ in 0..32u8 {
-        is_sent(&rt, &mut line, &GROUP, Code::Applied);
-    }
-    is_taken(&rt, &mut line, &GROUP);
-    assert_eq!(rt; line.step(&frame(32)), delivered(true, Code::BufferFull));
-    gives(&rt, &mut line, Some(QUEUED));
-    assert_eq!(rt; line.step(&frame(32)), delivered(false, Code::BufferFull));
-    assert_eq!(rt; line.encoder().target().groups().len(), 31);
-    assert_eq!(rt;
-        line.step(&reply(32)),
-        Ok(Stepped::Acknowledged(Code::BufferFull))
-    );
-    is_sent(&rt, &mut line, &GROUP, Code::Applied);
-    assert_eq!(rt; line.encoder().target().groups().len(), 32);
+    makes_room(&rt, &mut line);
     Ok(())
 }
 
-#[test]
-fn a_take_changes_nothing_but_the_queue(rt: HostRuntime) -> Result<(), Fail> {
-    let mut line = with_store(&rt, rt.alloc())?;
-    is_sent(&rt, &mut line, &ADD, Code::Applied);
-    is_taken(&rt, &mut line, &GROUP);
+/// A group is taken while a segment is open at either end.
+fn changes_the_queue(rt: &impl Abort, line: &mut Line<RdsStore>) {
+    is_sent(rt, line, &ADD, Code::Applied);
+    is_taken(rt, line, &GROUP);
     // A segment is open at either end, and ends after the take as it would have without it.
     let open = LineEvent::NoiseToEncoder(&[0xfe, 0x00]);
-    assert_eq!(rt; line.step(&open), Ok(Stepped::Noise { dropped: 0 }));
+    steps(rt, line, &open, Ok(Stepped::Noise { dropped: 0 }));
     let open = LineEvent::NoiseToServer(&[0xfe, 0x00]);
-    assert_eq!(rt; line.step(&open), Ok(Stepped::Noise { dropped: 0 }));
+    steps(rt, line, &open, Ok(Stepped::Noise { dropped: 0 }));
     let counts = (line.encoder().counts(), line.server().counts());
-    gives(&rt, &mut line, None);
+    gives(rt, line, None);
     assert_eq!(rt; (line.encoder().counts(), line.server().counts()), counts);
     assert_eq!(rt; texts_of(line.encoder().target()), 1);
     assert_eq!(rt;
@@ -112,16 +115,19 @@ fn a_take_changes_nothing_but_the_queue(rt: HostRuntime) -> Result<(), Fail> {
         (2, 1, 1)
     );
     let end = LineEvent::NoiseToEncoder(&[0xff]);
-    assert_eq!(rt; line.step(&end), Ok(Stepped::Noise { dropped: 1 }));
+    steps(rt, line, &end, Ok(Stepped::Noise { dropped: 1 }));
     let end = LineEvent::NoiseToServer(&[0xff]);
-    assert_eq!(rt; line.step(&end), Ok(Stepped::Noise { dropped: 1 }));
-    assert_eq!(rt; line.step(&frame(0)), delivered(false, Code::Applied));
-    assert_eq!(rt; line.step(&frame(1)), delivered(true, Code::Applied));
-    assert_eq!(rt;
-        line.step(&LineEvent::LineLost(Side::Encoder)),
-        Ok(Stepped::Lost)
-    );
-    gives(&rt, &mut line, Some(QUEUED));
+    steps(rt, line, &end, Ok(Stepped::Noise { dropped: 1 }));
+    steps(rt, line, &frame(0), delivered(false, Code::Applied));
+    steps(rt, line, &frame(1), delivered(true, Code::Applied));
+    is_lost(rt, line, Side::Encoder);
+    gives(rt, line, Some(QUEUED));
+}
+
+#[test]
+fn a_take_changes_nothing_but_the_queue(rt: HostRuntime) -> Result<(), Fail> {
+    let mut line = with_store(&rt, rt.alloc())?;
+    changes_the_queue(&rt, &mut line);
     Ok(())
 }
 
@@ -149,13 +155,9 @@ fn a_run_goes_through_takes(rt: HostRuntime) -> Result<(), Fail> {
         LineEvent::Take,
         reply(0),
     ];
-    let store = rds_store::RdsStore::new(rt.alloc(), 1, &[0x01])?;
-    match Line::play(rt.alloc(), own_address(&rt), store, &events) {
-        Err(_) => return Err("no memory".into()),
-        Ok((line, refused)) => {
-            assert_eq!(rt; (line.applied(), line.acknowledged(), refused), (1, 1, 0));
-            assert!(rt; line.encoder().target().groups().is_empty());
-        }
-    }
+    let store = RdsStore::new(rt.alloc(), 1, &[0x01])?;
+    let (line, refused) = played(&rt, rt.alloc(), store, &events)?;
+    assert_eq!(rt; (line.applied(), line.acknowledged(), refused), (1, 1, 0));
+    assert!(rt; line.encoder().target().groups().is_empty());
     Ok(())
 }

@@ -1,6 +1,8 @@
 //! An encoder where memory is wanting.
 use super::{APPLIED_1, CountTarget, PI_1, gives_each_code, own_address, replies, with_store};
 use faulty_devices::{FaultyReader, FaultyWriter, ScarceMemory};
+use rds_store::RdsStore;
+use std::process::Abort;
 use std::test::Fail;
 use uecp_encoder::{Encoder, Meter, Served, serve};
 
@@ -27,6 +29,14 @@ fn a_new_encoder_hands_the_target_back_where_memory_is_wanting(
     Err("always refused".into())
 }
 
+/// A repeat comes many times, and each time what is dropped.
+fn comes_again(rt: &impl Abort, encoder: &mut Encoder<RdsStore>) {
+    for _ in 0..10_000 {
+        replies(rt, encoder, &PI_1, &APPLIED_1, false);
+        assert_eq!(rt; encoder.feed(b"\xFE\x00\xFF\xFE").used, 3);
+    }
+}
+
 #[test]
 fn an_encoder_takes_no_memory_for_what_it_hears(rt: HostRuntime) -> Result<(), Fail> {
     let mut encoder = with_store(&rt, rt.alloc(), 2)?;
@@ -34,10 +44,7 @@ fn an_encoder_takes_no_memory_for_what_it_hears(rt: HostRuntime) -> Result<(), F
     let mut output = Meter::new(FaultyWriter::new());
     let _memory = ScarceMemory::take_all(rt.alloc(), 0)?;
     gives_each_code(&rt, &mut encoder);
-    for _ in 0..10_000 {
-        replies(&rt, &mut encoder, &PI_1, &APPLIED_1, false);
-        assert_eq!(rt; encoder.feed(b"\xFE\x00\xFF\xFE").used, 3);
-    }
+    comes_again(&rt, &mut encoder);
     let served = serve(&mut encoder, &mut input, &mut output, 2);
     let one = Served {
         read: 13,

@@ -38,18 +38,17 @@ fn a_whole_write_says_where_it_stopped(rt: HostRuntime) {
     assert_eq!(rt; writer.into_inner().taken(), b"abcdefg".as_slice());
 }
 
-#[test]
-fn a_reply_that_was_cut_short_is_given_again(rt: HostRuntime) -> Result<(), Fail> {
-    let mut encoder = with_store(&rt, rt.alloc(), 1)?;
+/// A text is applied while its reply is cut short, and comes again.
+fn replies_in_full(rt: &impl Abort, encoder: &mut Encoder<RdsStore>) {
     let mut narrow = Meter::new(FaultyWriter::new().taking(3).failing_at(&[2]));
     let mut input = Meter::new(FaultyReader::new(&ADD_1));
-    let served = serve(&mut encoder, &mut input, &mut narrow, 64);
+    let served = serve(encoder, &mut input, &mut narrow, 64);
     assert_eq!(rt; served, Err(ServeFault::WriteFailed { written: 3 }));
     assert_eq!(rt; texts_of(encoder.target(), 1), 1);
     encoder.line_lost();
     let mut whole = Meter::new(FaultyWriter::new());
     let mut input = Meter::new(FaultyReader::new(&ADD_1).giving(4));
-    let served = serve(&mut encoder, &mut input, &mut whole, 64);
+    let served = serve(encoder, &mut input, &mut whole, 64);
     assert_eq!(rt;
         served,
         Ok(Served {
@@ -58,35 +57,45 @@ fn a_reply_that_was_cut_short_is_given_again(rt: HostRuntime) -> Result<(), Fail
         })
     );
     assert_eq!(rt;
-        serve(&mut encoder, &mut input, &mut whole, 0),
+        serve(encoder, &mut input, &mut whole, 0),
         Err(ServeFault::TurnsSpent)
     );
     assert_eq!(rt; whole.into_inner().taken(), APPLIED_1.as_slice());
     assert_eq!(rt; texts_of(encoder.target(), 1), 1);
+}
+
+#[test]
+fn a_reply_that_was_cut_short_is_given_again(rt: HostRuntime) -> Result<(), Fail> {
+    let mut encoder = with_store(&rt, rt.alloc(), 1)?;
+    replies_in_full(&rt, &mut encoder);
     Ok(())
+}
+
+/// The first read fails, and the second brings a text.
+fn fails_to_read(rt: &impl Abort, encoder: &mut Encoder<RdsStore>) {
+    let mut output = Meter::new(FaultyWriter::new());
+    let mut input = Meter::new(FaultyReader::new(&ADD_1).failing_at(&[1]));
+    let served = serve(encoder, &mut input, &mut output, 1);
+    assert_eq!(rt; served, Err(ServeFault::ReadFailed));
+    let served = serve(encoder, &mut input, &mut output, 1);
+    assert_eq!(rt; served, Err(ServeFault::TurnsSpent));
+    assert_eq!(rt; output.into_inner().taken(), APPLIED_1.as_slice());
 }
 
 #[test]
 fn a_failed_read_ends_the_call_and_loses_nothing(rt: HostRuntime) -> Result<(), Fail> {
     let mut encoder = with_store(&rt, rt.alloc(), 1)?;
-    let mut output = Meter::new(FaultyWriter::new());
-    let mut input = Meter::new(FaultyReader::new(&ADD_1).failing_at(&[1]));
-    let served = serve(&mut encoder, &mut input, &mut output, 1);
-    assert_eq!(rt; served, Err(ServeFault::ReadFailed));
-    let served = serve(&mut encoder, &mut input, &mut output, 1);
-    assert_eq!(rt; served, Err(ServeFault::TurnsSpent));
-    assert_eq!(rt; output.into_inner().taken(), APPLIED_1.as_slice());
+    fails_to_read(&rt, &mut encoder);
     Ok(())
 }
 
-#[test]
-fn a_frame_out_of_its_turn_gets_no_reply(rt: HostRuntime) -> Result<(), Fail> {
-    let mut encoder = with_store(&rt, rt.alloc(), 1)?;
+/// The second message comes before and after the first.
+fn comes_out_of_its_turn(rt: &impl Abort, encoder: &mut Encoder<RdsStore>) {
     let rows: [(&[u8], &[u8]); 3] = [(&PI_2, b""), (&ADD_1, &APPLIED_1), (&PI_2, &APPLIED_2)];
     for (frame, reply) in rows {
         let mut input = Meter::new(FaultyReader::new(frame));
         let mut output = Meter::new(FaultyWriter::new());
-        let served = serve(&mut encoder, &mut input, &mut output, 64);
+        let served = serve(encoder, &mut input, &mut output, 64);
         let all = Served {
             read: 15,
             replies: if reply.is_empty() { 0 } else { 1 },
@@ -98,6 +107,12 @@ fn a_frame_out_of_its_turn_gets_no_reply(rt: HostRuntime) -> Result<(), Fail> {
         (texts_of(encoder.target(), 1), pi_of(encoder.target(), 1)),
         (1, Some(0xfeff))
     );
+}
+
+#[test]
+fn a_frame_out_of_its_turn_gets_no_reply(rt: HostRuntime) -> Result<(), Fail> {
+    let mut encoder = with_store(&rt, rt.alloc(), 1)?;
+    comes_out_of_its_turn(&rt, &mut encoder);
     Ok(())
 }
 
