@@ -29,7 +29,7 @@ fn a_new_encoder_hands_the_target_back_where_memory_is_wanting(
     Err("always refused".into())
 }
 
-/// A repeat comes many times, and each time what is dropped.
+/// A repeat comes many times, and behind each a segment that is dropped.
 fn comes_again(rt: &impl Abort, encoder: &mut Encoder<RdsStore>) {
     for _ in 0..10_000 {
         replies(rt, encoder, &PI_1, &APPLIED_1, false);
