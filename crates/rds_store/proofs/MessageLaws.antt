@@ -5,14 +5,14 @@ use Rattle.uecp_elements.specs.declared.code.Code.{Code}
 use Rattle.uecp_elements.specs.declared.code.Code.TheVariants.{Applied, UnknownElement, DataSet, Service, OutOfRange, ElementLength, NotHere, BufferFull}
 use Rattle.uecp_elements.specs.declared.fault.ElementFault.{ElementFault}
 use Rattle.uecp_elements.specs.Grammar.{Element, Reading, Reads, AreBytes, EndsWith, is_known}
-use Rattle.uecp_elements.specs.Reading.{items, items_of, fault_item}
+use Rattle.uecp_elements.specs.Reading.{items, items_at, items_of, fault_item}
 use Rattle.uecp_elements.specs.Folding.{is_applied, where_applied, folded}
 use Rattle.uecp_elements.proofs.Items.{has_reading, only_reading}
 use Rattle.rds_store.specs.Value.{Store}
 use Rattle.rds_store.specs.Put.{put}
 use Rattle.rds_store.specs.Step.{element_by_element, whole_or_none, step}
 use Rattle.rds_store.proofs.LawProofs.{refusal_changes_nothing}
-use Rattle.rds_store.specs.Laws.{IsAsBefore, RefusedMessageChangesNothing, PutsEach, AppliedMessageIsWhole, WholeMessageIsApplied}
+use Rattle.rds_store.specs.Laws.{IsAsBefore, RefusedMessageChangesNothing, PutsEach, AppliedMessageIsWhole, WholeMessageIsApplied, EmptyMessageChangesNothing}
 
 -- ---- A refused message.
 left_as_it_was : (before after : Store) (code : Code) → code ≢ Applied → (if is_applied code then after else before) ≡ before
@@ -127,3 +127,7 @@ whole_message_is_applied v m reading w bytes reads clean each =
     let same : items m ≡ map Ok reading.elements ++ [] = the_items m bytes reading reads ∙ ap (λ f. map Ok reading.elements ++ fault_item f) clean in
     let done : element_by_element v m ≡ (w, Applied) = ap (folded put v) same ∙ all_put v reading.elements w each in
     ap (whole_or_none v) done
+
+pub empty_message_changes_nothing : EmptyMessageChangesNothing
+unfolding items_at folded
+empty_message_changes_nothing v = refl

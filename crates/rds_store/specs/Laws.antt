@@ -63,6 +63,10 @@ WholeMessageIsApplied =
     (v : Store) (message : List ℕ) (reading : Reading) (after : Store) → AreBytes message → Reads message reading
     → reading.fault ≡ None → PutsEach v reading.elements after → step v message ≡ (after, Applied)
 
+-- A message with no byte is answered with 00, and changes nothing.
+abbrev pub EmptyMessageChangesNothing : Type 0
+EmptyMessageChangesNothing = (v : Store) → step v [] ≡ (v, Applied)
+
 -- The groups go out one by one, in this order, and leave that store.
 abbrev pub TakesOut : Store → List Group → (after : Store) → Type 0
 TakesOut v [] after = after ≡ v

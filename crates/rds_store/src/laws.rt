@@ -1,5 +1,5 @@
 //! Laws of a store under elements, messages and takes, each the contract of a function that does nothing.
-ghost use Rattle.rds_store.specs.Laws.{RefusalChangesNothing, ChangesNamedPlacesAlone, KeepsSelectionAndGroups, KeepsSetsAndServices, MessagesKeepSetsAndServices, RefusedMessageChangesNothing, AppliedMessageIsWhole, WholeMessageIsApplied, GroupsGoOutInOrder, IsKnownByPlaces};
+ghost use Rattle.rds_store.specs.Laws.{RefusalChangesNothing, ChangesNamedPlacesAlone, KeepsSelectionAndGroups, KeepsSetsAndServices, MessagesKeepSetsAndServices, RefusedMessageChangesNothing, AppliedMessageIsWhole, WholeMessageIsApplied, EmptyMessageChangesNothing, GroupsGoOutInOrder, IsKnownByPlaces};
 
 /// An element that is answered with another code than 00 leaves the store as it was.
 #[tactic(auto, using(crate::proofs::LawProofs::refusal_changes_nothing))]
@@ -48,6 +48,12 @@ pub fn applied_message_is_whole()
 /// what they leave.
 pub fn whole_message_is_applied()
     ensures { WholeMessageIsApplied }
+{}
+
+/// A message with no byte is answered with 00, and changes nothing.
+#[tactic(auto, using(crate::proofs::MessageLaws::empty_message_changes_nothing))]
+pub fn empty_message_changes_nothing()
+    ensures { EmptyMessageChangesNothing }
 {}
 
 /// The groups that wait go out in the order in which they wait, and nothing else changes; then there is none to go out.

@@ -4,6 +4,7 @@ pub mod State
 pub mod Answering
 pub mod Holdings
 pub mod Laws
+pub mod Joining
 pub mod Metered
 pub mod Serving
 pub use Rattle.uecp_frame.specs.Address

@@ -2,6 +2,7 @@
 ghost use Rattle.std.specs.Prelude.{ℕ, List};
 ghost use Rattle.uecp_encoder.specs.State.{EncoderState};
 ghost use Rattle.uecp_encoder.specs.Laws.{RetryActsOnce, AppliedOnce, AppliesInOrder, AppliesFrom01, IsInPieces, IsHeardAfterNoise, DamageChangesNothing};
+ghost use Rattle.uecp_encoder.specs.Joining.{Joins, WholePassIsReplied};
 
 use crate::target::Target;
 
@@ -43,4 +44,16 @@ pub fn heard_after_noise()
 /// counts but that of the dropped segments, which rises by one for each segment that they end; and no reply goes back.
 pub fn damage_changes_nothing<T: Target>()
     ensures { DamageChangesNothing T.step }
+{}
+
+/// A server that knows nothing of an encoder sends it empty messages under 01, 02 .. FF, in this order, and does so until in one such
+/// pass both 81 and FF got a reply. Where an empty message changes nothing at the target, the encoder then has its target as it
+/// was, keeps the replies to 81 .. FF and no other, and expects 01.
+pub fn joined<T: Target>()
+    ensures { Joins T.step }
+{}
+
+/// Where none of the messages of such a pass is lost, each from 81 on gets a reply: one pass is enough then, from wherever the encoder was.
+pub fn whole_pass_is_replied<T: Target>()
+    ensures { WholePassIsReplied T.step }
 {}

@@ -72,7 +72,7 @@ impl<D> Meter<D> {
 }
 
 impl<D: Read> Meter<D> {
-    /// Makes one read of the device. The caller knows that the buffer is not empty; 0 is the end of input.
+    /// Makes one read of the device; that it is one is only tested. The caller knows that the buffer is not empty; 0 is the end of input.
     pub fn read(&mut self, buffer: &mut [u8]) -> Result<usize, Failed>
         requires { 0 < length buffer.old }
         ensures within { ReadsAtMost result buffer.new }
@@ -92,7 +92,7 @@ impl<D: Read> Meter<D> {
 }
 
 impl<D: Write> Meter<D> {
-    /// Makes one write of the device, which takes at least one byte, or failed. The caller knows that there are bytes.
+    /// Makes one write of the device (that it is one is only tested), which takes at least one byte, or failed. The caller knows that there are bytes.
     pub fn write(&mut self, bytes: &[u8]) -> Result<usize, Failed>
         requires { 0 < length bytes.now }
         ensures within { WritesAtMost result bytes.now }
