@@ -23,13 +23,15 @@ use Rattle.uecp_link.proofs.Folding.{slice_get-push}
 pub kept_same : {V : Type 0} (a : ℕ) (e : EncoderState V) (s : ServerState) (o o' : Once V) (p q : ℕ)
     → o.sent ≡ o'.sent → o.value ≡ o'.value → o.codes ≡ o'.codes → o.acknowledged ≡ o'.acknowledged → Kept a e s o p q → Kept a e s o' p q
 kept_same a e s o o' p q sent value codes acknowledged k = record {
-  encoder = record { address = k.encoder.address; value = k.encoder.value ∙ value; ring = k.encoder.ring ∙ ap (λ c. take 127 (pairs (code_at c) p)) codes };
+  encoder = record { address = k.encoder.address; value = k.encoder.value ∙ value; ring = k.encoder.ring ∙ ap (λ c. take 127 (pairs k.base (code_at c) p)) codes };
   count = k.count;
   server = record {
     address = k.server.address;
     last = k.server.last ∙ ap (λ x. last_counter (length x)) sent;
     held = k.server.held ∙ ap (λ x. held_from x o.acknowledged q k.count) sent ∙ ap (λ x. held_from o'.sent x q k.count) acknowledged;
   };
+  base = k.base;
+  ready = k.ready;
   count_is = ap length (sym sent) ∙ k.count_is;
   few = k.few;
   below = λ j l. ap (λ c. c j) (sym acknowledged) ∙ k.below j l;

@@ -3,14 +3,16 @@ use Rattle.std.proofs.Common.{◌≡◌, ℕ, true, List, [], ◌∷◌, ◌++�
 use Rattle.std.specs.Prelude.{is_none}
 use Rattle.std.specs.List.{AllByRecursion}
 use Rattle.std.proofs.lemmas.Bool.{cases_Bool, le-ltb, false≢true}
+use Rattle.std.proofs.lemmas.List.{take_all}
+use Rattle.uecp_frame.specs.Findings.{Closed}
 use Rattle.uecp_encoder.specs.Target.{Step, Taken}
-use Rattle.uecp_encoder.specs.State.{EncoderState}
+use Rattle.uecp_encoder.specs.State.{EncoderState, opening}
 use Rattle.uecp_link.specs.Counters.{counter_of}
 use Rattle.uecp_link.specs.Server.{ServerState, waiting_among, waiting}
 use Rattle.uecp_link.specs.Once.{Event, Once, message_at, missing, refusal_of, after, answer_of}
 use Rattle.uecp_link.specs.History.{Act, act_of, history}
-use Rattle.uecp_link.specs.Law.{World, encoder_after, server_after, run, start, Fits, Numbers, Law}
-use Rattle.uecp_link.specs.Kept.{Kept, Hears}
+use Rattle.uecp_link.specs.Law.{World, encoder_after, server_after, run, start_from, start, Fits, Numbers, Law, LawFrom}
+use Rattle.uecp_link.specs.Kept.{IsReady, Kept, Hears}
 use Rattle.uecp_link.proofs.HeldNumbers.{waiting-held, missing_is}
 use Rattle.uecp_link.proofs.Steps.{keeps, hears_after, applied_after, sent_le, ring_answers, recent_le, quiet_none}
 use Rattle.uecp_link.proofs.Least.{next_number}
@@ -54,27 +56,36 @@ module _ {V : Type 0} (step : Step V) (taken : Taken V) (address : ℕ) (opening
         | inr shut ↦ rw shut (lawful_run w acts events fit.1 h)
       ]
 
-  pub lawful_start : Lawful step taken address opening (start address opening) []
-  lawful_start = record {
-    p = 0;
-    q = 0;
-    kept = record {
-      encoder = record { address = refl; value = refl; ring = refl };
-      count = 0;
-      server = record { address = refl; last = refl; held = refl };
-      count_is = omega arith;
-      few = omega arith;
-      below = λ k l. absurd (omega arith);
-      oldest = λ some. absurd (omega arith);
-      applied = λ k. sym (le-ltb k 0 (omega arith));
-      within = λ k acked. absurd (false≢true acked);
-      p_le = omega arith;
-      q_le = omega arith;
-      fits = λ k. omega arith;
-    };
-    hears = record { encoder = sym left_none; server = sym left_none; encoder_quiet = quiet_none; server_quiet = quiet_none };
-    folded_is = record { order = refl; value = refl; codes = λ k. refl };
-  }
+pub ready_at_first : IsReady []
+ready_at_first = record { counters = refl; few = omega arith }
+
+-- an encoder that is ready, with nothing open, and a new server
+pub lawful_from : {V : Type 0} (step : Step V) (taken : Taken V) (e : EncoderState V) → IsReady e.ring → e.part ≡ Closed → Lawful step taken e.address e.value (start_from e) []
+lawful_from step taken e ready shut = record {
+  p = 0;
+  q = 0;
+  kept = record {
+    base = e.ring;
+    ready = ready;
+    encoder = record { address = refl; value = refl; ring = sym (take_all 127 e.ring ready.few) };
+    count = 0;
+    server = record { address = refl; last = refl; held = refl };
+    count_is = omega arith;
+    few = omega arith;
+    below = λ k l. absurd (omega arith);
+    oldest = λ some. absurd (omega arith);
+    applied = λ k. sym (le-ltb k 0 (omega arith));
+    within = λ k acked. absurd (false≢true acked);
+    p_le = omega arith;
+    q_le = omega arith;
+    fits = λ k. omega arith;
+  };
+  hears = record { encoder = shut ∙ sym left_none; server = sym left_none; encoder_quiet = quiet_none; server_quiet = quiet_none };
+  folded_is = record { order = refl; value = refl; codes = λ k. refl };
+}
+
+pub lawful_start : {V : Type 0} (step : Step V) (taken : Taken V) (address : ℕ) (value : V) → Lawful step taken address value (start address value) []
+lawful_start step taken address value = lawful_from step taken (opening address value) ready_at_first refl
 
 -- What the facts say of the numbers and of the values.
 
@@ -96,10 +107,13 @@ numbers_from step address w p q kept =
       replies = λ k below near. ring_answers address w.encoder w.server w.once p q kept k below (recent_le (length w.once.sent) k near);
     }
 
-pub law : {V : Type 0} (step : Step V) (taken : Taken V) (address : ℕ) → (opening : V) (events : List Event) → AllByRecursion Fits events → Law step taken address opening events
-law step taken address opening events fit =
-    let h = lawful_run step taken address opening (start address opening) [] events fit (lawful_start step taken address opening) in (
+pub law_from : {V : Type 0} (step : Step V) (taken : Taken V) (e : EncoderState V) → IsReady e.ring → e.part ≡ Closed → (events : List Event) → AllByRecursion Fits events → LawFrom step taken e events
+law_from step taken e ready shut events fit =
+    let h = lawful_run step taken e.address e.value (start_from e) [] events fit (lawful_from step taken e ready shut) in (
       h.p,
-      numbers_from step address (run step taken address (start address opening) events) h.p h.q h.kept,
+      numbers_from step e.address (run step taken e.address (start_from e) events) h.p h.q h.kept,
       record { order = h.folded_is.order; target = h.kept.encoder.value ∙ h.folded_is.value; value = h.folded_is.value; codes = h.folded_is.codes },
     )
+
+pub law : {V : Type 0} (step : Step V) (taken : Taken V) (address : ℕ) → (opening : V) (events : List Event) → AllByRecursion Fits events → Law step taken address opening events
+law step taken address value events fit = law_from step taken (opening address value) ready_at_first refl events fit

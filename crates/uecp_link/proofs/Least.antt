@@ -9,7 +9,7 @@ use Rattle.uecp_encoder.specs.State.{is_next as is_next_kept}
 use Rattle.uecp_link.specs.Counters.{counter_of}
 use Rattle.uecp_link.specs.Server.{is_marked}
 use Rattle.uecp_link.specs.Once.{first_or, least_missing, is_next}
-use Rattle.uecp_link.specs.Kept.{pairs, code_at, held_from}
+use Rattle.uecp_link.specs.Kept.{IsReady, pairs, code_at, held_from}
 use Rattle.uecp_link.proofs.Ring.{next_is}
 use Rattle.uecp_link.proofs.HeldNumbers.{missing_from, missing_is, near_differ}
 
@@ -28,10 +28,10 @@ next_number codes p n k applied le =
     (least_is (λ j. is_some (codes j)) p (n - p) n (omega (arith, le)) (λ j l. applied j ∙ lt-ltb j p l) (λ some. applied p ∙ le-ltb p p (omega arith)))
 
 -- of the numbers from p on, of which there are few, p alone has the next counter
-pub turn_is : (codes : ℕ → Option Code) (p k : ℕ) → p ≤ k → k < p + 255 → is_next_kept (take 127 (pairs (code_at codes) p)) (counter_of k) ≡ (k == p)
-turn_is codes p k above near =
-    let ring : List (ℕ × Code) = take 127 (pairs (code_at codes) p) in
-    let next : counter_of p ≡ next_after (newest ring) = eqb-true (counter_of p) (next_after (newest ring)) (next_is (code_at codes) 126 p) in
+pub turn_is : (base : List (ℕ × Code)) → IsReady base → (codes : ℕ → Option Code) (p k : ℕ) → p ≤ k → k < p + 255 → is_next_kept (take 127 (pairs base (code_at codes) p)) (counter_of k) ≡ (k == p)
+turn_is base ready codes p k above near =
+    let ring : List (ℕ × Code) = take 127 (pairs base (code_at codes) p) in
+    let next : counter_of p ≡ next_after (newest ring) = eqb-true (counter_of p) (next_after (newest ring)) (next_is base (code_at codes) 126 p ready) in
     elim (cases_eq k p) [
       | inl e ↦ eq-eqb (counter_of k) (next_after (newest ring)) (ap counter_of e ∙ next) ∙ sym (eq-eqb k p e)
       | inr ne ↦ ne_eqb (counter_of k) (next_after (newest ring)) (λ h. near_differ k p ne near (omega (arith, above)) (h ∙ sym next)) ∙ sym (ne_eqb k p ne)

@@ -25,3 +25,4 @@ pub mod Answered
 pub mod Tries
 pub mod Windowing
 pub mod Marks
+pub mod Joined

@@ -2,25 +2,30 @@
 use Rattle.std.proofs.Common.{◌≡◌, ℕ, ◌+◌, ◌<◌, nat_lt, ◌||◌, Bool, false, List, [], ◌∷◌, ◌++◌, length, Some, None, refl, ap, sym, ◌∙◌, inl, inr, arith}
 use Rattle.std.specs.Prelude.{is_none}
 use Rattle.std.proofs.lemmas.Bool.{lt-ltb, le-ltb, cases_lt}
+use Rattle.uecp_frame.specs.Findings.{Closed}
+use Rattle.uecp_encoder.specs.State.{EncoderState, opening}
 use Rattle.uecp_encoder.specs.Target.{Step, Taken}
 use Rattle.uecp_link.specs.declared.stepped.Stepped.TheVariants as stepped
 use Rattle.uecp_link.specs.declared.refusal.LineRefusal.TheVariants as refusal
 use Rattle.uecp_link.specs.Server.{ServerState, submitted}
 use Rattle.uecp_link.specs.Next.{Goes, Stops}
 use Rattle.uecp_link.specs.Once.{Submit, Numbered, Busy, at_first, refusal_of, least_missing, has_room}
-use Rattle.uecp_link.specs.Holds.{LineState, let_go, once_of, IsLine, Holds, new_line}
+use Rattle.uecp_link.specs.Holds.{LineState, let_go, once_of, IsLine, Holds, line_from, new_line}
 use Rattle.uecp_link.proofs.Wire.{left_none}
 use Rattle.uecp_link.proofs.HeldNumbers.{length-held_from}
 use Rattle.uecp_link.proofs.Steps.{quiet_none, least_acknowledged}
 
-pub new_holds : {V : Type 0} (address : ℕ) (value : V) → Holds (new_line address value) (at_first value)
-new_holds address value = record {
+pub holds_from : {V : Type 0} (e : EncoderState V) → e.part ≡ Closed → Holds (line_from e) (at_first e.value)
+holds_from e shut = record {
   sent = refl;
   value = refl;
   codes = λ k. refl;
   acknowledged = λ k. ap (λ (b : Bool). b || false) (le-ltb k 0 (omega arith));
-  open_parts = record { encoder = sym left_none; server = sym left_none; encoder_quiet = quiet_none; server_quiet = quiet_none };
+  open_parts = record { encoder = shut ∙ sym left_none; server = sym left_none; encoder_quiet = quiet_none; server_quiet = quiet_none };
 }
+
+pub new_holds : {V : Type 0} (address : ℕ) (value : V) → Holds (new_line address value) (at_first value)
+new_holds address value = holds_from (opening address value) refl
 
 -- whether the next message is taken goes by how many the server holds
 room_is : {V : Type 0} (line : LineState V) → IsLine line → has_room (once_of line).acknowledged (length line.sent) ≡ nat_lt (length line.server.held) 8

@@ -6,8 +6,10 @@ use Rattle.std.proofs.lemmas.Option.{slice_get-get_or, slice_get_past}
 use Rattle.uecp_elements.specs.declared.code.Code.{Code}
 use Rattle.uecp_elements.specs.declared.code.Code.TheVariants.{Applied}
 use Rattle.uecp_frame.specs.Frame.{spelling}
+use Rattle.std.proofs.lemmas.List.{take_all}
+use Rattle.uecp_frame.specs.Findings.{Closed}
 use Rattle.uecp_encoder.specs.Target.{Step, Taken}
-use Rattle.uecp_encoder.specs.State.{EncoderState}
+use Rattle.uecp_encoder.specs.State.{EncoderState, opening}
 use Rattle.uecp_link.specs.Counters.{counter_of}
 use Rattle.uecp_link.specs.declared.stepped.Stepped.{Stepped}
 use Rattle.uecp_link.specs.Frames.{frame_under}
@@ -17,14 +19,14 @@ use Rattle.uecp_link.specs.Events.{answer_seen}
 use Rattle.uecp_link.specs.History.{Act, act_of}
 use Rattle.uecp_link.specs.Fold.{value_after, codes_after}
 use Rattle.uecp_link.specs.Law.{encoder_after, Fits, Numbers}
-use Rattle.uecp_link.specs.Kept.{Kept}
-use Rattle.uecp_link.specs.Holds.{LineState, let_go, is_acknowledged, Outcome, IsLine, Holds, once_of, StepsAs, Plays, history_by, new_line, world_of}
+use Rattle.uecp_link.specs.Kept.{IsReady, Kept}
+use Rattle.uecp_link.specs.Holds.{LineState, let_go, is_acknowledged, Outcome, IsLine, Holds, once_of, StepsAs, Plays, history_by, line_from, new_line, world_of}
 use Rattle.uecp_link.specs.Headline.{IsHeadline}
 use Rattle.uecp_link.proofs.Steps.{sent_le}
 use Rattle.uecp_link.proofs.Folding.{Folded}
 use Rattle.uecp_link.proofs.Goes.{kept_at, line_stays}
-use Rattle.uecp_link.proofs.Opening.{new_holds}
-use Rattle.uecp_link.proofs.Lawful.{lawful_after, waiting_is, numbers_from}
+use Rattle.uecp_link.proofs.Opening.{holds_from}
+use Rattle.uecp_link.proofs.Lawful.{lawful_after, waiting_is, numbers_from, ready_at_first}
 
 -- two bounds below which the same numbers are
 pub same_bound : (p q : ℕ) → ((k : ℕ) → nat_lt k p ≡ nat_lt k q) → p ≡ q
@@ -61,6 +63,25 @@ frames_of : (a : ℕ) (sent : List (List ℕ)) (ks : List ℕ)
 frames_of a sent [] = refl
 frames_of a sent (k ∷ ks) = ap (λ fs. spelling (frame_under a (counter_of k, message_at sent k)) ∷ fs) (frames_of a sent ks)
 
+-- an encoder that is ready and a new server are a line
+line_ready : {V : Type 0} (e : EncoderState V) → IsReady e.ring → e.part ≡ Closed → IsLine (line_from e)
+line_ready e ready shut = record {
+  base = e.ring;
+  ready = ready;
+  encoder = record { address = refl; value = refl; ring = sym (take_all 127 e.ring ready.few) };
+  count = 0;
+  server = record { address = refl; last = refl; held = refl };
+  count_is = omega arith;
+  few = omega arith;
+  below = λ k l. absurd (omega arith);
+  oldest = λ some. absurd (omega arith);
+  applied = λ k. sym (le-ltb k 0 (omega arith));
+  within = λ k acked. absurd (false≢true (sym ((holds_from e shut).acknowledged k) ∙ acked));
+  p_le = omega arith;
+  q_le = omega arith;
+  fits = λ k. omega arith;
+}
+
 module _ {V : Type 0} (step : Step V) (taken : Taken V) (address : ℕ) (opening : V) where
   -- the state is that of a line to this address, it holds what the once-machine holds, and that has the value and the codes of its history
   pub record Follows (line : LineState V) (o : Once V) (acts : List Act) : Type 0 where
@@ -68,28 +89,6 @@ module _ {V : Type 0} (step : Step V) (taken : Taken V) (address : ℕ) (opening
     pub at_address : line.encoder.address ≡ address
     pub holds : Holds line o
     pub folded_is : Folded step taken opening o (length line.codes) acts
-
-  -- a new line does
-  follows_new : Follows (new_line address opening) (at_first opening) []
-  follows_new = record {
-    is_line = record {
-      encoder = record { address = refl; value = refl; ring = refl };
-      count = 0;
-      server = record { address = refl; last = refl; held = refl };
-      count_is = omega arith;
-      few = omega arith;
-      below = λ k l. absurd (omega arith);
-      oldest = λ some. absurd (omega arith);
-      applied = λ k. sym (le-ltb k 0 (omega arith));
-      within = λ k acked. absurd (false≢true (sym ((new_holds address opening).acknowledged k) ∙ acked));
-      p_le = omega arith;
-      q_le = omega arith;
-      fits = λ k. omega arith;
-    };
-    at_address = refl;
-    holds = new_holds address opening;
-    folded_is = record { order = refl; value = refl; codes = λ k. refl };
-  }
 
   -- and so does one after an event that takes place
   follows_after : (line line' : LineState V) (o : Once V) (acts : List Act) (event : Event) (answer : Stepped) → Fits event → Follows line o acts → StepsAs step taken line o event answer line'
@@ -146,14 +145,34 @@ module _ {V : Type 0} (step : Step V) (taken : Taken V) (address : ℕ) (opening
         outstanding = lent line is f.at_address;
       }
 
-  -- any list of steps from a new line keeps the headline
-  pub headline : (events : List Event) (outcomes : List Outcome) (line : LineState V) (o : Once V) → Plays step taken (new_line address opening) (at_first opening) events outcomes line o → IsHeadline step taken address opening (history_by events outcomes) line
-  headline events outcomes line o plays = headline_of line o (history_by events outcomes) (follows_on (new_line address opening) (at_first opening) [] events outcomes line o follows_new plays)
+-- a line of an encoder that is ready, with nothing open, follows
+follows_from : {V : Type 0} (step : Step V) (taken : Taken V) (e : EncoderState V) → IsReady e.ring → e.part ≡ Closed → Follows step taken e.address e.value (line_from e) (at_first e.value) []
+follows_from step taken e ready shut = record {
+  is_line = line_ready e ready shut;
+  at_address = refl;
+  holds = holds_from e shut;
+  folded_is = record { order = refl; value = refl; codes = λ k. refl };
+}
 
-  -- and of its two ends, beside whatever the line holds, the law of numbers holds
-  pub numbers : (events : List Event) (outcomes : List Outcome) (line : LineState V) (o : Once V) → Plays step taken (new_line address opening) (at_first opening) events outcomes line o
+-- any list of steps from there keeps the headline
+pub headline_from : {V : Type 0} (step : Step V) (taken : Taken V) (e : EncoderState V) → IsReady e.ring → e.part ≡ Closed → (events : List Event) (outcomes : List Outcome) (line : LineState V) (o : Once V)
+    → Plays step taken (line_from e) (at_first e.value) events outcomes line o → IsHeadline step taken e.address e.value (history_by events outcomes) line
+headline_from step taken e ready shut events outcomes line o plays =
+    headline_of step taken e.address e.value line o (history_by events outcomes) (follows_on step taken e.address e.value (line_from e) (at_first e.value) [] events outcomes line o (follows_from step taken e ready shut) plays)
+
+-- and of its two ends, beside whatever the line holds, the law of numbers holds
+pub numbers_on : {V : Type 0} (step : Step V) (taken : Taken V) (e : EncoderState V) → IsReady e.ring → e.part ≡ Closed → (events : List Event) (outcomes : List Outcome) (line : LineState V) (o : Once V)
+    → Plays step taken (line_from e) (at_first e.value) events outcomes line o → (o' : Once V) → Holds line o' → Numbers step e.address (world_of line o') (length line.codes)
+numbers_on {V} step taken e ready shut events outcomes line o plays o' h =
+    let f = follows_on step taken e.address e.value (line_from e) (at_first e.value) [] events outcomes line o (follows_from step taken e ready shut) plays in
+    numbers_from step e.address (world_of line o') (length line.codes) (let_go line)
+    (subst (λ (a : ℕ). Kept a line.encoder line.server o' (length line.codes) (let_go line)) f.at_address (kept_at line o' f.is_line h))
+
+module _ {V : Type 0} (step : Step V) (taken : Taken V) (address : ℕ) (value : V) where
+  -- from a new line
+  pub headline : (events : List Event) (outcomes : List Outcome) (line : LineState V) (o : Once V) → Plays step taken (new_line address value) (at_first value) events outcomes line o → IsHeadline step taken address value (history_by events outcomes) line
+  headline events outcomes line o plays = headline_from step taken (opening address value) ready_at_first refl events outcomes line o plays
+
+  pub numbers : (events : List Event) (outcomes : List Outcome) (line : LineState V) (o : Once V) → Plays step taken (new_line address value) (at_first value) events outcomes line o
       → (o' : Once V) → Holds line o' → Numbers step address (world_of line o') (length line.codes)
-  numbers events outcomes line o plays o' h =
-      let f = follows_on (new_line address opening) (at_first opening) [] events outcomes line o follows_new plays in
-      numbers_from step address (world_of line o') (length line.codes) (let_go line)
-      (subst (λ (a : ℕ). Kept a line.encoder line.server o' (length line.codes) (let_go line)) f.at_address (kept_at line o' f.is_line h))
+  numbers events outcomes line o plays o' h = numbers_on step taken (opening address value) ready_at_first refl events outcomes line o plays o' h

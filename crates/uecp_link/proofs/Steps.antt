@@ -81,37 +81,37 @@ ring_answers address e s o p q kept k l r =
       | inl below ↦
           let some : is_some (o.codes k) ≡ true = kept.applied k ∙ lt-ltb k p below in
           let near : p ≤ k + 127 = omega (arith, kept.p_le) in
-          kept_code-found (code_at o.codes) 127 p k (omega arith) below near ∙ some_code_at (o.codes k) some
+          kept_code-found kept.base (code_at o.codes) 127 p k (omega arith) below near ∙ some_code_at (o.codes k) some
       | inr above ↦
           let none : is_some (o.codes k) ≡ false = kept.applied k ∙ le-ltb k p above in
           let far : k + 127 < p + 255 = omega (arith, kept.q_le, kept.count_is, kept.few) in
-          kept_code-absent (code_at o.codes) 127 p k above far ∙ none_of (o.codes k) none
+          kept_code-absent kept.base (code_at o.codes) 127 p k kept.ready above far ∙ none_of (o.codes k) none
     ])
 
 -- of the numbers that are not applied, the encoder takes the next alone
-pub in_turn : {V : Type 0} (address : ℕ) (e : EncoderState V) (s : ServerState) (o : Once V) (p q : ℕ) → Kept address e s o p q
-    → (k : ℕ) → k < length o.sent → o.codes k ≡ None → is_next_kept (take 127 (pairs (code_at o.codes) p)) (counter_of k) ≡ (k == p)
+pub in_turn : {V : Type 0} (address : ℕ) (e : EncoderState V) (s : ServerState) (o : Once V) (p q : ℕ) (kept : Kept address e s o p q)
+    → (k : ℕ) → k < length o.sent → o.codes k ≡ None → is_next_kept (take 127 (pairs kept.base (code_at o.codes) p)) (counter_of k) ≡ (k == p)
 in_turn address e s o p q kept k below is =
     let n = sent_le address e s o p q kept in
     let above : p ≤ k = ltb-false k p (sym (kept.applied k) ∙ is_none-of (o.codes k) is) in
-    turn_is o.codes p k above (omega (arith, n.1, kept.q_le))
+    turn_is kept.base kept.ready o.codes p k above (omega (arith, n.1, kept.q_le))
 
 pub reply_fits : (address k : ℕ) (code : Code) → length (reply_of address (counter_of k) code).message ≤ 255
 reply_fits address k code = omega arith
 
 -- keeping the next number's code
-pub ring_next : (codes : ℕ → Option Code) (p k : ℕ) (c : Code) → k ≡ p
-    → keep (take 127 (pairs (code_at codes) p)) (counter_of k) c ≡ take 127 (pairs (code_at (with_code codes k c)) (p + 1))
-ring_next codes p k c e =
+pub ring_next : (base : List (ℕ × Code)) (codes : ℕ → Option Code) (p k : ℕ) (c : Code) → k ≡ p
+    → keep (take 127 (pairs base (code_at codes) p)) (counter_of k) c ≡ take 127 (pairs base (code_at (with_code codes k c)) (p + 1))
+ring_next base codes p k c e =
     let codes' : ℕ → Option Code = with_code codes k c in
-    let agree : pairs (code_at codes) p ≡ pairs (code_at codes') p = pairs_agree (code_at codes) (code_at codes') p (λ j l. ap (λ o. unwrap_or o Applied) (sym (with_code-other codes k c j (omega arith)))) in
+    let agree : pairs base (code_at codes) p ≡ pairs base (code_at codes') p = pairs_agree base (code_at codes) (code_at codes') p (λ j l. ap (λ o. unwrap_or o Applied) (sym (with_code-other codes k c j (omega arith)))) in
     let here : code_at codes' p ≡ c = ap (code_at codes') (sym e) ∙ code_at-some codes' k c (with_code-same codes k c) in
     let more : suc p ≡ p + 1 = omega arith in
     ap (λ xs. keep (take 127 xs) (counter_of k) c) agree
-    ∙ (ap (λ j. keep (take 127 (pairs (code_at codes') p)) (counter_of j) c) e
-    ∙ (ap (λ d. keep (take 127 (pairs (code_at codes') p)) (counter_of p) d) (sym here)
-    ∙ (keep_next (code_at codes') p
-    ∙ ap (λ n. take 127 (pairs (code_at codes') n)) more)))
+    ∙ (ap (λ j. keep (take 127 (pairs base (code_at codes') p)) (counter_of j) c) e
+    ∙ (ap (λ d. keep (take 127 (pairs base (code_at codes') p)) (counter_of p) d) (sym here)
+    ∙ (keep_next base (code_at codes') p
+    ∙ ap (λ n. take 127 (pairs base (code_at codes') n)) more)))
 
 pub quiet_none : is_quiet [] ≡ true
 quiet_none = rw found_none refl
@@ -143,6 +143,8 @@ module _ {V : Type 0} (step : Step V) (taken : Taken V) (address : ℕ) where
               ∙ ap (λ (c : ℕ). held_from o.sent o.acknowledged q kept.count ++ record { counter = c; message = m; marked = false } ∷ []) counter
               ∙ held_from-submitted o.sent m o.acknowledged q kept.count n refl kept.count_is new;
         };
+        base = kept.base;
+        ready = kept.ready;
         count_is = omega (arith, more, kept.count_is);
         few = omega (arith, room, kept.count_is);
         below = kept.below;
@@ -164,19 +166,21 @@ module _ {V : Type 0} (step : Step V) (taken : Taken V) (address : ℕ) where
       let below : k < length o.sent = ltb-true k (length o.sent) tests.0 in
       let near : length o.sent ≤ k + 127 = recent_le (length o.sent) k tests.1 in
       let answers : kept_code e.ring (counter_of k) ≡ o.codes k = ring_answers address e s o p q kept k below near in
-      let came = fed_frame step e address o.value (take 127 (pairs (code_at o.codes) p)) (frame_of address o k) (kept.fits k) kept.encoder in
+      let came = fed_frame step e address o.value (take 127 (pairs kept.base (code_at o.codes) p)) (frame_of address o k) (kept.fits k) kept.encoder in
       let reached : reaches address came.0.address ≡ true = rw came.1.address (reaches_self address) in
       let some_number : counter_of k ≡ 0 → ⊥ = λ h. omega arith in
       let whole : fed step e (spelling (frame_of address o k)) ≡ numbered step came.0 (frame_of address o k) (kept_code came.0.ring (counter_of k)) = came.2 ∙ after_whole step came.0 (frame_of address o k) reached some_number in
       let known : kept_code came.0.ring (counter_of k) ≡ o.codes k = rw (came.1.ring, ← kept.encoder.ring) answers in
       rw (whole, known) (go (o.codes k) refl came.0 came.1 below)
     where
-      go : (c : Option Code) → o.codes k ≡ c → (e' : EncoderState V) → EncoderIs e' address o.value (take 127 (pairs (code_at o.codes) p)) → k < length o.sent
+      go : (c : Option Code) → o.codes k ≡ c → (e' : EncoderState V) → EncoderIs e' address o.value (take 127 (pairs kept.base (code_at o.codes) p)) → k < length o.sent
           → Kept address (numbered step e' (frame_of address o k) c) s (delivered step o k c) (one_more p c (is_next_number o.codes (length o.sent) k)) q
       go (Some c) is e' e'_is below = record {
         encoder = record { address = e'_is.address; value = e'_is.value; ring = e'_is.ring };
         count = kept.count;
         server = kept.server;
+        base = kept.base;
+        ready = kept.ready;
         count_is = kept.count_is;
         few = kept.few;
         below = kept.below;
@@ -202,10 +206,12 @@ module _ {V : Type 0} (step : Step V) (taken : Taken V) (address : ℕ) where
                 encoder = record {
                   address = e'_is.address;
                   value = ap (λ x. (step x m).0) e'_is.value;
-                  ring = ap (λ r. keep r (counter_of k) (step e'.value m).1) e'_is.ring ∙ (ap (λ x. keep (take 127 (pairs (code_at o.codes) p)) (counter_of k) (step x m).1) e'_is.value ∙ ring_next o.codes p k code next);
+                  ring = ap (λ r. keep r (counter_of k) (step e'.value m).1) e'_is.ring ∙ (ap (λ x. keep (take 127 (pairs kept.base (code_at o.codes) p)) (counter_of k) (step x m).1) e'_is.value ∙ ring_next kept.base o.codes p k code next);
                 };
                 count = kept.count;
                 server = kept.server;
+                base = kept.base;
+                ready = kept.ready;
                 count_is = kept.count_is;
                 few = kept.few;
                 below = kept.below;
@@ -220,6 +226,8 @@ module _ {V : Type 0} (step : Step V) (taken : Taken V) (address : ℕ) where
             encoder = record { address = e'_is.address; value = e'_is.value; ring = e'_is.ring };
             count = kept.count;
             server = kept.server;
+            base = kept.base;
+            ready = kept.ready;
             count_is = kept.count_is;
             few = kept.few;
             below = kept.below;
@@ -257,6 +265,8 @@ module _ {V : Type 0} (step : Step V) (taken : Taken V) (address : ℕ) where
         encoder = kept.encoder;
         count = count;
         server = is;
+        base = kept.base;
+        ready = kept.ready;
         count_is = all;
         few = omega (arith, all, kept.count_is, kept.few, from_);
         below = below_all;
@@ -331,9 +341,11 @@ module _ {V : Type 0} (step : Step V) (taken : Taken V) (address : ℕ) where
   pub keeps_noise_to_encoder : (e : EncoderState V) (s : ServerState) (o : Once V) (p q : ℕ) (x : List ℕ) → has_frame (found_beyond e.part x) ≡ false
       → Kept address e s o p q → Kept address (fed step e x) s (after step taken o (NoiseToEncoder x)) p q
   keeps_noise_to_encoder e s o p q x none kept = record {
-    encoder = fed_faults step e address o.value (take 127 (pairs (code_at o.codes) p)) x none kept.encoder;
+    encoder = fed_faults step e address o.value (take 127 (pairs kept.base (code_at o.codes) p)) x none kept.encoder;
     count = kept.count;
     server = kept.server;
+    base = kept.base;
+    ready = kept.ready;
     count_is = kept.count_is;
     few = kept.few;
     below = kept.below;
@@ -351,6 +363,8 @@ module _ {V : Type 0} (step : Step V) (taken : Taken V) (address : ℕ) where
     encoder = kept.encoder;
     count = kept.count;
     server = heard_bytes_faults s address (last_counter (length o.sent)) (held_from o.sent o.acknowledged q kept.count) x none kept.server;
+    base = kept.base;
+    ready = kept.ready;
     count_is = kept.count_is;
     few = kept.few;
     below = kept.below;
@@ -368,6 +382,8 @@ module _ {V : Type 0} (step : Step V) (taken : Taken V) (address : ℕ) where
     encoder = record { address = kept.encoder.address; value = kept.encoder.value; ring = kept.encoder.ring };
     count = kept.count;
     server = kept.server;
+    base = kept.base;
+    ready = kept.ready;
     count_is = kept.count_is;
     few = kept.few;
     below = kept.below;
@@ -385,6 +401,8 @@ module _ {V : Type 0} (step : Step V) (taken : Taken V) (address : ℕ) where
     encoder = kept.encoder;
     count = kept.count;
     server = record { address = kept.server.address; last = kept.server.last; held = kept.server.held };
+    base = kept.base;
+    ready = kept.ready;
     count_is = kept.count_is;
     few = kept.few;
     below = kept.below;
@@ -402,6 +420,8 @@ module _ {V : Type 0} (step : Step V) (taken : Taken V) (address : ℕ) where
     encoder = record { address = kept.encoder.address; value = ap (λ v. (taken v).0) kept.encoder.value; ring = kept.encoder.ring };
     count = kept.count;
     server = kept.server;
+    base = kept.base;
+    ready = kept.ready;
     count_is = kept.count_is;
     few = kept.few;
     below = kept.below;

@@ -23,6 +23,7 @@ waits_none remaining s reader = record {
   consumed = Consumes-nil _;
   state = sym (heard_none s);
   silent = nothing_acknowledged s;
+  bring = omega arith;
   few_bytes = omega arith;
   calls = λ h. omega arith;
   read_failures = refl;
@@ -30,13 +31,14 @@ waits_none remaining s reader = record {
 
 -- one read more, which brings no acknowledgement
 pub waits_on : {R : Type 0} (remaining : R → Option (List ℕ)) (s0 s1 s2 : ServerState) (r0 r1 r2 : Metered R) (reads : ℕ) (piece : List ℕ) → Waits remaining s0 s1 r0 r1 reads →
-    Consumes (remaining r1.device) (remaining r2.device) piece → length piece ≤ 64 → s2 ≡ heard s1 piece → acknowledged_in s1 piece ≡ None → r2.calls ≡ counted r1.calls → r2.failures ≡ r1.failures →
+    Consumes (remaining r1.device) (remaining r2.device) piece → length piece ≤ 64 → 0 < length piece → s2 ≡ heard s1 piece → acknowledged_in s1 piece ≡ None → r2.calls ≡ counted r1.calls → r2.failures ≡ r1.failures →
     Waits remaining s0 s2 r0 r2 (reads + 1)
-waits_on remaining s0 s1 s2 r0 r1 r2 reads piece so_far took few state silent calls failures = record {
+waits_on remaining s0 s1 s2 r0 r1 r2 reads piece so_far took few some state silent calls failures = record {
   read = so_far.read ++ piece;
   consumed = Consumes-trans _ _ _ _ _ so_far.consumed took;
   state = state ∙ ap (λ d. heard d piece) so_far.state ∙ sym (server_in_pieces s0 so_far.read piece).state;
   silent = acknowledged_later s0 so_far.read piece so_far.silent ∙ ap (λ d. acknowledged_in d piece) (sym so_far.state) ∙ silent;
+  bring = omega (arith, length-append so_far.read piece, some, so_far.bring);
   few_bytes = omega (arith, length-append so_far.read piece, few, so_far.few_bytes);
   calls = λ h. omega (arith, calls, so_far.calls (omega (arith, h)), h);
   read_failures = failures ∙ so_far.read_failures;
@@ -54,6 +56,7 @@ nothing_came remaining s0 s1 r0 r1 turns reads so_far all = record {
   consumed = so_far.consumed;
   state = so_far.state;
   hears = (so_far.silent, inr (refl, all));
+  bring = λ goes_on. omega (arith, so_far.bring);
   few_reads = omega (arith, all);
   few_bytes = so_far.few_bytes;
   calls = so_far.calls;
@@ -71,6 +74,7 @@ read_failed remaining s0 s1 r0 r1 r2 turns reads so_far kept calls failures belo
   consumed = Consumes-kept _ _ _ _ so_far.consumed kept;
   state = so_far.state;
   hears = (so_far.silent, inl (refl, omega arith));
+  bring = λ goes_on. omega (arith, so_far.bring);
   few_reads = omega (arith, below);
   few_bytes = omega (arith, so_far.few_bytes);
   calls = λ h. omega (arith, calls, so_far.calls (omega (arith, h)), h);
@@ -88,6 +92,7 @@ input_ended remaining s0 s1 r0 r1 r2 turns reads so_far took end calls failures 
   consumed = Consumes-trans _ _ _ _ _ so_far.consumed took;
   state = so_far.state ∙ ap (heard s0) (sym (append-nil so_far.read));
   hears = (ap (acknowledged_in s0) (append-nil so_far.read) ∙ so_far.silent, refl, omega arith, end);
+  bring = λ goes_on. absurd (goes_on refl);
   few_reads = omega (arith, below);
   few_bytes = omega (arith, so_far.few_bytes, ap length (append-nil so_far.read));
   calls = λ h. omega (arith, calls, so_far.calls (omega (arith, h)), h);
@@ -96,9 +101,9 @@ input_ended remaining s0 s1 r0 r1 r2 turns reads so_far took end calls failures 
 
 -- a read brought the acknowledgement
 pub reply_came : {R : Type 0} (remaining : R → Option (List ℕ)) (s0 s1 s2 : ServerState) (r0 r1 r2 : Metered R) (turns reads : ℕ) (piece : List ℕ) (code : Code) → Waits remaining s0 s1 r0 r1 reads →
-    Consumes (remaining r1.device) (remaining r2.device) piece → length piece ≤ 64 → s2 ≡ heard s1 piece → acknowledged_in s1 piece ≡ Some code → r2.calls ≡ counted r1.calls → r2.failures ≡ r1.failures →
+    Consumes (remaining r1.device) (remaining r2.device) piece → length piece ≤ 64 → 0 < length piece → s2 ≡ heard s1 piece → acknowledged_in s1 piece ≡ Some code → r2.calls ≡ counted r1.calls → r2.failures ≡ r1.failures →
     reads < turns → Listens remaining s0 s2 r0 r2 turns (listened.Acknowledged code)
-reply_came remaining s0 s1 s2 r0 r1 r2 turns reads piece code so_far took few state comes calls failures below = record {
+reply_came remaining s0 s1 s2 r0 r1 r2 turns reads piece code so_far took few some state comes calls failures below = record {
   read = so_far.read ++ piece;
   reads = reads + 1;
   failed = 0;
@@ -109,6 +114,7 @@ reply_came remaining s0 s1 s2 r0 r1 r2 turns reads piece code so_far took few st
     refl,
     omega arith,
   );
+  bring = λ goes_on. omega (arith, length-append so_far.read piece, some, so_far.bring);
   few_reads = omega (arith, below);
   few_bytes = omega (arith, length-append so_far.read piece, few, so_far.few_bytes);
   calls = λ h. omega (arith, calls, so_far.calls (omega (arith, h)), h);
@@ -151,6 +157,7 @@ tried_none remaining contents s reader writer turns = record {
   appended = Appends-nil _;
   state = sym (heard_none s);
   silent = nothing_acknowledged s;
+  bring = omega arith;
   bytes_are = refl;
   few_written = omega arith;
   few_failed = omega arith;
@@ -191,6 +198,7 @@ module _ {R W : Type 0} (remaining : R → Option (List ℕ)) (contents : W → 
         appended = one_more contents s0 s1 w0 w1 w2 so_far.read t so_far.silent so_far.state so_far.appended wrote;
         state = try.state ∙ ap (λ d. heard d try.read) so_far.state ∙ sym (server_in_pieces s0 so_far.read try.read).state;
         silent = acknowledged_later s0 so_far.read try.read so_far.silent ∙ ap (λ d. acknowledged_in d try.read) (sym so_far.state) ∙ try.hears.0;
+        bring = omega (arith, length-append so_far.read try.read, so_far.bring, try.bring (λ ended. cc));
         bytes_are = omega (arith, so_far.bytes_are, sent_is, more_bytes s0 s1 so_far.read t so_far.silent so_far.state);
         few_written = omega (arith, so_far.few_written, sent_is, short);
         few_failed = counts.0;
@@ -237,6 +245,7 @@ module _ {R W : Type 0} (remaining : R → Option (List ℕ)) (contents : W → 
           omega (arith, so_far.bytes_are, within, more_bytes s0 s1 so_far.read t so_far.silent so_far.state),
           so_far.silent,
         );
+        bring = λ goes_on. so_far.bring;
         made = (omega (arith, so_far.few_failed), reads_from so_far.failed t turns so_far.reads (t + 1 - 1 - so_far.failed) (omega (arith, so_far.few_failed)) so_far.made);
         few_reads = omega (arith, so_far.few_reads);
         few_bytes = so_far.few_bytes;
@@ -265,6 +274,7 @@ module _ {R W : Type 0} (remaining : R → Option (List ℕ)) (contents : W → 
       refl,
       acknowledged_after s0 so_far.read try.read code so_far.silent (subst (λ d. IsAcknowledged d try.read code) so_far.state try.hears.0),
     );
+    bring = λ goes_on. omega (arith, length-append so_far.read try.read, so_far.bring, try.hears.1, try.bring (λ ended. cc));
     made = (omega (arith, so_far.few_failed), omega (arith, try.hears.2, reads_from so_far.failed t turns so_far.reads (t + 1 - 1 - so_far.failed) (omega (arith, so_far.few_failed)) so_far.made));
     few_reads = omega (arith, so_far.few_reads, try.few_reads);
     few_bytes = omega (arith, length-append so_far.read try.read, so_far.few_bytes, try.few_bytes);
@@ -293,6 +303,7 @@ module _ {R W : Type 0} (remaining : R → Option (List ℕ)) (contents : W → 
       acknowledged_later s0 so_far.read try.read so_far.silent ∙ ap (λ d. acknowledged_in d try.read) (sym so_far.state) ∙ try.hears.0,
       try.hears.3,
     );
+    bring = λ goes_on. absurd (goes_on refl);
     made = (omega (arith, so_far.few_failed), omega (arith, try.hears.2, reads_from so_far.failed t turns so_far.reads (t + 1 - 1 - so_far.failed) (omega (arith, so_far.few_failed)) so_far.made));
     few_reads = omega (arith, so_far.few_reads, try.few_reads);
     few_bytes = omega (arith, length-append so_far.read try.read, so_far.few_bytes, try.few_bytes);
@@ -314,6 +325,7 @@ module _ {R W : Type 0} (remaining : R → Option (List ℕ)) (contents : W → 
     appended = so_far.appended;
     state = so_far.state;
     ends = (all, ap (copies (frame_sent s0)) all, so_far.silent);
+    bring = λ goes_on. so_far.bring;
     made = (so_far.few_failed, reads_from so_far.failed t turns so_far.reads (t - so_far.failed) (omega (arith, so_far.few_failed)) so_far.made);
     few_reads = so_far.few_reads;
     few_bytes = so_far.few_bytes;

@@ -1,5 +1,5 @@
 -- What `drive` and `resend` do over a reader and a writer; a reader has to believe it. Source: profile.
-use Rattle.std.specs.Prelude.{◌≡◌, ℕ, ◌+◌, ◌-◌, ◌*◌, ◌^◌, ◌<◌, ◌≤◌, zero, suc, List, [], ◌∷◌, ◌++◌, length, take, Option, Some, None, Result, Ok, Err}
+use Rattle.std.specs.Prelude.{◌≡◌, ◌≢◌, ℕ, ◌+◌, ◌-◌, ◌*◌, ◌^◌, ◌<◌, ◌≤◌, zero, suc, List, [], ◌∷◌, ◌++◌, length, take, Option, Some, None, Result, Ok, Err}
 use Rattle.std.specs.Option.{option_or, option_map}
 use Rattle.std.specs.Io.KnownBytes.{Appends, Consumes, IsAtEnd}
 use Rattle.uecp_frame.specs.Findings.{Finding}
@@ -85,6 +85,7 @@ write_failures (Err Closed) failures = failures
 write_failures (Err TriesSpent) failures = failures
 
 -- A call from one state of the server to another, over a reader and a writer before and after it: what was read and sent, in how many tries and reads, and how it ended.
+-- Unless the input ended, the reads that did not fail brought a byte each at least, taken together.
 pub record Drives {R W : Type 0} (remaining : R → Option (List ℕ)) (contents : W → Option (List ℕ)) (old new : ServerState) (reader reader' : Metered R) (writer writer' : Metered W) (tries turns : ℕ) (result : Result Driven DriveFault) : Type 0 where
   pub read : List ℕ
   pub sent : List ℕ
@@ -95,6 +96,7 @@ pub record Drives {R W : Type 0} (remaining : R → Option (List ℕ)) (contents
   pub appended : Appends (contents writer.device) (contents writer'.device) sent
   pub state : new ≡ heard old read
   pub ends : Ends old read sent (remaining reader'.device) tries begun result
+  pub bring : result ≢ Err Closed → reads ≤ length read + failed
   pub made : ReadsMade result turns begun reads failed
   pub few_reads : reads ≤ begun * turns
   pub few_bytes : length read ≤ 64 * reads

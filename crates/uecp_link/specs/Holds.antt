@@ -106,6 +106,10 @@ pub record RunsAs {V : Type 0} (step : Step V) (taken : Taken V) (old : LineStat
   pub count : refused ≡ count_by is_err outcomes
   pub holds : Holds new last
 
+-- A line of this encoder and a new server for it, and nothing sent.
+abbrev pub line_from : {V : Type 0} → EncoderState V → LineState V
+line_from e = record { encoder = e; server = idle_at e.address; sent = []; codes = [] }
+
 -- A new line has two new ends, and nothing sent.
 abbrev pub new_line : {V : Type 0} → ℕ → V → LineState V
-new_line address value = record { encoder = opening address value; server = idle_at address; sent = []; codes = [] }
+new_line address value = line_from (opening address value)

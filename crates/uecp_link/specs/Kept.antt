@@ -1,17 +1,24 @@
 -- What holds of a line at every moment, by how many numbers were applied and acknowledged; for proofs alone, but for `Hears`. Source: profile.
-use Rattle.std.specs.Prelude.{ℕ, zero, suc, ◌≡◌, ◌+◌, ◌<◌, ◌≤◌, nat_lt, Bool, true, false, List, [], ◌∷◌, length, take, Option, is_some, unwrap_or}
+use Rattle.std.specs.Prelude.{ℕ, zero, suc, ◌≡◌, ◌+◌, ◌<◌, ◌≤◌, nat_lt, Bool, true, false, List, [], ◌∷◌, length, map, take, Option, is_some, unwrap_or}
 use Rattle.uecp_elements.specs.declared.code.Code.{Code}
 use Rattle.uecp_elements.specs.declared.code.Code.TheVariants.{Applied}
 use Rattle.uecp_frame.specs.Findings.{is_quiet, open_part}
 use Rattle.uecp_encoder.specs.State.{EncoderState}
+use Rattle.uecp_encoder.specs.Joining.{falling}
 use Rattle.uecp_link.specs.Counters.{counter_of}
 use Rattle.uecp_link.specs.Server.{ServerState, Held}
 use Rattle.uecp_link.specs.Once.{Once, message_at}
 
--- The pairs of counter and code of all numbers below p, the newest first.
-abbrev pub pairs : (ℕ → Code) → ℕ → List (ℕ × Code)
-pairs c zero = []
-pairs c (suc p) = (counter_of p, c p) ∷ pairs c p
+-- What an encoder may keep when a line begins: the replies to FF and so many before it, the newest first, 127 at most. A new encoder keeps none, one that has joined
+-- all of these. A reader has to believe it.
+pub record IsReady (base : List (ℕ × Code)) : Type 0 where
+  pub counters : map (λ pair. pair.0) base ≡ falling 0xFF (length base)
+  pub few : length base ≤ 127
+
+-- The pairs of counter and code of all numbers below p, the newest first, and behind them those that were kept when the line began.
+abbrev pub pairs : List (ℕ × Code) → (ℕ → Code) → ℕ → List (ℕ × Code)
+pairs base c zero = base
+pairs base c (suc p) = (counter_of p, c p) ∷ pairs base c p
 
 -- The server's last counter after n messages.
 abbrev pub last_counter : ℕ → ℕ
@@ -50,7 +57,9 @@ pub record ServerIs (s : ServerState) (a l : ℕ) (hs : List Held) : Type 0 wher
 -- Of a line's numbers those below p are applied, those below q acknowledged, and no number that is not applied; the encoder keeps the last 127 of the
 -- applied ones, and the server holds the numbers from q on, eight at most, of which q is not acknowledged.
 pub record Kept {V : Type 0} (address : ℕ) (e : EncoderState V) (s : ServerState) (o : Once V) (p q : ℕ) : Type 0 where
-  pub encoder : EncoderIs e address o.value (take 127 (pairs (code_at o.codes) p))
+  pub base : List (ℕ × Code)
+  pub ready : IsReady base
+  pub encoder : EncoderIs e address o.value (take 127 (pairs base (code_at o.codes) p))
   pub count : ℕ
   pub server : ServerIs s address (last_counter (length o.sent)) (held_from o.sent o.acknowledged q count)
   pub count_is : length o.sent ≡ q + count

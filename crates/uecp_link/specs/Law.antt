@@ -70,9 +70,13 @@ abbrev pub run : {V : Type 0} → Step V → Taken V → ℕ → World V → Lis
 run step taken address w [] = w
 run step taken address w (event ∷ events) = run step taken address (happens step taken address w event) events
 
+-- This encoder, and a new server for it and a new once-machine.
+abbrev pub start_from : {V : Type 0} → EncoderState V → World V
+start_from e = record { encoder = e; server = idle_at e.address; once = at_first e.value }
+
 -- Two new ends and a new once-machine.
 abbrev pub start : {V : Type 0} → ℕ → V → World V
-start address value = record { encoder = opening address value; server = idle_at address; once = at_first value }
+start address value = start_from (opening address value)
 
 -- A message that is submitted fits a frame: it has at most 255 bytes.
 abbrev pub Fits : Event → Type 0
@@ -111,6 +115,12 @@ abbrev pub Law : {V : Type 0} → Step V → Taken V → ℕ → V → List Even
 Law step taken address opening events =
     let w = run step taken address (start address opening) events in
     (p : ℕ) × Numbers step address w p × Values step taken opening w p (history step taken (at_first opening) events)
+
+-- The same from an encoder that is there.
+abbrev pub LawFrom : {V : Type 0} → Step V → Taken V → EncoderState V → List Event → Type 0
+LawFrom step taken e events =
+    let w = run step taken e.address (start_from e) events in
+    (p : ℕ) × Numbers step e.address w p × Values step taken e.value w p (history step taken (at_first e.value) events)
 
 -- A target that keeps all messages and answers any code, for stating the law of numbers alone.
 abbrev pub all_kept : (List (List ℕ) → List ℕ → Code) → Step (List (List ℕ))

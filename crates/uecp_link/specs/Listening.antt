@@ -1,5 +1,5 @@
 -- What one try of `resend` hears, and what tries that brought nothing come to; for proofs alone, as the contracts of private functions. Source: profile.
-use Rattle.std.specs.Prelude.{◌≡◌, ℕ, ◌+◌, ◌*◌, ◌^◌, ◌<◌, ◌≤◌, ◌⊎◌, List, length, Option, None}
+use Rattle.std.specs.Prelude.{◌≡◌, ◌≢◌, ℕ, ◌+◌, ◌*◌, ◌^◌, ◌<◌, ◌≤◌, ◌⊎◌, List, length, Option, None}
 use Rattle.std.specs.Io.KnownBytes.{Appends, Consumes, IsAtEnd}
 use Rattle.uecp_encoder.specs.Metered.{Metered}
 use Rattle.uecp_link.specs.declared.driving.Listened.{Listened}
@@ -21,6 +21,7 @@ pub record Listens {R : Type 0} (remaining : R → Option (List ℕ)) (old new :
   pub consumed : Consumes (remaining reader.device) (remaining reader'.device) read
   pub state : new ≡ heard old read
   pub hears : Hears old read (remaining reader'.device) turns reads failed result
+  pub bring : result ≢ listened.Ended → reads ≤ length read + failed
   pub few_reads : reads ≤ turns
   pub few_bytes : length read ≤ 64 * reads
   pub calls : reader.calls + reads < 2 ^ 128 → reader'.calls ≡ reader.calls + reads
@@ -32,6 +33,7 @@ pub record Waits {R : Type 0} (remaining : R → Option (List ℕ)) (old new : S
   pub consumed : Consumes (remaining reader.device) (remaining reader'.device) read
   pub state : new ≡ heard old read
   pub silent : acknowledged_in old read ≡ None
+  pub bring : reads ≤ length read
   pub few_bytes : length read ≤ 64 * reads
   pub calls : reader.calls + reads < 2 ^ 128 → reader'.calls ≡ reader.calls + reads
   pub read_failures : reader'.failures ≡ reader.failures
@@ -45,6 +47,7 @@ pub record Tried {R W : Type 0} (remaining : R → Option (List ℕ)) (contents 
   pub appended : Appends (contents writer.device) (contents writer'.device) (copies (frame_sent old) begun)
   pub state : new ≡ heard old read
   pub silent : acknowledged_in old read ≡ None
+  pub bring : reads ≤ length read + failed
   pub bytes_are : bytes ≡ length (copies (frame_sent old) begun)
   pub few_written : bytes ≤ 524 * begun
   pub few_failed : failed ≤ begun

@@ -66,6 +66,7 @@ pub record Windows {R W : Type 0} (remaining : R → Option (List ℕ)) (content
   pub state : new ≡ heard old read
   pub marked : marks' ≡ marks ++ marks_in old read
   pub ends : WindowEnds old new read sent (remaining reader'.device) turns reads failed result
+  pub bring : result ≢ Err Closed → reads ≤ length read + failed
   pub few_reads : reads ≤ turns
   pub few_bytes : length read ≤ 64 * reads
   pub calls : reader.calls + reads < 2 ^ 128 → reader'.calls ≡ reader.calls + reads
@@ -81,6 +82,7 @@ pub record Gathers {R : Type 0} (remaining : R → Option (List ℕ)) (old new :
   pub state : new ≡ heard old read
   pub marked : marks' ≡ marks ++ marks_in old read
   pub ends : ReadsEnd old new read (remaining reader'.device) turns reads failed result
+  pub bring : result ≢ Err Closed → reads ≤ length read + failed
   pub few_reads : reads ≤ turns
   pub few_bytes : length read ≤ 64 * reads
   pub calls : reader.calls + reads < 2 ^ 128 → reader'.calls ≡ reader.calls + reads
@@ -93,6 +95,7 @@ pub record Gathered {R : Type 0} (remaining : R → Option (List ℕ)) (old new 
   pub state : new ≡ heard old read
   pub marked : marks' ≡ marks ++ marks_in old read
   pub busy : new.held ≢ []
+  pub bring : reads ≤ length read
   pub room : length marks' + length (waiting new) ≡ length marks + length (waiting old)
   pub few_bytes : length read ≤ 64 * reads
   pub calls : reader.calls + reads < 2 ^ 128 → reader'.calls ≡ reader.calls + reads

@@ -1,10 +1,14 @@
 //! Laws of the definitions, each the contract of a function that does nothing.
-ghost use Rattle.std.specs.Prelude.{List, ℕ};
+ghost use Rattle.std.specs.Prelude.{◌≡◌, List, map, ℕ};
 ghost use Rattle.std.specs.List.{AllByRecursion};
 ghost use Rattle.uecp_elements.specs.declared.code.Code.{Code};
+ghost use Rattle.uecp_frame.specs.Findings.{Closed};
+ghost use Rattle.uecp_encoder.specs.State.{EncoderState};
+ghost use Rattle.uecp_encoder.specs.Joining.{falling};
 ghost use Rattle.uecp_encoder.specs.Target.{Taken};
-ghost use Rattle.uecp_link.specs.Law.{Law, NumbersLaw, Fits};
-ghost use Rattle.uecp_link.specs.Holds.{LineState, Outcome, Plays, history_by, new_line};
+ghost use Rattle.uecp_link.specs.Kept.{IsReady};
+ghost use Rattle.uecp_link.specs.Law.{Law, LawFrom, NumbersLaw, Fits};
+ghost use Rattle.uecp_link.specs.Holds.{LineState, Outcome, Plays, history_by, line_from, new_line};
 ghost use Rattle.uecp_link.specs.Once.{Event, Once, at_first};
 ghost use Rattle.uecp_link.specs.Headline.{IsHeadline};
 ghost use Rattle.uecp_link.specs.Using.{IsDone, after_all_come};
@@ -26,6 +30,22 @@ pub fn once_and_in_order<T: Target>()
 /// Any list of steps from a new line keeps the headline, whatever the steps answered, with the history that their answers tell.
 pub fn steps_keep_the_headline<T: Target>()
     ensures { (address : ℕ) (opening : _) (events : List Event) (outcomes : List Outcome) (line : LineState T) (o : Once T) → Plays T.step T.taken (new_line address opening) (at_first opening) events outcomes line o → IsHeadline T.step T.taken address opening (history_by events outcomes) line }
+{}
+
+/// And so does any list of steps from a line of a new server and an encoder that is there, where that has nothing open and keeps
+/// replies to FF and those before it alone.
+pub fn steps_keep_the_headline_from<T: Target>()
+    ensures { (e : EncoderState T) → IsReady e.ring → e.part ≡ Closed → (events : List Event) (outcomes : List Outcome) (line : LineState T) (o : Once T) → Plays T.step T.taken (line_from e) (at_first e.value) events outcomes line o → IsHeadline T.step T.taken e.address e.value (history_by events outcomes) line }
+{}
+
+/// The law of numbers and values from such an encoder.
+pub fn once_and_in_order_from<T: Target>()
+    ensures { (e : EncoderState T) → IsReady e.ring → e.part ≡ Closed → (events : List Event) → AllByRecursion Fits events → LawFrom T.step T.taken e events }
+{}
+
+/// An encoder that has joined is such a one.
+pub fn joined_is_ready()
+    ensures { (ring : List (ℕ × Code)) → map (λ pair. pair.0) ring ≡ falling 0xFF 127 → IsReady ring }
 {}
 
 /// From every state that a line can be in, where nothing is lost any more: once the frame of each message that is outstanding

@@ -1,4 +1,4 @@
-use Rattle.std.proofs.Common.{rules, arith, ℕ, List, ◌≤◌, ◌≡◌, ◌∙◌, length, take, ap, sym, subst}
+use Rattle.std.proofs.Common.{rules, arith, ℕ, List, ◌≤◌, ◌<◌, ◌≡◌, ◌∙◌, length, take, ap, sym, subst}
 use Rattle.std.specs.Io.KnownBytes.{Consumes}
 use Rattle.uecp_link.specs.Server.{waiting, heard}
 use Rattle.uecp_link.proofs.Answered.{acknowledged_as, same_waiting}
@@ -25,18 +25,20 @@ pub returns-in-Some : goal.returns-in-Some
 returns-in-Some g c =
     let piece = take c.in-Ok.count c.read.new.buffer in
     let room : length piece ≤ 64 = search rules in
+    let some : 0 < length piece = search rules in
     let few : length (waiting c.loop-turn.server) ≤ 1 =
     omega (arith, c.requires, ap (λ d. length (waiting d)) c.loop-turn.invariant.state, ap (λ (ws : List (ℕ × List ℕ)). length ws) (same_waiting c.args.server.now c.loop-turn.invariant.read c.loop-turn.invariant.silent)) in
     let state : c.give_piece.new.end ≡ heard c.loop-turn.server piece = c.give_piece.ensures.state in
-    reply_came g.R.Read.remaining _ c.loop-turn.server _ _ c.loop-turn.reader _ c.args.turns c.loop-turn._turn piece c.in-Some.code c.loop-turn.invariant c.in-Ok.ensures.bytes.0 room state
+    reply_came g.R.Read.remaining _ c.loop-turn.server _ _ c.loop-turn.reader _ c.args.turns c.loop-turn._turn piece c.in-Some.code c.loop-turn.invariant c.in-Ok.ensures.bytes.0 room some state
     (sym (c.in-Some.ensures.said ∙ acknowledged_as c.loop-turn.server piece few)) c.read.ensures.calls c.in-Ok.ensures.failures (omega arith)
 
 pub loop-turn-preserved : goal.loop-turn-preserved
 loop-turn-preserved g c =
     let piece = take c.in-Ok.count c.read.new.buffer in
     let room : length piece ≤ 64 = search rules in
+    let some : 0 < length piece = search rules in
     let few : length (waiting c.loop-turn.server) ≤ 1 =
     omega (arith, c.requires, ap (λ d. length (waiting d)) c.loop-turn.invariant.state, ap (λ (ws : List (ℕ × List ℕ)). length ws) (same_waiting c.args.server.now c.loop-turn.invariant.read c.loop-turn.invariant.silent)) in
     let state : c.give_piece.new.end ≡ heard c.loop-turn.server piece = c.give_piece.ensures.state in
-    waits_on g.R.Read.remaining _ c.loop-turn.server _ _ c.loop-turn.reader _ c.loop-turn._turn piece c.loop-turn.invariant c.in-Ok.ensures.bytes.0 room state
+    waits_on g.R.Read.remaining _ c.loop-turn.server _ _ c.loop-turn.reader _ c.loop-turn._turn piece c.loop-turn.invariant c.in-Ok.ensures.bytes.0 room some state
     (sym (c.in_default.ensures.said ∙ acknowledged_as c.loop-turn.server piece few)) c.read.ensures.calls c.in-Ok.ensures.failures
