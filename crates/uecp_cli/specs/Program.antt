@@ -13,7 +13,8 @@ use Rattle.uecp_cli.specs.declared.usage.Usage.{Usage}
 use Rattle.uecp_cli.specs.declared.usage.Usage.TheVariants.{Refused, NotAList, OutOfMemory}
 use Rattle.uecp_cli.specs.CommandLine.{uecp_app, Asks, GivesNoList}
 use Rattle.uecp_jobs.specs.Jobs.{IsDone, IsRefused, IsUndescribed, HasFailed}
-use Rattle.uecp_jobs.specs.Networks.{IsOutstanding, HasServed, HasStopped}
+use Rattle.uecp_jobs.specs.EncoderRun.{HasServed, HasStopped}
+use Rattle.uecp_jobs.specs.ServerRun.{AreAcknowledged, AreAcknowledgedBefore, AreNotAcknowledged}
 
 -- ---- by the words of the command line
 -- The words ask for a help text or for the version.
@@ -28,23 +29,27 @@ AreMistaken words = (kind : ErrorKind) × IsAmong kind (fault_of uecp_app words)
 abbrev pub no_list_line : List ℕ
 no_list_line = codes "uecp: services: NotAList\n"
 
--- All of the job was done: of its input, or of its connections, and then no input was read.
+-- All of the job was done: of its input; or its connections were served, and then no input was read; or its messages were acknowledged.
 abbrev pub IsAllDone : Job → (unread unread' held held' : Option (List ℕ)) → Type 0
-IsAllDone job unread unread' held held' = IsDone job unread unread' held held' ⊎ (HasServed job held held' × (unread' ≡ unread))
+IsAllDone job unread unread' held held' = IsDone job unread unread' held held' ⊎ ((HasServed job held held' × (unread' ≡ unread)) ⊎ AreAcknowledged job unread unread' held held')
 
 -- The words ask for a job, and it was done.
 abbrev pub HasDone : (words : List (List ℕ)) → (unread unread' held held' : Option (List ℕ)) → Type 0
 HasDone words unread unread' held held' = (job : Job) × Asks words job × IsAllDone job unread unread' held held'
 
+-- A line of the job's input was refused: what the lines before it bring was written, or their messages were acknowledged.
+abbrev pub HasLineRefused : Job → (unread unread' held held' told told' : Option (List ℕ)) → Type 0
+HasLineRefused job unread unread' held held' told told' = IsRefused job unread unread' held held' told told' ⊎ AreAcknowledgedBefore job unread unread' held held' told told'
+
 -- The words ask for a job, and a line was refused.
 abbrev pub HasRefused : (words : List (List ℕ)) → (unread unread' held held' told told' : Option (List ℕ)) → Type 0
-HasRefused words unread unread' held held' told told' = (job : Job) × Asks words job × IsRefused job unread unread' held held' told told'
+HasRefused words unread unread' held held' told told' = (job : Job) × Asks words job × HasLineRefused job unread unread' held held' told told'
 
--- The job came to no end, and that was said: memory, reading or writing failed, and what was written is a beginning of what the job writes of its input; or messages are outstanding; or connections
+-- The job came to no end, and that was said: memory, reading or writing failed, and what was written is a beginning of what the job writes of its input; or not all its messages were sent or told; or connections
 -- could not be served, and no input was read.
 abbrev pub HasNotEnded : Job → (unread unread' held held' told told' : Option (List ℕ)) → Type 0
 HasNotEnded job unread unread' held held' told told' =
-    HasFailed job unread unread' held held' told told' ⊎ (IsOutstanding job unread unread' held held' told told' ⊎ (HasStopped job held held' told told' × (unread' ≡ unread)))
+    HasFailed job unread unread' held held' told told' ⊎ (AreNotAcknowledged job unread unread' held held' told told' ⊎ (HasStopped job held held' told told' × (unread' ≡ unread)))
 
 -- The words ask for a job, and it came to no end.
 abbrev pub HasBrokenOff : (words : List (List ℕ)) → (unread unread' held held' told told' : Option (List ℕ)) → Type 0

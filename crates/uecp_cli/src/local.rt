@@ -28,6 +28,8 @@ impl<'a, N: Net<Listener = TcpListener, Stream = TcpStream>> Connect for Local<'
 
     ghost opens = { λ _ _ _. Unit {0} };
 
+    ghost closes = { λ _ _ _ _. Unit {0} };
+
     fn open(&mut self) -> Option<(TcpStream, TcpStream)> {
         let mut listening = match self.listening.take() {
             Some(listening) => listening,
@@ -37,4 +39,6 @@ impl<'a, N: Net<Listener = TcpListener, Stream = TcpStream>> Connect for Local<'
         self.listening = Some(listening);
         opened
     }
+
+    fn close(&mut self, _input: TcpStream, _output: TcpStream) {}
 }

@@ -2,8 +2,8 @@
 ghost use Rattle.std.specs.Prelude.{◌≡◌, ◌≢◌, ◌⊎◌, ◌≤◌, map, IfErr};
 ghost use Rattle.std.specs.String.{string_bytes};
 ghost use Rattle.uecp_text.specs.declared.run_fault.RunFault.TheVariants.{Writing};
-ghost use Rattle.uecp_jobs.specs.Jobs.{IsRefused, IsUndescribed};
-ghost use Rattle.uecp_cli.specs.Program.{AskForText, IsAllDone, HasDone, HasRefused, HasNotEnded, HasBrokenOff, HasRefusedWords, AsksForText, SaysMistake, SaysFailure};
+ghost use Rattle.uecp_jobs.specs.Jobs.{IsUndescribed};
+ghost use Rattle.uecp_cli.specs.Program.{AskForText, IsAllDone, HasDone, HasLineRefused, HasRefused, HasNotEnded, HasBrokenOff, HasRefusedWords, AsksForText, SaysMistake, SaysFailure};
 
 use crate::command_line::parse;
 use crate::local::Local;
@@ -54,7 +54,7 @@ fn run_any<R: Read, W: Write, E: Write, N: Net<Listener = TcpListener, Stream = 
 ) -> u8
     ensures status { result ≤ 3 }
     ensures done { result ≡ 0 → IsAllDone job.now (R.remaining reader.old) (R.remaining reader.new) (W.contents writer.old) (W.contents writer.new) × (errors.new ≡ errors.old) }
-    ensures refused { result ≡ 1 → IsRefused job.now (R.remaining reader.old) (R.remaining reader.new) (W.contents writer.old) (W.contents writer.new) (E.contents errors.old) (E.contents errors.new) }
+    ensures refused { result ≡ 1 → HasLineRefused job.now (R.remaining reader.old) (R.remaining reader.new) (W.contents writer.old) (W.contents writer.new) (E.contents errors.old) (E.contents errors.new) }
     ensures undescribed { result ≡ 2 → IsUndescribed job.now (E.contents errors.old) (E.contents errors.new) × (reader.new ≡ reader.old) × (writer.new ≡ writer.old) }
     ensures failed { result ≡ 3 → HasNotEnded job.now (R.remaining reader.old) (R.remaining reader.new) (W.contents writer.old) (W.contents writer.new) (E.contents errors.old) (E.contents errors.new) }
 {

@@ -9,7 +9,7 @@ use Rattle.uecp_text.specs.declared.run_fault.RunFault.{RunFault}
 use Rattle.uecp_text.specs.declared.run_fault.RunFault.TheVariants as run
 use Rattle.uecp_text.specs.Faults.{Fails, status_of}
 use Rattle.uecp_text.specs.Input.{texts_of}
-use Rattle.uecp_text.specs.Run.{Meaning, Ends, Runs, Prints, RunsWhole}
+use Rattle.uecp_text.specs.Run.{Meaning, Ends, Runs, Prints, Breaks, RunsWhole}
 use Rattle.uecp_jobs.specs.declared.answering.Answering.{Answering}
 use Rattle.uecp_jobs.specs.declared.event_script.Playing.{Playing}
 use Rattle.uecp_jobs.specs.declared.frame_script.Making.{Making}
@@ -19,21 +19,20 @@ use Rattle.uecp_jobs.specs.declared.job.Job.TheVariants.{Answer, Show, Make, Lin
 use Rattle.uecp_jobs.specs.Commands.{Shows, Answers}
 use Rattle.uecp_jobs.specs.FrameScript.{Makes, spelled_line}
 use Rattle.uecp_jobs.specs.Playing.{Plays, closing_lines}
-use Rattle.uecp_net.specs.Sending.{Sends}
 use Rattle.uecp_jobs.specs.Setups.{Options, RefusesSetup, encoder_at_first, line_at_first}
-use Rattle.uecp_jobs.specs.Jobs.{options, IsLocal, ByCommand, BreaksFrom, JobPrints, JobBreaks, RefusesJob, DoesJob, Wrote}
+use Rattle.uecp_jobs.specs.Jobs.{options, IsLocal, ByCommand, JobPrints, JobBreaks, RefusesJob, DoesJob, Wrote}
 use Rattle.uecp_jobs.proofs.Parts.{whole_part}
 
--- what is told of a meaning, a value that depends on the input, and closing lines
+-- what is told of a meaning, a value, and closing lines
 abbrev Tells : Type 1
-Tells = (V : Type 0) → Meaning V → (start : List ℕ → V) → (closing : V → List ℕ) → Type 0
+Tells = (V : Type 0) → Meaning V → (start : V) → (closing : V → List ℕ) → Type 0
 
 -- a job whose command ran
 pub does_by : {V : Type 0} (job : Job) (meaning : Meaning V) (v : V) (closing : V → List ℕ) (unread unread' held held' : Option (List ℕ)) (result : Result (Unit {0}) RunFault) →
-    RunsWhole meaning v closing unread unread' held held' result → ((tells : Tells) → tells V meaning (λ input. v) closing → ByCommand job tells) → DoesJob job unread unread' held held' result
+    RunsWhole meaning v closing unread unread' held held' result → ((tells : Tells) → tells V meaning v closing → ByCommand job tells) → DoesJob job unread unread' held held' result
 does_by job meaning v closing unread unread' held held' result ran by = elim ran [
-  | inl (fault, is, breaks) ↦ inl (fault, is, by (λ V meaning start closing. BreaksFrom meaning start closing unread unread' held held' fault) breaks)
-  | inr (input, written, is_input, prints, appends) ↦ inr (input, written, is_input, by (λ V meaning start closing. Prints meaning (start input) closing input result written) prints, appends)
+  | inl (fault, is, breaks) ↦ inl (fault, is, by (λ V meaning start closing. Breaks meaning start closing unread unread' held held' fault) breaks)
+  | inr (input, written, is_input, prints, appends) ↦ inr (input, written, is_input, by (λ V meaning start closing. Prints meaning start closing input result written) prints, appends)
 ]
 
 -- ---- each command
@@ -93,7 +92,7 @@ not_failed run.Connection status f is = absurd f
 not_failed run.Outstanding status f is = absurd f
 
 -- what a job failed for
-pub breaks_fails : {V : Type 0} (meaning : Meaning V) (start : List ℕ → V) (closing : V → List ℕ) (unread unread' held held' : Option (List ℕ)) (fault : RunFault) → BreaksFrom meaning start closing unread unread' held held' fault → Fails fault
+pub breaks_fails : {V : Type 0} (meaning : Meaning V) (start : V) (closing : V → List ℕ) (unread unread' held held' : Option (List ℕ)) (fault : RunFault) → Breaks meaning start closing unread unread' held held' fault → Fails fault
 breaks_fails meaning start closing unread unread' held held' run.TooLong breaks = tt
 breaks_fails meaning start closing unread unread' held held' run.Reading breaks = tt
 breaks_fails meaning start closing unread unread' held held' run.Writing breaks = tt
@@ -101,20 +100,20 @@ breaks_fails meaning start closing unread unread' held held' run.OutOfMemory bre
 breaks_fails meaning start closing unread unread' held held' fault breaks = elim breaks [ inl ((read, consumed, stops), same) ↦ absurd stops | inr (input, is_input, some) ↦ absurd some ]
 
 -- what follows from what is told of any meaning
-from_command : (job : Job) (tells : Tells) (P : Type 0) → ((V : Type 0) (meaning : Meaning V) (start : List ℕ → V) (closing : V → List ℕ) → tells V meaning start closing → P) → ByCommand job tells → P
+from_command : (job : Job) (tells : Tells) (P : Type 0) → ((V : Type 0) (meaning : Meaning V) (start : V) (closing : V → List ℕ) → tells V meaning start closing → P) → ByCommand job tells → P
 from_command Show tells P follows told = follows _ _ _ _ told
 from_command Make tells P follows told = follows _ _ _ _ told
 from_command (Answer site encoder sets services store) tells P follows told = follows _ _ _ _ told
 from_command (Line site encoder sets services store) tells P follows told = follows _ _ _ _ told
-from_command (Server site encoder host port tries timeout turns reconnects window) tells P follows told = follows _ _ _ _ told
+from_command (Server site encoder host port tries timeout turns reconnects window) tells P follows told = absurd told
 from_command (Encoder site encoder sets services port connections turns) tells P follows told = absurd told
 
 pub job_breaks_fails : (job : Job) (unread unread' held held' : Option (List ℕ)) (fault : RunFault) → JobBreaks job unread unread' held held' fault → Fails fault
 job_breaks_fails job unread unread' held held' fault breaks =
-    from_command job (λ V meaning start closing. BreaksFrom meaning start closing unread unread' held held' fault) (Fails fault) (λ V meaning start closing. breaks_fails meaning start closing unread unread' held held' fault) breaks
+    from_command job (λ V meaning start closing. Breaks meaning start closing unread unread' held held' fault) (Fails fault) (λ V meaning start closing. breaks_fails meaning start closing unread unread' held held' fault) breaks
 
 -- what is told of every meaning
-of_local : (job : Job) → IsLocal job → (tells : Tells) → ((V : Type 0) (meaning : Meaning V) (start : List ℕ → V) (closing : V → List ℕ) → tells V meaning start closing) → ByCommand job tells
+of_local : (job : Job) → IsLocal job → (tells : Tells) → ((V : Type 0) (meaning : Meaning V) (start : V) (closing : V → List ℕ) → tells V meaning start closing) → ByCommand job tells
 of_local Show local tells told = told _ _ _ _
 of_local Make local tells told = told _ _ _ _
 of_local (Answer site encoder sets services store) local tells told = told _ _ _ _
@@ -140,7 +139,7 @@ prints_status Show input written fault (v', ran) is = stop_status Shows _ v' (te
 prints_status Make input written fault (v', ran) is = stop_status Makes _ v' (texts_of input) written fault ran is
 prints_status (Answer site encoder sets services store) input written fault (v', ran) is = stop_status Answers _ v' (texts_of input) written fault ran is
 prints_status (Line site encoder sets services store) input written fault (v', ran) is = stop_status Plays _ v' (texts_of input) written fault ran is
-prints_status (Server site encoder host port tries timeout turns reconnects window) input written fault (v', ran) is = stop_status Sends _ v' (texts_of input) written fault ran is
+prints_status (Server site encoder host port tries timeout turns reconnects window) input written fault prints is = absurd prints
 prints_status (Encoder site encoder sets services port connections turns) input written fault prints is = absurd prints
 
 -- where no text ends a run, one that a text stops has status 1
@@ -183,7 +182,7 @@ job_wants (Encoder site encoder sets services port connections turns) local faul
 -- a job for which memory was wanting before anything was read
 wants_first : (job : Job) → IsLocal job → (unread unread' held held' : Option (List ℕ)) → unread' ≡ unread → held' ≡ held → JobBreaks job unread unread' held held' run.OutOfMemory
 wants_first job local unread unread' held held' unmoved unwritten =
-    of_local job local (λ V meaning start closing. BreaksFrom meaning start closing unread unread' held held' run.OutOfMemory)
+    of_local job local (λ V meaning start closing. Breaks meaning start closing unread unread' held held' run.OutOfMemory)
     (λ V meaning start closing. inl (([], subst (λ left. Consumes unread left []) (sym unmoved) (Consumes-nil unread), tt), unwritten))
 
 says_status : (o : Options) (fault : RunFault) → RefusesSetup o fault → status_of fault ≡ 1 → ⊥

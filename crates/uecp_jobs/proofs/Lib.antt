@@ -1,6 +1,12 @@
 pub mod Parts
 pub mod Doing
-pub mod Networks
+pub mod Following
+pub mod EncoderRun
+pub mod MessageTexts
+pub mod BatchLines
+pub mod Settling
+pub mod Sent
+pub mod ServerRun
 pub mod Pieces
 pub mod Streams
 pub mod Headlines

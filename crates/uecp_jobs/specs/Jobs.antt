@@ -7,14 +7,12 @@ use Rattle.uecp_jobs.specs.declared.job.Job.TheVariants.{Answer, Show, Make, Lin
 use Rattle.uecp_text.specs.declared.run_fault.RunFault.{RunFault}
 use Rattle.uecp_text.specs.Faults.{status_of, error_lines}
 use Rattle.uecp_text.specs.Written.{Begins}
-use Rattle.uecp_text.specs.Input.{texts_of}
-use Rattle.uecp_text.specs.Run.{Meaning, IsInput, IsUnread, Prints, WritesSome}
-use Rattle.uecp_jobs.specs.Setups.{Options, IsOneEncoder, IsSetup, RefusesSetup, RefusesAddress, encoder_at_first, line_at_first, sender_at_first}
+use Rattle.uecp_text.specs.Run.{Meaning, IsInput, Prints, Breaks}
+use Rattle.uecp_jobs.specs.Setups.{Options, IsOneEncoder, IsSetup, RefusesSetup, RefusesAddress, encoder_at_first, line_at_first}
 use Rattle.uecp_lines.specs.StoreLines.{last_lines}
 use Rattle.uecp_jobs.specs.Commands.{Shows, Answers}
 use Rattle.uecp_jobs.specs.FrameScript.{Makes, spelled_line}
 use Rattle.uecp_jobs.specs.Playing.{Plays, closing_lines}
-use Rattle.uecp_net.specs.Sending.{SenderState, Sends, messages_first}
 
 -- The options of a job that has an encoder.
 abbrev pub options : (site encoder sets : ℕ) (services : List ℕ) → Options
@@ -26,33 +24,22 @@ IsLocal (Encoder site encoder sets services port connections turns) = ⊥
 IsLocal (Server site encoder host port tries timeout turns reconnects window) = ⊥
 IsLocal job = Unit {0}
 
--- The sender that these options describe, at first for this input: it was told how many messages come before the input's end, or before the first line that is refused.
-abbrev pub sender_over : (site encoder tries turns reconnects window : ℕ) → (input : List ℕ) → SenderState
-sender_over site encoder tries turns reconnects window input = sender_at_first site encoder tries turns reconnects window (messages_first (texts_of input))
-
--- What is told of a job by its command: by what texts mean to it, the value that it begins an input with, and its closing lines. The value is the same for every input, but for a server. An encoder
--- over connections reads no input.
-abbrev pub ByCommand : Job → ((V : Type 0) → Meaning V → (start : List ℕ → V) → (closing : V → List ℕ) → Type 0) → Type 0
-ByCommand Show tells = tells _ Shows (λ input. Closed) (λ part. [])
-ByCommand Make tells = tells _ Makes (λ input. None) spelled_line
-ByCommand (Answer site encoder sets services store) tells = tells _ Answers (λ input. encoder_at_first (options site encoder sets services.items)) (λ e. last_lines store e.value)
-ByCommand (Line site encoder sets services store) tells = tells _ Plays (λ input. line_at_first (options site encoder sets services.items)) (closing_lines store)
-ByCommand (Server site encoder host port tries timeout turns reconnects window) tells = tells _ Sends (sender_over site encoder tries turns reconnects window) (λ s. [])
+-- What is told of a job by its command: by what texts mean to it, the value that it begins with, and its closing lines. The jobs with connections are told of apart.
+abbrev pub ByCommand : Job → ((V : Type 0) → Meaning V → (start : V) → (closing : V → List ℕ) → Type 0) → Type 0
+ByCommand Show tells = tells _ Shows Closed (λ part. [])
+ByCommand Make tells = tells _ Makes None spelled_line
+ByCommand (Answer site encoder sets services store) tells = tells _ Answers (encoder_at_first (options site encoder sets services.items)) (λ e. last_lines store e.value)
+ByCommand (Line site encoder sets services store) tells = tells _ Plays (line_at_first (options site encoder sets services.items)) (closing_lines store)
+ByCommand (Server site encoder host port tries timeout turns reconnects window) tells = ⊥
 ByCommand (Encoder site encoder sets services port connections turns) tells = ⊥
 
 -- What the job writes of an input: the lines of the texts, and the closing ones where no line is refused; the result names the refused line.
 abbrev pub JobPrints : Job → (input : List ℕ) → Result (Unit {0}) RunFault → (written : List ℕ) → Type 0
-JobPrints job input result written = ByCommand job (λ V meaning start closing. Prints meaning (start input) closing input result written)
-
--- A run over all that the reader had left, from the value with which its input begins, failed for this: the input was not read to its end, and nothing was written; or it was, and what was written
--- is a beginning of what is written of it.
-abbrev pub BreaksFrom : {V : Type 0} → Meaning V → (start : List ℕ → V) → (closing : V → List ℕ) → (unread unread' : Option (List ℕ)) → (held held' : Option (List ℕ)) → RunFault → Type 0
-BreaksFrom meaning start closing unread unread' held held' fault =
-    (IsUnread unread unread' fault × (held' ≡ held)) ⊎ ((input : List ℕ) × IsInput unread unread' input × WritesSome meaning (start input) closing input held held' fault)
+JobPrints job input result written = ByCommand job (λ V meaning start closing. Prints meaning start closing input result written)
 
 -- The job failed for this: its input was not read to its end, and nothing was written; or it was, and what was written is a beginning of what the job writes of it.
 abbrev pub JobBreaks : Job → (unread unread' : Option (List ℕ)) → (held held' : Option (List ℕ)) → RunFault → Type 0
-JobBreaks job unread unread' held held' fault = ByCommand job (λ V meaning start closing. BreaksFrom meaning start closing unread unread' held held' fault)
+JobBreaks job unread unread' held held' fault = ByCommand job (λ V meaning start closing. Breaks meaning start closing unread unread' held held' fault)
 
 -- The options of a job describe an encoder, or where it is a server the address of one.
 abbrev pub IsDescribed : Job → Type 0

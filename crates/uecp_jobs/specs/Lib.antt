@@ -6,4 +6,7 @@ pub mod FrameScript
 pub mod Playing
 pub mod Headlines
 pub mod Jobs
-pub mod Networks
+pub mod EncoderRun
+pub mod Messages
+pub mod Batches
+pub mod ServerRun

@@ -9,8 +9,6 @@ use Rattle.rds_store.specs.Value.{Store}
 use Rattle.uecp_encoder.specs.State.{EncoderState}
 use Rattle.uecp_encoder.specs.State as state
 use Rattle.uecp_link.specs.Holds.{LineState, new_line}
-use Rattle.uecp_link.specs.Server.{idle_at}
-use Rattle.uecp_net.specs.Sending.{SenderState}
 use Rattle.uecp_jobs.specs.declared.setup.Setup.{Setup}
 use Rattle.uecp_text.specs.declared.run_fault.RunFault.{RunFault}
 use Rattle.uecp_text.specs.declared.run_fault.RunFault.TheVariants.{Services, Address, OutOfMemory}
@@ -45,10 +43,6 @@ encoder_at_first o = state.opening (address_of o.site o.encoder) (opening o.sets
 -- A new line to that encoder.
 abbrev pub line_at_first : Options → LineState Store
 line_at_first o = new_line (address_of o.site o.encoder) (opening o.sets o.services)
-
--- A server of that encoder at first, with so many tries and turns on each connection, so many reconnects in all and so many messages on their way at once, and so many messages ahead.
-abbrev pub sender_at_first : (site encoder tries turns reconnects window ahead : ℕ) → SenderState
-sender_at_first site encoder tries turns reconnects window ahead = record { server = idle_at (address_of site encoder); tries = tries; turns = turns; left = reconnects; window = window; ahead = ahead; why = None }
 
 -- What a run says where no store was made: want of memory, else the services, by the fault's name.
 abbrev pub SaysStoreFault : StoreFault → RunFault → Type 0

@@ -5,15 +5,18 @@
 #![tactic(auto)]
 
 mod answering;
+mod encoder_run;
 mod event_script;
 mod frame_script;
 mod job;
 pub mod laws;
-mod network;
+mod messages;
 mod run;
+mod server_run;
 mod setup;
 mod showing;
 
+pub use encoder_run::run_encoder;
 pub use job::Job;
-pub use network::{run_encoder, run_server};
 pub use run::{fail, run_job};
+pub use server_run::run_server;

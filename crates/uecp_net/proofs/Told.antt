@@ -1,15 +1,15 @@
 -- What the acknowledgements that came leave of a server, and the codes that they tell.
-use Rattle.std.proofs.Common.{◌≡◌, ℕ, ◌+◌, ◌-◌, ◌≤◌, ◌==◌, ◌||◌, true, All, List, [], ◌∷◌, ◌++◌, length, map, Option, Some, None, IsSome, refl, subst, sym, ap, ◌∙◌, arith, inl, inr, append_assoc, append-nil, length-append, eq-eqb}
+use Rattle.std.proofs.Common.{◌≡◌, ◌⊎◌, ℕ, ◌+◌, ◌==◌, ◌||◌, true, Bool, false, All, List, [], ◌∷◌, ◌++◌, length, map, Option, Some, None, IsSome, refl, subst, sym, ap, ◌∙◌, arith, inl, inr, append_assoc, append-nil, length-append, eq-eqb}
 use Rattle.std.specs.Option.{option_or}
 use Rattle.std.proofs.lemmas.Bool.{cases_Bool}
 use Rattle.std.proofs.lemmas.List.{length-map}
 use Rattle.std.proofs.lemmas.List.Elements.{All-nil, All-cons}
-use Rattle.uecp_net.proofs.Acknowledging.{or_yes}
+use Rattle.uecp_frame.specs.Findings.{Closed}
 use Rattle.uecp_elements.specs.declared.code.Code.{Code}
 use Rattle.uecp_link.specs.Server.{ServerState, waiting, waits_for, heard, raised_by, counters_waiting}
 use Rattle.uecp_link.specs.Window.{marks_in, code_under}
 use Rattle.uecp_link.proofs.Marks.{heard_keeps, raised_by-add, marks_counted, code_under-append, marks_complete}
-use Rattle.uecp_net.specs.Sending.{SenderState, Marks, Starts, Follows, AreFreed, AreTold, IsSent, batch_lines}
+use Rattle.uecp_net.specs.Sending.{SenderOver, Marks, GoesOn, Follows, AreFreed, AreTold}
 
 pub follows_heard : (s s' : ServerState) (m m' : Marks) (read : List ℕ) → s' ≡ heard s read → m' ≡ m ++ marks_in s read → length m' + length (waiting s') ≡ length m + length (waiting s) → Follows s s' m m'
 follows_heard s s' m m' read state marked number = record {
@@ -23,8 +23,8 @@ follows_heard s s' m m' read state marked number = record {
 }
 
 -- nothing came, and what was open was forgotten or not
-pub follows_start : (s start : ServerState) (m : Marks) → Starts s start → Follows s start m m
-follows_start s start m starts = record {
+follows_same : (s start : ServerState) (m : Marks) → ((start ≡ s) ⊎ (start ≡ record s { part = Closed })) → Follows s start m m
+follows_same s start m starts = record {
   more = [];
   marked = sym (append-nil m);
   address = elim starts [ inl same ↦ ap (λ (d : ServerState). d.address) same | inr lost ↦ ap (λ (d : ServerState). d.address) lost ];
@@ -33,6 +33,12 @@ follows_start s start m starts = record {
   number = let same : length (waiting start) ≡ length (waiting s) = elim starts [ inl same ↦ ap (λ (d : ServerState). length (waiting d)) same | inr lost ↦ ap (λ (d : ServerState). length (waiting d)) lost ] in omega (arith, same);
   complete = λ counter before after. absurd (let same : waits_for (waiting start) counter ≡ waits_for (waiting s) counter = elim starts [ inl same ↦ ap (λ (d : ServerState). waits_for (waiting d) counter) same | inr lost ↦ ap (λ (d : ServerState). waits_for (waiting d) counter) lost ] in cc);
 }
+
+pub follows_start : {C I O : Type 0} (opens : C → Option (I × O) → C → Type 0) (s start : SenderOver C I O) (m : Marks) → GoesOn opens s start → Follows s.sender.server start.sender.server m m
+follows_start opens s start m goes_on = follows_same s.sender.server start.sender.server m (elim goes_on [
+  | inl (has, same) ↦ inl (ap (λ (d : SenderOver _ _ _). d.sender.server) same)
+  | inr (none, (input, output, opened, is)) ↦ inr (ap (λ (d : SenderOver _ _ _). d.sender.server) is)
+])
 
 some_or : (a b : Option Code) → IsSome a → IsSome (option_or a b)
 some_or None b some = absurd (cc)
@@ -57,6 +63,10 @@ follows_on a b c m n o first second = record {
     | inr gone ↦ some_or (code_under counter first.more) (code_under counter second.more) (first.complete counter before gone)
   ]);
 }
+
+or_yes : (b : Bool) → (b || true) ≡ true
+or_yes true = refl
+or_yes false = refl
 
 module _ (old new : ServerState) (marks : Marks) (follows : Follows old new [] marks) (idle : new.held ≡ []) where
   none_waits : length (waiting new) ≡ 0
@@ -86,23 +96,3 @@ module _ (old new : ServerState) (marks : Marks) (follows : Follows old new [] m
 pub told_number : (s : ServerState) (marks : Marks) (told : List Code) → AreTold s marks told → length told ≡ length (waiting s)
 told_number s marks told are =
     sym (length-map told Some) ∙ ap length are ∙ length-map (counters_waiting s) (λ counter. code_under counter marks) ∙ length-map (waiting s) (λ w. w.0)
-
--- a batch that was sent, by what submitting its last message and settling it made of the sender
-pub is_sent : (s mid s' : SenderState) (t : ServerState) (told : List Code) (tries : ℕ) → mid ≡ record s { server = t; ahead = s.ahead - 1 } → AreFreed mid.server s'.server → length told ≡ length (waiting mid.server) → 1 ≤ tries → tries ≤ mid.tries →
-    s'.why ≡ mid.why → record s' { server = mid.server; left = mid.left; why = mid.why } ≡ mid → IsSent s t (batch_lines told tries) s'
-is_sent s mid s' t told tries mid_is freed number some most why stays =
-    let server_is : mid.server ≡ t = ap (λ (d : SenderState). d.server) mid_is in
-    let tries_are : mid.tries ≡ s.tries = ap (λ (d : SenderState). d.tries) mid_is in
-    record {
-      told = told;
-      tries = tries;
-      all = number ∙ ap (λ (d : ServerState). length (waiting d)) server_is;
-      lines_are = refl;
-      some = some;
-      most = omega (arith, most, tries_are);
-      freed = subst (λ (d : ServerState). AreFreed d s'.server) server_is freed;
-      stays =
-          ap (λ reason. record s' { why = reason }) why
-          ∙ ap (λ (d : SenderState). record d { server = s'.server; left = s'.left }) stays
-          ∙ ap (λ (d : SenderState). record d { server = s'.server; left = s'.left }) mid_is;
-    }

@@ -1,4 +1,3 @@
 -- The definitions that the contracts of connections cite.
 pub mod Sessions
 pub mod Sending
-pub mod Laws

@@ -1,42 +1,54 @@
 -- A server with its connection as one value, and how it goes on connections; a reader has to believe it. Source: profile.
-use lib.Pointwise.{pointwise}
-use Rattle.std.specs.Prelude.{◌≡◌, ◌≢◌, ◌⊎◌, ℕ, ◌+◌, ◌-◌, ◌<◌, ◌≤◌, ◌==◌, ◌||◌, nat_le, zero, suc, Bool, true, false, List, [], ◌∷◌, ◌++◌, length, map, codes, Option, Some, None, IsSome, Result, Ok, Err, IsErr, if◌then◌else◌}
+use Rattle.std.specs.Prelude.{◌≡◌, ◌≢◌, ◌⊎◌, ℕ, ◌+◌, ◌-◌, ◌<◌, ◌≤◌, zero, suc, true, false, List, [], ◌∷◌, ◌++◌, length, map, Option, Some, None, IsSome, Result, Ok, Err}
 use Rattle.uecp_frame.specs.Findings.{Closed}
 use Rattle.uecp_encoder.specs.Metered.{Metered}
 use Rattle.uecp_link.specs.declared.driving.DriveFault.{DriveFault}
 use Rattle.uecp_link.specs.declared.driving.DriveFault.TheVariants as drive
 use Rattle.uecp_elements.specs.declared.code.Code.{Code}
-use Rattle.uecp_elements.specs.Codes.{byte_of}
 use Rattle.uecp_link.specs.declared.window.Windowed.TheVariants.{Idle, Spent}
 use Rattle.uecp_link.specs.Server.{ServerState, submitted, waiting, waits_for, counters_waiting, raised_by}
 use Rattle.uecp_link.specs.Window.{Windows, code_under}
-use Rattle.uecp_text.specs.declared.line_fault.LineFault.TheVariants.{NotHex, MessageTooLong}
-use Rattle.uecp_text.specs.Digits.{byte_word, decimal_word}
-use Rattle.uecp_text.specs.Run.{Meaning, Brings, Ends, Refuses}
-use Rattle.uecp_text.specs.Words.{bytes_in}
+use Rattle.uecp_net.specs.declared.sending.TwoEnds.{TwoEnds}
 use Rattle.uecp_net.specs.declared.sending.Outstanding.{Outstanding}
 use Rattle.uecp_net.specs.declared.sending.Outstanding.TheVariants as out
 
--- The server; how many tries and turns each connection has; how many reconnects are left; how many messages a batch has at most, and how many the input has left, before
--- its end or a line that is refused; and why messages are outstanding, if they are.
+-- The server; how many tries and turns each connection has; and how many reconnects are left.
 pub record SenderState : Type 0 where
   pub server : ServerState
   pub tries : ℕ
   pub turns : ℕ
   pub left : ℕ
-  pub window : ℕ
-  pub ahead : ℕ
-  pub why : Option Outstanding
 
--- ---- What its connections did.
+-- A sender with where its connections come from, by the name of the loan under which it has that, and the two ends of the connection that it has, if it has one.
+pub record SenderOver (C I O : Type 0) : Type 0 where
+  pub sender : SenderState
+  pub connect : C
+  pub loan : ℕ
+  pub ends : Option (TwoEnds I O)
+
+-- ---- What its connections did, and nothing else: each step is an equation of all that the sender is.
 
 -- Marks are the counters and codes of acknowledgements, in the order in which they came.
 abbrev pub Marks : Type 0
 Marks = List (ℕ × Code)
 
--- A server over a connection begins as it is, or on a new one with its open part forgotten.
-abbrev pub Starts : ServerState → ServerState → Type 0
-Starts old start = (start ≡ old) ⊎ (start ≡ record old { part = Closed })
+-- A device in a meter that was not called yet.
+abbrev pub unused : {D : Type 0} → D → Metered D
+unused device = record { device = device; calls = 0; failures = 0 }
+
+-- A connection was opened: the sender has its two ends, which are unused, and what the connection before left open is forgotten.
+abbrev pub Opens : {C I O : Type 0} → (opens : C → Option (I × O) → C → Type 0) → SenderOver C I O → SenderOver C I O → Type 0
+Opens {C} {I} {O} opens s s' =
+    (input : I) × (output : O) × opens s.connect (Some (input, output)) s'.connect
+    × (s' ≡ record s { sender = record s.sender { server = record s.sender.server { part = Closed } }; connect = s'.connect; ends = Some (record { input = unused input; output = unused output }) })
+
+-- The sender had no connection, and there was none to be had.
+abbrev pub OpensNone : {C I O : Type 0} → (opens : C → Option (I × O) → C → Type 0) → SenderOver C I O → SenderOver C I O → Type 0
+OpensNone opens s s' = (s.ends ≡ None) × opens s.connect None s'.connect × (s' ≡ record s { connect = s'.connect })
+
+-- The sender goes on over the connection that it has, and over a new one only where it has none.
+abbrev pub GoesOn : {C I O : Type 0} → (opens : C → Option (I × O) → C → Type 0) → SenderOver C I O → SenderOver C I O → Type 0
+GoesOn opens s s' = (IsSome s.ends × (s' ≡ s)) ⊎ ((s.ends ≡ None) × Opens opens s s')
 
 -- So many calls of `send_window` on one connection, over its reader and writer and with the same marks, after each of which messages waited and nothing had failed.
 abbrev pub SpentCalls : {I O : Type 0} → (I → Option (List ℕ)) → (O → Option (List ℕ)) → (turns calls : ℕ) → (old new : ServerState) → (input input' : Metered I) → (output output' : Metered O) → (marks marks' : Marks) → Type 0
@@ -56,50 +68,52 @@ Tried {I} {O} remaining contents tries turns old new input input' output output'
     (before : ℕ) × (between : ServerState) × (reader : Metered I) × (writer : Metered O) × (some : Marks) × (before < tries)
     × SpentCalls remaining contents turns before old between input reader output writer marks some × Windows remaining contents between new reader input' writer output' some marks' turns (Err fault)
 
--- On one connection, with so many tries of so many turns: over some reader and writer that it had, the calls of `send_window` did this.
-pub record Attempts {I O : Type 0} (remaining : I → Option (List ℕ)) (contents : O → Option (List ℕ)) (tries turns : ℕ) (old new : ServerState) (marks marks' : Marks) (result : Result ℕ DriveFault) : Type 0 where
-  pub start : ServerState
-  pub input : Metered I
-  pub input' : Metered I
-  pub output : Metered O
-  pub output' : Metered O
-  pub starts : Starts old start
-  pub went : Tried remaining contents tries turns start new input input' output output' marks marks' result
+-- On one connection, that which the sender has or a new one: the calls of `send_window` did this over its two ends, which the sender still has, as the calls left them.
+pub record Attempts {C I O : Type 0} (opens : C → Option (I × O) → C → Type 0) (remaining : I → Option (List ℕ)) (contents : O → Option (List ℕ)) (old new : SenderOver C I O) (marks marks' : Marks) (result : Result ℕ DriveFault) : Type 0 where
+  pub start : SenderOver C I O
+  pub ends : TwoEnds I O
+  pub ends' : TwoEnds I O
+  pub goes_on : GoesOn opens old start
+  pub has : start.ends ≡ Some ends
+  pub went : Tried remaining contents start.sender.tries start.sender.turns start.sender.server new.sender.server ends.input ends'.input ends.output ends'.output marks marks' result
+  pub leaves : new ≡ record start { sender = record start.sender { server = new.sender.server }; ends = Some ends' }
 
--- A connection whose call ended so is broken: a write failed, or the input is at its end.
-abbrev pub IsBroken : DriveFault → Type 0
-IsBroken (drive.WriteFailed written) = Unit {0}
-IsBroken drive.Closed = Unit {0}
-IsBroken drive.TriesSpent = ⊥
+-- Why messages are outstanding where a connection ended so and there is no other.
+abbrev pub reason_of : DriveFault → Outstanding
+reason_of (drive.WriteFailed written) = out.ConnectionFailed
+reason_of drive.Closed = out.ConnectionFailed
+reason_of drive.TriesSpent = out.TriesSpent
 
--- One connection after another broke, each by its fault; the marks of one are kept for the next.
-abbrev pub Break : {I O : Type 0} → (I → Option (List ℕ)) → (O → Option (List ℕ)) → (tries turns : ℕ) → ServerState → Marks → List DriveFault → ServerState → Marks → Type 0
-Break remaining contents tries turns s marks [] s' marks' = (s' ≡ s) × (marks' ≡ marks)
-Break remaining contents tries turns s marks (fault ∷ faults) s' marks' =
-    (next : ServerState) × (some : Marks) × IsBroken fault × Attempts remaining contents tries turns s next marks some (Err fault) × Break remaining contents tries turns next some faults s' marks'
+-- The sender hangs up: the two ends of the connection that it has, if it has one, go back to where connections come from, as they are.
+abbrev pub HangsUp : {C I O : Type 0} → (closes : C → I → O → C → Type 0) → SenderOver C I O → SenderOver C I O → Type 0
+HangsUp {C} {I} {O} closes s s' =
+    ((s.ends ≡ None) × (s' ≡ s))
+    ⊎ ((ends : TwoEnds I O) × (s.ends ≡ Some ends) × closes s.connect ends.input.device ends.output.device s'.connect × (s' ≡ record s { connect = s'.connect; ends = None }))
 
--- What came after so many connections had broken, each of which cost a reconnect, but for the last one where none was left: the last acknowledgement, after so many calls on this
--- connection; or every try of a connection that held was spent; or there was no connection to be had, or no reconnect left for one.
-abbrev pub EndsSending : {C I O : Type 0} → (C → Option (I × O) → C → Type 0) → (I → Option (List ℕ)) → (O → Option (List ℕ)) → (tries turns : ℕ) → (old new : ServerState) → (marks marks' : Marks) → (broken left left' : ℕ) → Result ℕ Outstanding → Type 0
-EndsSending opens remaining contents tries turns s s' marks marks' broken left left' (Ok calls) = Attempts remaining contents tries turns s s' marks marks' (Ok calls) × (left ≡ left' + broken)
-EndsSending opens remaining contents tries turns s s' marks marks' broken left left' (Err out.TriesSpent) =
-    Attempts remaining contents tries turns s s' marks marks' (Err drive.TriesSpent) × (left ≡ left' + broken)
-EndsSending {C} opens remaining contents tries turns s s' marks marks' broken left left' (Err out.ConnectionFailed) =
-    (s' ≡ s) × (marks' ≡ marks) × (((c : C) × (c' : C) × opens c None c' × (left ≡ left' + broken)) ⊎ ((left' ≡ 0) × (broken ≡ left + 1)))
+-- the sender with one reconnect fewer left
+abbrev pub reconnecting : {C I O : Type 0} → SenderOver C I O → SenderOver C I O
+reconnecting s = record s { sender = record s.sender { left = s.sender.left - 1 } }
 
--- The messages that wait were sent over one connection after another, from one state of the server and number of reconnects that are left to another. These are the marks of all the
--- connections together.
-pub record Delivers {C I O : Type 0} (opens : C → Option (I × O) → C → Type 0) (remaining : I → Option (List ℕ)) (contents : O → Option (List ℕ)) (tries turns : ℕ) (old : ServerState) (left : ℕ) (result : Result ℕ Outstanding) (new : ServerState) (left' : ℕ) (marks : Marks) : Type 0 where
-  pub faults : List DriveFault
-  pub last : ServerState
-  pub some : Marks
-  pub broke : Break remaining contents tries turns old [] faults last some
-  pub ends : EndsSending opens remaining contents tries turns last new some marks (length faults) left left' result
+-- the sender while its ends are taken out (private)
+abbrev pub without_ends : {C I O : Type 0} → SenderOver C I O → SenderOver C I O
+without_ends s = record s { ends = None }
+
+-- The messages that wait were sent over one connection after another, from one state of the sender to another; the marks of one are kept for the next. First so many connections ended with messages that
+-- wait: each broke or its tries were spent, was hung up, and cost a reconnect. Then came the last acknowledgement, after so many calls on this connection; or there was no connection to be had, and the
+-- reason is that of the one before, or of this where there was none; or one more ended so where no reconnect was left.
+abbrev pub Delivers : {C I O : Type 0} → (opens : C → Option (I × O) → C → Type 0) → (closes : C → I → O → C → Type 0) → (remaining : I → Option (List ℕ)) → (contents : O → Option (List ℕ)) → (ended : ℕ) → (before : Outstanding) → (old new : SenderOver C I O) → (marks marks' : Marks) → Result ℕ Outstanding → Type 0
+Delivers {C} {I} {O} opens closes remaining contents (suc n) before s s' marks marks' result =
+    (fault : DriveFault) × (last : SenderOver C I O) × (next : SenderOver C I O) × (some : Marks) × Attempts opens remaining contents s last marks some (Err fault) × HangsUp closes last next × (0 < next.sender.left)
+    × Delivers opens closes remaining contents n (reason_of fault) (reconnecting next) s' some marks' result
+Delivers opens closes remaining contents zero before s s' marks marks' (Ok calls) = Attempts opens remaining contents s s' marks marks' (Ok calls)
+Delivers {C} {I} {O} opens closes remaining contents zero before s s' marks marks' (Err reason) =
+    (OpensNone opens s s' × (marks' ≡ marks) × (reason ≡ before))
+    ⊎ ((fault : DriveFault) × (last : SenderOver C I O) × Attempts opens remaining contents s last marks marks' (Err fault) × HangsUp closes last s' × (s'.sender.left ≡ 0) × (reason ≡ reason_of fault))
 
 -- How it went on one connection, or there was none to be had (private).
-abbrev pub Goes : {C I O : Type 0} → (C → Option (I × O) → C → Type 0) → (I → Option (List ℕ)) → (O → Option (List ℕ)) → (tries turns : ℕ) → (old new : ServerState) → (marks marks' : Marks) → Option (Result ℕ DriveFault) → Type 0
-Goes opens remaining contents tries turns s s' marks marks' (Some went) = Attempts remaining contents tries turns s s' marks marks' went
-Goes {C} opens remaining contents tries turns s s' marks marks' None = (s' ≡ s) × (marks' ≡ marks) × ((c : C) × (c' : C) × opens c None c')
+abbrev pub Goes : {C I O : Type 0} → (opens : C → Option (I × O) → C → Type 0) → (remaining : I → Option (List ℕ)) → (contents : O → Option (List ℕ)) → (old new : SenderOver C I O) → (marks marks' : Marks) → Option (Result ℕ DriveFault) → Type 0
+Goes opens remaining contents s s' marks marks' (Some went) = Attempts opens remaining contents s s' marks marks' went
+Goes opens remaining contents s s' marks marks' None = OpensNone opens s s' × (marks' ≡ marks)
 
 -- The messages that wait have these codes, in order: each that of the first mark with its counter.
 abbrev pub AreTold : ServerState → Marks → List Code → Type 0
@@ -126,86 +140,13 @@ pub record Follows (old new : ServerState) (marks marks' : Marks) : Type 0 where
   pub number : length more + length (waiting new) ≡ length (waiting old)
   pub complete : (counter : ℕ) → waits_for (waiting old) counter ≡ true → waits_for (waiting new) counter ≡ false → IsSome (code_under counter more)
 
--- ---- The texts of a run.
+-- ---- What is submitted.
 
--- A text spells a message: a hyphen the empty one, hexadecimal digits with the spaces taken out any other.
-abbrev pub Spells : (text message : List ℕ) → Type 0
-Spells text message = ((text ≡ codes "-") × (message ≡ [])) ⊎ (bytes_in text ≡ Ok message)
+-- the sender once a message is submitted: its connection stays as it is
+abbrev pub submitted_to : {C I O : Type 0} → SenderOver C I O → (message : List ℕ) → SenderOver C I O
+submitted_to s message = record s { sender = record s.sender { server = submitted s.sender.server message } }
 
--- whether these bytes, if there are any, are 255 or fewer
-abbrev pub is_short : {E : Type 0} → Result (List ℕ) E → Bool
-is_short (Ok bytes) = nat_le (length bytes) 255
-is_short (Err fault) = false
-
--- Whether a text spells a message of 255 bytes or fewer.
-abbrev pub is_message : List ℕ → Bool
-is_message text = pointwise (λ a b. a == b) text (codes "-") || is_short (bytes_in text)
-
--- How many of these texts come before the first that spells no message, or a longer one: all where there is none.
-abbrev pub messages_first : List (ℕ × List ℕ) → ℕ
-messages_first [] = 0
-messages_first (text ∷ texts) = if is_message text.1 then 1 + messages_first texts else 0
-
--- what is said of a message that was acknowledged with this code in so many tries
-abbrev pub acknowledged_line : Code → ℕ → List ℕ
-acknowledged_line code tries = codes "acknowledged" ++ byte_word (byte_of code) ++ codes " tries" ++ decimal_word tries ++ codes "\n"
-
--- the lines of messages that were acknowledged with these codes in so many tries each
-abbrev pub acknowledged_lines : List (Code × ℕ) → List ℕ
-acknowledged_lines [] = []
-acknowledged_lines (told ∷ rest) = acknowledged_line told.0 told.1 ++ acknowledged_lines rest
-
--- the lines of the messages of a batch, which were acknowledged with these codes in so many tries
-abbrev pub batch_lines : List Code → ℕ → List ℕ
-batch_lines told tries = acknowledged_lines (map (λ code. (code, tries)) told)
-
--- Another message may be submitted: none is outstanding, and the server has room.
-abbrev pub IsFree : SenderState → Type 0
-IsFree s = (s.why ≡ None) × (length s.server.held < 8)
-
--- A message, once it is submitted, makes its batch whole: as many wait then as a batch has at most, or the server has no room, or no message is ahead behind it.
-abbrev pub IsWhole : SenderState → ServerState → Type 0
-IsWhole s t = (s.window ≤ length (waiting t)) ⊎ (8 ≤ length t.held) ⊎ (s.ahead ≤ 1)
-
--- A whole batch was sent: each of its messages is acknowledged with some code, in as many tries as are allowed or fewer on the last connection, which is said of each, in order.
-pub record IsSent (s : SenderState) (t : ServerState) (lines : List ℕ) (s' : SenderState) : Type 0 where
-  pub told : List Code
-  pub tries : ℕ
-  pub all : length told ≡ length (waiting t)
-  pub lines_are : lines ≡ batch_lines told tries
-  pub some : 1 ≤ tries
-  pub most : tries ≤ s.tries
-  pub freed : AreFreed t s'.server
-  pub stays : s' ≡ record s { server = s'.server; left = s'.left; ahead = s.ahead - 1 }
-
--- To a sender a text brings its message, which is submitted: it leaves its batch open, and nothing is said; or makes it whole, and then the batch is sent, and its messages are acknowledged,
--- or outstanding, which is said, and the run ends. Nothing is submitted where messages are outstanding already. A text that spells no message, or a longer one, is refused and changes
--- nothing.
-abbrev pub Sends : Meaning SenderState
-Sends s text (Brings lines) s' =
-    (message : List ℕ) × Spells text message × (length message ≤ 255) × IsFree s
-    × (((IsWhole s (submitted s.server message) → ⊥) × (lines ≡ []) × (s' ≡ record s { server = submitted s.server message; ahead = s.ahead - 1 }))
-    ⊎ (IsWhole s (submitted s.server message) × IsSent s (submitted s.server message) lines s'))
-Sends s text (Ends lines) s' =
-    (message : List ℕ) × Spells text message × (length message ≤ 255) × (lines ≡ codes "outstanding\n")
-    × ((IsFree s × IsWhole s (submitted s.server message) × StillWait (submitted s.server message) s'.server
-    × ((reason : Outstanding) × (s' ≡ record s { server = s'.server; left = s'.left; ahead = s.ahead - 1; why = Some reason })))
-    ⊎ ((IsFree s → ⊥) × (s' ≡ s)))
-Sends s text (Refuses fault) s' =
-    (((fault ≡ NotHex) × (text ≢ codes "-") × IsErr (bytes_in text)) ⊎ ((fault ≡ MessageTooLong) × ((message : List ℕ) × Spells text message × (255 < length message)))) × (s' ≡ s)
-
--- What the connections did where a text makes its batch whole. The codes that are said are those of the messages' own replies, and the tries those of the last connection; and a batch is
--- outstanding where its tries or its connections are spent, and not before.
-abbrev pub Went : {C I O : Type 0} → (opens : C → Option (I × O) → C → Type 0) → (remaining : I → Option (List ℕ)) → (contents : O → Option (List ℕ)) → Meaning SenderState
-Went opens remaining contents s text (Brings lines) s' =
-    (message : List ℕ) → Spells text message → IsWhole s (submitted s.server message) →
-    (told : List Code) × (tries : ℕ) × (marks : Marks) × (lines ≡ batch_lines told tries)
-    × Delivers opens remaining contents s.tries s.turns (submitted s.server message) s.left (Ok tries) s'.server s'.left marks × AreTold (submitted s.server message) marks told
-Went opens remaining contents s text (Ends lines) s' =
-    (message : List ℕ) → Spells text message → IsFree s →
-    (reason : Outstanding) × (marks : Marks) × (s'.why ≡ Some reason) × Delivers opens remaining contents s.tries s.turns (submitted s.server message) s.left (Err reason) s'.server s'.left marks
-Went opens remaining contents s text (Refuses fault) s' = Unit {0}
-
--- What a text brings to a sender over connections that do this: what it brings to any, and what the connections did.
-abbrev pub SendsOver : {C I O : Type 0} → (opens : C → Option (I × O) → C → Type 0) → (remaining : I → Option (List ℕ)) → (contents : O → Option (List ℕ)) → Meaning SenderState
-SendsOver opens remaining contents s text outcome s' = Sends s text outcome s' × Went opens remaining contents s text outcome s'
+-- the sender once these messages are submitted, one after another
+abbrev pub submitted_all : {C I O : Type 0} → SenderOver C I O → (messages : List (List ℕ)) → SenderOver C I O
+submitted_all s [] = s
+submitted_all s (message ∷ messages) = submitted_all (submitted_to s message) messages

@@ -14,7 +14,14 @@ pub trait Connect {
     // Whether a call may leave this value, and give the two ends of a connection or none.
     ghost opens: { Self → Option (Self.Input × Self.Output) → Self → Type 0 };
 
+    // Whether a call may leave this value where it is given the two ends of a connection, as they are then.
+    ghost closes: { Self → Self.Input → Self.Output → Self → Type 0 };
+
     /// The two ends of a new connection, or None where there is none to be had.
     fn open(&mut self) -> Option<(Self::Input, Self::Output)>
         ensures { opens self.old result self.new };
+
+    /// Takes the two ends of a connection back, which is done with.
+    fn close(&mut self, input: Self::Input, output: Self::Output)
+        ensures { closes self.old input output self.new };
 }

@@ -1,10 +1,9 @@
 //! A server over connections that may break, with several messages on their way at a time. Source: profile.
-ghost use Rattle.std.specs.Prelude.{◌≡◌, ◌≢◌, ◌+◌, ◌-◌, ◌<◌, ◌≤◌, ◌↔◌, [], All, IsSome, length, map, Some, None, Ok, Err, IfOk, IfErr, IfSome, IfNone, IsTrue, false};
-ghost use Rattle.uecp_frame.specs.Findings.{Closed};
-ghost use Rattle.uecp_link.specs.Server.{submitted, waiting, counters_waiting};
+ghost use Rattle.std.specs.Prelude.{◌≡◌, ◌≢◌, ℕ, ◌+◌, ◌<◌, ◌≤◌, ◌↔◌, [], All, IsSome, length, map, Some, None, Ok, Err, IfOk, IfErr, IfSome, IfNone, IsTrue};
+ghost use Rattle.uecp_link.specs.Server.{waiting, counters_waiting};
 ghost use Rattle.uecp_link.specs.Window.{code_under};
-ghost use Rattle.uecp_link.specs.declared.driving.DriveFault.TheVariants.{TriesSpent};
-ghost use Rattle.uecp_net.specs.Sending.{Marks, Goes, Starts, Tried, Follows, IsBroken, Delivers, AreTold, AreFreed, StillWait, IsFree, IsWhole};
+ghost use Rattle.uecp_net.specs.declared.sending.Outstanding.TheVariants.{ConnectionFailed};
+ghost use Rattle.uecp_net.specs.Sending.{SenderOver, Marks, Goes, GoesOn, Opens, OpensNone, Tried, Follows, Delivers, HangsUp, reason_of, submitted_to, without_ends, AreTold, AreFreed, StillWait};
 
 use crate::connect::Connect;
 use arrayvec::ArrayVec;
@@ -18,9 +17,9 @@ use uecp_link::{DriveFault, Server, Windowed, send_window};
 /// Why messages are still outstanding.
 #[derive(Clone, Copy, Debug, PartialEq, Eq)]
 pub enum Outstanding {
-    /// Every try on a connection that held ended without all replies.
+    /// Every try on the last connection ended without all replies, and no reconnect was left or no other connection to be had.
     TriesSpent,
-    /// The connection broke with no reconnect left, or there was none to be had.
+    /// The last connection broke with no reconnect left or no other one to be had; or there was none to be had from the start.
     ConnectionFailed,
 }
 
@@ -33,154 +32,140 @@ pub struct Settled {
     pub tries: u32,
 }
 
+/// What a sender may spend before it gives a batch up.
+#[derive(Clone, Copy, Debug, PartialEq, Eq)]
+pub struct Limits {
+    /// How often what is not acknowledged is sent over one connection.
+    pub tries: u32,
+    /// How many reads one try makes at most.
+    pub turns: u32,
+    /// How many connections may be opened in all after the first.
+    pub reconnects: u32,
+}
+
 /// The two ends of a connection, each in a meter of its own.
 #[derive(Drop)]
-struct Ends<I, O> {
+struct TwoEnds<I, O> {
     input: Meter<I>,
     output: Meter<O>,
 }
 
-/// A server, and the connection that it has, if it has one. It sends its messages in batches. Contracts see it as one value,
-/// `SenderState`.
+/// A server, and the connection that it has, if it has one. What is submitted to it is a batch, which it sends when it is told to
+/// [`settle`](Sender::settle); where a batch ends is its caller's matter. Contracts see it as one value, `SenderOver`.
 #[derive(Drop)]
 pub struct Sender<'a, C: Connect> {
     connect: &'a mut C,
     server: Server,
-    ends: Option<Ends<C::Input, C::Output>>,
-    tries: u32,
-    turns: u32,
-    left: u32,
-    window: u8,
-    ahead: usize,
-    why: Option<Outstanding>,
+    ends: Option<TwoEnds<C::Input, C::Output>>,
+    limits: Limits,
 }
 
 impl<'a, C: Connect> Model for Sender<'a, C> {
-    ghost use Rattle.uecp_net.specs.Sending.{SenderState};
+    ghost use Rattle.uecp_net.specs.Sending.{SenderOver};
 
-    ghost Value = { SenderState };
+    ghost Value = { SenderOver C C.Input C.Output };
 
-    ghost view = { λ s. record { server = s.server; tries = s.tries; turns = s.turns; left = s.left; window = s.window; ahead = s.ahead; why = s.why } };
+    ghost view = { λ s. record { sender = record { server = s.server; tries = s.limits.tries; turns = s.limits.turns; left = s.limits.reconnects }; connect = s.connect.now; loan = s.connect.ghost_name; ends = s.ends } };
 }
 
 impl<'a, C: Connect> Sender<'a, C> {
-    /// This server with no connection yet. Each connection has this many tries of this many turns, and this many reconnects
-    /// may be made in all. A batch has at most `window` messages, from 1 (0 does as 1), and at most eight; and `ahead` messages
-    /// come, before the end of the input or a line that is refused, see [`messages_ahead`](crate::messages_ahead).
-    pub fn new(
-        connect: &'a mut C,
-        server: Server,
-        tries: u32,
-        turns: u32,
-        reconnects: u32,
-        window: u8,
-        ahead: usize,
-    ) -> Sender<'a, C>
-        ensures { result ≡ record { server = server; tries = tries; turns = turns; left = reconnects; window = window; ahead = ahead; why = None } }
+    /// This server, with no connection yet.
+    pub fn new(connect: &'a mut C, server: Server, limits: Limits) -> Sender<'a, C>
+        ensures { result ≡ record { sender = record { server = server; tries = limits.tries; turns = limits.turns; left = limits.reconnects }; connect = connect.old; loan = connect.entry.ghost_name; ends = None } }
     {
         Sender {
             connect,
             server,
             ends: None,
-            tries,
-            turns,
-            left: reconnects,
-            window,
-            ahead,
-            why: None,
+            limits,
         }
     }
 
-    /// Whether the next message may be submitted: none is outstanding, and the server has room.
-    pub fn is_free(&self) -> bool
-        ensures { IsTrue result ↔ IsFree self.now }
+    /// Lets the connection go, and gives back where connections come from.
+    pub fn finish(mut self) -> &'a mut C
+        ensures same { result.ghost_name ≡ self.entry.loan }
+        ensures value { (end : SenderOver C C.Input C.Output) × HangsUp C.closes self.entry end × (result.now ≡ end.connect) }
     {
-        self.why.is_none() && self.server.has_room()
+        self.hang_up();
+        let Sender {
+            connect,
+            server: _,
+            ends: _,
+            limits: _,
+        } = self;
+        connect
     }
 
-    /// Why messages are outstanding, if some are that were sent.
-    pub fn why(&self) -> Option<Outstanding>
-        ensures { result ≡ self.now.why }
+    /// Whether one more message may be submitted: at most eight are held.
+    pub fn has_room(&self) -> bool
+        ensures { IsTrue result ↔ (length self.now.sender.server.held < 8) }
     {
-        self.why
+        self.server.has_room()
     }
 
-    /// Submits a message, the last of its batch so far, and answers whether the batch is whole: then [`settle`](Sender::settle) it
-    /// before the next one. See [`is_free`](Sender::is_free).
-    pub fn submit(&mut self, message: &Message) -> bool
-        requires { IsFree self.old }
-        ensures whole { IsTrue result ↔ IsWhole self.old (submitted self.old.server message.now) }
-        ensures submits { self.new ≡ record self.old { server = submitted self.old.server message.now; ahead = self.old.ahead - 1 } }
+    /// Submits a message, the last of its batch so far. See [`has_room`](Sender::has_room).
+    pub fn submit(&mut self, message: &Message)
+        requires { length self.old.sender.server.held < 8 }
+        ensures submits { self.new ≡ submitted_to self.old message.now }
     {
-        let is_last = self.ahead <= 1;
-        self.ahead = self.ahead.saturating_sub(1);
         self.server.submit(message);
-        is_last || !self.server.has_room() || self.server.waiting() >= usize::from(self.window)
     }
 
-    /// Sends the messages that wait until all are acknowledged: on the connection that there is, or on a new one; where that
-    /// breaks, on a new one as long as reconnects are left. Some message waits.
+    /// Sends the messages that wait until all are acknowledged: on the connection that there is, or on a new one; where that breaks,
+    /// or brings not all replies in as many tries as it has, on a new one as long as reconnects are left. Some message waits.
     ///
-    /// Where all are acknowledged the server is idle again; else messages are outstanding.
+    /// Where all are acknowledged the server is idle again; else messages are outstanding, and the connection is let go. Those may be
+    /// settled again, with what reconnects are left.
     pub fn settle(&mut self) -> Result<Settled, Outstanding>
-        requires { self.old.server.held ≢ [] }
-        ensures freed { IfOk result (λ _. AreFreed self.old.server self.new.server) }
-        ensures all { IfOk result (λ settled. length settled.codes.items ≡ length (waiting self.old.server)) }
-        ensures tries { IfOk result (λ settled. (1 ≤ settled.tries) × (settled.tries ≤ self.old.tries)) }
-        ensures outstanding { IfErr result (λ _. StillWait self.old.server self.new.server) }
-        ensures why { IfErr result (λ reason. self.new.why ≡ Some reason) }
-        ensures no_reason { IfOk result (λ _. self.new.why ≡ self.old.why) }
-        ensures stays { record self.new { server = self.old.server; left = self.old.left; why = self.old.why } ≡ self.old }
-        // What each connection did: no batch is given up before its tries are spent, or its connections. Each message is told the code
-        // of its own reply.
-        ensures delivers { IfOk result (λ settled. (marks : Marks)
-            × Delivers C.opens C.Input.remaining C.Output.contents self.old.tries self.old.turns self.old.server self.old.left (Ok settled.tries) self.new.server self.new.left marks
-            × AreTold self.old.server marks settled.codes.items) }
-        ensures gives_up { IfErr result (λ reason. (marks : Marks)
-            × Delivers C.opens C.Input.remaining C.Output.contents self.old.tries self.old.turns self.old.server self.old.left (Err reason) self.new.server self.new.left marks) }
+        requires { self.old.sender.server.held ≢ [] }
+        ensures freed { IfOk result (λ _. AreFreed self.old.sender.server self.new.sender.server) }
+        ensures all { IfOk result (λ settled. length settled.codes.items ≡ length (waiting self.old.sender.server)) }
+        ensures tries { IfOk result (λ settled. (1 ≤ settled.tries) × (settled.tries ≤ self.old.sender.tries)) }
+        ensures outstanding { IfErr result (λ _. StillWait self.old.sender.server self.new.sender.server) }
+        ensures stays { record self.new.sender { server = self.old.sender.server; left = self.old.sender.left } ≡ self.old.sender }
+        ensures loan { self.new.loan ≡ self.old.loan }
+        // What each connection did, and nothing else: no batch is given up before its tries and its connections are spent. Each message
+        // is told the code of its own reply.
+        ensures delivers { IfOk result (λ settled. (ended : ℕ) × (marks : Marks)
+            × Delivers C.opens C.closes C.Input.remaining C.Output.contents ended ConnectionFailed self.old self.new [] marks (Ok settled.tries)
+            × AreTold self.old.sender.server marks settled.codes.items) }
+        ensures gives_up { IfErr result (λ reason. (ended : ℕ) × (marks : Marks)
+            × Delivers C.opens C.closes C.Input.remaining C.Output.contents ended ConnectionFailed self.old self.new [] marks (Err reason)) }
     {
         let counters = counters_of(&self.server);
         let mut marks = ArrayVec::new();
-        match self.send_on_any(&mut marks) {
-            Ok(tries) => Ok(Settled {
-                codes: codes_of(&counters, &marks),
-                tries,
-            }),
-            Err(reason) => {
-                self.why = Some(reason);
-                Err(reason)
-            }
-        }
+        let tries = self.send_on_any(&mut marks)?;
+        Ok(Settled {
+            codes: codes_of(&counters, &marks),
+            tries,
+        })
     }
 
     /// Sends the messages that wait on the connection that there is, and on new ones as long as reconnects are left, and answers how
     /// many tries the last one took.
     fn send_on_any(&mut self, marks: &mut ArrayVec<(u8, Code), 8>) -> Result<u32, Outstanding>
-        requires busy { self.old.server.held ≢ [] }
-        requires few { length (waiting self.old.server) ≤ 8 }
+        requires busy { self.old.sender.server.held ≢ [] }
+        requires few { length (waiting self.old.sender.server) ≤ 8 }
         requires none { marks.old.items ≡ [] }
-        ensures idle { IfOk result (λ _. self.new.server.held ≡ []) }
-        ensures tries { IfOk result (λ tries. (1 ≤ tries) × (tries ≤ self.old.tries)) }
-        ensures outstanding { IfErr result (λ _. self.new.server.held ≢ []) }
-        ensures follows { Follows self.old.server self.new.server [] marks.new.items }
-        ensures stays { record self.new { server = self.old.server; left = self.old.left } ≡ self.old }
-        ensures delivers { Delivers C.opens C.Input.remaining C.Output.contents self.old.tries self.old.turns self.old.server self.old.left result self.new.server self.new.left marks.new.items }
+        ensures idle { IfOk result (λ _. self.new.sender.server.held ≡ []) }
+        ensures tries { IfOk result (λ tries. (1 ≤ tries) × (tries ≤ self.old.sender.tries)) }
+        ensures outstanding { IfErr result (λ _. self.new.sender.server.held ≢ []) }
+        ensures follows { Follows self.old.sender.server self.new.sender.server [] marks.new.items }
+        ensures stays { record self.new.sender { server = self.old.sender.server; left = self.old.sender.left } ≡ self.old.sender }
+        ensures delivers { (ended : ℕ) × Delivers C.opens C.closes C.Input.remaining C.Output.contents ended ConnectionFailed self.old self.new [] marks.new.items result }
     {
+        let mut reason = Outstanding::ConnectionFailed;
         'connections: loop {
             match self.send_on_one(marks) {
-                None => return Err(Outstanding::ConnectionFailed),
+                None => return Err(reason),
                 Some(Ok(tries)) => return Ok(tries),
-                Some(Err(fault)) => {
-                    if !is_broken(fault) {
-                        return Err(Outstanding::TriesSpent);
-                    }
-                    self.hang_up();
-                    if self.left == 0 {
-                        return Err(Outstanding::ConnectionFailed);
-                    }
-                    self.left -= 1;
-                }
+                Some(Err(fault)) => reason = reason_of(fault),
             }
+            self.hang_up();
+            if self.limits.reconnects == 0 {
+                return Err(reason);
+            }
+            self.limits.reconnects -= 1;
         }
     }
 
@@ -190,39 +175,40 @@ impl<'a, C: Connect> Sender<'a, C> {
         &mut self,
         marks: &mut ArrayVec<(u8, Code), 8>,
     ) -> Option<Result<u32, DriveFault>>
-        requires busy { self.old.server.held ≢ [] }
-        requires room { length marks.old.items + length (waiting self.old.server) ≤ 8 }
-        ensures goes { Goes C.opens C.Input.remaining C.Output.contents self.old.tries self.old.turns self.old.server self.new.server marks.old.items marks.new.items result }
-        ensures idle { IfSome result (λ went. IfOk went (λ tries. (self.new.server.held ≡ []) × (1 ≤ tries) × (tries ≤ self.old.tries))) }
-        ensures outstanding { IfSome result (λ went. IfErr went (λ _. self.new.server.held ≢ [])) }
-        ensures follows { Follows self.old.server self.new.server marks.old.items marks.new.items }
-        ensures stays { record self.new { server = self.old.server } ≡ self.old }
+        requires busy { self.old.sender.server.held ≢ [] }
+        requires room { length marks.old.items + length (waiting self.old.sender.server) ≤ 8 }
+        ensures goes { Goes C.opens C.Input.remaining C.Output.contents self.old self.new marks.old.items marks.new.items result }
+        ensures idle { IfSome result (λ went. IfOk went (λ tries. (self.new.sender.server.held ≡ []) × (1 ≤ tries) × (tries ≤ self.old.sender.tries))) }
+        ensures outstanding { IfSome result (λ went. IfErr went (λ _. self.new.sender.server.held ≢ [])) }
+        ensures follows { Follows self.old.sender.server self.new.sender.server marks.old.items marks.new.items }
+        ensures stays { record self.new.sender { server = self.old.sender.server } ≡ self.old.sender }
     {
         let mut ends = self.ready()?;
         let went = send_waiting(
             &mut self.server,
             &mut ends.input,
             &mut ends.output,
-            self.tries,
-            self.turns,
+            self.limits,
             marks,
         );
         self.ends = Some(ends);
         Some(went)
     }
 
-    /// Lets the connection go.
+    /// Lets the connection go, if there is one.
     fn hang_up(&mut self)
-        ensures { self.new ≡ self.old }
+        ensures { HangsUp C.closes self.old self.new }
     {
-        self.ends = None;
+        if let Some(ends) = self.ends.take() {
+            self.connect
+                .close(ends.input.into_inner(), ends.output.into_inner());
+        }
     }
 
     /// The connection that there is, or a new one, or None where there is none to be had.
-    fn ready(&mut self) -> Option<Ends<C::Input, C::Output>>
-        ensures starts { IfSome result (λ _. Starts self.old.server self.new.server) }
-        ensures none { IfNone result ((self.new.server ≡ self.old.server) × ((c : C) × (after : C) × C.opens c None after)) }
-        ensures stays { record self.new { server = self.old.server } ≡ self.old }
+    fn ready(&mut self) -> Option<TwoEnds<C::Input, C::Output>>
+        ensures goes_on { IfSome result (λ ends. (start : SenderOver C C.Input C.Output) × GoesOn C.opens self.old start × (start.ends ≡ Some ends) × (self.new ≡ without_ends start)) }
+        ensures none { IfNone result (OpensNone C.opens self.old self.new) }
     {
         match self.ends.take() {
             Some(ends) => Some(ends),
@@ -231,38 +217,37 @@ impl<'a, C: Connect> Sender<'a, C> {
     }
 
     /// A new connection, or None where there is none to be had. What the one before left open is forgotten.
-    fn connected(&mut self) -> Option<Ends<C::Input, C::Output>>
-        ensures forgets { IfSome result (λ _. self.new.server ≡ record self.old.server { part = Closed }) }
-        ensures none { IfNone result ((self.new.server ≡ self.old.server) × ((c : C) × (after : C) × C.opens c None after)) }
-        ensures stays { record self.new { server = self.old.server } ≡ self.old }
+    fn connected(&mut self) -> Option<TwoEnds<C::Input, C::Output>>
+        requires { self.old.ends ≡ None }
+        ensures opens { IfSome result (λ ends. (start : SenderOver C C.Input C.Output) × Opens C.opens self.old start × (start.ends ≡ Some ends) × (self.new ≡ without_ends start)) }
+        ensures none { IfNone result (OpensNone C.opens self.old self.new) }
     {
         let (input, output) = self.connect.open()?;
         self.server.line_lost();
-        Some(Ends {
+        Some(TwoEnds {
             input: Meter::new(input),
             output: Meter::new(output),
         })
     }
 }
 
-/// Sends the messages that wait on one connection, at most `tries` times, and answers how often it did.
+/// Sends the messages that wait on one connection, as often as the limits allow, and answers how often it did.
 fn send_waiting<R: Read, W: Write>(
     server: &mut Server,
     reader: &mut Meter<R>,
     writer: &mut Meter<W>,
-    tries: u32,
-    turns: u32,
+    limits: Limits,
     marks: &mut ArrayVec<(u8, Code), 8>,
 ) -> Result<u32, DriveFault>
     requires busy { server.old.held ≢ [] }
     requires room { length marks.old.items + length (waiting server.old) ≤ 8 }
-    ensures tried { Tried R.remaining W.contents tries turns server.old server.new reader.old reader.new writer.old writer.new marks.old.items marks.new.items result }
-    ensures idle { IfOk result (λ n. (server.new.held ≡ []) × (1 ≤ n) × (n ≤ tries)) }
+    ensures tried { Tried R.remaining W.contents limits.tries limits.turns server.old server.new reader.old reader.new writer.old writer.new marks.old.items marks.new.items result }
+    ensures idle { IfOk result (λ n. (server.new.held ≡ []) × (1 ≤ n) × (n ≤ limits.tries)) }
     ensures outstanding { IfErr result (λ _. server.new.held ≢ []) }
     ensures follows { Follows server.old server.new marks.old.items marks.new.items }
 {
-    for before in 0..tries {
-        match send_window(server, reader, writer, turns, marks) {
+    for before in 0..limits.tries {
+        match send_window(server, reader, writer, limits.turns, marks) {
             Err(fault) => return Err(fault),
             Ok(Windowed::Idle) => return Ok(before + 1),
             Ok(Windowed::Spent) => {}
@@ -271,14 +256,13 @@ fn send_waiting<R: Read, W: Write>(
     Err(DriveFault::TriesSpent)
 }
 
-/// Whether the connection on which this came is broken; else it held, and every try was spent.
-fn is_broken(fault: DriveFault) -> bool
-    ensures broken { IsTrue result → IsBroken fault }
-    ensures held { result ≡ false → fault ≡ TriesSpent }
+/// Why messages are outstanding where a connection ended so and there is no other.
+fn reason_of(fault: DriveFault) -> Outstanding
+    ensures { result ≡ reason_of fault }
 {
     match fault {
-        DriveFault::WriteFailed { .. } | DriveFault::Closed => true,
-        DriveFault::TriesSpent => false,
+        DriveFault::WriteFailed { .. } | DriveFault::Closed => Outstanding::ConnectionFailed,
+        DriveFault::TriesSpent => Outstanding::TriesSpent,
     }
 }
 

@@ -23,12 +23,16 @@ impl Connect for Listening {
 
     ghost opens = { λ _ _ _. Unit {0} };
 
+    ghost closes = { λ _ _ _ _. Unit {0} };
+
     fn open(&mut self) -> Option<(TcpStream, TcpStream)> {
         let (stream, _) = self.listener.accept().ok()?;
         send_at_once(&stream);
         let copy = stream.try_clone().ok()?;
         Some((stream, copy))
     }
+
+    fn close(&mut self, _input: TcpStream, _output: TcpStream) {}
 }
 
 /// Dials a listener, again for each connection.
@@ -59,6 +63,8 @@ impl<'a, R: Net<Stream = TcpStream>> Connect for Dialing<'a, R> {
 
     ghost opens = { λ _ _ _. Unit {0} };
 
+    ghost closes = { λ _ _ _ _. Unit {0} };
+
     fn open(&mut self) -> Option<(TcpStream, TcpStream)> {
         let stream = TcpStream::connect(self.net, (self.host, self.port)).ok()?;
         let timeout = Duration::from_millis(self.timeout);
@@ -67,6 +73,8 @@ impl<'a, R: Net<Stream = TcpStream>> Connect for Dialing<'a, R> {
         let copy = stream.try_clone().ok()?;
         Some((stream, copy))
     }
+
+    fn close(&mut self, _input: TcpStream, _output: TcpStream) {}
 }
 
 /// Asks the system to send each frame and each reply as soon as it is written, where it would else hold a small one back until those

@@ -5,4 +5,3 @@ pub mod Runs
 pub mod Wholes
 pub mod Decimals
 pub mod Pieces
-pub mod Streamed

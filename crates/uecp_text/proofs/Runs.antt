@@ -124,7 +124,7 @@ numbered-line : (number : ℕ) (line : List ℕ) (lines : List (List ℕ)) → n
 unfolding numbered
 numbered-line number line lines = refl
 
-texts_by_line : (number : ℕ) (rest line more : List ℕ) → lines_of rest ≡ line ∷ lines_of more → numbered number (lines_of rest) ≡ under number (said line) [] ++ numbered (number + 1) (lines_of more)
+pub texts_by_line : (number : ℕ) (rest line more : List ℕ) → lines_of rest ≡ line ∷ lines_of more → numbered number (lines_of rest) ≡ under number (said line) [] ++ numbered (number + 1) (lines_of more)
 texts_by_line number rest line more lines = ap (numbered number) lines ∙ numbered-line number line (lines_of more) ∙ sym (under-more number (said line) (numbered (number + 1) (lines_of more)))
 
 no_texts : (number : ℕ) → numbered number (lines_of []) ≡ []

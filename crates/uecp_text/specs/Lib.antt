@@ -5,4 +5,3 @@ pub mod Digits
 pub mod Written
 pub mod Faults
 pub mod Run
-pub mod Streaming

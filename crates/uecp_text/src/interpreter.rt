@@ -99,7 +99,7 @@ fn run_lines<I: Interpreter>(
 
 /// Takes what the line of this number says, if it says anything. What it brings is kept in `lines` until it is whole, and then added
 /// to the output; so where memory is wanting the output stays.
-pub(crate) fn take_line<I: Interpreter>(
+fn take_line<I: Interpreter>(
     alloc: Global,
     number: usize,
     line: &[u8],

@@ -5,7 +5,7 @@
 //! any of them over an input: line by line, up to the first text that is refused or ends the run. It opens no file and knows no
 //! standard stream: it works on every reader and writer.
 //!
-//! - [`Interpreter`], [`run`], [`run_lines_out`]: what texts do, and the loop over them.
+//! - [`Interpreter`], [`run`]: what texts do, and the loop over them.
 //! - [`Output`]: the lines that a run writes, kept until they are written out.
 //! - [`RunFault`], [`LineFault`]: why a run stops, with its exit status and its text.
 //! - [`words_of`] and its neighbours: the words of a text, and the bytes and numbers that they spell.
@@ -19,7 +19,6 @@ mod output;
 mod piece_buffer;
 mod reporting;
 mod run_fault;
-mod streaming;
 mod words;
 mod writing;
 
@@ -30,5 +29,4 @@ pub use output::Output;
 pub use piece_buffer::PieceBuffer;
 pub use reporting::report;
 pub use run_fault::RunFault;
-pub use streaming::run_lines_out;
 pub use words::{byte_of, bytes_of, bytes_or_none, decimal_of, digits_of, number_of, words_of};

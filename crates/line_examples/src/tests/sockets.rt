@@ -9,10 +9,10 @@ use std::process::Abort;
 use std::test::Fail;
 use std::time::Duration;
 use uecp_elements::Code;
-use uecp_encoder::{Encoder, Meter, serve};
+use uecp_encoder::{Encoder, Meter, ServeFault, serve};
 use uecp_frame::{Address, Message};
 use uecp_link::{DriveFault, Driven, Server, drive, resend};
-use uecp_net::{Connect, Dialing, Listening, Outstanding, Sender, serve_connections};
+use uecp_net::{Connect, Dialing, Limits, Listening, Outstanding, Sender, serve_connection};
 
 /// Adds the text "HI".
 const ADD: [u8; 7] = *b"\x0A\x00\x00\x03\x40\x48\x49";
@@ -92,9 +92,9 @@ fn sends_again(rt: &impl Abort, server: &mut Server, end: &mut End) {
 
 /// Sends the text "HI" on a connection on which nothing is answered.
 fn is_outstanding<C: Connect>(rt: &impl Abort, sender: &mut Sender<'_, C>) {
-    assert!(rt; sender.is_free());
+    assert!(rt; sender.has_room());
     let message = Message::from_bytes(&ADD).expect(rt, "short");
-    assert!(rt; sender.submit(&message));
+    sender.submit(&message);
     let Err(reason) = sender.settle() else {
         assert!(rt; false, "acknowledged");
         return;
@@ -127,16 +127,9 @@ fn acts_once(
 }
 
 /// Serves one connection for one turn.
-fn serves_one_turn(
-    rt: &impl Abort,
-    alloc: Global,
-    encoder: &mut Encoder<RdsStore>,
-    listening: &mut Listening,
-) {
-    let mut lines = Vec::new(alloc);
-    let served = serve_connections(alloc, encoder, 1, 1, listening, &mut lines);
-    assert_eq!(rt; served, Ok(()));
-    assert_eq!(rt; lines.as_slice(), b"connection 1 turns spent\n".as_slice());
+fn serves_one_turn(rt: &impl Abort, encoder: &mut Encoder<RdsStore>, listening: &mut Listening) {
+    let served = serve_connection(encoder, 1, listening);
+    assert_eq!(rt; served, Some(Err(ServeFault::TurnsSpent)));
     has_one_text(rt, encoder);
 }
 
@@ -157,9 +150,14 @@ fn a_sender_and_an_encoder_over_one_connection(rt: HostRuntime) -> Result<(), Fa
     let listener = TcpListener::bind(&rt, ("127.0.0.1", 0))?;
     let port = listener.local_addr()?.port();
     let mut dialing = Dialing::new(&rt, "127.0.0.1", port, TIMEOUT);
-    let mut sender = Sender::new(&mut dialing, Server::new(own_address(&rt)), 1, 1, 0, 1, 1);
+    let limits = Limits {
+        tries: 1,
+        turns: 1,
+        reconnects: 0,
+    };
+    let mut sender = Sender::new(&mut dialing, Server::new(own_address(&rt)), limits);
     is_outstanding(&rt, &mut sender);
     let mut encoder = new_encoder(&rt, alloc)?;
-    serves_one_turn(&rt, alloc, &mut encoder, &mut Listening::new(listener));
+    serves_one_turn(&rt, &mut encoder, &mut Listening::new(listener));
     Ok(())
 }

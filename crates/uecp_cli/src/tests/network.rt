@@ -1,6 +1,7 @@
 //! The two jobs with connections, over connections that were prepared, some of which break.
 ghost use Rattle.std.specs.Prelude.{IfOk};
-ghost use Rattle.uecp_jobs.specs.Networks.{IsEncoder, IsServer};
+ghost use Rattle.uecp_jobs.specs.EncoderRun.{IsEncoder};
+ghost use Rattle.uecp_jobs.specs.ServerRun.{IsServer};
 
 use faulty_devices::{FaultyReader, FaultyWriter, ScarceMemory, Taken};
 use std::alloc::Global;
@@ -64,6 +65,8 @@ impl<'a> Connect for Prepared<'a> {
 
     ghost opens = { λ _ _ _. Unit {0} };
 
+    ghost closes = { λ _ _ _ _. Unit {0} };
+
     fn open(&mut self) -> Option<(FaultyReader<'a>, Kept<'a>)> {
         let (bytes, failing) = *self.inputs.next()?;
         let taken = self.outputs.next()?;
@@ -73,6 +76,8 @@ impl<'a> Connect for Prepared<'a> {
             .failing_at(failing);
         Some((input, Kept { taken }))
     }
+
+    fn close(&mut self, _input: FaultyReader<'a>, _output: Kept<'a>) {}
 }
 
 /// What a run comes to: its status, its output and its text of errors.
@@ -174,7 +179,26 @@ fn a_message_of_server_over_connections(rt: HostRuntime) -> Result<(), Fail> {
         &rt,
         alloc,
         &[silent, good],
-        (1, 3, 1),
+        (1, 1, 1),
+        "-\n",
+        done,
+        &[thrice, once],
+    )?;
+    serves(
+        &rt,
+        alloc,
+        &[silent, closed],
+        (1, 1, 1),
+        "-\n",
+        failed,
+        &[thrice, once],
+    )?;
+    serves(&rt, alloc, &[silent], (1, 1, 1), "-\n", spent, &[thrice])?;
+    serves(
+        &rt,
+        alloc,
+        &[silent, good],
+        (1, 0, 1),
         "-\n",
         spent,
         &[thrice],

@@ -1,6 +1,6 @@
 use Rattle.std.proofs.Common.{[], refl, sym, inl, inr, arith, append-nil}
 use Rattle.uecp_text.specs.declared.run_fault.RunFault.TheVariants.{Listening}
-use Rattle.uecp_net.specs.Sessions.{connection_lines}
+use Rattle.uecp_jobs.specs.EncoderRun.{connection_lines}
 use Rattle.uecp_jobs.proofs.Doing.{not_failed}
 use Rattle.uecp_cli.proofs.program.run_any.Goals as goal
 

@@ -6,6 +6,6 @@ use Rattle.uecp_net.proofs.sending.send_waiting.Given as goal
 abbrev pub invariant-loop-before : goal.invariant-loop-before
 invariant-loop-before g l = record {
   busy : l.server.held ≢ [];
-  spent : SpentCalls g.R.Read.remaining g.W.Write.contents l.fn.turns l.before l.fn.server l.server l.fn.reader l.reader l.fn.writer l.writer l.fn.marks.items l.marks.items;
+  spent : SpentCalls g.R.Read.remaining g.W.Write.contents l.fn.limits.turns l.before l.fn.server l.server l.fn.reader l.reader l.fn.writer l.writer l.fn.marks.items l.marks.items;
   follows : Follows l.fn.server l.server l.fn.marks.items l.marks.items;
 }

@@ -1,18 +1,20 @@
-use Rattle.std.proofs.Common.{◌≡◌, ◌≢◌, ◌+◌, List, [], length}
-use Rattle.uecp_link.specs.declared.driving.DriveFault.{DriveFault}
-use Rattle.uecp_net.specs.Sending.{Break, Follows}
+use Rattle.std.proofs.Common.{◌≡◌, ◌≢◌, ℕ, [], Result}
+use Rattle.uecp_net.specs.declared.sending.Outstanding.{Outstanding}
+use Rattle.uecp_net.specs.declared.sending.Outstanding.TheVariants.{ConnectionFailed}
+use Rattle.uecp_net.specs.Sending.{SenderOver, Marks, Delivers, Follows}
 use Rattle.uecp_net.proofs.sending.Sender.send_on_any.Given as goal
 
--- messages are outstanding, and nothing but the server and the reconnects has changed: each connection so far broke, and cost one
+-- messages are outstanding, and of the sender itself nothing but the server and the reconnects has changed: whatever is delivered from here on is delivered from the start on
 abbrev pub invariant-connections : goal.invariant-connections
 invariant-connections g l = record {
-  busy : l.self.server.held ≢ [];
-  follows : Follows l.fn.self.server l.self.server [] l.marks.items;
-  stays : record l.self { server = l.fn.self.server; left = l.fn.self.left } ≡ l.fn.self;
-  broke : (faults : List DriveFault) × Break g.C.Input.Read.remaining g.C.Output.Write.contents l.fn.self.tries l.fn.self.turns l.fn.self.server [] faults l.self.server l.marks.items
-      × (l.fn.self.left ≡ l.self.left + length faults);
+  busy : l.self.sender.server.held ≢ [];
+  follows : Follows l.fn.self.sender.server l.self.sender.server [] l.marks.items;
+  stays : record l.self.sender { server = l.fn.self.sender.server; left = l.fn.self.sender.left } ≡ l.fn.self.sender;
+  on : (end : SenderOver g.row.C.Denot g.row.C-Input.Denot g.row.C-Output.Denot) (marks : Marks) (result : Result ℕ Outstanding) (ended : ℕ) →
+      Delivers g.C.Connect.opens g.C.Connect.closes g.C.Input.Read.remaining g.C.Output.Write.contents ended l.reason l.self end l.marks.items marks result →
+      (all : ℕ) × Delivers g.C.Connect.opens g.C.Connect.closes g.C.Input.Read.remaining g.C.Output.Write.contents all ConnectionFailed l.fn.self end [] marks result;
 }
 
 -- the reconnects that are left
 abbrev pub decreases-connections : goal.decreases-connections
-decreases-connections g l = l.self.left
+decreases-connections g l = l.self.sender.left

@@ -1,0 +1,18 @@
+use Rattle.std.proofs.Common.{rules}
+use Rattle.uecp_net.proofs.Served.{session_of}
+use Rattle.uecp_net.proofs.serving.serve_connection.Goals as goal
+
+pub returns-clause-served : goal.returns-clause-served
+returns-clause-served g c =
+    let i = c.in_ok-input in
+    let s = c.serve-outcome in (
+      i.input,
+      s.new.reader,
+      i.output,
+      s.new.writer,
+      c.open.new.self,
+      search rules,
+      session_of g.T.Target.step g.C.Input.Read.remaining g.C.Output.Write.contents c.args.turns c.args.encoder.now c.line_lost.new.self s.new.encoder i.input c.new-input.result s.new.reader i.output c.new-output.result s.new.writer s.result
+          c.ranges.turns.fits c.new-input.ensures.device c.new-input.ensures.calls c.new-input.ensures.failures c.new-output.ensures.device c.new-output.ensures.failures (search rules) s.ensures.bytes s.ensures.reads s.ensures.read_failures s.ensures.write_failures,
+      search rules,
+    )
