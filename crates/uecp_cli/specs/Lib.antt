@@ -2,4 +2,5 @@
 pub mod Ranges
 pub mod Usages
 pub mod CommandLine
+pub mod Unreached
 pub mod Program

@@ -1,5 +1,6 @@
 -- How a run of the program ends (profile).
-use Rattle.std.specs.Prelude.{◌≡◌, ◌≢◌, ◌⊎◌, ℕ, List, Option, codes}
+use Rattle.std.specs.Prelude.{◌≡◌, ◌≢◌, ◌⊎◌, ℕ, List, Option, None, codes}
+use Rattle.std.specs.String.{string_bytes}
 use Rattle.clap.specs.Faults.{fault_of}
 use Rattle.clap.specs.Kinds.{IsAmong}
 use Rattle.clap.specs.Values.{kind_of}
@@ -8,13 +9,27 @@ use Rattle.clap.specs.declared.error.kind.ErrorKind.TheVariants.{DisplayHelp, Di
 use Rattle.uecp_text.specs.declared.run_fault.RunFault.{RunFault}
 use Rattle.uecp_text.specs.Faults.{Fails, error_lines}
 use Rattle.uecp_text.specs.Written.{Begins}
+use Rattle.uecp_net.specs.Tcp.{Dials}
 use Rattle.uecp_jobs.specs.declared.job.Job.{Job}
+use Rattle.uecp_jobs.specs.declared.job.Job.TheVariants.{Encoder, Server}
 use Rattle.uecp_cli.specs.declared.usage.Usage.{Usage}
 use Rattle.uecp_cli.specs.declared.usage.Usage.TheVariants.{Refused, NotAList, OutOfMemory}
 use Rattle.uecp_cli.specs.CommandLine.{uecp_app, Asks, GivesNoList}
+use Rattle.uecp_cli.specs.Unreached.{MaySayUnreached}
 use Rattle.uecp_jobs.specs.Jobs.{IsDone, IsRefused, IsUndescribed, HasFailed}
 use Rattle.uecp_jobs.specs.EncoderRun.{HasServed, HasStopped}
 use Rattle.uecp_jobs.specs.ServerRun.{AreAcknowledged, AreAcknowledgedBefore, AreNotAcknowledged}
+
+-- ---- where connections come from
+-- Connections are accepted on the port of the job.
+abbrev pub ListensFor : Job → (port : ℕ) → Type 0
+ListensFor (Encoder site encoder sets services port connections turns) listened = listened ≡ port
+ListensFor job listened = ⊥
+
+-- The host and the port of the job are dialled, with its limit of time, and no connection was refused yet.
+abbrev pub DialsFor : Job → Dials → Type 0
+DialsFor (Server site encoder host port tries timeout turns reconnects window) dials = dials ≡ record { host = string_bytes host; port = port; timeout = timeout; failed = None }
+DialsFor job dials = ⊥
 
 -- ---- by the words of the command line
 -- The words ask for a help text or for the version.
@@ -45,11 +60,11 @@ HasLineRefused job unread unread' held held' told told' = IsRefused job unread u
 abbrev pub HasRefused : (words : List (List ℕ)) → (unread unread' held held' told told' : Option (List ℕ)) → Type 0
 HasRefused words unread unread' held held' told told' = (job : Job) × Asks words job × HasLineRefused job unread unread' held held' told told'
 
--- The job came to no end, and that was said: memory, reading or writing failed, and what was written is a beginning of what the job writes of its input; or not all its messages were sent or told; or connections
--- could not be served, and no input was read.
+-- The job came to no end, and that was said: memory, reading or writing failed, and what was written is a beginning of what the job writes of its input; or not all its messages were sent or told, and where a
+-- connection could not be made the next line says why; or connections could not be served, and no input was read.
 abbrev pub HasNotEnded : Job → (unread unread' held held' told told' : Option (List ℕ)) → Type 0
 HasNotEnded job unread unread' held held' told told' =
-    HasFailed job unread unread' held held' told told' ⊎ (AreNotAcknowledged job unread unread' held held' told told' ⊎ (HasStopped job held held' told told' × (unread' ≡ unread)))
+    HasFailed job unread unread' held held' told told' ⊎ (((between : Option (List ℕ)) × AreNotAcknowledged job unread unread' held held' told between × MaySayUnreached job between told') ⊎ (HasStopped job held held' told told' × (unread' ≡ unread)))
 
 -- The words ask for a job, and it came to no end.
 abbrev pub HasBrokenOff : (words : List (List ℕ)) → (unread unread' held held' told told' : Option (List ℕ)) → Type 0

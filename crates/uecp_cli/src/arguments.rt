@@ -151,7 +151,7 @@ pub fn timeout<'a>(alloc: Global) -> Arg<'a>
     Arg::new(alloc, "timeout")
         .long("timeout")
         .value_name("N")
-        .help("How many milliseconds a read waits, 1 to 60000")
+        .help("How many milliseconds connecting, a read or a write may take, 1 to 60000")
         .action(ArgAction::Set)
         .value_parser(value_parser!(u32).range(1..=60000))
         .default_value("1000")

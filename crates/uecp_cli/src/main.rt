@@ -12,10 +12,10 @@
 
 mod arguments;
 mod command_line;
-mod local;
 mod matched;
 mod program;
 mod services;
+mod unreached;
 mod usage;
 
 use crate::command_line::program;

@@ -2,18 +2,20 @@
 ghost use Rattle.std.specs.Prelude.{◌≡◌, ◌≢◌, ◌⊎◌, ◌≤◌, map, IfErr};
 ghost use Rattle.std.specs.String.{string_bytes};
 ghost use Rattle.uecp_text.specs.declared.run_fault.RunFault.TheVariants.{Writing};
+ghost use Rattle.uecp_jobs.specs.EncoderRun.{IsEncoder};
 ghost use Rattle.uecp_jobs.specs.Jobs.{IsUndescribed};
-ghost use Rattle.uecp_cli.specs.Program.{AskForText, IsAllDone, HasDone, HasLineRefused, HasRefused, HasNotEnded, HasBrokenOff, HasRefusedWords, AsksForText, SaysMistake, SaysFailure};
+ghost use Rattle.uecp_jobs.specs.ServerRun.{IsServer};
+ghost use Rattle.uecp_cli.specs.Program.{AskForText, IsAllDone, HasDone, HasLineRefused, HasRefused, HasNotEnded, HasBrokenOff, HasRefusedWords, ListensFor, DialsFor, AsksForText, SaysMistake, SaysFailure};
 
 use crate::command_line::parse;
-use crate::local::Local;
+use crate::unreached::say_unreached;
 use crate::usage::Usage;
 use clap::Error;
 use std::alloc::Global;
 use std::io::{Read, Write};
 use std::net::{Net, TcpListener, TcpStream};
 use uecp_jobs::{Job, fail, run_encoder, run_job, run_server};
-use uecp_net::Dialing;
+use uecp_net::{Dialing, Local};
 use uecp_text::RunFault;
 
 /// Does what the words of a command line ask for, the first being the program's name, and answers the exit status: 0 done, 1 a line
@@ -59,23 +61,54 @@ fn run_any<R: Read, W: Write, E: Write, N: Net<Listener = TcpListener, Stream = 
     ensures failed { result ≡ 3 → HasNotEnded job.now (R.remaining reader.old) (R.remaining reader.new) (W.contents writer.old) (W.contents writer.new) (E.contents errors.old) (E.contents errors.new) }
 {
     match job {
-        Job::Encoder { port, .. } => {
-            let mut local = Local::new(net, *port);
+        Job::Encoder { .. } => {
+            let mut local = local_of(net, job);
             run_encoder(alloc, job, writer, errors, &mut local)
         }
+        Job::Server { host, port, .. } => {
+            let mut dialing = dialing_of(net, job);
+            let status = run_server(alloc, job, reader, writer, errors, &mut dialing);
+            if status == 3 {
+                say_unreached(host.as_str(), *port, dialing.failed(), errors);
+            }
+            status
+        }
+        Job::Answer { .. } | Job::Show | Job::Make | Job::Line { .. } => {
+            run_job(alloc, job, reader, writer, errors)
+        }
+    }
+}
+
+/// Where the connections of `encoder` come from: those that come to its port of 127.0.0.1.
+fn local_of<'a, N: Net<Listener = TcpListener, Stream = TcpStream>>(
+    net: &'a N,
+    job: &Job,
+) -> Local<'a, N>
+    requires { IsEncoder job.now }
+    ensures { ListensFor job.now result }
+{
+    match job {
+        Job::Encoder { port, .. } => Local::new(net, *port),
+        _ => unreachable!(),
+    }
+}
+
+/// Where the connections of `server` come from: its host and port, dialled with its limit of time.
+fn dialing_of<'a, N: Net<Listener = TcpListener, Stream = TcpStream>>(
+    net: &'a N,
+    job: &'a Job,
+) -> Dialing<'a, N>
+    requires { IsServer job.now }
+    ensures { DialsFor job.now result }
+{
+    match job {
         Job::Server {
             host,
             port,
             timeout,
             ..
-        } => {
-            let timeout = u64::from(*timeout);
-            let mut dialing = Dialing::new(net, host.as_str(), *port, timeout);
-            run_server(alloc, job, reader, writer, errors, &mut dialing)
-        }
-        Job::Answer { .. } | Job::Show | Job::Make | Job::Line { .. } => {
-            run_job(alloc, job, reader, writer, errors)
-        }
+        } => Dialing::new(net, host.as_str(), *port, u64::from(*timeout)),
+        _ => unreachable!(),
     }
 }
 

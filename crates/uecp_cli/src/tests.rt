@@ -4,6 +4,7 @@ ghost use Rattle.uecp_jobs.specs.Jobs.{IsLocal};
 mod limits;
 mod memory;
 mod network;
+mod order;
 
 use crate::program::run_words;
 use std::alloc::Global;

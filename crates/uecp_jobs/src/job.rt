@@ -62,7 +62,7 @@ pub enum Job {
         port: u16,
         /// How often a message is sent on one connection, 1 to 100.
         tries: u32,
-        /// How many milliseconds a read waits, 1 to 60000.
+        /// How many milliseconds connecting, a read or a write may take, 1 to 60000.
         timeout: u32,
         /// How many reads one try makes at most, 1 to 1000.
         turns: u32,

@@ -1,3 +1,4 @@
 -- The definitions that the contracts of connections cite.
 pub mod Sessions
 pub mod Sending
+pub mod Tcp

@@ -1,10 +1,10 @@
 //! The two ends over connections: an encoder serves one connection after another, and a server sends its messages over
 //! connections that may break and be opened again. The crate hands out values; it writes no line.
 //!
-//! Where connections come from is the matter of a [`Connect`]; [`Listening`] and [`Dialing`] are TCP. The crate reads no command
+//! Where connections come from is the matter of a [`Connect`]; [`Listening`], [`Local`] and [`Dialing`] are TCP. The crate reads no command
 //! line and knows no exit status.
 //!
-//! - [`Connect`]: opens connections, with [`Listening`] and [`Dialing`].
+//! - [`Connect`]: opens connections, with [`Listening`], [`Local`] and [`Dialing`]; [`DialFault`] is why there was none to be had.
 //! - [`serve_connection`]: an encoder over the next connection.
 //! - [`Sender`]: a server with the connection that it has, which sends its messages in batches, within its [`Limits`]; [`Settled`] is how
 //!   a batch went, and [`Outstanding`] why its messages are not acknowledged.
@@ -18,4 +18,4 @@ mod tcp;
 pub use connect::Connect;
 pub use sending::{Limits, Outstanding, Sender, Settled};
 pub use serving::serve_connection;
-pub use tcp::{Dialing, Listening};
+pub use tcp::{DialFault, Dialing, Listening, Local};

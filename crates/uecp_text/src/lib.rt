@@ -27,6 +27,6 @@ pub use interpreter::{Interpreter, Taken, run};
 pub use line_fault::LineFault;
 pub use output::Output;
 pub use piece_buffer::PieceBuffer;
-pub use reporting::report;
+pub use reporting::{report, write_parts};
 pub use run_fault::RunFault;
 pub use words::{byte_of, bytes_of, bytes_or_none, decimal_of, digits_of, number_of, words_of};

@@ -22,7 +22,7 @@ const APPLIED_1: [u8; 11] = *b"\xFE\x00\x41\x00\x03\x18\x00\x01\x40\xBE\xFF";
 /// Code 00 to counter 02.
 const APPLIED_2: [u8; 11] = *b"\xFE\x00\x41\x00\x03\x18\x00\x02\x70\xDD\xFF";
 /// Code 00 to counter 01, and to counter 02.
-const APPLIED_BOTH: [u8; 22] =
+pub(crate) const APPLIED_BOTH: [u8; 22] =
     *b"\xFE\x00\x41\x00\x03\x18\x00\x01\x40\xBE\xFF\xFE\x00\x41\x00\x03\x18\x00\x02\x70\xDD\xFF";
 /// No element, counter 01, and no element, counter 02.
 const EMPTY_BOTH: [u8; 16] = *b"\xFE\x00\x41\x01\x00\x62\x93\xFF\xFE\x00\x41\x02\x00\x37\xC0\xFF";
@@ -84,10 +84,10 @@ impl<'a> Connect for Prepared<'a> {
 type Comes<'a> = (u8, &'a [u8], &'a [u8]);
 
 /// How many bytes a reply has here.
-const REPLY_SIZE: usize = APPLIED_1.len();
+pub(crate) const REPLY_SIZE: usize = APPLIED_1.len();
 
 /// `server` with the defaults of its options but for site, reconnects and window.
-fn server_job(alloc: Global, site: u16, reconnects: u32, window: u8) -> Result<Job, Fail>
+pub(crate) fn server_job(alloc: Global, site: u16, reconnects: u32, window: u8) -> Result<Job, Fail>
     ensures { IfOk result IsServer }
 {
     Ok(Job::Server {

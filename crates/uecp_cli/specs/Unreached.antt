@@ -1,0 +1,30 @@
+-- What is said where a connection of `server` could not be made (profile).
+use Rattle.std.specs.Prelude.{◌≡◌, ◌⊎◌, ℕ, List, ◌++◌, codes, decimal, Option, Some, None}
+use Rattle.std.specs.String.{string_bytes}
+use Rattle.uecp_text.specs.Written.{Begins}
+use Rattle.uecp_net.specs.declared.tcp.DialFault.{DialFault}
+use Rattle.uecp_net.specs.declared.tcp.DialFault.TheVariants.{NoSuchHost, Refused, TimedOut, Unreachable, Failed}
+use Rattle.uecp_jobs.specs.declared.job.Job.{Job}
+use Rattle.uecp_jobs.specs.declared.job.Job.TheVariants.{Server}
+
+-- what is said of a fault
+abbrev pub dial_words : DialFault → List ℕ
+dial_words NoSuchHost = codes "no such host"
+dial_words Refused = codes "refused"
+dial_words TimedOut = codes "timed out"
+dial_words Unreachable = codes "unreachable"
+dial_words Failed = codes "failed"
+
+-- the line of a host and a port at which no connection could be made
+abbrev pub dial_line : (host : List ℕ) (port : ℕ) → DialFault → List ℕ
+dial_line host port fault = codes "uecp: " ++ (host ++ (codes " port " ++ (decimal port ++ (codes ": " ++ (dial_words fault ++ codes "\n")))))
+
+-- Where one could not be made its line was said, or begun to be said; else nothing was.
+abbrev pub SaysUnreached : (host : List ℕ) (port : ℕ) → Option DialFault → (told told' : Option (List ℕ)) → Type 0
+SaysUnreached host port None told told' = told' ≡ told
+SaysUnreached host port (Some fault) told told' = Begins told told' (dial_line host port fault)
+
+-- Of what the job dials it was said why no connection could be made, or begun to be said; or nothing was said.
+abbrev pub MaySayUnreached : Job → (told told' : Option (List ℕ)) → Type 0
+MaySayUnreached (Server site encoder host port tries timeout turns reconnects window) told told' = (failed : Option DialFault) × SaysUnreached (string_bytes host) port failed told told'
+MaySayUnreached job told told' = told' ≡ told
