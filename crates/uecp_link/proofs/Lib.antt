@@ -25,4 +25,11 @@ pub mod Answered
 pub mod Tries
 pub mod Windowing
 pub mod Marks
+pub mod SeenReplies
+pub mod Passing
+pub mod Beginnings
+pub mod Replying
+pub mod PassComes
+pub mod JoinedOver
+pub mod WholePass
 pub mod Joined

@@ -1,8 +1,8 @@
 -- Held messages, of which at most one waits.
-use Rattle.std.proofs.Common.{◌≡◌, ℕ, ◌≤◌, ◌==◌, ◌&&◌, ◌||◌, Bool, true, false, cond, List, [], ◌∷◌, length, Option, Some, None, refl, ap, sym, ◌∙◌, arith}
+use Rattle.std.proofs.Common.{◌≡◌, ℕ, ◌≤◌, ◌==◌, ◌||◌, Bool, true, false, cond, List, [], ◌∷◌, length, Option, Some, None, refl, ap, sym, ◌∙◌, arith}
 use Rattle.uecp_elements.specs.declared.code.Code.{Code}
 use Rattle.uecp_frame.specs.declared.frame.Frame.{Frame}
-use Rattle.uecp_link.specs.Server.{ServerState, Held, waiting_among, waiting, waits_for, marked_at, freed_of, reply_in, reply_to_one, acknowledges}
+use Rattle.uecp_link.specs.Server.{ServerState, Held, waiting_among, waiting, waits_for, marked_at, freed_of, reply_from, reply_to_one, acknowledges}
 
 pub or_true : (b : Bool) → (b || true) ≡ true
 or_true true = refl
@@ -42,13 +42,11 @@ one_waits counter (h ∷ hs) few waits = go h.marked few waits (one_waits counte
 
 -- what is acknowledged waits
 pub acknowledged_waits : (s : ServerState) (f : Frame) (reply : ℕ × Code) → acknowledges s f ≡ Some reply → waits_for (waiting s) reply.0 ≡ true
-acknowledged_waits s f reply is = go (f.address == s.address) (f.counter == 0) (reply_in f.message) is
+acknowledged_waits s f reply is = go (reply_from s.address f) is
   where
-    go : (a z : Bool) (o : Option (ℕ × Code)) → cond (a && z) (reply_to_one (waiting s) o) None ≡ Some reply → waits_for (waiting s) reply.0 ≡ true
-    go false z o e = absurd (cc)
-    go true false o e = absurd (cc)
-    go true true None e = absurd (cc)
-    go true true (Some r) e = by_waiting (waits_for (waiting s) r.0) refl e
+    go : (o : Option (ℕ × Code)) → reply_to_one (waiting s) o ≡ Some reply → waits_for (waiting s) reply.0 ≡ true
+    go None e = absurd (cc)
+    go (Some r) e = by_waiting (waits_for (waiting s) r.0) refl e
       where
         by_waiting : (b : Bool) → waits_for (waiting s) r.0 ≡ b → cond b (Some r) None ≡ Some reply → waits_for (waiting s) reply.0 ≡ true
         by_waiting true is e = let same : r ≡ reply = cc in ap (λ (x : ℕ × Code). waits_for (waiting s) x.0) (sym same) ∙ is

@@ -19,3 +19,4 @@ pub mod Using
 pub mod Driving
 pub mod Listening
 pub mod Window
+pub mod Joining

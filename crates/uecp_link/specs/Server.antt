@@ -82,15 +82,20 @@ abbrev pub reply_in : List ℕ → Option (ℕ × Code)
 reply_in (a ∷ b ∷ c ∷ []) = if a == 0x18 then option_map (λ code. (c, code)) (code_of_byte b) else None
 reply_in _ = None
 
+-- The counter and the code of a reply of the encoder at an address: a frame that carries this very address and counter 00, and whose message gives them. No other
+-- frame is one. (profile)
+abbrev pub reply_from : (address : ℕ) → Frame → Option (ℕ × Code)
+reply_from address f = if f.address == address && f.counter == 0 then reply_in f.message else None
+
 -- A reply, where one of these messages has its counter.
 abbrev pub reply_to_one : List (ℕ × List ℕ) → Option (ℕ × Code) → Option (ℕ × Code)
 reply_to_one ws None = None
 reply_to_one ws (Some reply) = if waits_for ws reply.0 then Some reply else None
 
--- The counter and the code with which a frame acknowledges: it carries the encoder's own address and counter 00, and its message gives a code for the
--- counter of a message that waits. Every other frame acknowledges nothing. (profile)
+-- The counter and the code with which a frame acknowledges: it is a reply of the server's encoder, for the counter of a message that waits. Every other frame
+-- acknowledges nothing. (profile)
 abbrev pub acknowledges : ServerState → Frame → Option (ℕ × Code)
-acknowledges s f = if f.address == s.address && f.counter == 0 then reply_to_one (waiting s) (reply_in f.message) else None
+acknowledges s f = reply_to_one (waiting s) (reply_from s.address f)
 
 -- Any code acknowledges, a refusal too: the message is marked, and what may be let go is; what does not acknowledge is counted as stray and changes nothing
 -- else. (profile)

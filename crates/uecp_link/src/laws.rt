@@ -6,6 +6,7 @@ ghost use Rattle.uecp_frame.specs.Findings.{Closed};
 ghost use Rattle.uecp_encoder.specs.State.{EncoderState};
 ghost use Rattle.uecp_encoder.specs.Joining.{falling};
 ghost use Rattle.uecp_encoder.specs.Target.{Taken};
+ghost use Rattle.uecp_link.specs.Joining.{JoinsOverALine, WholePassBringsBoth};
 ghost use Rattle.uecp_link.specs.Kept.{IsReady};
 ghost use Rattle.uecp_link.specs.Law.{Law, LawFrom, NumbersLaw, Fits};
 ghost use Rattle.uecp_link.specs.Holds.{LineState, Outcome, Plays, history_by, line_from, new_line};
@@ -46,6 +47,19 @@ pub fn once_and_in_order_from<T: Target>()
 /// An encoder that has joined is such a one.
 pub fn joined_is_ready()
     ensures { (ring : List (ℕ × Code)) → map (λ pair. pair.0) ring ≡ falling 0xFF 127 → IsReady ring }
+{}
+
+/// Both directions of one connection, each of which keeps its order and loses nothing but its end. A pass comes to an encoder that has
+/// nothing open and at whose target an empty message changes nothing, and its replies come back, each as far as it may. Once the reply
+/// to 81 was read and after it the reply to FF, no frame of the pass and no reply is still to come, nothing is open at either end, and the
+/// encoder has its target as it was, keeps the replies to 81 .. FF and no other, and expects 01.
+pub fn joined_over_a_line<T: Target>()
+    ensures { JoinsOverALine T.step }
+{}
+
+/// Where nothing is lost on this connection, the replies to one pass hold both, from wherever the encoder was.
+pub fn whole_pass_brings_both<T: Target>()
+    ensures { WholePassBringsBoth T.step }
 {}
 
 /// From every state that a line can be in, where nothing is lost any more: once the frame of each message that is outstanding

@@ -9,6 +9,7 @@
 //! - [`Server`]: numbers messages, up to eight outstanding at a time, and knows the replies to them; [`Heard`] is its answer, and
 //!   [`ServerCounts`] what it has heard so far.
 //! - [`drive`], [`resend`] and [`send_window`]: a server over a reader and a writer, with one message or with all that wait.
+//! - [`join`]: a new server brings an encoder that has kept replies to where a first message may follow.
 //! - [`Line`]: both ends, with [`LineEvent`], [`Stepped`] and [`LineRefusal`] as what happens, what comes of it, and why not.
 //! - [`laws`]: what holds of the definitions over every list of events.
 //!
@@ -25,6 +26,7 @@ mod event;
 mod feeding;
 mod heard;
 mod holding;
+mod joining;
 pub mod laws;
 mod line;
 mod line_steps;
@@ -37,6 +39,7 @@ pub use counts::ServerCounts;
 pub use driving::{DriveFault, Driven, drive, resend};
 pub use event::{LineEvent, Side};
 pub use heard::{Heard, HeardWhat};
+pub use joining::{Joining, join};
 pub use line::Line;
 pub use refusal::LineRefusal;
 pub use server::Server;

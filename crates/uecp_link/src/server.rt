@@ -4,19 +4,20 @@ ghost use Rattle.std.specs.List.{IsDistinct};
 ghost use Rattle.std.specs.Option.{option_copied};
 ghost use Rattle.uecp_frame.specs.Address.{is_exact};
 ghost use Rattle.uecp_frame.specs.Findings.{Closed};
-ghost use Rattle.uecp_frame.specs.Lent.{frame_lent};
-ghost use Rattle.uecp_link.specs.Server.{idle_at, nothing_counted, submitted, waiting, is_marked, acknowledges, heard, HearsPiece, frames_waiting, counters_waiting, outgoing_bytes};
+ghost use Rattle.uecp_link.specs.Server.{idle_at, submitted, waiting, is_marked, heard, HearsPiece, frames_waiting, counters_waiting, outgoing_bytes};
 ghost use Rattle.uecp_link.specs.Window.{mark_in};
-ghost use Rattle.uecp_link.specs.Holding.{held_in};
+
+mod passing;
+mod replies;
 
 use crate::counters::counter_of;
 use crate::counts::ServerCounts;
 use crate::heard::{Heard, HeardWhat};
-use crate::holding::{HeldMessage, count_waiting, counter_at, frame_at, is_waiting, let_go, mark};
+use crate::holding::{HeldMessage, count_waiting, counter_at, frame_at, let_go, mark};
+use crate::server::replies::acknowledging;
 use arrayvec::ArrayVec;
 use std::marker::Model;
-use uecp_elements::Code;
-use uecp_frame::{Address, Deframer, FoundRef, Frame, FrameBytes, FrameRef, Message, encode};
+use uecp_frame::{Address, Deframer, FoundRef, Frame, FrameBytes, Message, encode};
 
 /// A server that sends messages to one encoder, up to eight outstanding at a time: it numbers a message, lends its frame as
 /// often as the caller sends it, and knows the encoder's reply to it from all else. Contracts see it as one value,
@@ -235,23 +236,5 @@ impl Server {
         ensures { self.new ≡ record self.old { part = Closed } }
     {
         self.deframer.line_lost();
-    }
-}
-
-/// The counter and the code with which a frame acknowledges one of the messages of a server with this address.
-fn acknowledging(address: Address, held: &[HeldMessage], frame: &FrameRef<'_>) -> Option<(u8, Code)>
-    ensures { result ≡ acknowledges (record { address = address; last = 0; held = held_in held.now; counts = nothing_counted; part = Closed }) (frame_lent frame.now) }
-{
-    if *frame.address != address || frame.counter != 0 {
-        return None;
-    }
-    let [0x18, code, counter] = frame.message else {
-        return None;
-    };
-    let code = Code::from_byte(*code)?;
-    if is_waiting(held, *counter) {
-        Some((*counter, code))
-    } else {
-        None
     }
 }

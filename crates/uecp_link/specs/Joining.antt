@@ -1,0 +1,191 @@
+-- How a server that knows nothing of an encoder joins it: by a pass of empty messages, and the replies to two of them; a reader has to believe it, but for what is
+-- marked private. Source: profile.
+use Rattle.std.specs.Prelude.{◌≡◌, ◌≢◌, ℕ, ◌+◌, ◌-◌, ◌*◌, ◌^◌, ◌<◌, ◌≤◌, ◌==◌, ◌⊎◌, List, [], ◌∷◌, ◌++◌, length, map, take, filter_map, Option, None, Result, Ok, Err, if◌then◌else◌}
+use Rattle.std.specs.List.{concat}
+use Rattle.std.specs.Option.{option_map}
+use Rattle.std.specs.Io.KnownBytes.{Appends, Consumes, IsAtEnd}
+use Rattle.uecp_frame.specs.Frame.{spelling}
+use Rattle.uecp_frame.specs.Findings.{Finding, OpenPart, Closed as NothingOpen}
+use Rattle.uecp_frame.specs.Beyond.{found_beyond, open_beyond}
+use Rattle.reply_ring.specs.Ring.{newest}
+use Rattle.uecp_encoder.specs.Target.{Step}
+use Rattle.uecp_encoder.specs.State.{EncoderState, opening, next_after, fed}
+use Rattle.uecp_encoder.specs.Answering.{answers}
+use Rattle.uecp_encoder.specs.Laws.{Happening, after_happenings}
+use Rattle.uecp_encoder.specs.Joining.{rising, falling}
+use Rattle.uecp_encoder.specs.Metered.{Metered, counted}
+use Rattle.uecp_link.specs.declared.driving.DriveFault.{DriveFault}
+use Rattle.uecp_link.specs.declared.driving.DriveFault.TheVariants.{WriteFailed, Closed, TriesSpent}
+use Rattle.uecp_link.specs.declared.joining.Joining.{Joining}
+use Rattle.uecp_link.specs.declared.joining.Joining.TheVariants.{Joined, Spent}
+use Rattle.uecp_link.specs.declared.joining.Seen.{Seen}
+use Rattle.uecp_link.specs.declared.joining.Seen.TheVariants.{Neither, First, Both}
+use Rattle.uecp_link.specs.Frames.{frame_under}
+use Rattle.uecp_link.specs.Server.{ServerState, reply_from, heard}
+
+-- ---- What is sent.
+
+-- The frames of a pass as they are sent: an empty message under each of 01, 02 .. FF, in this order. (profile; SPB 490, frame format)
+unfoldable pub frames_of_pass : (address : ℕ) → List (List ℕ)
+frames_of_pass address = map (λ counter. spelling (frame_under address (counter, []))) (rising 0x01 255)
+
+-- A pass: its frames, one after another.
+abbrev pub pass_sent : (address : ℕ) → List ℕ
+pass_sent address = concat (frames_of_pass address)
+
+-- ---- What is read.
+
+-- The counter that a finding replies to, where it is a reply of the encoder at this address, whatever its code.
+abbrev pub reply_counter : (address : ℕ) → Finding → Option ℕ
+reply_counter address (Err fault) = None
+reply_counter address (Ok f) = option_map (λ reply. reply.0) (reply_from address f)
+
+-- The counters of the replies that some bytes bring after this open part, in order.
+abbrev pub reply_counters : (address : ℕ) → OpenPart → List ℕ → List ℕ
+reply_counters address part bytes = filter_map (reply_counter address) (found_beyond part bytes)
+
+-- Of these counters one is 81, and one after it is FF.
+pub record IsJoinedBy (counters : List ℕ) : Type 0 where
+  pub before : List ℕ
+  pub between : List ℕ
+  pub after : List ℕ
+  pub are : counters ≡ before ++ 0x81 ∷ (between ++ 0xFF ∷ after)
+
+-- Some bytes of a new connection bring the reply to 81 and, after it, the reply to FF.
+abbrev pub BringsBoth : (address : ℕ) → List ℕ → Type 0
+BringsBoth address bytes = IsJoinedBy (reply_counters address NothingOpen bytes)
+
+-- ---- What a call does.
+
+-- A server as it begins anew: its next message will have counter 01, it holds none, and nothing is open. Its counts stay. (profile)
+abbrev pub anew : ServerState → ServerState
+anew s = record s { last = 0; held = []; part = NothingOpen }
+
+-- A server that began anew and heard some bytes is still so, but for its open part and its counts of stray frames and dropped segments.
+abbrev pub IsStillNew : (old new : ServerState) → Type 0
+IsStillNew old new = new ≡ record (anew old) { counts = record new.counts { acknowledged = old.counts.acknowledged }; part = new.part }
+
+-- How the reads of a pass ended. Joined: both replies were read, and not so 64 bytes before. Spent: they were not, and one read failed, or none and all turns were made.
+-- Closed: they were not, and the input is at its end.
+abbrev pub RepliesEnd : (address : ℕ) → (read : List ℕ) → (unread : Option (List ℕ)) → (turns reads failed : ℕ) → Result Joining DriveFault → Type 0
+RepliesEnd address read unread turns reads failed (Ok Joined) = BringsBoth address read × (BringsBoth address (take (length read - 64) read) → ⊥) × (failed ≡ 0) × (1 ≤ reads)
+RepliesEnd address read unread turns reads failed (Ok Spent) = (BringsBoth address read → ⊥) × (((failed ≡ 1) × (1 ≤ reads)) ⊎ ((failed ≡ 0) × (reads ≡ turns)))
+RepliesEnd address read unread turns reads failed (Err Closed) = (BringsBoth address read → ⊥) × (failed ≡ 0) × (1 ≤ reads) × IsAtEnd unread
+RepliesEnd address read unread turns reads failed (Err (WriteFailed w)) = ⊥
+RepliesEnd address read unread turns reads failed (Err TriesSpent) = ⊥
+
+-- How a pass ended. A write failed: the first w bytes of the pass were sent, not all, and no read was made. Else the pass was sent whole, and the reads ended.
+abbrev pub PassEnds : (address : ℕ) → (read sent : List ℕ) → (unread : Option (List ℕ)) → (turns reads failed : ℕ) → Result Joining DriveFault → Type 0
+PassEnds address read sent unread turns reads failed (Err (WriteFailed w)) = (sent ≡ take w (pass_sent address)) × (w < length (pass_sent address)) × (read ≡ []) × (reads ≡ 0) × (failed ≡ 0)
+PassEnds address read sent unread turns reads failed (Err Closed) = (sent ≡ pass_sent address) × RepliesEnd address read unread turns reads failed (Err Closed)
+PassEnds address read sent unread turns reads failed (Err TriesSpent) = ⊥
+PassEnds address read sent unread turns reads failed (Ok joining) = (sent ≡ pass_sent address) × RepliesEnd address read unread turns reads failed (Ok joining)
+
+-- the writer's failures after the pass: one more at `WriteFailed`
+abbrev pub pass_failures : Result Joining DriveFault → ℕ → ℕ
+pass_failures (Err (WriteFailed w)) failures = counted failures
+pass_failures (Err Closed) failures = failures
+pass_failures (Err TriesSpent) failures = failures
+pass_failures (Ok joining) failures = failures
+
+-- A pass from one state of the server to another, over a reader and a writer before and after it: what was sent and read, by how many reads, and how it ended. The server begins
+-- anew and hears all that was read; as it holds nothing, each reply counts as stray.
+pub record MakesPass {R W : Type 0} (remaining : R → Option (List ℕ)) (contents : W → Option (List ℕ)) (old new : ServerState) (reader reader' : Metered R) (writer writer' : Metered W) (turns : ℕ) (result : Result Joining DriveFault) : Type 0 where
+  pub read : List ℕ
+  pub sent : List ℕ
+  pub reads : ℕ
+  pub failed : ℕ
+  pub consumed : Consumes (remaining reader.device) (remaining reader'.device) read
+  pub appended : Appends (contents writer.device) (contents writer'.device) sent
+  pub state : new ≡ heard (anew old) read
+  pub ends : PassEnds old.address read sent (remaining reader'.device) turns reads failed result
+  pub bring : result ≢ Err Closed → reads ≤ length read + failed
+  pub few_reads : reads ≤ turns
+  pub few_bytes : length read ≤ 64 * reads
+  pub calls : reader.calls + reads < 2 ^ 128 → reader'.calls ≡ reader.calls + reads
+  pub read_failures : reader.failures + failed < 2 ^ 128 → reader'.failures ≡ reader.failures + failed
+  pub write_failures : writer'.failures ≡ pass_failures result writer.failures
+
+-- ---- Both directions of one connection.
+
+-- An encoder that has joined, with this value at its target: it keeps replies to FF, FE .. 81 and no other, the next is 01, and nothing is open.
+pub record HasJoinedWith {V : Type 0} (e : EncoderState V) (value : V) : Type 0 where
+  pub value_is : e.value ≡ value
+  pub kept : map (λ pair. pair.0) e.ring ≡ falling 0xFF 127
+  pub next : next_after (newest e.ring) ≡ 1
+  pub closed : e.part ≡ NothingOpen
+
+-- The encoder got some bytes of a pass, the others were coming; some bytes of its replies were read, the others not. Of the pass and of the replies nothing is still
+-- to come; the encoder has joined, its target as it was; and nothing is open at the server either.
+pub record IsOver {V : Type 0} (step : Step V) (e : EncoderState V) (got coming read unread : List ℕ) : Type 0 where
+  pub pass : coming ≡ []
+  pub replies : unread ≡ []
+  pub encoder : HasJoinedWith (fed step e got) e.value
+  pub server : open_beyond NothingOpen read ≡ NothingOpen
+
+-- On a line that keeps the order of each direction and loses nothing but its end: where an empty message leaves the target as it is, and whatever happened to an encoder
+-- since it was new, if nothing is open at it, a pass is sent to it, and what was read of its replies brings both, then all is over.
+abbrev pub JoinsOverALine : {V : Type 0} → Step V → Type 0
+JoinsOverALine {V} step =
+    ((v : V) → (step v []).0 ≡ v) →
+    (address : ℕ) (value : V) (before : List (Happening V)) (got coming read unread : List ℕ) →
+    let e : EncoderState V = after_happenings step (opening address value) before in
+    e.part ≡ NothingOpen →
+    got ++ coming ≡ pass_sent address →
+    read ++ unread ≡ answers step e got →
+    BringsBoth address read →
+    IsOver step e got coming read unread
+
+-- Where nothing is lost, neither of the pass nor of the replies to it, both replies come, from wherever the encoder was: one pass is enough.
+abbrev pub WholePassBringsBoth : {V : Type 0} → Step V → Type 0
+WholePassBringsBoth {V} step =
+    (address : ℕ) (value : V) (before : List (Happening V)) →
+    let e : EncoderState V = after_happenings step (opening address value) before in
+    e.part ≡ NothingOpen →
+    BringsBoth address (answers step e (pass_sent address))
+
+-- ---- How far the replies have come, piece by piece (private).
+
+-- After one counter more.
+abbrev pub seen_with : Seen → ℕ → Seen
+seen_with Neither counter = if counter == 0x81 then First else Neither
+seen_with First counter = if counter == 0xFF then Both else First
+seen_with Both counter = Both
+
+-- After counters, one after another.
+abbrev pub seen_after : Seen → List ℕ → Seen
+seen_after seen [] = seen
+seen_after seen (counter ∷ counters) = seen_after (seen_with seen counter) counters
+
+-- The reads of a pass from a server with nothing open and nothing held (private).
+pub record ReadsReplies {R : Type 0} (remaining : R → Option (List ℕ)) (old new : ServerState) (reader reader' : Metered R) (turns : ℕ) (result : Result Joining DriveFault) : Type 0 where
+  pub read : List ℕ
+  pub reads : ℕ
+  pub failed : ℕ
+  pub consumed : Consumes (remaining reader.device) (remaining reader'.device) read
+  pub state : new ≡ heard old read
+  pub ends : RepliesEnd old.address read (remaining reader'.device) turns reads failed result
+  pub bring : result ≢ Err Closed → reads ≤ length read + failed
+  pub few_reads : reads ≤ turns
+  pub few_bytes : length read ≤ 64 * reads
+  pub calls : reader.calls + reads < 2 ^ 128 → reader'.calls ≡ reader.calls + reads
+  pub read_failures : reader.failures + failed < 2 ^ 128 → reader'.failures ≡ reader.failures + failed
+
+-- So many reads, none of which failed, after which the two replies were not both read (private).
+pub record ReadSoFar {R : Type 0} (remaining : R → Option (List ℕ)) (old new : ServerState) (reader reader' : Metered R) (seen : Seen) (reads : ℕ) : Type 0 where
+  pub read : List ℕ
+  pub consumed : Consumes (remaining reader.device) (remaining reader'.device) read
+  pub state : new ≡ heard old read
+  pub idle : new.held ≡ []
+  pub seen_is : seen ≡ seen_after Neither (reply_counters old.address old.part read)
+  pub waits : seen ≢ Both
+  pub bring : reads ≤ length read
+  pub few_bytes : length read ≤ 64 * reads
+  pub calls : reader.calls + reads < 2 ^ 128 → reader'.calls ≡ reader.calls + reads
+  pub read_failures : reader'.failures ≡ reader.failures
+
+-- A piece is heard up to its rest, which brings what is left of the replies (private).
+pub record HearsOn (old new : ServerState) (piece rest : List ℕ) (seen seen' : Seen) : Type 0 where
+  pub state : heard new rest ≡ heard old piece
+  pub idle : new.held ≡ []
+  pub seen_is : seen_after seen' (reply_counters new.address new.part rest) ≡ seen_after seen (reply_counters old.address old.part piece)
