@@ -11,7 +11,7 @@ pub struct FaultyReader<'a> {
     /// At most so many bytes a call; 0 is as 1.
     most: usize,
     /// How many calls were made.
-    calls: u32,
+    reads: u32,
     /// The calls that fail, counted from 1.
     failing: &'a [u32],
 }
@@ -22,7 +22,7 @@ impl<'a> FaultyReader<'a> {
         FaultyReader {
             rest: bytes,
             most: usize::MAX,
-            calls: 0,
+            reads: 0,
             failing: &[],
         }
     }
@@ -39,6 +39,11 @@ impl<'a> FaultyReader<'a> {
             ..self
         }
     }
+
+    /// How many reads were made, those that failed and those at the end among them. At its greatest value it stays.
+    pub fn reads(&self) -> u32 {
+        self.reads
+    }
 }
 
 impl Read for FaultyReader<'_> {
@@ -47,8 +52,8 @@ impl Read for FaultyReader<'_> {
     ghost remaining = { λ r. Some r.rest.now };
 
     fn read(&mut self, buf: &mut [u8]) -> io::Result<usize> {
-        self.calls = self.calls.saturating_add(1);
-        if self.failing.contains(&self.calls) {
+        self.reads = self.reads.saturating_add(1);
+        if self.failing.contains(&self.reads) {
             return Err(ErrorKind::Other.into());
         }
         let room = buf.len().min(self.most.max(1));

@@ -13,11 +13,13 @@ pub struct FaultyWriter<'a> {
     taken: Taken,
     /// At most so many bytes a call.
     most: usize,
-    /// How many calls were made.
-    calls: u32,
-    /// The calls that fail, counted from 1.
+    /// How many writes were made.
+    writes: u32,
+    /// How many flushes were made.
+    flushes: u32,
+    /// The writes that fail, counted from 1.
     failing: &'a [u32],
-    /// The calls that take no byte, counted from 1.
+    /// The writes that take no byte, counted from 1.
     empty: &'a [u32],
 }
 
@@ -27,7 +29,8 @@ impl<'a> FaultyWriter<'a> {
         FaultyWriter {
             taken: Taken::new(),
             most: usize::MAX,
-            calls: 0,
+            writes: 0,
+            flushes: 0,
             failing: &[],
             empty: &[],
         }
@@ -38,7 +41,7 @@ impl<'a> FaultyWriter<'a> {
         FaultyWriter { most, ..self }
     }
 
-    /// The same with these calls failing, counted from 1.
+    /// The same with these writes failing, counted from 1.
     pub fn failing_at(self, calls: &'a [u32]) -> FaultyWriter<'a> {
         FaultyWriter {
             failing: calls,
@@ -46,7 +49,7 @@ impl<'a> FaultyWriter<'a> {
         }
     }
 
-    /// The same with these calls taking no byte, counted from 1.
+    /// The same with these writes taking no byte, counted from 1.
     pub fn taking_none_at(self, calls: &'a [u32]) -> FaultyWriter<'a> {
         FaultyWriter {
             empty: calls,
@@ -58,6 +61,16 @@ impl<'a> FaultyWriter<'a> {
     pub fn taken(&self) -> &[u8] {
         self.taken.as_slice()
     }
+
+    /// How many writes were made, those that failed and those that took no byte among them. At its greatest value it stays.
+    pub fn writes(&self) -> u32 {
+        self.writes
+    }
+
+    /// How many flushes were made. At its greatest value it stays.
+    pub fn flushes(&self) -> u32 {
+        self.flushes
+    }
 }
 
 impl Write for FaultyWriter<'_> {
@@ -66,11 +79,11 @@ impl Write for FaultyWriter<'_> {
     ghost contents = { λ w. Some w.taken.items };
 
     fn write(&mut self, buf: &[u8]) -> io::Result<usize> {
-        self.calls = self.calls.saturating_add(1);
-        if self.failing.contains(&self.calls) {
+        self.writes = self.writes.saturating_add(1);
+        if self.failing.contains(&self.writes) {
             return Err(ErrorKind::Other.into());
         }
-        if self.empty.contains(&self.calls) {
+        if self.empty.contains(&self.writes) {
             return Ok(0);
         }
         let count = buf.len().min(self.most);
@@ -81,6 +94,7 @@ impl Write for FaultyWriter<'_> {
     }
 
     fn flush(&mut self) -> io::Result<()> {
+        self.flushes = self.flushes.saturating_add(1);
         Ok(())
     }
 }

@@ -7,13 +7,15 @@ mod network;
 mod order;
 
 use crate::program::run_words;
+use faulty_devices::{FaultyReader, FaultyWriter};
 use std::alloc::Global;
 use std::io;
 use std::io::{ErrorKind, Read, Write};
 use std::net::{Net, TcpListener, TcpStream};
 use std::process::Abort;
 use std::test::Fail;
-use uecp_jobs::{Job, run_job};
+use uecp_jobs::{Job, run_encoder, run_job, run_server};
+use uecp_net::Connect;
 
 /// The frame that sets PI C201, and a line that is not hex.
 const PIECES: &str = "FE 00 41 01 05 01 00 00 C2 01 67 A8 FF\nFE 0\n";
@@ -61,6 +63,9 @@ struct Device {
     fails_at: u32,
     fails_flushed: bool,
     calls: u32,
+    flushes: u32,
+    /// How much was held when it was flushed last.
+    flushed: usize,
 }
 
 impl Device {
@@ -71,6 +76,8 @@ impl Device {
             fails_at,
             fails_flushed,
             calls: 0,
+            flushes: 0,
+            flushed: 0,
         }
     }
 }
@@ -90,6 +97,8 @@ impl Write for Device {
 
     fn flush(&mut self) -> io::Result<()> {
         self.calls = self.calls.saturating_add(1);
+        self.flushes = self.flushes.saturating_add(1);
+        self.flushed = self.held.len();
         if self.fails_flushed {
             return Err(ErrorKind::Other.into());
         }
@@ -210,6 +219,158 @@ fn refused_services_read_and_write_nothing(rt: HostRuntime) -> Result<(), Fail> 
         errors.held.as_slice(),
         b"uecp: services: ServiceTwice\n".as_slice()
     );
+    Ok(())
+}
+
+/// Connections that give these bytes, at most a reply a read, and take what is written.
+#[derive(Drop)]
+struct Connections<'a> {
+    given: &'a [u8],
+    opened: u32,
+}
+
+impl<'a> Connect for Connections<'a> {
+    type Input = FaultyReader<'a>;
+
+    type Output = FaultyWriter<'a>;
+
+    ghost opens = { λ _ _ _. Unit {0} };
+
+    ghost closes = { λ _ _ _ _. Unit {0} };
+
+    fn open(&mut self) -> Option<(FaultyReader<'a>, FaultyWriter<'a>)> {
+        self.opened = self.opened.saturating_add(1);
+        let input = FaultyReader::new(self.given).giving(11);
+        Some((input, FaultyWriter::new()))
+    }
+
+    fn close(&mut self, _input: FaultyReader<'a>, _output: FaultyWriter<'a>) {}
+}
+
+/// The output has just these lines, all of them flushed, by so many flushes; and the text of errors is this.
+fn are_flushed(rt: &impl Abort, ends: (&Device, &Device), flushes: u32, lines: &str, said: &str) {
+    let (output, errors) = ends;
+    assert_eq!(rt; (output.flushes, output.flushed), (flushes, lines.len()));
+    assert_eq!(rt; output.held.as_slice(), lines.as_bytes());
+    assert_eq!(rt; errors.held.as_slice(), said.as_bytes());
+}
+
+#[test]
+fn a_job_is_flushed_at_its_end(rt: HostRuntime) -> Result<(), Fail> {
+    let alloc = rt.alloc();
+    let job = answer(alloc, &[0x01])?;
+    let mut source = Source::new(PIECES, ALL, 0);
+    let mut output = Device::new(alloc, 7, 0, false);
+    let mut errors = Device::new(alloc, ALL, 0, false);
+    let status = run_job(alloc, &job, &mut source, &mut output, &mut errors);
+    assert_eq!(rt; status, 1);
+    let said = "uecp: line 2: not hex\n";
+    are_flushed(&rt, (&output, &errors), 1, REPLY, said);
+    Ok(())
+}
+
+#[test]
+fn each_line_of_an_encoder_is_flushed(rt: HostRuntime) -> Result<(), Fail> {
+    let alloc = rt.alloc();
+    let both = "connection 1 replies 0\nconnection 2 replies 0\n";
+    let failed = "uecp: writing failed\n";
+    let rows = [
+        (false, 0, 2, both, ""),
+        (true, 3, 1, "connection 1 replies 0\n", failed),
+    ];
+    for (fails, status, count, lines, said) in rows {
+        let job = Job::Encoder {
+            site: 1,
+            encoder: 1,
+            sets: 1,
+            services: Vec::from_slice(alloc, &[0x01])?,
+            port: 4000,
+            connections: 2,
+            turns: 16,
+        };
+        let mut connect = Connections {
+            given: b"",
+            opened: 0,
+        };
+        let mut output = Device::new(alloc, ALL, 0, fails);
+        let mut errors = Device::new(alloc, ALL, 0, false);
+        let came = run_encoder(alloc, &job, &mut output, &mut errors, &mut connect);
+        assert_eq!(rt; (came, connect.opened), (status, count));
+        are_flushed(&rt, (&output, &errors), count, lines, said);
+    }
+    Ok(())
+}
+
+/// Code 00 to counter 01, and to counter 02.
+const APPLIED_BOTH: [u8; 22] =
+    *b"\xFE\x00\x41\x00\x03\x18\x00\x01\x40\xBE\xFF\xFE\x00\x41\x00\x03\x18\x00\x02\x70\xDD\xFF";
+
+#[test]
+fn each_line_of_a_server_is_flushed(rt: HostRuntime) -> Result<(), Fail> {
+    let alloc = rt.alloc();
+    let both = "acknowledged 00 tries 1\nacknowledged 00 tries 1\n";
+    let failed = "uecp: writing failed\n";
+    let rows = [
+        (false, 0, 2, both, ""),
+        (true, 3, 1, "acknowledged 00 tries 1\n", failed),
+    ];
+    for (fails, status, count, lines, said) in rows {
+        let job = Job::Server {
+            site: 1,
+            encoder: 1,
+            host: String::from_str(alloc, "127.0.0.1")?,
+            port: 4000,
+            tries: 3,
+            timeout: 1000,
+            turns: 16,
+            reconnects: 3,
+            window: 1,
+        };
+        let mut source = Source::new("-\n-\n", ALL, 0);
+        let mut connect = Connections {
+            given: &APPLIED_BOTH,
+            opened: 0,
+        };
+        let mut output = Device::new(alloc, ALL, 0, fails);
+        let mut errors = Device::new(alloc, ALL, 0, false);
+        let came = run_server(
+            alloc,
+            &job,
+            &mut source,
+            &mut output,
+            &mut errors,
+            &mut connect,
+        );
+        assert_eq!(rt; (came, connect.opened), (status, 1));
+        are_flushed(&rt, (&output, &errors), count, lines, said);
+    }
+    Ok(())
+}
+
+#[test]
+fn a_text_that_is_asked_for_is_flushed(rt: HostRuntime) -> Result<(), Fail> {
+    let alloc = rt.alloc();
+    for word in ["--help", "--version"] {
+        for (fails, status, said) in [(false, 0, ""), (true, 3, "uecp: writing failed\n")] {
+            let mut given = Vec::new(alloc);
+            given.push(String::from_str(alloc, "uecp")?)?;
+            given.push(String::from_str(alloc, word)?)?;
+            let mut source = Source::new(PIECES, ALL, 0);
+            let mut output = Device::new(alloc, ALL, 0, fails);
+            let mut errors = Device::new(alloc, ALL, 0, false);
+            let came = run_words(
+                alloc,
+                given.as_slice(),
+                &mut source,
+                &mut output,
+                &mut errors,
+                &rt,
+            );
+            assert_eq!(rt; (came, source.reads, output.flushes), (status, 0, 1));
+            assert!(rt; output.flushed > 0 && output.flushed == output.held.len());
+            assert_eq!(rt; errors.held.as_slice(), said.as_bytes());
+        }
+    }
     Ok(())
 }
 

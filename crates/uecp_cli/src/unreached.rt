@@ -36,7 +36,10 @@ fn write_line<'a, E: Write>(
 ) -> Result<(), RunFault>
     ensures { Begins (E.contents errors.old) (E.contents errors.new) (codes "uecp: " ++ (host.now ++ (codes " port " ++ (port.now ++ (codes ": " ++ (words.now ++ codes "\n")))))) }
 {
-    write_parts(&[b"uecp: ", host, b" port ", port, b": ", words, b"\n"], errors)
+    write_parts(
+        &[b"uecp: ", host, b" port ", port, b": ", words, b"\n"],
+        errors,
+    )
 }
 
 /// What is said of a fault.

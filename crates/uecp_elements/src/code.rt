@@ -1,12 +1,12 @@
 //! Reply codes: what a message came to. Source: profile.
 ghost use Rattle.std.specs.Prelude.{◌≡◌, ◌≢◌, Some, IfSome, IfNone};
 ghost use Rattle.uecp_elements.specs.Codes.{byte_of, code_of_byte};
+ghost use Rattle.uecp_elements.specs.declared.code.Code.TheVariants.{Applied};
 
 /// What a message came to, in the order of the bytes by which an encoder says so.
-#[derive(Clone, Copy, Debug, Default, PartialEq, Eq, Hash)]
+#[derive(Clone, Copy, Debug, PartialEq, Eq, Hash)]
 pub enum Code {
     /// 00: every element was applied.
-    #[default]
     Applied,
     /// 03: no element begins with the byte where one was to begin.
     UnknownElement,
@@ -61,5 +61,14 @@ impl Code {
             0x0b => Some(Code::BufferFull),
             _ => None,
         }
+    }
+}
+
+impl Default for Code {
+    ghost is_default = { λ code. code ≡ Applied };
+
+    /// What stands in a place of a fixed room where no code is held: `Applied`.
+    fn default() -> Code {
+        Code::Applied
     }
 }

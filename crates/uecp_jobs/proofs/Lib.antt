@@ -11,3 +11,4 @@ pub mod Pieces
 pub mod Streams
 pub mod Headlines
 pub mod Examples
+pub mod Remade

@@ -10,3 +10,4 @@ pub mod EncoderRun
 pub mod Messages
 pub mod Batches
 pub mod ServerRun
+pub mod Remade

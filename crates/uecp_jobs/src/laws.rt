@@ -1,6 +1,7 @@
 //! Laws of the definitions, each the contract of a function that does nothing.
 ghost use Rattle.uecp_jobs.specs.Streams.{ShowsOneStream, AnswersOneStream};
 ghost use Rattle.uecp_jobs.specs.Headlines.{ScriptsKeepHeadline};
+ghost use Rattle.uecp_jobs.specs.Remade.{IsRemade};
 
 /// Where no text is refused, what `show` writes depends on the bytes alone that its pieces spell, joined: it is what stands in
 /// one stream.
@@ -18,4 +19,11 @@ pub fn answers_one_stream()
 /// one reply, and every message that is missing is still outstanding.
 pub fn scripts_keep_the_headline()
     ensures { ScriptsKeepHeadline }
+{}
+
+/// What `show` writes of frames whose messages have no fault is a script: whatever `make` comes to on it, it refuses nothing and
+/// writes those frames.
+#[tactic(auto, using(crate::proofs::Remade::is_remade))]
+pub fn shown_is_remade()
+    ensures { IsRemade }
 {}

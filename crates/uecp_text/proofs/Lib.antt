@@ -1,5 +1,6 @@
 pub mod Leading
 pub mod Begun
+pub mod Added
 pub mod Lines
 pub mod Runs
 pub mod Wholes

@@ -14,6 +14,7 @@
 
 mod input;
 mod interpreter;
+pub mod laws;
 mod line_fault;
 mod output;
 mod piece_buffer;

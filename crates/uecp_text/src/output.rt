@@ -4,7 +4,7 @@ ghost use Rattle.std.specs.Io.KnownBytes.{Appends};
 ghost use Rattle.hex.specs.Hex.{encode_upper, upper_digits};
 ghost use Rattle.uecp_text.specs.Digits.{byte_word, number_word, row_word, decimal_word, flag_word};
 ghost use Rattle.uecp_text.specs.declared.run_fault.RunFault.TheVariants.{Writing};
-ghost use Rattle.uecp_text.specs.Written.{Kept, Adds, Begins};
+ghost use Rattle.uecp_text.specs.Written.{Kept, Adds, AddsFirst, Begins};
 
 use crate::run_fault::RunFault;
 use crate::writing::write_whole;
@@ -71,7 +71,8 @@ impl Output {
     /// Adds the bytes as they are.
     #[inline]
     fn add(&mut self, bytes: &[u8])
-        ensures { Adds self.old self.new bytes.now }
+        ensures added { Adds self.old self.new bytes.now }
+        ensures begun { AddsFirst self.old self.new bytes.now }
     {
         if self.is_whole {
             self.is_whole = self.bytes.extend_from_slice(bytes).is_ok();
@@ -81,14 +82,16 @@ impl Output {
     /// Adds the text.
     #[inline]
     pub fn text(&mut self, text: &str)
-        ensures { Adds self.old self.new text.now }
+        ensures added { Adds self.old self.new text.now }
+        ensures begun { AddsFirst self.old self.new text.now }
     {
         self.add(text.as_bytes());
     }
 
     /// Adds two upper case digits for each byte, nothing for no bytes.
     pub fn digits(&mut self, bytes: &[u8])
-        ensures { Adds self.old self.new (encode_upper bytes.now) }
+        ensures added { Adds self.old self.new (encode_upper bytes.now) }
+        ensures begun { AddsFirst self.old self.new (encode_upper bytes.now) }
     {
         if self.is_whole {
             self.is_whole = spell_after(bytes, &mut self.bytes).is_ok();
@@ -98,7 +101,8 @@ impl Output {
     /// Adds a space and the two digits of the byte.
     #[tactic(auto, unfolding(crate::specs::Digits::byte_word, hex::specs::Hex::encode_with))]
     pub fn byte(&mut self, byte: u8)
-        ensures { Adds self.old self.new (byte_word byte) }
+        ensures added { Adds self.old self.new (byte_word byte) }
+        ensures begun { AddsFirst self.old self.new (byte_word byte) }
     {
         let [high, low] = pair(byte);
         self.add(&[b' ', high, low]);
@@ -107,7 +111,8 @@ impl Output {
     /// Adds a space and the four digits of the number.
     #[tactic(auto, unfolding(crate::specs::Digits::number_word, hex::specs::Hex::encode_with))]
     pub fn number(&mut self, number: u16)
-        ensures { Adds self.old self.new (number_word number) }
+        ensures added { Adds self.old self.new (number_word number) }
+        ensures begun { AddsFirst self.old self.new (number_word number) }
     {
         let [high, low] = number.to_be_bytes();
         let first = pair(high);
@@ -116,9 +121,10 @@ impl Output {
     }
 
     /// Adds a space and the digits of the bytes, or `-` for no bytes.
-    #[tactic(auto, unfolding(crate::specs::Digits::row_word))]
+    #[tactic(auto, unfolding(crate::specs::Digits::row_word), using(crate::proofs::Added::first_then))]
     pub fn row(&mut self, bytes: &[u8])
-        ensures { Adds self.old self.new (row_word bytes.now) }
+        ensures added { Adds self.old self.new (row_word bytes.now) }
+        ensures begun { AddsFirst self.old self.new (row_word bytes.now) }
     {
         if bytes.is_empty() {
             self.text(" -");
@@ -129,9 +135,10 @@ impl Output {
     }
 
     /// Adds a space and the number in decimal.
-    #[tactic(auto, unfolding(crate::specs::Digits::decimal_word))]
+    #[tactic(auto, unfolding(crate::specs::Digits::decimal_word), using(crate::proofs::Added::first_then))]
     pub fn decimal(&mut self, number: usize)
-        ensures { Adds self.old self.new (decimal_word number) }
+        ensures added { Adds self.old self.new (decimal_word number) }
+        ensures begun { AddsFirst self.old self.new (decimal_word number) }
     {
         self.text(" ");
         self.text(Buffer::new().format(number));
@@ -140,14 +147,16 @@ impl Output {
     /// Adds a space and 1 or 0.
     #[tactic(auto, unfolding(crate::specs::Digits::flag_word))]
     pub fn flag(&mut self, is_set: bool)
-        ensures { Adds self.old self.new (flag_word is_set) }
+        ensures added { Adds self.old self.new (flag_word is_set) }
+        ensures begun { AddsFirst self.old self.new (flag_word is_set) }
     {
         self.text(if is_set { " 1" } else { " 0" });
     }
 
     /// Ends the line.
     pub fn end(&mut self)
-        ensures { Adds self.old self.new (codes "\n") }
+        ensures added { Adds self.old self.new (codes "\n") }
+        ensures begun { AddsFirst self.old self.new (codes "\n") }
     {
         self.text("\n");
     }
@@ -198,7 +207,8 @@ fn put_after(bytes: &[u8], held: &mut Vec<u8>) -> Result<(), AllocError>
 
 /// Puts two upper case digits for each byte after what is held; nothing where memory is refused.
 fn spell_after(bytes: &[u8], held: &mut Vec<u8>) -> Result<(), AllocError>
-    ensures { OnOk result (held.new.items ≡ held.old.items ++ encode_upper bytes.now) }
+    ensures added { OnOk result (held.new.items ≡ held.old.items ++ encode_upper bytes.now) }
+    ensures unchanged { OnErr result (held.new.items ≡ held.old.items) }
 {
     let start = held.len();
     let count = bytes.len().checked_mul(2).ok_or(AllocError)?;

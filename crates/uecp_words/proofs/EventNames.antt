@@ -1,5 +1,7 @@
 -- Words that name an event, and words that name none.
-use Rattle.std.proofs.Common.{◌≡◌, ℕ, ◌⊎◌, inl, inr, List, [], ◌∷◌, codes, refl, sym, ap, ◌∙◌, subst, length, get_or, ◌+◌, eqb, eq-eqb, false, Bor, ◌≤◌, ◌<◌, map, arith}
+use Rattle.std.proofs.Common.{◌≡◌, ℕ, ◌⊎◌, inl, inr, List, [], ◌∷◌, ◌++◌, codes, refl, sym, ap, ◌∙◌, subst, length, get_or, take, drop, Some, ◌+◌, eqb, eq-eqb, false, Bor, ◌≤◌, ◌<◌, map, arith}
+use Rattle.std.specs.List.{list_all}
+use Rattle.std.proofs.lemmas.List.{map_more, map-append, length-map}
 use Rattle.std.proofs.lemmas.Bool.{false≢true}
 use Rattle.uecp_link.specs.Once.{Event, Submit, FrameComes, ReplyComes, EncoderLost, ServerLost}
 use Rattle.uecp_link.specs.Events.{lost_of}
@@ -7,8 +9,8 @@ use Rattle.uecp_link.specs.declared.event.Side.{Side}
 use Rattle.uecp_link.specs.declared.event.Side.TheVariants as side
 use Rattle.uecp_text.specs.declared.line_fault.LineFault.{LineFault}
 use Rattle.uecp_text.specs.declared.line_fault.LineFault.TheVariants.{NotACommand, OutOfMemory}
-use Rattle.uecp_text.specs.Words.{IsRow}
-use Rattle.uecp_words.specs.EventWords.{name_of, end_word, noise_to, TellsMessage, TellsNoise, TellsRow, Names, Submits, IsFaultOf}
+use Rattle.uecp_text.specs.Words.{IsRow, decimal_in}
+use Rattle.uecp_words.specs.EventWords.{name_of, end_word, noise_to, is_cut, AreCuts, TellsMessage, TellsNoise, TellsRow, Names, Submits, IsFaultOf}
 
 -- ---- Words that name an event.
 
@@ -76,20 +78,33 @@ no_loss words none event named = apart (codes "line-lost") (name_of event) words
 abbrev pub FailsFor : {A : Type 0} → (A → Type 0) → LineFault → Type 0
 FailsFor {A} fits e = (e ≡ OutOfMemory) ⊎ ((e ≡ NotACommand) × ((a : A) → fits a → ⊥))
 
+-- Why the words after the name of a frame or a reply are refused.
+abbrev pub FailsFrom : List (List ℕ) → LineFault → Type 0
+FailsFrom words e = ((e ≡ OutOfMemory) × (1 < length words)) ⊎ ((e ≡ NotACommand) × ((number : ℕ) → TellsMessage words number → ⊥))
+
+-- The same of a slice of words.
+pub fails_from : (words : List (Bor (List ℕ))) (e : LineFault) → ((e ≡ OutOfMemory) × (1 < length words)) ⊎ ((e ≡ NotACommand) × ((number : ℕ) → TellsMessage (map (λ w. w.now) words) number → ⊥)) → FailsFrom (map (λ w. w.now) words) e
+fails_from words e (inl out) = inl (out.0, let same = length-map words (λ (w : Bor (List ℕ)). w.now) in omega arith)
+fails_from words e (inr f) = inr f
+
+-- A slice of one word has one.
+pub one_long : (words : List (Bor (List ℕ))) → 1 ≤ length words → length words < 2 → length (map (λ w. w.now) words) ≡ 1
+one_long words at_least below = let same = length-map words (λ (w : Bor (List ℕ)). w.now) in omega arith
+
 -- What `frame` is refused for is the fault of the words.
-pub frame_refused : (words : List (List ℕ)) (e : LineFault) → FailsFor (TellsMessage words) e → IsFaultOf (codes "frame" ∷ words) e
-frame_refused words e (inl out) = rw out tt
+pub frame_refused : (words : List (List ℕ)) (e : LineFault) → FailsFrom words e → IsFaultOf (codes "frame" ∷ words) e
+frame_refused words e (inl out) = rw out.0 (FrameComes 0, words, refl, out.1)
 frame_refused words e (inr f) = rw f.0 (record { no_event = no_frame words f.1; no_bytes = no_bytes (codes "frame") words refl })
 
 -- What `reply` is refused for is the fault of the words.
-pub reply_refused : (words : List (List ℕ)) (e : LineFault) → FailsFor (TellsMessage words) e → IsFaultOf (codes "reply" ∷ words) e
-reply_refused words e (inl out) = rw out tt
+pub reply_refused : (words : List (List ℕ)) (e : LineFault) → FailsFrom words e → IsFaultOf (codes "reply" ∷ words) e
+reply_refused words e (inl out) = rw out.0 (ReplyComes 0, words, refl, out.1)
 reply_refused words e (inr f) = rw f.0 (record { no_event = no_reply words f.1; no_bytes = no_bytes (codes "reply") words refl })
 
 -- What the row of `submit` is refused for is the fault of the words.
-pub submission_refused : (words : List (List ℕ)) (e : LineFault) → FailsFor (TellsRow words) e → IsFaultOf (codes "submit" ∷ words) e
-submission_refused words e (inl out) = rw out tt
-submission_refused words e (inr f) = rw f.0 (record {
+pub submission_refused : (words : List (List ℕ)) (e : LineFault) → length words ≡ 1 → FailsFor (TellsRow words) e → IsFaultOf (codes "submit" ∷ words) e
+submission_refused words e one (inl out) = rw out (Submit [], words, refl, one)
+submission_refused words e one (inr f) = rw f.0 (record {
   no_event = no_submission words f.1;
   no_bytes = λ bytes row. f.1 bytes (subst (λ ws. TellsRow ws bytes) (same_rest (codes "submit") (codes "submit") words row.0 row.1) row.2);
 })
@@ -109,3 +124,20 @@ pub one_word : (words : List (Bor (List ℕ))) (default : Bor (List ℕ)) → 1 
 one_word [] default at_least below = absurd (omega arith)
 one_word (w ∷ []) default at_least below = refl
 one_word (w ∷ v ∷ ws) default at_least below = absurd (omega arith)
+
+-- ---- Lengths of pieces.
+
+-- Of the words of pieces so many were read, as these lengths: what is left decides whether all are lengths.
+pub record CutSoFar (words : List (Bor (List ℕ))) (read : ℕ) (cut : List ℕ) : Type 0 where
+  pub decides : list_all is_cut (map (λ w. w.now) (drop read words)) ≡ list_all is_cut (map (λ w. w.now) words)
+  pub told : AreCuts (map (λ w. w.now) (take read words)) cut
+
+-- One more word is one more length.
+pub cut_more : (words : List (Bor (List ℕ))) (i : ℕ) (d : Bor (List ℕ)) (cut : List ℕ) (next : ℕ) → i < length words → AreCuts (map (λ w. w.now) (take i words)) cut →
+    decimal_in 65535 (get_or words i d).now ≡ Some next → AreCuts (map (λ w. w.now) (take (i + 1) words)) (cut ++ (next ∷ []))
+cut_more words i d cut next below told one =
+    ap (map (decimal_in 65535)) (map_more (λ w. w.now) words i d below)
+    ∙ map-append (decimal_in 65535) (map (λ w. w.now) (take i words)) ((get_or words i d).now ∷ [])
+    ∙ ap (λ front. front ++ (decimal_in 65535 (get_or words i d).now ∷ [])) told
+    ∙ ap (λ last. map Some cut ++ (last ∷ [])) one
+    ∙ sym (map-append Some cut (next ∷ []))

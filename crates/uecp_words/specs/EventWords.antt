@@ -1,5 +1,5 @@
 -- What the words of a line of an event script name (profile).
-use Rattle.std.specs.Prelude.{◌≡◌, ℕ, ◌≤◌, ◌<◌, Bool, true, List, [], ◌∷◌, length, codes, Some, Ok, is_some}
+use Rattle.std.specs.Prelude.{◌≡◌, ℕ, ◌≤◌, ◌<◌, Bool, true, List, [], ◌∷◌, length, drop, map, codes, Some, Ok, is_some}
 use Rattle.std.specs.List.{list_all}
 use Rattle.hex.specs.Hex.{decode_of}
 use Rattle.uecp_link.specs.Once.{Event, Submit, FrameComes, ReplyComes, NoiseToEncoder, NoiseToServer, EncoderLost, ServerLost, Take}
@@ -35,6 +35,10 @@ IsMessageNumber word number = (length word ≤ 9) × (decimal_in 999999999 word 
 -- The word is the length of a piece, 0 to 65535 in decimal.
 abbrev pub is_cut : List ℕ → Bool
 is_cut word = is_some (decimal_in 65535 word)
+
+-- The words are the lengths of these pieces, in order.
+abbrev pub AreCuts : (words : List (List ℕ)) → (cut : List ℕ) → Type 0
+AreCuts words cut = map (decimal_in 65535) words ≡ map Some cut
 
 -- The words are the number of a message and any cuts.
 abbrev pub TellsMessage : List (List ℕ) → (number : ℕ) → Type 0
@@ -72,11 +76,26 @@ pub record NamesNothing (words : List (List ℕ)) : Type 0 where
   pub no_event : (event : Event) → Names words event → ⊥
   pub no_bytes : (bytes : List ℕ) → Submits words bytes → ⊥
 
--- What is wrong with the words: they name nothing; or they submit more than 255 bytes. Or there was no memory.
+-- The words behind the name of such an event hold what takes memory: a lone word the bytes of a message or of noise, two and more a number and the lengths of pieces.
+abbrev pub TakesMemory : Event → (others : List (List ℕ)) → Type 0
+TakesMemory (Submit m) others = length others ≡ 1
+TakesMemory (FrameComes number) others = 1 < length others
+TakesMemory (ReplyComes number) others = 1 < length others
+TakesMemory (NoiseToEncoder bytes) others = length others ≡ 1
+TakesMemory (NoiseToServer bytes) others = length others ≡ 1
+TakesMemory EncoderLost others = ⊥
+TakesMemory ServerLost others = ⊥
+TakesMemory Take others = ⊥
+
+-- Memory may be wanting for the words: the first is the name of an event, and the others hold what takes some.
+abbrev pub MayWantMemory : List (List ℕ) → Type 0
+MayWantMemory words = (event : Event) × (others : List (List ℕ)) × (words ≡ name_of event ∷ others) × TakesMemory event others
+
+-- What is wrong with the words: they name nothing; or they submit more than 255 bytes. Or memory was wanting for what they hold.
 abbrev pub IsFaultOf : List (List ℕ) → LineFault → Type 0
 IsFaultOf words fault.NotACommand = NamesNothing words
 IsFaultOf words fault.MessageTooLong = (bytes : List ℕ) × Submits words bytes × (255 < length bytes)
-IsFaultOf words fault.OutOfMemory = Unit {0}
+IsFaultOf words fault.OutOfMemory = MayWantMemory words
 IsFaultOf words fault.NotHex = ⊥
 IsFaultOf words fault.NoFrame = ⊥
 
@@ -93,6 +112,15 @@ event_seen (line.Reply number cut) = ReplyComes number
 event_seen (line.Noise end bytes) = noise_to end bytes.items
 event_seen (line.LineLost end) = lost_of end
 event_seen line.Take = Take
+
+-- The pieces of the event of a line have the lengths that its words tell behind the name and the number.
+abbrev pub IsCutAs : List (List ℕ) → EventLine → Type 0
+IsCutAs words (line.Submit m) = Unit {0}
+IsCutAs words (line.Frame number cut) = AreCuts (drop 2 words) cut.items
+IsCutAs words (line.Reply number cut) = AreCuts (drop 2 words) cut.items
+IsCutAs words (line.Noise end bytes) = Unit {0}
+IsCutAs words (line.LineLost end) = Unit {0}
+IsCutAs words line.Take = Unit {0}
 
 -- The number of the message that an event names, or 0 where it names none.
 abbrev pub named_message : Event → ℕ

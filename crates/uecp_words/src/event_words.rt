@@ -1,10 +1,10 @@
 //! Events out of the words of an event script (profile).
-ghost use Rattle.std.specs.Prelude.{◌≡◌, ℕ, List, [], ◌∷◌, ◌⊎◌, codes, true, false, IfOk, IfErr};
+ghost use Rattle.std.specs.Prelude.{◌≡◌, ◌<◌, ℕ, List, [], ◌∷◌, ◌⊎◌, length, drop, codes, true, false, IfOk, IfErr};
 ghost use Rattle.std.specs.List.{list_all};
 ghost use Rattle.uecp_link.specs.declared.event.Side.{Side as End};
 ghost use Rattle.uecp_text.specs.declared.line_fault.LineFault.TheVariants.{NotACommand, OutOfMemory};
 ghost use Rattle.uecp_text.specs.Words.{texts};
-ghost use Rattle.uecp_words.specs.EventWords.{Names, IsFaultOf, IsMessageNumber, is_cut, TellsMessage, end_word, noise_to, name_of, event_seen};
+ghost use Rattle.uecp_words.specs.EventWords.{Names, IsCutAs, IsFaultOf, IsMessageNumber, AreCuts, is_cut, TellsMessage, end_word, noise_to, name_of, event_seen};
 
 use crate::messages::message_of;
 use std::alloc::Global;
@@ -35,6 +35,7 @@ pub enum EventLine {
 /// Reads the words of a line.
 pub fn event_of(alloc: Global, words: &[&[u8]]) -> Result<EventLine, LineFault>
     ensures named { IfOk result (λ e. Names (texts words.now) (event_seen e)) }
+    ensures pieces { IfOk result (λ e. IsCutAs (texts words.now) e) }
     ensures refused { IfErr result (λ e. IsFaultOf (texts words.now) e) }
 {
     match words {
@@ -46,6 +47,7 @@ pub fn event_of(alloc: Global, words: &[&[u8]]) -> Result<EventLine, LineFault>
 /// The event of that name, which the other words tell.
 fn event_named(alloc: Global, name: &[u8], words: &[&[u8]]) -> Result<EventLine, LineFault>
     ensures named { IfOk result (λ e. Names (name.now ∷ texts words.now) (event_seen e)) }
+    ensures pieces { IfOk result (λ e. IsCutAs (name.now ∷ texts words.now) e) }
     ensures refused { IfErr result (λ e. IsFaultOf (name.now ∷ texts words.now) e) }
 {
     if name == b"submit".as_slice() {
@@ -70,6 +72,7 @@ fn event_named(alloc: Global, name: &[u8], words: &[&[u8]]) -> Result<EventLine,
 /// A submission of the message that the words tell.
 fn submit_of(alloc: Global, words: &[&[u8]]) -> Result<EventLine, LineFault>
     ensures named { IfOk result (λ e. Names (codes "submit" ∷ texts words.now) (event_seen e)) }
+    ensures pieces { IfOk result (λ e. IsCutAs (codes "submit" ∷ texts words.now) e) }
     ensures refused { IfErr result (λ e. IsFaultOf (codes "submit" ∷ texts words.now) e) }
 {
     match words {
@@ -84,6 +87,7 @@ fn submit_of(alloc: Global, words: &[&[u8]]) -> Result<EventLine, LineFault>
 /// The frame of the message that the words tell.
 fn frame_of(alloc: Global, words: &[&[u8]]) -> Result<EventLine, LineFault>
     ensures named { IfOk result (λ e. Names (codes "frame" ∷ texts words.now) (event_seen e)) }
+    ensures pieces { IfOk result (λ e. IsCutAs (codes "frame" ∷ texts words.now) e) }
     ensures refused { IfErr result (λ e. IsFaultOf (codes "frame" ∷ texts words.now) e) }
 {
     let (number, cut) = number_and_cut(alloc, words)?;
@@ -93,6 +97,7 @@ fn frame_of(alloc: Global, words: &[&[u8]]) -> Result<EventLine, LineFault>
 /// The reply to the message that the words tell.
 fn reply_of(alloc: Global, words: &[&[u8]]) -> Result<EventLine, LineFault>
     ensures named { IfOk result (λ e. Names (codes "reply" ∷ texts words.now) (event_seen e)) }
+    ensures pieces { IfOk result (λ e. IsCutAs (codes "reply" ∷ texts words.now) e) }
     ensures refused { IfErr result (λ e. IsFaultOf (codes "reply" ∷ texts words.now) e) }
 {
     let (number, cut) = number_and_cut(alloc, words)?;
@@ -102,7 +107,8 @@ fn reply_of(alloc: Global, words: &[&[u8]]) -> Result<EventLine, LineFault>
 /// The number of a message and any cuts.
 fn number_and_cut(alloc: Global, words: &[&[u8]]) -> Result<(usize, Vec<u16>), LineFault>
     ensures told { IfOk result (λ told. TellsMessage (texts words.now) told.0) }
-    ensures refused { IfErr result (λ e. (e ≡ OutOfMemory) ⊎ ((e ≡ NotACommand) × ((number : ℕ) → TellsMessage (texts words.now) number → ⊥))) }
+    ensures pieces { IfOk result (λ told. AreCuts (drop 1 (texts words.now)) told.1.items) }
+    ensures refused { IfErr result (λ e. ((e ≡ OutOfMemory) × (1 < length words.now)) ⊎ ((e ≡ NotACommand) × ((number : ℕ) → TellsMessage (texts words.now) number → ⊥))) }
 {
     match words {
         [number, cut @ ..] => Ok((message_number_of(number)?, cut_of(alloc, cut)?)),
@@ -113,6 +119,7 @@ fn number_and_cut(alloc: Global, words: &[&[u8]]) -> Result<(usize, Vec<u16>), L
 /// Noise towards that end, of the bytes that the words tell.
 fn noise_of(alloc: Global, side: Side, words: &[&[u8]]) -> Result<EventLine, LineFault>
     ensures named { IfOk result (λ e. Names (name_of (noise_to side []) ∷ texts words.now) (event_seen e)) }
+    ensures pieces { IfOk result (λ e. IsCutAs (name_of (noise_to side []) ∷ texts words.now) e) }
     ensures refused { IfErr result (λ e. IsFaultOf (name_of (noise_to side []) ∷ texts words.now) e) }
 {
     match words {
@@ -124,6 +131,7 @@ fn noise_of(alloc: Global, side: Side, words: &[&[u8]]) -> Result<EventLine, Lin
 /// The loss of the line at the end that the words tell.
 fn loss_of(words: &[&[u8]]) -> Result<EventLine, LineFault>
     ensures named { IfOk result (λ e. Names (codes "line-lost" ∷ texts words.now) (event_seen e)) }
+    ensures pieces { IfOk result (λ e. IsCutAs (codes "line-lost" ∷ texts words.now) e) }
     ensures refused { IfErr result (λ e. IsFaultOf (codes "line-lost" ∷ texts words.now) e) }
 {
     match words {
@@ -135,6 +143,7 @@ fn loss_of(words: &[&[u8]]) -> Result<EventLine, LineFault>
 /// A take; no words tell more of it.
 fn take_of(words: &[&[u8]]) -> Result<EventLine, LineFault>
     ensures named { IfOk result (λ e. Names (codes "take" ∷ texts words.now) (event_seen e)) }
+    ensures pieces { IfOk result (λ e. IsCutAs (codes "take" ∷ texts words.now) e) }
     ensures refused { IfErr result (λ e. IsFaultOf (codes "take" ∷ texts words.now) e) }
 {
     if !words.is_empty() {
@@ -174,7 +183,8 @@ fn message_number_of(word: &[u8]) -> Result<usize, LineFault>
 /// The lengths of pieces, each 0 to 65535.
 fn cut_of(alloc: Global, words: &[&[u8]]) -> Result<Vec<u16>, LineFault>
     ensures cuts { IfOk result (λ cut. list_all is_cut (texts words.now) ≡ true) }
-    ensures refused { IfErr result (λ e. (e ≡ OutOfMemory) ⊎ ((e ≡ NotACommand) × (list_all is_cut (texts words.now) ≡ false))) }
+    ensures pieces { IfOk result (λ cut. AreCuts (texts words.now) cut.items) }
+    ensures refused { IfErr result (λ e. ((e ≡ OutOfMemory) × (0 < length words.now)) ⊎ ((e ≡ NotACommand) × (list_all is_cut (texts words.now) ≡ false))) }
 {
     let mut cut = Vec::new(alloc);
     for word in words {

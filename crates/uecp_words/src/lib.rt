@@ -11,6 +11,7 @@
 mod element_name;
 mod element_words;
 mod event_words;
+pub mod laws;
 mod messages;
 mod script_words;
 

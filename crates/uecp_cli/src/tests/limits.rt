@@ -1,4 +1,5 @@
-//! As much input as there may be, and lines that are refused.
+//! As much input as there may be, none at all, and lines that are refused.
+ghost use Rattle.std.specs.Prelude.{IfOk};
 ghost use Rattle.uecp_jobs.specs.Jobs.{IsLocal};
 
 use super::answer;
@@ -8,17 +9,68 @@ use std::process::Abort;
 use std::test::Fail;
 use uecp_jobs::{Job, run_job};
 
-/// The job writes nothing of this input, and comes to this status and this text of errors.
-fn writes_nothing(rt: &impl Abort, alloc: Global, job: &Job, input: &[u8], comes: (u8, &str))
+/// What a job comes to: its status, its output and its text of errors.
+type Comes<'a> = (u8, &'a str, &'a str);
+
+/// The job comes to this on this input.
+fn comes_to(rt: &impl Abort, alloc: Global, job: &Job, input: &[u8], comes: Comes<'_>)
     requires { IsLocal job.now }
 {
-    let (status, said) = comes;
+    let (status, written, said) = comes;
     let mut reader = input;
     let mut writer = FaultyWriter::new();
     let mut errors = FaultyWriter::new();
     let came = run_job(alloc, job, &mut reader, &mut writer, &mut errors);
     assert_eq!(rt; came, status);
-    assert!(rt; writer.taken().is_empty() && errors.taken() == said.as_bytes());
+    assert_eq!(rt; writer.taken(), written.as_bytes());
+    assert_eq!(rt; errors.taken(), said.as_bytes());
+}
+
+/// The job writes nothing of this input, and comes to this status and this text of errors.
+fn writes_nothing(rt: &impl Abort, alloc: Global, job: &Job, input: &[u8], comes: (u8, &str))
+    requires { IsLocal job.now }
+{
+    let (status, said) = comes;
+    comes_to(rt, alloc, job, input, (status, "", said));
+}
+
+/// A line to the encoder of site 1, encoder 1, with one data set and the service 01.
+fn line(alloc: Global) -> Result<Job, Fail>
+    ensures { IfOk result IsLocal }
+{
+    Ok(Job::Line {
+        site: 1,
+        encoder: 1,
+        sets: 1,
+        services: Vec::from_slice(alloc, &[0x01])?,
+        store: false,
+    })
+}
+
+#[test]
+fn an_empty_input_ends_with_0(rt: HostRuntime) -> Result<(), Fail> {
+    let alloc = rt.alloc();
+    let job = answer(alloc, &[0x01])?;
+    writes_nothing(&rt, alloc, &job, b"", (0, ""));
+    writes_nothing(&rt, alloc, &Job::Show, b"", (0, ""));
+    writes_nothing(&rt, alloc, &Job::Make, b"", (0, ""));
+    let totals = (0, "sent 0 applied 0 acknowledged 0\n", "");
+    comes_to(&rt, alloc, &line(alloc)?, b"", totals);
+    Ok(())
+}
+
+#[test]
+fn as_long_a_submission_as_there_may_be(rt: HostRuntime) -> Result<(), Fail> {
+    let alloc = rt.alloc();
+    let job = line(alloc)?;
+    let mut script = Vec::from_slice(alloc, b"submit ")?;
+    script.resize(7 + 510, b'0')?;
+    let numbered = "numbered 0\nsent 1 applied 0 acknowledged 0\n";
+    comes_to(&rt, alloc, &job, script.as_slice(), (0, numbered, ""));
+    script.extend_from_slice(b"00")?;
+    let too_long = (1, "uecp: line 1: message too long\n");
+    writes_nothing(&rt, alloc, &job, script.as_slice(), too_long);
+    Ok(())
 }
 
 #[test]
@@ -42,14 +94,16 @@ fn lines_that_are_refused(rt: HostRuntime) -> Result<(), Fail> {
     script.extend_from_slice(b"\nraw 00\n")?;
     let too_long = (1, "uecp: line 3: message too long\n");
     writes_nothing(&rt, alloc, &Job::Make, script.as_slice(), too_long);
-    let line = Job::Line {
-        site: 1,
-        encoder: 1,
-        sets: 1,
-        services: Vec::from_slice(alloc, &[0x01])?,
-        store: false,
-    };
     let unknown = (1, "uecp: line 1: not a command\n");
-    writes_nothing(&rt, alloc, &line, b"frame x\n", unknown);
+    let job = line(alloc)?;
+    let mistyped: [&[u8]; 4] = [
+        b"frame x\n",
+        b"frmae 0 1 2\n",
+        b"submit - -\n",
+        b"line-lost both\n",
+    ];
+    for script in mistyped {
+        writes_nothing(&rt, alloc, &job, script, unknown);
+    }
     Ok(())
 }

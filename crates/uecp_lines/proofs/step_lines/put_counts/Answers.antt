@@ -11,4 +11,4 @@ returns c =
     let three : List ℕ = counted (codes " acknowledged") c.args.acknowledged in
     let first_two = adds_then start c.put_count.new.output c.put_count-2.new.output one two c.put_count.ensures c.put_count-2.ensures in
     let all_three = adds_then start c.put_count-2.new.output c.put_count-3.new.output (one ++ two) three first_two c.put_count-3.ensures in
-    adds_then start c.put_count-3.new.output c.end.new.self (one ++ two ++ three) (codes "\n") all_three c.end.ensures
+    adds_then start c.put_count-3.new.output c.end.new.self (one ++ two ++ three) (codes "\n") all_three c.end.ensures.added

@@ -15,6 +15,7 @@ fn a_meter_counts_calls_and_failures(rt: HostRuntime) {
     assert_eq!(rt; reader.read(&mut buffer), Ok(3));
     assert_eq!(rt; reader.read(&mut buffer), Ok(0));
     assert_eq!(rt; (reader.calls(), reader.failures()), (3, 1));
+    assert_eq!(rt; reader.into_inner().reads(), 3);
     let mut writer = Meter::new(
         FaultyWriter::new()
             .taking(2)
@@ -25,7 +26,42 @@ fn a_meter_counts_calls_and_failures(rt: HostRuntime) {
     assert_eq!(rt; writer.write(b"abc"), Err(Failed));
     assert_eq!(rt; writer.write(b"abc"), Err(Failed));
     assert_eq!(rt; (writer.calls(), writer.failures()), (3, 2));
-    assert_eq!(rt; writer.into_inner().taken(), b"ab".as_slice());
+    let device = writer.into_inner();
+    assert_eq!(rt; (device.writes(), device.flushes()), (3, 0));
+    assert_eq!(rt; device.taken(), b"ab".as_slice());
+}
+
+#[test]
+fn a_counted_read_is_one_read_of_the_device(rt: HostRuntime) {
+    let rows = [
+        (FaultyReader::new(b"abc"), Ok(3)),
+        (FaultyReader::new(b"abc").giving(2), Ok(2)),
+        (FaultyReader::new(b"abc").failing_at(&[1]), Err(Failed)),
+        (FaultyReader::new(b""), Ok(0)),
+    ];
+    for (device, comes_to) in rows {
+        let mut reader = Meter::new(device);
+        assert_eq!(rt; reader.read(&mut [0u8; 8]), comes_to);
+        let calls = reader.calls();
+        assert_eq!(rt; (calls, reader.into_inner().reads()), (1, 1));
+    }
+}
+
+#[test]
+fn a_counted_write_is_one_write_of_the_device(rt: HostRuntime) {
+    let rows = [
+        (FaultyWriter::new(), Ok(3)),
+        (FaultyWriter::new().taking(2), Ok(2)),
+        (FaultyWriter::new().failing_at(&[1]), Err(Failed)),
+        (FaultyWriter::new().taking_none_at(&[1]), Err(Failed)),
+    ];
+    for (device, comes_to) in rows {
+        let mut writer = Meter::new(device);
+        assert_eq!(rt; writer.write(b"abc"), comes_to);
+        let calls = writer.calls();
+        let device = writer.into_inner();
+        assert_eq!(rt; (calls, device.writes(), device.flushes()), (1, 1, 0));
+    }
 }
 
 #[test]
@@ -35,7 +71,9 @@ fn a_whole_write_says_where_it_stopped(rt: HostRuntime) {
     assert_eq!(rt; writer.write_whole(b"abc"), Ok(()));
     assert_eq!(rt; writer.write_whole(b"defgh"), Err(4));
     assert_eq!(rt; (writer.calls(), writer.failures()), (5, 1));
-    assert_eq!(rt; writer.into_inner().taken(), b"abcdefg".as_slice());
+    let device = writer.into_inner();
+    assert_eq!(rt; (device.writes(), device.flushes()), (5, 0));
+    assert_eq!(rt; device.taken(), b"abcdefg".as_slice());
 }
 
 /// A text is applied while its reply is cut short, and comes again.
