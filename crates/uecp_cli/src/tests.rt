@@ -347,31 +347,43 @@ fn each_line_of_a_server_is_flushed(rt: HostRuntime) -> Result<(), Fail> {
     Ok(())
 }
 
+/// This word asks for a text, all of which is flushed, once, by a device that may fail there; the run comes to this status and text of errors.
+fn asks_for_text(
+    rt: &(impl Abort + Net<Listener = TcpListener, Stream = TcpStream>),
+    alloc: Global,
+    word: &str,
+    fails: bool,
+    (status, said): (u8, &str),
+) -> Result<(), Fail> {
+    let mut given = Vec::new(alloc);
+    for word in ["uecp", word] {
+        given.push(String::from_str(alloc, word)?)?;
+    }
+    let mut source = Source::new(PIECES, ALL, 0);
+    let mut output = Device::new(alloc, ALL, 0, fails);
+    let mut errors = Device::new(alloc, ALL, 0, false);
+    let came = run_words(
+        alloc,
+        given.as_slice(),
+        &mut source,
+        &mut output,
+        &mut errors,
+        rt,
+    );
+    assert_eq!(rt; (came, source.reads, output.flushes), (status, 0, 1));
+    assert!(rt; output.flushed > 0 && output.flushed == output.held.len());
+    assert_eq!(rt; errors.held.as_slice(), said.as_bytes());
+    Ok(())
+}
+
 #[test]
 fn a_text_that_is_asked_for_is_flushed(rt: HostRuntime) -> Result<(), Fail> {
     let alloc = rt.alloc();
-    for word in ["--help", "--version"] {
-        for (fails, status, said) in [(false, 0, ""), (true, 3, "uecp: writing failed\n")] {
-            let mut given = Vec::new(alloc);
-            given.push(String::from_str(alloc, "uecp")?)?;
-            given.push(String::from_str(alloc, word)?)?;
-            let mut source = Source::new(PIECES, ALL, 0);
-            let mut output = Device::new(alloc, ALL, 0, fails);
-            let mut errors = Device::new(alloc, ALL, 0, false);
-            let came = run_words(
-                alloc,
-                given.as_slice(),
-                &mut source,
-                &mut output,
-                &mut errors,
-                &rt,
-            );
-            assert_eq!(rt; (came, source.reads, output.flushes), (status, 0, 1));
-            assert!(rt; output.flushed > 0 && output.flushed == output.held.len());
-            assert_eq!(rt; errors.held.as_slice(), said.as_bytes());
-        }
-    }
-    Ok(())
+    let failed = (3, "uecp: writing failed\n");
+    asks_for_text(&rt, alloc, "--help", false, (0, ""))?;
+    asks_for_text(&rt, alloc, "--help", true, failed)?;
+    asks_for_text(&rt, alloc, "--version", false, (0, ""))?;
+    asks_for_text(&rt, alloc, "--version", true, failed)
 }
 
 /// What the words of a command line come to on the two pieces: the status, how much was read, and the last text of errors.
