@@ -117,7 +117,7 @@ is_in_range name rows (Answer site encoder sets services store) h = setup_in_ran
 is_in_range name rows (Line site encoder sets services store) h = setup_in_range rows site encoder sets services.items h.1
 is_in_range name rows (Encoder site encoder sets services port connections turns) h =
     let o = h.2 in (setup_in_range rows site encoder sets services.items h.1, in_range _ _ _ _ o.is_port, in_range _ _ _ _ o.is_connections, in_range _ _ _ _ o.is_turns)
-is_in_range name rows (Server site encoder host port tries timeout turns reconnects window) h =
+is_in_range name rows (Server site encoder host port tries timeout turns reconnects window join) h =
     let o = h.2 in (
       place_in_range rows site encoder h.1,
       in_range _ _ _ _ o.is_port,

@@ -76,8 +76,8 @@ pub record AreListening (rows : List Row) (port connections turns : ℕ) : Type 
   pub is_connections : IsOption (one_of (codes "connections") rows) 1 1000 connections
   pub is_turns : IsOption (one_of (codes "turns") rows) 1 1000000 turns
 
--- Where a server finds its encoder, and its bounds, are those that the matches of its command have.
-pub record AreSending (rows : List Row) (host : List ℕ) (port tries timeout turns reconnects window : ℕ) : Type 0 where
+-- Where a server finds its encoder, its bounds, and whether it joins first, are those that the matches of its command have.
+pub record AreSending (rows : List Row) (host : List ℕ) (port tries timeout turns reconnects window : ℕ) (join : Bool) : Type 0 where
   pub is_host : host ≡ host_text rows
   pub is_port : IsPort rows port
   pub is_tries : IsOption (one_of (codes "tries") rows) 1 100 tries
@@ -85,6 +85,7 @@ pub record AreSending (rows : List Row) (host : List ℕ) (port tries timeout tu
   pub is_turns : IsOption (one_of (codes "turns") rows) 1 1000 turns
   pub is_reconnects : IsOption (one_of (codes "reconnects") rows) 0 100 reconnects
   pub is_window : IsOption (one_of (codes "window") rows) 1 8 window
+  pub is_join : IsFlag (one_of (codes "join") rows) join
 
 -- The job is that of the command of this name, with the options that its matches have.
 abbrev pub IsJobOf : (name : List ℕ) → List Row → Job → Type 0
@@ -94,8 +95,8 @@ IsJobOf name rows (Line site encoder sets services store) =
     (name ≡ codes "line") × AreOptions rows site encoder sets services.items × IsStore rows store
 IsJobOf name rows (Encoder site encoder sets services port connections turns) =
     (name ≡ codes "encoder") × AreOptions rows site encoder sets services.items × AreListening rows port connections turns
-IsJobOf name rows (Server site encoder host port tries timeout turns reconnects window) =
-    (name ≡ codes "server") × IsPlace rows site encoder × AreSending rows (string_bytes host) port tries timeout turns reconnects window
+IsJobOf name rows (Server site encoder host port tries timeout turns reconnects window join) =
+    (name ≡ codes "server") × IsPlace rows site encoder × AreSending rows (string_bytes host) port tries timeout turns reconnects window join
 IsJobOf name rows Make = name ≡ codes "make"
 IsJobOf name rows Show = name ≡ codes "show"
 
@@ -122,6 +123,10 @@ services_option = word_option (codes "services") (Some (codes "01"))
 -- The flag that asks for the store.
 abbrev pub store_flag : Rule
 store_flag = record (new_rule (codes "store")) { long = Some (codes "store"); action = Some SetTrue }
+
+-- The flag that asks to join the encoder first.
+abbrev pub join_flag : Rule
+join_flag = record (new_rule (codes "join")) { long = Some (codes "join"); action = Some SetTrue }
 
 -- The options of an encoder's place: its site and its number there, both 1 where they are not given.
 abbrev pub place_options : List Rule
@@ -157,7 +162,7 @@ bound_options =
 
 -- The command `server`.
 abbrev pub sending_command : Shape
-sending_command = command_with (codes "server") (place_options ++ word_option (codes "host") (Some (codes "127.0.0.1")) ∷ port_option ∷ bound_options)
+sending_command = command_with (codes "server") (place_options ++ word_option (codes "host") (Some (codes "127.0.0.1")) ∷ port_option ∷ bound_options ++ join_flag ∷ [])
 
 -- The program: it has a version, and one of six commands has to be named.
 abbrev pub uecp_app : App

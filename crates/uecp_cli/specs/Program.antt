@@ -28,7 +28,7 @@ ListensFor job listened = ⊥
 
 -- The host and the port of the job are dialled, with its limit of time, and no connection was refused yet.
 abbrev pub DialsFor : Job → Dials → Type 0
-DialsFor (Server site encoder host port tries timeout turns reconnects window) dials = dials ≡ record { host = string_bytes host; port = port; timeout = timeout; failed = None }
+DialsFor (Server site encoder host port tries timeout turns reconnects window join) dials = dials ≡ record { host = string_bytes host; port = port; timeout = timeout; failed = None }
 DialsFor job dials = ⊥
 
 -- ---- by the words of the command line

@@ -26,5 +26,5 @@ SaysUnreached host port (Some fault) told told' = Begins told told' (dial_line h
 
 -- Of what the job dials it was said why no connection could be made, or begun to be said; or nothing was said.
 abbrev pub MaySayUnreached : Job → (told told' : Option (List ℕ)) → Type 0
-MaySayUnreached (Server site encoder host port tries timeout turns reconnects window) told told' = (failed : Option DialFault) × SaysUnreached (string_bytes host) port failed told told'
+MaySayUnreached (Server site encoder host port tries timeout turns reconnects window join) told told' = (failed : Option DialFault) × SaysUnreached (string_bytes host) port failed told told'
 MaySayUnreached job told told' = told' ≡ told

@@ -1,7 +1,7 @@
 //! The options of the program's commands, with their ranges, defaults and helpful texts (profile).
 ghost use Rattle.std.specs.Prelude.{◌≡◌, false, codes, Some};
 ghost use Rattle.clap.specs.Words.{rule_of};
-ghost use Rattle.uecp_cli.specs.CommandLine.{number_option, word_option, services_option, store_flag, port_option};
+ghost use Rattle.uecp_cli.specs.CommandLine.{number_option, word_option, services_option, store_flag, join_flag, port_option};
 
 use clap::{Arg, ArgAction, value_parser};
 use std::alloc::Global;
@@ -71,6 +71,17 @@ pub fn store<'a>(alloc: Global) -> Arg<'a>
     Arg::new(alloc, "store")
         .long("store")
         .help("Write the encoder's store at the end")
+        .action(ArgAction::SetTrue)
+}
+
+/// The flag `join`.
+pub fn join<'a>(alloc: Global) -> Arg<'a>
+    ensures rule { rule_of result ≡ join_flag }
+    ensures own { result.global ≡ false }
+{
+    Arg::new(alloc, "join")
+        .long("join")
+        .help("Begin whatever the encoder has kept: always, but with one that was just started")
         .action(ArgAction::SetTrue)
 }
 

@@ -7,7 +7,7 @@ ghost use Rattle.uecp_cli.specs.Ranges.{IsInRange};
 ghost use Rattle.uecp_cli.specs.CommandLine.{Asks, RefusesWords, command_with, place_options, encoder_options, store_command, listening_command, sending_command, uecp_app};
 
 use crate::arguments::{
-    connections, encoder, host, port, reconnects, serve_turns, services, sets, site, store,
+    connections, encoder, host, join, port, reconnects, serve_turns, services, sets, site, store,
     timeout, tries, try_turns, window,
 };
 use crate::matched::{answer_of, encoder_of, line_of, server_of};
@@ -124,7 +124,7 @@ fn server_command<'a>(alloc: Global) -> Result<Command<'a>, AllocError>
             "Send hexadecimal messages, one a line, to an encoder, each until it is acknowledged",
         )
         .after_help(
-            "A line is HEX, or - for the empty message.\nA second run against an encoder that still runs begins at counter 01 again, so its messages are acknowledged and not applied.\nExample: echo 010000C201 | uecp server --port 4001",
+            "A line is HEX, or - for the empty message.\nWithout --join a second run against an encoder that still runs begins at counter 01 again, and its messages are acknowledged and not applied.\nExample: echo 010000C201 | uecp server --port 4001 --join",
         );
     with_place(alloc, command)?
         .arg(host(alloc))?
@@ -133,7 +133,8 @@ fn server_command<'a>(alloc: Global) -> Result<Command<'a>, AllocError>
         .arg(timeout(alloc))?
         .arg(try_turns(alloc))?
         .arg(reconnects(alloc))?
-        .arg(window(alloc))
+        .arg(window(alloc))?
+        .arg(join(alloc))
 }
 
 /// The command with the options of an encoder and the flag for its store.

@@ -118,5 +118,6 @@ pub fn server_of(alloc: Global, found: &ArgMatches<'_>) -> Result<Job, Usage>
         turns: large_of(found, "turns", 1, 1000),
         reconnects: large_of(found, "reconnects", 0, 100),
         window: small_of(found, "window", 8),
+        join: found.get_flag("join"),
     })
 }

@@ -325,6 +325,7 @@ fn each_line_of_a_server_is_flushed(rt: HostRuntime) -> Result<(), Fail> {
             turns: 16,
             reconnects: 3,
             window: 1,
+            join: false,
         };
         let mut source = Source::new("-\n-\n", ALL, 0);
         let mut connect = Connections {

@@ -105,7 +105,7 @@ from_command Show tells P follows told = follows _ _ _ _ told
 from_command Make tells P follows told = follows _ _ _ _ told
 from_command (Answer site encoder sets services store) tells P follows told = follows _ _ _ _ told
 from_command (Line site encoder sets services store) tells P follows told = follows _ _ _ _ told
-from_command (Server site encoder host port tries timeout turns reconnects window) tells P follows told = absurd told
+from_command (Server site encoder host port tries timeout turns reconnects window join) tells P follows told = absurd told
 from_command (Encoder site encoder sets services port connections turns) tells P follows told = absurd told
 
 pub job_breaks_fails : (job : Job) (unread unread' held held' : Option (List ℕ)) (fault : RunFault) → JobBreaks job unread unread' held held' fault → Fails fault
@@ -118,7 +118,7 @@ of_local Show local tells told = told _ _ _ _
 of_local Make local tells told = told _ _ _ _
 of_local (Answer site encoder sets services store) local tells told = told _ _ _ _
 of_local (Line site encoder sets services store) local tells told = told _ _ _ _
-of_local (Server site encoder host port tries timeout turns reconnects window) local tells told = absurd local
+of_local (Server site encoder host port tries timeout turns reconnects window join) local tells told = absurd local
 of_local (Encoder site encoder sets services port connections turns) local tells told = absurd local
 
 -- a text that stops a run has status 1 or 3
@@ -139,7 +139,7 @@ prints_status Show input written fault (v', ran) is = stop_status Shows _ v' (te
 prints_status Make input written fault (v', ran) is = stop_status Makes _ v' (texts_of input) written fault ran is
 prints_status (Answer site encoder sets services store) input written fault (v', ran) is = stop_status Answers _ v' (texts_of input) written fault ran is
 prints_status (Line site encoder sets services store) input written fault (v', ran) is = stop_status Plays _ v' (texts_of input) written fault ran is
-prints_status (Server site encoder host port tries timeout turns reconnects window) input written fault prints is = absurd prints
+prints_status (Server site encoder host port tries timeout turns reconnects window join) input written fault prints is = absurd prints
 prints_status (Encoder site encoder sets services port connections turns) input written fault prints is = absurd prints
 
 -- where no text ends a run, one that a text stops has status 1
@@ -159,7 +159,7 @@ local_status Show local input written fault (v', ran) is = no_end Shows (λ v te
 local_status Make local input written fault (v', ran) is = no_end Makes (λ v text lines v' ended. ended) _ v' (texts_of input) written fault ran is
 local_status (Answer site encoder sets services store) local input written fault (v', ran) is = no_end Answers (λ v text lines v' ended. ended) _ v' (texts_of input) written fault ran is
 local_status (Line site encoder sets services store) local input written fault (v', ran) is = no_end Plays (λ v text lines v' ended. ended) _ v' (texts_of input) written fault ran is
-local_status (Server site encoder host port tries timeout turns reconnects window) local input written fault prints is = local
+local_status (Server site encoder host port tries timeout turns reconnects window join) local input written fault prints is = local
 local_status (Encoder site encoder sets services port connections turns) local input written fault prints is = local
 
 -- a refusal of status 3 is want of memory
@@ -176,7 +176,7 @@ job_wants Show local fault refused is = absurd refused
 job_wants Make local fault refused is = absurd refused
 job_wants (Answer site encoder sets services store) local fault refused is = setup_wants (options site encoder sets services.items) fault refused is
 job_wants (Line site encoder sets services store) local fault refused is = setup_wants (options site encoder sets services.items) fault refused is
-job_wants (Server site encoder host port tries timeout turns reconnects window) local fault refused is = absurd local
+job_wants (Server site encoder host port tries timeout turns reconnects window join) local fault refused is = absurd local
 job_wants (Encoder site encoder sets services port connections turns) local fault refused is = absurd local
 
 -- a job for which memory was wanting before anything was read
@@ -199,7 +199,7 @@ job_status Make fault refused is = refused
 job_status (Answer site encoder sets services store) fault refused is = says_status (options site encoder sets services.items) fault refused is
 job_status (Line site encoder sets services store) fault refused is = says_status (options site encoder sets services.items) fault refused is
 job_status (Encoder site encoder sets services port connections turns) fault refused is = says_status (options site encoder sets services.items) fault refused is
-job_status (Server site encoder host port tries timeout turns reconnects window) fault refused is = let two : 2 ≡ 1 = sym (ap status_of refused.0) ∙ is in omega (arith, two)
+job_status (Server site encoder host port tries timeout turns reconnects window join) fault refused is = let two : 2 ≡ 1 = sym (ap status_of refused.0) ∙ is in omega (arith, two)
 
 -- a run that stopped for this
 abbrev pub stopped : RunFault → Result (Unit {0}) RunFault

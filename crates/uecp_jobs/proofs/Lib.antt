@@ -6,6 +6,7 @@ pub mod MessageTexts
 pub mod BatchLines
 pub mod Settling
 pub mod Sent
+pub mod JoiningFirst
 pub mod ServerRun
 pub mod Pieces
 pub mod Streams

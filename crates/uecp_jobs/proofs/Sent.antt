@@ -21,7 +21,7 @@ use Rattle.uecp_jobs.proofs.Doing.{stopped, same_fault}
 abbrev pub went : Result (Unit {0}) RunFault
 went = Ok tt
 
-done_is_no_fault : (fault : RunFault) → went ≡ stopped fault → ⊥
+pub done_is_no_fault : (fault : RunFault) → went ≡ stopped fault → ⊥
 done_is_no_fault fault is = cc
 
 -- ---- some batches, and one before them

@@ -1,5 +1,5 @@
 -- The job `server` by what was sent.
-use Rattle.std.proofs.Common.{◌≡◌, ◌⊎◌, ℕ, ◌≤◌, List, [], ◌∷◌, length, Option, Some, None, Result, Ok, Err, IfOk, IfErr, refl, sym, ap, subst, ◌∙◌, inl, inr, arith}
+use Rattle.std.proofs.Common.{◌≡◌, ◌⊎◌, ℕ, ◌≤◌, Bool, List, [], ◌∷◌, length, Option, Some, None, Result, Ok, Err, IfOk, IfErr, refl, sym, ap, subst, ◌∙◌, inl, inr, arith}
 use Rattle.uecp_text.specs.declared.run_fault.RunFault.{RunFault}
 use Rattle.uecp_text.specs.declared.run_fault.RunFault.TheVariants as run
 use Rattle.uecp_text.specs.declared.line_fault.LineFault.{LineFault}
@@ -18,7 +18,7 @@ use Rattle.uecp_jobs.specs.Messages.{spelled, refused_at, messages_first, refusa
 use Rattle.uecp_jobs.specs.Batches.{batch_size, AreBatches}
 use Rattle.uecp_jobs.specs.ServerRun.{IsServer, sender_at_first, unconnected, SendsMessages, Sends, SendsNone, SendsUpTo, HasSentAll, HasSentBefore, HasNotSentAll, AreAcknowledged, AreAcknowledgedBefore, AreNotAcknowledged}
 use Rattle.uecp_jobs.proofs.MessageTexts.{all_bring}
-use Rattle.uecp_jobs.proofs.Sent.{sent_batches, stopped_batches, breaks_status}
+use Rattle.uecp_jobs.proofs.JoiningFirst.{sent_run, stopped_run, run_status}
 
 -- ---- how it starts
 
@@ -38,14 +38,14 @@ err_map (Ok x) P Q follows holds = tt
 err_map (Err e) P Q follows holds = follows e holds
 
 module _ {C I O : Type 0} (opens : C → Option (I × O) → C → Type 0) (closes : C → I → O → C → Type 0) (remaining : I → Option (List ℕ)) (contents : O → Option (List ℕ)) where
-  pub sends_by : (address site encoder port tries timeout turns reconnects window size : ℕ) (messages : List (List ℕ)) (input : List ℕ) (c c' : C) (held held' : Option (List ℕ)) (result : Result (Unit {0}) RunFault) →
+  pub sends_by : (address site encoder port tries timeout turns reconnects window size : ℕ) (join : Bool) (messages : List (List ℕ)) (input : List ℕ) (c c' : C) (held held' : Option (List ℕ)) (result : Result (Unit {0}) RunFault) →
       address ≡ address_of site encoder → size ≡ batch_size window → messages ≡ messages_first (texts_of input) →
-      SendsMessages opens closes remaining contents address (record { tries = tries; turns = turns; reconnects = reconnects }) size messages c c' held held' result →
-      SendsMessages opens closes remaining contents (address_of site encoder) (record { tries = tries; turns = turns; reconnects = reconnects }) (batch_size window) (messages_first (texts_of input)) c c' held held' result
-  sends_by address site encoder port tries timeout turns reconnects window size messages input c c' held held' result address_is size_is messages_are sends =
-      subst (λ a. SendsMessages opens closes remaining contents a (record { tries = tries; turns = turns; reconnects = reconnects }) (batch_size window) (messages_first (texts_of input)) c c' held held' result) address_is
-      (subst (λ n. SendsMessages opens closes remaining contents address (record { tries = tries; turns = turns; reconnects = reconnects }) n (messages_first (texts_of input)) c c' held held' result) size_is
-      (subst (λ ms. SendsMessages opens closes remaining contents address (record { tries = tries; turns = turns; reconnects = reconnects }) size ms c c' held held' result) messages_are sends))
+      SendsMessages opens closes remaining contents address (record { tries = tries; turns = turns; reconnects = reconnects }) join size messages c c' held held' result →
+      SendsMessages opens closes remaining contents (address_of site encoder) (record { tries = tries; turns = turns; reconnects = reconnects }) join (batch_size window) (messages_first (texts_of input)) c c' held held' result
+  sends_by address site encoder port tries timeout turns reconnects window size join messages input c c' held held' result address_is size_is messages_are sends =
+      subst (λ a. SendsMessages opens closes remaining contents a (record { tries = tries; turns = turns; reconnects = reconnects }) join (batch_size window) (messages_first (texts_of input)) c c' held held' result) address_is
+      (subst (λ n. SendsMessages opens closes remaining contents address (record { tries = tries; turns = turns; reconnects = reconnects }) join n (messages_first (texts_of input)) c c' held held' result) size_is
+      (subst (λ ms. SendsMessages opens closes remaining contents address (record { tries = tries; turns = turns; reconnects = reconnects }) join size ms c c' held held' result) messages_are sends))
 
 -- a batch ended the run for this
 pub sent_to : {C I O : Type 0} (unmoved unwritten : Type 0) (opens : C → Option (I × O) → C → Type 0) (closes : C → I → O → C → Type 0) (remaining : I → Option (List ℕ)) (contents : O → Option (List ℕ)) (job : Job) (c c' : C) (unread unread' held held' : Option (List ℕ))
@@ -60,7 +60,7 @@ some_size : (window : ℕ) → 1 ≤ batch_size window
 some_size window = omega arith
 
 server_refuses : (job : Job) (fault : RunFault) → IsServer job → RefusesJob job fault → status_of fault ≡ 2
-server_refuses (Server site encoder host port tries timeout turns reconnects window) fault serves refused = ap status_of refused.0
+server_refuses (Server site encoder host port tries timeout turns reconnects window join) fault serves refused = ap status_of refused.0
 server_refuses job fault serves refused = absurd serves
 
 stops_status : (fault : RunFault) (read : List ℕ) → StopsReading fault read → status_of fault ≡ 3
@@ -86,8 +86,8 @@ module _ {C I O : Type 0} (opens : C → Option (I × O) → C → Type 0) (clos
   acknowledged_all (input, sends, none) = by job sends
     where
       by : (job : Job) → Sends opens closes remaining contents job input c c' unread unread' held held' (Ok tt) → AreAcknowledged job unread unread' held held'
-      by (Server site encoder host port tries timeout turns reconnects window) (one, is_input, (loan, n, s', out, finishes)) =
-          let (batches, are, appends) = sent_batches opens closes remaining contents (batch_size window) n (unconnected c loan (sender_at_first (address_of site encoder) (record { tries = tries; turns = turns; reconnects = reconnects }))) s' (messages_first (texts_of input)) held held' (some_size window) out in
+      by (Server site encoder host port tries timeout turns reconnects window join) (one, is_input, (loan, s', ran, finishes)) =
+          let (batches, are, appends) = sent_run opens closes remaining contents join (batch_size window) (unconnected c loan (sender_at_first (address_of site encoder) (record { tries = tries; turns = turns; reconnects = reconnects }))) s' (messages_first (texts_of input)) held held' (some_size window) ran in
           (one, (input, batches, is_input, none, subst (λ k. AreBatches (batch_size window) tries k batches) (all_bring (texts_of input) none) are, appends))
       by job sends = absurd sends
 
@@ -95,29 +95,29 @@ module _ {C I O : Type 0} (opens : C → Option (I × O) → C → Type 0) (clos
   acknowledged_up_to told told' (input, fault, sends, refused, begins) = by job sends
     where
       by : (job : Job) → Sends opens closes remaining contents job input c c' unread unread' held held' (Ok tt) → AreAcknowledgedBefore job unread unread' held held' told told'
-      by (Server site encoder host port tries timeout turns reconnects window) (one, is_input, (loan, n, s', out, finishes)) =
-          let (batches, are, appends) = sent_batches opens closes remaining contents (batch_size window) n (unconnected c loan (sender_at_first (address_of site encoder) (record { tries = tries; turns = turns; reconnects = reconnects }))) s' (messages_first (texts_of input)) held held' (some_size window) out in
+      by (Server site encoder host port tries timeout turns reconnects window join) (one, is_input, (loan, s', ran, finishes)) =
+          let (batches, are, appends) = sent_run opens closes remaining contents join (batch_size window) (unconnected c loan (sender_at_first (address_of site encoder) (record { tries = tries; turns = turns; reconnects = reconnects }))) s' (messages_first (texts_of input)) held held' (some_size window) ran in
           (one, (input, batches, fault, is_input, refused, are, appends, begins))
       by job sends = absurd sends
 
   stops_three : (job : Job) (input : List ℕ) (fault : RunFault) → Sends opens closes remaining contents job input c c' unread unread' held held' (Err fault) → status_of fault ≡ 3
-  stops_three (Server site encoder host port tries timeout turns reconnects window) input fault (one, is_input, (loan, n, s', out, finishes)) =
-      breaks_status (batch_size window) tries (length (messages_first (texts_of input))) held held' fault
-      (stopped_batches opens closes remaining contents (batch_size window) n (unconnected c loan (sender_at_first (address_of site encoder) (record { tries = tries; turns = turns; reconnects = reconnects }))) s' (messages_first (texts_of input)) held held' fault (some_size window) out)
+  stops_three (Server site encoder host port tries timeout turns reconnects window join) input fault (one, is_input, (loan, s', ran, finishes)) =
+      run_status join (batch_size window) tries (length (messages_first (texts_of input))) held held' fault
+      (stopped_run opens closes remaining contents join (batch_size window) (unconnected c loan (sender_at_first (address_of site encoder) (record { tries = tries; turns = turns; reconnects = reconnects }))) s' (messages_first (texts_of input)) held held' fault (some_size window) ran)
   stops_three job input fault sends = absurd sends
 
   not_all : (told told' : Option (List ℕ)) → IsServer job → HasNotSentAll opens closes remaining contents job c c' unread unread' held held' told told' → AreNotAcknowledged job unread unread' held held' told told'
   not_all told told' serves (fault, begins, how) = by job serves how
     where
       by : (job : Job) → IsServer job → (SendsNone unread unread' held held' fault × (c' ≡ c)) ⊎ ((input : List ℕ) × Sends opens closes remaining contents job input c c' unread unread' held held' (Err fault)) → AreNotAcknowledged job unread unread' held held' told told'
-      by (Server site encoder host port tries timeout turns reconnects window) serves (inl (none, same)) = (fault, begins, inl none)
-      by (Server site encoder host port tries timeout turns reconnects window) serves (inr (input, (one, is_input, (loan, n, s', out, finishes)))) = (
+      by (Server site encoder host port tries timeout turns reconnects window join) serves (inl (none, same)) = (fault, begins, inl none)
+      by (Server site encoder host port tries timeout turns reconnects window join) serves (inr (input, (one, is_input, (loan, s', ran, finishes)))) = (
         fault,
         begins,
         inr (
           input,
           is_input,
-          stopped_batches opens closes remaining contents (batch_size window) n (unconnected c loan (sender_at_first (address_of site encoder) (record { tries = tries; turns = turns; reconnects = reconnects }))) s' (messages_first (texts_of input)) held held' fault (some_size window) out,
+          stopped_run opens closes remaining contents join (batch_size window) (unconnected c loan (sender_at_first (address_of site encoder) (record { tries = tries; turns = turns; reconnects = reconnects }))) s' (messages_first (texts_of input)) held held' fault (some_size window) ran,
         ),
       )
       by job serves how = absurd serves

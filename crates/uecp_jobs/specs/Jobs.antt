@@ -21,7 +21,7 @@ options site encoder sets services = record { site = site; encoder = encoder; se
 -- The job is that of a command without a connection.
 abbrev pub IsLocal : Job → Type 0
 IsLocal (Encoder site encoder sets services port connections turns) = ⊥
-IsLocal (Server site encoder host port tries timeout turns reconnects window) = ⊥
+IsLocal (Server site encoder host port tries timeout turns reconnects window join) = ⊥
 IsLocal job = Unit {0}
 
 -- What is told of a job by its command: by what texts mean to it, the value that it begins with, and its closing lines. The jobs with connections are told of apart.
@@ -30,7 +30,7 @@ ByCommand Show tells = tells _ Shows Closed (λ part. [])
 ByCommand Make tells = tells _ Makes None spelled_line
 ByCommand (Answer site encoder sets services store) tells = tells _ Answers (encoder_at_first (options site encoder sets services.items)) (λ e. last_lines store e.value)
 ByCommand (Line site encoder sets services store) tells = tells _ Plays (line_at_first (options site encoder sets services.items)) (closing_lines store)
-ByCommand (Server site encoder host port tries timeout turns reconnects window) tells = ⊥
+ByCommand (Server site encoder host port tries timeout turns reconnects window join) tells = ⊥
 ByCommand (Encoder site encoder sets services port connections turns) tells = ⊥
 
 -- What the job writes of an input: the lines of the texts, and the closing ones where no line is refused; the result names the refused line.
@@ -48,7 +48,7 @@ IsDescribed Make = Unit {0}
 IsDescribed (Answer site encoder sets services store) = IsSetup (options site encoder sets services.items)
 IsDescribed (Line site encoder sets services store) = IsSetup (options site encoder sets services.items)
 IsDescribed (Encoder site encoder sets services port connections turns) = IsSetup (options site encoder sets services.items)
-IsDescribed (Server site encoder host port tries timeout turns reconnects window) = IsOneEncoder site encoder
+IsDescribed (Server site encoder host port tries timeout turns reconnects window join) = IsOneEncoder site encoder
 
 -- The options of the job describe no encoder, and this is said.
 abbrev pub RefusesJob : Job → RunFault → Type 0
@@ -57,7 +57,7 @@ RefusesJob Make fault = ⊥
 RefusesJob (Answer site encoder sets services store) fault = RefusesSetup (options site encoder sets services.items) fault
 RefusesJob (Line site encoder sets services store) fault = RefusesSetup (options site encoder sets services.items) fault
 RefusesJob (Encoder site encoder sets services port connections turns) fault = RefusesSetup (options site encoder sets services.items) fault
-RefusesJob (Server site encoder host port tries timeout turns reconnects window) fault = RefusesAddress site encoder fault
+RefusesJob (Server site encoder host port tries timeout turns reconnects window join) fault = RefusesAddress site encoder fault
 
 -- The writer got what the job writes of all that the reader had left, as far as both tell.
 abbrev pub Wrote : Job → (unread unread' : Option (List ℕ)) → Result (Unit {0}) RunFault → (held held' : Option (List ℕ)) → Type 0

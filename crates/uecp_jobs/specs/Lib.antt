@@ -9,5 +9,6 @@ pub mod Jobs
 pub mod EncoderRun
 pub mod Messages
 pub mod Batches
+pub mod JoiningFirst
 pub mod ServerRun
 pub mod Remade

@@ -70,5 +70,7 @@ pub enum Job {
         reconnects: u32,
         /// How many messages may be on their way at once, 1 to 8.
         window: u8,
+        /// Whether the encoder is joined before the first message is sent, by a pass of empty messages.
+        join: bool,
     },
 }

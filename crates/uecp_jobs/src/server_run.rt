@@ -4,8 +4,9 @@ ghost use Rattle.uecp_frame.specs.Address.{is_exact};
 ghost use Rattle.uecp_text.specs.Written.{Adds};
 ghost use Rattle.uecp_net.specs.Sending.{submitted_all};
 ghost use Rattle.uecp_jobs.specs.Jobs.{RefusesJob, IsUndescribed};
-ghost use Rattle.uecp_jobs.specs.Batches.{acknowledged_line, batch_lines, batch_size, settled_lines, ended_by, SendsBatch, SendsOut};
-ghost use Rattle.uecp_jobs.specs.ServerRun.{IsServer, SendsMessages, SendsNone, SendsUpTo, HasSentAll, HasSentBefore, HasNotSentAll, AreAcknowledged, AreAcknowledgedBefore, AreNotAcknowledged};
+ghost use Rattle.uecp_jobs.specs.Batches.{acknowledged_line, batch_lines, batch_size, fault_of, settled_lines, ended_by, SendsBatch, SendsOut};
+ghost use Rattle.uecp_jobs.specs.JoiningFirst.{joining_line, joining_end, JoinsFirst};
+ghost use Rattle.uecp_jobs.specs.ServerRun.{IsServer, RunsSender, SendsMessages, SendsNone, SendsUpTo, HasSentAll, HasSentBefore, HasNotSentAll, AreAcknowledged, AreAcknowledgedBefore, AreNotAcknowledged};
 
 use crate::job::Job;
 use crate::messages::{Messages, messages_of};
@@ -75,6 +76,7 @@ fn send_all<R: Read, W: Write, C: Connect>(
             turns,
             reconnects,
             window,
+            join,
             ..
         } => {
             let Some(address) = address_of(*site, *encoder) else {
@@ -94,6 +96,7 @@ fn send_all<R: Read, W: Write, C: Connect>(
                 batch_size(*window),
                 address,
                 limits,
+                *join,
                 writer,
                 connect,
             )?;
@@ -121,25 +124,98 @@ fn batch_size(window: u8) -> usize
     usize::from(window.clamp(1, 8))
 }
 
-/// Sends these messages to the encoder at this address, by one sender, in batches of this size.
+/// Sends these messages to the encoder at this address, by one sender, in batches of this size. The encoder is joined first where that is asked for.
 fn send_messages<W: Write, C: Connect>(
     alloc: Global,
     messages: &[Message],
     size: usize,
     address: Address,
     limits: Limits,
+    join: bool,
     writer: &mut W,
     connect: &mut C,
 ) -> Result<(), RunFault>
     requires some { 1 ≤ size }
     requires most { size ≤ 8 }
     requires exact { IsTrue (is_exact address) }
-    ensures { SendsMessages C.opens C.closes C.Input.remaining C.Output.contents address limits size messages.now connect.old connect.new (W.contents writer.old) (W.contents writer.new) result }
+    ensures { SendsMessages C.opens C.closes C.Input.remaining C.Output.contents address limits join size messages.now connect.old connect.new (W.contents writer.old) (W.contents writer.new) result }
 {
     let mut sender = Sender::new(connect, Server::new(address), limits);
-    let sent = send_batches(alloc, messages, size, &mut sender, writer);
+    let sent = run_sender(alloc, messages, size, join, &mut sender, writer);
     let _connect = sender.finish();
     sent
+}
+
+/// Joins the encoder where that is asked for, and then sends these messages, in batches of this size.
+fn run_sender<W: Write, C: Connect>(
+    alloc: Global,
+    messages: &[Message],
+    size: usize,
+    join: bool,
+    sender: &mut Sender<'_, C>,
+    writer: &mut W,
+) -> Result<(), RunFault>
+    requires some { 1 ≤ size }
+    requires most { size ≤ 8 }
+    requires idle { sender.old.sender.server.held ≡ [] }
+    ensures runs { RunsSender C.opens C.closes C.Input.remaining C.Output.contents join size sender.old messages.now (W.contents writer.old) (W.contents writer.new) result sender.new }
+    ensures loan { sender.new.loan ≡ sender.old.loan }
+{
+    join_first(alloc, join, sender, writer)?;
+    send_batches(alloc, messages, size, sender, writer)
+}
+
+/// Joins the encoder where that is asked for, and writes out what is said of it.
+fn join_first<W: Write, C: Connect>(
+    alloc: Global,
+    join: bool,
+    sender: &mut Sender<'_, C>,
+    writer: &mut W,
+) -> Result<(), RunFault>
+    requires idle { sender.old.sender.server.held ≡ [] }
+    ensures joins { JoinsFirst C.opens C.closes C.Input.remaining C.Output.contents join sender.old (W.contents writer.old) (W.contents writer.new) result sender.new }
+    ensures idle { sender.new.sender.server.held ≡ [] }
+    ensures loan { sender.new.loan ≡ sender.old.loan }
+{
+    if !join {
+        return Ok(());
+    }
+    let joined = sender.join();
+    let mut output = Output::new(alloc);
+    output.text(joining_line(&joined));
+    output.check()?;
+    output.write_out(writer)?;
+    joining_end(joined)
+}
+
+/// How a run ends whose encoder could not be joined, or that it goes on.
+fn joining_end(joined: Result<(), Outstanding>) -> Result<(), RunFault>
+    ensures { result ≡ joining_end joined }
+{
+    match joined {
+        Ok(()) => Ok(()),
+        Err(reason) => Err(fault_of(reason)),
+    }
+}
+
+/// What is said of an encoder that was joined so, or could not be.
+fn joining_line(joined: &Result<(), Outstanding>) -> &'static str
+    ensures { result.now ≡ joining_line joined.now }
+{
+    match joined {
+        Ok(()) => "joined\n",
+        Err(_) => "not joined\n",
+    }
+}
+
+/// How a run ends whose messages are outstanding, or whose encoder could not be joined, for this reason.
+fn fault_of(reason: Outstanding) -> RunFault
+    ensures { result ≡ fault_of reason }
+{
+    match reason {
+        Outstanding::TriesSpent => RunFault::Outstanding,
+        Outstanding::ConnectionFailed => RunFault::Connection,
+    }
 }
 
 /// Sends these messages, batch by batch. What is said of each is written out before the next one is submitted.
@@ -194,8 +270,7 @@ fn ended_by(settled: Result<Settled, Outstanding>) -> Result<(), RunFault>
 {
     match settled {
         Ok(_) => Ok(()),
-        Err(Outstanding::TriesSpent) => Err(RunFault::Outstanding),
-        Err(Outstanding::ConnectionFailed) => Err(RunFault::Connection),
+        Err(reason) => Err(fault_of(reason)),
     }
 }
 

@@ -74,6 +74,11 @@ module _ {I O : Type 0} (remaining : I → Option (List ℕ)) (contents : O → 
     hung_loan s s' (inl (none, same)) = ap (λ (d : SenderOver C I O). d.loan) same
     hung_loan s s' (inr (ends, has, closed, is)) = ap (λ (d : SenderOver C I O). d.loan) is
 
+    -- no connection is left
+    pub hung_none : (s s' : SenderOver C I O) → HangsUp closes s s' → s'.ends ≡ None
+    hung_none s s' (inl (none, same)) = ap (λ (d : SenderOver C I O). d.ends) same ∙ none
+    hung_none s s' (inr (ends, has, closed, is)) = ap (λ (d : SenderOver C I O). d.ends) is
+
     pub one_fewer : (now next : SenderOver C I O) → now ≡ next → record now { sender = record now.sender { left = now.sender.left - 1 } } ≡ reconnecting next
     one_fewer now next is = ap (λ (d : SenderOver C I O). reconnecting d) is
 

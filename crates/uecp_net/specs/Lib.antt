@@ -1,4 +1,5 @@
 -- The definitions that the contracts of connections cite.
 pub mod Sessions
 pub mod Sending
+pub mod Joining
 pub mod Tcp

@@ -5,6 +5,8 @@ ghost use Rattle.uecp_link.specs.Window.{code_under};
 ghost use Rattle.uecp_net.specs.declared.sending.Outstanding.TheVariants.{ConnectionFailed};
 ghost use Rattle.uecp_net.specs.Sending.{SenderOver, Marks, Goes, GoesOn, Opens, OpensNone, Tried, Follows, Delivers, HangsUp, reason_of, submitted_to, without_ends, AreTold, AreFreed, StillWait};
 
+mod joining;
+
 use crate::connect::Connect;
 use arrayvec::ArrayVec;
 use std::io::{Read, Write};

@@ -100,6 +100,7 @@ pub(crate) fn server_job(alloc: Global, site: u16, reconnects: u32, window: u8) 
         turns: 16,
         reconnects,
         window,
+        join: false,
     })
 }
 

@@ -14,4 +14,5 @@ returns c =
     let four = arg_added _ _ c.timeout.result _ _ c.in_ok-arg-4.ensures c.timeout.ensures.own three c.timeout.ensures.rule in
     let five = arg_added _ _ c.try_turns.result _ _ c.in_ok-arg-5.ensures c.try_turns.ensures.own four c.try_turns.ensures.rule in
     let six = arg_added _ _ c.reconnects.result _ _ c.in_ok-arg-6.ensures c.reconnects.ensures.own five c.reconnects.ensures.rule in
-    IfOk-weaker c.arg-7.result _ _ (λ whole added. arg_added _ whole c.window.result _ _ added c.window.ensures.own six c.window.ensures.rule) c.arg-7.ensures
+    let seven = arg_added _ _ c.window.result _ _ c.in_ok-arg-7.ensures c.window.ensures.own six c.window.ensures.rule in
+    IfOk-weaker c.arg-8.result _ _ (λ whole added. arg_added _ whole c.join.result _ _ added c.join.ensures.own seven c.join.ensures.rule) c.arg-8.ensures
