@@ -29,7 +29,7 @@ abbrev pub joining_end : Result (Unit {0}) Outstanding → Result (Unit {0}) Run
 joining_end (Ok done) = Ok tt
 joining_end (Err reason) = Err (fault_of reason)
 
--- The encoder was joined over connections: the sender held none before, and has now the one on which the pass was complete.
+-- What a sender did that was to join its encoder, by how that went: what connection it had was let go, and then passes were made over new ones. It may send as often as before, and holds no message.
 pub record Joins {C I O : Type 0} (opens : C → Option (I × O) → C → Type 0) (closes : C → I → O → C → Type 0) (remaining : I → Option (List ℕ)) (contents : O → Option (List ℕ)) (s s' : SenderOver C I O) (result : Result (Unit {0}) Outstanding) : Type 0 where
   pub first : SenderOver C I O
   pub ended : ℕ
