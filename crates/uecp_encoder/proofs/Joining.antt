@@ -11,15 +11,15 @@ use Rattle.uecp_frame.specs.Address.{reaches}
 use Rattle.uecp_encoder.specs.Target.{Step}
 use Rattle.uecp_encoder.specs.State.{EncoderState, opening, next_after, is_next, after_finding}
 use Rattle.uecp_encoder.specs.Laws.{Happening, Finds, Becomes, after_happening, after_happenings}
-use Rattle.uecp_encoder.specs.Joining.{is_message_to, messages_to, IsPass, replied_in, counters_replied, value_without, Joins, rising, WholePassIsReplied}
+use Rattle.uecp_encoder.specs.Joining.{is_message_to, messages_to, IsPass, replied_in, counters_replied, value_without, HasJoined, Joins, rising, WholePassIsReplied}
 
 -- ---- The counters of a ring.
 
-abbrev counters : List (ℕ × Code) → List ℕ
+abbrev pub counters : List (ℕ × Code) → List ℕ
 counters ring = map (λ pair. pair.0) ring
 
 -- the counters of the last n of p messages, the newest first
-abbrev back : (p n : ℕ) → List ℕ
+abbrev pub back : (p n : ℕ) → List ℕ
 back zero n = []
 back (suc p) zero = []
 back (suc p) (suc n) = (1 + p % 255) ∷ back p n
@@ -192,7 +192,7 @@ module _ {V : Type 0} (step : Step V) where
   -- ---- All that happened.
 
   -- whatever happens, the ring is that of so many messages
-  some_back : (e : EncoderState V) (hs : List (Happening V)) (p : ℕ) → counters e.ring ≡ back p 127 → (now : ℕ) × (counters (after_happenings step e hs).ring ≡ back now 127)
+  pub some_back : (e : EncoderState V) (hs : List (Happening V)) (p : ℕ) → counters e.ring ≡ back p 127 → (now : ℕ) × (counters (after_happenings step e hs).ring ≡ back now 127)
   some_back e [] p is = (p, is)
   some_back e (Finds (Err fault) ∷ hs) p is = some_back (after_finding step e (Err fault)) hs p is
   some_back e (Becomes value counts part ∷ hs) p is = some_back (after_happening step e (Becomes value counts part)) hs p is
@@ -284,17 +284,23 @@ module _ {V : Type 0} (step : Step V) where
   all_round now (t, low, inr (m, now_is, far)) (u, (q, below, old, is), inl same) = (omega arith, omega arith)
   all_round now (t, (k, under, late, low), inl also) (u, (q, below, old, is), inl same) = (omega arith, omega arith)
 
-  pub joins_lem : Joins step
-  joins_lem same address value before pass is low high =
-      let old = some_back (opening address value) before 0 refl in
-      let e : EncoderState V = after_happenings step (opening address value) before in
-      let r = passed same e pass old.0 1 old.1 (subst (λ (a : ℕ). IsPass 1 (messages_to a pass)) (sym (address_is (opening address value) before)) is) in
+  -- from any encoder whose ring is that of so many messages
+  pub joins_from : ((v : V) → (step v []).0 ≡ v) → (e : EncoderState V) (pass : List (Happening V)) (p : ℕ) → counters e.ring ≡ back p 127 → IsPass 1 (messages_to e.address pass) →
+      Contains (counters_replied step e pass) 0x81 → Contains (counters_replied step e pass) 0xFF → HasJoined step e pass
+  joins_from same e pass p old is low high =
+      let r = passed same e pass p 1 old is in
       let round = all_round r.now (r.replied 0x81 low) (r.replied 0xFF high) in
       record {
         value = r.value;
         kept = r.ring ∙ back-same r.now 255 127 round.0 (let a = round.1 in omega arith) (omega arith);
         next = next_is_back (after_happenings step e pass).ring r.now r.ring ∙ ap (λ m. 1 + m) round.0;
       }
+
+  pub joins_lem : Joins step
+  joins_lem same address value before pass is low high =
+      let old = some_back (opening address value) before 0 refl in
+      joins_from same (after_happenings step (opening address value) before) pass old.0 old.1
+      (subst (λ (a : ℕ). IsPass 1 (messages_to a pass)) (sym (address_is (opening address value) before)) is) low high
 
   -- ---- A pass of which nothing is lost.
 
@@ -349,8 +355,12 @@ module _ {V : Type 0} (step : Step V) where
             (whole e1 hs p first (suc many) (ap counters t.ring ∙ is) (ap (λ (x : ℕ). map (λ f. f.counter) (messages_to x hs)) t.address ∙ of) to ahead c a b d))
       ]
 
+  pub replied_from : (e : EncoderState V) (pass : List (Happening V)) (p counter : ℕ) → counters e.ring ≡ back p 127 → map (λ f. f.counter) (messages_to e.address pass) ≡ rising 1 255 →
+      0x81 ≤ counter → counter ≤ 0xFF → Contains (counters_replied step e pass) counter
+  replied_from e pass p counter old all low high = whole e pass p 1 255 old all (omega arith) (λ _. omega arith) counter (omega arith) low high
+
   pub whole_pass_is_replied_lem : WholePassIsReplied step
   whole_pass_is_replied_lem address value before pass counter all low high =
       let old = some_back (opening address value) before 0 refl in
-      whole (after_happenings step (opening address value) before) pass old.0 1 255 old.1
-      (ap (λ (a : ℕ). map (λ f. f.counter) (messages_to a pass)) (address_is (opening address value) before) ∙ all) (omega arith) (λ _. omega arith) counter (omega arith) low high
+      replied_from (after_happenings step (opening address value) before) pass old.0 counter old.1
+      (ap (λ (a : ℕ). map (λ f. f.counter) (messages_to a pass)) (address_is (opening address value) before) ∙ all) low high

@@ -13,6 +13,7 @@ use Rattle.uecp_link.specs.Once.{Event, Once, message_at, missing, refusal_of, a
 use Rattle.uecp_link.specs.History.{Act, act_of, history}
 use Rattle.uecp_link.specs.Law.{World, encoder_after, server_after, run, start_from, start, Fits, Numbers, Law, LawFrom}
 use Rattle.uecp_link.specs.Kept.{IsReady, Kept, Hears}
+use Rattle.uecp_link.proofs.Ready.{ready_few}
 use Rattle.uecp_link.proofs.HeldNumbers.{waiting-held, missing_is}
 use Rattle.uecp_link.proofs.Steps.{keeps, hears_after, applied_after, sent_le, ring_answers, recent_le, quiet_none}
 use Rattle.uecp_link.proofs.Least.{next_number}
@@ -57,7 +58,7 @@ module _ {V : Type 0} (step : Step V) (taken : Taken V) (address : ℕ) (opening
       ]
 
 pub ready_at_first : IsReady []
-ready_at_first = record { counters = refl; few = omega arith }
+ready_at_first = inl refl
 
 -- an encoder that is ready, with nothing open, and a new server
 pub lawful_from : {V : Type 0} (step : Step V) (taken : Taken V) (e : EncoderState V) → IsReady e.ring → e.part ≡ Closed → Lawful step taken e.address e.value (start_from e) []
@@ -67,7 +68,7 @@ lawful_from step taken e ready shut = record {
   kept = record {
     base = e.ring;
     ready = ready;
-    encoder = record { address = refl; value = refl; ring = sym (take_all 127 e.ring ready.few) };
+    encoder = record { address = refl; value = refl; ring = sym (take_all 127 e.ring (ready_few e.ring ready)) };
     count = 0;
     server = record { address = refl; last = refl; held = refl };
     count_is = omega arith;

@@ -1,4 +1,5 @@
 pub mod Wire
+pub mod Ready
 pub mod Ring
 pub mod Hearing
 pub mod HeldFields
@@ -32,4 +33,4 @@ pub mod Replying
 pub mod PassComes
 pub mod JoinedOver
 pub mod WholePass
-pub mod Joined
+pub mod Restarted

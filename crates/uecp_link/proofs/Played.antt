@@ -22,6 +22,7 @@ use Rattle.uecp_link.specs.Law.{encoder_after, Fits, Numbers}
 use Rattle.uecp_link.specs.Kept.{IsReady, Kept}
 use Rattle.uecp_link.specs.Holds.{LineState, let_go, is_acknowledged, Outcome, IsLine, Holds, once_of, StepsAs, Plays, history_by, line_from, new_line, world_of}
 use Rattle.uecp_link.specs.Headline.{IsHeadline}
+use Rattle.uecp_link.proofs.Ready.{ready_few}
 use Rattle.uecp_link.proofs.Steps.{sent_le}
 use Rattle.uecp_link.proofs.Folding.{Folded}
 use Rattle.uecp_link.proofs.Goes.{kept_at, line_stays}
@@ -64,11 +65,11 @@ frames_of a sent [] = refl
 frames_of a sent (k ∷ ks) = ap (λ fs. spelling (frame_under a (counter_of k, message_at sent k)) ∷ fs) (frames_of a sent ks)
 
 -- an encoder that is ready and a new server are a line
-line_ready : {V : Type 0} (e : EncoderState V) → IsReady e.ring → e.part ≡ Closed → IsLine (line_from e)
+pub line_ready : {V : Type 0} (e : EncoderState V) → IsReady e.ring → e.part ≡ Closed → IsLine (line_from e)
 line_ready e ready shut = record {
   base = e.ring;
   ready = ready;
-  encoder = record { address = refl; value = refl; ring = sym (take_all 127 e.ring ready.few) };
+  encoder = record { address = refl; value = refl; ring = sym (take_all 127 e.ring (ready_few e.ring ready)) };
   count = 0;
   server = record { address = refl; last = refl; held = refl };
   count_is = omega arith;

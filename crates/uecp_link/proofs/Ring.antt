@@ -7,6 +7,7 @@ use Rattle.uecp_encoder.specs.State.{next_after, is_next}
 use Rattle.uecp_encoder.specs.Joining.{falling}
 use Rattle.uecp_link.specs.Counters.{counter_of}
 use Rattle.uecp_link.specs.Kept.{IsReady, pairs}
+use Rattle.uecp_link.proofs.Ready.{ready_counters}
 
 -- numbers less than 255 apart have different counters
 pub counters_differ : (a b : ℕ) → b < a → a < b + 255 → counter_of a ≡ counter_of b → ⊥
@@ -47,7 +48,7 @@ next_is_first w (pair ∷ ps) is = let head : pair.0 ≡ 255 = cc in ap (λ m. 1
 -- and nothing for the numbers that come next
 pub kept_code-absent : (base : List (ℕ × Code)) (c : ℕ → Code) (w p j : ℕ) → IsReady base → p ≤ j → j + w < p + 255 → kept_code (take w (pairs base c p)) (counter_of j) ≡ None
 kept_code-absent base c zero p j ready l h = refl
-kept_code-absent base c (suc w) zero j ready l h = absent_in_front (suc w) base 255 (counter_of j) ready.counters (omega arith)
+kept_code-absent base c (suc w) zero j ready l h = absent_in_front (suc w) base 255 (counter_of j) (ready_counters base ready) (omega arith)
 kept_code-absent base c (suc w) (suc p) j ready l h =
     let below : p < j = omega arith in
     let apart : j < p + 255 = omega arith in
@@ -56,7 +57,7 @@ kept_code-absent base c (suc w) (suc p) j ready l h =
 
 -- the number after the last w has the next counter
 pub next_is : (base : List (ℕ × Code)) (c : ℕ → Code) (w p : ℕ) → IsReady base → is_next (take (suc w) (pairs base c p)) (counter_of p) ≡ true
-next_is base c w zero ready = eq-eqb 1 (next_after (newest (take (suc w) base))) (sym (next_is_first w base ready.counters))
+next_is base c w zero ready = eq-eqb 1 (next_after (newest (take (suc w) base))) (sym (next_is_first w base (ready_counters base ready)))
 next_is base c w (suc p) ready = eq-eqb (counter_of (suc p)) (1 + counter_of p % 255) (omega arith)
 
 -- the pairs depend on the codes below p alone

@@ -1,5 +1,5 @@
 -- What holds of a line at every moment, by how many numbers were applied and acknowledged; for proofs alone, but for `Hears`. Source: profile.
-use Rattle.std.specs.Prelude.{ℕ, zero, suc, ◌≡◌, ◌+◌, ◌<◌, ◌≤◌, nat_lt, Bool, true, false, List, [], ◌∷◌, length, map, take, Option, is_some, unwrap_or}
+use Rattle.std.specs.Prelude.{ℕ, zero, suc, ◌≡◌, ◌⊎◌, ◌+◌, ◌<◌, ◌≤◌, nat_lt, Bool, true, false, List, [], ◌∷◌, length, map, take, Option, is_some, unwrap_or}
 use Rattle.uecp_elements.specs.declared.code.Code.{Code}
 use Rattle.uecp_elements.specs.declared.code.Code.TheVariants.{Applied}
 use Rattle.uecp_frame.specs.Findings.{is_quiet, open_part}
@@ -9,11 +9,10 @@ use Rattle.uecp_link.specs.Counters.{counter_of}
 use Rattle.uecp_link.specs.Server.{ServerState, Held}
 use Rattle.uecp_link.specs.Once.{Once, message_at}
 
--- What an encoder may keep when a line begins: the replies to FF and so many before it, the newest first, 127 at most. A new encoder keeps none, one that has joined
--- all of these. A reader has to believe it.
-pub record IsReady (base : List (ℕ × Code)) : Type 0 where
-  pub counters : map (λ pair. pair.0) base ≡ falling 0xFF (length base)
-  pub few : length base ≤ 127
+-- What an encoder may keep when a line begins: nothing, as a new one does, or the replies to FF, FE .. 81, the newest first, as one that has joined does. A reader
+-- has to believe it.
+abbrev pub IsReady : List (ℕ × Code) → Type 0
+IsReady base = (base ≡ []) ⊎ (map (λ pair. pair.0) base ≡ falling 0xFF 127)
 
 -- The pairs of counter and code of all numbers below p, the newest first, and behind them those that were kept when the line began.
 abbrev pub pairs : List (ℕ × Code) → (ℕ → Code) → ℕ → List (ℕ × Code)

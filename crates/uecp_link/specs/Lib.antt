@@ -20,3 +20,4 @@ pub mod Driving
 pub mod Listening
 pub mod Window
 pub mod Joining
+pub mod Restarting

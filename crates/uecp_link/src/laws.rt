@@ -1,10 +1,9 @@
 //! Laws of the definitions, each the contract of a function that does nothing.
-ghost use Rattle.std.specs.Prelude.{◌≡◌, List, map, ℕ};
+ghost use Rattle.std.specs.Prelude.{◌≡◌, List, ℕ};
 ghost use Rattle.std.specs.List.{AllByRecursion};
 ghost use Rattle.uecp_elements.specs.declared.code.Code.{Code};
 ghost use Rattle.uecp_frame.specs.Findings.{Closed};
 ghost use Rattle.uecp_encoder.specs.State.{EncoderState};
-ghost use Rattle.uecp_encoder.specs.Joining.{falling};
 ghost use Rattle.uecp_encoder.specs.Target.{Taken};
 ghost use Rattle.uecp_link.specs.Joining.{JoinsOverALine, WholePassBringsBoth};
 ghost use Rattle.uecp_link.specs.Kept.{IsReady};
@@ -34,7 +33,7 @@ pub fn steps_keep_the_headline<T: Target>()
 {}
 
 /// And so does any list of steps from a line of a new server and an encoder that is there, where that has nothing open and keeps
-/// replies to FF and those before it alone.
+/// nothing, or the replies to FF .. 81 alone, as one that has joined does.
 pub fn steps_keep_the_headline_from<T: Target>()
     ensures { (e : EncoderState T) → IsReady e.ring → e.part ≡ Closed → (events : List Event) (outcomes : List Outcome) (line : LineState T) (o : Once T) → Plays T.step T.taken (line_from e) (at_first e.value) events outcomes line o → IsHeadline T.step T.taken e.address e.value (history_by events outcomes) line }
 {}
@@ -42,11 +41,6 @@ pub fn steps_keep_the_headline_from<T: Target>()
 /// The law of numbers and values from such an encoder.
 pub fn once_and_in_order_from<T: Target>()
     ensures { (e : EncoderState T) → IsReady e.ring → e.part ≡ Closed → (events : List Event) → AllByRecursion Fits events → LawFrom T.step T.taken e events }
-{}
-
-/// An encoder that has joined is such a one.
-pub fn joined_is_ready()
-    ensures { (ring : List (ℕ × Code)) → map (λ pair. pair.0) ring ≡ falling 0xFF 127 → IsReady ring }
 {}
 
 /// Both directions of one connection, each of which keeps its order and loses nothing but its end. A pass comes to an encoder that has

@@ -31,6 +31,7 @@ pub mod laws;
 mod line;
 mod line_steps;
 mod refusal;
+mod restarting;
 mod server;
 mod stepped;
 mod window;

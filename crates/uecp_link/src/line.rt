@@ -2,10 +2,12 @@
 ghost use Rattle.std.specs.Prelude.{◌≡◌, ◌≤◌, ◌<◌, ◌+◌, ℕ, IsTrue, IfOk, IfErr, length, map};
 ghost use Rattle.std.specs.List.{AllByRecursion};
 ghost use Rattle.uecp_frame.specs.Address.{is_exact};
+ghost use Rattle.uecp_frame.specs.Findings.{Closed};
+ghost use Rattle.uecp_link.specs.Kept.{IsReady};
 ghost use Rattle.uecp_link.specs.Once.{Once, at_first, least_missing};
 ghost use Rattle.uecp_link.specs.Law.{Law, Numbers, Fits};
 ghost use Rattle.uecp_link.specs.Events.{event_of, Refuses};
-ghost use Rattle.uecp_link.specs.Holds.{new_line, is_acknowledged, Holds, StepsAs, RunsAs, history_by, world_of};
+ghost use Rattle.uecp_link.specs.Holds.{new_line, line_from, is_acknowledged, Holds, StepsAs, RunsAs, history_by, world_of};
 ghost use Rattle.uecp_link.specs.Headline.{IsHeadline};
 
 use crate::event::LineEvent;
@@ -57,13 +59,29 @@ impl<T: Target> Line<T> {
         ensures handed_back { IfErr result (λ fault. fault.target ≡ target) }
     {
         let encoder = Encoder::new(alloc, address, target)?;
-        Ok(Line {
+        Ok(Line::of_encoder(alloc, address, encoder))
+    }
+
+    /// A line with a new server and an encoder that is there, at this address, which is the encoder's own: neither part is 0. It has
+    /// nothing open, and keeps nothing, or the replies to FF .. 81 alone, as one that has joined does; see [`join`](crate::join). Nothing
+    /// is sent, and the messages that came before have no numbers. What holds of every new line holds of it, with the value that
+    /// the encoder has now as the opening one: see
+    /// [`steps_keep_the_headline_from`](crate::laws::steps_keep_the_headline_from).
+    pub fn of_encoder(alloc: Global, address: Address, encoder: Encoder<T>) -> Line<T>
+        requires exact { IsTrue (is_exact address) }
+        requires own { encoder.address ≡ address }
+        requires ready { IsReady encoder.ring }
+        requires closed { encoder.part ≡ Closed }
+        ensures made { result ≡ line_from encoder }
+        ensures holds { Holds result (at_first encoder.value) }
+    {
+        Line {
             address,
             server: Server::new(address),
             encoder,
             sent: Vec::new(alloc),
             codes: Vec::new(alloc),
-        })
+        }
     }
 
     /// A new line on which these events come in turn, and how many of them were refused. Want of memory for a message refuses

@@ -1,11 +1,13 @@
 //! What a server does in a pass of empty messages, while it holds none. Source: profile.
 ghost use Rattle.std.specs.Prelude.{◌≡◌, ◌<◌, ◌≤◌, [], length, take, option_to_list};
-ghost use Rattle.uecp_link.specs.Server.{heard};
+ghost use Rattle.uecp_link.specs.Server.{idle_at, heard};
 ghost use Rattle.uecp_link.specs.Joining.{anew, reply_counters};
 
+use crate::counts::ServerCounts;
 use crate::server::Server;
 use crate::server::replies::reply_from;
-use uecp_frame::{Address, FoundRef};
+use arrayvec::ArrayVec;
+use uecp_frame::{Address, Deframer, FoundRef};
 
 impl Server {
     /// The encoder's address.
@@ -22,6 +24,19 @@ impl Server {
     {
         self.last = 0;
         self.deframer.line_lost();
+    }
+
+    /// Is a new server to the same encoder: what one that was started again is.
+    pub(crate) fn begin_again(&mut self)
+        ensures { self.new ≡ idle_at self.old.address }
+    {
+        *self = Server {
+            address: self.address,
+            last: 0,
+            held: ArrayVec::new(),
+            counts: ServerCounts::default(),
+            deframer: Deframer::new(),
+        };
     }
 
     /// As [`hear`](Server::hear), where no message is held: answers how many bytes it used, and the counter that the frame which ended

@@ -1,0 +1,57 @@
+//! A line whose server is started again. Source: profile.
+ghost use Rattle.std.specs.Prelude.{◌≡◌};
+ghost use Rattle.uecp_encoder.specs.State.{fed};
+ghost use Rattle.uecp_link.specs.Joining.{pass_sent};
+ghost use Rattle.uecp_link.specs.Once.{at_first};
+ghost use Rattle.uecp_link.specs.Holds.{Holds};
+ghost use Rattle.uecp_link.specs.Restarting.{EmptyChangesNothing, Restarts};
+
+use crate::feeding::give_cut;
+use crate::line::Line;
+use uecp_encoder::{Encoder, Target};
+use uecp_frame::{Address, Frame, FrameBytes, Message, encode};
+
+impl<T: Target> Line<T> {
+    /// The server dies, and a new one joins over a new connection, at once and without loss: the encoder gets one pass, whole. It answers
+    /// how many messages waited at the old one. These are given up: the new one knows nothing of them, and whether they were applied no
+    /// end can tell. The line goes on from there as one of a new server and this encoder
+    /// ([`of_encoder`](Line::of_encoder)): nothing is sent, the next message has the number 0, and what came before has no numbers any more.
+    /// It takes no memory.
+    ///
+    /// It wants a target that an empty message leaves as it is, as [`RdsStore`](rds_store::RdsStore) is
+    /// ([`empty_message_changes_nothing`](rds_store::laws::empty_message_changes_nothing)).
+    ///
+    /// ```
+    /// let given_up = line.restart_server(); // line.sent() is empty now
+    /// ```
+    pub fn restart_server(&mut self) -> usize
+        requires empty { EmptyChangesNothing T.step }
+        ensures restarts { Restarts T.step self.old result self.new }
+        ensures holds { Holds self.new (at_first self.new.encoder.value) }
+        ensures address { self.new.encoder.address ≡ self.old.encoder.address }
+    {
+        let given_up = self.server.waiting();
+        self.server.begin_again();
+        self.encoder.line_lost();
+        give_pass(self.address, &mut self.encoder);
+        self.sent.clear();
+        self.codes.clear();
+        given_up
+    }
+}
+
+/// Feeds an encoder a pass to this address.
+fn give_pass<T: Target>(address: Address, encoder: &mut Encoder<T>)
+    ensures { encoder.new ≡ fed T.step encoder.old (pass_sent address) }
+{
+    let mut bytes = FrameBytes::new();
+    for before in 0..255u8 {
+        let frame = Frame {
+            address,
+            counter: before + 1,
+            message: Message::new(),
+        };
+        encode(&frame, &mut bytes);
+        let _ = give_cut(encoder, bytes.as_slice(), &[]);
+    }
+}
