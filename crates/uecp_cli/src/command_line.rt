@@ -97,7 +97,7 @@ fn line_command<'a>(alloc: Global) -> Result<Command<'a>, AllocError>
         Command::new(alloc, "line")
             .about("Play an event script on a line between a server and an encoder")
             .after_help(
-                "Lines: submit HEX, frame N, reply N, noise-encoder HEX, noise-server HEX, line-lost encoder or server, take\nExample: printf 'submit -\\nframe 0\\nreply 0\\n' | uecp line",
+                "Lines: submit HEX, frame N, reply N, noise-encoder HEX, noise-server HEX, line-lost encoder or server, take, restart server\nExample: printf 'submit -\\nframe 0\\nreply 0\\n' | uecp line",
             ),
     )
 }

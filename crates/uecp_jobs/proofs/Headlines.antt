@@ -1,22 +1,25 @@
 -- The headline, of the line that a script leaves.
-use Rattle.std.proofs.Common.{◌≡◌, ℕ, List, [], ◌∷◌, Option, Some, None, Ok, Err, refl, sym, ◌∙◌, subst, inl, inr}
+use Rattle.std.proofs.Common.{◌≡◌, ℕ, List, [], ◌∷◌, ◌++◌, Option, Some, None, Ok, Err, refl, ap, sym, ◌∙◌, subst, inl, inr, ◌⊎◌}
 use Rattle.rds_store.specs.Value.{Store}
 use Rattle.rds_store.specs.Opening.{opening}
 use Rattle.rds_store.specs.Step.{step, group_taken}
 use Rattle.uecp_link.specs.Once.{Event, Submit, FrameComes, ReplyComes, NoiseToEncoder, NoiseToServer, EncoderLost, ServerLost, Take, Once, after, at_first}
 use Rattle.uecp_link.specs.Law.{Fits}
-use Rattle.uecp_link.specs.Holds.{LineState, Outcome, Holds, new_line}
+use Rattle.uecp_link.specs.Holds.{LineState, Outcome, Holds, history_by, line_from, new_line}
+use Rattle.uecp_link.specs.Headline.{IsHeadline}
+use Rattle.uecp_link.specs.Restarting.{Restarts}
+use Rattle.uecp_encoder.specs.State.{EncoderState}
 use Rattle.uecp_link.specs.Holds.{Plays as PlaysSteps}
-use Rattle.uecp_link.proofs.Opening.{new_holds}
-use Rattle.uecp_link.proofs.Played.{headline}
+use Rattle.uecp_link.proofs.Opening.{holds_from, new_holds}
+use Rattle.uecp_link.proofs.Played.{headline, headline_from}
 use Rattle.uecp_text.specs.declared.run_fault.RunFault.{RunFault}
 use Rattle.uecp_text.specs.declared.run_fault.RunFault.TheVariants as LineFaults
 use Rattle.uecp_text.specs.Words.{words}
-use Rattle.uecp_text.specs.Run.{Runs}
+use Rattle.uecp_text.specs.Run.{Brings, Runs}
 use Rattle.uecp_words.specs.EventWords.{Names}
 use Rattle.uecp_jobs.specs.Setups.{address_of}
 use Rattle.uecp_jobs.specs.Playing.{Plays}
-use Rattle.uecp_jobs.specs.Headlines.{NameEach, ScriptsKeepHeadline}
+use Rattle.uecp_jobs.specs.Headlines.{NameEach, KeepsHeadlineSince, ScriptsKeepHeadline}
 
 -- a message that words submit fits a frame
 named_fits : (words : List (List ℕ)) (event : Event) → Names words event → Fits event
@@ -29,21 +32,99 @@ named_fits words EncoderLost names = tt
 named_fits words ServerLost names = tt
 named_fits words Take names = tt
 
--- the events that a script names are steps of the line, one by one
-script_played : (line line' : LineState Store) (o : Once Store) (texts : List (ℕ × List ℕ)) (lines : List ℕ) (stop : Option RunFault) → Holds line o → Runs Plays line texts lines stop line'
-    → (events : List Event) × (outcomes : List Outcome) × (o' : Once Store) × NameEach texts stop events × PlaysSteps step group_taken line o events outcomes line' o'
-script_played line line' o [] lines stop holds ran = ([], [], o, (ran.1, refl), (ran.2, refl))
+-- from a line that joined on, steps keep the headline, with the store that the line before it left
+since_joined : (left joined : LineState Store) (given_up : ℕ) → Restarts step left given_up joined → (events : List Event) (outcomes : List Outcome) (line : LineState Store) (o : Once Store) →
+    PlaysSteps step group_taken joined (at_first left.encoder.value) events outcomes line o → IsHeadline step group_taken left.encoder.address left.encoder.value (history_by events outcomes) line
+since_joined left joined given_up restarts events outcomes line o plays =
+    let e : EncoderState Store = joined.encoder in
+    let from : joined ≡ line_from e = restarts.begins ∙ ap line_from (sym (ap (λ (l : LineState Store). l.encoder) restarts.begins)) in
+    let value : left.encoder.value ≡ e.value = sym restarts.joined.value_is in
+    let moved : PlaysSteps step group_taken (line_from e) (at_first e.value) events outcomes line o =
+    subst (λ (l : LineState Store). PlaysSteps step group_taken l (at_first e.value) events outcomes line o) from
+    (subst (λ (v : Store). PlaysSteps step group_taken joined (at_first v) events outcomes line o) value plays) in
+    subst (λ (a : ℕ). IsHeadline step group_taken a left.encoder.value (history_by events outcomes) line) restarts.address
+    (subst (λ (v : Store). IsHeadline step group_taken e.address v (history_by events outcomes) line) (sym value)
+    (headline_from step group_taken e (inr restarts.joined.kept) restarts.joined.closed events outcomes line o moved))
+
+-- a line that joined holds what a new once-machine with the store that was left holds
+joined_holds : (left joined : LineState Store) (given_up : ℕ) → Restarts step left given_up joined → Holds joined (at_first left.encoder.value)
+joined_holds left joined given_up restarts =
+    let e : EncoderState Store = joined.encoder in
+    let from : joined ≡ line_from e = restarts.begins ∙ ap line_from (sym (ap (λ (l : LineState Store). l.encoder) restarts.begins)) in
+    subst (λ (l : LineState Store). Holds l (at_first left.encoder.value)) (sym from)
+    (subst (λ (v : Store). Holds (line_from e) (at_first v)) restarts.joined.value_is (holds_from e restarts.joined.closed))
+
+-- The events that texts name are steps of the line, one by one.
+pub record Played (line : LineState Store) (o : Once Store) (texts : List (ℕ × List ℕ)) (stop : Option RunFault) (line' : LineState Store) : Type 0 where
+  pub events : List Event
+  pub outcomes : List Outcome
+  pub last : Once Store
+  pub named : NameEach texts stop events
+  pub plays : PlaysSteps step group_taken line o events outcomes line' last
+
+-- a text more before those since which the headline is kept
+one_before : (line next line' : LineState Store) (number : ℕ) (text first : List ℕ) (texts : List (ℕ × List ℕ)) (stop : Option RunFault) → Plays line text (Brings first) next →
+    KeepsHeadlineSince next texts stop line' → KeepsHeadlineSince line ((number, text) ∷ texts) stop line'
+one_before line next line' number text first texts stop plays since = record {
+  before = (number, text) ∷ since.before;
+  restart = since.restart;
+  behind = since.behind;
+  all = ap (λ (ts : List (ℕ × List ℕ)). (number, text) ∷ ts) since.all;
+  named = since.named;
+  lines = first ++ since.lines;
+  left = since.left;
+  ran = inl (first, since.lines, next, plays, refl, since.ran);
+  given_up = since.given_up;
+  joined = since.joined;
+  restarts = since.restarts;
+  keeps = since.keeps;
+}
+
+-- the texts before the first that starts the server again, or all, and those since the last
+script_played : (line line' : LineState Store) (o : Once Store) (texts : List (ℕ × List ℕ)) (lines : List ℕ) (stop : Option RunFault) → Holds line o → Runs Plays line texts lines stop line' →
+    Played line o texts stop line' ⊎ KeepsHeadlineSince line texts stop line'
+script_played line line' o [] lines stop holds ran = inl (record { events = []; outcomes = []; last = o; named = (ran.1, refl); plays = (ran.2, refl) })
 script_played line line' o ((number, text) ∷ texts) lines stop holds ran = elim ran [
-  | inl (first, rest, next, (event, names, plays), lines_are, more) ↦ elim plays [
-    | inl taken ↦
-        let steps = taken.steps o holds in
-        let behind = script_played next line' (after step group_taken o event) texts rest stop steps.holds more in
-        (event ∷ behind.0, Ok taken.answer ∷ behind.1, behind.2, (names, behind.3), (next, (named_fits (words text) event names, steps), behind.4))
-    | inr refused ↦
-        let behind = script_played next line' o texts rest stop (subst (λ (l : LineState Store). Holds l o) (sym refused.unchanged) holds) more in
-        (event ∷ behind.0, Err refused.refusal ∷ behind.1, behind.2, (names, behind.3), (next, (refused.refuses o holds, refused.unchanged), behind.4))
+  | inl (first, rest, next, plays, lines_are, more) ↦ elim plays [
+    | inl (event, names, what) ↦ elim what [
+      | inl takes ↦ (let steps = takes.steps o holds in
+          elim (script_played next line' (after step group_taken o event) texts rest stop steps.holds more) [
+            | inl p ↦ inl (record { events = event ∷ p.events; outcomes = Ok takes.answer ∷ p.outcomes; last = p.last; named = (names, p.named); plays = (next, (named_fits (words text) event names, steps), p.plays) })
+            | inr since ↦ inr (one_before line next line' number text first texts stop (inl (event, names, inl takes)) since)
+          ])
+      | inr refused ↦
+          elim (script_played next line' o texts rest stop (subst (λ (l : LineState Store). Holds l o) (sym refused.unchanged) holds) more) [
+            | inl p ↦ inl (record { events = event ∷ p.events; outcomes = Err refused.refusal ∷ p.outcomes; last = p.last; named = (names, p.named); plays = (next, (refused.refuses o holds, refused.unchanged), p.plays) })
+            | inr since ↦ inr (one_before line next line' number text first texts stop (inl (event, names, inr refused)) since)
+          ]
+    ]
+    | inr again ↦
+        elim (script_played next line' (at_first line.encoder.value) texts rest stop (joined_holds line next again.given_up again.restarts) more) [
+          | inl p ↦ inr (record {
+              before = [];
+              restart = (number, text);
+              behind = texts;
+              all = refl;
+              named = again.named;
+              lines = [];
+              left = line;
+              ran = (refl, refl, refl);
+              given_up = again.given_up;
+              joined = next;
+              restarts = again.restarts;
+              keeps = record {
+                events = p.events;
+                outcomes = p.outcomes;
+                last = p.last;
+                named = p.named;
+                plays = p.plays;
+                headline = since_joined line next again.given_up again.restarts p.events p.outcomes line' p.last p.plays;
+              };
+            })
+          | inr since ↦ inr (one_before line next line' number text first texts stop (inr again) since)
+        ]
   ]
-  | inr (inl refused) ↦ ([], [], o, (λ h. let some : None ≡ Some (LineFaults.Line number refused.0) = sym h ∙ refused.3 in cc), (refused.1.2, refl))
+  | inr (inl refused) ↦ inl (record { events = []; outcomes = []; last = o; named = (λ h. let some : None ≡ Some (LineFaults.Line number refused.0) = sym h ∙ refused.3 in cc); plays = (refused.1.3, refl) })
   | inr (inr ended) ↦ absurd ended.0
 ]
 
@@ -51,12 +132,14 @@ pub scripts_keep_headline_lem : ScriptsKeepHeadline
 scripts_keep_headline_lem o texts lines stop line ran =
     let address : ℕ = address_of o.site o.encoder in
     let value : Store = opening o.sets o.services in
-    let played = script_played (new_line address value) line (at_first value) texts lines stop (new_holds address value) ran in
-    record {
-      events = played.0;
-      outcomes = played.1;
-      last = played.2;
-      named = played.3;
-      plays = played.4;
-      headline = headline step group_taken address value played.0 played.1 line played.2 played.4;
-    }
+    elim (script_played (new_line address value) line (at_first value) texts lines stop (new_holds address value) ran) [
+      | inl p ↦ inl (record {
+          events = p.events;
+          outcomes = p.outcomes;
+          last = p.last;
+          named = p.named;
+          plays = p.plays;
+          headline = headline step group_taken address value p.events p.outcomes line p.last p.plays;
+        })
+      | inr since ↦ inr since
+    ]

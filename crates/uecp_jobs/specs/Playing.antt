@@ -7,8 +7,10 @@ use Rattle.uecp_link.specs.declared.refusal.LineRefusal.{LineRefusal}
 use Rattle.uecp_link.specs.Once.{Event, Once, least_missing}
 use Rattle.uecp_link.specs.Events.{Refuses}
 use Rattle.uecp_link.specs.Holds.{LineState, is_acknowledged, Holds, StepsAs}
-use Rattle.uecp_lines.specs.Steps.{step_words, totals_line}
+use Rattle.uecp_link.specs.Restarting.{Restarts}
+use Rattle.uecp_lines.specs.Steps.{step_words, given_up_line, totals_line}
 use Rattle.uecp_words.specs.EventWords.{named_message, Names, IsFaultOf}
+use Rattle.uecp_words.specs.RestartWords.{restart_words}
 use Rattle.uecp_text.specs.Words.{words}
 use Rattle.uecp_lines.specs.StoreLines.{last_lines}
 use Rattle.uecp_text.specs.Run.{Meaning, Brings, Ends}
@@ -32,12 +34,23 @@ pub record IsRefused (old : LineState Store) (event : Event) (lines : List ℕ) 
 abbrev pub PlaysEvent : (old : LineState Store) → Event → (lines : List ℕ) → (new : LineState Store) → Type 0
 PlaysEvent old event lines new = TakesPlace old event lines new ⊎ IsRefused old event lines new
 
--- To `line` a text whose words name an event brings the lines that say what came of it; any other text is refused for what is wrong with its words, and nothing
--- has changed.
+-- The words name an event, and it is played.
+abbrev pub PlaysNamed : (old : LineState Store) → (text lines : List ℕ) → (new : LineState Store) → Type 0
+PlaysNamed old text lines new = (event : Event) × Names (words text) event × PlaysEvent old event lines new
+
+-- The words start the server again: it joins, the line goes on from there, and this is said of what was given up.
+pub record PlaysRestart (old : LineState Store) (text lines : List ℕ) (new : LineState Store) : Type 0 where
+  pub named : words text ≡ restart_words
+  pub given_up : ℕ
+  pub said : lines ≡ given_up_line given_up
+  pub restarts : Restarts step old given_up new
+
+-- To `line` a text whose words name an event brings the lines that say what came of it, and so does one whose words start the server again; any other text is refused
+-- for what is wrong with its words, and nothing has changed.
 abbrev pub Plays : Meaning (LineState Store)
-Plays line text (Brings lines) line' = (event : Event) × Names (words text) event × PlaysEvent line event lines line'
+Plays line text (Brings lines) line' = PlaysNamed line text lines line' ⊎ PlaysRestart line text lines line'
 Plays line text (Ends lines) line' = ⊥
-Plays line text (Declines why) line' = (why ≢ OutOfMemory) × IsFaultOf (words text) why × (line' ≡ line)
+Plays line text (Declines why) line' = (why ≢ OutOfMemory) × (words text ≢ restart_words) × IsFaultOf (words text) why × (line' ≡ line)
 
 -- The last lines: the totals, and the store where it is asked for.
 abbrev pub closing_lines : (asked : Bool) → LineState Store → List ℕ

@@ -1,7 +1,10 @@
 //! The command `line` (profile).
 ghost use Rattle.std.specs.Prelude.{◌≡◌, ◌⊎◌, ℕ, List, IfOk, IfErr};
 ghost use Rattle.uecp_link.specs.Once.{FrameComes, ReplyComes};
+ghost use Rattle.rds_store.specs.Step.{step};
 ghost use Rattle.uecp_link.specs.Events.{event_of};
+ghost use Rattle.uecp_link.specs.Restarting.{Restarts};
+ghost use Rattle.uecp_lines.specs.Steps.{given_up_line};
 ghost use Rattle.uecp_text.specs.Written.{Adds};
 ghost use Rattle.uecp_text.specs.declared.run_fault.RunFault.TheVariants.{OutOfMemory};
 ghost use Rattle.uecp_words.specs.EventWords.{event_seen, named_message};
@@ -10,11 +13,12 @@ ghost use Rattle.uecp_jobs.specs.Setups.{options_of, IsSetup, RefusesSetup, line
 
 use crate::setup::{Setup, new_line};
 use rds_store::RdsStore;
+use rds_store::laws::empty_message_changes_nothing;
 use std::alloc::Global;
-use uecp_lines::{put_last, put_step, put_totals};
+use uecp_lines::{put_given_up, put_last, put_step, put_totals};
 use uecp_link::{Line, LineEvent, Side};
 use uecp_text::{Interpreter, LineFault, Output, RunFault, Taken, words_of};
-use uecp_words::{EventLine, event_of};
+use uecp_words::{EventLine, event_of, is_restart};
 
 /// Plays events on a line and says what came of each; then the totals and, where that is asked for, the store.
 #[derive(Drop)]
@@ -48,8 +52,12 @@ impl Interpreter for Playing {
         output: &mut Output,
     ) -> Result<Taken, LineFault> {
         let words = words_of(alloc, text)?;
-        let event = event_of(alloc, words.as_slice())?;
-        play_event(&mut self.line, &event, output);
+        if is_restart(words.as_slice()) {
+            restart(&mut self.line, output);
+        } else {
+            let event = event_of(alloc, words.as_slice())?;
+            play_event(&mut self.line, &event, output);
+        }
         output.check()?;
         Ok(Taken::GoesOn)
     }
@@ -74,6 +82,14 @@ fn play_event(line: &mut Line<RdsStore>, event: &EventLine, output: &mut Output)
     let event = line_event(event);
     let number = named_message(&event);
     put_step(line.step(&event), number, output);
+}
+
+/// Starts the server again, and says how many messages were given up.
+fn restart(line: &mut Line<RdsStore>, output: &mut Output)
+    ensures { (given_up : ℕ) × Restarts step line.old given_up line.new × Adds output.old output.new (given_up_line given_up) }
+{
+    empty_message_changes_nothing();
+    put_given_up(line.restart_server(), output);
 }
 
 /// The event as it happens on the line.

@@ -26,6 +26,10 @@ step_words (Ok Lost) named = codes "lost"
 step_words (Ok (Taken group)) named = codes "taken" ++ taken_words group
 step_words (Err refusal) named = counted (codes "refused") (number_of refusal) ++ codes " " ++ name_of refusal
 
+-- What is said where the server was started again: how many messages were given up.
+abbrev pub given_up_line : ℕ → List ℕ
+given_up_line given_up = counted (codes "given up") given_up ++ codes "\n"
+
 -- The last line: how many messages were sent and applied, and below which number all are acknowledged.
 abbrev pub totals_line : (sent applied acknowledged : ℕ) → List ℕ
 totals_line sent applied acknowledged =

@@ -5,6 +5,7 @@
 //! has the value from the crates below.
 //!
 //! - [`put_found`], [`put_answer`], [`put_step`]: the lines of one finding, answer or event.
+//! - [`put_given_up`]: the line of a server that was started again.
 //! - [`put_totals`], [`put_last`]: the lines that come last.
 #![tactic(auto)]
 
@@ -16,5 +17,5 @@ mod store_lines;
 
 pub use finding_lines::put_found;
 pub use response_lines::put_answer;
-pub use step_lines::{put_step, put_totals};
+pub use step_lines::{put_given_up, put_step, put_totals};
 pub use store_lines::put_last;

@@ -4,7 +4,7 @@ ghost use Rattle.uecp_elements.specs.Codes.{byte_of};
 ghost use Rattle.uecp_text.specs.Digits.{byte_word, counted};
 ghost use Rattle.uecp_link.specs.Once.{least_missing};
 ghost use Rattle.uecp_link.specs.Holds.{is_acknowledged};
-ghost use Rattle.uecp_lines.specs.Steps.{step_words, taken_words, totals_line};
+ghost use Rattle.uecp_lines.specs.Steps.{step_words, taken_words, given_up_line, totals_line};
 ghost use Rattle.uecp_text.specs.Written.{Adds};
 
 use crate::store_lines::put_group_words;
@@ -72,6 +72,14 @@ fn put_code(name: &str, code: Code, output: &mut Output)
 {
     output.text(name);
     output.byte(code.byte());
+}
+
+/// The line of a server that was started again, and of how many messages were given up.
+pub fn put_given_up(given_up: usize, output: &mut Output)
+    ensures { Adds output.old output.new (given_up_line given_up) }
+{
+    put_count("given up", given_up, output);
+    output.end();
 }
 
 /// The line of totals.

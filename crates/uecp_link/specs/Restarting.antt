@@ -24,3 +24,4 @@ pub record Restarts {V : Type 0} (step : Step V) (old : LineState V) (given_up :
   pub begins : new ≡ line_from (fed step (with_nothing_open old.encoder) (pass_sent old.encoder.address))
   pub replied : BringsBoth old.encoder.address (answers step (with_nothing_open old.encoder) (pass_sent old.encoder.address))
   pub joined : HasJoinedWith new.encoder old.encoder.value
+  pub address : new.encoder.address ≡ old.encoder.address

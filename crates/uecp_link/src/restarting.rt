@@ -28,7 +28,6 @@ impl<T: Target> Line<T> {
         requires empty { EmptyChangesNothing T.step }
         ensures restarts { Restarts T.step self.old result self.new }
         ensures holds { Holds self.new (at_first self.new.encoder.value) }
-        ensures address { self.new.encoder.address ≡ self.old.encoder.address }
     {
         let given_up = self.server.waiting();
         self.server.begin_again();

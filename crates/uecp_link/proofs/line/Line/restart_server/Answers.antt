@@ -37,6 +37,7 @@ returns-clause-restarts g c =
       begins = begins;
       replied = r.replied;
       joined = subst (λ (l : LineState _). HasJoinedWith l.encoder old.encoder.value) (sym begins) r.joined;
+      address = ap (λ (l : LineState _). l.encoder.address) begins ∙ r.address;
     })
 
 pub returns-clause-holds : goal.returns-clause-holds
@@ -49,14 +50,3 @@ returns-clause-holds g c =
     left_is g.T.Target.step old c.self.invariant.is_line c.self.inside.address c.line_lost.new.self c.give_pass.new.encoder c.begin_again.new.self c.clear.new.self.items c.clear-2.new.self.items
     c.self.invariant.address_is c.line_lost.ensures c.give_pass.ensures c.begin_again.ensures (search rules) (search rules) r.address in
     subst (λ (l : LineState _). Holds l (at_first l.encoder.value)) (sym begins) r.holds
-
-pub returns-clause-address : goal.returns-clause-address
-returns-clause-address g c =
-    let old : LineState _ = record { encoder = c.self.inside.encoder; server = c.self.inside.server; sent = c.self.inside.sent.items; codes = c.self.inside.codes.items } in
-    let new : LineState _ = record { encoder = c.give_pass.new.encoder; server = c.begin_again.new.self; sent = c.clear.new.self.items; codes = c.clear-2.new.self.items } in
-    let e : EncoderState _ = fed g.T.Target.step (with_nothing_open old.encoder) (pass_sent old.encoder.address) in
-    let r : Restarted g.T.Target.step old e = restarted g.T.Target.step c.requires.empty old c.self.invariant.is_line in
-    let begins : new ≡ line_from e =
-    left_is g.T.Target.step old c.self.invariant.is_line c.self.inside.address c.line_lost.new.self c.give_pass.new.encoder c.begin_again.new.self c.clear.new.self.items c.clear-2.new.self.items
-    c.self.invariant.address_is c.line_lost.ensures c.give_pass.ensures c.begin_again.ensures (search rules) (search rules) r.address in
-    ap (λ (l : LineState _). l.encoder.address) begins ∙ r.address ∙ ap (λ (l : LineState _). l.encoder.address) c.self.view_is
