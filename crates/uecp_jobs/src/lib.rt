@@ -5,6 +5,7 @@
 #![tactic(auto)]
 
 mod answering;
+mod batches;
 mod encoder_run;
 mod event_script;
 mod frame_script;

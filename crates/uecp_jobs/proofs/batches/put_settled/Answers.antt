@@ -3,7 +3,7 @@ use Rattle.uecp_text.specs.Written.{Adds}
 use Rattle.uecp_elements.specs.declared.code.Code.TheVariants.{Applied}
 use Rattle.uecp_jobs.specs.Batches.{acknowledged_line}
 use Rattle.uecp_jobs.proofs.BatchLines.{adds_on, batch_on}
-use Rattle.uecp_jobs.proofs.server_run.put_settled.Goals as goal
+use Rattle.uecp_jobs.proofs.batches.put_settled.Goals as goal
 
 pub loop-code-preserved : goal.loop-code-preserved
 loop-code-preserved c =

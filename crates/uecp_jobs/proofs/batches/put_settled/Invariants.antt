@@ -1,7 +1,7 @@
 use Rattle.std.proofs.Common.{take}
 use Rattle.uecp_text.specs.Written.{Adds}
 use Rattle.uecp_jobs.specs.Batches.{batch_lines}
-use Rattle.uecp_jobs.proofs.server_run.put_settled.Given as goal
+use Rattle.uecp_jobs.proofs.batches.put_settled.Given as goal
 
 -- the lines of the messages so far were put down
 abbrev pub invariant-loop-code : goal.invariant-loop-code

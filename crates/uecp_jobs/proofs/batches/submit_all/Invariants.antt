@@ -1,6 +1,6 @@
 use Rattle.std.proofs.Common.{◌≡◌, take}
 use Rattle.uecp_net.specs.Sending.{submitted_all}
-use Rattle.uecp_jobs.proofs.server_run.submit_all.Given as goal
+use Rattle.uecp_jobs.proofs.batches.submit_all.Given as goal
 
 -- the messages so far are submitted
 abbrev pub invariant-loop-message : goal.invariant-loop-message

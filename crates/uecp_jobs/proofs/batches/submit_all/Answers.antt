@@ -2,7 +2,7 @@ use Rattle.std.proofs.Common.{arith, ◌<◌, length, take, ap, sym, ◌∙◌}
 use Rattle.std.proofs.lemmas.List.{length-take-le}
 use Rattle.uecp_jobs.proofs.BatchLines.{all_held, submitted_on}
 use Rattle.uecp_net.specs.Sending.{submitted_to, submitted_all}
-use Rattle.uecp_jobs.proofs.server_run.submit_all.Goals as goal
+use Rattle.uecp_jobs.proofs.batches.submit_all.Goals as goal
 
 pub submit-requires : goal.submit-requires
 submit-requires g c =

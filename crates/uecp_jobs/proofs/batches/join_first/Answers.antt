@@ -7,7 +7,7 @@ use Rattle.uecp_net.specs.Sending.{SenderState}
 use Rattle.uecp_jobs.specs.Batches.{Tells}
 use Rattle.uecp_jobs.specs.JoiningFirst.{joining_line, joining_end, Joins}
 use Rattle.uecp_jobs.proofs.JoiningFirst.{joins_so}
-use Rattle.uecp_jobs.proofs.server_run.join_first.Goals as goal
+use Rattle.uecp_jobs.proofs.batches.join_first.Goals as goal
 
 pub returns-in_err-check-clause-joins : goal.returns-in_err-check-clause-joins
 returns-in_err-check-clause-joins g c =

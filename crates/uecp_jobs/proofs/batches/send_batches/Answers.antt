@@ -2,7 +2,7 @@ use Rattle.std.proofs.Common.{rules, ◌≡◌, ◌≢◌, suc, min, [], length,
 use Rattle.std.proofs.lemmas.List.{take_min}
 use Rattle.uecp_jobs.specs.Batches.{SendsBatch, SendsOut}
 use Rattle.uecp_jobs.proofs.BatchLines.{drop_min, none_by_test}
-use Rattle.uecp_jobs.proofs.server_run.send_batches.Goals as goal
+use Rattle.uecp_jobs.proofs.batches.send_batches.Goals as goal
 
 pub returns-in_err-send_batch-clause-sends : goal.returns-in_err-send_batch-clause-sends
 returns-in_err-send_batch-clause-sends g c =

@@ -6,7 +6,7 @@ use Rattle.uecp_text.specs.declared.run_fault.RunFault.TheVariants.{OutOfMemory,
 use Rattle.uecp_jobs.specs.Batches.{settled_lines, ended_by, Tells}
 use Rattle.uecp_jobs.proofs.BatchLines.{all_loan}
 use Rattle.uecp_jobs.proofs.Settling.{some_held, SettlesSo, settled_so}
-use Rattle.uecp_jobs.proofs.server_run.send_batch.Goals as goal
+use Rattle.uecp_jobs.proofs.batches.send_batch.Goals as goal
 
 pub settle-settled-requires : goal.settle-settled-requires
 settle-settled-requires g c =

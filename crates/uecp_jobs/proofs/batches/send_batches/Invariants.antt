@@ -2,7 +2,7 @@ use Rattle.std.proofs.Common.{◌≡◌, ℕ, List, [], Option, Result, length}
 use Rattle.uecp_text.specs.declared.run_fault.RunFault.{RunFault}
 use Rattle.uecp_net.specs.Sending.{SenderOver}
 use Rattle.uecp_jobs.specs.Batches.{SendsOut}
-use Rattle.uecp_jobs.proofs.server_run.send_batches.Given as goal
+use Rattle.uecp_jobs.proofs.batches.send_batches.Given as goal
 
 -- the server is idle, and whatever is sent of the rest from here on is sent of all from the start on
 abbrev pub invariant-loop-rest : goal.invariant-loop-rest
