@@ -67,6 +67,13 @@ read_failures (Ok served) failures = failures
 read_failures (Err TurnsSpent) failures = failures
 read_failures (Err (WriteFailed w)) failures = failures
 
+-- the reader's reads that brought nothing, after the call: one more at the end of input
+abbrev pub empty_reads : Result Served ServeFault → ℕ → ℕ
+empty_reads (Ok served) empty = counted empty
+empty_reads (Err ReadFailed) empty = empty
+empty_reads (Err TurnsSpent) empty = empty
+empty_reads (Err (WriteFailed w)) empty = empty
+
 -- the writer's failures after the call: one more at `WriteFailed`
 abbrev pub write_failures : Result Served ServeFault → ℕ → ℕ
 write_failures (Err (WriteFailed w)) failures = counted failures

@@ -2,7 +2,7 @@
 ghost use Rattle.std.specs.Prelude.{◌≡◌, ◌<◌, ◌≤◌, ◌+◌, ◌^◌, length, take, OnOk, IfOk, IfErr};
 ghost use Rattle.std.specs.Io.{ReadsAtMost, WritesAtMost};
 ghost use Rattle.std.specs.Io.KnownBytes.{Appends, ReadConsumes, WriteAppends};
-ghost use Rattle.uecp_encoder.specs.Metered.{counted, failures_after};
+ghost use Rattle.uecp_encoder.specs.Metered.{counted, failures_after, empty_after};
 
 use std::io::{Read, Write};
 use std::marker::Model;
@@ -11,13 +11,14 @@ use std::marker::Model;
 #[derive(Clone, Copy, Debug, PartialEq, Eq)]
 pub struct Failed;
 
-/// A reader or a writer, with how often it was called and how often it failed. It is the one way to its device. Contracts see it as
-/// one value, `Metered`.
+/// A reader or a writer, with how often it was called, how often it failed, and how often a read brought nothing. It is the one way to
+/// its device. Contracts see it as one value, `Metered`.
 #[derive(Drop)]
 pub struct Meter<D> {
     device: D,
     calls: u128,
     failures: u128,
+    empty: u128,
 }
 
 impl<D> Model for Meter<D> {
@@ -27,7 +28,7 @@ impl<D> Model for Meter<D> {
 
     ghost coded = { metered_code D.code };
 
-    ghost view = { λ m. record { device = m.device; calls = m.calls; failures = m.failures } };
+    ghost view = { λ m. record { device = m.device; calls = m.calls; failures = m.failures; empty = m.empty } };
 }
 
 impl<D> Meter<D> {
@@ -36,11 +37,13 @@ impl<D> Meter<D> {
         ensures device { result.device ≡ device }
         ensures calls { result.calls ≡ 0 }
         ensures failures { result.failures ≡ 0 }
+        ensures empty { result.empty ≡ 0 }
     {
         Meter {
             device,
             calls: 0,
             failures: 0,
+            empty: 0,
         }
     }
 
@@ -52,6 +55,7 @@ impl<D> Meter<D> {
             device,
             calls: _,
             failures: _,
+            empty: _,
         } = self;
         device
     }
@@ -69,6 +73,13 @@ impl<D> Meter<D> {
     {
         self.failures
     }
+
+    /// How many reads brought nothing: the input was at its end. At its greatest value it stays.
+    pub fn empty(&self) -> u128
+        ensures { result ≡ self.now.empty }
+    {
+        self.empty
+    }
 }
 
 impl<D: Read> Meter<D> {
@@ -79,9 +90,14 @@ impl<D: Read> Meter<D> {
         ensures bytes { ReadConsumes (D.remaining self.old.device) (D.remaining self.new.device) result buffer.new }
         ensures calls { self.new.calls ≡ counted self.old.calls }
         ensures failures { self.new.failures ≡ failures_after result self.old.failures }
+        ensures empty { self.new.empty ≡ empty_after result self.old.empty }
     {
         self.calls = self.calls.saturating_add(1);
         match self.device.read(buffer) {
+            Ok(0) => {
+                self.empty = self.empty.saturating_add(1);
+                Ok(0)
+            }
             Ok(count) => Ok(count),
             Err(_) => {
                 self.failures = self.failures.saturating_add(1);
@@ -100,6 +116,7 @@ impl<D: Write> Meter<D> {
         ensures bytes { WriteAppends (D.contents self.old.device) (D.contents self.new.device) result bytes.now }
         ensures calls { self.new.calls ≡ counted self.old.calls }
         ensures failures { self.new.failures ≡ failures_after result self.old.failures }
+        ensures empty { self.new.empty ≡ self.old.empty }
     {
         self.calls = self.calls.saturating_add(1);
         match self.device.write(bytes) {
@@ -119,6 +136,7 @@ impl<D: Write> Meter<D> {
             × Appends (D.contents self.old.device) (D.contents self.new.device) (take w bytes.now)) }
         ensures calls { self.old.calls + length bytes.now < 2 ^ 128 → (self.old.calls ≤ self.new.calls) × (self.new.calls ≤ self.old.calls + length bytes.now) }
         ensures failures { self.new.failures ≡ failures_after result self.old.failures }
+        ensures empty { self.new.empty ≡ self.old.empty }
     {
         let mut at = 0;
         while at < bytes.len() {

@@ -3,7 +3,7 @@ ghost use Rattle.std.specs.Prelude.{◌≡◌, ◌<◌, ◌≤◌, ◌+◌, ◌*
 ghost use Rattle.std.specs.Io.KnownBytes.{Appends, Consumes};
 ghost use Rattle.uecp_encoder.specs.Answering.{bytes_sent, responses_of};
 ghost use Rattle.uecp_encoder.specs.Metered.{failures_after};
-ghost use Rattle.uecp_encoder.specs.Serving.{replies_among, Sends, StopsWriting, Serves, ReadsMade, read_failures, write_failures};
+ghost use Rattle.uecp_encoder.specs.Serving.{replies_among, Sends, StopsWriting, Serves, ReadsMade, read_failures, empty_reads, write_failures};
 
 use crate::answer::What;
 use crate::encoder::Encoder;
@@ -66,6 +66,7 @@ pub fn serve<T: Target, R: Read, W: Write>(
         × (length s ≤ 512 * turns) }
     ensures reads { (n : ℕ) × ReadsMade result turns n × (reader.old.calls + n < 2 ^ 128 → reader.new.calls ≡ reader.old.calls + n) }
     ensures read_failures { reader.new.failures ≡ read_failures result reader.old.failures }
+    ensures empty_reads { reader.new.empty ≡ empty_reads result reader.old.empty }
     ensures write_failures { writer.new.failures ≡ write_failures result writer.old.failures }
 {
     let mut buffer = [0u8; 512];

@@ -65,7 +65,7 @@ read_none remaining s reader idle = record {
   idle = idle;
   seen_is = sym (ap (seen_after Neither) (counters_none s.address s.part));
   waits = λ h. cc;
-  bring = omega arith;
+  bring = refl;
   few_bytes = omega arith;
   calls = λ h. omega arith;
   read_failures = refl;
@@ -79,16 +79,16 @@ module _ {R : Type 0} (remaining : R → Option (List ℕ)) (s0 s1 : ServerState
   more_seen piece seen' is = is ∙ seen_on s0 s1 so_far.read piece Neither seen so_far.state so_far.seen_is
 
   -- one read more, after which not both were read
-  pub read_on : (s2 : ServerState) (r2 : Metered R) (seen' : Seen) (piece : List ℕ) → Consumes (remaining r1.device) (remaining r2.device) piece → length piece ≤ 64 → 0 < length piece → s2 ≡ heard s1 piece
-      → seen' ≡ seen_after seen (reply_counters s1.address s1.part piece) → seen' ≢ Both → r2.calls ≡ counted r1.calls → r2.failures ≡ r1.failures → ReadSoFar remaining s0 s2 r0 r2 seen' (reads + 1)
-  read_on s2 r2 seen' piece took few some state is waits calls failures = record {
+  pub read_on : (s2 : ServerState) (r2 : Metered R) (seen' : Seen) (piece : List ℕ) → Consumes (remaining r1.device) (remaining r2.device) piece → length piece ≤ 64 → s2 ≡ heard s1 piece
+      → seen' ≡ seen_after seen (reply_counters s1.address s1.part piece) → seen' ≢ Both → r2.calls ≡ counted r1.calls → r2.failures ≡ r1.failures → r2.empty ≡ r1.empty → ReadSoFar remaining s0 s2 r0 r2 seen' (reads + 1)
+  read_on s2 r2 seen' piece took few state is waits calls failures empty = record {
     read = so_far.read ++ piece;
     consumed = Consumes-trans _ _ _ _ _ so_far.consumed took;
     state = more_state piece s2 state;
     idle = ap (λ (t : ServerState). t.held) state ∙ idle_hears s1 piece so_far.idle;
     seen_is = more_seen piece seen' is;
     waits = waits;
-    bring = omega (arith, length-append so_far.read piece, some, so_far.bring);
+    bring = empty ∙ so_far.bring;
     few_bytes = omega (arith, length-append so_far.read piece, few, so_far.few_bytes);
     calls = λ h. omega (arith, calls, so_far.calls (omega (arith, h)), h);
     read_failures = failures ∙ so_far.read_failures;
@@ -105,9 +105,9 @@ module _ {R : Type 0} (remaining : R → Option (List ℕ)) (s0 s1 : ServerState
   not_brought closed = not_yet so_far.read [] closed (append-nil so_far.read)
 
   -- the reads end with one more, with which both were read
-  pub replies_both : (s2 : ServerState) (r2 : Metered R) (seen' : Seen) (piece : List ℕ) (turns : ℕ) → s0.part ≡ NothingOpen → Consumes (remaining r1.device) (remaining r2.device) piece → length piece ≤ 64 → 0 < length piece
-      → s2 ≡ heard s1 piece → seen' ≡ seen_after seen (reply_counters s1.address s1.part piece) → seen' ≡ Both → r2.calls ≡ counted r1.calls → r2.failures ≡ r1.failures → reads < turns → ReadsReplies remaining s0 s2 r0 r2 turns (Ok Joined)
-  replies_both s2 r2 seen' piece turns closed took few some state is both calls failures below =
+  pub replies_both : (s2 : ServerState) (r2 : Metered R) (seen' : Seen) (piece : List ℕ) (turns : ℕ) → s0.part ≡ NothingOpen → Consumes (remaining r1.device) (remaining r2.device) piece → length piece ≤ 64
+      → s2 ≡ heard s1 piece → seen' ≡ seen_after seen (reply_counters s1.address s1.part piece) → seen' ≡ Both → r2.calls ≡ counted r1.calls → r2.failures ≡ r1.failures → r2.empty ≡ r1.empty → reads < turns → ReadsReplies remaining s0 s2 r0 r2 turns (Ok Joined)
+  replies_both s2 r2 seen' piece turns closed took few state is both calls failures empty below =
       let n : ℕ = length (so_far.read ++ piece) - 64 in
       let within : n ≤ length so_far.read = omega (arith, length-append so_far.read piece, few) in
       let front : take n (so_far.read ++ piece) ≡ take n so_far.read = take-append-le n so_far.read piece within in
@@ -124,7 +124,8 @@ module _ {R : Type 0} (remaining : R → Option (List ℕ)) (s0 s1 : ServerState
           refl,
           omega arith,
         );
-        bring = λ open_. omega (arith, length-append so_far.read piece, some, so_far.bring);
+        bring = λ open_. empty ∙ so_far.bring;
+        end = λ ended. cc;
         few_reads = omega (arith, below);
         few_bytes = omega (arith, length-append so_far.read piece, few, so_far.few_bytes);
         calls = λ h. omega (arith, calls, so_far.calls (omega (arith, h)), h);
@@ -133,16 +134,18 @@ module _ {R : Type 0} (remaining : R → Option (List ℕ)) (s0 s1 : ServerState
 
   -- they end with no more, or with one more that brought none
   pub replies_quiet : (s2 : ServerState) (r2 : Metered R) (turns more failed : ℕ) (result : Result Joining DriveFault) → Consumes (remaining r1.device) (remaining r2.device) [] → s2 ≡ s1
-      → (r1.calls + more < 2 ^ 128 → r2.calls ≡ r1.calls + more) → (r1.failures + failed < 2 ^ 128 → r2.failures ≡ r1.failures + failed) → reads + more ≤ turns → (result ≢ Err Closed → more ≤ failed)
+      → (r1.calls + more < 2 ^ 128 → r2.calls ≡ r1.calls + more) → (r1.failures + failed < 2 ^ 128 → r2.failures ≡ r1.failures + failed) → reads + more ≤ turns → (result ≢ Err Closed → r2.empty ≡ r1.empty)
+      → (result ≡ Err Closed → r2.empty ≡ counted r1.empty)
       → RepliesEnd s0.address so_far.read (remaining r2.device) turns (reads + more) failed result → ReadsReplies remaining s0 s2 r0 r2 turns result
-  replies_quiet s2 r2 turns more failed result took stays calls failures below brings ends = record {
+  replies_quiet s2 r2 turns more failed result took stays calls failures below brings empties ends = record {
     read = so_far.read;
     reads = reads + more;
     failed = failed;
     consumed = subst (Consumes (remaining r0.device) (remaining r2.device)) (append-nil so_far.read) (Consumes-trans _ _ _ _ _ so_far.consumed took);
     state = stays ∙ so_far.state;
     ends = ends;
-    bring = λ open_. omega (arith, so_far.bring, brings open_);
+    bring = λ open_. brings open_ ∙ so_far.bring;
+    end = λ ended. empties ended ∙ ap counted so_far.bring;
     few_reads = below;
     few_bytes = omega (arith, so_far.few_bytes);
     calls = λ h. omega (arith, calls, so_far.calls (omega (arith, h)), h);
@@ -152,8 +155,8 @@ module _ {R : Type 0} (remaining : R → Option (List ℕ)) (s0 s1 : ServerState
 -- ---- a whole pass
 
 pub pass_unread : {R W : Type 0} (remaining : R → Option (List ℕ)) (contents : W → Option (List ℕ)) (s s' : ServerState) (r : Metered R) (w0 w1 : Metered W) (turns : ℕ) (sent : List ℕ) (result : Result Joining DriveFault) → s' ≡ anew s
-    → Appends (contents w0.device) (contents w1.device) sent → PassEnds s.address [] sent (remaining r.device) turns 0 0 result → w1.failures ≡ pass_failures result w0.failures → MakesPass remaining contents s s' r r w0 w1 turns result
-pass_unread remaining contents s s' r w0 w1 turns sent result begins wrote ends failures = record {
+    → Appends (contents w0.device) (contents w1.device) sent → PassEnds s.address [] sent (remaining r.device) turns 0 0 result → w1.failures ≡ pass_failures result w0.failures → result ≢ Err Closed → MakesPass remaining contents s s' r r w0 w1 turns result
+pass_unread remaining contents s s' r w0 w1 turns sent result begins wrote ends failures goes_on = record {
   read = [];
   sent = sent;
   reads = 0;
@@ -162,7 +165,8 @@ pass_unread remaining contents s s' r w0 w1 turns sent result begins wrote ends 
   appended = wrote;
   state = begins ∙ sym (heard_none (anew s));
   ends = ends;
-  bring = λ h. omega arith;
+  bring = λ h. refl;
+  end = λ ended. absurd (goes_on ended);
   few_reads = omega arith;
   few_bytes = omega arith;
   calls = λ h. omega arith;
@@ -182,6 +186,7 @@ pass_read remaining contents s0 s1 s2 r0 r1 w0 w1 turns result begins wrote fail
   state = reads.state ∙ ap (λ (s : ServerState). heard s reads.read) begins;
   ends = go result ends;
   bring = reads.bring;
+  end = reads.end;
   few_reads = reads.few_reads;
   few_bytes = reads.few_bytes;
   calls = reads.calls;

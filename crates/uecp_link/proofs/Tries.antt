@@ -23,7 +23,7 @@ waits_none remaining s reader = record {
   consumed = Consumes-nil _;
   state = sym (heard_none s);
   silent = nothing_acknowledged s;
-  bring = omega arith;
+  bring = refl;
   few_bytes = omega arith;
   calls = λ h. omega arith;
   read_failures = refl;
@@ -31,14 +31,14 @@ waits_none remaining s reader = record {
 
 -- one read more, which brings no acknowledgement
 pub waits_on : {R : Type 0} (remaining : R → Option (List ℕ)) (s0 s1 s2 : ServerState) (r0 r1 r2 : Metered R) (reads : ℕ) (piece : List ℕ) → Waits remaining s0 s1 r0 r1 reads →
-    Consumes (remaining r1.device) (remaining r2.device) piece → length piece ≤ 64 → 0 < length piece → s2 ≡ heard s1 piece → acknowledged_in s1 piece ≡ None → r2.calls ≡ counted r1.calls → r2.failures ≡ r1.failures →
+    Consumes (remaining r1.device) (remaining r2.device) piece → length piece ≤ 64 → s2 ≡ heard s1 piece → acknowledged_in s1 piece ≡ None → r2.calls ≡ counted r1.calls → r2.failures ≡ r1.failures → r2.empty ≡ r1.empty →
     Waits remaining s0 s2 r0 r2 (reads + 1)
-waits_on remaining s0 s1 s2 r0 r1 r2 reads piece so_far took few some state silent calls failures = record {
+waits_on remaining s0 s1 s2 r0 r1 r2 reads piece so_far took few state silent calls failures empty = record {
   read = so_far.read ++ piece;
   consumed = Consumes-trans _ _ _ _ _ so_far.consumed took;
   state = state ∙ ap (λ d. heard d piece) so_far.state ∙ sym (server_in_pieces s0 so_far.read piece).state;
   silent = acknowledged_later s0 so_far.read piece so_far.silent ∙ ap (λ d. acknowledged_in d piece) (sym so_far.state) ∙ silent;
-  bring = omega (arith, length-append so_far.read piece, some, so_far.bring);
+  bring = empty ∙ so_far.bring;
   few_bytes = omega (arith, length-append so_far.read piece, few, so_far.few_bytes);
   calls = λ h. omega (arith, calls, so_far.calls (omega (arith, h)), h);
   read_failures = failures ∙ so_far.read_failures;
@@ -56,7 +56,8 @@ nothing_came remaining s0 s1 r0 r1 turns reads so_far all = record {
   consumed = so_far.consumed;
   state = so_far.state;
   hears = (so_far.silent, inr (refl, all));
-  bring = λ goes_on. omega (arith, so_far.bring);
+  bring = λ goes_on. so_far.bring;
+  end = λ ended. cc;
   few_reads = omega (arith, all);
   few_bytes = so_far.few_bytes;
   calls = so_far.calls;
@@ -65,16 +66,17 @@ nothing_came remaining s0 s1 r0 r1 turns reads so_far all = record {
 
 -- a read failed
 pub read_failed : {R : Type 0} (remaining : R → Option (List ℕ)) (s0 s1 : ServerState) (r0 r1 r2 : Metered R) (turns reads : ℕ) → Waits remaining s0 s1 r0 r1 reads →
-    Keeps (remaining r1.device) (remaining r2.device) → r2.calls ≡ counted r1.calls → r2.failures ≡ counted r1.failures → reads < turns →
+    Keeps (remaining r1.device) (remaining r2.device) → r2.calls ≡ counted r1.calls → r2.failures ≡ counted r1.failures → r2.empty ≡ r1.empty → reads < turns →
     Listens remaining s0 s1 r0 r2 turns listened.Nothing
-read_failed remaining s0 s1 r0 r1 r2 turns reads so_far kept calls failures below = record {
+read_failed remaining s0 s1 r0 r1 r2 turns reads so_far kept calls failures empty below = record {
   read = so_far.read;
   reads = reads + 1;
   failed = 1;
   consumed = Consumes-kept _ _ _ _ so_far.consumed kept;
   state = so_far.state;
   hears = (so_far.silent, inl (refl, omega arith));
-  bring = λ goes_on. omega (arith, so_far.bring);
+  bring = λ goes_on. empty ∙ so_far.bring;
+  end = λ ended. cc;
   few_reads = omega (arith, below);
   few_bytes = omega (arith, so_far.few_bytes);
   calls = λ h. omega (arith, calls, so_far.calls (omega (arith, h)), h);
@@ -83,9 +85,9 @@ read_failed remaining s0 s1 r0 r1 r2 turns reads so_far kept calls failures belo
 
 -- a read met the end of input
 pub input_ended : {R : Type 0} (remaining : R → Option (List ℕ)) (s0 s1 : ServerState) (r0 r1 r2 : Metered R) (turns reads : ℕ) → Waits remaining s0 s1 r0 r1 reads →
-    Consumes (remaining r1.device) (remaining r2.device) [] → IsAtEnd (remaining r2.device) → r2.calls ≡ counted r1.calls → r2.failures ≡ r1.failures → reads < turns →
+    Consumes (remaining r1.device) (remaining r2.device) [] → IsAtEnd (remaining r2.device) → r2.calls ≡ counted r1.calls → r2.failures ≡ r1.failures → r2.empty ≡ counted r1.empty → reads < turns →
     Listens remaining s0 s1 r0 r2 turns listened.Ended
-input_ended remaining s0 s1 r0 r1 r2 turns reads so_far took end calls failures below = record {
+input_ended remaining s0 s1 r0 r1 r2 turns reads so_far took end calls failures empty below = record {
   read = so_far.read ++ [];
   reads = reads + 1;
   failed = 0;
@@ -93,6 +95,7 @@ input_ended remaining s0 s1 r0 r1 r2 turns reads so_far took end calls failures 
   state = so_far.state ∙ ap (heard s0) (sym (append-nil so_far.read));
   hears = (ap (acknowledged_in s0) (append-nil so_far.read) ∙ so_far.silent, refl, omega arith, end);
   bring = λ goes_on. absurd (goes_on refl);
+  end = λ ended. empty ∙ ap counted so_far.bring;
   few_reads = omega (arith, below);
   few_bytes = omega (arith, so_far.few_bytes, ap length (append-nil so_far.read));
   calls = λ h. omega (arith, calls, so_far.calls (omega (arith, h)), h);
@@ -101,9 +104,9 @@ input_ended remaining s0 s1 r0 r1 r2 turns reads so_far took end calls failures 
 
 -- a read brought the acknowledgement
 pub reply_came : {R : Type 0} (remaining : R → Option (List ℕ)) (s0 s1 s2 : ServerState) (r0 r1 r2 : Metered R) (turns reads : ℕ) (piece : List ℕ) (code : Code) → Waits remaining s0 s1 r0 r1 reads →
-    Consumes (remaining r1.device) (remaining r2.device) piece → length piece ≤ 64 → 0 < length piece → s2 ≡ heard s1 piece → acknowledged_in s1 piece ≡ Some code → r2.calls ≡ counted r1.calls → r2.failures ≡ r1.failures →
+    Consumes (remaining r1.device) (remaining r2.device) piece → length piece ≤ 64 → s2 ≡ heard s1 piece → acknowledged_in s1 piece ≡ Some code → r2.calls ≡ counted r1.calls → r2.failures ≡ r1.failures → r2.empty ≡ r1.empty →
     reads < turns → Listens remaining s0 s2 r0 r2 turns (listened.Acknowledged code)
-reply_came remaining s0 s1 s2 r0 r1 r2 turns reads piece code so_far took few some state comes calls failures below = record {
+reply_came remaining s0 s1 s2 r0 r1 r2 turns reads piece code so_far took few state comes calls failures empty below = record {
   read = so_far.read ++ piece;
   reads = reads + 1;
   failed = 0;
@@ -114,7 +117,8 @@ reply_came remaining s0 s1 s2 r0 r1 r2 turns reads piece code so_far took few so
     refl,
     omega arith,
   );
-  bring = λ goes_on. omega (arith, length-append so_far.read piece, some, so_far.bring);
+  bring = λ goes_on. empty ∙ so_far.bring;
+  end = λ ended. cc;
   few_reads = omega (arith, below);
   few_bytes = omega (arith, length-append so_far.read piece, few, so_far.few_bytes);
   calls = λ h. omega (arith, calls, so_far.calls (omega (arith, h)), h);
@@ -157,7 +161,7 @@ tried_none remaining contents s reader writer turns = record {
   appended = Appends-nil _;
   state = sym (heard_none s);
   silent = nothing_acknowledged s;
-  bring = omega arith;
+  bring = refl;
   bytes_are = refl;
   few_written = omega arith;
   few_failed = omega arith;
@@ -198,7 +202,7 @@ module _ {R W : Type 0} (remaining : R → Option (List ℕ)) (contents : W → 
         appended = one_more contents s0 s1 w0 w1 w2 so_far.read t so_far.silent so_far.state so_far.appended wrote;
         state = try.state ∙ ap (λ d. heard d try.read) so_far.state ∙ sym (server_in_pieces s0 so_far.read try.read).state;
         silent = acknowledged_later s0 so_far.read try.read so_far.silent ∙ ap (λ d. acknowledged_in d try.read) (sym so_far.state) ∙ try.hears.0;
-        bring = omega (arith, length-append so_far.read try.read, so_far.bring, try.bring (λ ended. cc));
+        bring = try.bring (λ ended. cc) ∙ so_far.bring;
         bytes_are = omega (arith, so_far.bytes_are, sent_is, more_bytes s0 s1 so_far.read t so_far.silent so_far.state);
         few_written = omega (arith, so_far.few_written, sent_is, short);
         few_failed = counts.0;
@@ -246,6 +250,7 @@ module _ {R W : Type 0} (remaining : R → Option (List ℕ)) (contents : W → 
           so_far.silent,
         );
         bring = λ goes_on. so_far.bring;
+        end = λ ended. cc;
         made = (omega (arith, so_far.few_failed), reads_from so_far.failed t turns so_far.reads (t + 1 - 1 - so_far.failed) (omega (arith, so_far.few_failed)) so_far.made);
         few_reads = omega (arith, so_far.few_reads);
         few_bytes = so_far.few_bytes;
@@ -274,7 +279,8 @@ module _ {R W : Type 0} (remaining : R → Option (List ℕ)) (contents : W → 
       refl,
       acknowledged_after s0 so_far.read try.read code so_far.silent (subst (λ d. IsAcknowledged d try.read code) so_far.state try.hears.0),
     );
-    bring = λ goes_on. omega (arith, length-append so_far.read try.read, so_far.bring, try.hears.1, try.bring (λ ended. cc));
+    bring = λ goes_on. try.bring (λ ended. cc) ∙ so_far.bring;
+    end = λ ended. cc;
     made = (omega (arith, so_far.few_failed), omega (arith, try.hears.2, reads_from so_far.failed t turns so_far.reads (t + 1 - 1 - so_far.failed) (omega (arith, so_far.few_failed)) so_far.made));
     few_reads = omega (arith, so_far.few_reads, try.few_reads);
     few_bytes = omega (arith, length-append so_far.read try.read, so_far.few_bytes, try.few_bytes);
@@ -304,6 +310,7 @@ module _ {R W : Type 0} (remaining : R → Option (List ℕ)) (contents : W → 
       try.hears.3,
     );
     bring = λ goes_on. absurd (goes_on refl);
+    end = λ ended. try.end refl ∙ ap counted so_far.bring;
     made = (omega (arith, so_far.few_failed), omega (arith, try.hears.2, reads_from so_far.failed t turns so_far.reads (t + 1 - 1 - so_far.failed) (omega (arith, so_far.few_failed)) so_far.made));
     few_reads = omega (arith, so_far.few_reads, try.few_reads);
     few_bytes = omega (arith, length-append so_far.read try.read, so_far.few_bytes, try.few_bytes);
@@ -326,6 +333,7 @@ module _ {R W : Type 0} (remaining : R → Option (List ℕ)) (contents : W → 
     state = so_far.state;
     ends = (all, ap (copies (frame_sent s0)) all, so_far.silent);
     bring = λ goes_on. so_far.bring;
+    end = λ ended. cc;
     made = (so_far.few_failed, reads_from so_far.failed t turns so_far.reads (t - so_far.failed) (omega (arith, so_far.few_failed)) so_far.made);
     few_reads = so_far.few_reads;
     few_bytes = so_far.few_bytes;

@@ -116,7 +116,7 @@ gathered_none remaining s reader marks busy = record {
   state = sym (heard_none s);
   marked = sym (ap (λ ms. marks ++ ms) (marks_none s) ∙ append-nil marks);
   busy = busy;
-  bring = omega arith;
+  bring = refl;
   room = refl;
   few_bytes = omega arith;
   calls = λ h. omega arith;
@@ -133,15 +133,15 @@ module _ {R : Type 0} (remaining : R → Option (List ℕ)) (s0 s1 : ServerState
   more_state piece s2 state = state ∙ ap (λ d. heard d piece) so_far.state ∙ sym (server_in_pieces s0 so_far.read piece).state
 
   -- one read more, after which messages wait
-  pub gathered_on : (s2 : ServerState) (r2 : Metered R) (m2 : List (ℕ × Code)) (piece : List ℕ) → Consumes (remaining r1.device) (remaining r2.device) piece → length piece ≤ 64 → 0 < length piece → s2 ≡ heard s1 piece → m2 ≡ m1 ++ marks_in s1 piece →
-      s2.held ≢ [] → length m2 + length (waiting s2) ≡ length m1 + length (waiting s1) → r2.calls ≡ counted r1.calls → r2.failures ≡ r1.failures → Gathered remaining s0 s2 r0 r2 m0 m2 (reads + 1)
-  gathered_on s2 r2 m2 piece took few some state marked busy room calls failures = record {
+  pub gathered_on : (s2 : ServerState) (r2 : Metered R) (m2 : List (ℕ × Code)) (piece : List ℕ) → Consumes (remaining r1.device) (remaining r2.device) piece → length piece ≤ 64 → s2 ≡ heard s1 piece → m2 ≡ m1 ++ marks_in s1 piece →
+      s2.held ≢ [] → length m2 + length (waiting s2) ≡ length m1 + length (waiting s1) → r2.calls ≡ counted r1.calls → r2.failures ≡ r1.failures → r2.empty ≡ r1.empty → Gathered remaining s0 s2 r0 r2 m0 m2 (reads + 1)
+  gathered_on s2 r2 m2 piece took few state marked busy room calls failures empty = record {
     read = so_far.read ++ piece;
     consumed = Consumes-trans _ _ _ _ _ so_far.consumed took;
     state = more_state piece s2 state;
     marked = more_marks piece m2 marked;
     busy = busy;
-    bring = omega (arith, length-append so_far.read piece, some, so_far.bring);
+    bring = empty ∙ so_far.bring;
     room = room ∙ so_far.room;
     few_bytes = omega (arith, length-append so_far.read piece, few, so_far.few_bytes);
     calls = λ h. omega (arith, calls, so_far.calls (omega (arith, h)), h);
@@ -149,10 +149,10 @@ module _ {R : Type 0} (remaining : R → Option (List ℕ)) (s0 s1 : ServerState
   }
 
   -- the reads end with one more, which brought bytes
-  pub gathers_more : (s2 : ServerState) (r2 : Metered R) (m2 : List (ℕ × Code)) (piece : List ℕ) (turns : ℕ) (result : Result Windowed DriveFault) → Consumes (remaining r1.device) (remaining r2.device) piece → length piece ≤ 64 → 0 < length piece
-      → s2 ≡ heard s1 piece → m2 ≡ m1 ++ marks_in s1 piece → r2.calls ≡ counted r1.calls → r2.failures ≡ r1.failures → reads < turns
+  pub gathers_more : (s2 : ServerState) (r2 : Metered R) (m2 : List (ℕ × Code)) (piece : List ℕ) (turns : ℕ) (result : Result Windowed DriveFault) → Consumes (remaining r1.device) (remaining r2.device) piece → length piece ≤ 64
+      → s2 ≡ heard s1 piece → m2 ≡ m1 ++ marks_in s1 piece → r2.calls ≡ counted r1.calls → r2.failures ≡ r1.failures → r2.empty ≡ r1.empty → result ≢ Err Closed → reads < turns
       → ((heard s0 (take (length (so_far.read ++ piece) - 64) (so_far.read ++ piece))).held ≢ [] → ReadsEnd s0 s2 (so_far.read ++ piece) (remaining r2.device) turns (reads + 1) 0 result) → Gathers remaining s0 s2 r0 r2 m0 m2 turns result
-  gathers_more s2 r2 m2 piece turns result took few some state marked calls failures below ends = record {
+  gathers_more s2 r2 m2 piece turns result took few state marked calls failures empty goes_on below ends = record {
     read = so_far.read ++ piece;
     reads = reads + 1;
     failed = 0;
@@ -160,7 +160,8 @@ module _ {R : Type 0} (remaining : R → Option (List ℕ)) (s0 s1 : ServerState
     state = more_state piece s2 state;
     marked = more_marks piece m2 marked;
     ends = ends late;
-    bring = λ open_. omega (arith, length-append so_far.read piece, some, so_far.bring);
+    bring = λ open_. empty ∙ so_far.bring;
+    end = λ closed. absurd (goes_on closed);
     few_reads = omega (arith, below);
     few_bytes = omega (arith, length-append so_far.read piece, few, so_far.few_bytes);
     calls = λ h. omega (arith, calls, so_far.calls (omega (arith, h)), h);
@@ -179,10 +180,12 @@ module _ {R : Type 0} (remaining : R → Option (List ℕ)) (s0 s1 : ServerState
 
   -- they end with no more, or with one more that brought none
   pub gathers_quiet : (s2 : ServerState) (r2 : Metered R) (m2 : List (ℕ × Code)) (turns more failed : ℕ) (result : Result Windowed DriveFault) → Consumes (remaining r1.device) (remaining r2.device) [] → s2 ≡ s1 → m2 ≡ m1
-      → (r1.calls + more < 2 ^ 128 → r2.calls ≡ r1.calls + more) → (r1.failures + failed < 2 ^ 128 → r2.failures ≡ r1.failures + failed) → reads + more ≤ turns → (result ≢ Err Closed → more ≤ failed)
+      → (r1.calls + more < 2 ^ 128 → r2.calls ≡ r1.calls + more) → (r1.failures + failed < 2 ^ 128 → r2.failures ≡ r1.failures + failed) → reads + more ≤ turns → (result ≢ Err Closed → r2.empty ≡ r1.empty)
+      → (result ≡ Err Closed → r2.empty ≡ counted r1.empty)
       → ReadsEnd s0 s1 so_far.read (remaining r2.device) turns (reads + more) failed result → Gathers remaining s0 s2 r0 r2 m0 m2 turns result
-  gathers_quiet s2 r2 m2 turns more failed result took stays same calls failures below brings ends = record {
-    bring = λ open_. omega (arith, so_far.bring, brings open_);
+  gathers_quiet s2 r2 m2 turns more failed result took stays same calls failures below brings empties ends = record {
+    bring = λ open_. brings open_ ∙ so_far.bring;
+    end = λ closed. empties closed ∙ ap counted so_far.bring;
     read = so_far.read;
     reads = reads + more;
     failed = failed;
@@ -199,8 +202,8 @@ module _ {R : Type 0} (remaining : R → Option (List ℕ)) (s0 s1 : ServerState
 -- ---- a whole try
 
 pub windows_unread : {R W : Type 0} (remaining : R → Option (List ℕ)) (contents : W → Option (List ℕ)) (s : ServerState) (r : Metered R) (w0 w1 : Metered W) (marks : List (ℕ × Code)) (turns : ℕ) (sent : List ℕ) (result : Result Windowed DriveFault) →
-    Appends (contents w0.device) (contents w1.device) sent → WindowEnds s s [] sent (remaining r.device) turns 0 0 result → w1.failures ≡ window_failures result w0.failures → Windows remaining contents s s r r w0 w1 marks marks turns result
-windows_unread remaining contents s r w0 w1 marks turns sent result wrote ends failures = record {
+    Appends (contents w0.device) (contents w1.device) sent → WindowEnds s s [] sent (remaining r.device) turns 0 0 result → w1.failures ≡ window_failures result w0.failures → result ≢ Err Closed → Windows remaining contents s s r r w0 w1 marks marks turns result
+windows_unread remaining contents s r w0 w1 marks turns sent result wrote ends failures goes_on = record {
   read = [];
   sent = sent;
   reads = 0;
@@ -210,7 +213,8 @@ windows_unread remaining contents s r w0 w1 marks turns sent result wrote ends f
   state = sym (heard_none s);
   marked = sym (ap (λ ms. marks ++ ms) (marks_none s) ∙ append-nil marks);
   ends = ends;
-  bring = λ h. omega arith;
+  bring = λ h. refl;
+  end = λ closed. absurd (goes_on closed);
   few_reads = omega arith;
   few_bytes = omega arith;
   calls = λ h. omega arith;
@@ -231,6 +235,7 @@ windows_read remaining contents s0 s1 r0 r1 w0 w1 m0 m1 turns result wrote failu
   marked = reads.marked;
   ends = go result reads.ends;
   bring = reads.bring;
+  end = reads.end;
   few_reads = reads.few_reads;
   few_bytes = reads.few_bytes;
   calls = reads.calls;

@@ -85,7 +85,7 @@ write_failures (Err Closed) failures = failures
 write_failures (Err TriesSpent) failures = failures
 
 -- A call from one state of the server to another, over a reader and a writer before and after it: what was read and sent, in how many tries and reads, and how it ended.
--- Unless the input ended, the reads that did not fail brought a byte each at least, taken together.
+-- But for `Closed`, no read brought nothing; there one did, the last.
 pub record Drives {R W : Type 0} (remaining : R → Option (List ℕ)) (contents : W → Option (List ℕ)) (old new : ServerState) (reader reader' : Metered R) (writer writer' : Metered W) (tries turns : ℕ) (result : Result Driven DriveFault) : Type 0 where
   pub read : List ℕ
   pub sent : List ℕ
@@ -96,7 +96,8 @@ pub record Drives {R W : Type 0} (remaining : R → Option (List ℕ)) (contents
   pub appended : Appends (contents writer.device) (contents writer'.device) sent
   pub state : new ≡ heard old read
   pub ends : Ends old read sent (remaining reader'.device) tries begun result
-  pub bring : result ≢ Err Closed → reads ≤ length read + failed
+  pub bring : result ≢ Err Closed → reader'.empty ≡ reader.empty
+  pub end : result ≡ Err Closed → reader'.empty ≡ counted reader.empty
   pub made : ReadsMade result turns begun reads failed
   pub few_reads : reads ≤ begun * turns
   pub few_bytes : length read ≤ 64 * reads

@@ -89,7 +89,7 @@ pass_failures (Err TriesSpent) failures = failures
 pass_failures (Ok joining) failures = failures
 
 -- A pass from one state of the server to another, over a reader and a writer before and after it: what was sent and read, by how many reads, and how it ended. The server begins
--- anew and hears all that was read; as it holds nothing, each reply counts as stray.
+-- anew and hears all that was read; as it holds nothing, each reply counts as stray. But for `Closed`, no read brought nothing; there one did, the last.
 pub record MakesPass {R W : Type 0} (remaining : R → Option (List ℕ)) (contents : W → Option (List ℕ)) (old new : ServerState) (reader reader' : Metered R) (writer writer' : Metered W) (turns : ℕ) (result : Result Joining DriveFault) : Type 0 where
   pub read : List ℕ
   pub sent : List ℕ
@@ -99,7 +99,8 @@ pub record MakesPass {R W : Type 0} (remaining : R → Option (List ℕ)) (conte
   pub appended : Appends (contents writer.device) (contents writer'.device) sent
   pub state : new ≡ heard (anew old) read
   pub ends : PassEnds old.address read sent (remaining reader'.device) turns reads failed result
-  pub bring : result ≢ Err Closed → reads ≤ length read + failed
+  pub bring : result ≢ Err Closed → reader'.empty ≡ reader.empty
+  pub end : result ≡ Err Closed → reader'.empty ≡ counted reader.empty
   pub few_reads : reads ≤ turns
   pub few_bytes : length read ≤ 64 * reads
   pub calls : reader.calls + reads < 2 ^ 128 → reader'.calls ≡ reader.calls + reads
@@ -165,13 +166,14 @@ pub record ReadsReplies {R : Type 0} (remaining : R → Option (List ℕ)) (old 
   pub consumed : Consumes (remaining reader.device) (remaining reader'.device) read
   pub state : new ≡ heard old read
   pub ends : RepliesEnd old.address read (remaining reader'.device) turns reads failed result
-  pub bring : result ≢ Err Closed → reads ≤ length read + failed
+  pub bring : result ≢ Err Closed → reader'.empty ≡ reader.empty
+  pub end : result ≡ Err Closed → reader'.empty ≡ counted reader.empty
   pub few_reads : reads ≤ turns
   pub few_bytes : length read ≤ 64 * reads
   pub calls : reader.calls + reads < 2 ^ 128 → reader'.calls ≡ reader.calls + reads
   pub read_failures : reader.failures + failed < 2 ^ 128 → reader'.failures ≡ reader.failures + failed
 
--- So many reads, none of which failed, after which the two replies were not both read (private).
+-- So many reads, none of which failed or brought nothing, after which the two replies were not both read (private).
 pub record ReadSoFar {R : Type 0} (remaining : R → Option (List ℕ)) (old new : ServerState) (reader reader' : Metered R) (seen : Seen) (reads : ℕ) : Type 0 where
   pub read : List ℕ
   pub consumed : Consumes (remaining reader.device) (remaining reader'.device) read
@@ -179,7 +181,7 @@ pub record ReadSoFar {R : Type 0} (remaining : R → Option (List ℕ)) (old new
   pub idle : new.held ≡ []
   pub seen_is : seen ≡ seen_after Neither (reply_counters old.address old.part read)
   pub waits : seen ≢ Both
-  pub bring : reads ≤ length read
+  pub bring : reader'.empty ≡ reader.empty
   pub few_bytes : length read ≤ 64 * reads
   pub calls : reader.calls + reads < 2 ^ 128 → reader'.calls ≡ reader.calls + reads
   pub read_failures : reader'.failures ≡ reader.failures

@@ -1,7 +1,7 @@
 -- What one try of `resend` hears, and what tries that brought nothing come to; for proofs alone, as the contracts of private functions. Source: profile.
 use Rattle.std.specs.Prelude.{◌≡◌, ◌≢◌, ℕ, ◌+◌, ◌*◌, ◌^◌, ◌<◌, ◌≤◌, ◌⊎◌, List, length, Option, None}
 use Rattle.std.specs.Io.KnownBytes.{Appends, Consumes, IsAtEnd}
-use Rattle.uecp_encoder.specs.Metered.{Metered}
+use Rattle.uecp_encoder.specs.Metered.{Metered, counted}
 use Rattle.uecp_link.specs.declared.driving.Listened.{Listened}
 use Rattle.uecp_link.specs.declared.driving.Listened.TheVariants as listened
 use Rattle.uecp_link.specs.Server.{ServerState, heard}
@@ -13,7 +13,7 @@ Hears s read unread turns reads failed (listened.Acknowledged code) = IsAcknowle
 Hears s read unread turns reads failed listened.Nothing = (acknowledged_in s read ≡ None) × (((failed ≡ 1) × (1 ≤ reads)) ⊎ ((failed ≡ 0) × (reads ≡ turns)))
 Hears s read unread turns reads failed listened.Ended = (acknowledged_in s read ≡ None) × (failed ≡ 0) × (1 ≤ reads) × IsAtEnd unread
 
--- A try from one state of the server to another.
+-- A try from one state of the server to another. But for `Ended`, no read brought nothing; there one did, the last.
 pub record Listens {R : Type 0} (remaining : R → Option (List ℕ)) (old new : ServerState) (reader reader' : Metered R) (turns : ℕ) (result : Listened) : Type 0 where
   pub read : List ℕ
   pub reads : ℕ
@@ -21,24 +21,25 @@ pub record Listens {R : Type 0} (remaining : R → Option (List ℕ)) (old new :
   pub consumed : Consumes (remaining reader.device) (remaining reader'.device) read
   pub state : new ≡ heard old read
   pub hears : Hears old read (remaining reader'.device) turns reads failed result
-  pub bring : result ≢ listened.Ended → reads ≤ length read + failed
+  pub bring : result ≢ listened.Ended → reader'.empty ≡ reader.empty
+  pub end : result ≡ listened.Ended → reader'.empty ≡ counted reader.empty
   pub few_reads : reads ≤ turns
   pub few_bytes : length read ≤ 64 * reads
   pub calls : reader.calls + reads < 2 ^ 128 → reader'.calls ≡ reader.calls + reads
   pub read_failures : reader.failures + failed < 2 ^ 128 → reader'.failures ≡ reader.failures + failed
 
--- So many reads, none of which failed or brought the acknowledgement.
+-- So many reads, none of which failed, brought nothing, or brought the acknowledgement.
 pub record Waits {R : Type 0} (remaining : R → Option (List ℕ)) (old new : ServerState) (reader reader' : Metered R) (reads : ℕ) : Type 0 where
   pub read : List ℕ
   pub consumed : Consumes (remaining reader.device) (remaining reader'.device) read
   pub state : new ≡ heard old read
   pub silent : acknowledged_in old read ≡ None
-  pub bring : reads ≤ length read
+  pub bring : reader'.empty ≡ reader.empty
   pub few_bytes : length read ≤ 64 * reads
   pub calls : reader.calls + reads < 2 ^ 128 → reader'.calls ≡ reader.calls + reads
   pub read_failures : reader'.failures ≡ reader.failures
 
--- So many tries, none of which brought the acknowledgement; this many bytes were sent in them.
+-- So many tries, none of which brought the acknowledgement, and no read in them brought nothing; this many bytes were sent in them.
 pub record Tried {R W : Type 0} (remaining : R → Option (List ℕ)) (contents : W → Option (List ℕ)) (old new : ServerState) (reader reader' : Metered R) (writer writer' : Metered W) (turns begun bytes : ℕ) : Type 0 where
   pub read : List ℕ
   pub reads : ℕ
@@ -47,7 +48,7 @@ pub record Tried {R W : Type 0} (remaining : R → Option (List ℕ)) (contents 
   pub appended : Appends (contents writer.device) (contents writer'.device) (copies (frame_sent old) begun)
   pub state : new ≡ heard old read
   pub silent : acknowledged_in old read ≡ None
-  pub bring : reads ≤ length read + failed
+  pub bring : reader'.empty ≡ reader.empty
   pub bytes_are : bytes ≡ length (copies (frame_sent old) begun)
   pub few_written : bytes ≤ 524 * begun
   pub few_failed : failed ≤ begun

@@ -55,7 +55,7 @@ window_failures (Err TriesSpent) failures = failures
 window_failures (Ok windowed) failures = failures
 
 -- A try from one state of the server to another, over a reader and a writer before and after it: what was sent and read, by how many reads, how it ended, and that to the marks
--- those were added which the read bytes bring.
+-- those were added which the read bytes bring. But for `Closed`, no read brought nothing; there one did, the last.
 pub record Windows {R W : Type 0} (remaining : R → Option (List ℕ)) (contents : W → Option (List ℕ)) (old new : ServerState) (reader reader' : Metered R) (writer writer' : Metered W) (marks marks' : List (ℕ × Code)) (turns : ℕ) (result : Result Windowed DriveFault) : Type 0 where
   pub read : List ℕ
   pub sent : List ℕ
@@ -66,7 +66,8 @@ pub record Windows {R W : Type 0} (remaining : R → Option (List ℕ)) (content
   pub state : new ≡ heard old read
   pub marked : marks' ≡ marks ++ marks_in old read
   pub ends : WindowEnds old new read sent (remaining reader'.device) turns reads failed result
-  pub bring : result ≢ Err Closed → reads ≤ length read + failed
+  pub bring : result ≢ Err Closed → reader'.empty ≡ reader.empty
+  pub end : result ≡ Err Closed → reader'.empty ≡ counted reader.empty
   pub few_reads : reads ≤ turns
   pub few_bytes : length read ≤ 64 * reads
   pub calls : reader.calls + reads < 2 ^ 128 → reader'.calls ≡ reader.calls + reads
@@ -82,20 +83,21 @@ pub record Gathers {R : Type 0} (remaining : R → Option (List ℕ)) (old new :
   pub state : new ≡ heard old read
   pub marked : marks' ≡ marks ++ marks_in old read
   pub ends : ReadsEnd old new read (remaining reader'.device) turns reads failed result
-  pub bring : result ≢ Err Closed → reads ≤ length read + failed
+  pub bring : result ≢ Err Closed → reader'.empty ≡ reader.empty
+  pub end : result ≡ Err Closed → reader'.empty ≡ counted reader.empty
   pub few_reads : reads ≤ turns
   pub few_bytes : length read ≤ 64 * reads
   pub calls : reader.calls + reads < 2 ^ 128 → reader'.calls ≡ reader.calls + reads
   pub read_failures : reader.failures + failed < 2 ^ 128 → reader'.failures ≡ reader.failures + failed
 
--- So many reads, none of which failed, after which messages wait (private).
+-- So many reads, none of which failed or brought nothing, after which messages wait (private).
 pub record Gathered {R : Type 0} (remaining : R → Option (List ℕ)) (old new : ServerState) (reader reader' : Metered R) (marks marks' : List (ℕ × Code)) (reads : ℕ) : Type 0 where
   pub read : List ℕ
   pub consumed : Consumes (remaining reader.device) (remaining reader'.device) read
   pub state : new ≡ heard old read
   pub marked : marks' ≡ marks ++ marks_in old read
   pub busy : new.held ≢ []
-  pub bring : reads ≤ length read
+  pub bring : reader'.empty ≡ reader.empty
   pub room : length marks' + length (waiting new) ≡ length marks + length (waiting old)
   pub few_bytes : length read ≤ 64 * reads
   pub calls : reader.calls + reads < 2 ^ 128 → reader'.calls ≡ reader.calls + reads

@@ -101,9 +101,10 @@ module _ {I O : Type 0} (remaining : I → Option (List ℕ)) (contents : O → 
 
     -- ---- a connection that the sender has, and a new one
 
-    unused_is : {D : Type 0} (m : Metered D) (device : D) → m.device ≡ device → m.calls ≡ 0 → m.failures ≡ 0 → m ≡ unused device
-    unused_is m device same calls failures =
+    unused_is : {D : Type 0} (m : Metered D) (device : D) → m.device ≡ device → m.calls ≡ 0 → m.failures ≡ 0 → m.empty ≡ 0 → m ≡ unused device
+    unused_is m device same calls failures empty =
         ap (λ d. record m { device = d }) same ∙ ap (λ n. record m { device = device; calls = n }) calls ∙ ap (λ n. record m { device = device; calls = 0; failures = n }) failures
+        ∙ ap (λ n. record m { device = device; calls = 0; failures = 0; empty = n }) empty
 
     -- the sender took the ends that it has
     pub taken_out : (s before : SenderOver C I O) (ends : TwoEnds I O) (taken : Option (TwoEnds I O)) → before ≡ s → before.ends ≡ Some ends → taken ≡ None →
@@ -117,16 +118,16 @@ module _ {I O : Type 0} (remaining : I → Option (List ℕ)) (contents : O → 
         )
 
     pub opened : (s before : SenderOver C I O) (input : I) (output : O) (reader : Metered I) (writer : Metered O) (after : C) (server : ServerState) → before ≡ s → s.ends ≡ None → opens before.connect (Some (input, output)) after →
-        reader.device ≡ input → reader.calls ≡ 0 → reader.failures ≡ 0 → writer.device ≡ output → writer.calls ≡ 0 → writer.failures ≡ 0 → server ≡ record before.sender.server { part = frame.Closed } →
+        reader.device ≡ input → reader.calls ≡ 0 → reader.failures ≡ 0 → reader.empty ≡ 0 → writer.device ≡ output → writer.calls ≡ 0 → writer.failures ≡ 0 → writer.empty ≡ 0 → server ≡ record before.sender.server { part = frame.Closed } →
         (start : SenderOver C I O) × Opens opens s start × (start.ends ≡ Some (record { input = reader; output = writer })) × (record before { sender = record before.sender { server = server }; connect = after } ≡ without_ends start)
-    opened s before input output reader writer after server same none opens_so r1 r2 r3 w1 w2 w3 lost = (
+    opened s before input output reader writer after server same none opens_so r1 r2 r3 r4 w1 w2 w3 w4 lost = (
       record s { sender = record s.sender { server = record s.sender.server { part = frame.Closed } }; connect = after; ends = Some (record { input = reader; output = writer }) },
       (
         input,
         output,
         subst (λ (d : SenderOver C I O). opens d.connect (Some (input, output)) after) same opens_so,
-        ap (λ r. record s { sender = record s.sender { server = record s.sender.server { part = frame.Closed } }; connect = after; ends = Some (record { input = r; output = writer }) }) (unused_is reader input r1 r2 r3)
-            ∙ ap (λ w. record s { sender = record s.sender { server = record s.sender.server { part = frame.Closed } }; connect = after; ends = Some (record { input = unused input; output = w }) }) (unused_is writer output w1 w2 w3),
+        ap (λ r. record s { sender = record s.sender { server = record s.sender.server { part = frame.Closed } }; connect = after; ends = Some (record { input = r; output = writer }) }) (unused_is reader input r1 r2 r3 r4)
+            ∙ ap (λ w. record s { sender = record s.sender { server = record s.sender.server { part = frame.Closed } }; connect = after; ends = Some (record { input = unused input; output = w }) }) (unused_is writer output w1 w2 w3 w4),
       ),
       refl,
       ap (λ (t : ServerState). record before { sender = record before.sender { server = t }; connect = after }) lost

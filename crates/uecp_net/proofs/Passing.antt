@@ -1,5 +1,5 @@
 -- One pass more, and one that was not complete.
-use Rattle.std.proofs.Common.{◌≡◌, ◌≢◌, ℕ, suc, ◌+◌, ◌<◌, List, Option, Some, None, Result, Ok, Err, subst, sym, ap, ◌∙◌, arith}
+use Rattle.std.proofs.Common.{◌≡◌, ℕ, suc, ◌+◌, ◌<◌, List, Option, Some, None, Result, Ok, Err, subst, ap, arith}
 use Rattle.uecp_link.specs.Server.{ServerState}
 use Rattle.uecp_link.specs.declared.driving.DriveFault.{DriveFault}
 use Rattle.uecp_link.specs.declared.joining.Joining.{Joining}

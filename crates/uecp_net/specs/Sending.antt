@@ -34,7 +34,7 @@ Marks = List (ℕ × Code)
 
 -- A device in a meter that was not called yet.
 abbrev pub unused : {D : Type 0} → D → Metered D
-unused device = record { device = device; calls = 0; failures = 0 }
+unused device = record { device = device; calls = 0; failures = 0; empty = 0 }
 
 -- A connection was opened: the sender has its two ends, which are unused, and what the connection before left open is forgotten.
 abbrev pub Opens : {C I O : Type 0} → (opens : C → Option (I × O) → C → Type 0) → SenderOver C I O → SenderOver C I O → Type 0

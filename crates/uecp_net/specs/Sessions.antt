@@ -5,7 +5,7 @@ use Rattle.uecp_frame.specs.Findings.{Closed}
 use Rattle.uecp_encoder.specs.Target.{Step}
 use Rattle.uecp_encoder.specs.State.{EncoderState}
 use Rattle.uecp_encoder.specs.Metered.{Metered}
-use Rattle.uecp_encoder.specs.Serving.{Serves, ReadsMade, read_failures, write_failures}
+use Rattle.uecp_encoder.specs.Serving.{Serves, ReadsMade, read_failures, empty_reads, write_failures}
 use Rattle.uecp_encoder.specs.declared.serving.Served.{Served}
 use Rattle.uecp_encoder.specs.declared.serving.ServeFault.{ServeFault}
 
@@ -24,6 +24,7 @@ pub record Session {V I O : Type 0} (step : Step V) (remaining : I → Option (L
   pub few_bytes : length read ≤ 512 * turns
   pub reads : ReadsMade outcome turns input'.calls
   pub read_failures_are : input'.failures ≡ read_failures outcome 0
+  pub empty_reads_are : input'.empty ≡ empty_reads outcome 0
   pub write_failures_are : output'.failures ≡ write_failures outcome 0
 
 -- The next connection: it is opened, served, and given back as that left it.

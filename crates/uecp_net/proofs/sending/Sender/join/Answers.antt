@@ -1,4 +1,4 @@
-use Rattle.std.proofs.Common.{rules, arith, ◌≡◌, ◌<◌, ◌+◌, Ok, Err, ap, sym, ◌∙◌, inl, inr, refl, subst}
+use Rattle.std.proofs.Common.{rules, arith, ◌≡◌, ◌<◌, ◌+◌, Err, ap, ◌∙◌, inl, inr, refl, subst}
 use Rattle.uecp_net.specs.Sending.{SenderState}
 use Rattle.uecp_net.specs.Joining.{PassesTo}
 use Rattle.uecp_net.proofs.Breaking.{hung_sender, hung_loan, hung_none, one_fewer}
