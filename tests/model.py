@@ -5,7 +5,7 @@ word in tests/long_schedule.py too, so on these the two are one opinion. It is s
 keeps no state that it could look up: it cuts a stream into segments first, then takes the stuffing out, then judges.
 
 It also says what joining is: the frames of a pass, what an encoder answers to them, and which replies tell that it is joined. With that
-tests/restarts looks at what the program does."""
+tests/passes.py tries passes from each state of an encoder, and tests/joining and tests/restarts look at what the program does."""
 
 from typing import NamedTuple
 
