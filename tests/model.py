@@ -1,7 +1,7 @@
 """The protocol once more, in plain Python: what `uecp answer`, `uecp show` and `uecp line` are to write.
 
-Written from docs/PROTOCOL.md and docs/MANUAL.md; tests/fuzz compares the program with it. The events of a line stand nearly word for
-word in tests/long_schedule.py too, so on these the two are one opinion. It is slow and
+Written from docs/PROTOCOL.md and docs/MANUAL.md; tests/fuzz compares the program with it. The events of a line, but for restarts,
+stand nearly word for word in tests/long_schedule.py too, so on these the two are one opinion. It is slow and
 keeps no state that it could look up: it cuts a stream into segments first, then takes the stuffing out, then judges.
 
 It also says what joining is: the frames of a pass, what an encoder answers to them, and which replies tell that it is joined. With that
@@ -431,6 +431,13 @@ class Line:
         self.store.groups = waiting[1:]
         return f"taken {words_of(waiting[0] if waiting else ())}"
 
+    def restart(self):
+        """The server is gone, and a new one joins the encoder: it begins at number 0, and of all that was only the store is left."""
+        waiting = len(self.sent) - len(self.acknowledged)
+        self.sent, self.codes, self.acknowledged = [], {}, set()
+        self.noise = {"encoder": b"", "server": b""}
+        return f"given up {waiting}"
+
     def totals(self):
         return f"sent {len(self.sent)} applied {len(self.codes)} acknowledged {least_outside(self.acknowledged)}"
 
@@ -494,6 +501,8 @@ def play(line, words):
         return line.lose(rest[0].decode())
     if name == b"take" and not rest:
         return line.take()
+    if name == b"restart" and rest == [b"server"]:
+        return line.restart()
     raise Refused("not a command")
 
 
