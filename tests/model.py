@@ -1,8 +1,11 @@
 """The protocol once more, in plain Python: what `uecp answer`, `uecp show` and `uecp line` are to write.
 
-Written from docs/PROTOCOL.md and docs/MANUAL.md; tests/fuzz compares the program with it. The events of a line stand nearly word for
-word in tests/long_schedule.py too, so on these the two are one opinion. It is slow and
-keeps no state that it could look up: it cuts a stream into segments first, then takes the stuffing out, then judges."""
+Written from docs/PROTOCOL.md and docs/MANUAL.md; tests/fuzz compares the program with it. The events of a line, but for restarts,
+stand nearly word for word in tests/long_schedule.py too, so on these the two are one opinion. It is slow and
+keeps no state that it could look up: it cuts a stream into segments first, then takes the stuffing out, then judges.
+
+It also says what joining is: the frames of a pass, what an encoder answers to them, and which replies tell that it is joined. With that
+tests/passes.py tries passes from each state of an encoder, and tests/joining and tests/restarts look at what the program does."""
 
 from typing import NamedTuple
 
@@ -294,32 +297,64 @@ class Setup(NamedTuple):
     store: bool = False
 
 
+ACKNOWLEDGEMENT = 0x18
+REPLY_CODES = (0x00, 0x03, 0x04, 0x05, 0x06, 0x07, 0x09, 0x0B)
+
+
 class Encoder:
     def __init__(self, setup):
         self.setup = setup
         self.store = Store(setup.sets, setup.services)
-        self.replies = []  # counters and codes, the newest last
+        self.codes = {}  # of the kept replies, by their counters, the newest last
 
-    def reply(self, counter, code):
-        return spelling(Frame(self.setup.site * 64 + self.setup.encoder, 0, bytes([0x18, code, counter])))
+    def next(self):
+        """The only counter under which a message may be applied now."""
+        return 1 + list(self.codes)[-1] % 255 if self.codes else 1
+
+    def reply(self, counter):
+        return spelling(Frame(self.setup.site * 64 + self.setup.encoder, 0, bytes([ACKNOWLEDGEMENT, self.codes[counter], counter])))
+
+    def take(self, frame):
+        """Whether a frame has a reply, new or kept, or why it has none."""
+        site, encoder = frame.address >> 6, frame.address & 0x3F
+        if site not in (0, self.setup.site) or encoder not in (0, self.setup.encoder):
+            return "not for me"
+        if frame.counter == 0:
+            return "unnumbered"
+        if frame.counter in self.codes:
+            return "kept"
+        if frame.counter != self.next():
+            return "not next"
+        codes = {**self.codes, frame.counter: self.store.apply(frame.message)}
+        self.codes = dict(list(codes.items())[-KEPT_REPLIES:])
+        return "new"
 
     def hear(self, finding):
         """The line of what the encoder answers."""
         if isinstance(finding, Dropped):
             return finding.line()
-        site, encoder = finding.address >> 6, finding.address & 0x3F
-        if site not in (0, self.setup.site) or encoder not in (0, self.setup.encoder):
-            return "not for me"
-        if finding.counter == 0:
-            return "unnumbered"
-        for counter, code in self.replies:
-            if counter == finding.counter:
-                return f"reply {digits(self.reply(counter, code))} kept"
-        if finding.counter != (1 + self.replies[-1][0] % 255 if self.replies else 1):
-            return "not next"
-        code = self.store.apply(finding.message)
-        self.replies = (self.replies + [(finding.counter, code)])[-KEPT_REPLIES:]
-        return f"reply {digits(self.reply(finding.counter, code))} new"
+        what = self.take(finding)
+        return f"reply {digits(self.reply(finding.counter))} {what}" if what in ("new", "kept") else what
+
+
+# Joining
+
+
+def pass_to(address):
+    """The frames of a pass: an empty message under each counter, in order, each once."""
+    return [Frame(address, counter, b"") for counter in range(0x01, 0x100)]
+
+
+def counters_answered(address, found):
+    """The counters that the replies of the encoder at an address answer, in their order: among what was found in a stream."""
+    frames = [finding for finding in found if isinstance(finding, Frame) and finding.address == address and finding.counter == 0]
+    replies = [frame.message for frame in frames if len(frame.message) == 3 and frame.message[0] == ACKNOWLEDGEMENT]
+    return [counter for _, code, counter in replies if code in REPLY_CODES]
+
+
+def tell_joined(counters):
+    """Whether the replies that were read after one pass, by the counters that they answer, tell that the encoder is joined."""
+    return 0x81 in counters and 0xFF in counters[counters.index(0x81) + 1 :]
 
 
 # The line with both ends
@@ -396,6 +431,13 @@ class Line:
         self.store.groups = waiting[1:]
         return f"taken {words_of(waiting[0] if waiting else ())}"
 
+    def restart(self):
+        """The server is gone, and a new one joins the encoder: it begins at number 0, and of all that was only the store is left."""
+        waiting = len(self.sent) - len(self.acknowledged)
+        self.sent, self.codes, self.acknowledged = [], {}, set()
+        self.noise = {"encoder": b"", "server": b""}
+        return f"given up {waiting}"
+
     def totals(self):
         return f"sent {len(self.sent)} applied {len(self.codes)} acknowledged {least_outside(self.acknowledged)}"
 
@@ -459,6 +501,8 @@ def play(line, words):
         return line.lose(rest[0].decode())
     if name == b"take" and not rest:
         return line.take()
+    if name == b"restart" and rest == [b"server"]:
+        return line.restart()
     raise Refused("not a command")
 
 

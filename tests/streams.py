@@ -306,13 +306,21 @@ NO_EVENTS = [
     *(b"line-lost", b"line-lost both", b"line-lost Server", b"line-lost server encoder"),
     *(b"take 1", b"take -", b"take 0", b"take now", b"take take", b"take\t", b"take #", b"Take", b"TAKE", b"taken", b"tak", b"take-group"),
 ]
+NO_RESTARTS = [
+    *(b"restart", b"restart encoder", b"restart both", b"restart -", b"restart 0", b"restart Server", b"restart servers", b"restart server now"),
+    *(b"restart server 0", b"restart server server", b"restart server encoder", b"restart server #", b"restart\tserver", b"restart server\t"),
+    *(b"Restart server", b"RESTART SERVER", b"restart-server", b"restartserver", b"restarted server", b"server restart", b"re start server"),
+]
 
 
 class Script(Maker):
-    """Makes events for a line; the model plays along, so that most of them fit where they stand."""
+    """Makes events for a line; the model plays along, so that most of them fit where they stand. The server is restarted where there is a
+    second chance, which decides when."""
 
-    def __init__(self, chance, setup):
+    def __init__(self, chance, setup, restarts=None):
         super().__init__(chance, setup)
+        self.restarts, self.given_up = restarts, 0  # how many messages were numbered before the last restart
+        self.restarting = restarts.choice([0.0004, 0.001, 0.004]) if restarts else 0
         self.line, self.writer, self.waiting = model.Line(setup), Writer(chance), []
         self.loss = chance.choice([0.05, 0.3, 0.6])
         self.taking = 0.4  # how likely a take is
@@ -330,6 +338,9 @@ class Script(Maker):
             self.turn = chance.choice([min, max, chance.choice])
 
     def event(self):
+        if self.restarts and self.restarts.random() < self.restarting_now():
+            self.given_up += len(self.line.sent)
+            return "restart server"
         self.drift()
         if self.chance.random() < self.taking_now():
             return "take"
@@ -355,6 +366,12 @@ class Script(Maker):
 
     def submission(self, message):
         return f"submit {self.row(message) or '-'}"
+
+    def restarting_now(self):
+        """How likely a restart is: more where there was one just now, amid noise, and where all eight messages wait."""
+        if not self.line.sent:
+            return 0.1
+        return self.restarting * (10 if self.waiting else 4 if len(self.line.held()) == model.WINDOW else 1)
 
     def taking_now(self):
         """How likely a take is: less where none waits, more where a message found no room."""
@@ -418,21 +435,23 @@ class Script(Maker):
 
     def text(self, messages):
         for _ in range(12 * messages):
-            if len(self.line.sent) == messages and self.chance.random() < 0.4:
+            if self.given_up + len(self.line.sent) == messages and self.chance.random() < 0.4:
                 break  # the last message may be left as it is
             event = self.event()
             model.play(self.line, event.encode())
             self.writer.put(event.replace(" ", " " * self.chance.choice([1, 1, 1, 1, 4])).encode())
-        return self.writer.text(NO_EVENTS)
+        return self.writer.text(NO_EVENTS + NO_RESTARTS if self.restarts else NO_EVENTS)
 
 
-def script_text(chance, setup):
-    return Script(chance, setup).text(chance.choice([20, 20, 150, 300, 600, 800]))
+def script_text(chance, setup, restarts):
+    """A script; the second chance decides whether it has restarts, and a script without them does not hang on it."""
+    script = Script(chance, setup, restarts if restarts.random() < 0.4 else None)
+    return script.text(chance.choice([20, 20, 150, 300, 600, 800]))
 
 
 def refused_texts():
     """Each line that is refused, between two that are not: with the command that reads it."""
-    for command, good, refused in (("answer", b"FE FF", NO_PIECES), ("line", b"frame 0 65535", NO_EVENTS)):
+    for command, good, refused in (("answer", b"FE FF", NO_PIECES), ("line", b"frame 0 65535", NO_EVENTS + NO_RESTARTS)):
         for line in refused:
             yield command, b"\n".join([good, line, good, b""])
 
