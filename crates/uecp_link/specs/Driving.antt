@@ -85,7 +85,7 @@ write_failures (Err Closed) failures = failures
 write_failures (Err TriesSpent) failures = failures
 
 -- A call from one state of the server to another, over a reader and a writer before and after it: what was read and sent, in how many tries and reads, and how it ended.
--- But for `Closed`, no read brought nothing; there one did, the last.
+-- But for `Closed`, no read brought nothing; there one did.
 pub record Drives {R W : Type 0} (remaining : R → Option (List ℕ)) (contents : W → Option (List ℕ)) (old new : ServerState) (reader reader' : Metered R) (writer writer' : Metered W) (tries turns : ℕ) (result : Result Driven DriveFault) : Type 0 where
   pub read : List ℕ
   pub sent : List ℕ

@@ -89,7 +89,7 @@ pass_failures (Err TriesSpent) failures = failures
 pass_failures (Ok joining) failures = failures
 
 -- A pass from one state of the server to another, over a reader and a writer before and after it: what was sent and read, by how many reads, and how it ended. The server begins
--- anew and hears all that was read; as it holds nothing, each reply counts as stray. But for `Closed`, no read brought nothing; there one did, the last.
+-- anew and hears all that was read; as it holds nothing, each reply counts as stray. But for `Closed`, no read brought nothing; there one did.
 pub record MakesPass {R W : Type 0} (remaining : R → Option (List ℕ)) (contents : W → Option (List ℕ)) (old new : ServerState) (reader reader' : Metered R) (writer writer' : Metered W) (turns : ℕ) (result : Result Joining DriveFault) : Type 0 where
   pub read : List ℕ
   pub sent : List ℕ

@@ -13,7 +13,7 @@ Hears s read unread turns reads failed (listened.Acknowledged code) = IsAcknowle
 Hears s read unread turns reads failed listened.Nothing = (acknowledged_in s read ≡ None) × (((failed ≡ 1) × (1 ≤ reads)) ⊎ ((failed ≡ 0) × (reads ≡ turns)))
 Hears s read unread turns reads failed listened.Ended = (acknowledged_in s read ≡ None) × (failed ≡ 0) × (1 ≤ reads) × IsAtEnd unread
 
--- A try from one state of the server to another. But for `Ended`, no read brought nothing; there one did, the last.
+-- A try from one state of the server to another. But for `Ended`, no read brought nothing; there one did.
 pub record Listens {R : Type 0} (remaining : R → Option (List ℕ)) (old new : ServerState) (reader reader' : Metered R) (turns : ℕ) (result : Listened) : Type 0 where
   pub read : List ℕ
   pub reads : ℕ

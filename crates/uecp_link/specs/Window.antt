@@ -55,7 +55,7 @@ window_failures (Err TriesSpent) failures = failures
 window_failures (Ok windowed) failures = failures
 
 -- A try from one state of the server to another, over a reader and a writer before and after it: what was sent and read, by how many reads, how it ended, and that to the marks
--- those were added which the read bytes bring. But for `Closed`, no read brought nothing; there one did, the last.
+-- those were added which the read bytes bring. But for `Closed`, no read brought nothing; there one did.
 pub record Windows {R W : Type 0} (remaining : R → Option (List ℕ)) (contents : W → Option (List ℕ)) (old new : ServerState) (reader reader' : Metered R) (writer writer' : Metered W) (marks marks' : List (ℕ × Code)) (turns : ℕ) (result : Result Windowed DriveFault) : Type 0 where
   pub read : List ℕ
   pub sent : List ℕ

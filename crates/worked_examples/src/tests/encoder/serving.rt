@@ -8,13 +8,13 @@ use std::test::Fail;
 use uecp_encoder::{Encoder, Failed, Meter, ServeFault, Served, serve};
 
 #[test]
-fn a_meter_counts_calls_and_failures(rt: HostRuntime) {
+fn a_meter_counts_calls_failures_and_empty_reads(rt: HostRuntime) {
     let mut reader = Meter::new(FaultyReader::new(b"abc").failing_at(&[1]));
     let mut buffer = [0u8; 8];
     assert_eq!(rt; reader.read(&mut buffer), Err(Failed));
     assert_eq!(rt; reader.read(&mut buffer), Ok(3));
     assert_eq!(rt; reader.read(&mut buffer), Ok(0));
-    assert_eq!(rt; (reader.calls(), reader.failures()), (3, 1));
+    assert_eq!(rt; (reader.calls(), reader.failures(), reader.empty()), (3, 1, 1));
     assert_eq!(rt; reader.into_inner().reads(), 3);
     let mut writer = Meter::new(
         FaultyWriter::new()
