@@ -1,7 +1,8 @@
-//! What tests of several crates share: a reader and a writer with knobs, memory that runs out, known frames, and a slow finder of frames.
+//! What tests of several crates share: a reader and a writer with knobs, memory that runs out, known frames, and a slow
+//! finder of frames.
 //!
-//! Reader and writer move as many bytes at a call as they are told to, and fail at the calls that they are told. They still tell
-//! what is left of their bytes, and what they took, so that what a contract says over them is exact.
+//! Reader and writer move as many bytes at a call as they are told to, and fail at the calls that they are told. They
+//! still tell what is left of their bytes, and what they took, so that what a contract says over them is exact.
 //!
 //! No product crate uses these outside its tests.
 //!

@@ -9,7 +9,8 @@ const SMALL: usize = 1024;
 const BLOCKS: usize = 1 << 18;
 /// Room is reserved in blocks of this size, which lie side by side.
 const PART: usize = 4096;
-/// How much is given back at a time: by so much the C library tells sizes of blocks apart, and the least block takes twice as much.
+/// How much is given back at a time: by so much the C library tells sizes of blocks apart, and the least block takes
+/// twice as much.
 const STEP: usize = 16;
 /// Why memory could not be taken.
 const NONE: &str = "no memory to begin with";
@@ -18,9 +19,9 @@ const ENDLESS: &str = "memory does not end here: run this by rt test";
 
 /// All the memory that a process can have. What it asks for from then on is refused, until some is given back.
 ///
-/// It is given back from one room, and by less at a time than the least block takes. So a run that is tried again each time finds room
-/// for one request more at most, and each of its requests is refused in turn, but for one that is met from what the run itself has given
-/// back before.
+/// It is given back from one room, and by less at a time than the least block takes. So a run that is tried again each
+/// time finds room for one request more at most, and each of its requests is refused in turn, but for one that is met
+/// from what the run itself has given back before.
 #[derive(Drop)]
 pub struct ScarceMemory {
     alloc: Global,
@@ -31,8 +32,8 @@ pub struct ScarceMemory {
 }
 
 impl ScarceMemory {
-    /// Takes all memory, with so many bytes to be given back. It fails where there is no memory for these, and where memory
-    /// does not end, as under `rt try`, which puts a store of its own in the place of the C library's.
+    /// Takes all memory, with so many bytes to be given back. It fails where there is no memory for these, and where
+    /// memory does not end, as under `rt try`, which puts a store of its own in the place of the C library's.
     pub fn take_all(alloc: Global, room: usize) -> Result<ScarceMemory, &'static str> {
         let mut taken = Vec::with_capacity(alloc, BLOCKS).or(Err(NONE))?;
         let mut reserved = Vec::with_capacity(alloc, room / PART + 1).or(Err(NONE))?;

@@ -1,5 +1,5 @@
-//! Which segments end in some bytes, and what each is, told as the protocol's page tells it: it cuts the segments first,
-//! unstuffs them then, and judges what is left. No crate of the product knows it.
+//! Which segments end in some bytes, and what each is, told as the protocol's page tells it: it cuts the segments
+//! first, unstuffs them then, and judges what is left. No crate of the product knows it.
 use arrayvec::ArrayVec;
 use std::alloc::{AllocError, Global};
 
@@ -25,8 +25,8 @@ pub enum SlowFinding {
     WrongCheck,
 }
 
-/// The segments that end in these bytes, in order. What comes before the first FE is none, and a last one that has not ended is
-/// not judged.
+/// The segments that end in these bytes, in order. What comes before the first FE is none, and a last one that has not
+/// ended is not judged.
 pub fn slow_findings(alloc: Global, bytes: &[u8]) -> Result<Vec<SlowFinding>, AllocError> {
     let mut findings = Vec::new(alloc);
     let mut has_ended = true;

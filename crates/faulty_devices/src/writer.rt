@@ -62,7 +62,8 @@ impl<'a> FaultyWriter<'a> {
         self.taken.as_slice()
     }
 
-    /// How many writes were made, those that failed and those that took no byte among them. At its greatest value it stays.
+    /// How many writes were made, those that failed and those that took no byte among them. At its greatest value it
+    /// stays.
     pub fn writes(&self) -> u32 {
         self.writes
     }

@@ -12,11 +12,13 @@ adds byte = bits_6_to_5 byte == 2
 abbrev pub is_wrong_rule : ℕ → Bool
 is_wrong_rule byte = bits_6_to_5 byte == 1 || bits_6_to_5 byte == 3
 
--- Rule 00 empties the buffer and stores, rule 10 adds at its end; elements with another rule are refused before. (profile)
+-- Rule 00 empties the buffer and stores, rule 10 adds at its end; elements with another rule are refused before.
+-- (profile)
 abbrev pub buffered : {A : Type 0} → (byte : ℕ) → (old : List A) → (new : A) → List A
 buffered byte old new = if adds byte then old ++ new ∷ [] else new ∷ []
 
--- The first byte of a RadioText has the toggle in bit 0 and the number of transmissions in bits 4 to 1. (SPB 490, RadioText; bits: profile)
+-- The first byte of a RadioText has the toggle in bit 0 and the number of transmissions in bits 4 to 1. (SPB 490,
+-- RadioText; bits: profile)
 abbrev pub radio_text : (head : ℕ) → (bytes : List ℕ) → StoredText
 radio_text head bytes = record { toggle = bit_0 head; transmissions = bits_4_to_1 head; bytes = bytes }
 

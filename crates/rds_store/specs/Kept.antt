@@ -1,4 +1,5 @@
--- How the code keeps the data: each service by its number, with what it has in set 1 first; and which places that stands for. No public clause cites this.
+-- How the code keeps the data: each service by its number, with what it has in set 1 first; and which places that
+-- stands for. No public clause cites this.
 use Rattle.std.specs.Prelude.{◌≡◌, ℕ, ◌+◌, ◌<◌, ◌≤◌, Bool, false, ◌&&◌, ◌||◌, ◌==◌, ◌-◌, nat_lt, slice_get, Option, None, List, [], ◌∷◌, ◌++◌, length, map, if◌then◌else◌}
 use Rattle.std.specs.List.{All, AllByRecursion, list_any}
 use Rattle.std.specs.Map.{keys_of}
@@ -32,8 +33,8 @@ abbrev pub any_set_full : (set : ℕ) → (ℕ → Bool) → List ServiceData �
 any_set_full set test [] = false
 any_set_full set test (s ∷ ss) = (test set && is_full s) || any_set_full (set + 1) test ss
 
--- What is so of every store: there are 1 to 8 sets and one of them is current, at most 32 groups wait and each is in range, there are 1 to 8 services, each has
--- something in every set, and none is 00.
+-- What is so of every store: there are 1 to 8 sets and one of them is current, at most 32 groups wait and each is in
+-- range, there are 1 to 8 services, each has something in every set, and none is 00.
 pub record IsKept (sets current : ℕ) (services : List (ℕ × List ServiceData)) (groups : List Group) : Type 0 where
   pub some_set : 1 ≤ sets
   pub few_sets : sets ≤ 8

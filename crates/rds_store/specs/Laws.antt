@@ -16,7 +16,8 @@ use Rattle.rds_store.specs.Step.{step, group_taken}
 abbrev pub RefusalChangesNothing : Type 0
 RefusalChangesNothing = (v : Store) (e : Element) → (put v e).1 ≢ Applied → (put v e).0 ≡ v
 
--- After an element each place that it names has taken its content if the code is 00, and each other place has what it had.
+-- After an element each place that it names has taken its content if the code is 00, and each other place has what it
+-- had.
 abbrev pub ChangesNamedPlacesAlone : Type 0
 ChangesNamedPlacesAlone =
     (v : Store) (e : Element) (place : ℕ × ℕ)

@@ -18,7 +18,8 @@ address (Select dsn) = None
 address (Group kind mode block3 block4) = None
 address (Ack c counter) = None
 
--- DSN 00 names the current set, FE all but the current, FF all, another number the set of that number. (SPB 490, data set number)
+-- DSN 00 names the current set, FE all but the current, FF all, another number the set of that number. (SPB 490, data
+-- set number)
 abbrev pub names_set : (dsn current set : ℕ) → Bool
 names_set dsn current set =
     if dsn == 0x00 then set == current
@@ -26,18 +27,21 @@ names_set dsn current set =
     else if dsn == 0xFF then true
     else set == dsn
 
--- DSN 00, FE and FF can always be written, another number where the set of that number is there. (SPB 490, data set number)
+-- DSN 00, FE and FF can always be written, another number where the set of that number is there. (SPB 490, data set
+-- number)
 abbrev pub is_dsn : (sets dsn : ℕ) → Bool
 is_dsn sets dsn = if dsn == 0x00 || dsn == 0xFE || dsn == 0xFF then true else nat_le dsn sets
 
--- PSN 00 names the first service listed, a listed number itself, another number none. (SPB 490, programme service number)
+-- PSN 00 names the first service listed, a listed number itself, another number none. (SPB 490, programme service
+-- number)
 abbrev pub service_of : (services : List ℕ) → (psn : ℕ) → Option ℕ
 service_of services psn =
     if psn == 0x00 then slice_get services 0
     else if list_any (λ s. psn == s) services then Some psn
     else None
 
--- A DSN and a PSN name each place whose set the one names and whose service the other names. (SPB 490, data sets and programme services)
+-- A DSN and a PSN name each place whose set the one names and whose service the other names. (SPB 490, data sets and
+-- programme services)
 abbrev pub names_place : Store → (dsn psn : ℕ) → (place : ℕ × ℕ) → Bool
 names_place v dsn psn place =
     names_set dsn v.current place.0 && option_map_or (λ service. service == place.1) (service_of v.services psn) false

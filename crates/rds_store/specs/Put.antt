@@ -15,12 +15,14 @@ use Rattle.rds_store.specs.Refusals.{code_of}
 abbrev pub change_where : (test : ℕ × ℕ → Bool) → (change : ServiceData → ServiceData) → Data → Data
 change_where test change places = from_entries (map (λ e. (e.0, (if test e.0 then change e.1 else e.1))) (entries places))
 
--- Each place that the DSN and PSN of the element name takes the element's content. (SPB 490, data sets and programme services)
+-- Each place that the DSN and PSN of the element name takes the element's content. (SPB 490, data sets and programme
+-- services)
 abbrev pub stored_at : Store → Element → (dsn_psn : ℕ × ℕ) → Store
 stored_at v e a = record v { places = change_where (names_place v a.0 a.1) (taken e) v.places }
 
--- What an element that is not refused leaves: selection of 00 keeps the current set and that of a number makes it current; a group goes into the
--- queue by its buffer rule; every other element is taken by the places that it names. (SPB 490, data set select; groups: profile)
+-- What an element that is not refused leaves: selection of 00 keeps the current set and that of a number makes it
+-- current; a group goes into the queue by its buffer rule; every other element is taken by the places that it names.
+-- (SPB 490, data set select; groups: profile)
 abbrev pub stored : Store → Element → Store
 stored v (Select dsn) = if dsn == 0x00 then v else record v { current = dsn }
 stored v (Group kind mode block3 block4) =

@@ -15,7 +15,8 @@ abbrev pub is_not_here : Element → Bool
 is_not_here (Ack c counter) = true
 is_not_here _ = false
 
--- 04: a selection is of set 00 or of the number of a set that is there, never FE or FF; another element's DSN is one that can be written. (profile)
+-- 04: a selection is of set 00 or of the number of a set that is there, never FE or FF; another element's DSN is one
+-- that can be written. (profile)
 abbrev pub is_wrong_set : Store → Element → Bool
 is_wrong_set v (Select dsn) = dsn == 0xFE || dsn == 0xFF || nat_lt v.sets dsn
 is_wrong_set v e = option_map_or (λ a. not (is_dsn v.sets a.0)) (address e) false

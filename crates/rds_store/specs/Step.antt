@@ -7,7 +7,8 @@ use Rattle.rds_store.specs.declared.group.Group.{Group}
 use Rattle.rds_store.specs.Value.{Store}
 use Rattle.rds_store.specs.Put.{put}
 
--- Each element of the message's reading is put, up to the first whose code is not 00; the code is that one, or the fault's that ends the reading, or 00. (profile)
+-- Each element of the message's reading is put, up to the first whose code is not 00; the code is that one, or the
+-- fault's that ends the reading, or 00. (profile)
 abbrev pub element_by_element : Store → (message : List ℕ) → Store × Code
 element_by_element v message = folded put v (items message)
 

@@ -30,7 +30,8 @@ place_cmp a b = ordering_then (nat_cmp a.0 b.0) (nat_cmp a.1 b.1)
 abbrev pub Data : Type 0
 Data = map.FinMap place_cmp ServiceData
 
--- A store: its sets are 1 to `sets`, the first service listed is the main one, and the first group goes out first. (profile)
+-- A store: its sets are 1 to `sets`, the first service listed is the main one, and the first group goes out first.
+-- (profile)
 pub record Store : Type 0 where
   pub sets : ℕ
   pub services : List ℕ
@@ -38,7 +39,8 @@ pub record Store : Type 0 where
   pub places : Data
   pub groups : List Group
 
--- What a group of a store is: its type and version are 00 to 1F, and so are the last bits of its block 2. (SPB 490, free-format group)
+-- What a group of a store is: its type and version are 00 to 1F, and so are the last bits of its block 2. (SPB 490,
+-- free-format group)
 pub record IsGroup (group : Group) : Type 0 where
   pub kind : group.kind ≤ 0x1F
   pub bits : group.bits ≤ 0x1F

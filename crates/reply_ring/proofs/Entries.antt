@@ -1,4 +1,5 @@
--- A table of codes by counter beside the list of pairs: what a look-up says, and what a pair that is kept or dropped changes.
+-- A table of codes by counter beside the list of pairs: what a look-up says, and what a pair that is kept or dropped
+-- changes.
 use Rattle.std.proofs.Common.{◌≡◌, ◌≢◌, ℕ, zero, suc, ◌==◌, List, [], ◌∷◌, length, take, Option, Some, None, IfSome, IfNone, Bool, true, false, Contains, All, if◌then◌else◌, slice_get, refl, arith}
 use Rattle.std.proofs.Math.ListN.{set}
 use Rattle.std.proofs.lemmas.List.Elements.{All-nil, All-cons}

@@ -12,7 +12,8 @@ entry codes counter = get_or codes counter None
 abbrev pub pairs_of : (counters : List ℕ) → (codes : List (Option Code)) → List (ℕ × Code)
 pairs_of counters codes = map (λ counter. (counter, unwrap_or (entry codes counter) Applied)) counters
 
--- There is room for 127 counters and no more, the pairs are a ring, and each entry is what the ring has for its counter.
+-- There is room for 127 counters and no more, the pairs are a ring, and each entry is what the ring has for its
+-- counter.
 pub record IsKept (capacity : ℕ) (counters : List ℕ) (codes : List (Option Code)) : Type 0 where
   pub room : capacity ≡ 127
   pub ring : IsRing (pairs_of counters codes)

@@ -5,8 +5,8 @@
 //!
 //! Its type is [`ReplyRing`]. A clause sees it as the list of its pairs, the newest first.
 //!
-//! The law that its users rely on: a look-up answers no code only where none of the last 127 pairs has the counter, so a
-//! message whose reply is kept is never taken for a new one.
+//! The law that its users rely on: a look-up answers no code only where none of the last 127 pairs has the counter, so
+//! a message whose reply is kept is never taken for a new one.
 #![tactic(auto)]
 
 mod ring;

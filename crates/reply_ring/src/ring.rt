@@ -7,11 +7,12 @@ use std::alloc::{AllocError, Global};
 use std::marker::Model;
 use uecp_elements::Code;
 
-/// How many pairs are held at most: the least that serves 126 newer messages. With one fewer, the oldest message that may
-/// still come again would have no reply here.
+/// How many pairs are held at most: the least that serves 126 newer messages. With one fewer, the oldest message that
+/// may still come again would have no reply here.
 const HELD_MAX: usize = 127;
 
-/// The reply codes of the last numbered messages, each under its message's counter: at most 127 pairs, no counter twice.
+/// The reply codes of the last numbered messages, each under its message's counter: at most 127 pairs, no counter
+/// twice.
 #[derive(Debug, Drop)]
 pub struct ReplyRing {
     /// The counters of the pairs, the newest first, in room that was made for 127.

@@ -28,7 +28,8 @@ RefusesList list why = (why ≡ OutOfMemory) ⊎ ((why ≡ NotAList) × ((bytes 
 abbrev pub Spells : (text : List ℕ) → ℕ → Type 0
 Spells text number = IsNumeral 10 (without_leading_plus text) × (digits_value 10 (without_leading_plus text) ≡ number)
 
--- The number of an option with this text lies from the least to the greatest, and is the one that the text spells, where that lies there.
+-- The number of an option with this text lies from the least to the greatest, and is the one that the text spells,
+-- where that lies there.
 pub record IsOption (text : Option (List ℕ)) (least greatest number : ℕ) : Type 0 where
   pub at_least : least ≤ number
   pub at_most : number ≤ greatest
@@ -76,7 +77,8 @@ pub record AreListening (rows : List Row) (port connections turns : ℕ) : Type 
   pub is_connections : IsOption (one_of (codes "connections") rows) 1 1000 connections
   pub is_turns : IsOption (one_of (codes "turns") rows) 1 1000000 turns
 
--- Where a server finds its encoder, its bounds, and whether it joins first, are those that the matches of its command have.
+-- Where a server finds its encoder, its bounds, and whether it joins first, are those that the matches of its command
+-- have.
 pub record AreSending (rows : List Row) (host : List ℕ) (port tries timeout turns reconnects window : ℕ) (join : Bool) : Type 0 where
   pub is_host : host ≡ host_text rows
   pub is_port : IsPort rows port

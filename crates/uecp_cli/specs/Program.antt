@@ -44,7 +44,8 @@ AreMistaken words = (kind : ErrorKind) × IsAmong kind (fault_of uecp_app words)
 abbrev pub no_list_line : List ℕ
 no_list_line = codes "uecp: services: NotAList\n"
 
--- All of the job was done: of its input; or its connections were served, and then no input was read; or its messages were acknowledged.
+-- All of the job was done: of its input; or its connections were served, and then no input was read; or its messages
+-- were acknowledged.
 abbrev pub IsAllDone : Job → (unread unread' held held' : Option (List ℕ)) → Type 0
 IsAllDone job unread unread' held held' = IsDone job unread unread' held held' ⊎ ((HasServed job held held' × (unread' ≡ unread)) ⊎ AreAcknowledged job unread unread' held held')
 
@@ -52,7 +53,8 @@ IsAllDone job unread unread' held held' = IsDone job unread unread' held held' �
 abbrev pub HasDone : (words : List (List ℕ)) → (unread unread' held held' : Option (List ℕ)) → Type 0
 HasDone words unread unread' held held' = (job : Job) × Asks words job × IsAllDone job unread unread' held held'
 
--- A line of the job's input was refused: what the lines before it bring was written, or their messages were acknowledged.
+-- A line of the job's input was refused: what the lines before it bring was written, or their messages were
+-- acknowledged.
 abbrev pub HasLineRefused : Job → (unread unread' held held' told told' : Option (List ℕ)) → Type 0
 HasLineRefused job unread unread' held held' told told' = IsRefused job unread unread' held held' told told' ⊎ AreAcknowledgedBefore job unread unread' held held' told told'
 
@@ -60,8 +62,9 @@ HasLineRefused job unread unread' held held' told told' = IsRefused job unread u
 abbrev pub HasRefused : (words : List (List ℕ)) → (unread unread' held held' told told' : Option (List ℕ)) → Type 0
 HasRefused words unread unread' held held' told told' = (job : Job) × Asks words job × HasLineRefused job unread unread' held held' told told'
 
--- The job came to no end, and that was said: memory, reading or writing failed, and what was written is a beginning of what the job writes of its input; or not all its messages were sent or told, and where a
--- connection could not be made the next line says why; or connections could not be served, and no input was read.
+-- The job came to no end, and that was said: memory, reading or writing failed, and what was written is a beginning of
+-- what the job writes of its input; or not all its messages were sent or told, and where a connection could not be made
+-- the next line says why; or connections could not be served, and no input was read.
 abbrev pub HasNotEnded : Job → (unread unread' held held' told told' : Option (List ℕ)) → Type 0
 HasNotEnded job unread unread' held held' told told' =
     HasFailed job unread unread' held held' told told' ⊎ (((between : Option (List ℕ)) × AreNotAcknowledged job unread unread' held held' told between × MaySayUnreached job between told') ⊎ (HasStopped job held held' told told' × (unread' ≡ unread)))
@@ -74,8 +77,9 @@ HasBrokenOff words unread unread' held held' told told' = (job : Job) × Asks wo
 abbrev pub SaysFailure : (told told' : Option (List ℕ)) → Type 0
 SaysFailure told told' = (fault : RunFault) × Fails fault × Begins told told' (error_lines fault)
 
--- The words ask for no job that can be done: they are mistaken, or give a list of services that is none, or ask for a job whose options describe no encoder. The last two
--- were said on standard error, or begun to be said; the first is said by clap.
+-- The words ask for no job that can be done: they are mistaken, or give a list of services that is none, or ask for a
+-- job whose options describe no encoder. The last two were said on standard error, or begun to be said; the first is
+-- said by clap.
 abbrev pub HasRefusedWords : (words : List (List ℕ)) → (told told' : Option (List ℕ)) → Type 0
 HasRefusedWords words told told' =
     AreMistaken words ⊎ ((GivesNoList words × Begins told told' no_list_line) ⊎ ((job : Job) × Asks words job × IsUndescribed job told told'))

@@ -1,12 +1,12 @@
 //! The program `uecp`: both ends of a UECP control line at the command prompt.
 //!
-//! It reads pieces or scripts from standard input and writes what an encoder answers, what a stream of bytes holds,
-//! the frames of a script, or what came of the events of a line; or it is one of the two ends over TCP. It has no rules
-//! of its own: each line of output is what one call of the crates below answered. It does not open a serial port and
-//! does not keep a store across runs.
+//! It reads pieces or scripts from standard input and writes what an encoder answers, what a stream of bytes holds, the
+//! frames of a script, or what came of the events of a line; or it is one of the two ends over TCP. It has no rules of
+//! its own: each line of output is what one call of the crates below answered. It does not open a serial port and does
+//! not keep a store across runs.
 //!
-//! `parse` reads the command line into a `Job`. `run_job`, `run_encoder` and `run_server` do the job and answer the exit
-//! status, which is 0 to 3 whatever the input is. `run_words` is all of that; `main` gives it the machine's words,
+//! `parse` reads the command line into a `Job`. `run_job`, `run_encoder` and `run_server` do the job and answer the
+//! exit status, which is 0 to 3 whatever the input is. `run_words` is all of that; `main` gives it the machine's words,
 //! streams and network.
 #![tactic(auto)]
 

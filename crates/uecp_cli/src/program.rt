@@ -18,8 +18,9 @@ use uecp_jobs::{Job, fail, run_encoder, run_job, run_server};
 use uecp_net::{Dialing, Local};
 use uecp_text::RunFault;
 
-/// Does what the words of a command line ask for, the first being the program's name, and answers the exit status: 0 done, 1 a line
-/// of input was refused, 2 the words or the services were refused, 3 memory, reading, writing or a connection failed.
+/// Does what the words of a command line ask for, the first being the program's name, and answers the exit status: 0
+/// done, 1 a line of input was refused, 2 the words or the services were refused, 3 memory, reading, writing or a
+/// connection failed.
 pub fn run_words<R: Read, W: Write, E: Write, N: Net<Listener = TcpListener, Stream = TcpStream>>(
     alloc: Global,
     words: &[String],
@@ -35,8 +36,9 @@ pub fn run_words<R: Read, W: Write, E: Write, N: Net<Listener = TcpListener, Str
     ensures refused { result ≡ 1 → HasRefused (map string_bytes words.now) (R.remaining reader.old) (R.remaining reader.new) (W.contents writer.old) (W.contents writer.new) (E.contents errors.old) (E.contents errors.new) }
     // 2: the words ask for no job that can be done. Nothing was read or written.
     ensures mistaken { result ≡ 2 → HasRefusedWords (map string_bytes words.now) (E.contents errors.old) (E.contents errors.new) × (reader.new ≡ reader.old) × (writer.new ≡ writer.old) }
-    // 3: memory, reading, writing or a connection failed: of the job of the words, and what was written is a beginning of what it writes; or before there was a job, and nothing was read, and but for
-    // the text that was asked for nothing was written.
+    // 3: memory, reading, writing or a connection failed: of the job of the words, and what was written is a beginning
+    // of what it writes; or before there was a job, and nothing was read, and but for the text that was asked for
+    // nothing was written.
     ensures failed { result ≡ 3 → HasBrokenOff (map string_bytes words.now) (R.remaining reader.old) (R.remaining reader.new) (W.contents writer.old) (W.contents writer.new) (E.contents errors.old) (E.contents errors.new) ⊎ (SaysFailure (E.contents errors.old) (E.contents errors.new) × (reader.new ≡ reader.old) × (AskForText (map string_bytes words.now) ⊎ (writer.new ≡ writer.old))) }
 {
     match parse(alloc, words) {

@@ -55,7 +55,8 @@ impl Read for Source<'_> {
     }
 }
 
-/// Takes a few bytes a write, fails at one write, and may fail where it is flushed, as a buffer before a device that is full.
+/// Takes a few bytes a write, fails at one write, and may fail where it is flushed, as a buffer before a device that is
+/// full.
 #[derive(Drop)]
 struct Device {
     held: Vec<u8>,
@@ -348,7 +349,8 @@ fn each_line_of_a_server_is_flushed(rt: HostRuntime) -> Result<(), Fail> {
     Ok(())
 }
 
-/// This word asks for a text, all of which is flushed, once, by a device that may fail there; the run comes to this status and text of errors.
+/// This word asks for a text, all of which is flushed, once, by a device that may fail there; the run comes to this
+/// status and text of errors.
 fn asks_for_text(
     rt: &(impl Abort + Net<Listener = TcpListener, Stream = TcpStream>),
     alloc: Global,
@@ -387,7 +389,8 @@ fn a_text_that_is_asked_for_is_flushed(rt: HostRuntime) -> Result<(), Fail> {
     asks_for_text(&rt, alloc, "--version", true, failed)
 }
 
-/// What the words of a command line come to on the two pieces: the status, how much was read, and the last text of errors.
+/// What the words of a command line come to on the two pieces: the status, how much was read, and the last text of
+/// errors.
 fn words_come_to(
     rt: &(impl Abort + Net<Listener = TcpListener, Stream = TcpStream>),
     alloc: Global,

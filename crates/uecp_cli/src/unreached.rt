@@ -8,8 +8,8 @@ use std::io::Write;
 use uecp_net::DialFault;
 use uecp_text::{RunFault, write_parts};
 
-/// Says why no connection to this host and port could be made, in a line of its own; nothing where none was refused. A line that can't be
-/// written changes nothing.
+/// Says why no connection to this host and port could be made, in a line of its own; nothing where none was refused. A
+/// line that can't be written changes nothing.
 pub(crate) fn say_unreached<E: Write>(
     host: &str,
     port: u16,

@@ -14,7 +14,8 @@ is_applied _ = false
 abbrev pub where_applied : {V : Type 0} → V × Code → (V → V × Code) → V × Code
 where_applied done others = if is_applied done.1 then others done.0 else done
 
--- Each element is put into the value in turn, up to the first whose code is not 00. The code is that one, or the fault's, or 00 (profile).
+-- Each element is put into the value in turn, up to the first whose code is not 00. The code is that one, or the
+-- fault's, or 00 (profile).
 unfoldable pub folded : {V : Type 0} → (V → Element → V × Code) → V → List Item → V × Code
 folded put v [] = (v, Applied)
 folded put v (Ok e ∷ others) = where_applied (put v e) (λ w. folded put w others)

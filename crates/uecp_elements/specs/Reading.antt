@@ -17,7 +17,8 @@ word_at r i = 0x100 * slice_index r i + slice_index r (i + 1)
 abbrev pub whole : ℕ → List ℕ → Element → Result Element Code
 whole n r e = if nat_le n (length r) then Ok e else Err ElementLength
 
--- What a RadioText at the front of r carries: byte 3 counts the bytes from 4 on, the head first (SPB 490, element 0A; 00 profile).
+-- What a RadioText at the front of r carries: byte 3 counts the bytes from 4 on, the head first (SPB 490, element 0A;
+-- 00 profile).
 abbrev pub part_at : List ℕ → Part
 part_at r = if slice_index r 3 == 0 then NoText else Text (slice_index r 4) (slice_range r 5 (4 + slice_index r 3))
 
@@ -49,7 +50,8 @@ first r =
 abbrev pub IsBehind : Element → List ℕ → List ℕ → Type 0
 IsBehind e r left = (length (spelling e) ≤ length r) × (left ≡ drop (length (spelling e)) r)
 
--- The item that stands at a place, and behind an element the others; they are told how many more of its bytes to pass over.
+-- The item that stands at a place, and behind an element the others; they are told how many more of its bytes to pass
+-- over.
 abbrev pub with_item : ℕ → Result Element Code → (ℕ → List Item) → List Item
 with_item place (Ok e) others = Ok e ∷ others (length (spelling e) - 1)
 with_item place (Err code) others = Err (record { place = place; code = code }) ∷ []

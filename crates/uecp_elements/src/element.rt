@@ -4,8 +4,8 @@ use crate::part::RtPart;
 
 /// An element, with each byte as it was read or is to be sent: a value that the encoder would refuse is an element too.
 ///
-/// `dsn` is a data set number: 00 the current one, 01 to FD itself, FE all but the current, FF all. `psn` is a programme
-/// service number: 00 the main service, else a listed one.
+/// `dsn` is a data set number: 00 the current one, 01 to FD itself, FE all but the current, FF all. `psn` is a
+/// programme service number: 00 the main service, else a listed one.
 #[derive(Clone, Copy, Debug, PartialEq, Eq)]
 pub enum Element<'a> {
     /// Element 01, the programme identification.
@@ -53,7 +53,8 @@ pub enum Element<'a> {
     Group {
         /// The group's type number times two, plus 1 for version B: 00 to 1F have a meaning.
         kind: u8,
-        /// Bits 4 to 0 are the last five bits of block 2, bits 6 and 5 the buffer rule. Bit 7 has no meaning and is kept.
+        /// Bits 4 to 0 are the last five bits of block 2, bits 6 and 5 the buffer rule. Bit 7 has no meaning and is
+        /// kept.
         mode: u8,
         block3: u16,
         block4: u16,

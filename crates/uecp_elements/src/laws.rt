@@ -1,5 +1,5 @@
-//! Laws of the definitions, each the contract of a function that does nothing. Source: RDS Forum SPB 490 and profile, as
-//! the definitions.
+//! Laws of the definitions, each the contract of a function that does nothing. Source: RDS Forum SPB 490 and profile,
+//! as the definitions.
 ghost use Rattle.uecp_elements.specs.Codes.{IsReadBack, IsWrittenBack};
 ghost use Rattle.uecp_elements.specs.Grammar.{IsPrefixFree};
 ghost use Rattle.uecp_elements.specs.Reading.{HasReading, HasOneReading};

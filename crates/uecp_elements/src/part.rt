@@ -7,8 +7,8 @@ pub enum RtPart<'a> {
     Empty,
     /// Length 01 to 41, which counts the head and the text.
     Text {
-        /// Bit 0 is the toggle, bits 4 to 1 the number of transmissions (0 without limit), bits 6 and 5 the buffer rule.
-        /// Bit 7 has no meaning and is kept.
+        /// Bit 0 is the toggle, bits 4 to 1 the number of transmissions (0 without limit), bits 6 and 5 the buffer
+        /// rule. Bit 7 has no meaning and is kept.
         head: u8,
         /// Any bytes, at most 64.
         text: &'a [u8],

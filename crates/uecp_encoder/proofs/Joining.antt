@@ -1,5 +1,5 @@
--- A pass of empty messages brings an encoder to counter FF: of p messages since it was new, the ring has the last 127 counters, and a reply to 81 or FF says that
--- it was among them at its turn.
+-- A pass of empty messages brings an encoder to counter FF: of p messages since it was new, the ring has the last 127
+-- counters, and a reply to 81 or FF says that it was among them at its turn.
 use Rattle.std.proofs.Common.{◌≡◌, ℕ, zero, suc, ◌+◌, ◌-◌, ◌%◌, ◌<◌, ◌≤◌, ◌==◌, ◌&&◌, not, Bool, true, false, List, [], ◌∷◌, ◌++◌, map, take, Contains, slice_index_or, Option, Some, None, Ok, Err, refl, ◌∙◌, ap, sym, subst, arith, inl, inr, ◌⊎◌}
 use Rattle.std.proofs.lemmas.Bool.{cases_Bool, cases_eq, eqb-true, eq-eqb}
 use Rattle.std.proofs.lemmas.List.{take-map}

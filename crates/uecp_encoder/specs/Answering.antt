@@ -27,14 +27,14 @@ pub data Response : Type 0 where
   NotNext : Response
   Dropped : FrameFault → Response
 
--- To a numbered frame for it, by the code that is kept for the counter: the kept code again; else the code of the message applied now where its counter
--- is the next, and no reply where it is not.
+-- To a numbered frame for it, by the code that is kept for the counter: the kept code again; else the code of the
+-- message applied now where its counter is the next, and no reply where it is not.
 abbrev pub replied : {V : Type 0} → Step V → EncoderState V → Frame → Option Code → Response
 replied step e f (Some code) = Replied (spelling (reply_of e.address f.counter code)) false
 replied step e f None = if is_next e.ring f.counter then Replied (spelling (reply_of e.address f.counter (step e.value f.message).1)) true else NotNext
 
--- To one finding, from this state: a fault is dropped, a frame for another and one with counter 00 are named, and a numbered
--- frame for this encoder gets a reply, unless it is neither a repeat nor the next.
+-- To one finding, from this state: a fault is dropped, a frame for another and one with counter 00 are named, and a
+-- numbered frame for this encoder gets a reply, unless it is neither a repeat nor the next.
 abbrev pub response_to : {V : Type 0} → Step V → EncoderState V → Finding → Response
 response_to step e (Err fault) = Dropped fault
 response_to step e (Ok f) =
@@ -70,7 +70,8 @@ responses_of what.Unnumbered = Unnumbered ∷ []
 responses_of what.NotNext = NotNext ∷ []
 responses_of (what.Dropped fault) = Dropped fault ∷ []
 
--- The bytes of the piece up to the one at which the first finding is judged are used, or all where there is none; and the answer is to that finding.
+-- The bytes of the piece up to the one at which the first finding is judged are used, or all where there is none; and
+-- the answer is to that finding.
 pub record AnswersPiece {V : Type 0} (step : Step V) (old : EncoderState V) (piece : List ℕ) (answer : Answer) : Type 0 where
   pub said : responses step old (found_beyond old.part (take answer.used piece)) ≡ responses_of answer.what
   pub first : (k : ℕ) → k < answer.used → found_beyond old.part (take k piece) ≡ []

@@ -1,4 +1,5 @@
--- How a server that knows nothing of an encoder brings it to counter FF, by empty messages; a reader has to believe it. Source: profile.
+-- How a server that knows nothing of an encoder brings it to counter FF, by empty messages; a reader has to believe it.
+-- Source: profile.
 use Rattle.std.specs.Prelude.{◌≡◌, ℕ, zero, suc, ◌+◌, ◌-◌, ◌≤◌, ◌==◌, ◌&&◌, not, Bool, List, [], ◌∷◌, ◌++◌, map, Contains, Ok, Err, if◌then◌else◌}
 use Rattle.uecp_frame.specs.declared.frame.Frame.{Frame}
 use Rattle.uecp_frame.specs.Address.{reaches}
@@ -21,8 +22,8 @@ messages_to address (Finds (Ok f) ∷ hs) = if is_message_to address f then f �
 messages_to address (Finds (Err fault) ∷ hs) = messages_to address hs
 messages_to address (Becomes value counts part ∷ hs) = messages_to address hs
 
--- Messages of a pass: each is empty, and its counter is no lower than that of the one before, the first's no lower than this one. Of 01, 02 .. FF any may be
--- missing, and one may come more than once before a higher one does.
+-- Messages of a pass: each is empty, and its counter is no lower than that of the one before, the first's no lower than
+-- this one. Of 01, 02 .. FF any may be missing, and one may come more than once before a higher one does.
 abbrev pub IsPass : (least : ℕ) → List Frame → Type 0
 IsPass least [] = Unit {0}
 IsPass least (f ∷ fs) = (f.message ≡ []) × (least ≤ f.counter) × IsPass f.counter fs
@@ -61,14 +62,16 @@ abbrev pub falling : (first many : ℕ) → List ℕ
 falling first zero = []
 falling first (suc many) = first ∷ falling (first - 1) many
 
--- The messages among these happenings left the target as it would be without them; the encoder keeps replies to FF, FE .. 81 and no other; and the next is 01.
+-- The messages among these happenings left the target as it would be without them; the encoder keeps replies to FF, FE
+-- .. 81 and no other; and the next is 01.
 pub record HasJoined {V : Type 0} (step : Step V) (e : EncoderState V) (hs : List (Happening V)) : Type 0 where
   pub value : (after_happenings step e hs).value ≡ value_without e.value hs
   pub kept : map (λ pair. pair.0) (after_happenings step e hs).ring ≡ falling 0xFF 127
   pub next : next_after (newest (after_happenings step e hs).ring) ≡ 1
 
--- Where an empty message leaves the target as it is: whatever happened to an encoder since it was new, a pass of empty messages in which both 81 and FF got
--- a reply brings it to the end of the counters. Any other may be lost, its reply too, and anything else may happen in between.
+-- Where an empty message leaves the target as it is: whatever happened to an encoder since it was new, a pass of empty
+-- messages in which both 81 and FF got a reply brings it to the end of the counters. Any other may be lost, its reply
+-- too, and anything else may happen in between.
 abbrev pub Joins : {V : Type 0} → Step V → Type 0
 Joins {V} step =
     ((v : V) → (step v []).0 ≡ v) →

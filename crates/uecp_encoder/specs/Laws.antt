@@ -12,8 +12,9 @@ use Rattle.uecp_encoder.specs.Answering.{Response, Replied, NotForMe, Unnumbered
 
 -- ---- A retry acts once.
 
--- What may happen to an encoder between two deliveries of a frame: it takes a finding; or its target, counts and open part become these, by anything that
--- leaves its address and its kept replies, as where a segment begins, where the line is lost, where something is taken from the target.
+-- What may happen to an encoder between two deliveries of a frame: it takes a finding; or its target, counts and open
+-- part become these, by anything that leaves its address and its kept replies, as where a segment begins, where the
+-- line is lost, where something is taken from the target.
 pub data Happening (V : Type 0) : Type 0 where
   Finds : (finding : Finding) → Happening V
   Becomes : (value : V) (counts : Counts) (part : OpenPart) → Happening V
@@ -52,8 +53,8 @@ pub record IsRepeat {V : Type 0} (step : Step V) (e : EncoderState V) (f : Frame
   pub value : (after_finding step e (Ok f)).value ≡ e.value
   pub ring : (after_finding step e (Ok f)).ring ≡ e.ring
 
--- A frame that was applied and comes again, after any happenings among which at most 126 further messages were applied, gets the reply that it got, byte for
--- byte, and changes neither target nor kept replies.
+-- A frame that was applied and comes again, after any happenings among which at most 126 further messages were applied,
+-- gets the reply that it got, byte for byte, and changes neither target nor kept replies.
 abbrev pub RetryActsOnce : {V : Type 0} → Step V → Type 0
 RetryActsOnce {V} step =
     (e : EncoderState V) (f : Frame) (bytes : List ℕ) (between : List (Happening V)) →
@@ -69,8 +70,8 @@ pub record IsNotApplied {V : Type 0} (step : Step V) (e : EncoderState V) (f : F
   pub value : (after_finding step e (Ok f)).value ≡ e.value
   pub ring : (after_finding step e (Ok f)).ring ≡ e.ring
 
--- A frame that was applied and comes again, after any happenings among which at most 253 further messages were applied, is not applied again, though its reply may
--- be kept no more: the counters have not come round.
+-- A frame that was applied and comes again, after any happenings among which at most 253 further messages were applied,
+-- is not applied again, though its reply may be kept no more: the counters have not come round.
 abbrev pub AppliedOnce : {V : Type 0} → Step V → Type 0
 AppliedOnce {V} step =
     (e : EncoderState V) (f : Frame) (bytes : List ℕ) (between : List (Happening V)) →
@@ -96,11 +97,13 @@ abbrev pub Follow : (last : Option ℕ) → List ℕ → Type 0
 Follow last [] = Unit {0}
 Follow last (counter ∷ later) = (counter ≡ next_after last) × Follow (Some counter) later
 
--- Whatever happens to an encoder, the counters of the messages that it applies follow the newest that it had kept, one after another.
+-- Whatever happens to an encoder, the counters of the messages that it applies follow the newest that it had kept, one
+-- after another.
 abbrev pub AppliesInOrder : {V : Type 0} → Step V → Type 0
 AppliesInOrder {V} step = (e : EncoderState V) (hs : List (Happening V)) → Follow (newest e.ring) (counters_applied step e hs)
 
--- Whatever happens to a new encoder, the first message that it applies has counter 01, and so on up to FF and from 01 again.
+-- Whatever happens to a new encoder, the first message that it applies has counter 01, and so on up to FF and from 01
+-- again.
 abbrev pub AppliesFrom01 : {V : Type 0} → Step V → Type 0
 AppliesFrom01 {V} step =
     (address : ℕ) (value : V) (hs : List (Happening V)) (k : ℕ) →
@@ -126,7 +129,8 @@ found_in_pieces o (piece ∷ pieces) = found_beyond o piece ++ found_in_pieces (
 abbrev pub joined : List (List ℕ) → List ℕ
 joined pieces = flat_map (λ piece. piece) pieces
 
--- After noise in which no frame stands, the spelling of a frame ends with that frame, and no finding before it is a frame; in any pieces.
+-- After noise in which no frame stands, the spelling of a frame ends with that frame, and no finding before it is a
+-- frame; in any pieces.
 abbrev pub IsHeardAfterNoise : Type 0
 IsHeardAfterNoise =
     (noise : List ℕ) (f : Frame) (pieces : List (List ℕ)) →
@@ -135,8 +139,8 @@ IsHeardAfterNoise =
 
 -- ---- Damage changes nothing.
 
--- Some bytes leave an encoder its address, its target, its kept replies and its counts but that of the dropped segments, which rises by one for each of their
--- findings; and no reply goes back.
+-- Some bytes leave an encoder its address, its target, its kept replies and its counts but that of the dropped
+-- segments, which rises by one for each of their findings; and no reply goes back.
 pub record IsUnmoved {V : Type 0} (step : Step V) (e : EncoderState V) (bytes : List ℕ) : Type 0 where
   pub state : fed step e bytes ≡ record e { counts = record e.counts { dropped = (fed step e bytes).counts.dropped }; part = open_beyond e.part bytes }
   pub dropped : e.counts.dropped < 2 ^ 64 → (fed step e bytes).counts.dropped ≡ min (e.counts.dropped + length (found_beyond e.part bytes)) (2 ^ 64 - 1)

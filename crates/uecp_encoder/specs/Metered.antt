@@ -2,7 +2,8 @@
 use Rattle.std.specs.Prelude.{ℕ, ◌+◌, ◌-◌, ◌^◌, ◌==◌, min, refl, if◌then◌else◌, is_err, Result, Ok, Err}
 use Rattle.std.specs.Coded.{Coded, code_by, coded×, coded_ℕ}
 
--- a device, how many calls of it were made, how many of them failed, and how many reads brought nothing, as the input was at its end
+-- a device, how many calls of it were made, how many of them failed, and how many reads brought nothing, as the input
+-- was at its end
 pub record Metered (D : Type 0) : Type 0 where
   pub device : D
   pub calls : ℕ

@@ -27,7 +27,8 @@ pub record AnswersAll {V : Type 0} (step : Step V) (e e' : EncoderState V) (s se
   pub state : e' ≡ fed step e s
   pub written : sent ≡ answers step e s
 
--- All of s was fed, and all replies to it were written: so many replies, of so many bytes. A reply comes with a byte of s, and has at most 16 bytes.
+-- All of s was fed, and all replies to it were written: so many replies, of so many bytes. A reply comes with a byte of
+-- s, and has at most 16 bytes.
 pub record Sends {V : Type 0} (step : Step V) (e e' : EncoderState V) (s sent : List ℕ) (replies bytes : ℕ) : Type 0 where
   pub all : AnswersAll step e e' s sent
   pub replies_are : replies ≡ replies_among (responses_to step e s)
@@ -35,8 +36,9 @@ pub record Sends {V : Type 0} (step : Step V) (e e' : EncoderState V) (s sent : 
   pub few_replies : replies ≤ length s
   pub few_bytes : bytes ≤ 16 * length s
 
--- A write failed after the first w bytes of the replies to s. The encoder was fed s up to and with the byte at this place, at which
--- the reply that was being written became due: the replies before it were written whole, and it was not.
+-- A write failed after the first w bytes of the replies to s. The encoder was fed s up to and with the byte at this
+-- place, at which the reply that was being written became due: the replies before it were written whole, and it was
+-- not.
 pub record StopsWriting {V : Type 0} (step : Step V) (e e' : EncoderState V) (s sent : List ℕ) (w place : ℕ) : Type 0 where
   pub within : place < length s
   pub state : e' ≡ fed step e (take (place + 1) s)
@@ -44,8 +46,9 @@ pub record StopsWriting {V : Type 0} (step : Step V) (e e' : EncoderState V) (s 
   pub before : length (answers step e (take place s)) ≤ w
   pub due : w < length (answers step e (take (place + 1) s))
 
--- How a call ended that read s and wrote these bytes. The end of input comes with the number of bytes read and of replies; where the turns
--- are spent, each gave a byte; where a write failed, fewer than 512 bytes were read past those that were fed.
+-- How a call ended that read s and wrote these bytes. The end of input comes with the number of bytes read and of
+-- replies; where the turns are spent, each gave a byte; where a write failed, fewer than 512 bytes were read past those
+-- that were fed.
 abbrev pub Serves : {V : Type 0} → Step V → (e e' : EncoderState V) → (s sent : List ℕ) → (unread : Option (List ℕ)) → (turns : ℕ) → Result Served ServeFault → Type 0
 Serves step e e' s sent unread turns (Ok served) =
     AnswersAll step e e' s sent × IsAtEnd unread × (served.read ≡ length s) × (served.replies ≡ replies_among (responses_to step e s))

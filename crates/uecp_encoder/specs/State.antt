@@ -9,7 +9,8 @@ use Rattle.reply_ring.specs.Ring.{kept_code, newest, keep}
 use Rattle.uecp_encoder.specs.declared.counts.Counts.{Counts}
 use Rattle.uecp_encoder.specs.Target.{Step}
 
--- its own address, its target's value, the kept pairs of counter and code with the newest first, its counts, and the part of the stream that is open
+-- its own address, its target's value, the kept pairs of counter and code with the newest first, its counts, and the
+-- part of the stream that is open
 pub record EncoderState (V : Type 0) : Type 0 where
   pub address : ℕ
   pub value : V
@@ -54,8 +55,9 @@ abbrev pub numbered : {V : Type 0} → Step V → EncoderState V → Frame → O
 numbered step e f (Some code) = record e { counts = record e.counts { repeats = raised e.counts.repeats } }
 numbered step e f None = if is_next e.ring f.counter then applied step e f else e
 
--- The encoder after one finding, judged in this order: a fault is counted, and so is a frame whose address does not reach the
--- encoder, and one with counter 00; any other frame is a numbered one for it. None of this touches the open part.
+-- The encoder after one finding, judged in this order: a fault is counted, and so is a frame whose address does not
+-- reach the encoder, and one with counter 00; any other frame is a numbered one for it. None of this touches the open
+-- part.
 abbrev pub after_finding : {V : Type 0} → Step V → EncoderState V → Finding → EncoderState V
 after_finding step e (Err fault) = record e { counts = record e.counts { dropped = raised e.counts.dropped } }
 after_finding step e (Ok f) =

@@ -26,8 +26,8 @@ pub struct EncoderFault<T> {
     pub target: T,
 }
 
-/// An encoder at its address: it applies each numbered message once and in its turn, keeps the replies to the last 127, and
-/// answers a repeat with the kept one. Contracts see it as one value, `EncoderState`.
+/// An encoder at its address: it applies each numbered message once and in its turn, keeps the replies to the last 127,
+/// and answers a repeat with the kept one. Contracts see it as one value, `EncoderState`.
 #[derive(Drop)]
 pub struct Encoder<T: Target> {
     /// Finds the frames in what is fed.
@@ -48,8 +48,8 @@ impl<T: Target> Model for Encoder<T> {
 }
 
 impl<T: Target> Encoder<T> {
-    /// A new encoder, with nothing kept, counted or open. All its memory is taken here; where there is none, the fault hands
-    /// the target back.
+    /// A new encoder, with nothing kept, counted or open. All its memory is taken here; where there is none, the fault
+    /// hands the target back.
     ///
     /// The caller knows that the address is one encoder's own: neither part is 0 ([`Address::is_exact`]).
     ///
@@ -77,8 +77,9 @@ impl<T: Target> Encoder<T> {
         }
     }
 
-    /// Takes a piece of what comes over the line: uses its bytes up to and with the one that ends a segment, or all, and
-    /// answers what that brought. Send the reply if there is one, then feed the rest of the piece, until all is used.
+    /// Takes a piece of what comes over the line: uses its bytes up to and with the one that ends a segment, or all,
+    /// and answers what that brought. Send the reply if there is one, then feed the rest of the piece, until all is
+    /// used.
     ///
     /// ```
     /// let answer = encoder.feed(&[0xfe, 0xff, 0x00]); // used 2, What::Dropped(FrameFault::TooShort)
@@ -110,8 +111,8 @@ impl<T: Target> Encoder<T> {
         Answer { used, what }
     }
 
-    /// Forgets a segment that has not ended, as where the line was lost. Nothing else changes: the kept replies stay, so that
-    /// a message which was applied before is still known on the next connection.
+    /// Forgets a segment that has not ended, as where the line was lost. Nothing else changes: the kept replies stay,
+    /// so that a message which was applied before is still known on the next connection.
     ///
     /// ```
     /// encoder.feed(&[0xfe, 0x00]);
@@ -124,8 +125,9 @@ impl<T: Target> Encoder<T> {
         self.deframer.line_lost();
     }
 
-    /// Takes from the target the group that is to go out next, or None where it has none. Nothing but the target changes: the
-    /// kept replies, the counts and what is open stay, so that a message which was applied before is still known.
+    /// Takes from the target the group that is to go out next, or None where it has none. Nothing but the target
+    /// changes: the kept replies, the counts and what is open stay, so that a message which was applied before is still
+    /// known.
     ///
     /// ```
     /// let group = encoder.take_group(); // of a store: the first group that waits

@@ -60,8 +60,8 @@ impl<T: Target> Holdings<T> {
         }
     }
 
-    /// Takes a frame: in order, the address, counter 00, a counter that is kept, one that is not the next, and else the message
-    /// is applied.
+    /// Takes a frame: in order, the address, counter 00, a counter that is kept, one that is not the next, and else the
+    /// message is applied.
     #[inline(never)]
     fn take_frame(&mut self, frame: &FrameRef<'_>) -> Outcome
         ensures holds { (part : OpenPart) → with_part self.new part ≡ after_finding T.step (with_part self.old part) (Ok (frame_lent frame.now)) }
@@ -98,8 +98,8 @@ impl<T: Target> Holdings<T> {
         }
     }
 
-    /// The counter of the message that is to be applied next: 01 where no reply is kept, else the one after the newest kept,
-    /// FF being followed by 01.
+    /// The counter of the message that is to be applied next: 01 where no reply is kept, else the one after the newest
+    /// kept, FF being followed by 01.
     fn next_counter(&self) -> u8
         ensures { result ≡ next_after (newest self.now.ring) }
     {

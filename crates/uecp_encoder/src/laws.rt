@@ -6,24 +6,24 @@ ghost use Rattle.uecp_encoder.specs.Joining.{Joins, WholePassIsReplied};
 
 use crate::target::Target;
 
-/// A frame that was applied and comes again within the next 126 applied messages gets the reply that it got, byte for byte,
-/// and changes neither the target nor the kept replies. Between them anything may be found in what comes (messages, faults,
-/// frames for others, unnumbered frames, repeats), and anything else may happen that leaves the encoder's address and its kept
-/// replies: noise that ends no segment, a lost line, a group taken from the target.
+/// A frame that was applied and comes again within the next 126 applied messages gets the reply that it got, byte for
+/// byte, and changes neither the target nor the kept replies. Between them anything may be found in what comes
+/// (messages, faults, frames for others, unnumbered frames, repeats), and anything else may happen that leaves the
+/// encoder's address and its kept replies: noise that ends no segment, a lost line, a group taken from the target.
 pub fn a_retry_acts_once<T: Target>()
     ensures { RetryActsOnce T.step }
 {}
 
-/// A frame that was applied and comes again within the next 253 applied messages is not applied again. Within 126 it gets its reply
-/// ([`a_retry_acts_once`]); after that its counter is neither kept nor the next, until 254 further messages have brought the
-/// counters round.
+/// A frame that was applied and comes again within the next 253 applied messages is not applied again. Within 126 it
+/// gets its reply ([`a_retry_acts_once`]); after that its counter is neither kept nor the next, until 254 further
+/// messages have brought the counters round.
 pub fn applied_once<T: Target>()
     ensures { AppliedOnce T.step }
 {}
 
-/// Messages are applied in the order of their counters: each has the counter after that of the one before, FF being followed by
-/// 01, and the first of a new encoder has 01. What comes may hold anything, in any order, and anything else may happen that
-/// leaves the encoder's address and its kept replies.
+/// Messages are applied in the order of their counters: each has the counter after that of the one before, FF being
+/// followed by 01, and the first of a new encoder has 01. What comes may hold anything, in any order, and anything else
+/// may happen that leaves the encoder's address and its kept replies.
 pub fn applied_in_order<T: Target>()
     ensures each { AppliesInOrder T.step }
     ensures from_01 { AppliesFrom01 T.step }
@@ -34,26 +34,28 @@ pub fn in_pieces<T: Target>()
     ensures { (e : EncoderState _) (x y : List ℕ) → IsInPieces T.step e x y }
 {}
 
-/// After noise in which no frame stands, in any pieces, the spelling of a frame ends with that frame, and no finding before
-/// it is a frame.
+/// After noise in which no frame stands, in any pieces, the spelling of a frame ends with that frame, and no finding
+/// before it is a frame.
 pub fn heard_after_noise()
     ensures { IsHeardAfterNoise }
 {}
 
-/// Bytes in which no frame is found, whatever part is open before them, leave an encoder its target, its kept replies and its
-/// counts but that of the dropped segments, which rises by one for each segment that they end; and no reply goes back.
+/// Bytes in which no frame is found, whatever part is open before them, leave an encoder its target, its kept replies
+/// and its counts but that of the dropped segments, which rises by one for each segment that they end; and no reply
+/// goes back.
 pub fn damage_changes_nothing<T: Target>()
     ensures { DamageChangesNothing T.step }
 {}
 
-/// A server that knows nothing of an encoder sends it empty messages under 01, 02 .. FF, in this order, and does so until in one such
-/// pass both 81 and FF got a reply. Where an empty message changes nothing at the target, the encoder then has its target as it
-/// was, keeps the replies to 81 .. FF and no other, and expects 01.
+/// A server that knows nothing of an encoder sends it empty messages under 01, 02 .. FF, in this order, and does so
+/// until in one such pass both 81 and FF got a reply. Where an empty message changes nothing at the target, the encoder
+/// then has its target as it was, keeps the replies to 81 .. FF and no other, and expects 01.
 pub fn joined<T: Target>()
     ensures { Joins T.step }
 {}
 
-/// Where none of the messages of such a pass is lost, each from 81 on gets a reply: one pass is enough then, from wherever the encoder was.
+/// Where none of the messages of such a pass is lost, each from 81 on gets a reply: one pass is enough then, from
+/// wherever the encoder was.
 pub fn whole_pass_is_replied<T: Target>()
     ensures { WholePassIsReplied T.step }
 {}

@@ -11,8 +11,8 @@ use std::marker::Model;
 #[derive(Clone, Copy, Debug, PartialEq, Eq)]
 pub struct Failed;
 
-/// A reader or a writer, with how often it was called, how often it failed, and how often a read brought nothing. It is the one way to
-/// its device. Contracts see it as one value, `Metered`.
+/// A reader or a writer, with how often it was called, how often it failed, and how often a read brought nothing. It is
+/// the one way to its device. Contracts see it as one value, `Metered`.
 #[derive(Drop)]
 pub struct Meter<D> {
     device: D,
@@ -83,7 +83,8 @@ impl<D> Meter<D> {
 }
 
 impl<D: Read> Meter<D> {
-    /// Makes one read of the device; that it is one is only tested. The caller knows that the buffer is not empty; 0 is the end of input.
+    /// Makes one read of the device; that it is one is only tested. The caller knows that the buffer is not empty; 0 is
+    /// the end of input.
     pub fn read(&mut self, buffer: &mut [u8]) -> Result<usize, Failed>
         requires { 0 < length buffer.old }
         ensures within { ReadsAtMost result buffer.new }
@@ -108,7 +109,8 @@ impl<D: Read> Meter<D> {
 }
 
 impl<D: Write> Meter<D> {
-    /// Makes one write of the device (that it is one is only tested), which takes at least one byte, or failed. The caller knows that there are bytes.
+    /// Makes one write of the device (that it is one is only tested), which takes at least one byte, or failed. The
+    /// caller knows that there are bytes.
     pub fn write(&mut self, bytes: &[u8]) -> Result<usize, Failed>
         requires { 0 < length bytes.now }
         ensures within { WritesAtMost result bytes.now }
@@ -128,8 +130,8 @@ impl<D: Write> Meter<D> {
         }
     }
 
-    /// Writes all of the bytes, by as many writes as it takes, one for each byte at most, or says how many of them were written before
-    /// one failed.
+    /// Writes all of the bytes, by as many writes as it takes, one for each byte at most, or says how many of them were
+    /// written before one failed.
     pub fn write_whole(&mut self, bytes: &[u8]) -> Result<(), usize>
         ensures ok { OnOk result (Appends (D.contents self.old.device) (D.contents self.new.device) bytes.now) }
         ensures err { IfErr result (λ w. (w < length bytes.now)

@@ -6,9 +6,9 @@ ghost use Rattle.rds_store.specs.Step.{step as store_step, group_taken};
 use rds_store::{Group, RdsStore};
 use uecp_elements::Code;
 
-/// Something that messages are applied to, one after another, and that hands out groups to be sent. Contracts see its value;
-/// `step` says what one message makes of it and `taken` what one take makes of it, and the law is that `apply` and `take` do
-/// just that.
+/// Something that messages are applied to, one after another, and that hands out groups to be sent. Contracts see its
+/// value; `step` says what one message makes of it and `taken` what one take makes of it, and the law is that `apply`
+/// and `take` do just that.
 pub trait Target {
     // The next value and the code, from a value and a message.
     ghost step: { Step Self };
@@ -16,8 +16,8 @@ pub trait Target {
     // The next value and the group that goes out, if there is one, from a value.
     ghost taken: { Taken Self };
 
-    /// Applies a message (at most 255 bytes), and answers the code for the reply. It refuses nothing outside its code, and takes
-    /// no memory.
+    /// Applies a message (at most 255 bytes), and answers the code for the reply. It refuses nothing outside its code,
+    /// and takes no memory.
     fn apply(&mut self, message: &[u8]) -> Code
         ensures { (self.new, result) ≡ step self.old message.now };
 

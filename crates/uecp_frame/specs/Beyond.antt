@@ -23,7 +23,8 @@ abbrev pub closing_at : OpenPart → List ℕ → List ℕ → List Finding
 closing_at o z [] = []
 closing_at o z (delimiter ∷ more) = closing o z delimiter
 
--- The findings that x adds are what the open part comes to at the first FE or FF of x, and then those of x alone (profile).
+-- The findings that x adds are what the open part comes to at the first FE or FF of x, and then those of x alone
+-- (profile).
 unfoldable pub found_beyond : OpenPart → List ℕ → List Finding
 found_beyond o x = closing_at o (before_delimiter x) (from_delimiter x) ++ found x
 
@@ -62,12 +63,14 @@ unended Closed = []
 unended (Doomed fault) = Err Unended ∷ []
 unended (Part y) = Err Unended ∷ []
 
--- Whatever is open, the spelling of a frame is heard as that frame, after the end of what was open, and leaves nothing open.
+-- Whatever is open, the spelling of a frame is heard as that frame, after the end of what was open, and leaves nothing
+-- open.
 pub record IsHeard (o : OpenPart) (f : Frame) : Type 0 where
   pub found : found_beyond o (spelling f) ≡ unended o ++ Ok f ∷ []
   pub left : open_beyond o (spelling f) ≡ Closed
 
--- Bytes are a frame's spelling that breaks off where they begin it, and at least its FE stands among them and its FF does not.
+-- Bytes are a frame's spelling that breaks off where they begin it, and at least its FE stands among them and its FF
+-- does not.
 pub record BreaksOff (x : List ℕ) : Type 0 where
   pub frame : Frame
   pub rest : List ℕ
@@ -75,8 +78,8 @@ pub record BreaksOff (x : List ℕ) : Type 0 where
   pub begun : x ≢ []
   pub unfinished : rest ≢ []
 
--- Whatever is open, a spelling that breaks off holds no frame, and only ends what was open. Where the spelling of a frame follows, it is dropped as unended,
--- that frame is heard, and nothing is left open.
+-- Whatever is open, a spelling that breaks off holds no frame, and only ends what was open. Where the spelling of a
+-- frame follows, it is dropped as unended, that frame is heard, and nothing is left open.
 pub record IsPassedOver (o : OpenPart) (x : List ℕ) (next : Frame) : Type 0 where
   pub none : found_beyond o x ≡ unended o
   pub heard : found_beyond o (x ++ spelling next) ≡ unended o ++ Err Unended ∷ Ok next ∷ []

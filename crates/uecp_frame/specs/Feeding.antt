@@ -12,8 +12,8 @@ findings_of Nothing = []
 findings_of (Frame f) = Ok f ∷ []
 findings_of (Refused fault) = Err fault ∷ []
 
--- From an open part, the bytes of a piece up to and with the one at which the first finding is judged are used, or all where
--- there is none; the answer is that finding, and what is left open is what the used bytes leave (profile).
+-- From an open part, the bytes of a piece up to and with the one at which the first finding is judged are used, or all
+-- where there is none; the answer is that finding, and what is left open is what the used bytes leave (profile).
 pub record Feeds (old : OpenPart) (piece : List ℕ) (fed : Fed) (new : OpenPart) : Type 0 where
   pub used : fed.used ≤ length piece
   pub answer : found_beyond old (take fed.used piece) ≡ findings_of fed.found

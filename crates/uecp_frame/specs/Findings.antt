@@ -21,7 +21,8 @@ abbrev pub from_delimiter : List ℕ → List ℕ
 from_delimiter [] = []
 from_delimiter (b ∷ s) = if is_delimiter b then b ∷ s else from_delimiter s
 
--- A segment with bytes x after its FE is judged at the FE or FF that comes next, and not before (SPB 490, frame format).
+-- A segment with bytes x after its FE is judged at the FE or FF that comes next, and not before (SPB 490, frame
+-- format).
 abbrev pub found_at : List ℕ → List ℕ → List Finding
 found_at x [] = []
 found_at x (delimiter ∷ more) = finding x delimiter ∷ []
@@ -30,8 +31,8 @@ found_at x (delimiter ∷ more) = finding x delimiter ∷ []
 unfoldable pub segment_found : List ℕ → List Finding
 segment_found s = found_at (before_delimiter s) (from_delimiter s)
 
--- The findings of bytes are those of the segments that their FEs open, in order: each FE opens one (SPB 490, frame format).
--- The same by places, one finding for each segment, is a law in Places.antt.
+-- The findings of bytes are those of the segments that their FEs open, in order: each FE opens one (SPB 490, frame
+-- format). The same by places, one finding for each segment, is a law in Places.antt.
 unfoldable pub found : List ℕ → List Finding
 found [] = []
 found (b ∷ s) = (if b == 0xFE then segment_found s else []) ++ found s
@@ -51,8 +52,8 @@ unfoldable pub open_bytes : List ℕ → Option (List ℕ)
 open_bytes [] = None
 open_bytes (b ∷ s) = if list_any is_delimiter s then open_bytes s else if b == 0xFE then Some s else None
 
--- What matters of a segment that has not ended is that there is none, or its fault where that is certain, or else how far it
--- was read: its plain bytes, and an FD whose next byte has yet to come (profile).
+-- What matters of a segment that has not ended is that there is none, or its fault where that is certain, or else how
+-- far it was read: its plain bytes, and an FD whose next byte has yet to come (profile).
 pub data OpenPart : Type 0 where
   Closed : OpenPart
   Doomed : FrameFault → OpenPart
@@ -64,8 +65,8 @@ has_two [] = false
 has_two (b ∷ []) = false
 has_two (b ∷ c ∷ r) = true
 
--- Where a bad FD is left after at most 260 plain bytes, its fault is certain; so is the length where it is too great; else all of
--- the reading matters (profile).
+-- Where a bad FD is left after at most 260 plain bytes, its fault is certain; so is the length where it is too great;
+-- else all of the reading matters (profile).
 unfoldable pub progress : Reading → OpenPart
 progress x =
     if has_two x.rest && nat_le (length x.plain) 260 then Doomed (BadStuffing (1 + length (stuffed x.plain)))

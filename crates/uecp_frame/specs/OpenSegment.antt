@@ -15,8 +15,8 @@ use Rattle.uecp_frame.specs.Findings.{OpenPart, Closed, Doomed, Part}
 use Rattle.uecp_frame.specs.Feeding.{findings_of}
 use Rattle.uecp_frame.specs.Beyond.{found_beyond, open_beyond}
 
--- What is read of an open segment is its fault where that is certain, or else its plain bytes, and an FD whose next byte has yet
--- to come (profile).
+-- What is read of an open segment is its fault where that is certain, or else its plain bytes, and an FD whose next
+-- byte has yet to come (profile).
 abbrev pub inside_of : Option FrameFault → List ℕ → Bool → OpenPart
 inside_of (Some fault) plain is_escaping = Doomed fault
 inside_of None plain is_escaping = Part (record { plain = plain; rest = if is_escaping then 0xFD ∷ [] else [] })
@@ -29,8 +29,8 @@ part_of s = if s.is_open then inside_of s.fault s.plain.items s.is_escaping else
 abbrev pub checked : List ℕ → List ℕ
 checked plain = take (length plain - 2) plain
 
--- While no fault is certain, the bytes that the plain ones were sent as are counted, and the register is the one after the plain
--- bytes but the last two. After an FD there is room for a plain byte (profile).
+-- While no fault is certain, the bytes that the plain ones were sent as are counted, and the register is the one after
+-- the plain bytes but the last two. After an FD there is room for a plain byte (profile).
 pub record IsOpenSegment (s : OpenSegment) : Type 0 where
   pub counted : s.fault ≡ None → s.sent ≡ length (stuffed s.plain.items)
   pub register : s.fault ≡ None → s.register ≡ register_after 0xFFFF (checked s.plain.items)
@@ -54,8 +54,8 @@ IsWhole e plain = e ≡ ended.Frame → 6 ≤ length plain
 abbrev pub IsAddressOf : Ended → List ℕ → ℕ → Type 0
 IsAddressOf e plain address = e ≡ ended.Frame → address ≡ number_at plain 0
 
--- One step from an open part uses bytes of which none but the last comes to a finding; what it answers is what they find, and what
--- is left open is what they leave (profile).
+-- One step from an open part uses bytes of which none but the last comes to a finding; what it answers is what they
+-- find, and what is left open is what they leave (profile).
 pub record Takes (old : OpenPart) (rest : List ℕ) (fed : Fed) (new : OpenPart) : Type 0 where
   pub some : 0 < fed.used
   pub fits : fed.used ≤ length rest

@@ -4,8 +4,8 @@ ghost use Rattle.uecp_frame.specs.Address.{site_of, encoder_of, is_exact, reache
 
 use std::marker::Model;
 
-/// Whom a frame is for: a site of 10 bits and an encoder of 6. A part that is 0 stands for all sites, or for all encoders of a
-/// site. Contracts see its value, the site times 64 plus the encoder.
+/// Whom a frame is for: a site of 10 bits and an encoder of 6. A part that is 0 stands for all sites, or for all
+/// encoders of a site. Contracts see its value, the site times 64 plus the encoder.
 #[derive(Clone, Copy, Debug, PartialEq, Eq)]
 pub struct Address {
     value: u16,

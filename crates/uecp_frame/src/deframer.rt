@@ -5,8 +5,8 @@ use crate::lending::{address_in, found_of, lent};
 use crate::open_segment::OpenSegment;
 use std::marker::Model;
 
-/// Finds the frames of a stream that comes in any pieces. It keeps the segment that has not ended, and the frame that ended
-/// last; contracts see what matters of that segment, the open part.
+/// Finds the frames of a stream that comes in any pieces. It keeps the segment that has not ended, and the frame that
+/// ended last; contracts see what matters of that segment, the open part.
 #[derive(Debug, Drop)]
 pub struct Deframer {
     /// The segment that has not ended, or the frame that ended last.

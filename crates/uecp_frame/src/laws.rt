@@ -24,12 +24,14 @@ pub fn one_reading()
     ensures { OneReading }
 {}
 
-/// The findings of a byte list are those of its segments by places: one for each pair of places, none left out, in order.
+/// The findings of a byte list are those of its segments by places: one for each pair of places, none left out, in
+/// order.
 pub fn found_by_places()
     ensures { (s : List ℕ) → AreFoundByPlaces s }
 {}
 
-/// Two byte lists with one open part have one future: more bytes find the same after both, and leave the same part open.
+/// Two byte lists with one open part have one future: more bytes find the same after both, and leave the same part
+/// open.
 #[tactic(auto, using(crate::proofs::Future::one_future_lem, crate::proofs::Future::one_open_part_lem))]
 pub fn one_future()
     ensures findings { OneFuture }
@@ -51,13 +53,14 @@ pub fn new_start()
     ensures { (o : OpenPart) (x : List ℕ) → IsNewStart o x }
 {}
 
-/// Whatever part is open, the spelling of a frame is heard as that frame, after at most one `Unended`, and leaves nothing open.
+/// Whatever part is open, the spelling of a frame is heard as that frame, after at most one `Unended`, and leaves
+/// nothing open.
 pub fn always_heard()
     ensures { (o : OpenPart) (f : FrameValue) → length f.message ≤ 255 → IsHeard o f }
 {}
 
-/// Whatever part is open, the spelling of a frame that breaks off holds no frame; where the spelling of a frame follows it, the
-/// one is dropped as `Unended` and the other is heard.
+/// Whatever part is open, the spelling of a frame that breaks off holds no frame; where the spelling of a frame follows
+/// it, the one is dropped as `Unended` and the other is heard.
 pub fn passed_over()
     ensures { (o : OpenPart) (x : List ℕ) (next : FrameValue) → BreaksOff x → length next.message ≤ 255 → IsPassedOver o x next }
 {}

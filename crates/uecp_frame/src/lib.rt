@@ -1,16 +1,16 @@
 //! Frames of the Universal Encoder Communication Protocol (RDS Forum SPB 490): how a message for an RDS encoder is
 //! spelled on the control line, and how frames and faults are found in a stream of bytes that comes in any pieces.
 //!
-//! No sockets, no clock, no threads, and no memory is taken: everything is in buffers of fixed size. What a message means
-//! is for the crates above.
+//! No sockets, no clock, no threads, and no memory is taken: everything is in buffers of fixed size. What a message
+//! means is for the crates above.
 //!
-//! - [`Frame`]: an address, a sequence counter and a message. [`encode`] spells it, [`decode`] judges one whole segment.
+//! - [`Frame`]: an address, a sequence counter and a message. [`encode`] spells it, [`decode`] judges one whole
+//!   segment.
 //! - [`Deframer`]: finds frames in a stream, in whatever pieces it comes.
 //! - [`FrameFault`]: why a segment is no frame.
 //!
-//! The law that users rely on: the findings of a byte list do not depend on where it was cut
-//! ([`laws::in_pieces`]), and whatever was heard before it, a frame's spelling is heard as that frame
-//! ([`laws::always_heard`]).
+//! The law that users rely on: the findings of a byte list do not depend on where it was cut ([`laws::in_pieces`]), and
+//! whatever was heard before it, a frame's spelling is heard as that frame ([`laws::always_heard`]).
 #![tactic(auto)]
 
 mod address;

@@ -1,5 +1,5 @@
-//! The segment that has not ended, read as its bytes come. Source: RDS Forum SPB 490, frame format and byte stuffing; profile for
-//! the order of the faults.
+//! The segment that has not ended, read as its bytes come. Source: RDS Forum SPB 490, frame format and byte stuffing;
+//! profile for the order of the faults.
 use crate::address::Address;
 use crate::check::{OPENING, after_bytes};
 use crate::fault::FrameFault;
@@ -195,8 +195,8 @@ impl OpenSegment {
         }
     }
 
-    /// Reads the next byte of an open segment, which is no FE and no FF, or the run of bytes that begins with it. Answers how
-    /// many were read.
+    /// Reads the next byte of an open segment, which is no FE and no FF, or the run of bytes that begins with it.
+    /// Answers how many were read.
     fn keep(&mut self, rest: &[u8]) -> usize
         requires kept { IsOpenSegment self.old }
         requires some { 0 < length rest.now }

@@ -1,4 +1,5 @@
-//! One whole segment, and the frame that it spells. Source: RDS Forum SPB 490, frame format; profile for the order of the faults.
+//! One whole segment, and the frame that it spells. Source: RDS Forum SPB 490, frame format; profile for the order of
+//! the faults.
 ghost use Rattle.std.specs.Prelude.{◌≡◌, ◌↔◌, ◌≤◌, length, IsTrue, IfOk, Ok};
 ghost use Rattle.std.specs.List.{list_any};
 ghost use Rattle.uecp_frame.specs.declared.frame.Frame.{Frame as FrameValue};
@@ -18,8 +19,8 @@ fn has_delimiter(bytes: &[u8]) -> bool
     bytes.iter().any(|byte| *byte == START || *byte == END)
 }
 
-/// Whether the bytes are one segment, as `decode` wants it: they are not empty, begin with FE, and have no other FE or FF but
-/// perhaps as their last byte. A segment need not have ended.
+/// Whether the bytes are one segment, as `decode` wants it: they are not empty, begin with FE, and have no other FE or
+/// FF but perhaps as their last byte. A segment need not have ended.
 pub fn is_segment(bytes: &[u8]) -> bool
     ensures { IsTrue result ↔ IsSegment bytes.now }
 {
@@ -29,8 +30,8 @@ pub fn is_segment(bytes: &[u8]) -> bool
     bytes[0] == START && !has_delimiter(&bytes[1..bytes.len() - 1])
 }
 
-/// The frame of which these bytes are the spelling, or the segment's first fault: `Unended` where its last byte is not FF.
-/// Ask [`is_segment`] first where the bytes come from outside.
+/// The frame of which these bytes are the spelling, or the segment's first fault: `Unended` where its last byte is not
+/// FF. Ask [`is_segment`] first where the bytes come from outside.
 pub fn decode(segment: &[u8]) -> Result<Frame, FrameFault>
     requires { IsSegment segment.now }
     // A frame is answered for its spelling,

@@ -101,26 +101,26 @@ script_played line line' o ((number, text) ∷ texts) lines stop holds ran = eli
     | inr again ↦
         elim (script_played next line' (at_first line.encoder.value) texts rest stop (joined_holds line next again.given_up again.restarts) more) [
           | inl p ↦ inr (record {
-              before = [];
-              restart = (number, text);
-              behind = texts;
-              all = refl;
-              named = again.named;
-              lines = [];
-              left = line;
-              ran = (refl, refl, refl);
-              given_up = again.given_up;
-              joined = next;
-              restarts = again.restarts;
-              keeps = record {
-                events = p.events;
-                outcomes = p.outcomes;
-                last = p.last;
-                named = p.named;
-                plays = p.plays;
-                headline = since_joined line next again.given_up again.restarts p.events p.outcomes line' p.last p.plays;
-              };
-            })
+            before = [];
+            restart = (number, text);
+            behind = texts;
+            all = refl;
+            named = again.named;
+            lines = [];
+            left = line;
+            ran = (refl, refl, refl);
+            given_up = again.given_up;
+            joined = next;
+            restarts = again.restarts;
+            keeps = record {
+              events = p.events;
+              outcomes = p.outcomes;
+              last = p.last;
+              named = p.named;
+              plays = p.plays;
+              headline = since_joined line next again.given_up again.restarts p.events p.outcomes line' p.last p.plays;
+            };
+          })
           | inr since ↦ inr (one_before line next line' number text first texts stop (inr again) since)
         ]
   ]
@@ -134,12 +134,12 @@ scripts_keep_headline_lem o texts lines stop line ran =
     let value : Store = opening o.sets o.services in
     elim (script_played (new_line address value) line (at_first value) texts lines stop (new_holds address value) ran) [
       | inl p ↦ inl (record {
-          events = p.events;
-          outcomes = p.outcomes;
-          last = p.last;
-          named = p.named;
-          plays = p.plays;
-          headline = headline step group_taken address value p.events p.outcomes line p.last p.plays;
-        })
+        events = p.events;
+        outcomes = p.outcomes;
+        last = p.last;
+        named = p.named;
+        plays = p.plays;
+        headline = headline step group_taken address value p.events p.outcomes line p.last p.plays;
+      })
       | inr since ↦ inr since
     ]

@@ -34,7 +34,8 @@ fault_of ConnectionFailed = run.Connection
 abbrev pub batch_size : ℕ → ℕ
 batch_size window = min 8 (max 1 window)
 
--- The messages of a batch were submitted and sent, and all are acknowledged: each with its code, in so many tries of the last connection, and the server is idle again.
+-- The messages of a batch were submitted and sent, and all are acknowledged: each with its code, in so many tries of
+-- the last connection, and the server is idle again.
 pub record Acknowledges {C I O : Type 0} (opens : C → Option (I × O) → C → Type 0) (closes : C → I → O → C → Type 0) (remaining : I → Option (List ℕ)) (contents : O → Option (List ℕ)) (s : SenderOver C I O) (batch : List (List ℕ)) (told : List Code) (tries : ℕ) (s' : SenderOver C I O) : Type 0 where
   pub ended : ℕ
   pub marks : Marks
@@ -58,7 +59,8 @@ abbrev pub Tells : (lines : List ℕ) → (then : Result (Unit {0}) RunFault) �
 Tells lines then held held' result =
     (Appends held held' lines × (result ≡ then)) ⊎ (Begins held held' lines × ((result ≡ Err run.Writing) ⊎ (result ≡ Err run.OutOfMemory)))
 
--- One batch: it was sent, and then the writer got the line of each of its messages where they are acknowledged, and else the line `outstanding`.
+-- One batch: it was sent, and then the writer got the line of each of its messages where they are acknowledged, and
+-- else the line `outstanding`.
 abbrev pub SendsBatch : {C I O : Type 0} → (opens : C → Option (I × O) → C → Type 0) → (closes : C → I → O → C → Type 0) → (remaining : I → Option (List ℕ)) → (contents : O → Option (List ℕ)) → (s : SenderOver C I O) → (batch : List (List ℕ)) → (held held' : Option (List ℕ)) → Result (Unit {0}) RunFault → (s' : SenderOver C I O) → Type 0
 SendsBatch opens closes remaining contents s batch held held' result s' =
     ((told : List Code) × (tries : ℕ) × Acknowledges opens closes remaining contents s batch told tries s' × Tells (batch_lines told tries) (Ok tt) held held' result)
@@ -76,9 +78,10 @@ ended_by (Err reason) = Err (fault_of reason)
 
 -- ---- One batch after another.
 
--- The messages in so many batches of this size, of which the last may be smaller: each batch is sent, and its lines are written, before the next one is submitted, up to one that is outstanding or whose
--- lines could not be written whole, if there is one. Each batch begins where the one before ended, with the sender as that left it and the writer too, so each message is sent once, and nothing else is
--- opened, sent or written.
+-- The messages in so many batches of this size, of which the last may be smaller: each batch is sent, and its lines are
+-- written, before the next one is submitted, up to one that is outstanding or whose lines could not be written whole,
+-- if there is one. Each batch begins where the one before ended, with the sender as that left it and the writer too, so
+-- each message is sent once, and nothing else is opened, sent or written.
 abbrev pub SendsOut : {C I O : Type 0} → (opens : C → Option (I × O) → C → Type 0) → (closes : C → I → O → C → Type 0) → (remaining : I → Option (List ℕ)) → (contents : O → Option (List ℕ)) → (size batches : ℕ) → (s : SenderOver C I O) → (messages : List (List ℕ)) → (held held' : Option (List ℕ)) → Result (Unit {0}) RunFault → (s' : SenderOver C I O) → Type 0
 SendsOut opens closes remaining contents size zero s messages held held' result s' = (messages ≡ []) × (held' ≡ held) × (result ≡ Ok tt) × (s' ≡ s)
 SendsOut {C} {I} {O} opens closes remaining contents size (suc n) s messages held held' result s' =
@@ -88,7 +91,8 @@ SendsOut {C} {I} {O} opens closes remaining contents size (suc n) s messages hel
 
 -- ---- What is left to say of that where nothing is known of connections.
 
--- So many messages were acknowledged in batches of this size, of which the last may be smaller: the codes of each batch, and its number of tries, which all its messages share.
+-- So many messages were acknowledged in batches of this size, of which the last may be smaller: the codes of each
+-- batch, and its number of tries, which all its messages share.
 abbrev pub AreBatches : (size tries : ℕ) → (messages : ℕ) → List (List Code × ℕ) → Type 0
 AreBatches size tries messages [] = messages ≡ 0
 AreBatches size tries messages ((told, n) ∷ later) =

@@ -18,8 +18,8 @@ spelled_line (Some f) = encode_upper (frame_spelling f) ++ codes "\n"
 abbrev pub extended : Frame → (bytes : List ℕ) → Frame
 extended f bytes = record { address = f.address; counter = f.counter; message = f.message ++ bytes }
 
--- What a line does to the frame that was begun, if any, with the lines that it writes: a new frame has no message yet, and the
--- one before it is written; a message has at most 255 bytes.
+-- What a line does to the frame that was begun, if any, with the lines that it writes: a new frame has no message yet,
+-- and the one before it is written; a message has at most 255 bytes.
 abbrev pub Does : (before : Option Frame) → Line → (lines : List ℕ) → (after : Option Frame) → Type 0
 Does before (Begins address counter) lines after = (lines ≡ spelled_line before) × (after ≡ Some (record { address = address; counter = counter; message = [] }))
 Does before (Extends bytes) lines after = (f : Frame) × (before ≡ Some f) × (length f.message + length bytes ≤ 255) × (lines ≡ []) × (after ≡ Some (extended f bytes))
@@ -30,8 +30,8 @@ IsUndone before (Begins address counter) why = ⊥
 IsUndone None (Extends bytes) why = why ≡ NoFrame
 IsUndone (Some f) (Extends bytes) why = (why ≡ MessageTooLong) × (255 < length f.message + length bytes)
 
--- What a line of the script makes of the frame that was begun, if any: the lines that it writes, or why it is refused. A
--- refused line says nothing, or what cannot be done; it changes nothing.
+-- What a line of the script makes of the frame that was begun, if any: the lines that it writes, or why it is refused.
+-- A refused line says nothing, or what cannot be done; it changes nothing.
 abbrev pub Makes : Meaning (Option Frame)
 Makes before text (Brings lines) after = (line : Line) × Says (words_in text) line × Does before line lines after
 Makes before text (Ends lines) after = ⊥

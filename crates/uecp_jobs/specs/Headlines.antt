@@ -22,7 +22,8 @@ NameEach [] stop events = (stop ≡ None) × (events ≡ [])
 NameEach ((number, text) ∷ texts) stop [] = stop ≢ None
 NameEach ((number, text) ∷ texts) stop (event ∷ events) = Names (words text) event × NameEach texts stop events
 
--- The texts name events, each of which was a step of the line; and with the history that these steps tell the headline holds of the line that is left.
+-- The texts name events, each of which was a step of the line; and with the history that these steps tell the headline
+-- holds of the line that is left.
 pub record KeepsHeadline (address : ℕ) (value : Store) (old : LineState Store) (texts : List (ℕ × List ℕ)) (stop : Option RunFault) (line : LineState Store) : Type 0 where
   pub events : List Event
   pub outcomes : List Outcome
@@ -31,8 +32,9 @@ pub record KeepsHeadline (address : ℕ) (value : Store) (old : LineState Store)
   pub plays : PlaysSteps step group_taken old (at_first value) events outcomes line last
   pub headline : IsHeadline step group_taken address value (history_by events outcomes) line
 
--- Of the texts one starts the server again, and none behind it does. Those before it were played to their end, by a run of which the same holds as of this one; the encoder
--- joined, and kept its store; and from there, with that store as the opening one, the texts behind keep the headline.
+-- Of the texts one starts the server again, and none behind it does. Those before it were played to their end, by a run
+-- of which the same holds as of this one; the encoder joined, and kept its store; and from there, with that store as
+-- the opening one, the texts behind keep the headline.
 pub record KeepsHeadlineSince (start : LineState Store) (texts : List (ℕ × List ℕ)) (stop : Option RunFault) (line : LineState Store) : Type 0 where
   pub before : List (ℕ × List ℕ)
   pub restart : ℕ × List ℕ
@@ -47,8 +49,9 @@ pub record KeepsHeadlineSince (start : LineState Store) (texts : List (ℕ × Li
   pub restarts : Restarts step left given_up joined
   pub keeps : KeepsHeadline left.encoder.address left.encoder.value joined behind stop line
 
--- So it is after any script of `line`, taken whole or up to a refused text: with the line whose totals and store are printed where no text is refused. Either it is one line
--- from first to last, or it is a new one since the server was last started again.
+-- So it is after any script of `line`, taken whole or up to a refused text: with the line whose totals and store are
+-- printed where no text is refused. Either it is one line from first to last, or it is a new one since the server was
+-- last started again.
 abbrev pub ScriptsKeepHeadline : Type 0
 ScriptsKeepHeadline =
     (o : Options) (texts : List (ℕ × List ℕ)) (lines : List ℕ) (stop : Option RunFault) (line : LineState Store) →

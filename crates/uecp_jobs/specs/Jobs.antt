@@ -24,7 +24,8 @@ IsLocal (Encoder site encoder sets services port connections turns) = ⊥
 IsLocal (Server site encoder host port tries timeout turns reconnects window join) = ⊥
 IsLocal job = Unit {0}
 
--- What is told of a job by its command: by what texts mean to it, the value that it begins with, and its closing lines. The jobs with connections are told of apart.
+-- What is told of a job by its command: by what texts mean to it, the value that it begins with, and its closing lines.
+-- The jobs with connections are told of apart.
 abbrev pub ByCommand : Job → ((V : Type 0) → Meaning V → (start : V) → (closing : V → List ℕ) → Type 0) → Type 0
 ByCommand Show tells = tells _ Shows Closed (λ part. [])
 ByCommand Make tells = tells _ Makes None spelled_line
@@ -33,11 +34,13 @@ ByCommand (Line site encoder sets services store) tells = tells _ Plays (line_at
 ByCommand (Server site encoder host port tries timeout turns reconnects window join) tells = ⊥
 ByCommand (Encoder site encoder sets services port connections turns) tells = ⊥
 
--- What the job writes of an input: the lines of the texts, and the closing ones where no line is refused; the result names the refused line.
+-- What the job writes of an input: the lines of the texts, and the closing ones where no line is refused; the result
+-- names the refused line.
 abbrev pub JobPrints : Job → (input : List ℕ) → Result (Unit {0}) RunFault → (written : List ℕ) → Type 0
 JobPrints job input result written = ByCommand job (λ V meaning start closing. Prints meaning start closing input result written)
 
--- The job failed for this: its input was not read to its end, and nothing was written; or it was, and what was written is a beginning of what the job writes of it.
+-- The job failed for this: its input was not read to its end, and nothing was written; or it was, and what was written
+-- is a beginning of what the job writes of it.
 abbrev pub JobBreaks : Job → (unread unread' : Option (List ℕ)) → (held held' : Option (List ℕ)) → RunFault → Type 0
 JobBreaks job unread unread' held held' fault = ByCommand job (λ V meaning start closing. Breaks meaning start closing unread unread' held held' fault)
 
@@ -73,7 +76,8 @@ DoesJob job unread unread' held held' result = ((fault : RunFault) × (result �
 abbrev pub IsDone : Job → (unread unread' held held' : Option (List ℕ)) → Type 0
 IsDone job unread unread' held held' = IsDescribed job × Wrote job unread unread' (Ok tt) held held'
 
--- A line was refused: what the lines before it bring was written, and what is wrong with it was said on standard error, or begun to be said.
+-- A line was refused: what the lines before it bring was written, and what is wrong with it was said on standard error,
+-- or begun to be said.
 abbrev pub IsRefused : Job → (unread unread' held held' told told' : Option (List ℕ)) → Type 0
 IsRefused job unread unread' held held' told told' =
     (fault : RunFault) × (status_of fault ≡ 1) × Wrote job unread unread' (Err fault) held held' × Begins told told' (error_lines fault)
@@ -82,6 +86,7 @@ IsRefused job unread unread' held held' told told' =
 abbrev pub IsUndescribed : Job → (told told' : Option (List ℕ)) → Type 0
 IsUndescribed job told told' = (fault : RunFault) × RefusesJob job fault × Begins told told' (error_lines fault)
 
--- Memory, reading or writing failed, and that was said, or begun to be said. What was written is a beginning of what the job writes of its input, and nothing where that was not read to its end.
+-- Memory, reading or writing failed, and that was said, or begun to be said. What was written is a beginning of what
+-- the job writes of its input, and nothing where that was not read to its end.
 abbrev pub HasFailed : Job → (unread unread' held held' told told' : Option (List ℕ)) → Type 0
 HasFailed job unread unread' held held' told told' = (fault : RunFault) × JobBreaks job unread unread' held held' fault × Begins told told' (error_lines fault)

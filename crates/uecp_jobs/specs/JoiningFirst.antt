@@ -29,7 +29,8 @@ abbrev pub joining_end : Result (Unit {0}) Outstanding → Result (Unit {0}) Run
 joining_end (Ok done) = Ok tt
 joining_end (Err reason) = Err (fault_of reason)
 
--- What a sender did that was to join its encoder, by how that went: what connection it had was let go, and then passes were made over new ones. It may send as often as before, and holds no message.
+-- What a sender did that was to join its encoder, by how that went: what connection it had was let go, and then passes
+-- were made over new ones. It may send as often as before, and holds no message.
 pub record Joins {C I O : Type 0} (opens : C → Option (I × O) → C → Type 0) (closes : C → I → O → C → Type 0) (remaining : I → Option (List ℕ)) (contents : O → Option (List ℕ)) (s s' : SenderOver C I O) (result : Result (Unit {0}) Outstanding) : Type 0 where
   pub first : SenderOver C I O
   pub ended : ℕ
@@ -38,8 +39,9 @@ pub record Joins {C I O : Type 0} (opens : C → Option (I × O) → C → Type 
   pub tries : s'.sender.tries ≡ s.sender.tries
   pub idle : s'.sender.server.held ≡ []
 
--- Before its first message a server does nothing; or where that is asked for it joins its encoder, and then the writer gets the line of that. Where the encoder could not be joined, or
--- the line not be written whole, the run ends for this.
+-- Before its first message a server does nothing; or where that is asked for it joins its encoder, and then the writer
+-- gets the line of that. Where the encoder could not be joined, or the line not be written whole, the run ends for
+-- this.
 abbrev pub JoinsFirst : {C I O : Type 0} → (opens : C → Option (I × O) → C → Type 0) → (closes : C → I → O → C → Type 0) → (remaining : I → Option (List ℕ)) → (contents : O → Option (List ℕ)) → (join : Bool) → (s : SenderOver C I O) → (held held' : Option (List ℕ)) → Result (Unit {0}) RunFault → (s' : SenderOver C I O) → Type 0
 JoinsFirst opens closes remaining contents false s held held' result s' = (s' ≡ s) × (held' ≡ held) × (result ≡ Ok tt)
 JoinsFirst opens closes remaining contents true s held held' result s' =
@@ -48,7 +50,8 @@ JoinsFirst opens closes remaining contents true s held held' result s' =
 
 -- ---- What is left to say of that where nothing is known of connections.
 
--- What the writer got where the run ended before the first message for this: that the encoder could not be joined; or a beginning of what is said of that, or of an encoder that was joined.
+-- What the writer got where the run ended before the first message for this: that the encoder could not be joined; or a
+-- beginning of what is said of that, or of an encoder that was joined.
 abbrev pub StopsJoining : (held held' : Option (List ℕ)) → RunFault → Type 0
 StopsJoining held held' run.Outstanding = Appends held held' not_joined_line
 StopsJoining held held' run.Connection = Appends held held' not_joined_line

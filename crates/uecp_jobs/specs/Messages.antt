@@ -12,7 +12,8 @@ abbrev pub message_of : {E : Type 0} → Result (List ℕ) E → Result (List �
 message_of (Ok bytes) = if nat_le (length bytes) 255 then Ok bytes else Err MessageTooLong
 message_of (Err fault) = Err NotHex
 
--- The message that a text spells, or why it spells none: a hyphen spells the empty one, hexadecimal digits with the spaces taken out any other.
+-- The message that a text spells, or why it spells none: a hyphen spells the empty one, hexadecimal digits with the
+-- spaces taken out any other.
 abbrev pub spelled : List ℕ → Result (List ℕ) LineFault
 spelled text = if pointwise (λ a b. a == b) text (codes "-") then Ok [] else message_of (bytes_in text)
 

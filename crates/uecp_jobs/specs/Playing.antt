@@ -17,13 +17,15 @@ use Rattle.uecp_text.specs.Run.{Meaning, Brings, Ends}
 use Rattle.uecp_text.specs.Run.{Refuses as Declines}
 use Rattle.uecp_text.specs.declared.line_fault.LineFault.TheVariants.{OutOfMemory}
 
--- The event takes place: the line goes on as the once-machine does, from whatever of its values the line holds, and this is said of what it answers.
+-- The event takes place: the line goes on as the once-machine does, from whatever of its values the line holds, and
+-- this is said of what it answers.
 pub record TakesPlace (old : LineState Store) (event : Event) (lines : List ℕ) (new : LineState Store) : Type 0 where
   pub answer : Stepped
   pub said : lines ≡ step_words (Ok answer) (named_message event) ++ codes "\n"
   pub steps : (o : Once Store) → Holds old o → StepsAs step group_taken old o event answer new
 
--- The event is refused, as the once-machine refuses it, or for want of memory: the line stays as it was, and this is said of the refusal.
+-- The event is refused, as the once-machine refuses it, or for want of memory: the line stays as it was, and this is
+-- said of the refusal.
 pub record IsRefused (old : LineState Store) (event : Event) (lines : List ℕ) (new : LineState Store) : Type 0 where
   pub refusal : LineRefusal
   pub said : lines ≡ step_words (Err refusal) (named_message event) ++ codes "\n"
@@ -45,8 +47,8 @@ pub record PlaysRestart (old : LineState Store) (text lines : List ℕ) (new : L
   pub said : lines ≡ given_up_line given_up
   pub restarts : Restarts step old given_up new
 
--- To `line` a text whose words name an event brings the lines that say what came of it, and so does one whose words start the server again; any other text is refused
--- for what is wrong with its words, and nothing has changed.
+-- To `line` a text whose words name an event brings the lines that say what came of it, and so does one whose words
+-- start the server again; any other text is refused for what is wrong with its words, and nothing has changed.
 abbrev pub Plays : Meaning (LineState Store)
 Plays line text (Brings lines) line' = PlaysNamed line text lines line' ⊎ PlaysRestart line text lines line'
 Plays line text (Ends lines) line' = ⊥

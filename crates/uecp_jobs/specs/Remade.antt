@@ -9,7 +9,8 @@ use Rattle.uecp_text.specs.declared.run_fault.RunFault.{RunFault}
 use Rattle.uecp_text.specs.Run.{Prints}
 use Rattle.uecp_jobs.specs.FrameScript.{Makes, spelled_line}
 
--- A frame whose message has no fault: an address of 16 bits, a counter of 8, and at most 255 bytes that read as elements to their end.
+-- A frame whose message has no fault: an address of 16 bits, a counter of 8, and at most 255 bytes that read as
+-- elements to their end.
 pub record IsWhole (f : Frame) : Type 0 where
   pub address : f.address < 0x10000
   pub counter : f.counter < 0x100

@@ -41,14 +41,16 @@ RunsSender {C} {I} {O} opens closes remaining contents join size s messages held
     ((begun : SenderOver C I O) × (between : Option (List ℕ)) × (batches : ℕ) × JoinsFirst opens closes remaining contents join s held between (Ok tt) begun × SendsOut opens closes remaining contents size batches begun messages between held' result s')
     ⊎ ((fault : RunFault) × JoinsFirst opens closes remaining contents join s held held' (Err fault) s' × (result ≡ Err fault))
 
--- These messages were sent by one sender, new, to a server's encoder at this address, over connections that came from there, and this is left of that: no connection was opened but to join the encoder, where
--- that was asked for, and for these batches, and nothing else was done on one.
+-- These messages were sent by one sender, new, to a server's encoder at this address, over connections that came from
+-- there, and this is left of that: no connection was opened but to join the encoder, where that was asked for, and for
+-- these batches, and nothing else was done on one.
 abbrev pub SendsMessages : {C I O : Type 0} → (opens : C → Option (I × O) → C → Type 0) → (closes : C → I → O → C → Type 0) → (remaining : I → Option (List ℕ)) → (contents : O → Option (List ℕ)) → (address : ℕ) → Limits → (join : Bool) → (size : ℕ) → (messages : List (List ℕ)) → C → C → (held held' : Option (List ℕ)) → Result (Unit {0}) RunFault → Type 0
 SendsMessages {C} {I} {O} opens closes remaining contents address limits join size messages c c' held held' result =
     (loan : ℕ) × (s' : SenderOver C I O)
     × RunsSender opens closes remaining contents join size (unconnected c loan (sender_at_first address limits)) messages held held' result s' × Finishes closes c' s'
 
--- The options of the job describe one encoder. The input was read to its end; the messages of its lines, or of those before the first that is refused, were sent to that encoder, as far as the result says.
+-- The options of the job describe one encoder. The input was read to its end; the messages of its lines, or of those
+-- before the first that is refused, were sent to that encoder, as far as the result says.
 abbrev pub Sends : {C I O : Type 0} → (opens : C → Option (I × O) → C → Type 0) → (closes : C → I → O → C → Type 0) → (remaining : I → Option (List ℕ)) → (contents : O → Option (List ℕ)) → Job → (input : List ℕ) → C → C → (unread unread' held held' : Option (List ℕ)) → Result (Unit {0}) RunFault → Type 0
 Sends opens closes remaining contents (Server site encoder host port tries timeout turns reconnects window join) input c c' unread unread' held held' result =
     IsOneEncoder site encoder × IsInput unread unread' input
@@ -59,7 +61,8 @@ Sends opens closes remaining contents job input c c' unread unread' held held' r
 abbrev pub SendsNone : (unread unread' held held' : Option (List ℕ)) → RunFault → Type 0
 SendsNone unread unread' held held' fault = (IsUnread unread unread' fault ⊎ ((input : List ℕ) × IsInput unread unread' input × (fault ≡ run.OutOfMemory))) × (held' ≡ held)
 
--- The messages were sent up to this fault: that of the first line that is refused, before which all are acknowledged; or that of a batch (private).
+-- The messages were sent up to this fault: that of the first line that is refused, before which all are acknowledged;
+-- or that of a batch (private).
 abbrev pub SendsUpTo : {C I O : Type 0} → (opens : C → Option (I × O) → C → Type 0) → (closes : C → I → O → C → Type 0) → (remaining : I → Option (List ℕ)) → (contents : O → Option (List ℕ)) → Job → C → C → (unread unread' held held' : Option (List ℕ)) → RunFault → Type 0
 SendsUpTo opens closes remaining contents job c c' unread unread' held held' fault =
     (input : List ℕ)
@@ -71,20 +74,23 @@ abbrev pub HasSentAll : {C I O : Type 0} → (opens : C → Option (I × O) → 
 HasSentAll opens closes remaining contents job c c' unread unread' held held' =
     (input : List ℕ) × Sends opens closes remaining contents job input c c' unread unread' held held' (Ok tt) × (refusal_in (texts_of input) ≡ None)
 
--- The messages before the first line that is refused were sent and acknowledged; and that line's number and fault were said, or begun to be said.
+-- The messages before the first line that is refused were sent and acknowledged; and that line's number and fault were
+-- said, or begun to be said.
 abbrev pub HasSentBefore : {C I O : Type 0} → (opens : C → Option (I × O) → C → Type 0) → (closes : C → I → O → C → Type 0) → (remaining : I → Option (List ℕ)) → (contents : O → Option (List ℕ)) → Job → C → C → (unread unread' held held' told told' : Option (List ℕ)) → Type 0
 HasSentBefore opens closes remaining contents job c c' unread unread' held held' told told' =
     (input : List ℕ) × (fault : RunFault) × Sends opens closes remaining contents job input c c' unread unread' held held' (Ok tt) × (refusal_in (texts_of input) ≡ Some fault)
     × Begins told told' (error_lines fault)
 
--- A batch is outstanding, or its lines could not be written whole; or the encoder could not be joined; or nothing was sent, and no connection opened. That was said, or begun to be said; where the tries are spent nothing is said.
+-- A batch is outstanding, or its lines could not be written whole; or the encoder could not be joined; or nothing was
+-- sent, and no connection opened. That was said, or begun to be said; where the tries are spent nothing is said.
 abbrev pub HasNotSentAll : {C I O : Type 0} → (opens : C → Option (I × O) → C → Type 0) → (closes : C → I → O → C → Type 0) → (remaining : I → Option (List ℕ)) → (contents : O → Option (List ℕ)) → Job → C → C → (unread unread' held held' told told' : Option (List ℕ)) → Type 0
 HasNotSentAll opens closes remaining contents job c c' unread unread' held held' told told' =
     (fault : RunFault) × Begins told told' (error_lines fault)
     × ((SendsNone unread unread' held held' fault × (c' ≡ c)) ⊎ ((input : List ℕ) × Sends opens closes remaining contents job input c c' unread unread' held held' (Err fault)))
 
 -- ---- how it ends, where nothing is known of connections
--- All messages of the input were acknowledged, and the writer got the lines of that, one for each message, in order, after the line of the encoder that was joined where that was asked for.
+-- All messages of the input were acknowledged, and the writer got the lines of that, one for each message, in order,
+-- after the line of the encoder that was joined where that was asked for.
 abbrev pub AreAcknowledged : Job → (unread unread' held held' : Option (List ℕ)) → Type 0
 AreAcknowledged (Server site encoder host port tries timeout turns reconnects window join) unread unread' held held' =
     IsOneEncoder site encoder
@@ -92,7 +98,8 @@ AreAcknowledged (Server site encoder host port tries timeout turns reconnects wi
     × Appends held held' (joined_line join ++ lines_of_batches batches))
 AreAcknowledged job unread unread' held held' = ⊥
 
--- The messages before the first line that is refused were acknowledged, the writer got the lines of that and no other line, and what is wrong with that line was said, or begun to be said.
+-- The messages before the first line that is refused were acknowledged, the writer got the lines of that and no other
+-- line, and what is wrong with that line was said, or begun to be said.
 abbrev pub AreAcknowledgedBefore : Job → (unread unread' held held' told told' : Option (List ℕ)) → Type 0
 AreAcknowledgedBefore (Server site encoder host port tries timeout turns reconnects window join) unread unread' held held' told told' =
     IsOneEncoder site encoder
@@ -108,7 +115,8 @@ AreFirstBatches size tries messages batches = AreBatches size tries (size * leng
 abbrev pub IsOutstanding : (size tries messages : ℕ) → (held held' : Option (List ℕ)) → Type 0
 IsOutstanding size tries messages held held' = (batches : List (List Code × ℕ)) × AreFirstBatches size tries messages batches × Appends held held' (lines_of_batches batches ++ codes "outstanding\n")
 
--- Writing or memory failed: the writer got a beginning of the lines of all batches, or of some first ones and the line `outstanding`.
+-- Writing or memory failed: the writer got a beginning of the lines of all batches, or of some first ones and the line
+-- `outstanding`.
 abbrev pub IsBegun : (size tries messages : ℕ) → (held held' : Option (List ℕ)) → Type 0
 IsBegun size tries messages held held' =
     (batches : List (List Code × ℕ))
@@ -123,8 +131,9 @@ BreaksOff size tries messages held held' run.Writing = IsBegun size tries messag
 BreaksOff size tries messages held held' run.OutOfMemory = IsBegun size tries messages held held'
 BreaksOff size tries messages held held' fault = ⊥
 
--- What the writer got of so many messages where a run that began so ended for this: the line of the encoder that was joined, where that was asked for, and then what it got where sending them ended; or what it
--- got where the encoder could not be joined, and then no message was sent.
+-- What the writer got of so many messages where a run that began so ended for this: the line of the encoder that was
+-- joined, where that was asked for, and then what it got where sending them ended; or what it got where the encoder
+-- could not be joined, and then no message was sent.
 abbrev pub BreaksRun : (join : Bool) (size tries messages : ℕ) → (held held' : Option (List ℕ)) → RunFault → Type 0
 BreaksRun join size tries messages held held' fault =
     ((between : Option (List ℕ)) × Appends held between (joined_line join) × BreaksOff size tries messages between held' fault) ⊎ ((join ≡ true) × StopsJoining held held' fault)

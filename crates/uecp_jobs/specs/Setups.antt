@@ -21,7 +21,8 @@ IsOneEncoder site encoder = (1 ≤ site) × (site ≤ 1023) × (1 ≤ encoder) �
 abbrev pub address_of : (site encoder : ℕ) → ℕ
 address_of site encoder = site * 64 + encoder
 
--- The options that describe an encoder: its site, its number there, how many data sets it has, and its services, the main one first.
+-- The options that describe an encoder: its site, its number there, how many data sets it has, and its services, the
+-- main one first.
 pub record Options : Type 0 where
   pub site : ℕ
   pub encoder : ℕ
@@ -49,7 +50,8 @@ abbrev pub SaysStoreFault : StoreFault → RunFault → Type 0
 SaysStoreFault store.OutOfMemory fault = fault ≡ OutOfMemory
 SaysStoreFault refusal fault = (name : Bor (List ℕ)) × (fault ≡ Services name) × (name.now ≡ name_of refusal)
 
--- The options describe no encoder, and this is said: the first fault of the services, else that the address is not that of one encoder.
+-- The options describe no encoder, and this is said: the first fault of the services, else that the address is not that
+-- of one encoder.
 abbrev pub RefusesSetup : Options → RunFault → Type 0
 RefusesSetup o fault =
     ((refusal : StoreFault) × (fault_of o.sets o.services ≡ Some refusal) × SaysStoreFault refusal fault)

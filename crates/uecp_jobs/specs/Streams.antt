@@ -1,4 +1,5 @@
--- Where no text is refused, what `show` and `answer` write of their pieces depends on the bytes alone, and not on the lines on which these stand; laws (profile).
+-- Where no text is refused, what `show` and `answer` write of their pieces depends on the bytes alone, and not on the
+-- lines on which these stand; laws (profile).
 use Rattle.std.specs.Prelude.{◌≡◌, ℕ, List, [], ◌∷◌, ◌++◌, flat_map, None, Ok}
 use Rattle.rds_store.specs.Value.{Store}
 use Rattle.rds_store.specs.Step.{step}
@@ -15,13 +16,15 @@ abbrev pub Spell : List (ℕ × List ℕ) → List ℕ → Type 0
 Spell [] bytes = bytes ≡ []
 Spell ((number, text) ∷ texts) bytes = (piece : List ℕ) × (rest : List ℕ) × (bytes_in text ≡ Ok piece) × (bytes ≡ piece ++ rest) × Spell texts rest
 
--- Where no text is refused, `show` writes the lines of what stands in the bytes that its pieces spell, joined: frames and faults, found in one stream.
+-- Where no text is refused, `show` writes the lines of what stands in the bytes that its pieces spell, joined: frames
+-- and faults, found in one stream.
 abbrev pub ShowsOneStream : Type 0
 ShowsOneStream =
     (texts : List (ℕ × List ℕ)) (lines : List ℕ) (left : OpenPart) → Runs Shows Closed texts lines None left →
     (bytes : List ℕ) × Spell texts bytes × (lines ≡ flat_map finding_lines (found bytes))
 
--- Where no text is refused, `answer` writes the lines of what the encoder responds to those bytes as one piece, and leaves the encoder that was fed them.
+-- Where no text is refused, `answer` writes the lines of what the encoder responds to those bytes as one piece, and
+-- leaves the encoder that was fed them.
 abbrev pub AnswersOneStream : Type 0
 AnswersOneStream =
     (e e' : EncoderState Store) (texts : List (ℕ × List ℕ)) (lines : List ℕ) → Runs Answers e texts lines None e' →

@@ -27,8 +27,8 @@ pub struct Answering {
 }
 
 impl Answering {
-    /// The encoder that the options describe, with an opening store, before any piece. The services are judged before the
-    /// address; `OutOfMemory` where there is no memory.
+    /// The encoder that the options describe, with an opening store, before any piece. The services are judged before
+    /// the address; `OutOfMemory` where there is no memory.
     pub fn new(alloc: Global, setup: &Setup<'_>, store: bool) -> Result<Answering, RunFault>
         ensures described { IfOk result (λ a. IsSetup (options_of setup.now)) }
         ensures made { IfOk result (λ a. (a.encoder ≡ encoder_at_first (options_of setup.now)) × (a.store ≡ store)) }

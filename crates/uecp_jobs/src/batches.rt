@@ -1,4 +1,5 @@
-//! What a sender does and what is said of it: it joins its encoder first, and then sends its messages, batch by batch (profile).
+//! What a sender does and what is said of it: it joins its encoder first, and then sends its messages, batch by batch
+//! (profile).
 ghost use Rattle.std.specs.Prelude.{◌≡◌, ◌≢◌, ℕ, ◌+◌, ◌≤◌, [], length, IfOk};
 ghost use Rattle.uecp_text.specs.Written.{Adds};
 ghost use Rattle.uecp_net.specs.Sending.{submitted_all};

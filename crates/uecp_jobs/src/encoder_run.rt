@@ -18,8 +18,8 @@ use uecp_encoder::{Encoder, ServeFault, Served, Target};
 use uecp_net::{Connect, serve_connection};
 use uecp_text::{Output, RunFault};
 
-/// Does the job of `encoder` and answers the exit status: 0 done, 2 the services were refused, 3 there was no connection to be
-/// had, or memory or writing failed. Each line is written out before the next connection is opened.
+/// Does the job of `encoder` and answers the exit status: 0 done, 2 the services were refused, 3 there was no
+/// connection to be had, or memory or writing failed. Each line is written out before the next connection is opened.
 pub fn run_encoder<W: Write, E: Write, C: Connect>(
     alloc: Global,
     job: &Job,
@@ -33,7 +33,8 @@ pub fn run_encoder<W: Write, E: Write, C: Connect>(
     ensures done { result ≡ 0 → ServedAll C.opens C.closes C.Input.remaining C.Output.contents job.now connect.old connect.new (W.contents writer.old) (W.contents writer.new) × (errors.new ≡ errors.old) }
     // 2: the options describe no encoder. No connection was opened, and nothing was written.
     ensures undescribed { result ≡ 2 → IsUndescribed job.now (E.contents errors.old) (E.contents errors.new) × (writer.new ≡ writer.old) × (connect.new ≡ connect.old) }
-    // 3: there was no connection to be had, and each that was served has its line; or memory or writing failed, and a beginning of the lines of those that were served was written.
+    // 3: there was no connection to be had, and each that was served has its line; or memory or writing failed, and a
+    // beginning of the lines of those that were served was written.
     ensures failed { result ≡ 3 → HasNotListened C.opens C.closes C.Input.remaining C.Output.contents job.now connect.old connect.new (W.contents writer.old) (W.contents writer.new) (E.contents errors.old) (E.contents errors.new) ⊎ HasBroken C.opens C.closes C.Input.remaining C.Output.contents job.now connect.old connect.new (W.contents writer.old) (W.contents writer.new) (E.contents errors.old) (E.contents errors.new) }
 {
     match serve_all(alloc, job, writer, connect) {
@@ -97,7 +98,8 @@ fn serve_connections<T: Target, C: Connect, W: Write>(
         × Sessions T.step C.opens C.closes C.Input.remaining C.Output.contents turns encoder.old connect.old outcomes encoder.new last
         × C.opens last None connect.new
         × Appends (W.contents writer.old) (W.contents writer.new) (connection_lines 1 outcomes) }
-    // There was no memory for the line of the last one that was served, or writing failed: the writer got a beginning of the lines.
+    // There was no memory for the line of the last one that was served, or writing failed: the writer got a beginning
+    // of the lines.
     ensures broken { IfErr result (λ fault. fault ≢ Listening → (outcomes : List Outcome) × (length outcomes ≤ connections)
         × Sessions T.step C.opens C.closes C.Input.remaining C.Output.contents turns encoder.old connect.old outcomes encoder.new connect.new
         × Begins (W.contents writer.old) (W.contents writer.new) (connection_lines 1 outcomes)) }

@@ -1,7 +1,8 @@
-//! The jobs of the program `uecp`, from their input to their exit status, for every reader, writer and source of connections.
+//! The jobs of the program `uecp`, from their input to their exit status, for every reader, writer and source of
+//! connections.
 //!
-//! A [`Job`] is a command with its options. [`run_job`], [`run_encoder`] and [`run_server`] do it and answer the exit status, 0 to 3
-//! whatever the input is. The crate knows no command line and no machine.
+//! A [`Job`] is a command with its options. [`run_job`], [`run_encoder`] and [`run_server`] do it and answer the exit
+//! status, 0 to 3 whatever the input is. The crate knows no command line and no machine.
 #![tactic(auto)]
 
 mod answering;

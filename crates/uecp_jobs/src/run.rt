@@ -15,9 +15,10 @@ use std::alloc::Global;
 use std::io::{Read, Write};
 use uecp_text::{RunFault, report, run};
 
-/// Does the job of a command without a connection and answers the exit status: 0 done, 1 a line was refused, 2 the services were refused, 3 memory, reading or
-/// writing failed. The output of the lines before a refusal is written all the same. Why a run stopped is said on `errors`, as
-/// far as that takes it; nothing is said there of a job that was done.
+/// Does the job of a command without a connection and answers the exit status: 0 done, 1 a line was refused, 2 the
+/// services were refused, 3 memory, reading or writing failed. The output of the lines before a refusal is written all
+/// the same. Why a run stopped is said on `errors`, as far as that takes it; nothing is said there of a job that was
+/// done.
 pub fn run_job<R: Read, W: Write, E: Write>(
     alloc: Global,
     job: &Job,
@@ -27,13 +28,16 @@ pub fn run_job<R: Read, W: Write, E: Write>(
 ) -> u8
     requires { IsLocal job.now }
     ensures status { result ≤ 3 }
-    // 0: the options describe an encoder, and what the job writes of the whole input was written. Nothing was said on `errors`.
+    // 0: the options describe an encoder, and what the job writes of the whole input was written. Nothing was said on
+    // `errors`.
     ensures done { result ≡ 0 → IsDone job.now (R.remaining reader.old) (R.remaining reader.new) (W.contents writer.old) (W.contents writer.new) × (errors.new ≡ errors.old) }
-    // 1: a line was refused, what the job writes of the lines before it was written, and the line's number and fault were said.
+    // 1: a line was refused, what the job writes of the lines before it was written, and the line's number and fault
+    // were said.
     ensures refused { result ≡ 1 → IsRefused job.now (R.remaining reader.old) (R.remaining reader.new) (W.contents writer.old) (W.contents writer.new) (E.contents errors.old) (E.contents errors.new) }
     // 2: the options describe no encoder. Nothing was read or written.
     ensures undescribed { result ≡ 2 → IsUndescribed job.now (E.contents errors.old) (E.contents errors.new) × (reader.new ≡ reader.old) × (writer.new ≡ writer.old) }
-    // 3: memory, reading or writing failed, that was said, and what was written is a beginning of what the job writes of its input.
+    // 3: memory, reading or writing failed, that was said, and what was written is a beginning of what the job writes
+    // of its input.
     ensures failed { result ≡ 3 → HasFailed job.now (R.remaining reader.old) (R.remaining reader.new) (W.contents writer.old) (W.contents writer.new) (E.contents errors.old) (E.contents errors.new) }
 {
     match do_job(alloc, job, reader, writer) {
@@ -94,7 +98,8 @@ fn do_job<R: Read, W: Write>(
     }
 }
 
-/// Says on the writer of errors why a run stopped, and answers its status. A text that can't be written changes nothing.
+/// Says on the writer of errors why a run stopped, and answers its status. A text that can't be written changes
+/// nothing.
 pub fn fail<E: Write>(fault: &RunFault, errors: &mut E) -> u8
     ensures status { result ≡ status_of fault.now }
     ensures said { Begins (E.contents errors.old) (E.contents errors.new) (error_lines fault.now) }

@@ -17,9 +17,9 @@ use uecp_link::Server;
 use uecp_net::{Connect, Limits, Sender};
 use uecp_text::{RunFault, read_all};
 
-/// Does the job of `server` and answers the exit status: 0 done, 1 a line was refused, 2 the address was refused, 3 a batch of
-/// messages is outstanding, or memory, reading or writing failed. The input is read to its end before the first message is sent;
-/// what is said of a batch is written out before the next one is sent.
+/// Does the job of `server` and answers the exit status: 0 done, 1 a line was refused, 2 the address was refused, 3 a
+/// batch of messages is outstanding, or memory, reading or writing failed. The input is read to its end before the
+/// first message is sent; what is said of a batch is written out before the next one is sent.
 pub fn run_server<R: Read, W: Write, E: Write, C: Connect>(
     alloc: Global,
     job: &Job,
@@ -30,17 +30,20 @@ pub fn run_server<R: Read, W: Write, E: Write, C: Connect>(
 ) -> u8
     requires { IsServer job.now }
     ensures status { result ≤ 3 }
-    // 0: all messages of the input were sent, each once, and acknowledged, and no line was refused. Nothing was said on `errors`.
+    // 0: all messages of the input were sent, each once, and acknowledged, and no line was refused. Nothing was said on
+    // `errors`.
     ensures sent { result ≡ 0 → HasSentAll C.opens C.closes C.Input.remaining C.Output.contents job.now connect.old connect.new (R.remaining reader.old) (R.remaining reader.new) (W.contents writer.old) (W.contents writer.new) × (errors.new ≡ errors.old) }
     // 0: so there is one line for each message, in order.
     ensures acknowledged { result ≡ 0 → AreAcknowledged job.now (R.remaining reader.old) (R.remaining reader.new) (W.contents writer.old) (W.contents writer.new) }
-    // 1: a line was refused, the messages before it were sent, each once, and acknowledged, and the line's number and fault were said.
+    // 1: a line was refused, the messages before it were sent, each once, and acknowledged, and the line's number and
+    // fault were said.
     ensures sent_before { result ≡ 1 → HasSentBefore C.opens C.closes C.Input.remaining C.Output.contents job.now connect.old connect.new (R.remaining reader.old) (R.remaining reader.new) (W.contents writer.old) (W.contents writer.new) (E.contents errors.old) (E.contents errors.new) }
     // 1: so there is one line for each of those messages, in order.
     ensures acknowledged_before { result ≡ 1 → AreAcknowledgedBefore job.now (R.remaining reader.old) (R.remaining reader.new) (W.contents writer.old) (W.contents writer.new) (E.contents errors.old) (E.contents errors.new) }
     // 2: the address is not that of one encoder. No connection was opened, and nothing was read or written.
     ensures undescribed { result ≡ 2 → IsUndescribed job.now (E.contents errors.old) (E.contents errors.new) × (reader.new ≡ reader.old) × (writer.new ≡ writer.old) × (connect.new ≡ connect.old) }
-    // 3: a batch is outstanding, and not before its tries and its connections are spent; or memory or writing failed behind a batch; or nothing was sent.
+    // 3: a batch is outstanding, and not before its tries and its connections are spent; or memory or writing failed
+    // behind a batch; or nothing was sent.
     ensures not_sent { result ≡ 3 → HasNotSentAll C.opens C.closes C.Input.remaining C.Output.contents job.now connect.old connect.new (R.remaining reader.old) (R.remaining reader.new) (W.contents writer.old) (W.contents writer.new) (E.contents errors.old) (E.contents errors.new) }
     // 3: so the lines of the batches before that were written, and then that it is outstanding; or a beginning of that.
     ensures not_acknowledged { result ≡ 3 → AreNotAcknowledged job.now (R.remaining reader.old) (R.remaining reader.new) (W.contents writer.old) (W.contents writer.new) (E.contents errors.old) (E.contents errors.new) }
@@ -121,7 +124,8 @@ fn batch_size(window: u8) -> usize
     usize::from(window.clamp(1, 8))
 }
 
-/// Sends these messages to the encoder at this address, by one sender, in batches of this size. The encoder is joined first where that is asked for.
+/// Sends these messages to the encoder at this address, by one sender, in batches of this size. The encoder is joined
+/// first where that is asked for.
 fn send_messages<W: Write, C: Connect>(
     alloc: Global,
     messages: &[Message],

@@ -51,7 +51,8 @@ lines_at v set number = option_map_or (service_lines set number) (get v.places (
 abbrev pub set_lines : Store → (set : ℕ) → List ℕ
 set_lines v set = flat_map (lines_at v set) v.services
 
--- The lines of a store: the current set, the services of each set, set 1 first, and the groups that wait, the first first.
+-- The lines of a store: the current set, the services of each set, set 1 first, and the groups that wait, the first
+-- first.
 abbrev pub store_lines : Store → List ℕ
 store_lines v =
     counted (codes "current") v.current ++ codes "\n" ++ flat_map (set_lines v) (set_numbers v.sets) ++ flat_map group_line v.groups

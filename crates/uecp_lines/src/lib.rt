@@ -1,8 +1,8 @@
-//! What there is to say, as lines of output: frames with their elements, segments that are no frames, what an encoder answers, what
-//! came of an event, the totals of a line, and a store.
+//! What there is to say, as lines of output: frames with their elements, segments that are no frames, what an encoder
+//! answers, what came of an event, the totals of a line, and a store.
 //!
-//! Each function adds exactly the lines of the value that it is given. The crate decides nothing and reads no text: a caller
-//! has the value from the crates below.
+//! Each function adds exactly the lines of the value that it is given. The crate decides nothing and reads no text: a
+//! caller has the value from the crates below.
 //!
 //! - [`put_found`], [`put_answer`], [`put_step`]: the lines of one finding, answer or event.
 //! - [`put_given_up`]: the line of a server that was started again.

@@ -1,5 +1,5 @@
--- A pass over one line: what of it has come is so many of its frames and a beginning of the next, and what of the replies was read is so many of them and a beginning
--- of the next.
+-- A pass over one line: what of it has come is so many of its frames and a beginning of the next, and what of the
+-- replies was read is so many of them and a beginning of the next.
 use Rattle.std.proofs.Common.{◌≡◌, ℕ, List, [], ◌∷◌, ◌++◌, map, Contains, refl, ◌∙◌, ap, sym, subst, arith, append_assoc}
 use Rattle.std.specs.Prelude.{filter_map, flat_map}
 use Rattle.std.specs.List.{concat}

@@ -84,7 +84,8 @@ line_ready e ready shut = record {
 }
 
 module _ {V : Type 0} (step : Step V) (taken : Taken V) (address : ℕ) (opening : V) where
-  -- the state is that of a line to this address, it holds what the once-machine holds, and that has the value and the codes of its history
+  -- the state is that of a line to this address, it holds what the once-machine holds, and that has the value and the
+  -- codes of its history
   pub record Follows (line : LineState V) (o : Once V) (acts : List Act) : Type 0 where
     pub is_line : IsLine line
     pub at_address : line.encoder.address ≡ address

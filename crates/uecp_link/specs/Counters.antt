@@ -1,4 +1,5 @@
--- Counters of numbered messages, and how late one may come; a reader has to believe it. Source: RDS Forum SPB 490, sequence counter, for the range; profile for the rest.
+-- Counters of numbered messages, and how late one may come; a reader has to believe it. Source: RDS Forum SPB 490,
+-- sequence counter, for the range; profile for the rest.
 use Rattle.std.specs.Prelude.{ℕ, ◌+◌, ◌%◌, nat_le, Bool}
 
 -- The counter of a message's number, which counts from 0: 01 to FF in turn, and then 01 again. 00 is none.

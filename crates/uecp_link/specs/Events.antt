@@ -41,7 +41,8 @@ abbrev pub IsSubmit : Event → Type 0
 IsSubmit (Submit m) = Unit {0}
 IsSubmit _ = ⊥
 
--- The once-machine refuses the event for this reason; or for want of memory the event is a submission that it does not refuse.
+-- The once-machine refuses the event for this reason; or for want of memory the event is a submission that it does not
+-- refuse.
 abbrev pub Refuses : {V : Type 0} → Once V → Event → LineRefusal → Type 0
 Refuses o e line.Busy = refusal_of o e ≡ Some Busy
 Refuses o e line.NotSent = refusal_of o e ≡ Some NotSent

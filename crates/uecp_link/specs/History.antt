@@ -8,7 +8,8 @@ pub data Act : Type 0 where
   Message : ℕ → Act
   Taking : Act
 
--- What an event brings, by its answer: a frame that is delivered fresh its message, a take itself, and all else nothing.
+-- What an event brings, by its answer: a frame that is delivered fresh its message, a take itself, and all else
+-- nothing.
 abbrev pub act_of : Event → Answer → List Act
 act_of (FrameComes k) (Delivered true code) = Message k ∷ []
 act_of Take (Took group) = Taking ∷ []

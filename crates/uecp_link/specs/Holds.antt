@@ -1,4 +1,5 @@
--- A line as its contracts see it, and when it holds what the once-machine holds; a reader has to believe it, but for `once_of` and `IsLine`. Source: profile.
+-- A line as its contracts see it, and when it holds what the once-machine holds; a reader has to believe it, but for
+-- `once_of` and `IsLine`. Source: profile.
 use Rattle.std.specs.Prelude.{ℕ, ◌-◌, ◌||◌, Bool, ◌≡◌, nat_lt, List, [], ◌∷◌, ◌++◌, length, None, slice_get, Result, Ok, Err}
 use Rattle.std.specs.List.{count_by}
 use Rattle.std.specs.Result.{is_err}
@@ -48,7 +49,8 @@ world_of line o = record { encoder = line.encoder; server = line.server; once = 
 abbrev pub IsLine : {V : Type 0} → LineState V → Type 0
 IsLine line = Kept line.encoder.address line.encoder line.server (once_of line) (length line.codes) (let_go line)
 
--- The line holds what the once-machine holds: the messages, the value, the codes, the acknowledged numbers, and of the noise what it leaves open at each end.
+-- The line holds what the once-machine holds: the messages, the value, the codes, the acknowledged numbers, and of the
+-- noise what it leaves open at each end.
 pub record Holds {V : Type 0} (line : LineState V) (o : Once V) : Type 0 where
   pub sent : line.sent ≡ o.sent
   pub value : line.encoder.value ≡ o.value
@@ -56,8 +58,8 @@ pub record Holds {V : Type 0} (line : LineState V) (o : Once V) : Type 0 where
   pub acknowledged : (k : ℕ) → is_acknowledged line k ≡ o.acknowledged k
   pub open_parts : Hears line.encoder line.server o
 
--- One event: the line goes from what the once-machine held to its next state, and answers what that answers; the two ends are fed the event's bytes, and
--- nothing else.
+-- One event: the line goes from what the once-machine held to its next state, and answers what that answers; the two
+-- ends are fed the event's bytes, and nothing else.
 pub record StepsAs {V : Type 0} (step : Step V) (taken : Taken V) (old : LineState V) (o : Once V) (event : Event) (stepped : Stepped) (new : LineState V) : Type 0 where
   pub accepted : refusal_of o event ≡ None
   pub answer : answer_seen stepped ≡ answer_of step taken o event
@@ -69,8 +71,8 @@ pub record StepsAs {V : Type 0} (step : Step V) (taken : Taken V) (old : LineSta
 abbrev pub Outcome : Type 0
 Outcome = Result Stepped LineRefusal
 
--- One event, whichever way it ends: it takes place, and its message fits a frame; or it is refused, by the once-machine or for want of memory, and the line
--- has not changed.
+-- One event, whichever way it ends: it takes place, and its message fits a frame; or it is refused, by the once-machine
+-- or for want of memory, and the line has not changed.
 abbrev pub StepsTo : {V : Type 0} → Step V → Taken V → LineState V → Once V → Event → Outcome → LineState V → Type 0
 StepsTo step taken old o event (Ok stepped) new = Fits event × StepsAs step taken old o event stepped new
 StepsTo step taken old o event (Err refusal) new = Refuses o event refusal × (new ≡ old)
@@ -80,7 +82,8 @@ abbrev pub once_after : {V : Type 0} → Step V → Taken V → Once V → Event
 once_after step taken o event (Ok stepped) = after step taken o event
 once_after step taken o event (Err refusal) = o
 
--- Events in turn, each a step of the line with its own outcome: they lead the line, and the once-machine beside it, to these.
+-- Events in turn, each a step of the line with its own outcome: they lead the line, and the once-machine beside it, to
+-- these.
 abbrev pub Plays : {V : Type 0} → Step V → Taken V → LineState V → Once V → List Event → List Outcome → LineState V → Once V → Type 0
 Plays step taken line o [] [] line' o' = (line' ≡ line) × (o' ≡ o)
 Plays step taken line o [] (outcome ∷ outcomes) line' o' = ⊥
@@ -98,7 +101,8 @@ abbrev pub history_by : List Event → List Outcome → List Act
 history_by (event ∷ events) (outcome ∷ outcomes) = act_by event outcome ++ history_by events outcomes
 history_by _ _ = []
 
--- A list of events, with how many of them were refused: in turn each was a step, and the line holds what the once-machine holds at the end.
+-- A list of events, with how many of them were refused: in turn each was a step, and the line holds what the
+-- once-machine holds at the end.
 pub record RunsAs {V : Type 0} (step : Step V) (taken : Taken V) (old : LineState V) (o : Once V) (events : List Event) (refused : ℕ) (new : LineState V) : Type 0 where
   pub outcomes : List Outcome
   pub last : Once V

@@ -1,5 +1,5 @@
--- How a server that knows nothing of an encoder joins it: by a pass of empty messages, and the replies to two of them; a reader has to believe it, but for what is
--- marked private. Source: profile.
+-- How a server that knows nothing of an encoder joins it: by a pass of empty messages, and the replies to two of them;
+-- a reader has to believe it, but for what is marked private. Source: profile.
 use Rattle.std.specs.Prelude.{◌≡◌, ◌≢◌, ℕ, ◌+◌, ◌-◌, ◌*◌, ◌^◌, ◌<◌, ◌≤◌, ◌==◌, ◌⊎◌, List, [], ◌∷◌, ◌++◌, length, map, take, filter_map, Option, None, Result, Ok, Err, if◌then◌else◌}
 use Rattle.std.specs.List.{concat}
 use Rattle.std.specs.Option.{option_map}
@@ -25,7 +25,8 @@ use Rattle.uecp_link.specs.Server.{ServerState, reply_from, heard}
 
 -- ---- What is sent.
 
--- The frames of a pass as they are sent: an empty message under each of 01, 02 .. FF, in this order. (profile; SPB 490, frame format)
+-- The frames of a pass as they are sent: an empty message under each of 01, 02 .. FF, in this order. (profile; SPB 490,
+-- frame format)
 unfoldable pub frames_of_pass : (address : ℕ) → List (List ℕ)
 frames_of_pass address = map (λ counter. spelling (frame_under address (counter, []))) (rising 0x01 255)
 
@@ -57,16 +58,18 @@ BringsBoth address bytes = IsJoinedBy (reply_counters address NothingOpen bytes)
 
 -- ---- What a call does.
 
--- A server as it begins anew: its next message will have counter 01, it holds none, and nothing is open. Its counts stay. (profile)
+-- A server as it begins anew: its next message will have counter 01, it holds none, and nothing is open. Its counts
+-- stay. (profile)
 abbrev pub anew : ServerState → ServerState
 anew s = record s { last = 0; held = []; part = NothingOpen }
 
--- A server that began anew and heard some bytes is still so, but for its open part and its counts of stray frames and dropped segments.
+-- A server that began anew and heard some bytes is still so, but for its open part and its counts of stray frames and
+-- dropped segments.
 abbrev pub IsStillNew : (old new : ServerState) → Type 0
 IsStillNew old new = new ≡ record (anew old) { counts = record new.counts { acknowledged = old.counts.acknowledged }; part = new.part }
 
--- How the reads of a pass ended. Joined: both replies were read, and not so 64 bytes before. Spent: they were not, and one read failed, or none and all turns were made.
--- Closed: they were not, and the input is at its end.
+-- How the reads of a pass ended. Joined: both replies were read, and not so 64 bytes before. Spent: they were not, and
+-- one read failed, or none and all turns were made. Closed: they were not, and the input is at its end.
 abbrev pub RepliesEnd : (address : ℕ) → (read : List ℕ) → (unread : Option (List ℕ)) → (turns reads failed : ℕ) → Result Joining DriveFault → Type 0
 RepliesEnd address read unread turns reads failed (Ok Joined) = BringsBoth address read × (BringsBoth address (take (length read - 64) read) → ⊥) × (failed ≡ 0) × (1 ≤ reads)
 RepliesEnd address read unread turns reads failed (Ok Spent) = (BringsBoth address read → ⊥) × (((failed ≡ 1) × (1 ≤ reads)) ⊎ ((failed ≡ 0) × (reads ≡ turns)))
@@ -74,7 +77,8 @@ RepliesEnd address read unread turns reads failed (Err Closed) = (BringsBoth add
 RepliesEnd address read unread turns reads failed (Err (WriteFailed w)) = ⊥
 RepliesEnd address read unread turns reads failed (Err TriesSpent) = ⊥
 
--- How a pass ended. A write failed: the first w bytes of the pass were sent, not all, and no read was made. Else the pass was sent whole, and the reads ended.
+-- How a pass ended. A write failed: the first w bytes of the pass were sent, not all, and no read was made. Else the
+-- pass was sent whole, and the reads ended.
 abbrev pub PassEnds : (address : ℕ) → (read sent : List ℕ) → (unread : Option (List ℕ)) → (turns reads failed : ℕ) → Result Joining DriveFault → Type 0
 PassEnds address read sent unread turns reads failed (Err (WriteFailed w)) = (sent ≡ take w (pass_sent address)) × (w < length (pass_sent address)) × (read ≡ []) × (reads ≡ 0) × (failed ≡ 0)
 PassEnds address read sent unread turns reads failed (Err Closed) = (sent ≡ pass_sent address) × RepliesEnd address read unread turns reads failed (Err Closed)
@@ -88,8 +92,9 @@ pass_failures (Err Closed) failures = failures
 pass_failures (Err TriesSpent) failures = failures
 pass_failures (Ok joining) failures = failures
 
--- A pass from one state of the server to another, over a reader and a writer before and after it: what was sent and read, by how many reads, and how it ended. The server begins
--- anew and hears all that was read; as it holds nothing, each reply counts as stray. But for `Closed`, no read brought nothing; there one did.
+-- A pass from one state of the server to another, over a reader and a writer before and after it: what was sent and
+-- read, by how many reads, and how it ended. The server begins anew and hears all that was read; as it holds nothing,
+-- each reply counts as stray. But for `Closed`, no read brought nothing; there one did.
 pub record MakesPass {R W : Type 0} (remaining : R → Option (List ℕ)) (contents : W → Option (List ℕ)) (old new : ServerState) (reader reader' : Metered R) (writer writer' : Metered W) (turns : ℕ) (result : Result Joining DriveFault) : Type 0 where
   pub read : List ℕ
   pub sent : List ℕ
@@ -109,23 +114,26 @@ pub record MakesPass {R W : Type 0} (remaining : R → Option (List ℕ)) (conte
 
 -- ---- Both directions of one connection.
 
--- An encoder that has joined, with this value at its target: it keeps replies to FF, FE .. 81 and no other, the next is 01, and nothing is open.
+-- An encoder that has joined, with this value at its target: it keeps replies to FF, FE .. 81 and no other, the next is
+-- 01, and nothing is open.
 pub record HasJoinedWith {V : Type 0} (e : EncoderState V) (value : V) : Type 0 where
   pub value_is : e.value ≡ value
   pub kept : map (λ pair. pair.0) e.ring ≡ falling 0xFF 127
   pub next : next_after (newest e.ring) ≡ 1
   pub closed : e.part ≡ NothingOpen
 
--- The encoder got some bytes of a pass, the others were coming; some bytes of its replies were read, the others not. Of the pass and of the replies nothing is still
--- to come; the encoder has joined, its target as it was; and nothing is open at the server either.
+-- The encoder got some bytes of a pass, the others were coming; some bytes of its replies were read, the others not. Of
+-- the pass and of the replies nothing is still to come; the encoder has joined, its target as it was; and nothing is
+-- open at the server either.
 pub record IsOver {V : Type 0} (step : Step V) (e : EncoderState V) (got coming read unread : List ℕ) : Type 0 where
   pub pass : coming ≡ []
   pub replies : unread ≡ []
   pub encoder : HasJoinedWith (fed step e got) e.value
   pub server : open_beyond NothingOpen read ≡ NothingOpen
 
--- On a line that keeps the order of each direction and loses nothing but its end: where an empty message leaves the target as it is, and whatever happened to an encoder
--- since it was new, if nothing is open at it, a pass is sent to it, and what was read of its replies brings both, then all is over.
+-- On a line that keeps the order of each direction and loses nothing but its end: where an empty message leaves the
+-- target as it is, and whatever happened to an encoder since it was new, if nothing is open at it, a pass is sent to
+-- it, and what was read of its replies brings both, then all is over.
 abbrev pub JoinsOverALine : {V : Type 0} → Step V → Type 0
 JoinsOverALine {V} step =
     ((v : V) → (step v []).0 ≡ v) →
@@ -137,7 +145,8 @@ JoinsOverALine {V} step =
     BringsBoth address read →
     IsOver step e got coming read unread
 
--- Where nothing is lost, neither of the pass nor of the replies to it, both replies come, from wherever the encoder was: one pass is enough.
+-- Where nothing is lost, neither of the pass nor of the replies to it, both replies come, from wherever the encoder
+-- was: one pass is enough.
 abbrev pub WholePassBringsBoth : {V : Type 0} → Step V → Type 0
 WholePassBringsBoth {V} step =
     (address : ℕ) (value : V) (before : List (Happening V)) →

@@ -1,4 +1,5 @@
--- What holds of a line at every moment, by how many numbers were applied and acknowledged; for proofs alone, but for `Hears`. Source: profile.
+-- What holds of a line at every moment, by how many numbers were applied and acknowledged; for proofs alone, but for
+-- `Hears`. Source: profile.
 use Rattle.std.specs.Prelude.{ℕ, zero, suc, ◌≡◌, ◌⊎◌, ◌+◌, ◌<◌, ◌≤◌, nat_lt, Bool, true, false, List, [], ◌∷◌, length, map, take, Option, is_some, unwrap_or}
 use Rattle.uecp_elements.specs.declared.code.Code.{Code}
 use Rattle.uecp_elements.specs.declared.code.Code.TheVariants.{Applied}
@@ -9,12 +10,13 @@ use Rattle.uecp_link.specs.Counters.{counter_of}
 use Rattle.uecp_link.specs.Server.{ServerState, Held}
 use Rattle.uecp_link.specs.Once.{Once, message_at}
 
--- What an encoder may keep when a line begins: nothing, as a new one does, or the replies to FF, FE .. 81, the newest first, as one that has joined does. A reader
--- has to believe it.
+-- What an encoder may keep when a line begins: nothing, as a new one does, or the replies to FF, FE .. 81, the newest
+-- first, as one that has joined does. A reader has to believe it.
 abbrev pub IsReady : List (ℕ × Code) → Type 0
 IsReady base = (base ≡ []) ⊎ (map (λ pair. pair.0) base ≡ falling 0xFF 127)
 
--- The pairs of counter and code of all numbers below p, the newest first, and behind them those that were kept when the line began.
+-- The pairs of counter and code of all numbers below p, the newest first, and behind them those that were kept when the
+-- line began.
 abbrev pub pairs : List (ℕ × Code) → (ℕ → Code) → ℕ → List (ℕ × Code)
 pairs base c zero = base
 pairs base c (suc p) = (counter_of p, c p) ∷ pairs base c p
@@ -53,8 +55,9 @@ pub record ServerIs (s : ServerState) (a l : ℕ) (hs : List Held) : Type 0 wher
   pub last : s.last ≡ l
   pub held : s.held ≡ hs
 
--- Of a line's numbers those below p are applied, those below q acknowledged, and no number that is not applied; the encoder keeps the last 127 of the
--- applied ones, and the server holds the numbers from q on, eight at most, of which q is not acknowledged.
+-- Of a line's numbers those below p are applied, those below q acknowledged, and no number that is not applied; the
+-- encoder keeps the last 127 of the applied ones, and the server holds the numbers from q on, eight at most, of which q
+-- is not acknowledged.
 pub record Kept {V : Type 0} (address : ℕ) (e : EncoderState V) (s : ServerState) (o : Once V) (p q : ℕ) : Type 0 where
   pub base : List (ℕ × Code)
   pub ready : IsReady base
@@ -71,8 +74,8 @@ pub record Kept {V : Type 0} (address : ℕ) (e : EncoderState V) (s : ServerSta
   pub q_le : q ≤ p
   pub fits : (k : ℕ) → IsMessage (message_at o.sent k)
 
--- What is open at each end is what the noise towards it leaves open, and no frame stands in that noise. A reader has to believe it: it is part of what a
--- line holds.
+-- What is open at each end is what the noise towards it leaves open, and no frame stands in that noise. A reader has to
+-- believe it: it is part of what a line holds.
 pub record Hears {V : Type 0} (e : EncoderState V) (s : ServerState) (o : Once V) : Type 0 where
   pub encoder : e.part ≡ open_part o.to_encoder
   pub server : s.part ≡ open_part o.to_server

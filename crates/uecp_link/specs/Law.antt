@@ -1,4 +1,5 @@
--- The two ends, fed an event's bytes, beside the once-machine, and the law that ties them; a reader has to believe it. Source: profile; RDS Forum SPB 490, sequence counter, for the range of counters.
+-- The two ends, fed an event's bytes, beside the once-machine, and the law that ties them; a reader has to believe it.
+-- Source: profile; RDS Forum SPB 490, sequence counter, for the range of counters.
 use Rattle.std.specs.Prelude.{ℕ, ◌≡◌, ◌+◌, ◌<◌, ◌≤◌, nat_lt, true, ◌==◌, List, [], ◌∷◌, length, map, slice_get, Option, Some, None, is_some, is_none, if◌then◌else◌}
 use Rattle.uecp_elements.specs.declared.code.Code.{Code}
 use Rattle.uecp_frame.specs.declared.frame.Frame.{Frame}
@@ -25,8 +26,8 @@ abbrev pub reply_bytes : ℕ → ℕ → Option Code → List ℕ
 reply_bytes address k (Some code) = spelling (reply_of address (counter_of k) code)
 reply_bytes address k None = []
 
--- The encoder after an event that is not refused: it is fed the frame of the number, or the noise, or it forgets what is open, or a group is taken from its
--- target; all else does not touch it.
+-- The encoder after an event that is not refused: it is fed the frame of the number, or the noise, or it forgets what
+-- is open, or a group is taken from its target; all else does not touch it.
 abbrev pub encoder_after : {V : Type 0} → Step V → Taken V → ℕ → Once V → EncoderState V → Event → EncoderState V
 encoder_after step taken address o e (Submit m) = e
 encoder_after step taken address o e (FrameComes k) = fed step e (spelling (frame_of address o k))
@@ -37,7 +38,8 @@ encoder_after step taken address o e EncoderLost = record e { part = Closed }
 encoder_after step taken address o e ServerLost = e
 encoder_after step taken address o e Take = record e { value = (taken e.value).0 }
 
--- The server after an event that is not refused: it takes the message, hears the reply or the noise, or forgets what is open; all else does not touch it.
+-- The server after an event that is not refused: it takes the message, hears the reply or the noise, or forgets what is
+-- open; all else does not touch it.
 abbrev pub server_after : {V : Type 0} → ℕ → Once V → ServerState → Event → ServerState
 server_after address o s (Submit m) = submitted s m
 server_after address o s (FrameComes k) = s
@@ -88,7 +90,8 @@ abbrev pub fresh_among : List Response → ℕ
 fresh_among [] = 0
 fresh_among (r ∷ rs) = fresh_in r + fresh_among rs
 
--- The law of numbers, where p is how many messages were applied. Of the target it asks nothing but that it answers each message.
+-- The law of numbers, where p is how many messages were applied. Of the target it asks nothing but that it answers each
+-- message.
 pub record Numbers {V : Type 0} (step : Step V) (address : ℕ) (w : World V) (p : ℕ) : Type 0 where
   -- the applied numbers are those below p, which are all that were sent but the last eight at most
   pub applied : (k : ℕ) → is_some (w.once.codes k) ≡ nat_lt k p
@@ -96,14 +99,16 @@ pub record Numbers {V : Type 0} (step : Step V) (address : ℕ) (w : World V) (p
   pub acknowledged : (k : ℕ) → w.once.acknowledged k ≡ true → k < p
   -- what waits at the server is what was sent and is not acknowledged, under its counters
   pub outstanding : waiting w.server ≡ map (λ k. (counter_of k, message_at w.once.sent k)) (missing w.once.acknowledged (length w.once.sent))
-  -- fed the frame of a recent number, the encoder applies one message where that number is the next, the least not applied, and none else
+  -- fed the frame of a recent number, the encoder applies one message where that number is the next, the least not
+  -- applied, and none else
   pub fresh : (k : ℕ) → k < length w.once.sent → is_recent (length w.once.sent) k ≡ true →
       fresh_among (responses_to step w.encoder (spelling (frame_of address w.once k))) ≡ (if k == p then 1 else 0)
   -- and what it keeps for the counter of a recent number is that number's code, or nothing where it was not applied
   pub replies : (k : ℕ) → k < length w.once.sent → is_recent (length w.once.sent) k ≡ true → kept_code w.encoder.ring (counter_of k) ≡ w.once.codes k
 
--- The law of values, resting on that of numbers. The messages of the history are the first p, each once and in order; the encoder's target holds what the
--- history makes, and so does the once-machine, and the codes of its messages are the codes that the numbers have.
+-- The law of values, resting on that of numbers. The messages of the history are the first p, each once and in order;
+-- the encoder's target holds what the history makes, and so does the once-machine, and the codes of its messages are
+-- the codes that the numbers have.
 pub record Values {V : Type 0} (step : Step V) (taken : Taken V) (opening : V) (w : World V) (p : ℕ) (acts : List Act) : Type 0 where
   pub order : messages_in acts ≡ numbers_below p
   pub target : w.encoder.value ≡ value_after step taken w.once.sent opening acts

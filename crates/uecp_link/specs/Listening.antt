@@ -1,4 +1,5 @@
--- What one try of `resend` hears, and what tries that brought nothing come to; for proofs alone, as the contracts of private functions. Source: profile.
+-- What one try of `resend` hears, and what tries that brought nothing come to; for proofs alone, as the contracts of
+-- private functions. Source: profile.
 use Rattle.std.specs.Prelude.{◌≡◌, ◌≢◌, ℕ, ◌+◌, ◌*◌, ◌^◌, ◌<◌, ◌≤◌, ◌⊎◌, List, length, Option, None}
 use Rattle.std.specs.Io.KnownBytes.{Appends, Consumes, IsAtEnd}
 use Rattle.uecp_encoder.specs.Metered.{Metered, counted}
@@ -39,7 +40,8 @@ pub record Waits {R : Type 0} (remaining : R → Option (List ℕ)) (old new : S
   pub calls : reader.calls + reads < 2 ^ 128 → reader'.calls ≡ reader.calls + reads
   pub read_failures : reader'.failures ≡ reader.failures
 
--- So many tries, none of which brought the acknowledgement, and no read in them brought nothing; this many bytes were sent in them.
+-- So many tries, none of which brought the acknowledgement, and no read in them brought nothing; this many bytes were
+-- sent in them.
 pub record Tried {R W : Type 0} (remaining : R → Option (List ℕ)) (contents : W → Option (List ℕ)) (old new : ServerState) (reader reader' : Metered R) (writer writer' : Metered W) (turns begun bytes : ℕ) : Type 0 where
   pub read : List ℕ
   pub reads : ℕ

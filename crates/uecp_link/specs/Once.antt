@@ -1,4 +1,5 @@
--- The once-machine, which says what a line is to do; a reader has to believe it. It has numbers of messages and sets of numbers, and knows no counter, no kept reply and no frame. Source: profile.
+-- The once-machine, which says what a line is to do; a reader has to believe it. It has numbers of messages and sets of
+-- numbers, and knows no counter, no kept reply and no frame. Source: profile.
 use Rattle.std.specs.Prelude.{ℕ, zero, suc, ◌+◌, ◌-◌, ◌==◌, nat_lt, Bool, true, false, List, [], ◌∷◌, ◌++◌, length, get_or, Option, Some, None, is_some, if◌then◌else◌}
 use Rattle.uecp_elements.specs.declared.code.Code.{Code}
 use Rattle.rds_store.specs.declared.group.Group.{Group}
@@ -6,7 +7,8 @@ use Rattle.uecp_frame.specs.Findings.{found, is_quiet}
 use Rattle.uecp_encoder.specs.Target.{Step, Taken}
 use Rattle.uecp_link.specs.Counters.{is_recent}
 
--- What happens on a line and at its encoder. Numbers of messages count from 0. That bytes are lost is an event that does not come.
+-- What happens on a line and at its encoder. Numbers of messages count from 0. That bytes are lost is an event that
+-- does not come.
 pub data Event : Type 0 where
   Submit : List ℕ → Event
   FrameComes : ℕ → Event  -- the frame of this number comes to the encoder
@@ -17,8 +19,8 @@ pub data Event : Type 0 where
   ServerLost : Event
   Take : Event  -- the modulator takes a group from the encoder
 
--- Why an event is refused: eight messages were sent from the least number on that is not acknowledged; there is no such message or no reply to it yet; more than 126 messages were numbered after it; a
--- frame would stand in the noise.
+-- Why an event is refused: eight messages were sent from the least number on that is not acknowledged; there is no such
+-- message or no reply to it yet; more than 126 messages were numbered after it; a frame would stand in the noise.
 pub data Refusal : Type 0 where
   Busy : Refusal
   NotSent : Refusal
@@ -36,7 +38,8 @@ pub data Answer : Type 0 where
   Lost : Answer
   Took : Option Group → Answer  -- the group, if there was one
 
--- Its state: the messages by number, the target's value, the codes of the applied numbers, the set of the acknowledged ones, and the noise towards each end.
+-- Its state: the messages by number, the target's value, the codes of the applied numbers, the set of the acknowledged
+-- ones, and the noise towards each end.
 pub record Once (V : Type 0) : Type 0 where
   pub sent : List (List ℕ)
   pub value : V
@@ -71,8 +74,9 @@ has_room acknowledged n = nat_lt n (least_missing acknowledged n + 8)
 abbrev pub is_next : (ℕ → Option Code) → ℕ → ℕ → Bool
 is_next codes n k = k == least_missing (λ j. is_some (codes j)) n
 
--- Why the machine refuses an event, or None where it does not: a submission where eight numbers were sent from the least on that is not acknowledged; a
--- frame of a number not sent, or sent too long ago; a reply to a number not applied, or sent too long ago; noise that, after the noise before it in that direction, holds a frame.
+-- Why the machine refuses an event, or None where it does not: a submission where eight numbers were sent from the
+-- least on that is not acknowledged; a frame of a number not sent, or sent too long ago; a reply to a number not
+-- applied, or sent too long ago; noise that, after the noise before it in that direction, holds a frame.
 abbrev pub refusal_of : {V : Type 0} → Once V → Event → Option Refusal
 refusal_of o (Submit m) = if has_room o.acknowledged (length o.sent) then None else Some Busy
 refusal_of o (FrameComes k) =
@@ -105,14 +109,15 @@ applied_once step o k =
       to_server = o.to_server;
     }
 
--- The state after the frame of a number, by the code that it has: where it has none and is the next, its message is applied; else nothing is done but that
--- the noise before the frame is over.
+-- The state after the frame of a number, by the code that it has: where it has none and is the next, its message is
+-- applied; else nothing is done but that the noise before the frame is over.
 abbrev pub delivered : {V : Type 0} → Step V → Once V → ℕ → Option Code → Once V
 delivered step o k (Some code) = record o { to_encoder = [] }
 delivered step o k None = if is_next o.codes (length o.sent) k then applied_once step o k else record o { to_encoder = [] }
 
--- The state after an event that is not refused: a submission adds a message, a frame is delivered, a reply makes its number an acknowledged one, noise
--- is added to the noise of its direction, a loss forgets the noise towards that end, and a take changes the value alone.
+-- The state after an event that is not refused: a submission adds a message, a frame is delivered, a reply makes its
+-- number an acknowledged one, noise is added to the noise of its direction, a loss forgets the noise towards that end,
+-- and a take changes the value alone.
 abbrev pub after : {V : Type 0} → Step V → Taken V → Once V → Event → Once V
 after step taken o (Submit m) = record o { sent = o.sent ++ m ∷ [] }
 after step taken o (FrameComes k) = delivered step o k (o.codes k)

@@ -1,4 +1,5 @@
--- The codes that go back and forth in a stretch of the stream, however it is cut; for proofs alone, as the contracts of private functions. Source: profile.
+-- The codes that go back and forth in a stretch of the stream, however it is cut; for proofs alone, as the contracts of
+-- private functions. Source: profile.
 use Rattle.std.specs.Prelude.{◌≡◌, ℕ, ◌==◌, Bool, true, false, List, [], ◌∷◌, ◌++◌, filter_map, Option, Some, None, Ok, Err, if◌then◌else◌}
 use Rattle.std.specs.List.{cons_option}
 use Rattle.uecp_frame.specs.declared.frame.Frame.{Frame}
@@ -13,12 +14,14 @@ use Rattle.uecp_link.specs.declared.heard.HeardWhat.{HeardWhat}
 use Rattle.uecp_link.specs.declared.heard.HeardWhat.TheVariants as what
 use Rattle.uecp_link.specs.Server.{ServerState, all_heard_as}
 
--- Whether the encoder's reply to a numbered frame is fresh, and its code, by the code that is kept for its counter; none where it is neither kept nor the next.
+-- Whether the encoder's reply to a numbered frame is fresh, and its code, by the code that is kept for its counter;
+-- none where it is neither kept nor the next.
 abbrev pub coded : {V : Type 0} → Step V → EncoderState V → Frame → Option Code → Option (Bool × Code)
 coded step e f (Some code) = Some (false, code)
 coded step e f None = if is_next e.ring f.counter then Some (true, (step e.value f.message).1) else None
 
--- The encoder's reply to a finding, if it gives one: to a frame that reaches it and is numbered, and is a repeat or the next.
+-- The encoder's reply to a finding, if it gives one: to a frame that reaches it and is numbered, and is a repeat or the
+-- next.
 abbrev pub reply_to : {V : Type 0} → Step V → EncoderState V → Finding → Option (Bool × Code)
 reply_to step e (Err fault) = None
 reply_to step e (Ok f) =

@@ -1,4 +1,5 @@
--- The server's end as one value, and what findings do to it; a reader has to believe it. Source: RDS Forum SPB 490, two-way mode; profile for what is marked so.
+-- The server's end as one value, and what findings do to it; a reader has to believe it. Source: RDS Forum SPB 490,
+-- two-way mode; profile for what is marked so.
 use Rattle.std.specs.Prelude.{◌≡◌, ℕ, zero, suc, ◌<◌, ◌==◌, ◌&&◌, ◌||◌, Bool, false, List, [], ◌∷◌, ◌++◌, length, map, take, slice_get, Option, Some, None, Ok, Err, if◌then◌else◌}
 use Rattle.std.specs.List.{list_any}
 use Rattle.std.specs.Option.{option_map_or, option_map}
@@ -16,14 +17,16 @@ use Rattle.uecp_link.specs.declared.heard.HeardWhat.{HeardWhat}
 use Rattle.uecp_link.specs.declared.heard.HeardWhat.TheVariants as what
 use Rattle.uecp_link.specs.declared.heard.Heard.{Heard}
 
--- A message that a server holds: its counter, its bytes, and whether it is marked, which it is once its reply has come. (profile)
+-- A message that a server holds: its counter, its bytes, and whether it is marked, which it is once its reply has come.
+-- (profile)
 pub record Held : Type 0 where
   pub counter : ℕ
   pub message : List ℕ
   pub marked : Bool
 
--- A server is five things: the address of its encoder, the counter of its last message (0 before the first), the messages that it holds, the oldest first,
--- the counts of what it has heard, and the part of the stream that is open. (profile)
+-- A server is five things: the address of its encoder, the counter of its last message (0 before the first), the
+-- messages that it holds, the oldest first, the counts of what it has heard, and the part of the stream that is open.
+-- (profile)
 pub record ServerState : Type 0 where
   pub address : ℕ
   pub last : ℕ
@@ -70,20 +73,22 @@ marked_at counter hs = map (marked_for counter) hs
 abbrev pub is_marked : List Held → ℕ → Bool
 is_marked hs place = option_map_or (λ h. h.marked) (slice_get hs place) false
 
--- Marked messages are let go from the oldest on, up to the first that is not marked: a marked one stays as long as an older one waits. (profile)
+-- Marked messages are let go from the oldest on, up to the first that is not marked: a marked one stays as long as an
+-- older one waits. (profile)
 abbrev pub freed_of : List Held → List Held
 freed_of [] = []
 freed_of (h ∷ hs) = if h.marked then freed_of hs else h ∷ hs
 
 -- ---- What acknowledges.
 
--- The counter and the code that a reply's message gives: it is 18, a code of the table and the counter, three bytes in all. (profile, layout of element 18)
+-- The counter and the code that a reply's message gives: it is 18, a code of the table and the counter, three bytes in
+-- all. (profile, layout of element 18)
 abbrev pub reply_in : List ℕ → Option (ℕ × Code)
 reply_in (a ∷ b ∷ c ∷ []) = if a == 0x18 then option_map (λ code. (c, code)) (code_of_byte b) else None
 reply_in _ = None
 
--- The counter and the code of a reply of the encoder at an address: a frame that carries this very address and counter 00, and whose message gives them. No other
--- frame is one. (profile)
+-- The counter and the code of a reply of the encoder at an address: a frame that carries this very address and counter
+-- 00, and whose message gives them. No other frame is one. (profile)
 abbrev pub reply_from : (address : ℕ) → Frame → Option (ℕ × Code)
 reply_from address f = if f.address == address && f.counter == 0 then reply_in f.message else None
 
@@ -92,13 +97,13 @@ abbrev pub reply_to_one : List (ℕ × List ℕ) → Option (ℕ × Code) → Op
 reply_to_one ws None = None
 reply_to_one ws (Some reply) = if waits_for ws reply.0 then Some reply else None
 
--- The counter and the code with which a frame acknowledges: it is a reply of the server's encoder, for the counter of a message that waits. Every other frame
--- acknowledges nothing. (profile)
+-- The counter and the code with which a frame acknowledges: it is a reply of the server's encoder, for the counter of a
+-- message that waits. Every other frame acknowledges nothing. (profile)
 abbrev pub acknowledges : ServerState → Frame → Option (ℕ × Code)
 acknowledges s f = reply_to_one (waiting s) (reply_from s.address f)
 
--- Any code acknowledges, a refusal too: the message is marked, and what may be let go is; what does not acknowledge is counted as stray and changes nothing
--- else. (profile)
+-- Any code acknowledges, a refusal too: the message is marked, and what may be let go is; what does not acknowledge is
+-- counted as stray and changes nothing else. (profile)
 abbrev pub freed : ServerState → Option (ℕ × Code) → ServerState
 freed s None = record s { counts = record s.counts { stray = raised s.counts.stray } }
 freed s (Some reply) = record s { held = freed_of (marked_at reply.0 s.held); counts = record s.counts { acknowledged = raised s.counts.acknowledged } }
@@ -108,7 +113,8 @@ abbrev pub raised_by : ℕ → ℕ → ℕ
 raised_by zero count = count
 raised_by (suc n) count = raised_by n (raised count)
 
--- The server after one finding: a fault is counted as dropped and changes nothing else, a frame marks a message where it acknowledges. (profile)
+-- The server after one finding: a fault is counted as dropped and changes nothing else, a frame marks a message where
+-- it acknowledges. (profile)
 abbrev pub heard_finding : ServerState → Finding → ServerState
 heard_finding s (Err fault) = record s { counts = record s.counts { dropped = raised s.counts.dropped } }
 heard_finding s (Ok f) = freed s (acknowledges s f)
@@ -124,7 +130,8 @@ heard s bytes = heard_findings (record s { part = open_beyond s.part bytes }) (f
 
 -- ---- What a server says.
 
--- What it says to a frame, by the counter and the code with which that acknowledges: acknowledged with these, or stray. (profile)
+-- What it says to a frame, by the counter and the code with which that acknowledges: acknowledged with these, or stray.
+-- (profile)
 abbrev pub told : Option (ℕ × Code) → HeardWhat
 told None = what.Stray
 told (Some reply) = what.Acknowledged reply.0 reply.1
@@ -144,7 +151,8 @@ abbrev pub whats_of : HeardWhat → List HeardWhat
 whats_of what.Nothing = []
 whats_of w = w ∷ []
 
--- A call of `hear` uses the bytes of the piece up to the one at which the first finding is judged, or all where there is none, and answers to that finding.
+-- A call of `hear` uses the bytes of the piece up to the one at which the first finding is judged, or all where there
+-- is none, and answers to that finding.
 pub record HearsPiece (old : ServerState) (piece : List ℕ) (answer : Heard) : Type 0 where
   pub said : all_heard_as old (found_beyond old.part (take answer.used piece)) ≡ whats_of answer.what
   pub first : (k : ℕ) → k < answer.used → found_beyond old.part (take k piece) ≡ []
@@ -152,7 +160,8 @@ pub record HearsPiece (old : ServerState) (piece : List ℕ) (answer : Heard) : 
 
 -- ---- What a server lends.
 
--- The frames of the messages that wait as they are sent, the oldest first, each the same each time. (SPB 490, frame format)
+-- The frames of the messages that wait as they are sent, the oldest first, each the same each time. (SPB 490, frame
+-- format)
 abbrev pub frames_waiting : ServerState → List (List ℕ)
 frames_waiting s = map (λ w. spelling (frame_under s.address w)) (waiting s)
 

@@ -14,7 +14,8 @@ pub record IsDone {V : Type 0} (w : World V) : Type 0 where
   pub acknowledged : missing w.once.acknowledged (length w.once.sent) ≡ []
   pub idle : waiting w.server ≡ []
 
--- The world after any events, and then after the frame of each message that is outstanding has come once, and the reply to each.
+-- The world after any events, and then after the frame of each message that is outstanding has come once, and the reply
+-- to each.
 abbrev pub after_all_come : {V : Type 0} → Step V → Taken V → ℕ → V → List Event → World V
 after_all_come step taken address opening events =
     let w = run step taken address (start address opening) events in

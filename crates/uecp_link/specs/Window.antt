@@ -1,4 +1,5 @@
--- What `send_window` does over a reader and a writer; a reader has to believe it, but for `Gathers` and `Gathered`. Source: profile.
+-- What `send_window` does over a reader and a writer; a reader has to believe it, but for `Gathers` and `Gathered`.
+-- Source: profile.
 use Rattle.std.specs.Prelude.{◌≡◌, ◌≢◌, ℕ, ◌+◌, ◌-◌, ◌*◌, ◌^◌, ◌<◌, ◌≤◌, ◌==◌, ◌⊎◌, List, [], ◌++◌, length, take, filter_map, Option, Some, None, Result, Ok, Err}
 use Rattle.std.specs.List.{concat}
 use Rattle.std.specs.Map.{lookup}
@@ -31,8 +32,9 @@ marks_in s bytes = filter_map mark_in (all_heard_as s (found_beyond s.part bytes
 abbrev pub code_under : ℕ → List (ℕ × Code) → Option Code
 code_under counter marks = lookup (λ k. k == counter) marks
 
--- How the reads of a try ended, from one state of the server to another. No message waits: so it is, and it was not so 64 bytes before. Spent: messages wait, and
--- one read failed, or none and all turns were made. Closed: messages wait, and the input is at its end.
+-- How the reads of a try ended, from one state of the server to another. No message waits: so it is, and it was not so
+-- 64 bytes before. Spent: messages wait, and one read failed, or none and all turns were made. Closed: messages wait,
+-- and the input is at its end.
 abbrev pub ReadsEnd : (old new : ServerState) → (read : List ℕ) → (unread : Option (List ℕ)) → (turns reads failed : ℕ) → Result Windowed DriveFault → Type 0
 ReadsEnd old new read unread turns reads failed (Ok Idle) = (new.held ≡ []) × ((heard old (take (length read - 64) read)).held ≢ []) × (failed ≡ 0) × (1 ≤ reads)
 ReadsEnd old new read unread turns reads failed (Ok Spent) = (new.held ≢ []) × (((failed ≡ 1) × (1 ≤ reads)) ⊎ ((failed ≡ 0) × (reads ≡ turns)))
@@ -40,7 +42,8 @@ ReadsEnd old new read unread turns reads failed (Err Closed) = (new.held ≢ [])
 ReadsEnd old new read unread turns reads failed (Err (WriteFailed w)) = ⊥
 ReadsEnd old new read unread turns reads failed (Err TriesSpent) = ⊥
 
--- How a try ended. A write failed: of the frames that waited the first w bytes were sent, not all, and no read was made. Else they were sent whole, and the reads ended.
+-- How a try ended. A write failed: of the frames that waited the first w bytes were sent, not all, and no read was
+-- made. Else they were sent whole, and the reads ended.
 abbrev pub WindowEnds : (old new : ServerState) → (read sent : List ℕ) → (unread : Option (List ℕ)) → (turns reads failed : ℕ) → Result Windowed DriveFault → Type 0
 WindowEnds old new read sent unread turns reads failed (Err (WriteFailed w)) = (sent ≡ take w (window_sent old)) × (w < length (window_sent old)) × (read ≡ []) × (reads ≡ 0) × (failed ≡ 0)
 WindowEnds old new read sent unread turns reads failed (Err Closed) = (sent ≡ window_sent old) × ReadsEnd old new read unread turns reads failed (Err Closed)
@@ -54,8 +57,9 @@ window_failures (Err Closed) failures = failures
 window_failures (Err TriesSpent) failures = failures
 window_failures (Ok windowed) failures = failures
 
--- A try from one state of the server to another, over a reader and a writer before and after it: what was sent and read, by how many reads, how it ended, and that to the marks
--- those were added which the read bytes bring. But for `Closed`, no read brought nothing; there one did.
+-- A try from one state of the server to another, over a reader and a writer before and after it: what was sent and
+-- read, by how many reads, how it ended, and that to the marks those were added which the read bytes bring. But for
+-- `Closed`, no read brought nothing; there one did.
 pub record Windows {R W : Type 0} (remaining : R → Option (List ℕ)) (contents : W → Option (List ℕ)) (old new : ServerState) (reader reader' : Metered R) (writer writer' : Metered W) (marks marks' : List (ℕ × Code)) (turns : ℕ) (result : Result Windowed DriveFault) : Type 0 where
   pub read : List ℕ
   pub sent : List ℕ
@@ -103,7 +107,8 @@ pub record Gathered {R : Type 0} (remaining : R → Option (List ℕ)) (old new 
   pub calls : reader.calls + reads < 2 ^ 128 → reader'.calls ≡ reader.calls + reads
   pub read_failures : reader'.failures ≡ reader.failures
 
--- A piece is heard up to its rest, which brings what is left of the marks; each mark more is one message fewer that waits (private).
+-- A piece is heard up to its rest, which brings what is left of the marks; each mark more is one message fewer that
+-- waits (private).
 pub record Hearing (old new : ServerState) (piece rest : List ℕ) (marks marks' : List (ℕ × Code)) : Type 0 where
   pub state : heard new rest ≡ heard old piece
   pub marked : marks' ++ marks_in new rest ≡ marks ++ marks_in old piece

@@ -1,4 +1,5 @@
-//! Counters of numbered messages, and how late one may come. Source: RDS Forum SPB 490, sequence counter, for the range; profile for the rest.
+//! Counters of numbered messages, and how late one may come. Source: RDS Forum SPB 490, sequence counter, for the
+//! range; profile for the rest.
 ghost use Rattle.std.specs.Prelude.{◌≡◌, ◌<◌, true};
 ghost use Rattle.uecp_link.specs.Counters.{counter_of, is_recent};
 

@@ -1,7 +1,7 @@
 //! What a server counts. Source: profile.
 
-/// How many findings there were of each kind in what the server heard, since it was made. A count at its greatest value stays
-/// there.
+/// How many findings there were of each kind in what the server heard, since it was made. A count at its greatest value
+/// stays there.
 #[derive(Clone, Copy, Debug, Default, PartialEq, Eq)]
 pub struct ServerCounts {
     /// Replies that acknowledged a message.

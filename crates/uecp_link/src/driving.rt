@@ -70,9 +70,10 @@ pub fn drive<R: Read, W: Write>(
     resend(server, reader, writer, tries, turns)
 }
 
-/// Sends the outstanding message again until it is acknowledged. Each of at most `tries` tries writes its frame whole and makes
-/// at most `turns` reads of at most 64 bytes; a failed read ends the try. After the acknowledgement the rest of what was read
-/// with it is still heard. After each fault the message is outstanding. One message waits; see [`Server::waiting`].
+/// Sends the outstanding message again until it is acknowledged. Each of at most `tries` tries writes its frame whole
+/// and makes at most `turns` reads of at most 64 bytes; a failed read ends the try. After the acknowledgement the rest
+/// of what was read with it is still heard. After each fault the message is outstanding. One message waits; see
+/// [`Server::waiting`].
 ///
 /// ```
 /// server.line_lost();

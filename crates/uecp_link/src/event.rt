@@ -12,8 +12,8 @@ pub enum Side {
 
 /// What happens on a line. That bytes are lost is an event that does not come.
 ///
-/// Numbers of messages count from 0. A `cut` lists the lengths of the pieces in which the bytes come, in order; what is left
-/// is the last piece, and a length past the end is cut to it.
+/// Numbers of messages count from 0. A `cut` lists the lengths of the pieces in which the bytes come, in order; what is
+/// left is the last piece, and a length past the end is cut to it.
 #[derive(Clone, Copy, Debug)]
 pub enum LineEvent<'a> {
     /// The studio gives the server the next message.

@@ -52,15 +52,16 @@ pub(crate) trait End {
     // What it says of them, in order.
     ghost says: { Self → List ℕ → List Self.Said };
 
-    /// Gives the end a piece up to the end of its first segment, and answers how many bytes that used and what the end said.
+    /// Gives the end a piece up to the end of its first segment, and answers how many bytes that used and what the end
+    /// said.
     fn give_first(&mut self, piece: &[u8]) -> (usize, Option<Self::Said>)
         ensures fits { result.0 ≤ length piece.now }
         ensures moves { 0 < length piece.now → 0 < result.0 }
         ensures state { self.new ≡ after self.old (take result.0 piece.now) }
         ensures said { says self.old (take result.0 piece.now) ≡ option_to_list result.1 };
 
-    /// The law of an end, as the contract of a function that does nothing: no bytes leave it as it is and have it say nothing,
-    /// and two pieces are as good as one.
+    /// The law of an end, as the contract of a function that does nothing: no bytes leave it as it is and have it say
+    /// nothing, and two pieces are as good as one.
     fn in_pieces()
         ensures nothing { (e : Self) → (after e [] ≡ e) × (says e [] ≡ []) }
         ensures pieces { (e : Self) (x y : List ℕ) → IsInPieces after says e x y };

@@ -7,8 +7,8 @@ use uecp_frame::FrameFault;
 pub enum HeardWhat {
     /// No segment ended; the whole piece was used.
     Nothing,
-    /// The reply to a message that waited, which waits no more. Any code acknowledges, a refusal too: the encoder had the message,
-    /// and has this to say of it.
+    /// The reply to a message that waited, which waits no more. Any code acknowledges, a refusal too: the encoder had
+    /// the message, and has this to say of it.
     Acknowledged {
         /// The counter of the message.
         counter: u8,

@@ -1,4 +1,5 @@
-//! A server that knows nothing of an encoder joins it, over a reader and a writer: by a pass of empty messages. Source: profile.
+//! A server that knows nothing of an encoder joins it, over a reader and a writer: by a pass of empty messages. Source:
+//! profile.
 ghost use Rattle.std.specs.Prelude.{◌≡◌, ◌<◌, [], length, take, OnOk, IfErr};
 ghost use Rattle.std.specs.Io.KnownBytes.{Appends};
 ghost use Rattle.uecp_frame.specs.Findings.{Closed};
@@ -16,11 +17,12 @@ use uecp_frame::{Address, Frame, FrameBytes, Message, encode};
 /// How a pass ended, where no fault ended it.
 #[derive(Clone, Copy, Debug, PartialEq, Eq)]
 pub enum Joining {
-    /// The reply to 81 was read and, after it, the reply to FF. On a connection that began with this pass FF is then the encoder's
-    /// newest counter, the next is 01, and nothing of the pass or of its replies is still to come; see
+    /// The reply to 81 was read and, after it, the reply to FF. On a connection that began with this pass FF is then
+    /// the encoder's newest counter, the next is 01, and nothing of the pass or of its replies is still to come; see
     /// [`joined_over_a_line`](crate::laws::joined_over_a_line).
     Joined,
-    /// A read failed or all turns were made, and these two replies were not read. The encoder may have any newest counter.
+    /// A read failed or all turns were made, and these two replies were not read. The encoder may have any newest
+    /// counter.
     Spent,
 }
 
@@ -35,18 +37,19 @@ enum Seen {
     Both,
 }
 
-/// Brings the encoder to the end of its counters, so that a server which knows nothing of the counters that the encoder has kept may
-/// begin with 01. The server forgets its last counter and its open part, as a new connection begins; its counts stay. It writes one
-/// pass, an empty message under each of 01, 02 .. FF, each frame once and FF last, and makes at most `turns` reads of at most 64
-/// bytes, until the replies that were read hold one to 81 and, after it, one to FF, whatever their codes; a failed read ends them. What
-/// was read with the last of these replies is heard to its end. The server is idle, see [`Server::is_idle`], and stays so: each reply
-/// counts as stray, since no message waits for it.
+/// Brings the encoder to the end of its counters, so that a server which knows nothing of the counters that the encoder
+/// has kept may begin with 01. The server forgets its last counter and its open part, as a new connection begins; its
+/// counts stay. It writes one pass, an empty message under each of 01, 02 .. FF, each frame once and FF last, and makes
+/// at most `turns` reads of at most 64 bytes, until the replies that were read hold one to 81 and, after it, one to FF,
+/// whatever their codes; a failed read ends them. What was read with the last of these replies is heard to its end. The
+/// server is idle, see [`Server::is_idle`], and stays so: each reply counts as stray, since no message waits for it.
 ///
-/// A pass wants a connection of its own: by its bytes no reply tells which pass it belongs to. After `Spent` and after each
-/// fault begin a new connection, and call it again over that. It takes no memory.
+/// A pass wants a connection of its own: by its bytes no reply tells which pass it belongs to. After `Spent` and after
+/// each fault begin a new connection, and call it again over that. It takes no memory.
 ///
-/// Errors: `WriteFailed` where a write failed or took no byte, with how many bytes of the pass were written; nothing was read then.
-/// `Closed` where the reader came to its end before both replies. It never answers `TriesSpent`. Source: profile.
+/// Errors: `WriteFailed` where a write failed or took no byte, with how many bytes of the pass were written; nothing
+/// was read then. `Closed` where the reader came to its end before both replies. It never answers `TriesSpent`. Source:
+/// profile.
 ///
 /// ```
 /// let joining = join(&mut server, &mut Meter::new(input), &mut Meter::new(output), 4096)?;

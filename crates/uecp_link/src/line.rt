@@ -20,9 +20,9 @@ use uecp_elements::Code;
 use uecp_encoder::{Encoder, EncoderFault, Target};
 use uecp_frame::{Address, Message};
 
-/// A server and an encoder, both new at first, and a line between them that may lose, repeat, damage and reorder what is sent.
-/// It holds the two real ends and feeds them bytes; of the noise it keeps what is open in them, and nothing else. Contracts
-/// see it as one value, `LineState`.
+/// A server and an encoder, both new at first, and a line between them that may lose, repeat, damage and reorder what
+/// is sent. It holds the two real ends and feeds them bytes; of the noise it keeps what is open in them, and nothing
+/// else. Contracts see it as one value, `LineState`.
 #[derive(Drop)]
 pub struct Line<T: Target> {
     /// The encoder's address.
@@ -50,8 +50,9 @@ impl<T: Target> Model for Line<T> {
 }
 
 impl<T: Target> Line<T> {
-    /// A line with a new server and a new encoder at this address, which is the encoder's own: neither part is 0. Nothing is sent.
-    /// Where there is no memory for the encoder's kept replies, the fault hands the target back as it was given.
+    /// A line with a new server and a new encoder at this address, which is the encoder's own: neither part is 0.
+    /// Nothing is sent. Where there is no memory for the encoder's kept replies, the fault hands the target back as it
+    /// was given.
     pub fn new(alloc: Global, address: Address, target: T) -> Result<Line<T>, EncoderFault<T>>
         requires { IsTrue (is_exact address) }
         ensures made { IfOk result (λ line. line ≡ new_line address target) }
@@ -62,10 +63,10 @@ impl<T: Target> Line<T> {
         Ok(Line::of_encoder(alloc, address, encoder))
     }
 
-    /// A line with a new server and an encoder that is there, at this address, which is the encoder's own: neither part is 0. It has
-    /// nothing open, and keeps nothing, or the replies to FF .. 81 alone, as one that has joined does; see [`join`](crate::join). Nothing
-    /// is sent, and the messages that came before have no numbers. What holds of every new line holds of it, with the value that
-    /// the encoder has now as the opening one: see
+    /// A line with a new server and an encoder that is there, at this address, which is the encoder's own: neither part
+    /// is 0. It has nothing open, and keeps nothing, or the replies to FF .. 81 alone, as one that has joined does; see
+    /// [`join`](crate::join). Nothing is sent, and the messages that came before have no numbers. What holds of every
+    /// new line holds of it, with the value that the encoder has now as the opening one: see
     /// [`steps_keep_the_headline_from`](crate::laws::steps_keep_the_headline_from).
     pub fn of_encoder(alloc: Global, address: Address, encoder: Encoder<T>) -> Line<T>
         requires exact { IsTrue (is_exact address) }
@@ -84,8 +85,8 @@ impl<T: Target> Line<T> {
         }
     }
 
-    /// A new line on which these events come in turn, and how many of them were refused. Want of memory for a message refuses
-    /// that event; for the line itself it hands the target back.
+    /// A new line on which these events come in turn, and how many of them were refused. Want of memory for a message
+    /// refuses that event; for the line itself it hands the target back.
     pub fn play(
         alloc: Global,
         address: Address,
@@ -93,16 +94,18 @@ impl<T: Target> Line<T> {
         events: &[LineEvent<'_>],
     ) -> Result<(Line<T>, usize), EncoderFault<T>>
         requires { IsTrue (is_exact address) }
-        // From a new line each event in turn is a step, as `step` promises it for one, and the number counts those that were refused.
+        // From a new line each event in turn is a step, as `step` promises it for one, and the number counts those that
+        // were refused.
         ensures plays { IfOk result (λ played. RunsAs T.step T.taken (new_line address target) (at_first target) (map event_of events.now) played.1 played.0) }
-        // The encoder's store is what a prefix of the sent messages with the takes between makes, each applied once and in order; every message that is
-        // acknowledged is in it with its one reply, and every message that is missing is still outstanding. The history is that of these events.
+        // The encoder's store is what a prefix of the sent messages with the takes between makes, each applied once and
+        // in order; every message that is acknowledged is in it with its one reply, and every message that is missing
+        // is still outstanding. The history is that of these events.
         ensures headline { IfOk result (λ played. (runs : RunsAs T.step T.taken (new_line address target) (at_first target) (map event_of events.now) played.1 played.0)
             × IsHeadline T.step T.taken address target (history_by (map event_of events.now) runs.outcomes) played.0) }
         // Between the two ends that are left counters and kept replies never confuse two messages.
         ensures numbers { IfOk result (λ played. (o : Once T) → Holds played.0 o → Numbers T.step address (world_of played.0 o) (length played.0.codes)) }
-        // Of the definitions alone, and not of the line that is answered: two ends that are fed the bytes of these events do what the once-machine does, in
-        // numbers and in values.
+        // Of the definitions alone, and not of the line that is answered: two ends that are fed the bytes of these
+        // events do what the once-machine does, in numbers and in values.
         ensures law { IfOk result (λ played. Law T.step T.taken address target (map event_of events.now)) }
         ensures handed_back { IfErr result (λ fault. fault.target ≡ target) }
     {
@@ -111,8 +114,8 @@ impl<T: Target> Line<T> {
         Ok((line, refused))
     }
 
-    /// The events in turn, passing over those that are refused. It answers how many there were of these; a submission for which
-    /// there was no memory is one of them.
+    /// The events in turn, passing over those that are refused. It answers how many there were of these; a submission
+    /// for which there was no memory is one of them.
     pub fn run(&mut self, events: &[LineEvent<'_>]) -> usize
         // Each event in turn is a step, as `step` promises it for one, and the answer counts those that were refused.
         ensures plays { (o : Once T) → Holds self.old o → RunsAs T.step T.taken self.old o (map event_of events.now) result self.new }
@@ -130,8 +133,8 @@ impl<T: Target> Line<T> {
         refused
     }
 
-    /// One event: the end that it comes to is fed what it brings, cut as it says. Where it is refused nothing has changed. Only a
-    /// submission takes memory: room for the message and for its code, both before anything changes.
+    /// One event: the end that it comes to is fed what it brings, cut as it says. Where it is refused nothing has
+    /// changed. Only a submission takes memory: room for the message and for its code, both before anything changes.
     pub fn step(&mut self, event: &LineEvent<'_>) -> Result<Stepped, LineRefusal>
         // The line goes on as the once-machine does.
         ensures steps { IfOk result (λ stepped. (o : Once T) → Holds self.old o → StepsAs T.step T.taken self.old o (event_of event.now) stepped self.new) }

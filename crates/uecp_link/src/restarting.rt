@@ -12,11 +12,11 @@ use uecp_encoder::{Encoder, Target};
 use uecp_frame::{Address, Frame, FrameBytes, Message, encode};
 
 impl<T: Target> Line<T> {
-    /// The server dies, and a new one joins over a new connection, at once and without loss: the encoder gets one pass, whole. It answers
-    /// how many messages waited at the old one. These are given up: the new one knows nothing of them, and whether they were applied no
-    /// end can tell. The line goes on from there as one of a new server and this encoder
-    /// ([`of_encoder`](Line::of_encoder)): nothing is sent, the next message has the number 0, and what came before has no numbers any more.
-    /// It takes no memory.
+    /// The server dies, and a new one joins over a new connection, at once and without loss: the encoder gets one pass,
+    /// whole. It answers how many messages waited at the old one. These are given up: the new one knows nothing of
+    /// them, and whether they were applied no end can tell. The line goes on from there as one of a new server and this
+    /// encoder ([`of_encoder`](Line::of_encoder)): nothing is sent, the next message has the number 0, and what came
+    /// before has no numbers any more. It takes no memory.
     ///
     /// It wants a target that an empty message leaves as it is, as [`RdsStore`](rds_store::RdsStore) is
     /// ([`empty_message_changes_nothing`](rds_store::laws::empty_message_changes_nothing)).

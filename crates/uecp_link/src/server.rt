@@ -1,4 +1,5 @@
-//! The server's end of the line. Source: RDS Forum SPB 490, two-way mode; profile for the order of counters and for what acknowledges.
+//! The server's end of the line. Source: RDS Forum SPB 490, two-way mode; profile for the order of counters and for
+//! what acknowledges.
 ghost use Rattle.std.specs.Prelude.{◌≡◌, ◌+◌, ◌<◌, ◌≤◌, ◌==◌, ◌↔◌, [], IsNone, IfSome, IsTrue, length, take, slice_get, nat_lt, option_to_list};
 ghost use Rattle.std.specs.List.{IsDistinct};
 ghost use Rattle.std.specs.Option.{option_copied};
@@ -19,16 +20,17 @@ use arrayvec::ArrayVec;
 use std::marker::Model;
 use uecp_frame::{Address, Deframer, FoundRef, Frame, FrameBytes, Message, encode};
 
-/// A server that sends messages to one encoder, up to eight outstanding at a time: it numbers a message, lends its frame as
-/// often as the caller sends it, and knows the encoder's reply to it from all else. Contracts see it as one value,
-/// `ServerState`.
+/// A server that sends messages to one encoder, up to eight outstanding at a time: it numbers a message, lends its
+/// frame as often as the caller sends it, and knows the encoder's reply to it from all else. Contracts see it as one
+/// value, `ServerState`.
 #[derive(Drop)]
 pub struct Server {
     /// The encoder's address.
     address: Address,
     /// The counter of the last message, 0 before the first.
     last: u8,
-    /// The messages that are held, the oldest first: those that no reply has come to, and those marked ones that are newer.
+    /// The messages that are held, the oldest first: those that no reply has come to, and those marked ones that are
+    /// newer.
     held: ArrayVec<HeldMessage, 8>,
     /// What was heard, by kind.
     counts: ServerCounts,
@@ -48,8 +50,8 @@ impl Model for Server {
 }
 
 impl Server {
-    /// A server for the encoder at this address, which is that encoder's own: neither part is 0. It has sent nothing, its first
-    /// message will have counter 01, it holds nothing and nothing is counted.
+    /// A server for the encoder at this address, which is that encoder's own: neither part is 0. It has sent nothing,
+    /// its first message will have counter 01, it holds nothing and nothing is counted.
     pub fn new(address: Address) -> Server
         requires { IsTrue (is_exact address) }
         ensures { result ≡ idle_at address }
@@ -79,8 +81,8 @@ impl Server {
     }
 
     /// Takes a message to be sent, under the next counter: 01 to FF in turn, and 01 again. The server has room; see
-    /// [`has_room`](Server::has_room). Send what [`frame`](Server::frame) lends, again whenever no reply has come in time, until
-    /// [`hear`](Server::hear) answers `Acknowledged` with its counter. The counts stay.
+    /// [`has_room`](Server::has_room). Send what [`frame`](Server::frame) lends, again whenever no reply has come in
+    /// time, until [`hear`](Server::hear) answers `Acknowledged` with its counter. The counts stay.
     pub fn submit(&mut self, message: &Message)
         requires { length self.old.held < 8 }
         ensures { self.new ≡ submitted self.old message.now }
@@ -106,8 +108,8 @@ impl Server {
         });
     }
 
-    /// How many messages wait for their reply, at most eight, no two under the same counter. Of those that are held they are the ones
-    /// that are not marked.
+    /// How many messages wait for their reply, at most eight, no two under the same counter. Of those that are held
+    /// they are the ones that are not marked.
     pub fn waiting(&self) -> usize
         ensures value { result ≡ length (waiting self.now) }
         ensures few { result ≤ 8 }
@@ -116,8 +118,8 @@ impl Server {
         count_waiting(self.held.as_slice())
     }
 
-    /// The frame of one of the messages that wait, the oldest first, from 0: the same 8 to 524 bytes each time. None from
-    /// [`waiting`](Server::waiting) on.
+    /// The frame of one of the messages that wait, the oldest first, from 0: the same 8 to 524 bytes each time. None
+    /// from [`waiting`](Server::waiting) on.
     ///
     /// ```
     /// for place in 0..server.waiting() {
@@ -132,8 +134,8 @@ impl Server {
         frame_at(self.held.as_slice(), place)
     }
 
-    /// The counter of one of the messages that wait, the oldest first, from 0: that of the frame which [`frame`](Server::frame)
-    /// lends at this place. None from [`waiting`](Server::waiting) on.
+    /// The counter of one of the messages that wait, the oldest first, from 0: that of the frame which
+    /// [`frame`](Server::frame) lends at this place. None from [`waiting`](Server::waiting) on.
     ///
     /// ```
     /// server.submit(&message);
@@ -155,10 +157,10 @@ impl Server {
         self.frame(0)
     }
 
-    /// Takes a piece of what comes over the line: uses its bytes up to and with the one that ends a segment, or all, and
-    /// answers what that brought. Hear the rest of the piece next, until all is used. A reply marks its message; the marked ones
-    /// are let go from the oldest on, up to the first that waits. Where a fault was dropped, the messages and their frames are as
-    /// before. What the answer says is counted.
+    /// Takes a piece of what comes over the line: uses its bytes up to and with the one that ends a segment, or all,
+    /// and answers what that brought. Hear the rest of the piece next, until all is used. A reply marks its message;
+    /// the marked ones are let go from the oldest on, up to the first that waits. Where a fault was dropped, the
+    /// messages and their frames are as before. What the answer says is counted.
     pub fn hear(&mut self, piece: &[u8]) -> Heard
         ensures fits { result.used ≤ length piece.now }
         ensures moves { 0 < length piece.now → 0 < result.used }

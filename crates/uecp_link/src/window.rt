@@ -23,10 +23,10 @@ pub enum Windowed {
     Spent,
 }
 
-/// One try for all messages that wait: writes their frames, the oldest first, and makes at most `turns` reads of at most 64 bytes,
-/// until no message waits; a failed read ends the try. What was read with the last reply is heard to its end. Each
-/// acknowledgement adds its counter and its code to `marks`, whichever way the try ends: each is of one message that waits no
-/// more. Some message waits, see [`Server::is_idle`], and as many as wait find room in `marks`.
+/// One try for all messages that wait: writes their frames, the oldest first, and makes at most `turns` reads of at
+/// most 64 bytes, until no message waits; a failed read ends the try. What was read with the last reply is heard to its
+/// end. Each acknowledgement adds its counter and its code to `marks`, whichever way the try ends: each is of one
+/// message that waits no more. Some message waits, see [`Server::is_idle`], and as many as wait find room in `marks`.
 ///
 /// It never answers `TriesSpent`. Where it answers `Spent`, call it again, with the same `marks`.
 ///

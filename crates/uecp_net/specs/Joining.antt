@@ -30,8 +30,10 @@ end_of_pass (Ok Joined) = Ok tt
 end_of_pass (Ok Spent) = Err TriesSpent
 end_of_pass (Err fault) = Err (reason_of fault)
 
--- The encoder was joined over one connection after another, a pass on each. First so many passes were not complete: each connection was hung up, and cost a reconnect. Then one was; or
--- there was no connection to be had, and the reason is that of the one before, or this where there was none; or one more pass was not complete where no reconnect was left.
+-- The encoder was joined over one connection after another, a pass on each. First so many passes were not complete:
+-- each connection was hung up, and cost a reconnect. Then one was; or there was no connection to be had, and the reason
+-- is that of the one before, or this where there was none; or one more pass was not complete where no reconnect was
+-- left.
 abbrev pub JoinsOver : {C I O : Type 0} → (opens : C → Option (I × O) → C → Type 0) → (closes : C → I → O → C → Type 0) → (remaining : I → Option (List ℕ)) → (contents : O → Option (List ℕ)) → (ended : ℕ) → (before : Outstanding) → (old new : SenderOver C I O) → Result (Unit {0}) Outstanding → Type 0
 JoinsOver {C} {I} {O} opens closes remaining contents (suc n) before s s' result =
     (went : Result Joining DriveFault) × (reason : Outstanding) × (last : SenderOver C I O) × (next : SenderOver C I O) × Passes opens remaining contents s last went × (end_of_pass went ≡ Err reason) × HangsUp closes last next

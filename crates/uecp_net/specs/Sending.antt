@@ -1,4 +1,5 @@
--- A server with its connection as one value, and how it goes on connections; a reader has to believe it. Source: profile.
+-- A server with its connection as one value, and how it goes on connections; a reader has to believe it. Source:
+-- profile.
 use Rattle.std.specs.Prelude.{◌≡◌, ◌≢◌, ◌⊎◌, ℕ, ◌+◌, ◌-◌, ◌<◌, ◌≤◌, zero, suc, true, false, List, [], ◌∷◌, ◌++◌, length, map, Option, Some, None, IsSome, Result, Ok, Err}
 use Rattle.uecp_frame.specs.Findings.{Closed}
 use Rattle.uecp_encoder.specs.Metered.{Metered}
@@ -19,7 +20,8 @@ pub record SenderState : Type 0 where
   pub turns : ℕ
   pub left : ℕ
 
--- A sender with where its connections come from, by the name of the loan under which it has that, and the two ends of the connection that it has, if it has one.
+-- A sender with where its connections come from, by the name of the loan under which it has that, and the two ends of
+-- the connection that it has, if it has one.
 pub record SenderOver (C I O : Type 0) : Type 0 where
   pub sender : SenderState
   pub connect : C
@@ -36,7 +38,8 @@ Marks = List (ℕ × Code)
 abbrev pub unused : {D : Type 0} → D → Metered D
 unused device = record { device = device; calls = 0; failures = 0; empty = 0 }
 
--- A connection was opened: the sender has its two ends, which are unused, and what the connection before left open is forgotten.
+-- A connection was opened: the sender has its two ends, which are unused, and what the connection before left open is
+-- forgotten.
 abbrev pub Opens : {C I O : Type 0} → (opens : C → Option (I × O) → C → Type 0) → SenderOver C I O → SenderOver C I O → Type 0
 Opens {C} {I} {O} opens s s' =
     (input : I) × (output : O) × opens s.connect (Some (input, output)) s'.connect
@@ -50,15 +53,17 @@ OpensNone opens s s' = (s.ends ≡ None) × opens s.connect None s'.connect × (
 abbrev pub GoesOn : {C I O : Type 0} → (opens : C → Option (I × O) → C → Type 0) → SenderOver C I O → SenderOver C I O → Type 0
 GoesOn opens s s' = (IsSome s.ends × (s' ≡ s)) ⊎ ((s.ends ≡ None) × Opens opens s s')
 
--- So many calls of `send_window` on one connection, over its reader and writer and with the same marks, after each of which messages waited and nothing had failed.
+-- So many calls of `send_window` on one connection, over its reader and writer and with the same marks, after each of
+-- which messages waited and nothing had failed.
 abbrev pub SpentCalls : {I O : Type 0} → (I → Option (List ℕ)) → (O → Option (List ℕ)) → (turns calls : ℕ) → (old new : ServerState) → (input input' : Metered I) → (output output' : Metered O) → (marks marks' : Marks) → Type 0
 SpentCalls remaining contents turns zero old new input input' output output' marks marks' = (new ≡ old) × (input' ≡ input) × (output' ≡ output) × (marks' ≡ marks)
 SpentCalls {I} {O} remaining contents turns (suc n) old new input input' output output' marks marks' =
     (between : ServerState) × (reader : Metered I) × (writer : Metered O) × (some : Marks)
     × SpentCalls remaining contents turns n old between input reader output writer marks some × Windows remaining contents between new reader input' writer output' some marks' turns (Ok Spent)
 
--- How the calls on one connection went, with so many tries of so many turns. Acknowledged: the last of n calls, which are as many as are allowed or fewer, left no message waiting.
--- Every try spent: so many calls, and messages wait. Else a call failed.
+-- How the calls on one connection went, with so many tries of so many turns. Acknowledged: the last of n calls, which
+-- are as many as are allowed or fewer, left no message waiting. Every try spent: so many calls, and messages wait. Else
+-- a call failed.
 abbrev pub Tried : {I O : Type 0} → (I → Option (List ℕ)) → (O → Option (List ℕ)) → (tries turns : ℕ) → (old new : ServerState) → (input input' : Metered I) → (output output' : Metered O) → (marks marks' : Marks) → Result ℕ DriveFault → Type 0
 Tried {I} {O} remaining contents tries turns old new input input' output output' marks marks' (Ok n) =
     (before : ℕ) × (between : ServerState) × (reader : Metered I) × (writer : Metered O) × (some : Marks) × (n ≡ before + 1) × (n ≤ tries)
@@ -68,7 +73,8 @@ Tried {I} {O} remaining contents tries turns old new input input' output output'
     (before : ℕ) × (between : ServerState) × (reader : Metered I) × (writer : Metered O) × (some : Marks) × (before < tries)
     × SpentCalls remaining contents turns before old between input reader output writer marks some × Windows remaining contents between new reader input' writer output' some marks' turns (Err fault)
 
--- On one connection, that which the sender has or a new one: the calls of `send_window` did this over its two ends, which the sender still has, as the calls left them.
+-- On one connection, that which the sender has or a new one: the calls of `send_window` did this over its two ends,
+-- which the sender still has, as the calls left them.
 pub record Attempts {C I O : Type 0} (opens : C → Option (I × O) → C → Type 0) (remaining : I → Option (List ℕ)) (contents : O → Option (List ℕ)) (old new : SenderOver C I O) (marks marks' : Marks) (result : Result ℕ DriveFault) : Type 0 where
   pub start : SenderOver C I O
   pub ends : TwoEnds I O
@@ -84,7 +90,8 @@ reason_of (drive.WriteFailed written) = out.ConnectionFailed
 reason_of drive.Closed = out.ConnectionFailed
 reason_of drive.TriesSpent = out.TriesSpent
 
--- The sender hangs up: the two ends of the connection that it has, if it has one, go back to where connections come from, as they are.
+-- The sender hangs up: the two ends of the connection that it has, if it has one, go back to where connections come
+-- from, as they are.
 abbrev pub HangsUp : {C I O : Type 0} → (closes : C → I → O → C → Type 0) → SenderOver C I O → SenderOver C I O → Type 0
 HangsUp {C} {I} {O} closes s s' =
     ((s.ends ≡ None) × (s' ≡ s))
@@ -98,9 +105,11 @@ reconnecting s = record s { sender = record s.sender { left = s.sender.left - 1 
 abbrev pub without_ends : {C I O : Type 0} → SenderOver C I O → SenderOver C I O
 without_ends s = record s { ends = None }
 
--- The messages that wait were sent over one connection after another, from one state of the sender to another; the marks of one are kept for the next. First so many connections ended with messages that
--- wait: each broke or its tries were spent, was hung up, and cost a reconnect. Then came the last acknowledgement, after so many calls on this connection; or there was no connection to be had, and the
--- reason is that of the one before, or of this where there was none; or one more ended so where no reconnect was left.
+-- The messages that wait were sent over one connection after another, from one state of the sender to another; the
+-- marks of one are kept for the next. First so many connections ended with messages that wait: each broke or its tries
+-- were spent, was hung up, and cost a reconnect. Then came the last acknowledgement, after so many calls on this
+-- connection; or there was no connection to be had, and the reason is that of the one before, or of this where there
+-- was none; or one more ended so where no reconnect was left.
 abbrev pub Delivers : {C I O : Type 0} → (opens : C → Option (I × O) → C → Type 0) → (closes : C → I → O → C → Type 0) → (remaining : I → Option (List ℕ)) → (contents : O → Option (List ℕ)) → (ended : ℕ) → (before : Outstanding) → (old new : SenderOver C I O) → (marks marks' : Marks) → Result ℕ Outstanding → Type 0
 Delivers {C} {I} {O} opens closes remaining contents (suc n) before s s' marks marks' result =
     (fault : DriveFault) × (last : SenderOver C I O) × (next : SenderOver C I O) × (some : Marks) × Attempts opens remaining contents s last marks some (Err fault) × HangsUp closes last next × (0 < next.sender.left)
@@ -121,7 +130,8 @@ AreTold s marks told = map Some told ≡ map (λ counter. code_under counter mar
 
 -- ---- What is left of the server.
 
--- The messages that waited are all acknowledged: nothing is held, and so many acknowledgements more are counted. Of the rest only the other counts and the open part may have changed.
+-- The messages that waited are all acknowledged: nothing is held, and so many acknowledgements more are counted. Of the
+-- rest only the other counts and the open part may have changed.
 abbrev pub AreFreed : ServerState → ServerState → Type 0
 AreFreed old new = new ≡ record old { held = []; counts = record new.counts { acknowledged = raised_by (length (waiting old)) old.counts.acknowledged }; part = new.part }
 
@@ -129,8 +139,8 @@ AreFreed old new = new ≡ record old { held = []; counts = record new.counts { 
 abbrev pub StillWait : ServerState → ServerState → Type 0
 StillWait old new = (new.held ≢ []) × (new.address ≡ old.address) × (new.last ≡ old.last)
 
--- What one state of a server and the marks so far have become (private): these marks came to those before, each is one message that waits no more, and is counted, and each message
--- that waits no more has one.
+-- What one state of a server and the marks so far have become (private): these marks came to those before, each is one
+-- message that waits no more, and is counted, and each message that waits no more has one.
 pub record Follows (old new : ServerState) (marks marks' : Marks) : Type 0 where
   pub more : Marks
   pub marked : marks' ≡ marks ++ more

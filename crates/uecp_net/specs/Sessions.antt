@@ -13,8 +13,9 @@ use Rattle.uecp_encoder.specs.declared.serving.ServeFault.{ServeFault}
 abbrev pub Outcome : Type 0
 Outcome = Result Served ServeFault
 
--- One connection, from one state of the encoder to another: the open part was forgotten, and then `serve` was called over the two ends, each in a meter that was not called before. These bytes came, and
--- these were sent, as `serve` says of them, and no more calls were made of either end than it says.
+-- One connection, from one state of the encoder to another: the open part was forgotten, and then `serve` was called
+-- over the two ends, each in a meter that was not called before. These bytes came, and these were sent, as `serve` says
+-- of them, and no more calls were made of either end than it says.
 pub record Session {V I O : Type 0} (step : Step V) (remaining : I → Option (List ℕ)) (contents : O → Option (List ℕ)) (turns : ℕ) (old new : EncoderState V) (input : I) (input' : Metered I) (output : O) (output' : Metered O) (outcome : Outcome) : Type 0 where
   pub read : List ℕ
   pub sent : List ℕ
@@ -33,7 +34,8 @@ Serving {V} {C} {I} {O} step opens closes remaining contents turns e c outcome e
     (input : I) × (input' : Metered I) × (output : O) × (output' : Metered O) × (between : C)
     × opens c (Some (input, output)) between × Session step remaining contents turns e e' input input' output output' outcome × closes between input'.device output'.device c'
 
--- One connection after another, each opened where the one before was done, and served from the state that the one before left.
+-- One connection after another, each opened where the one before was done, and served from the state that the one
+-- before left.
 abbrev pub Sessions : {V C I O : Type 0} → Step V → (C → Option (I × O) → C → Type 0) → (C → I → O → C → Type 0) → (I → Option (List ℕ)) → (O → Option (List ℕ)) → (turns : ℕ) → EncoderState V → C → List Outcome → EncoderState V → C → Type 0
 Sessions step opens closes remaining contents turns e c [] e' c' = (e' ≡ e) × (c' ≡ c)
 Sessions {V} {C} {I} {O} step opens closes remaining contents turns e c (outcome ∷ outcomes) e' c' =

@@ -1,13 +1,14 @@
 //! The two ends over connections: an encoder serves one connection after another, and a server sends its messages over
 //! connections that may break and be opened again. The crate hands out values; it writes no line.
 //!
-//! Where connections come from is the matter of a [`Connect`]; [`Listening`], [`Local`] and [`Dialing`] are TCP. The crate reads no command
-//! line and knows no exit status.
+//! Where connections come from is the matter of a [`Connect`]; [`Listening`], [`Local`] and [`Dialing`] are TCP. The
+//! crate reads no command line and knows no exit status.
 //!
-//! - [`Connect`]: opens connections, with [`Listening`], [`Local`] and [`Dialing`]; [`DialFault`] is why there was none to be had.
+//! - [`Connect`]: opens connections, with [`Listening`], [`Local`] and [`Dialing`]; [`DialFault`] is why there was none
+//!   to be had.
 //! - [`serve_connection`]: an encoder over the next connection.
-//! - [`Sender`]: a server with the connection that it has, which sends its messages in batches, within its [`Limits`]; [`Settled`] is how
-//!   a batch went, and [`Outstanding`] why its messages are not acknowledged.
+//! - [`Sender`]: a server with the connection that it has, which sends its messages in batches, within its [`Limits`];
+//!   [`Settled`] is how a batch went, and [`Outstanding`] why its messages are not acknowledged.
 #![tactic(auto)]
 
 mod connect;

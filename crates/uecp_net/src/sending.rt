@@ -19,9 +19,11 @@ use uecp_link::{DriveFault, Server, Windowed, send_window};
 /// Why messages are still outstanding.
 #[derive(Clone, Copy, Debug, PartialEq, Eq)]
 pub enum Outstanding {
-    /// Every try on the last connection ended without all replies, and no reconnect was left or no other connection to be had.
+    /// Every try on the last connection ended without all replies, and no reconnect was left or no other connection to
+    /// be had.
     TriesSpent,
-    /// The last connection broke with no reconnect left or no other one to be had; or there was none to be had from the start.
+    /// The last connection broke with no reconnect left or no other one to be had; or there was none to be had from the
+    /// start.
     ConnectionFailed,
 }
 
@@ -52,8 +54,9 @@ struct TwoEnds<I, O> {
     output: Meter<O>,
 }
 
-/// A server, and the connection that it has, if it has one. What is submitted to it is a batch, which it sends when it is told to
-/// [`settle`](Sender::settle); where a batch ends is its caller's matter. Contracts see it as one value, `SenderOver`.
+/// A server, and the connection that it has, if it has one. What is submitted to it is a batch, which it sends when it
+/// is told to [`settle`](Sender::settle); where a batch ends is its caller's matter. Contracts see it as one value,
+/// `SenderOver`.
 #[derive(Drop)]
 pub struct Sender<'a, C: Connect> {
     connect: &'a mut C,
@@ -113,11 +116,12 @@ impl<'a, C: Connect> Sender<'a, C> {
         self.server.submit(message);
     }
 
-    /// Sends the messages that wait until all are acknowledged: on the connection that there is, or on a new one; where that breaks,
-    /// or brings not all replies in as many tries as it has, on a new one as long as reconnects are left. Some message waits.
+    /// Sends the messages that wait until all are acknowledged: on the connection that there is, or on a new one; where
+    /// that breaks, or brings not all replies in as many tries as it has, on a new one as long as reconnects are left.
+    /// Some message waits.
     ///
-    /// Where all are acknowledged the server is idle again; else messages are outstanding, and the connection is let go. Those may be
-    /// settled again, with what reconnects are left.
+    /// Where all are acknowledged the server is idle again; else messages are outstanding, and the connection is let
+    /// go. Those may be settled again, with what reconnects are left.
     pub fn settle(&mut self) -> Result<Settled, Outstanding>
         requires { self.old.sender.server.held ≢ [] }
         ensures freed { IfOk result (λ _. AreFreed self.old.sender.server self.new.sender.server) }
@@ -126,8 +130,8 @@ impl<'a, C: Connect> Sender<'a, C> {
         ensures outstanding { IfErr result (λ _. StillWait self.old.sender.server self.new.sender.server) }
         ensures stays { record self.new.sender { server = self.old.sender.server; left = self.old.sender.left } ≡ self.old.sender }
         ensures loan { self.new.loan ≡ self.old.loan }
-        // What each connection did, and nothing else: no batch is given up before its tries and its connections are spent. Each message
-        // is told the code of its own reply.
+        // What each connection did, and nothing else: no batch is given up before its tries and its connections are
+        // spent. Each message is told the code of its own reply.
         ensures delivers { IfOk result (λ settled. (ended : ℕ) × (marks : Marks)
             × Delivers C.opens C.closes C.Input.remaining C.Output.contents ended ConnectionFailed self.old self.new [] marks (Ok settled.tries)
             × AreTold self.old.sender.server marks settled.codes.items) }
@@ -143,8 +147,8 @@ impl<'a, C: Connect> Sender<'a, C> {
         })
     }
 
-    /// Sends the messages that wait on the connection that there is, and on new ones as long as reconnects are left, and answers how
-    /// many tries the last one took.
+    /// Sends the messages that wait on the connection that there is, and on new ones as long as reconnects are left,
+    /// and answers how many tries the last one took.
     fn send_on_any(&mut self, marks: &mut ArrayVec<(u8, Code), 8>) -> Result<u32, Outstanding>
         requires busy { self.old.sender.server.held ≢ [] }
         requires few { length (waiting self.old.sender.server) ≤ 8 }
@@ -171,8 +175,8 @@ impl<'a, C: Connect> Sender<'a, C> {
         }
     }
 
-    /// Sends the messages that wait on the connection that there is, or on a new one, and says how that went; or None where there
-    /// is none to be had.
+    /// Sends the messages that wait on the connection that there is, or on a new one, and says how that went; or None
+    /// where there is none to be had.
     fn send_on_one(
         &mut self,
         marks: &mut ArrayVec<(u8, Code), 8>,

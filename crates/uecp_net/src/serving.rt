@@ -5,8 +5,8 @@ ghost use Rattle.uecp_net.specs.Sessions.{Serving};
 use crate::connect::Connect;
 use uecp_encoder::{Encoder, Meter, ServeFault, Served, Target, serve};
 
-/// Serves the next connection and says how it ended, or answers None where there is none to be had. The encoder forgets what the
-/// connection before left open, then [`serve`] is called once, and the two ends are given back.
+/// Serves the next connection and says how it ended, or answers None where there is none to be had. The encoder forgets
+/// what the connection before left open, then [`serve`] is called once, and the two ends are given back.
 ///
 /// ```
 /// while let Some(outcome) = serve_connection(&mut encoder, 100_000, &mut listening) {

@@ -122,9 +122,9 @@ impl<'a, R: Net<Stream = TcpStream>> Model for Dialing<'a, R> {
 }
 
 impl<'a, R: Net<Stream = TcpStream>> Dialing<'a, R> {
-    /// Dials this host, by name or address, and this port, 1 to 65535. A connection that is not made after `timeout` milliseconds, which is
-    /// not 0, is given up, and a read that brings nothing for so long fails, and so does a write that takes nothing. A host with
-    /// several addresses is dialled at each in turn.
+    /// Dials this host, by name or address, and this port, 1 to 65535. A connection that is not made after `timeout`
+    /// milliseconds, which is not 0, is given up, and a read that brings nothing for so long fails, and so does a write
+    /// that takes nothing. A host with several addresses is dialled at each in turn.
     pub fn new(net: &'a R, host: &'a str, port: u16, timeout: u64) -> Dialing<'a, R>
         ensures { result ≡ record { host = host.now; port = port; timeout = timeout; failed = None } }
     {
@@ -209,8 +209,9 @@ fn limited(stream: &TcpStream, timeout: Duration) -> Result<(), Error> {
     stream.set_write_timeout(Some(timeout))
 }
 
-/// The two ends of a stream. The system is asked to send each frame and each reply as soon as it is written, where it would else hold a small
-/// one back until those before it have come; where that is refused the connection is slower, and no more than that.
+/// The two ends of a stream. The system is asked to send each frame and each reply as soon as it is written, where it
+/// would else hold a small one back until those before it have come; where that is refused the connection is slower,
+/// and no more than that.
 fn two_ends(stream: TcpStream) -> Result<(TcpStream, TcpStream), Error> {
     let _ = stream.set_nodelay(true);
     let copy = stream.try_clone()?;

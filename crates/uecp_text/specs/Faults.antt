@@ -26,8 +26,8 @@ refusal_text line.NoFrame = codes "no frame"
 refusal_text line.MessageTooLong = codes "message too long"
 refusal_text line.OutOfMemory = codes "out of memory"
 
--- What is said of a run that stopped: of a line its number and what is wrong with it, of services the name of their fault. Of one that
--- a text ended nothing is said.
+-- What is said of a run that stopped: of a line its number and what is wrong with it, of services the name of their
+-- fault. Of one that a text ended nothing is said.
 abbrev pub fault_text : RunFault → List ℕ
 fault_text (Line number refusal) = codes "uecp: line " ++ decimal number ++ codes ": " ++ refusal_text refusal
 fault_text (Services name) = codes "uecp: services: " ++ name.now

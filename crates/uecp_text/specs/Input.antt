@@ -3,7 +3,8 @@ use Rattle.std.specs.Prelude.{ℕ, ◌+◌, ◌-◌, ◌==◌, Bool, List, [], �
 use Rattle.std.specs.List.{prefix_len, suffix_len, onto_first}
 use lib.Pointwise.{pointwise}
 
--- The lines of an input, each with the line feed that ends it; what follows the last line feed is a line as well, if anything does.
+-- The lines of an input, each with the line feed that ends it; what follows the last line feed is a line as well, if
+-- anything does.
 unfoldable pub lines_of : List ℕ → List (List ℕ)
 lines_of [] = []
 lines_of (byte ∷ rest) = if byte == 0x0A then (byte ∷ []) ∷ lines_of rest else onto_first byte (lines_of rest)

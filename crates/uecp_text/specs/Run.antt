@@ -23,14 +23,15 @@ pub data Outcome : Type 0 where
 abbrev pub Meaning : Type 0 → Type 1
 Meaning V = V → List ℕ → Outcome → V → Type 0
 
--- The run stops at the text of this number: it is refused, and brings no lines; or it brings its lines, and ends the run. This says why, and this value is left.
+-- The run stops at the text of this number: it is refused, and brings no lines; or it brings its lines, and ends the
+-- run. This says why, and this value is left.
 abbrev pub StopsAt : {V : Type 0} → Meaning V → V → (number : ℕ) → (text lines : List ℕ) → Option RunFault → V → Type 0
 StopsAt meaning v number text lines stop v' =
     ((refusal : LineFault) × meaning v text (Refuses refusal) v' × (lines ≡ []) × (stop ≡ Some (run.Line number refusal)))
     ⊎ (meaning v text (Ends lines) v' × (stop ≡ Some run.Outstanding))
 
--- The texts are taken one after another, up to the first at which the run stops, if there is one: they bring these lines in all, and leave this value; and this says
--- why the run stopped.
+-- The texts are taken one after another, up to the first at which the run stops, if there is one: they bring these
+-- lines in all, and leave this value; and this says why the run stopped.
 abbrev pub Runs : {V : Type 0} → Meaning V → V → List (ℕ × List ℕ) → List ℕ → Option RunFault → V → Type 0
 Runs meaning v [] lines stop v' = (lines ≡ []) × (stop ≡ None) × (v' ≡ v)
 Runs {V} meaning v ((number, text) ∷ texts) lines stop v' =
@@ -47,7 +48,8 @@ abbrev pub outcome_of : Taken → List ℕ → Outcome
 outcome_of taken.GoesOn lines = Brings lines
 outcome_of taken.Ends lines = Ends lines
 
--- One text was taken: what it brings was added to the output, or it was refused for its fault and nothing was added; or memory was wanting.
+-- One text was taken: what it brings was added to the output, or it was refused for its fault and nothing was added; or
+-- memory was wanting.
 abbrev pub Takes : {V : Type 0} → Meaning V → V → List ℕ → Kept → Result Taken LineFault → V → Kept → Type 0
 Takes meaning v text before result v' after =
     MatchResult result
@@ -58,8 +60,8 @@ Takes meaning v text before result v' after =
 abbrev pub RunsFirst : {V : Type 0} → Meaning V → V → List (ℕ × List ℕ) → List ℕ → Type 0
 RunsFirst {V} meaning v texts lines = (first : List (ℕ × List ℕ)) × (later : List (ℕ × List ℕ)) × (v' : V) × (texts ≡ first ++ later) × Runs meaning v first lines None v'
 
--- The texts were taken: what they bring was added to the output, up to the one at which the run stops, if there is one, and the result says why; or memory was wanting, and what was
--- added is what some first texts bring.
+-- The texts were taken: what they bring was added to the output, up to the one at which the run stops, if there is one,
+-- and the result says why; or memory was wanting, and what was added is what some first texts bring.
 abbrev pub RunsOn : {V : Type 0} → Meaning V → V → List (ℕ × List ℕ) → Kept → Result (Unit {0}) RunFault → V → Kept → Type 0
 RunsOn meaning v texts before result v' after =
     MatchResult result
@@ -70,15 +72,16 @@ RunsOn meaning v texts before result v' after =
 abbrev pub IsInput : (unread unread' : Option (List ℕ)) → List ℕ → Type 0
 IsInput unread unread' input = Consumes unread unread' input × IsAtEnd unread' × (length input ≤ 1048576)
 
--- What is written of an input: the lines that its texts bring, and where the run stops at none the closing lines of the value that is left; the result says why
--- the run stopped.
+-- What is written of an input: the lines that its texts bring, and where the run stops at none the closing lines of the
+-- value that is left; the result says why the run stopped.
 abbrev pub Prints : {V : Type 0} → Meaning V → V → (closing : V → List ℕ) → List ℕ → Result (Unit {0}) RunFault → List ℕ → Type 0
 Prints {V} meaning v closing input result written =
     MatchResult result
     (λ _. (v' : V) × (lines : List ℕ) × Runs meaning v (texts_of input) lines None v' × (written ≡ lines ++ closing v'))
     (λ fault. (v' : V) × Runs meaning v (texts_of input) written (Some fault) v')
 
--- Reading was given up for this, after these bytes: there is more to read than the limit, or a read failed, or memory was wanting.
+-- Reading was given up for this, after these bytes: there is more to read than the limit, or a read failed, or memory
+-- was wanting.
 abbrev pub StopsReading : RunFault → (read : List ℕ) → Type 0
 StopsReading run.TooLong read = length read ≡ 1048577
 StopsReading run.Reading read = Unit {0}
@@ -89,19 +92,22 @@ StopsReading fault read = ⊥
 abbrev pub IsUnread : (unread unread' : Option (List ℕ)) → RunFault → Type 0
 IsUnread unread unread' fault = (read : List ℕ) × Consumes unread unread' read × StopsReading fault read
 
--- What a writer got of an input whose run failed for this: where memory was wanting, all that some first texts bring; where writing failed, a beginning of that or of what is written of the input.
+-- What a writer got of an input whose run failed for this: where memory was wanting, all that some first texts bring;
+-- where writing failed, a beginning of that or of what is written of the input.
 abbrev pub WritesSome : {V : Type 0} → Meaning V → V → (closing : V → List ℕ) → List ℕ → (held held' : Option (List ℕ)) → RunFault → Type 0
 WritesSome meaning v closing input held held' run.OutOfMemory = (lines : List ℕ) × RunsFirst meaning v (texts_of input) lines × Appends held held' lines
 WritesSome meaning v closing input held held' run.Writing =
     (lines : List ℕ) × (RunsFirst meaning v (texts_of input) lines ⊎ ((result : Result (Unit {0}) RunFault) × Prints meaning v closing input result lines)) × Begins held held' lines
 WritesSome meaning v closing input held held' fault = ⊥
 
--- A run over all that the reader had left failed for this: the input was not read to its end, and nothing was written; or it was, and what was written is a beginning of what is written of it.
+-- A run over all that the reader had left failed for this: the input was not read to its end, and nothing was written;
+-- or it was, and what was written is a beginning of what is written of it.
 abbrev pub Breaks : {V : Type 0} → Meaning V → V → (closing : V → List ℕ) → (unread unread' : Option (List ℕ)) → (held held' : Option (List ℕ)) → RunFault → Type 0
 Breaks meaning v closing unread unread' held held' fault =
     (IsUnread unread unread' fault × (held' ≡ held)) ⊎ ((input : List ℕ) × IsInput unread unread' input × WritesSome meaning v closing input held held' fault)
 
--- A run over an input added what is written of it to the output; or memory was wanting, and what was added is what some first texts bring.
+-- A run over an input added what is written of it to the output; or memory was wanting, and what was added is what some
+-- first texts bring.
 abbrev pub RunsInto : {V : Type 0} → Meaning V → V → (closing : V → List ℕ) → List ℕ → Kept → Result (Unit {0}) RunFault → Kept → Type 0
 RunsInto meaning v closing input before result after =
     ((result ≡ Err run.OutOfMemory) × ((lines : List ℕ) × RunsFirst meaning v (texts_of input) lines × Writes before after lines))

@@ -2,7 +2,8 @@
 use Rattle.std.specs.Prelude.{◌≡◌, ℕ, Bool, false, Option, List, [], ◌++◌, IsTrue}
 use Rattle.std.specs.Io.KnownBytes.{Appends}
 
--- What is kept of the output: its bytes so far, and whether they are whole. Once memory was refused they are not, and then they are a beginning.
+-- What is kept of the output: its bytes so far, and whether they are whole. Once memory was refused they are not, and
+-- then they are a beginning.
 pub record Kept : Type 0 where
   pub bytes : List ℕ
   pub is_whole : Bool
@@ -11,7 +12,8 @@ pub record Kept : Type 0 where
 abbrev pub Adds : Kept → Kept → List ℕ → Type 0
 Adds before after bytes = IsTrue after.is_whole → IsTrue before.is_whole × (after.bytes ≡ before.bytes ++ bytes)
 
--- Whatever memory there was, what was kept stays, and behind it a beginning of these bytes was added: all of them where the output is whole afterwards, and none where it was not whole before.
+-- Whatever memory there was, what was kept stays, and behind it a beginning of these bytes was added: all of them where
+-- the output is whole afterwards, and none where it was not whole before.
 pub record AddsFirst (before after : Kept) (bytes : List ℕ) : Type 0 where
   pub part : List ℕ
   pub rest : List ℕ
@@ -20,7 +22,8 @@ pub record AddsFirst (before after : Kept) (bytes : List ℕ) : Type 0 where
   pub whole : IsTrue after.is_whole → IsTrue before.is_whole × (rest ≡ [])
   pub broken : before.is_whole ≡ false → part ≡ []
 
--- Law: what is added to an output one after another is added as one, so what it keeps is always a beginning of all that was said.
+-- Law: what is added to an output one after another is added as one, so what it keeps is always a beginning of all that
+-- was said.
 abbrev pub IsBeginning : Type 0
 IsBeginning = (a b c : Kept) (first second : List ℕ) → AddsFirst a b first → AddsFirst b c second → AddsFirst a c (first ++ second)
 

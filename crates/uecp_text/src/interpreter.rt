@@ -20,8 +20,8 @@ pub enum Taken {
     Ends,
 }
 
-/// Something that takes what the lines of an input say, one after another. Contracts see its value; `meaning` tells, of a value and
-/// a text, what the text comes to and which value it leaves, and `closing` the lines that end an output.
+/// Something that takes what the lines of an input say, one after another. Contracts see its value; `meaning` tells, of
+/// a value and a text, what the text comes to and which value it leaves, and `closing` the lines that end an output.
 pub trait Interpreter {
     // What a text comes to, and the value that it leaves.
     ghost meaning: { Meaning Self };
@@ -29,8 +29,8 @@ pub trait Interpreter {
     // The lines that come last.
     ghost closing: { Self → List ℕ };
 
-    /// Takes one text, and adds what it brings to the output. Where it is refused nothing is added; where memory is wanting nothing
-    /// is said of the value and of the output.
+    /// Takes one text, and adds what it brings to the output. Where it is refused nothing is added; where memory is
+    /// wanting nothing is said of the value and of the output.
     fn take(&mut self, alloc: Global, text: &[u8], output: &mut Output) -> Result<Taken, LineFault>
         ensures { Takes meaning self.old text.now output.old result self.new output.new };
 
@@ -39,11 +39,11 @@ pub trait Interpreter {
         ensures { Adds output.old output.new (closing self.now) };
 }
 
-/// Runs the interpreter over all that the reader has, up to the first text that is refused or ends the run; where there is none
-/// the closing lines come last. What there is to say is written out at the end, also where the run stopped.
+/// Runs the interpreter over all that the reader has, up to the first text that is refused or ends the run; where there
+/// is none the closing lines come last. What there is to say is written out at the end, also where the run stopped.
 ///
-/// Errors: `Line` where a text was refused, `Outstanding` where one ended the run; `TooLong`, `Reading` and `Writing` of the
-/// input and the output; `OutOfMemory`.
+/// Errors: `Line` where a text was refused, `Outstanding` where one ended the run; `TooLong`, `Reading` and `Writing`
+/// of the input and the output; `OutOfMemory`.
 pub fn run<R: Read, W: Write, I: Interpreter>(
     alloc: Global,
     reader: &mut R,
@@ -97,8 +97,8 @@ fn run_lines<I: Interpreter>(
     Ok(())
 }
 
-/// Takes what the line of this number says, if it says anything. What it brings is kept in `lines` until it is whole, and then added
-/// to the output; so where memory is wanting the output stays.
+/// Takes what the line of this number says, if it says anything. What it brings is kept in `lines` until it is whole,
+/// and then added to the output; so where memory is wanting the output stays.
 fn take_line<I: Interpreter>(
     alloc: Global,
     number: usize,

@@ -1,9 +1,9 @@
-//! Text in and text out: the bytes of a reader as lines, what a line says, the words of a text and what they spell; the lines that
-//! a run writes; why a run stops, and what is said of that.
+//! Text in and text out: the bytes of a reader as lines, what a line says, the words of a text and what they spell; the
+//! lines that a run writes; why a run stops, and what is said of that.
 //!
-//! The crate knows no command and no element. What texts mean is the matter of an [`Interpreter`], and the same [`run`] takes
-//! any of them over an input: line by line, up to the first text that is refused or ends the run. It opens no file and knows no
-//! standard stream: it works on every reader and writer.
+//! The crate knows no command and no element. What texts mean is the matter of an [`Interpreter`], and the same [`run`]
+//! takes any of them over an input: line by line, up to the first text that is refused or ends the run. It opens no
+//! file and knows no standard stream: it works on every reader and writer.
 //!
 //! - [`Interpreter`], [`run`]: what texts do, and the loop over them.
 //! - [`Output`]: the lines that a run writes, kept until they are written out.

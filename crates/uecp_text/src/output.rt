@@ -172,8 +172,8 @@ impl Output {
         }
     }
 
-    /// Writes out what was taken, and flushes the writer; nothing is kept then. `Writing` where the writer fails: it has got a
-    /// beginning of that.
+    /// Writes out what was taken, and flushes the writer; nothing is kept then. `Writing` where the writer fails: it
+    /// has got a beginning of that.
     pub fn write_out<W: Write>(&mut self, writer: &mut W) -> Result<(), RunFault>
         ensures written { OnOk result (Appends (W.contents writer.old) (W.contents writer.new) self.old.bytes) }
         ensures begun { Begins (W.contents writer.old) (W.contents writer.new) self.old.bytes }
@@ -187,8 +187,8 @@ impl Output {
     }
 }
 
-/// Puts the bytes after what is held, piece by piece; nothing where memory is refused. Room grows by a half, so that an output takes little more memory than
-/// it has bytes.
+/// Puts the bytes after what is held, piece by piece; nothing where memory is refused. Room grows by a half, so that an
+/// output takes little more memory than it has bytes.
 fn put_after(bytes: &[u8], held: &mut Vec<u8>) -> Result<(), AllocError>
     ensures added { OnOk result (held.new.items ≡ held.old.items ++ bytes.now) }
     ensures unchanged { OnErr result (held.new.items ≡ held.old.items) }

@@ -8,8 +8,8 @@ use crate::line_fault::LineFault;
 use std::alloc::{AllocError, Global};
 use std::marker::Model;
 
-/// Room for the bytes that a text spells. It is kept from one text to the next, so memory is taken only for a text that is longer
-/// than all before it. Contracts see nothing of what it holds.
+/// Room for the bytes that a text spells. It is kept from one text to the next, so memory is taken only for a text that
+/// is longer than all before it. Contracts see nothing of what it holds.
 #[derive(Drop)]
 pub struct PieceBuffer {
     /// The bytes of the last text.
@@ -33,7 +33,8 @@ impl PieceBuffer {
         }
     }
 
-    /// The bytes of a text of hexadecimal digits of either case, its spaces taken out. They are lent until the next text is read.
+    /// The bytes of a text of hexadecimal digits of either case, its spaces taken out. They are lent until the next
+    /// text is read.
     ///
     /// Errors: `NotHex` where the text has anything else, or an odd number of digits; `OutOfMemory`.
     ///
@@ -51,8 +52,8 @@ impl PieceBuffer {
     }
 }
 
-/// Puts in the bytes of a text, its spaces taken out. Most texts have none, so they are looked for only in a text that does not
-/// decode as it stands.
+/// Puts in the bytes of a text, its spaces taken out. Most texts have none, so they are looked for only in a text that
+/// does not decode as it stands.
 #[inline(always)]
 #[tactic(auto, using(crate::proofs::Pieces::piece_as_it_stands))]
 fn put_bytes(text: &[u8], bytes: &mut Vec<u8>, digits: &mut Vec<u8>) -> Result<(), LineFault>

@@ -8,8 +8,8 @@ use crate::input::left;
 use crate::run_fault::RunFault;
 use std::io::{ErrorKind, Write};
 
-/// Writes the bytes, as far as the writer takes them: where it fails, or takes none, it has got a beginning of them, and the answer
-/// is `Writing`. A write that was interrupted is made again.
+/// Writes the bytes, as far as the writer takes them: where it fails, or takes none, it has got a beginning of them,
+/// and the answer is `Writing`. A write that was interrupted is made again.
 pub(crate) fn write_whole<W: Write>(bytes: &[u8], writer: &mut W) -> Result<(), RunFault>
     ensures written { OnOk result (Appends (W.contents writer.old) (W.contents writer.new) bytes.now) }
     ensures begun { Begins (W.contents writer.old) (W.contents writer.new) bytes.now }

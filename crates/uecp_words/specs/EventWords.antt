@@ -76,7 +76,8 @@ pub record NamesNothing (words : List (List ℕ)) : Type 0 where
   pub no_event : (event : Event) → Names words event → ⊥
   pub no_bytes : (bytes : List ℕ) → Submits words bytes → ⊥
 
--- The words behind the name of such an event hold what takes memory: a lone word the bytes of a message or of noise, two and more a number and the lengths of pieces.
+-- The words behind the name of such an event hold what takes memory: a lone word the bytes of a message or of noise,
+-- two and more a number and the lengths of pieces.
 abbrev pub TakesMemory : Event → (others : List (List ℕ)) → Type 0
 TakesMemory (Submit m) others = length others ≡ 1
 TakesMemory (FrameComes number) others = 1 < length others
@@ -91,7 +92,8 @@ TakesMemory Take others = ⊥
 abbrev pub MayWantMemory : List (List ℕ) → Type 0
 MayWantMemory words = (event : Event) × (others : List (List ℕ)) × (words ≡ name_of event ∷ others) × TakesMemory event others
 
--- What is wrong with the words: they name nothing; or they submit more than 255 bytes. Or memory was wanting for what they hold.
+-- What is wrong with the words: they name nothing; or they submit more than 255 bytes. Or memory was wanting for what
+-- they hold.
 abbrev pub IsFaultOf : List (List ℕ) → LineFault → Type 0
 IsFaultOf words fault.NotACommand = NamesNothing words
 IsFaultOf words fault.MessageTooLong = (bytes : List ℕ) × Submits words bytes × (255 < length bytes)

@@ -1,4 +1,5 @@
--- Laws of what is shown and what is said: the lines that show a frame are lines of a script, and say that frame (profile).
+-- Laws of what is shown and what is said: the lines that show a frame are lines of a script, and say that frame
+-- (profile).
 use Rattle.std.specs.Prelude.{◌≡◌, ℕ, ◌+◌, ◌<◌, List, ◌∷◌, ◌++◌, codes}
 use Rattle.uecp_elements.specs.Grammar.{Element, IsElement, AreBytes, spelling}
 use Rattle.uecp_text.specs.Input.{lines_of, numbered}

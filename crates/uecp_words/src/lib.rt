@@ -1,10 +1,12 @@
 //! What the words of a script's line name: an element, a line of a frame script, or an event of a line.
 //!
-//! The crate reads words and does nothing with what they name: it keeps no frame and plays no event. That is the matter of the
-//! program.
+//! The crate reads words and does nothing with what they name: it keeps no frame and plays no event. That is the matter
+//! of the program.
 //!
-//! - [`ScriptLine`], [`script_line`]: a line of a frame script, as `uecp make` reads it; an element comes as its spelling.
-//! - [`EventLine`], [`event_of`]: a line of an event script, as `uecp line` reads it; [`is_restart`]: whether it starts the server again.
+//! - [`ScriptLine`], [`script_line`]: a line of a frame script, as `uecp make` reads it; an element comes as its
+//!   spelling.
+//! - [`EventLine`], [`event_of`]: a line of an event script, as `uecp line` reads it; [`is_restart`]: whether it starts
+//!   the server again.
 //! - [`message_of`]: a message out of its bytes.
 #![tactic(auto)]
 

@@ -3,8 +3,8 @@ ghost use Rattle.std.specs.Prelude.{◌≡◌, ◌↔◌, IsTrue, codes};
 ghost use Rattle.uecp_text.specs.Words.{texts};
 ghost use Rattle.uecp_words.specs.RestartWords.{restart_words};
 
-/// Whether a line of an event script is `restart server`: it names no event that comes over the line, but that the server died and
-/// a new one joins.
+/// Whether a line of an event script is `restart server`: it names no event that comes over the line, but that the
+/// server died and a new one joins.
 pub fn is_restart(words: &[&[u8]]) -> bool
     ensures { IsTrue result ↔ (texts words.now ≡ restart_words) }
 {

@@ -1,5 +1,5 @@
-//! The worked examples of the crates below the line, each a test, and nothing else: where a crate has tests all of it is proved
-//! twice.
+//! The worked examples of the crates below the line, each a test, and nothing else: where a crate has tests all of it
+//! is proved twice.
 #![tactic(auto)]
 
 #[cfg(test)]

@@ -268,7 +268,8 @@ fn a_refused_message_is_acknowledged_and_never_applied_late(rt: HostRuntime) -> 
     Ok(())
 }
 
-/// A text and 127 empty messages, after 126 of which the frame of the text comes again. The bare encoder is given the same frames.
+/// A text and 127 empty messages, after 126 of which the frame of the text comes again. The bare encoder is given the
+/// same frames.
 fn comes_again_for_so_long(
     rt: &impl Abort,
     line: &mut Line<RdsStore>,
@@ -293,7 +294,8 @@ fn comes_again_for_so_long(
     steps(rt, line, &frame(0), Err(LineRefusal::TooLate));
     steps(rt, line, &reply(0), Err(LineRefusal::TooLate));
     assert_eq!(rt; texts_of(line.encoder().target()), 1);
-    // A bare encoder knows no numbers: after one more message it has no reply to the frame, which is not the next either.
+    // A bare encoder knows no numbers: after one more message it has no reply to the frame, which is not the next
+    // either.
     let reply = reply_made(rt, 0x00, 0x80);
     replies(rt, encoder, lent(rt, line), true, reply.as_slice());
     assert!(rt; matches!(encoder.feed(add_0).what, What::NotNext));
@@ -369,7 +371,8 @@ fn however_it_is_cut_a_frame_is_the_same(rt: HostRuntime) -> Result<(), Fail> {
     Ok(())
 }
 
-/// Two messages, the frame of the second too early, that of the first twice and its reply twice, and what a third would have.
+/// Two messages, the frame of the second too early, that of the first twice and its reply twice, and what a third would
+/// have.
 fn script<'a>(message: &'a Message) -> [LineEvent<'a>; 9] {
     [
         LineEvent::Submit(message),

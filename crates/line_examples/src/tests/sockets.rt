@@ -1,4 +1,5 @@
-//! Both ends over real sockets, in one process and one thread: what is written waits in the socket until the other end reads it.
+//! Both ends over real sockets, in one process and one thread: what is written waits in the socket until the other end
+//! reads it.
 ghost use Rattle.std.specs.Prelude.{IsTrue};
 ghost use Rattle.uecp_frame.specs.Address.{is_exact};
 

@@ -64,7 +64,8 @@ fn the_words_of_a_command_line(rt: HostRuntime) -> Result<(), Fail> {
     Err("always refused".into())
 }
 
-/// One run of the job: its status, and whether that is 3 with its text and a beginning of an output, or 0 with an output and no text.
+/// One run of the job: its status, and whether that is 3 with its text and a beginning of an output, or 0 with an
+/// output and no text.
 fn runs(rt: &impl Abort, alloc: Global, job: &Job, input: &str, outputs: &[&str]) -> Option<usize>
     requires { IsLocal job.now }
 {

@@ -104,8 +104,8 @@ pub(crate) fn server_job(alloc: Global, site: u16, reconnects: u32, window: u8) 
     })
 }
 
-/// Runs `server` over these connections, a reply a read, with the defaults of its options but for site, reconnects and window, and
-/// compares what it comes to and what each connection got that was opened.
+/// Runs `server` over these connections, a reply a read, with the defaults of its options but for site, reconnects and
+/// window, and compares what it comes to and what each connection got that was opened.
 fn serves(
     rt: &impl Abort,
     alloc: Global,
@@ -333,8 +333,8 @@ fn encoder_job(alloc: Global, services: &[u8], connections: u32) -> Result<Job, 
     })
 }
 
-/// Runs `encoder` with these services and so many connections over these, with these writes of output failing, and compares what
-/// it comes to and what each connection got that was opened.
+/// Runs `encoder` with these services and so many connections over these, with these writes of output failing, and
+/// compares what it comes to and what each connection got that was opened.
 fn encodes(
     rt: &impl Abort,
     alloc: Global,
@@ -387,7 +387,8 @@ fn connections_of_encoder(rt: HostRuntime) -> Result<(), Fail> {
     encodes(&rt, alloc, &two, (twice, 2), &[], mistaken, &[])
 }
 
-/// Whether a run was refused memory, with its text and a beginning of the output; else it wrote the output and said nothing.
+/// Whether a run was refused memory, with its text and a beginning of the output; else it wrote the output and said
+/// nothing.
 fn is_refused(rt: &impl Abort, status: u8, written: &[u8], said: &[u8], output: &[u8]) -> bool {
     if status == 0 {
         assert!(rt; written == output && said.is_empty());
@@ -401,7 +402,8 @@ fn is_refused(rt: &impl Abort, status: u8, written: &[u8], said: &[u8], output: 
 /// How often memory is given back at most.
 const TIMES: usize = 1 << 15;
 
-/// Runs `server` with this input, over a connection that gives this, until memory suffices and it writes this output and sends this.
+/// Runs `server` with this input, over a connection that gives this, until memory suffices and it writes this output
+/// and sends this.
 fn server_in_the_end(
     rt: &impl Abort,
     alloc: Global,

@@ -39,8 +39,8 @@ impl Server {
         };
     }
 
-    /// As [`hear`](Server::hear), where no message is held: answers how many bytes it used, and the counter that the frame which ended
-    /// replies to, where it is a reply.
+    /// As [`hear`](Server::hear), where no message is held: answers how many bytes it used, and the counter that the
+    /// frame which ended replies to, where it is a reply.
     pub(crate) fn hear_reply(&mut self, piece: &[u8]) -> (usize, Option<u8>)
         requires { self.old.held ≡ [] }
         ensures fits { result.0 ≤ length piece.now }

@@ -1,4 +1,5 @@
-//! Replies among the frames that a server hears. Source: RDS Forum SPB 490, two-way mode; profile for what acknowledges.
+//! Replies among the frames that a server hears. Source: RDS Forum SPB 490, two-way mode; profile for what
+//! acknowledges.
 ghost use Rattle.std.specs.Prelude.{◌≡◌};
 ghost use Rattle.uecp_frame.specs.Findings.{Closed};
 ghost use Rattle.uecp_frame.specs.Lent.{frame_lent};

@@ -9,10 +9,11 @@ use crate::connect::Connect;
 use uecp_link::{DriveFault, Joining, join};
 
 impl<'a, C: Connect> Sender<'a, C> {
-    /// Joins the encoder, so that the server may begin with counter 01 whatever the encoder has kept: makes a pass of empty messages
-    /// over a new connection, and where that is not complete another one over the next, as long as reconnects are left. The
-    /// connection that there was is let go first. A pass makes at most 255 times as many reads as a try. Where the encoder is joined
-    /// the connection stays, for the batch that is settled next; else it is let go. No message is held, before or after.
+    /// Joins the encoder, so that the server may begin with counter 01 whatever the encoder has kept: makes a pass of
+    /// empty messages over a new connection, and where that is not complete another one over the next, as long as
+    /// reconnects are left. The connection that there was is let go first. A pass makes at most 255 times as many reads
+    /// as a try. Where the encoder is joined the connection stays, for the batch that is settled next; else it is let
+    /// go. No message is held, before or after.
     pub fn join(&mut self) -> Result<(), Outstanding>
         requires idle { self.old.sender.server.held ≡ [] }
         // What each connection did, and nothing else: a pass on each, and none where one was complete.

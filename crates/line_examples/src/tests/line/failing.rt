@@ -7,8 +7,8 @@ use uecp_encoder::Meter;
 use uecp_frame::Message;
 use uecp_link::{DriveFault, Driven, Server, drive, resend};
 
-/// Two tries of four reads, all of which fail, over a writer that takes one byte a call and fails at these calls. Then the message
-/// is sent again, over good ends.
+/// Two tries of four reads, all of which fail, over a writer that takes one byte a call and fails at these calls. Then
+/// the message is sent again, over good ends.
 fn drives(rt: &impl Abort, failing: &[u32], fault: DriveFault) {
     let mut server = Server::new(own_address(rt));
     let mut silent = Meter::new(FaultyReader::new(&APPLIED_1).failing_at(&[

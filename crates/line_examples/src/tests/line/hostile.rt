@@ -18,7 +18,8 @@ fn holds_no_frame(alloc: Global, bytes: &[u8]) -> Result<bool, Fail> {
     )
 }
 
-/// Hears one place of the bytes with each value, where that leaves no frame, and then loses the line. The message stays outstanding.
+/// Hears one place of the bytes with each value, where that leaves no frame, and then loses the line. The message stays
+/// outstanding.
 fn hears_altered(
     rt: &impl Abort,
     alloc: Global,

@@ -89,8 +89,8 @@ fn a_message_before_its_turn_is_passed_over_and_applied_later(rt: HostRuntime) -
     Ok(())
 }
 
-/// One number that is outstanding: its frame comes, and by chance its reply. What comes of both is told by how many were applied,
-/// and by whether this one is acknowledged.
+/// One number that is outstanding: its frame comes, and by chance its reply. What comes of both is told by how many
+/// were applied, and by whether this one is acknowledged.
 fn comes<T: Target>(rt: &impl Abort, line: &mut Line<T>, number: usize, replied: bool) {
     let applied = line.applied();
     let was = line.is_acknowledged(number);

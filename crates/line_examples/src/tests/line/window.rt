@@ -58,8 +58,8 @@ fn held(waiting: &[u8], last: u8) -> usize {
     }
 }
 
-/// Three turns of the counter with at most so many messages that wait. The replies come in an order that has nothing to do with
-/// that of the messages.
+/// Three turns of the counter with at most so many messages that wait. The replies come in an order that has nothing to
+/// do with that of the messages.
 fn three_turns(rt: &impl Abort, alloc: Global, window: usize) -> Result<(), Fail> {
     let mut server = Server::new(own_address(rt));
     let mut waiting: Vec<u8> = Vec::new(alloc);

@@ -1,4 +1,5 @@
-//! Each known frame begun and left, and with each byte altered to each other value, beside a finder that is slow and plain.
+//! Each known frame begun and left, and with each byte altered to each other value, beside a finder that is slow and
+//! plain.
 use super::{Finding, bytes_of, finds_in, finds_one_by_one, frame_of, pi};
 use faulty_devices::{KNOWN_FRAMES, SlowFinding, altered, slow_findings, spelling_of};
 use std::alloc::Global;
@@ -29,7 +30,8 @@ fn finding_of(finding: &SlowFinding) -> Result<Finding, Fail> {
     Ok(Err(fault))
 }
 
-/// Whether all of these bytes at once and one by one, by messages of their own and by lent ones, bring what the slow finder says.
+/// Whether all of these bytes at once and one by one, by messages of their own and by lent ones, bring what the slow
+/// finder says.
 fn agrees(alloc: Global, bytes: &[u8]) -> Result<bool, Fail> {
     let mut want = Vec::new(alloc);
     for finding in slow_findings(alloc, bytes)?.iter() {

@@ -5,8 +5,8 @@ use Rattle.uecp_net.specs.Sending.{SenderOver, HangsUp}
 use Rattle.uecp_net.specs.Joining.{JoinsOver}
 use Rattle.uecp_net.proofs.sending.Sender.join.Given as goal
 
--- no message is held and there is no connection, and of the sender itself nothing but the server and the reconnects has changed: however the encoder is joined from here on, it is joined from the
--- start on
+-- no message is held and there is no connection, and of the sender itself nothing but the server and the reconnects has
+-- changed: however the encoder is joined from here on, it is joined from the start on
 abbrev pub invariant-connections : goal.invariant-connections
 invariant-connections g l = record {
   idle : l.self.sender.server.held ≡ [];

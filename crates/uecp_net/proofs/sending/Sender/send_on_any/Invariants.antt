@@ -4,7 +4,8 @@ use Rattle.uecp_net.specs.declared.sending.Outstanding.TheVariants.{ConnectionFa
 use Rattle.uecp_net.specs.Sending.{SenderOver, Marks, Delivers, Follows}
 use Rattle.uecp_net.proofs.sending.Sender.send_on_any.Given as goal
 
--- messages are outstanding, and of the sender itself nothing but the server and the reconnects has changed: whatever is delivered from here on is delivered from the start on
+-- messages are outstanding, and of the sender itself nothing but the server and the reconnects has changed: whatever is
+-- delivered from here on is delivered from the start on
 abbrev pub invariant-connections : goal.invariant-connections
 invariant-connections g l = record {
   busy : l.self.sender.server.held ≢ [];
