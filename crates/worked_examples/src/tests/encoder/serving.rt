@@ -14,7 +14,10 @@ fn a_meter_counts_calls_failures_and_empty_reads(rt: HostRuntime) {
     assert_eq!(rt; reader.read(&mut buffer), Err(Failed));
     assert_eq!(rt; reader.read(&mut buffer), Ok(3));
     assert_eq!(rt; reader.read(&mut buffer), Ok(0));
-    assert_eq!(rt; (reader.calls(), reader.failures(), reader.empty()), (3, 1, 1));
+    assert_eq!(rt;
+        (reader.calls(), reader.failures(), reader.empty()),
+        (3, 1, 1)
+    );
     assert_eq!(rt; reader.into_inner().reads(), 3);
     let mut writer = Meter::new(
         FaultyWriter::new()
