@@ -1,2 +1,3 @@
+mod joining;
 mod line;
 mod sockets;

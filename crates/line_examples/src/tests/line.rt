@@ -54,7 +54,7 @@ impl Target for CountTarget {
 }
 
 /// The address of site 1, encoder 1.
-fn own_address(rt: &impl Abort) -> Address
+pub(crate) fn own_address(rt: &impl Abort) -> Address
     ensures { IsTrue (is_exact result) }
 {
     let address = Address::new(1, 1).expect(rt, "in range");
@@ -62,12 +62,12 @@ fn own_address(rt: &impl Abort) -> Address
     address
 }
 
-fn message(rt: &impl Abort, bytes: &[u8]) -> Message {
+pub(crate) fn message(rt: &impl Abort, bytes: &[u8]) -> Message {
     Message::from_bytes(bytes).expect(rt, "short")
 }
 
 /// A new line of site 1, encoder 1.
-fn with_target<T: Target + Drop>(
+pub(crate) fn with_target<T: Target + Drop>(
     rt: &impl Abort,
     alloc: Global,
     target: T,
@@ -91,27 +91,27 @@ fn texts_of(store: &RdsStore) -> usize {
 }
 
 /// The whole frame of a number.
-fn frame<'a>(number: usize) -> LineEvent<'a> {
+pub(crate) fn frame<'a>(number: usize) -> LineEvent<'a> {
     LineEvent::Frame { number, cut: &[] }
 }
 
 /// The whole reply to a number.
-fn reply<'a>(number: usize) -> LineEvent<'a> {
+pub(crate) fn reply<'a>(number: usize) -> LineEvent<'a> {
     LineEvent::Reply { number, cut: &[] }
 }
 
 /// A fresh delivery, or one of a repeat.
-fn delivered(fresh: bool, code: Code) -> Result<Stepped, LineRefusal> {
+pub(crate) fn delivered(fresh: bool, code: Code) -> Result<Stepped, LineRefusal> {
     Ok(Stepped::Delivered { fresh, code })
 }
 
 /// The message is acknowledged with this code.
-fn acknowledged(code: Code) -> Result<Stepped, LineRefusal> {
+pub(crate) fn acknowledged(code: Code) -> Result<Stepped, LineRefusal> {
     Ok(Stepped::Acknowledged(code))
 }
 
 /// A step of the line comes to this.
-fn steps<T: Target>(
+pub(crate) fn steps<T: Target>(
     rt: &impl Abort,
     line: &mut Line<T>,
     event: &LineEvent<'_>,
@@ -139,7 +139,7 @@ fn is_lost<T: Target>(rt: &impl Abort, line: &mut Line<T>, side: Side) {
 }
 
 /// The next message is submitted.
-fn is_taken<T: Target>(rt: &impl Abort, line: &mut Line<T>, bytes: &[u8]) {
+pub(crate) fn is_taken<T: Target>(rt: &impl Abort, line: &mut Line<T>, bytes: &[u8]) {
     let number = line.sent().len();
     let message = message(rt, bytes);
     steps(
@@ -151,7 +151,7 @@ fn is_taken<T: Target>(rt: &impl Abort, line: &mut Line<T>, bytes: &[u8]) {
 }
 
 /// The last message goes over the line, and so does the reply to it.
-fn goes_over<T: Target>(rt: &impl Abort, line: &mut Line<T>, code: Code) {
+pub(crate) fn goes_over<T: Target>(rt: &impl Abort, line: &mut Line<T>, code: Code) {
     let number = line.applied();
     steps(rt, line, &frame(number), delivered(true, code));
     steps(rt, line, &reply(number), acknowledged(code));
@@ -164,7 +164,7 @@ fn lent<'a, T: Target>(rt: &impl Abort, line: &'a Line<T>) -> &'a [u8] {
 }
 
 /// The reply of site 1, encoder 1, with this code to this counter.
-fn reply_made(rt: &impl Abort, code: u8, counter: u8) -> FrameBytes {
+pub(crate) fn reply_made(rt: &impl Abort, code: u8, counter: u8) -> FrameBytes {
     let frame = Frame {
         address: own_address(rt),
         counter: 0,
@@ -176,7 +176,7 @@ fn reply_made(rt: &impl Abort, code: u8, counter: u8) -> FrameBytes {
 }
 
 /// A bare encoder, beside the line, answers a frame with this reply.
-fn replies<T: Target>(
+pub(crate) fn replies<T: Target>(
     rt: &impl Abort,
     encoder: &mut Encoder<T>,
     frame: &[u8],
