@@ -16,12 +16,12 @@
 //!   why not.
 //! - [`laws`]: what holds of the definitions over every list of events.
 //!
-//! The law that users rely on stands at [`Line::play`], clause `headline`: over every list of events the encoder's store
-//! is what a prefix of the sent messages with the takes between makes, each applied once and in order; every acknowledged
-//! message is in it with its one reply, and every message that is missing is still outstanding. It holds as long as the
-//! encoder goes on or both ends are new, damage leaves no frame behind, and nothing comes after 127 newer messages were
-//! numbered; the line tests the last two and refuses by name. A server that is started again joins first, as
-//! [`Line::restart_server`] does, and from there on it holds again.
+//! The law that users rely on stands at [`Line::play`], clause `headline`: over every list of events the encoder's
+//! store is what a prefix of the sent messages with the takes between makes, each applied once and in order; every
+//! acknowledged message is in it with its one reply, and every message that is missing is still outstanding. It holds
+//! as long as the encoder goes on or both ends are new, damage leaves no frame behind, and nothing comes after 127
+//! newer messages were numbered; the line tests the last two and refuses by name. A server that is started again joins
+//! first, as [`Line::restart_server`] does, and from there on it holds again.
 #![tactic(auto)]
 
 mod counters;
