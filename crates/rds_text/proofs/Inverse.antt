@@ -36,7 +36,7 @@ abbrev numbers : List ℕ
 numbers = map number_of (range_with_len 0 0x80) ++ upper
 
 -- The first place at which a number stands.
-abbrev place_in : List ℕ → ℕ → Option ℕ
+abbrev pub place_in : List ℕ → ℕ → Option ℕ
 place_in all number = position (λ c. c == number) all
 
 -- Where the characters of so many bytes, from one on, stand first.

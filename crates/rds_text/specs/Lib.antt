@@ -1,1 +1,2 @@
 pub mod BasicSet
+pub mod ProgrammeTypes

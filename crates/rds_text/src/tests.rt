@@ -1,0 +1,100 @@
+use super::*;
+use std::test::Fail;
+
+/// The characters of 80 to FE in the repertoire of digital radio (ETSI TS 101 756), as Debian's dablin 1.14.0 has them.
+const OF_DIGITAL_RADIO: &[char] = &[
+    'á', 'à', 'é', 'è', 'í', 'ì', 'ó', 'ò', 'ú', 'ù', 'Ñ', 'Ç', 'Ş', 'ß', '¡', 'Ÿ', 'â', 'ä', 'ê',
+    'ë', 'î', 'ï', 'ô', 'ö', 'û', 'ü', 'ñ', 'ç', 'ş', 'ğ', 'ı', 'ÿ', 'Ķ', 'Ņ', '©', 'Ģ', 'Ğ', 'ě',
+    'ň', 'ő', 'Ő', '€', '£', '$', 'Ā', 'Ē', 'Ī', 'Ū', 'ķ', 'ņ', 'Ļ', 'ģ', 'ļ', 'İ', 'ń', 'ű', 'Ű',
+    '¿', 'ľ', '°', 'ā', 'ē', 'ī', 'ū', 'Á', 'À', 'É', 'È', 'Í', 'Ì', 'Ó', 'Ò', 'Ú', 'Ù', 'Ř', 'Č',
+    'Š', 'Ž', 'Ð', 'Ŀ', 'Â', 'Ä', 'Ê', 'Ë', 'Î', 'Ï', 'Ô', 'Ö', 'Û', 'Ü', 'ř', 'č', 'š', 'ž', 'đ',
+    'ŀ', 'Ã', 'Å', 'Æ', 'Œ', 'ŷ', 'Ý', 'Õ', 'Ø', 'Þ', 'Ŋ', 'Ŕ', 'Ć', 'Ś', 'Ź', 'Ť', 'ð', 'ã', 'å',
+    'æ', 'œ', 'ŵ', 'ý', 'õ', 'ø', 'þ', 'ŋ', 'ŕ', 'ć', 'ś', 'ź', 'ť',
+];
+
+/// Where the basic set has another character than that.
+const OWN: &[(u8, char)] = &[
+    (0x8f, 'Ĳ'),
+    (0x9d, 'ǧ'),
+    (0x9f, 'ĳ'),
+    (0xa0, 'ª'),
+    (0xa1, 'α'),
+    (0xa3, '‰'),
+    (0xa4, 'Ǧ'),
+    (0xa8, 'π'),
+    (0xac, '←'),
+    (0xad, '↑'),
+    (0xae, '→'),
+    (0xaf, '↓'),
+    (0xb0, 'º'),
+    (0xb1, '¹'),
+    (0xb2, '²'),
+    (0xb3, '³'),
+    (0xb4, '±'),
+    (0xb8, 'µ'),
+    (0xba, '÷'),
+    (0xbc, '¼'),
+    (0xbd, '½'),
+    (0xbe, '¾'),
+    (0xbf, '§'),
+    (0xee, 'Ŧ'),
+    (0xfe, 'ŧ'),
+];
+
+/// Whether the basic set has another character than digital radio.
+fn is_own(byte: u8) -> bool {
+    OWN.iter().any(|(own, _)| *own == byte)
+}
+
+#[test]
+fn the_upper_half_is_that_of_digital_radio_but_for_25_characters(rt: HostRuntime) {
+    for byte in 0x80..0xffu8 {
+        let theirs = OF_DIGITAL_RADIO.get(usize::from(byte - 0x80)).copied();
+        assert!(rt; theirs.is_some());
+        assert_eq!(rt; character_of(byte) != theirs, is_own(byte), "{byte}");
+    }
+}
+
+#[test]
+fn the_characters_that_digital_radio_has_not(rt: HostRuntime) {
+    for (byte, character) in OWN {
+        assert_eq!(rt; character_of(*byte), Some(*character));
+    }
+    for (byte, character) in [
+        (0x24, '¤'),
+        (0x5e, '―'),
+        (0x60, '‖'),
+        (0x7e, '‾'),
+        (0x41, 'A'),
+    ] {
+        assert_eq!(rt; character_of(byte), Some(character));
+    }
+}
+
+#[test]
+fn each_character_back_to_its_byte(rt: HostRuntime) {
+    let mut count = 0u8;
+    for byte in 0..=0xffu8 {
+        if let Some(character) = character_of(byte) {
+            assert_eq!(rt; byte_of(character), Some(byte));
+            count = count.saturating_add(1);
+        }
+    }
+    assert_eq!(rt; count, 222);
+    assert_eq!(rt; byte_of('^'), None);
+    assert_eq!(rt; byte_of('\n'), None);
+}
+
+#[test]
+fn names_of_programme_types(rt: HostRuntime) -> Result<(), Fail> {
+    assert_eq!(rt; name_of(Region::Europe, 10).ok_or("no name")?, "Pop Music");
+    assert_eq!(rt;
+        name_of(Region::NorthAmerica, 10).ok_or("no name")?,
+        "Country"
+    );
+    assert!(rt; name_of(Region::NorthAmerica, 27).is_none());
+    assert_eq!(rt; number_of(Region::Europe, "pop MUSIC"), Some(10));
+    assert_eq!(rt; number_of(Region::NorthAmerica, "Pop Music"), None);
+    assert_eq!(rt; number_of(Region::Europe, ""), None);
+    Ok(())
+}
