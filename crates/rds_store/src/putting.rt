@@ -29,7 +29,10 @@ impl DataSets {
         ensures { result ≡ service_of self.now.services psn }
     {
         if psn == 0 {
-            self.service_number(0)
+            match self.services.get_index(0) {
+                Some((number, _)) => Some(*number),
+                None => None,
+            }
         } else if self.services.contains_key(&psn) {
             Some(psn)
         } else {
@@ -144,12 +147,12 @@ impl DataSets {
                 block3,
                 block4,
             } => self.queue(kind, mode, block3, block4),
-            Element::Pi { dsn, psn, .. } => self.put_at(dsn, psn, element),
-            Element::Ps { dsn, psn, .. } => self.put_at(dsn, psn, element),
-            Element::TaTp { dsn, psn, .. } => self.put_at(dsn, psn, element),
-            Element::Ms { dsn, psn, .. } => self.put_at(dsn, psn, element),
-            Element::Pty { dsn, psn, .. } => self.put_at(dsn, psn, element),
-            Element::Rt { dsn, psn, .. } => self.put_at(dsn, psn, element),
+            Element::Pi { dsn, psn, .. }
+            | Element::Ps { dsn, psn, .. }
+            | Element::TaTp { dsn, psn, .. }
+            | Element::Ms { dsn, psn, .. }
+            | Element::Pty { dsn, psn, .. }
+            | Element::Rt { dsn, psn, .. } => self.put_at(dsn, psn, element),
         }
     }
 }
