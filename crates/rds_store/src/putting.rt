@@ -13,7 +13,7 @@ use crate::data_sets::DataSets;
 use crate::group::Group;
 use crate::in_sets::change_service;
 use crate::named_sets::NamedSets;
-use crate::rules::{adds, adds_text, is_out_of_range, is_wrong_rule};
+use crate::rules::{TYPE_MAX, adds, adds_text, is_out_of_range, is_wrong_rule};
 use uecp_elements::{Code, Element};
 
 impl DataSets {
@@ -109,7 +109,7 @@ impl DataSets {
     fn queue(&mut self, kind: u8, mode: u8, block3: u16, block4: u16) -> Code
         ensures { (self.new, result) ≡ put self.old (grammar.Group kind mode block3 block4) }
     {
-        if kind > 0x1f || is_wrong_rule(mode) {
+        if kind > TYPE_MAX || is_wrong_rule(mode) {
             return Code::OutOfRange;
         }
         if adds(mode) && self.groups.is_full() {

@@ -15,6 +15,9 @@ use reply_ring::ReplyRing;
 use uecp_elements::Code;
 use uecp_frame::{Address, FoundRef, FrameFault, FrameRef};
 
+/// The greatest counter of a numbered frame; 01 follows it.
+const LAST_COUNTER: u8 = 255;
+
 /// The encoder's memory between frames.
 #[derive(Drop)]
 pub(crate) struct Holdings<T> {
@@ -108,7 +111,7 @@ impl<T: Target> Holdings<T> {
     {
         match self.ring.newest() {
             None => 1,
-            Some(last) => 1 + last % 255,
+            Some(last) => 1 + last % LAST_COUNTER,
         }
     }
 }

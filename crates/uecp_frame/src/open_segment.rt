@@ -1,5 +1,5 @@
-//! The segment that has not ended: where it begins, where it ends, and what it is then. Source: RDS Forum SPB 490, frame
-//! format; profile for the order of the faults.
+//! The segment that has not ended: where it begins, where it ends, and what it is then. Source: RDS Forum SPB 490,
+//! frame format; profile for the order of the faults.
 use crate::address::Address;
 use crate::check::OPENING;
 use crate::fault::FrameFault;
