@@ -1,17 +1,12 @@
 //! Data sets with their services, and the groups. Source: RDS Forum SPB 490 for data sets and programme services,
 //! profile for the limits.
-ghost use Rattle.std.specs.Prelude.{◌≡◌, ◌==◌, All, ◌&&◌, nat_le, is_some, false, ◌<◌, ◌≤◌, IfSome, length, slice_get, IfOk, None};
-ghost use Rattle.std.specs.Option.{option_copied};
-ghost use Rattle.std.specs.List.{list_any};
-ghost use Rattle.std.specs.FinMap.{get};
-ghost use Rattle.rds_store.specs.Value.{IsGroup};
+ghost use Rattle.std.specs.Prelude.{◌≡◌, false, IfOk, None};
 ghost use Rattle.rds_store.specs.Step.{element_by_element, group_taken};
 ghost use Rattle.rds_store.specs.Opening.{opening, fault_of};
 
 use crate::group::Group;
 use crate::in_sets::{ServiceInSets, copy_services};
 use crate::opening::opening_services;
-use crate::service::Service;
 use arrayvec::ArrayVec;
 use indexmap::IndexMap;
 use std::alloc::{AllocError, Global};
@@ -103,55 +98,5 @@ impl DataSets {
         ensures { (self.new, result) ≡ group_taken self.old }
     {
         self.groups.pop_at(0)
-    }
-
-    /// The current data set.
-    pub(crate) fn current(&self) -> u8
-        ensures value { result ≡ self.now.current }
-        ensures from_1 { 1 ≤ result }
-        ensures there { result ≤ self.now.sets }
-    {
-        self.current
-    }
-
-    /// How many data sets there are.
-    pub(crate) fn set_count(&self) -> u8
-        ensures value { result ≡ self.now.sets }
-        ensures from_1 { 1 ≤ result }
-        ensures most { result ≤ 8 }
-    {
-        self.sets
-    }
-
-    /// The number of the service at a place of the configured order, counted from 0.
-    pub(crate) fn service_number(&self, place: usize) -> Option<u8>
-        ensures value { result ≡ slice_get self.now.services place }
-        ensures few { IfSome result (λ number. place < 8) }
-    {
-        match self.services.get_index(place) {
-            Some((number, _)) => Some(*number),
-            None => None,
-        }
-    }
-
-    /// What the service of that number has in the data set of that number.
-    pub(crate) fn service(&self, set: u8, psn: u8) -> Option<&Service>
-        ensures value { option_copied result ≡ get self.now.places (set, psn) }
-        ensures there { is_some result ≡ (list_any (λ s. psn == s) self.now.services && (nat_le 1 set && nat_le set self.now.sets)) }
-        ensures zero { psn ≡ 0x00 → is_some result ≡ false }
-    {
-        match self.services.get(&psn) {
-            Some(service) => service.get(set),
-            None => None,
-        }
-    }
-
-    /// The groups that wait.
-    pub(crate) fn groups(&self) -> &[Group]
-        ensures value { result.now ≡ self.now.groups }
-        ensures at_most { length result.now ≤ 32 }
-        ensures in_range { All IsGroup result.now }
-    {
-        self.groups.as_slice()
     }
 }

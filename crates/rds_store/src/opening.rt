@@ -8,6 +8,12 @@ use crate::in_sets::ServiceInSets;
 use indexmap::IndexMap;
 use std::alloc::{AllocError, Global};
 
+/// How many data sets a store has at most.
+const SETS_MAX: u8 = 8;
+
+/// How many services a store has at most.
+const SERVICES_MAX: usize = 8;
+
 fn has_duplicate(numbers: &[u8]) -> bool
     ensures { result ≡ has_duplicate numbers.now }
 {
@@ -21,10 +27,10 @@ fn has_duplicate(numbers: &[u8]) -> bool
 pub(crate) fn fault_of(sets: u8, services: &[u8]) -> Option<StoreFault>
     ensures { result ≡ fault_of sets services.now }
 {
-    if sets == 0 || sets > 8 {
+    if sets == 0 || sets > SETS_MAX {
         return Some(StoreFault::SetCount);
     }
-    if services.is_empty() || services.len() > 8 {
+    if services.is_empty() || services.len() > SERVICES_MAX {
         return Some(StoreFault::ServiceCount);
     }
     if services.contains(&0) {

@@ -13,7 +13,7 @@ use crate::data_sets::DataSets;
 use crate::group::Group;
 use crate::in_sets::change_service;
 use crate::named_sets::NamedSets;
-use crate::rules::{adds, adds_text, is_out_of_range, is_wrong_rule};
+use crate::rules::{TYPE_MAX, adds, adds_text, is_out_of_range, is_wrong_rule};
 use uecp_elements::{Code, Element};
 
 impl DataSets {
@@ -29,7 +29,10 @@ impl DataSets {
         ensures { result ≡ service_of self.now.services psn }
     {
         if psn == 0 {
-            self.service_number(0)
+            match self.services.get_index(0) {
+                Some((number, _)) => Some(*number),
+                None => None,
+            }
         } else if self.services.contains_key(&psn) {
             Some(psn)
         } else {
@@ -106,7 +109,7 @@ impl DataSets {
     fn queue(&mut self, kind: u8, mode: u8, block3: u16, block4: u16) -> Code
         ensures { (self.new, result) ≡ put self.old (grammar.Group kind mode block3 block4) }
     {
-        if kind > 0x1f || is_wrong_rule(mode) {
+        if kind > TYPE_MAX || is_wrong_rule(mode) {
             return Code::OutOfRange;
         }
         if adds(mode) && self.groups.is_full() {
@@ -144,12 +147,12 @@ impl DataSets {
                 block3,
                 block4,
             } => self.queue(kind, mode, block3, block4),
-            Element::Pi { dsn, psn, .. } => self.put_at(dsn, psn, element),
-            Element::Ps { dsn, psn, .. } => self.put_at(dsn, psn, element),
-            Element::TaTp { dsn, psn, .. } => self.put_at(dsn, psn, element),
-            Element::Ms { dsn, psn, .. } => self.put_at(dsn, psn, element),
-            Element::Pty { dsn, psn, .. } => self.put_at(dsn, psn, element),
-            Element::Rt { dsn, psn, .. } => self.put_at(dsn, psn, element),
+            Element::Pi { dsn, psn, .. }
+            | Element::Ps { dsn, psn, .. }
+            | Element::TaTp { dsn, psn, .. }
+            | Element::Ms { dsn, psn, .. }
+            | Element::Pty { dsn, psn, .. }
+            | Element::Rt { dsn, psn, .. } => self.put_at(dsn, psn, element),
         }
     }
 }

@@ -6,6 +6,9 @@ ghost use Rattle.rds_store.specs.Refusals.{is_out_of_range, adds_text};
 
 use uecp_elements::{Element, RtPart};
 
+/// The greatest programme type and the greatest group type.
+pub(crate) const TYPE_MAX: u8 = 0x1f;
+
 /// Whether the buffer rule, in bits 6 and 5, is neither 00 nor 10.
 pub(crate) fn is_wrong_rule(byte: u8) -> bool
     ensures { result ≡ is_wrong_rule byte }
@@ -25,12 +28,12 @@ pub(crate) fn is_out_of_range(element: &Element<'_>) -> bool
     ensures { result ≡ is_out_of_range (element_of element.now) }
 {
     match *element {
-        Element::Pty { raw, .. } => raw > 0x1f,
+        Element::Pty { raw, .. } => raw > TYPE_MAX,
         Element::Rt {
             part: RtPart::Text { head, .. },
             ..
         } => is_wrong_rule(head),
-        Element::Group { kind, mode, .. } => kind > 0x1f || is_wrong_rule(mode),
+        Element::Group { kind, mode, .. } => kind > TYPE_MAX || is_wrong_rule(mode),
         _ => false,
     }
 }

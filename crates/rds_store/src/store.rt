@@ -137,7 +137,7 @@ impl RdsStore {
         ensures from_1 { 1 ≤ result }
         ensures there { result ≤ self.now.sets }
     {
-        self.main.current()
+        self.main.current
     }
 
     /// How many data sets there are, 1 to 8.
@@ -146,7 +146,7 @@ impl RdsStore {
         ensures from_1 { 1 ≤ result }
         ensures most { result ≤ 8 }
     {
-        self.main.set_count()
+        self.main.sets
     }
 
     /// The number of the service at a place of the configured order, counted from 0; None exactly from the number of
@@ -155,7 +155,10 @@ impl RdsStore {
         ensures value { result ≡ slice_get self.now.services place }
         ensures few { IfSome result (λ number. place < 8) }
     {
-        self.main.service_number(place)
+        match self.main.services.get_index(place) {
+            Some((number, _)) => Some(*number),
+            None => None,
+        }
     }
 
     /// What the service of that number has in a data set, which is counted from 1.
@@ -167,7 +170,10 @@ impl RdsStore {
         ensures there { is_some result ≡ (list_any (λ s. psn == s) self.now.services && (nat_le 1 set && nat_le set self.now.sets)) }
         ensures zero { psn ≡ 0x00 → is_some result ≡ false }
     {
-        self.main.service(set, psn)
+        match self.main.services.get(&psn) {
+            Some(service) => service.get(set),
+            None => None,
+        }
     }
 
     /// The groups that wait, at most 32, first to go out first. The type and the bits of each are 00 to 1F.
@@ -176,6 +182,6 @@ impl RdsStore {
         ensures at_most { length result.now ≤ 32 }
         ensures in_range { All IsGroup result.now }
     {
-        self.main.groups()
+        self.main.groups.as_slice()
     }
 }

@@ -5,6 +5,7 @@ ghost use Rattle.rds_store.specs.Content.{radio_text};
 
 use arrayvec::ArrayVec;
 use std::marker::Model;
+use uecp_elements::TEXT_MAX;
 
 /// A text of a service, of at most 64 bytes. A clause sees its three parts.
 #[derive(Debug, Default, Drop)]
@@ -14,7 +15,7 @@ pub struct RadioText {
     /// Bits 4 to 1 of the first byte.
     transmissions: u8,
     /// The bytes after the first.
-    text: ArrayVec<u8, 64>,
+    text: ArrayVec<u8, TEXT_MAX>,
 }
 
 impl Model for RadioText {

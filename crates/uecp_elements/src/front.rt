@@ -7,10 +7,10 @@ ghost use Rattle.uecp_elements.specs.View.{element_of};
 use crate::code::Code;
 use crate::element::Element;
 use crate::first_byte::{ACK, GROUP, MS, PI, PS, PTY, RADIO_TEXT, SELECT, TA_TP};
-use crate::part::RtPart;
+use crate::part::{RtPart, TEXT_MAX};
 
-/// The greatest length of a RadioText: the head and 64 bytes of text.
-const TEXT_LENGTH_MAX: u8 = 0x41;
+/// The greatest length of a RadioText: the head and the longest text.
+const TEXT_LENGTH_MAX: u8 = 1 + TEXT_MAX as u8;
 
 fn word(high: u8, low: u8) -> u16
     ensures { result ≡ 0x100 * high + low }

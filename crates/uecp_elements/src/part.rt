@@ -1,5 +1,8 @@
 //! What a RadioText carries. Source: RDS Forum SPB 490, element 0A; profile for the empty one and the bits of the head.
 
+/// How many bytes a text has at most.
+pub const TEXT_MAX: usize = 64;
+
 /// The bytes of a RadioText behind the service that it names.
 #[derive(Clone, Copy, Debug, PartialEq, Eq)]
 pub enum RtPart<'a> {

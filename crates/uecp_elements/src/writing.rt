@@ -7,12 +7,12 @@ ghost use Rattle.uecp_elements.specs.View.{element_of};
 
 use crate::element::Element;
 use crate::first_byte::{ACK, GROUP, MS, PI, PS, PTY, RADIO_TEXT, SELECT, TA_TP};
-use crate::part::RtPart;
+use crate::part::{RtPart, TEXT_MAX};
 use arrayvec::ArrayVec;
 use uecp_frame::{Full, Message};
 
-/// The longest spelling: a RadioText's code, data set, service, length and head, and 64 bytes of text.
-const SPELLING_MAX: usize = 5 + 64;
+/// The longest spelling: a RadioText's code, data set, service, length and head, and the longest text.
+const SPELLING_MAX: usize = 5 + TEXT_MAX;
 
 type Spelling = ArrayVec<u8, SPELLING_MAX>;
 

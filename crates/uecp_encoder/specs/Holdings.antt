@@ -1,6 +1,7 @@
 -- What an encoder holds apart from the open part of the line. Source: profile.
-use Rattle.std.specs.Prelude.{ℕ, List, [], ◌∷◌}
+use Rattle.std.specs.Prelude.{ℕ, Bool, List, [], ◌∷◌, Option, Some, None}
 use Rattle.uecp_frame.specs.Findings.{OpenPart}
+use Rattle.uecp_elements.specs.declared.code.Code.{Code}
 use Rattle.uecp_encoder.specs.declared.holdings.Holdings.{Holdings}
 use Rattle.uecp_encoder.specs.declared.holdings.Outcome.{Outcome}
 use Rattle.uecp_encoder.specs.declared.holdings.Outcome.TheVariants as outcome
@@ -20,3 +21,8 @@ said_of address outcome.NotForMe = NotForMe ∷ []
 said_of address outcome.Unnumbered = Unnumbered ∷ []
 said_of address outcome.NotNext = NotNext ∷ []
 said_of address (outcome.Reply code counter fresh) = Replied (spelling (reply_of address counter code)) fresh ∷ []
+
+-- the reply in an outcome, if it is one: whether it is fresh, and its code
+abbrev pub coded_of : Outcome → Option (Bool × Code)
+coded_of (outcome.Reply code counter fresh) = Some (fresh, code)
+coded_of _ = None

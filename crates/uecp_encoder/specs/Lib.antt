@@ -2,6 +2,7 @@
 pub mod Target
 pub mod State
 pub mod Answering
+pub mod ReplyCodes
 pub mod Holdings
 pub mod Laws
 pub mod Joining

@@ -1,14 +1,16 @@
 //! The encoder's end of the line. Source: RDS Forum SPB 490, two-way mode; profile for the kept replies.
-ghost use Rattle.std.specs.Prelude.{◌≡◌, ◌<◌, ◌≤◌, ℕ, IsTrue, IfOk, IfErr, length, take};
+ghost use Rattle.std.specs.Prelude.{◌≡◌, ◌<◌, ◌≤◌, ℕ, IsTrue, IfOk, IfErr, IfSome, length, take, option_to_list, [], ◌∷◌};
 ghost use Rattle.std.specs.Borrow.{sem};
 ghost use Rattle.std.specs.Io.BufRead.{Rests};
 ghost use Rattle.uecp_frame.specs.Address.{is_exact};
 ghost use Rattle.uecp_frame.specs.Findings.{Closed};
+ghost use Rattle.uecp_frame.specs.Frame.{spelling};
 ghost use Rattle.uecp_encoder.specs.State.{opening, fed};
-ghost use Rattle.uecp_encoder.specs.Answering.{AnswersPiece};
+ghost use Rattle.uecp_encoder.specs.Answering.{AnswersPiece, Replied, reply_of, responses_to};
+ghost use Rattle.uecp_encoder.specs.ReplyCodes.{replies};
 ghost use Rattle.uecp_encoder.specs.contracts.encoder.Encoder.{the_row};
 
-use crate::answer::{Answer, ReplyBytes, What};
+use crate::answer::{Answer, Coded, ReplyBytes, What};
 use crate::counts::Counts;
 use crate::holdings::{Holdings, Outcome};
 use crate::replying::spell_reply;
@@ -109,6 +111,39 @@ impl<T: Target> Encoder<T> {
             }
         };
         Answer { used, what }
+    }
+
+    /// As `feed`, for a caller that sends no reply: of a reply it tells whether it is fresh, and its code, and spells
+    /// none.
+    ///
+    /// ```
+    /// let coded = encoder.feed_coded(&[0xfe, 0xff, 0x00]); // used 2, no reply
+    /// ```
+    pub fn feed_coded(&mut self, piece: &[u8]) -> Coded
+        ensures fits { result.used ≤ length piece.now }
+        ensures moves { 0 < length piece.now → 0 < result.used }
+        ensures state { self.new ≡ fed T.step self.old (take result.used piece.now) }
+        ensures reply { replies T.step self.old (take result.used piece.now) ≡ option_to_list result.reply }
+        // It is the reply that `feed` would lend.
+        ensures spelled { IfSome result.reply (λ reply. (counter : ℕ)
+            × (responses_to T.step self.old (take result.used piece.now) ≡ Replied (spelling (reply_of self.old.address counter reply.1)) reply.0 ∷ [])) }
+    {
+        let brought = self.deframer.feed_ref(piece);
+        Coded {
+            used: brought.used,
+            reply: match self.holdings.take(&brought.found) {
+                Outcome::Reply {
+                    code,
+                    counter: _,
+                    fresh,
+                } => Some((fresh, code)),
+                Outcome::Nothing
+                | Outcome::Dropped(_)
+                | Outcome::NotForMe
+                | Outcome::Unnumbered
+                | Outcome::NotNext => None,
+            },
+        }
     }
 
     /// Forgets a segment that has not ended, as where the line was lost. Nothing else changes: the kept replies stay,

@@ -1,18 +1,22 @@
 //! What an encoder holds apart from the open part of the line, and what a finding does to it. Source: profile.
-ghost use Rattle.std.specs.Prelude.{◌≡◌, Ok, [], ◌∷◌};
+ghost use Rattle.std.specs.Prelude.{◌≡◌, Ok, [], ◌∷◌, option_to_list};
 ghost use Rattle.reply_ring.specs.Ring.{newest};
 ghost use Rattle.uecp_frame.specs.Findings.{OpenPart};
 ghost use Rattle.uecp_frame.specs.Feeding.{findings_of};
 ghost use Rattle.uecp_frame.specs.Lent.{found_lent, frame_lent};
 ghost use Rattle.uecp_encoder.specs.State.{next_after, after_finding, after_findings};
 ghost use Rattle.uecp_encoder.specs.Answering.{response_to, responses};
-ghost use Rattle.uecp_encoder.specs.Holdings.{with_part, said_of};
+ghost use Rattle.uecp_encoder.specs.ReplyCodes.{replies_to};
+ghost use Rattle.uecp_encoder.specs.Holdings.{with_part, said_of, coded_of};
 
 use crate::counts::Counts;
 use crate::target::Target;
 use reply_ring::ReplyRing;
 use uecp_elements::Code;
 use uecp_frame::{Address, FoundRef, FrameFault, FrameRef};
+
+/// The greatest counter of a numbered frame; 01 follows it.
+const LAST_COUNTER: u8 = 255;
 
 /// The encoder's memory between frames.
 #[derive(Drop)]
@@ -48,6 +52,7 @@ impl<T: Target> Holdings<T> {
     pub(crate) fn take(&mut self, found: &FoundRef<'_>) -> Outcome
         ensures holds { (part : OpenPart) → with_part self.new part ≡ after_findings T.step (with_part self.old part) (findings_of (found_lent found.now)) }
         ensures says { (part : OpenPart) → said_of self.old.address result ≡ responses T.step (with_part self.old part) (findings_of (found_lent found.now)) }
+        ensures codes { (part : OpenPart) → option_to_list (coded_of result) ≡ replies_to T.step (with_part self.old part) (findings_of (found_lent found.now)) }
         ensures address { self.new.address ≡ self.old.address }
     {
         match found {
@@ -66,6 +71,7 @@ impl<T: Target> Holdings<T> {
     fn take_frame(&mut self, frame: &FrameRef<'_>) -> Outcome
         ensures holds { (part : OpenPart) → with_part self.new part ≡ after_finding T.step (with_part self.old part) (Ok (frame_lent frame.now)) }
         ensures says { (part : OpenPart) → said_of self.old.address result ≡ response_to T.step (with_part self.old part) (Ok (frame_lent frame.now)) ∷ [] }
+        ensures codes { (part : OpenPart) → option_to_list (coded_of result) ≡ replies_to T.step (with_part self.old part) (Ok (frame_lent frame.now) ∷ []) }
         ensures address { self.new.address ≡ self.old.address }
     {
         if !frame.address.reaches(self.address) {
@@ -105,7 +111,7 @@ impl<T: Target> Holdings<T> {
     {
         match self.ring.newest() {
             None => 1,
-            Some(last) => 1 + last % 255,
+            Some(last) => 1 + last % LAST_COUNTER,
         }
     }
 }

@@ -5,7 +5,7 @@
 //! message does is the matter of a [`Target`]; the store of RDS data is one. The modulator's side takes queued groups
 //! one by one by [`Encoder::take_group`].
 //!
-//! - [`Encoder`]: the state machine over bytes, with [`Answer`] and [`What`] as its answers.
+//! - [`Encoder`]: the state machine over bytes, with [`Answer`] and [`What`] as its answers, or [`Coded`].
 //! - [`Target`]: what messages are applied to, and what the modulator takes its groups from.
 //! - [`Counts`]: what came, by kind.
 //! - [`serve`]: the encoder over a reader and a writer, each in a [`Meter`].
@@ -25,7 +25,7 @@ mod replying;
 mod serving;
 mod target;
 
-pub use answer::{Answer, ReplyBytes, What};
+pub use answer::{Answer, Coded, ReplyBytes, What};
 pub use counts::Counts;
 pub use encoder::{Encoder, EncoderFault};
 pub use meter::{Failed, Meter};

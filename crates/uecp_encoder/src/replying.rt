@@ -4,14 +4,14 @@ ghost use Rattle.uecp_frame.specs.Frame.{spelling};
 ghost use Rattle.uecp_encoder.specs.Answering.{reply_of};
 
 use crate::answer::ReplyBytes;
-use uecp_elements::Code;
+use uecp_elements::{ACK, Code};
 use uecp_frame::{Address, FrameRef, encode_ref};
 
 /// Replaces the content of `bytes` by the reply of the encoder at this address to a counter.
 pub(crate) fn spell_reply(address: Address, code: Code, counter: u8, bytes: &mut ReplyBytes)
     ensures { bytes.new.items ≡ spelling (reply_of address counter code) }
 {
-    let message = [0x18, code.byte(), counter];
+    let message = [ACK, code.byte(), counter];
     let reply = FrameRef {
         address: &address,
         counter: 0,

@@ -11,6 +11,9 @@ use crate::meter::{Failed, Meter};
 use crate::target::Target;
 use std::io::{Read, Write};
 
+/// How many bytes one read takes at most.
+const READ_MAX: usize = 512;
+
 /// What a call did by the end of its input.
 #[derive(Clone, Copy, Debug, PartialEq, Eq)]
 pub struct Served {
@@ -69,7 +72,7 @@ pub fn serve<T: Target, R: Read, W: Write>(
     ensures empty_reads { reader.new.empty ≡ empty_reads result reader.old.empty }
     ensures write_failures { writer.new.failures ≡ write_failures result writer.old.failures }
 {
-    let mut buffer = [0u8; 512];
+    let mut buffer = [0u8; READ_MAX];
     let mut read = 0u64;
     let mut sent = Sent {
         replies: 0,

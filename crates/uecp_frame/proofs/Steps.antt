@@ -4,7 +4,7 @@ use Rattle.std.proofs.lemmas.Bool.{le-ltb, lt-ltb, le-leb, ne_eqb}
 use Rattle.std.proofs.lemmas.List.{append-nil}
 use Rattle.uecp_frame.specs.Stuffing.{stuffed, unstuffed, Reading, after}
 use Rattle.uecp_frame.specs.Findings.{Doomed, Part, progress}
-use Rattle.std.specs.Prelude.{Bool, Option, None, Some, Err}
+use Rattle.std.specs.Prelude.{Bool, Option, None, Err}
 use Rattle.uecp_frame.specs.declared.fault.FrameFault.{FrameFault}
 use Rattle.uecp_frame.specs.declared.fault.FrameFault.TheVariants.{BadStuffing, TooLong}
 use Rattle.uecp_frame.specs.Segment.{judged, content}

@@ -4,6 +4,12 @@ ghost use Rattle.uecp_frame.specs.Address.{site_of, encoder_of, is_exact, reache
 
 use std::marker::Model;
 
+/// How many sites an address can name, 0 for all among them: it has ten bits for them.
+const SITES: u16 = 1024;
+
+/// How many encoders of a site an address can name, 0 for all among them: it has six bits for them, the lower ones.
+const ENCODERS: u16 = 64;
+
 /// Whom a frame is for: a site of 10 bits and an encoder of 6. A part that is 0 stands for all sites, or for all
 /// encoders of a site. Contracts see its value, the site times 64 plus the encoder.
 #[derive(Clone, Copy, Debug, PartialEq, Eq)]
@@ -27,9 +33,9 @@ impl Address {
         ensures range { IsSome result ↔ ((site < 1024) × (encoder < 64)) }
         ensures value { IfSome result (λ a. a ≡ site * 64 + encoder) }
     {
-        if site < 1024 && encoder < 64 {
+        if site < SITES && u16::from(encoder) < ENCODERS {
             Some(Address {
-                value: site * 64 + encoder as u16,
+                value: site * ENCODERS + u16::from(encoder),
             })
         } else {
             None
@@ -54,14 +60,14 @@ impl Address {
     pub fn site(self) -> u16
         ensures { result ≡ site_of self }
     {
-        self.value / 64
+        self.value / ENCODERS
     }
 
     /// The encoder at the site, 0 to 63.
     pub fn encoder(self) -> u8
         ensures { result ≡ encoder_of self }
     {
-        (self.value % 64) as u8
+        (self.value % ENCODERS) as u8
     }
 
     /// Whether it is one encoder's own: neither part is 0.

@@ -7,7 +7,7 @@ ghost use Rattle.uecp_frame.specs.OpenSegment.{found_ended, IsWhole, IsAddressOf
 use crate::address::Address;
 use crate::fed::Found;
 use crate::fed_ref::{FoundRef, FrameRef};
-use crate::frame::{CHECK, Frame};
+use crate::frame::{CHECK, Frame, HEAD};
 use crate::message::Message;
 use crate::open_segment::{Ended, OpenSegment};
 
@@ -34,7 +34,7 @@ fn frame_in<'a>(address: &'a Address, plain: &'a [u8]) -> FrameRef<'a>
     FrameRef {
         address,
         counter: body[2],
-        message: &body[4..],
+        message: &body[HEAD..],
     }
 }
 

@@ -29,6 +29,7 @@ mod message;
 mod open_segment;
 mod searching;
 mod segment;
+mod unstuffing;
 
 pub use address::Address;
 pub use check::check_of;

@@ -15,7 +15,7 @@ use Rattle.uecp_encoder.specs.Target.{Step, Taken}
 use Rattle.uecp_encoder.specs.State.{EncoderState, raised, is_next, applied, numbered, after_finding, after_findings, fed}
 use Rattle.uecp_link.specs.Counters.{counter_of}
 use Rattle.uecp_link.specs.declared.stepped.Stepped.{Stepped}
-use Rattle.uecp_link.specs.Replying.{coded, reply_to, replies_to, replies}
+use Rattle.uecp_encoder.specs.ReplyCodes.{coded, reply_to, replies_to, replies}
 use Rattle.uecp_link.specs.Once.{Event, FrameComes, Delivered, NotNext, message_at, delivery}
 use Rattle.uecp_link.specs.Law.{frame_of, Fits}
 use Rattle.uecp_link.specs.Holds.{LineState, let_go, once_of, IsLine}

@@ -1,26 +1,23 @@
 -- The ends are fed piece after piece.
-use Rattle.std.proofs.Common.{◌≡◌, ℕ, ◌==◌, Bool, true, false, cond, List, [], ◌∷◌, ◌++◌, length, take, drop, Option, Some, None, Ok, Err, refl, ◌∙◌, ap, sym, take-append-drop, suc, arith}
+use Rattle.std.proofs.Common.{◌≡◌, ℕ, ◌==◌, true, List, [], ◌∷◌, ◌++◌, length, take, drop, Option, Some, None, Ok, Err, refl, ◌∙◌, ap, sym, take-append-drop, suc, arith}
 use Rattle.std.specs.List.{last_or, cons_option}
 use Rattle.std.specs.Option.{option_or}
 use Rattle.std.specs.Prelude.{option_to_list, filter_map}
 use Rattle.std.proofs.lemmas.Bool.{eqb-true}
 use Rattle.std.proofs.lemmas.List.Elements.{filter_map-append}
 use Rattle.uecp_elements.specs.declared.code.Code.{Code}
-use Rattle.reply_ring.specs.Ring.{kept_code}
-use Rattle.uecp_frame.specs.Address.{reaches}
-use Rattle.uecp_frame.specs.Frame.{spelling}
 use Rattle.uecp_frame.specs.Findings.{Finding, OpenPart}
 use Rattle.uecp_frame.specs.Beyond.{found_beyond, open_beyond}
 use Rattle.uecp_frame.specs.declared.fed.Fed.{Fed}
 use Rattle.uecp_frame.specs.Feeding.{Feeds, findings_of}
 use Rattle.uecp_frame.proofs.Pieces.{in_pieces_lem, new_start_lem}
 use Rattle.uecp_encoder.specs.Target.{Step}
-use Rattle.uecp_encoder.specs.State.{EncoderState, is_next, after_finding, after_findings, fed}
-use Rattle.uecp_encoder.specs.Answering.{Response, Replied, NotForMe, Unnumbered, NotNext, Dropped, reply_of, replied, responses}
+use Rattle.uecp_encoder.specs.State.{EncoderState, after_finding, after_findings, fed}
 use Rattle.uecp_encoder.proofs.InPieces.{in_pieces_of_encoder, findings_open, fed-part}
 use Rattle.uecp_link.specs.declared.heard.HeardWhat.{HeardWhat}
 use Rattle.uecp_link.specs.Server.{ServerState, acknowledges, freed, heard_finding, heard_findings, heard, heard_as, all_heard_as}
-use Rattle.uecp_link.specs.Replying.{coded, reply_to, replies_to, replies, code_heard, acknowledgements, IsInPieces}
+use Rattle.uecp_encoder.specs.ReplyCodes.{reply_to, replies_to, replies}
+use Rattle.uecp_link.specs.Replying.{code_heard, acknowledgements, IsInPieces}
 
 last_or-append : {A : Type 0} (before : Option A) (xs ys : List A) → last_or before (xs ++ ys) ≡ last_or (last_or before xs) ys
 last_or-append before [] ys = refl
@@ -82,70 +79,6 @@ replies-append step e x y =
 
 pub encoder_in_pieces : {V : Type 0} (step : Step V) (e : EncoderState V) (x y : List ℕ) → IsInPieces (fed step) (replies step) e x y
 encoder_in_pieces step e x y = record { state = (in_pieces_of_encoder step e x y).state; said = replies-append step e x y }
-
--- where no response is a reply, there is none
-abbrev pub has_reply : List Response → Bool
-has_reply [] = false
-has_reply (Replied bytes fresh ∷ rs) = true
-has_reply (NotForMe ∷ rs) = has_reply rs
-has_reply (Unnumbered ∷ rs) = has_reply rs
-has_reply (NotNext ∷ rs) = has_reply rs
-has_reply (Dropped fault ∷ rs) = has_reply rs
-
-pub not_replied : {V : Type 0} (step : Step V) (e : EncoderState V) (fs : List Finding) → has_reply (responses step e fs) ≡ false → replies_to step e fs ≡ []
-not_replied step e [] h = refl
-not_replied step e (Err fault ∷ fs) h = not_replied step (after_finding step e (Err fault)) fs h
-not_replied {V} step e (Ok f ∷ fs) h = go (reaches f.address e.address) (f.counter == 0) (kept_code e.ring f.counter) (λ k. not_replied step (after_finding step e (Ok f)) fs k) h
-  where
-    e1 : EncoderState V
-    e1 = after_finding step e (Ok f)
-
-    go : (r z : Bool) (k : Option Code) → (has_reply (responses step e1 fs) ≡ false → replies_to step e1 fs ≡ []) → has_reply (cond r (cond z Unnumbered (replied step e f k)) NotForMe ∷ responses step e1 fs) ≡ false →
-        cons_option (cond r (cond z None (coded step e f k)) None) (replies_to step e1 fs) ≡ []
-    go true true k rest h = rest h
-    go true false (Some c) rest h = absurd (cc)
-    go true false None rest h = by (is_next e.ring f.counter) rest h
-      where
-        by : (n : Bool) → (has_reply (responses step e1 fs) ≡ false → replies_to step e1 fs ≡ []) →
-            has_reply (cond n (Replied (spelling (reply_of e.address f.counter (step e.value f.message).1)) true) NotNext ∷ responses step e1 fs) ≡ false →
-            cons_option (cond n (Some (true, (step e.value f.message).1)) None) (replies_to step e1 fs) ≡ []
-        by true rest h = absurd (cc)
-        by false rest h = rest h
-    go false z k rest h = rest h
-
--- a reply as bytes is a reply with its code
-pub record IsCoded {V : Type 0} (step : Step V) (e : EncoderState V) (fs : List Finding) (bytes : List ℕ) (fresh : Bool) : Type 0 where
-  pub counter : ℕ
-  pub code : Code
-  pub spelled : bytes ≡ spelling (reply_of e.address counter code)
-  pub replies : replies_to step e fs ≡ (fresh, code) ∷ []
-
-pub replied_one : {V : Type 0} (step : Step V) (e : EncoderState V) (fs : List Finding) (bytes : List ℕ) (fresh : Bool) → responses step e fs ≡ Replied bytes fresh ∷ [] → IsCoded step e fs bytes fresh
-replied_one step e [] bytes fresh h = absurd (cc)
-replied_one step e (f ∷ g ∷ fs) bytes fresh h = absurd (cc)
-replied_one step e (Err fault ∷ []) bytes fresh h = absurd (cc)
-replied_one step e (Ok f ∷ []) bytes fresh h = go (reaches f.address e.address) (f.counter == 0) (kept_code e.ring f.counter) refl refl refl h
-  where
-    go : (r z : Bool) (k : Option Code) → reaches f.address e.address ≡ r → (f.counter == 0) ≡ z → kept_code e.ring f.counter ≡ k →
-        cond r (cond z Unnumbered (replied step e f k)) NotForMe ∷ [] ≡ Replied bytes fresh ∷ [] → IsCoded step e (Ok f ∷ []) bytes fresh
-    go true true k a b c h = absurd (cc)
-    go true false (Some d) a b c h = record {
-      counter = f.counter;
-      code = d;
-      spelled = cc;
-      replies = rw (a, b, c) (ap (λ (n : Bool). let r : List (Bool × Code) = (n, d) ∷ [] in r) (let same : false ≡ fresh = cc in same));
-    }
-    go true false None a b c h = by (is_next e.ring f.counter) refl h
-      where
-        by : (n : Bool) → is_next e.ring f.counter ≡ n → cond n (Replied (spelling (reply_of e.address f.counter (step e.value f.message).1)) true) NotNext ∷ [] ≡ Replied bytes fresh ∷ [] → IsCoded step e (Ok f ∷ []) bytes fresh
-        by true d h = record {
-          counter = f.counter;
-          code = (step e.value f.message).1;
-          spelled = cc;
-          replies = rw (a, b, c, d) (ap (λ (n : Bool). let r : List (Bool × Code) = (n, (step e.value f.message).1) ∷ [] in r) (let same : true ≡ fresh = cc in same));
-        }
-        by false d h = absurd (cc)
-    go false z k a b c h = absurd (cc)
 
 pub empty_is : (xs : List ℕ) → true ≡ (length xs == 0) → xs ≡ []
 empty_is [] h = refl

@@ -1,20 +1,18 @@
 //! The ends are given the stream in pieces.
 ghost use Rattle.std.specs.Prelude.{◌≡◌, ◌≤◌, ◌<◌, ℕ, IsNone, ◌↔◌, IfSome, None, Some, List, [], length, take, drop, true, option_to_list};
 ghost use Rattle.std.specs.List.{last_or};
-ghost use Rattle.uecp_frame.specs.Frame.{spelling};
 ghost use Rattle.uecp_frame.specs.Findings.{has_frame};
 ghost use Rattle.uecp_frame.specs.Beyond.{found_beyond};
-ghost use Rattle.uecp_elements.specs.declared.code.Code.{Code as CodeValue};
 ghost use Rattle.uecp_encoder.specs.State.{fed};
-ghost use Rattle.uecp_encoder.specs.Answering.{reply_of};
+ghost use Rattle.uecp_encoder.specs.ReplyCodes.{replies};
 ghost use Rattle.uecp_link.specs.Server.{heard};
-ghost use Rattle.uecp_link.specs.Replying.{replies, acknowledgements, IsInPieces};
+ghost use Rattle.uecp_link.specs.Replying.{acknowledgements, IsInPieces};
 
 use crate::heard::HeardWhat;
 use crate::server::Server;
 use uecp_elements::Code;
-use uecp_encoder::{Encoder, Target, What};
-use uecp_frame::{Deframer, Found, decode};
+use uecp_encoder::{Encoder, Target};
+use uecp_frame::{Deframer, Found};
 
 /// What is left of a piece once this many bytes of it were used.
 pub(crate) fn left(piece: &[u8], used: usize) -> &[u8]
@@ -22,23 +20,6 @@ pub(crate) fn left(piece: &[u8], used: usize) -> &[u8]
     ensures { result.now ≡ drop used piece.now }
 {
     &piece[used..]
-}
-
-/// A reply's code, with whether it is fresh.
-fn coded(reply: &[u8], fresh: bool) -> (bool, Code)
-    requires { (address : ℕ) × (counter : ℕ) × (code : CodeValue) × (reply.now ≡ spelling (reply_of address counter code)) }
-    ensures { (address counter : ℕ) (code : CodeValue) → reply.now ≡ spelling (reply_of address counter code) → result ≡ (fresh, code) }
-{
-    let Ok(frame) = decode(reply) else {
-        unreachable!();
-    };
-    let [0x18, byte, _] = frame.message.bytes() else {
-        unreachable!();
-    };
-    let Some(code) = Code::from_byte(*byte) else {
-        unreachable!();
-    };
-    (fresh, code)
 }
 
 /// An end of the line, which is given the stream in pieces and says something of some segments.
@@ -75,13 +56,8 @@ impl<T: Target> End for Encoder<T> {
     ghost says = { replies T.step };
 
     fn give_first(&mut self, piece: &[u8]) -> (usize, Option<(bool, Code)>) {
-        let answer = self.feed(piece);
-        let used = answer.used;
-        match answer.what {
-            What::Reply(reply, fresh) => (used, Some(coded(reply.as_slice(), fresh))),
-            What::Nothing | What::NotForMe | What::Unnumbered | What::NotNext | What::Dropped(_) =>
-                (used, None),
-        }
+        let coded = self.feed_coded(piece);
+        (coded.used, coded.reply)
     }
 
     fn in_pieces() {}

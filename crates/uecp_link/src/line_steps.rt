@@ -3,7 +3,8 @@ ghost use Rattle.std.specs.Prelude.{◌≡◌, ◌+◌, ◌%◌, ◌≤◌, ◌<
 ghost use Rattle.std.specs.List.{last_or};
 ghost use Rattle.uecp_elements.specs.declared.code.Code.{Code as CodeValue};
 ghost use Rattle.uecp_encoder.specs.State.{fed};
-ghost use Rattle.uecp_link.specs.Replying.{replies, acknowledgements};
+ghost use Rattle.uecp_encoder.specs.ReplyCodes.{replies};
+ghost use Rattle.uecp_link.specs.Replying.{acknowledgements};
 ghost use Rattle.uecp_link.specs.Server.{heard};
 ghost use Rattle.uecp_frame.specs.Frame.{spelling};
 ghost use Rattle.uecp_link.specs.Once.{Submit, FrameComes, ReplyComes, NoiseToEncoder, NoiseToServer, Take};

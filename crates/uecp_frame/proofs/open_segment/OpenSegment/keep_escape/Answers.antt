@@ -1,4 +1,4 @@
-use Rattle.std.proofs.Common.{◌≡◌, ◌<◌, ◌∙◌, ℕ, List, [], ◌∷◌, ◌++◌, ap, sym, length, take, slice_index, arith}
+use Rattle.std.proofs.Common.{◌≡◌, ◌<◌, ◌∙◌, ℕ, List, [], ◌∷◌, ◌++◌, ap, length, take, slice_index, arith}
 use Rattle.uecp_frame.specs.Findings.{Part}
 use Rattle.uecp_frame.specs.Beyond.{prolonged}
 use Rattle.uecp_frame.proofs.Pieces.{prolonged-append}
