@@ -1,6 +1,6 @@
 use Rattle.std.proofs.Common.{◌≢◌, []}
 use Rattle.uecp_net.specs.Sending.{SpentCalls, Follows}
-use Rattle.uecp_net.proofs.sending.send_waiting.Given as goal
+use Rattle.uecp_net.proofs.sending.connections.send_waiting.Given as goal
 
 -- messages wait after each call so far
 abbrev pub invariant-loop-before : goal.invariant-loop-before

@@ -1,7 +1,7 @@
 use Rattle.std.proofs.Common.{arith}
 use Rattle.uecp_net.proofs.Breaking.{window_spent, window_failed, spent_on, tried_idle, tried_failed}
 use Rattle.uecp_net.proofs.Told.{follows_heard, follows_on}
-use Rattle.uecp_net.proofs.sending.send_waiting.Goals as goal
+use Rattle.uecp_net.proofs.sending.connections.send_waiting.Goals as goal
 
 pub returns-in-Err-clause-tried : goal.returns-in-Err-clause-tried
 returns-in-Err-clause-tried g c =
