@@ -1,11 +1,11 @@
 -- What `drive` and `resend` do over a reader and a writer; a reader has to believe it. Source: profile.
-use Rattle.std.specs.Prelude.{◌≡◌, ◌≢◌, ℕ, ◌+◌, ◌-◌, ◌*◌, ◌^◌, ◌<◌, ◌≤◌, zero, suc, List, [], ◌∷◌, ◌++◌, length, take, Option, Some, None, Result, Ok, Err}
+use Rattle.std.specs.Prelude.{◌≡◌, ℕ, ◌+◌, ◌-◌, ◌*◌, ◌<◌, ◌≤◌, zero, suc, List, [], ◌∷◌, ◌++◌, length, take, Option, Some, None, Result, Ok, Err}
 use Rattle.std.specs.Option.{option_or, option_map}
-use Rattle.std.specs.Io.KnownBytes.{Appends, Consumes, IsAtEnd}
+use Rattle.std.specs.Io.KnownBytes.{Appends, IsAtEnd}
 use Rattle.uecp_frame.specs.Findings.{Finding}
 use Rattle.uecp_frame.specs.Beyond.{found_beyond}
 use Rattle.uecp_elements.specs.declared.code.Code.{Code}
-use Rattle.uecp_encoder.specs.Metered.{Metered, counted}
+use Rattle.uecp_encoder.specs.Metered.{Metered}
 use Rattle.uecp_encoder.specs.State.{raised}
 use Rattle.uecp_link.specs.declared.driving.Driven.{Driven}
 use Rattle.uecp_link.specs.declared.driving.DriveFault.{DriveFault}

@@ -1,8 +1,8 @@
 -- What one try of `resend` hears, and what tries that brought nothing come to; for proofs alone, as the contracts of
 -- private functions. Source: profile.
-use Rattle.std.specs.Prelude.{◌≡◌, ◌≢◌, ℕ, ◌+◌, ◌*◌, ◌^◌, ◌<◌, ◌≤◌, ◌⊎◌, Bool, true, false, List, length, Option, None}
-use Rattle.std.specs.Io.KnownBytes.{Appends, Consumes, IsAtEnd}
-use Rattle.uecp_encoder.specs.Metered.{Metered, counted}
+use Rattle.std.specs.Prelude.{◌≡◌, ℕ, ◌+◌, ◌*◌, ◌≤◌, ◌⊎◌, Bool, true, false, List, length, Option, None}
+use Rattle.std.specs.Io.KnownBytes.{Appends, IsAtEnd}
+use Rattle.uecp_encoder.specs.Metered.{Metered}
 use Rattle.uecp_link.specs.declared.driving.Listened.{Listened}
 use Rattle.uecp_link.specs.declared.driving.Listened.TheVariants as listened
 use Rattle.uecp_link.specs.Reading.{Reads}

@@ -1,12 +1,12 @@
 -- What `send_window` does over a reader and a writer; a reader has to believe it, but for `Gathers` and `Gathered`.
 -- Source: profile.
-use Rattle.std.specs.Prelude.{◌≡◌, ◌≢◌, ℕ, ◌+◌, ◌-◌, ◌*◌, ◌^◌, ◌<◌, ◌≤◌, ◌==◌, ◌⊎◌, List, [], ◌++◌, length, take, filter_map, false, Option, Some, None, Result, Ok, Err}
+use Rattle.std.specs.Prelude.{◌≡◌, ◌≢◌, ℕ, ◌+◌, ◌-◌, ◌<◌, ◌≤◌, ◌==◌, ◌⊎◌, List, [], ◌++◌, length, take, filter_map, false, Option, Some, None, Result, Ok, Err}
 use Rattle.std.specs.List.{concat}
 use Rattle.std.specs.Map.{lookup}
-use Rattle.std.specs.Io.KnownBytes.{Appends, Consumes, IsAtEnd}
+use Rattle.std.specs.Io.KnownBytes.{Appends, IsAtEnd}
 use Rattle.uecp_frame.specs.Beyond.{found_beyond}
 use Rattle.uecp_elements.specs.declared.code.Code.{Code}
-use Rattle.uecp_encoder.specs.Metered.{Metered, counted}
+use Rattle.uecp_encoder.specs.Metered.{Metered}
 use Rattle.uecp_link.specs.declared.heard.HeardWhat.{HeardWhat}
 use Rattle.uecp_link.specs.declared.heard.HeardWhat.TheVariants as what
 use Rattle.uecp_link.specs.declared.driving.DriveFault.{DriveFault}
