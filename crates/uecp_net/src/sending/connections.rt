@@ -84,7 +84,9 @@ fn send_waiting<R: Read, W: Write>(
 ) -> Result<u32, DriveFault>
     requires busy { server.old.held ≢ [] }
     requires room { length marks.old.items + length (waiting server.old) ≤ 8 }
-    ensures tried { Tried R.remaining W.contents limits.tries limits.turns server.old server.new reader.old reader.new writer.old writer.new marks.old.items marks.new.items result }
+    ensures tried { Tried R.remaining W.contents limits.tries limits.turns
+        (record { server = server.old; input = reader.old; output = writer.old; marks = marks.old.items })
+        (record { server = server.new; input = reader.new; output = writer.new; marks = marks.new.items }) result }
     ensures idle { IfOk result (λ n. (server.new.held ≡ []) × (1 ≤ n) × (n ≤ limits.tries)) }
     ensures outstanding { IfErr result (λ _. server.new.held ≢ []) }
     ensures follows { Follows server.old server.new marks.old.items marks.new.items }

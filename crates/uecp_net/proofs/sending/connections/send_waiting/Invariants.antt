@@ -6,6 +6,8 @@ use Rattle.uecp_net.proofs.sending.connections.send_waiting.Given as goal
 abbrev pub invariant-loop-before : goal.invariant-loop-before
 invariant-loop-before g l = record {
   busy : l.server.held ≢ [];
-  spent : SpentCalls g.R.Read.remaining g.W.Write.contents l.fn.limits.turns l.before l.fn.server l.server l.fn.reader l.reader l.fn.writer l.writer l.fn.marks.items l.marks.items;
+  spent : SpentCalls g.R.Read.remaining g.W.Write.contents l.fn.limits.turns l.before
+      (record { server = l.fn.server; input = l.fn.reader; output = l.fn.writer; marks = l.fn.marks.items })
+      (record { server = l.server; input = l.reader; output = l.writer; marks = l.marks.items });
   follows : Follows l.fn.server l.server l.fn.marks.items l.marks.items;
 }
