@@ -73,7 +73,8 @@ module _ {R : Type 0} (remaining : R → Option (List ℕ)) (s0 s1 : ServerState
   more_seen piece seen' is = is ∙ seen_on s0 s1 so_far.read piece Neither seen so_far.state so_far.seen_is
 
   -- one read more, after which not both were read
-  pub read_on : (s2 : ServerState) (r2 : Metered R) (seen' : Seen) (piece : List ℕ) → Reads remaining r1 r2 piece 1 0 false
+  pub read_on : (s2 : ServerState) (r2 : Metered R) (seen' : Seen) (piece : List ℕ)
+      → Reads remaining r1 r2 piece 1 0 false
       → s2 ≡ heard s1 piece → seen' ≡ seen_after seen (reply_counters s1.address s1.part piece) → seen' ≢ Both
       → ReadSoFar remaining s0 s2 r0 r2 seen' (reads + 1)
   read_on s2 r2 seen' piece brought state is waits = record {
@@ -96,7 +97,8 @@ module _ {R : Type 0} (remaining : R → Option (List ℕ)) (s0 s1 : ServerState
   not_brought closed = not_yet so_far.read [] closed (append-nil so_far.read)
 
   -- the reads end with one more, with which both were read
-  pub replies_both : (s2 : ServerState) (r2 : Metered R) (seen' : Seen) (piece : List ℕ) (turns : ℕ) → s0.part ≡ NothingOpen
+  pub replies_both : (s2 : ServerState) (r2 : Metered R) (seen' : Seen) (piece : List ℕ) (turns : ℕ)
+      → s0.part ≡ NothingOpen
       → Reads remaining r1 r2 piece 1 0 false → s2 ≡ heard s1 piece
       → seen' ≡ seen_after seen (reply_counters s1.address s1.part piece) → seen' ≡ Both → reads < turns
       → ReadsReplies remaining s0 s2 r0 r2 turns (Ok Joined)
@@ -105,7 +107,8 @@ module _ {R : Type 0} (remaining : R → Option (List ℕ)) (s0 s1 : ServerState
       let within : n ≤ length so_far.read = omega (arith, length-append so_far.read piece, brought.few_bytes) in
       let front : take n (so_far.read ++ piece) ≡ take n so_far.read = take-append-le n so_far.read piece within in
       let joined : IsJoinedBy (reply_counters s0.address s0.part (so_far.read ++ piece)) =
-      neither_finds (reply_counters s0.address s0.part (so_far.read ++ piece)) (sym (more_seen piece seen' is) ∙ both) in
+      neither_finds (reply_counters s0.address s0.part (so_far.read ++ piece))
+          (sym (more_seen piece seen' is) ∙ both) in
       record {
         read = so_far.read ++ piece;
         reads = reads + 1;
@@ -156,7 +159,8 @@ pass_unread remaining contents s s' r w0 w1 turns sent result begins wrote ends 
   write_failures = failures;
 }
 
-pub pass_read : {R W : Type 0} (remaining : R → Option (List ℕ)) (contents : W → Option (List ℕ)) (s0 s1 s2 : ServerState)
+pub pass_read : {R W : Type 0} (remaining : R → Option (List ℕ)) (contents : W → Option (List ℕ))
+    (s0 s1 s2 : ServerState)
     (r0 r1 : Metered R) (w0 w1 : Metered W) (turns : ℕ) (result : Result Joining DriveFault) → s1 ≡ anew s0
     → Appends (contents w0.device) (contents w1.device) (pass_sent s0.address) → w1.failures ≡ w0.failures
     → ReadsReplies remaining s1 s2 r0 r1 turns result → MakesPass remaining contents s0 s2 r0 r1 w0 w1 turns result
@@ -182,7 +186,9 @@ pass_read remaining contents s0 s1 s2 r0 r1 w0 w1 turns result begins wrote fail
     go (Err (WriteFailed w)) ends = absurd ends
     go (Err TriesSpent) ends = ends
 
-    kept : (result : Result Joining DriveFault) → RepliesEnd s0.address reads.read (remaining r1.device) turns reads.reads reads.failed result → w1.failures ≡ write_failures result w0.failures
+    kept : (result : Result Joining DriveFault)
+        → RepliesEnd s0.address reads.read (remaining r1.device) turns reads.reads reads.failed result
+        → w1.failures ≡ write_failures result w0.failures
     kept (Ok joining) ends = failures
     kept (Err Closed) ends = failures
     kept (Err (WriteFailed w)) ends = absurd ends

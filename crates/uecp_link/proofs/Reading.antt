@@ -59,7 +59,8 @@ module _ {R : Type 0} (remaining : R → Option (List ℕ)) where
     consumed = Consumes-trans _ _ _ _ _ before.consumed after.consumed;
     few_bytes = omega (arith, length-append x y, before.few_bytes, after.few_bytes);
     calls = λ h. let c = before.calls (omega (arith, h)) in omega (arith, c, after.calls (omega (arith, h, c)));
-    failures = λ h. let c = before.failures (omega (arith, h)) in omega (arith, c, after.failures (omega (arith, h, c)));
+    failures = λ h. let c = before.failures (omega (arith, h)) in
+        omega (arith, c, after.failures (omega (arith, h, c)));
     empties = after.empties ∙ ap (λ (k : ℕ). cond ended (counted k) k) before.empties;
   }
 
@@ -69,4 +70,5 @@ module _ {R : Type 0} (remaining : R → Option (List ℕ)) where
   reads_end r0 r1 r2 x n before m g ended after =
       let same : 0 + g ≡ g = omega arith in
       subst (λ k. Reads remaining r0 r2 x (n + m) k ended) same
-      (subst (λ bytes. Reads remaining r0 r2 bytes (n + m) (0 + g) ended) (append-nil x) (reads_on r0 r1 r2 x n 0 before [] m g ended after))
+      (subst (λ bytes. Reads remaining r0 r2 bytes (n + m) (0 + g) ended) (append-nil x)
+          (reads_on r0 r1 r2 x n 0 before [] m g ended after))

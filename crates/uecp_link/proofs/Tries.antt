@@ -87,7 +87,8 @@ module _ {R : Type 0} (remaining : R → Option (List ℕ)) (s0 s1 : ServerState
 
   -- a read brought the acknowledgement
   pub reply_came : (s2 : ServerState) (r2 : Metered R) (turns : ℕ) (piece : List ℕ) (code : Code)
-      → Reads remaining r1 r2 piece 1 0 false → s2 ≡ heard s1 piece → acknowledged_in s1 piece ≡ Some code → reads < turns
+      → Reads remaining r1 r2 piece 1 0 false → s2 ≡ heard s1 piece → acknowledged_in s1 piece ≡ Some code
+      → reads < turns
       → Listens remaining s0 s2 r0 r2 turns (listened.Acknowledged code)
   reply_came s2 r2 turns piece code brought state comes below =
       let few : length piece ≤ 64 = omega (arith, brought.few_bytes) in
@@ -97,7 +98,8 @@ module _ {R : Type 0} (remaining : R → Option (List ℕ)) (s0 s1 : ServerState
         failed = 0;
         reading = reads_on remaining r0 r1 r2 so_far.read reads 0 so_far.reading piece 1 0 false brought;
         state = heard_on s0 s1 s2 so_far.read piece so_far.state state;
-        hears = (acknowledged_last s0 so_far.read piece code so_far.silent few (more_heard piece ∙ comes), refl, omega arith);
+        hears = (acknowledged_last s0 so_far.read piece code so_far.silent few (more_heard piece ∙ comes), refl,
+            omega arith);
         few_reads = omega (arith, below);
       }
 
@@ -175,7 +177,8 @@ module _ {R W : Type 0} (remaining : R → Option (List ℕ)) (contents : W → 
         read = so_far.read ++ try.read;
         reads = so_far.reads + try.reads;
         failed = so_far.failed + try.failed;
-        reading = reads_on remaining r0 r1 r2 so_far.read so_far.reads so_far.failed so_far.reading try.read try.reads try.failed false try.reading;
+        reading = reads_on remaining r0 r1 r2 so_far.read so_far.reads so_far.failed so_far.reading try.read try.reads
+            try.failed false try.reading;
         appended = one_more contents s0 s1 w0 w1 w2 so_far.read t so_far.silent so_far.state so_far.appended wrote;
         state = heard_on s0 s1 s2 so_far.read try.read so_far.state try.state;
         silent = more_tried try.read ∙ try.hears.0;
@@ -188,7 +191,9 @@ module _ {R W : Type 0} (remaining : R → Option (List ℕ)) (contents : W → 
       }
     where
       by_end : ((try.failed ≡ 1) × (1 ≤ try.reads)) ⊎ ((try.failed ≡ 0) × (try.reads ≡ turns))
-          → (so_far.failed + try.failed ≤ t + 1) × (so_far.failed + try.failed + (t + 1) * turns ≤ so_far.reads + try.reads + (so_far.failed + try.failed) * turns)
+          → (so_far.failed + try.failed ≤ t + 1)
+          × (so_far.failed + try.failed + (t + 1) * turns ≤ so_far.reads + try.reads + (so_far.failed + try.failed) *
+          turns)
       by_end (inl (one, some)) =
           let products : (so_far.failed + try.failed) * turns ≡ so_far.failed * turns + turns = ap (λ n. (so_far.failed + n) * turns) one ∙ (omega arith) in
           (omega (arith, so_far.few_failed, one), omega (arith, so_far.made, one, some, products))
@@ -202,12 +207,14 @@ module _ {R W : Type 0} (remaining : R → Option (List ℕ)) (contents : W → 
   made_before : (so_far.failed < t + 1) × (so_far.failed + (t + 1 - 1 - so_far.failed) * turns ≤ so_far.reads)
   made_before = (
     omega (arith, so_far.few_failed),
-    reads_from so_far.failed t turns so_far.reads (t + 1 - 1 - so_far.failed) (omega (arith, so_far.few_failed)) so_far.made,
+    reads_from so_far.failed t turns so_far.reads (t + 1 - 1 - so_far.failed) (omega (arith, so_far.few_failed))
+        so_far.made,
   )
 
   -- a write failed
   pub write_failed_at : (w2 : Metered W) (tries part : ℕ) → t < tries → part < length (frame_sent s1)
-      → Appends (contents w1.device) (contents w2.device) (take part (frame_sent s1)) → w2.failures ≡ counted w1.failures
+      → Appends (contents w1.device) (contents w2.device) (take part (frame_sent s1))
+      → w2.failures ≡ counted w1.failures
       → Drives remaining contents s0 s1 r0 r1 w0 w2 tries turns (Err (WriteFailed (bytes + part)))
   write_failed_at w2 tries part below within wrote failures =
       let f : List ℕ = frame_sent s0 in
@@ -232,7 +239,8 @@ module _ {R W : Type 0} (remaining : R → Option (List ℕ)) (contents : W → 
         );
         made = made_before;
         few_reads = omega (arith, so_far.few_reads);
-        at_most = omega (arith, so_far.reading.few_bytes, so_far.few_reads, mul-le-mul_right turns (let le : t ≤ tries = omega (arith, below) in le));
+        at_most = omega (arith, so_far.reading.few_bytes, so_far.few_reads, mul-le-mul_right turns
+            (let le : t ≤ tries = omega (arith, below) in le));
         write_failures_are = failures ∙ ap counted so_far.write_failures;
       }
 
@@ -246,7 +254,8 @@ module _ {R W : Type 0} (remaining : R → Option (List ℕ)) (contents : W → 
       → Drives remaining contents s0 s2 r0 r2 w0 w2 tries turns result
   ended_at s2 r2 w2 tries heard_so result try below wrote none_failed closed made failures ends =
       let reads : ℕ = so_far.reads + try.reads in
-      let reading = reads_on remaining r0 r1 r2 so_far.read so_far.reads so_far.failed so_far.reading try.read try.reads try.failed (met_end heard_so) try.reading in
+      let reading = reads_on remaining r0 r1 r2 so_far.read so_far.reads so_far.failed so_far.reading try.read try.reads
+          try.failed (met_end heard_so) try.reading in
       let few : reads ≤ (t + 1) * turns = omega (arith, so_far.few_reads, try.few_reads) in
       record {
         read = so_far.read ++ try.read;
@@ -256,13 +265,15 @@ module _ {R W : Type 0} (remaining : R → Option (List ℕ)) (contents : W → 
         failed = so_far.failed;
         reading =
             subst (Reads remaining r0 r2 (so_far.read ++ try.read) reads so_far.failed) closed
-            (subst (λ n. Reads remaining r0 r2 (so_far.read ++ try.read) reads n (met_end heard_so)) (let same : so_far.failed + try.failed ≡ so_far.failed = omega (arith, none_failed) in same) reading);
+            (subst (λ n. Reads remaining r0 r2 (so_far.read ++ try.read) reads n (met_end heard_so))
+                (let same : so_far.failed + try.failed ≡ so_far.failed = omega (arith, none_failed) in same) reading);
         appended = one_more contents s0 s1 w0 w1 w2 so_far.read t so_far.silent so_far.state so_far.appended wrote;
         state = heard_on s0 s1 s2 so_far.read try.read so_far.state try.state;
         ends = ends;
         made = made;
         few_reads = few;
-        at_most = omega (arith, reading.few_bytes, few, mul-le-mul_right turns (let le : t + 1 ≤ tries = omega (arith, below) in le));
+        at_most = omega (arith, reading.few_bytes, few, mul-le-mul_right turns
+            (let le : t + 1 ≤ tries = omega (arith, below) in le));
         write_failures_are = failures;
       }
 
@@ -272,7 +283,8 @@ module _ {R W : Type 0} (remaining : R → Option (List ℕ)) (contents : W → 
       → Listens remaining s1 s2 r1 r2 turns (listened.Acknowledged code)
       → Drives remaining contents s0 s2 r0 r2 w0 w2 tries turns (Ok (record { code = code; tries = t + 1 }))
   acknowledged_at s2 r2 w2 tries code below wrote failures try =
-      ended_at s2 r2 w2 tries _ _ try below wrote try.hears.1 refl (made_before.0, omega (arith, try.hears.2, made_before.1))
+      ended_at s2 r2 w2 tries _ _ try below wrote try.hears.1 refl
+          (made_before.0, omega (arith, try.hears.2, made_before.1))
       (failures ∙ so_far.write_failures) (
         refl,
         omega arith,
@@ -287,7 +299,8 @@ module _ {R W : Type 0} (remaining : R → Option (List ℕ)) (contents : W → 
       → Listens remaining s1 s2 r1 r2 turns listened.Ended
       → Drives remaining contents s0 s2 r0 r2 w0 w2 tries turns (Err Closed)
   closed_at s2 r2 w2 tries below wrote failures try =
-      ended_at s2 r2 w2 tries _ _ try below wrote try.hears.1 refl (made_before.0, omega (arith, try.hears.2, made_before.1))
+      ended_at s2 r2 w2 tries _ _ try below wrote try.hears.1 refl
+          (made_before.0, omega (arith, try.hears.2, made_before.1))
       (failures ∙ so_far.write_failures)
       (omega arith, omega (arith, below), refl, more_tried try.read ∙ try.hears.0, try.hears.3)
 

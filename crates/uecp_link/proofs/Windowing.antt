@@ -129,7 +129,8 @@ module _ {R : Type 0} (remaining : R → Option (List ℕ)) (s0 s1 : ServerState
   -- one read more, after which messages wait
   pub gathered_on : (s2 : ServerState) (r2 : Metered R) (m2 : List (ℕ × Code)) (piece : List ℕ)
       → Reads remaining r1 r2 piece 1 0 false → s2 ≡ heard s1 piece → m2 ≡ m1 ++ marks_in s1 piece → s2.held ≢ []
-      → length m2 + length (waiting s2) ≡ length m1 + length (waiting s1) → Gathered remaining s0 s2 r0 r2 m0 m2 (reads + 1)
+      → length m2 + length (waiting s2) ≡ length m1 + length (waiting s1)
+      → Gathered remaining s0 s2 r0 r2 m0 m2 (reads + 1)
   gathered_on s2 r2 m2 piece brought state marked busy room = record {
     read = so_far.read ++ piece;
     reading = reads_on remaining r0 r1 r2 so_far.read reads 0 so_far.reading piece 1 0 false brought;
@@ -143,7 +144,8 @@ module _ {R : Type 0} (remaining : R → Option (List ℕ)) (s0 s1 : ServerState
   pub gathers_more : (s2 : ServerState) (r2 : Metered R) (m2 : List (ℕ × Code)) (piece : List ℕ) (turns : ℕ)
       (result : Result Windowed DriveFault) → Reads remaining r1 r2 piece 1 0 false → s2 ≡ heard s1 piece
       → m2 ≡ m1 ++ marks_in s1 piece → is_closed result ≡ false → reads < turns
-      → ((heard s0 (take (length (so_far.read ++ piece) - 64) (so_far.read ++ piece))).held ≢ [] → ReadsEnd s0 s2 (so_far.read ++ piece) (remaining r2.device) turns (reads + 1) 0 result)
+      → ((heard s0 (take (length (so_far.read ++ piece) - 64) (so_far.read ++ piece))).held ≢ []
+      → ReadsEnd s0 s2 (so_far.read ++ piece) (remaining r2.device) turns (reads + 1) 0 result)
       → Gathers remaining s0 s2 r0 r2 m0 m2 turns result
   gathers_more s2 r2 m2 piece turns result brought state marked goes_on below ends = record {
     read = so_far.read ++ piece;
@@ -158,7 +160,8 @@ module _ {R : Type 0} (remaining : R → Option (List ℕ)) (s0 s1 : ServerState
     where
       late : (heard s0 (take (length (so_far.read ++ piece) - 64) (so_far.read ++ piece))).held ≡ [] → ⊥
       late before =
-          let within : length (so_far.read ++ piece) - 64 ≤ length so_far.read = omega (arith, length-append so_far.read piece, brought.few_bytes) in
+          let within : length (so_far.read ++ piece) - 64 ≤ length so_far.read =
+              omega (arith, length-append so_far.read piece, brought.few_bytes) in
           let front = take-append-le (length (so_far.read ++ piece) - 64) so_far.read piece within in
           let x : List ℕ = take (length (so_far.read ++ piece) - 64) so_far.read in
           let y : List ℕ = drop (length (so_far.read ++ piece) - 64) so_far.read in
@@ -168,7 +171,8 @@ module _ {R : Type 0} (remaining : R → Option (List ℕ)) (s0 s1 : ServerState
 
   -- they end with no more, or with one more that brought none
   pub gathers_quiet : (s2 : ServerState) (r2 : Metered R) (m2 : List (ℕ × Code)) (turns more failed : ℕ)
-      (result : Result Windowed DriveFault) → Reads remaining r1 r2 [] more failed (is_closed result) → s2 ≡ s1 → m2 ≡ m1
+      (result : Result Windowed DriveFault) → Reads remaining r1 r2 [] more failed (is_closed result) → s2 ≡ s1
+      → m2 ≡ m1
       → reads + more ≤ turns → ReadsEnd s0 s1 so_far.read (remaining r2.device) turns (reads + more) failed result
       → Gathers remaining s0 s2 r0 r2 m0 m2 turns result
   gathers_quiet s2 r2 m2 turns more failed result quiet stays same below ends = record {
@@ -185,8 +189,10 @@ module _ {R : Type 0} (remaining : R → Option (List ℕ)) (s0 s1 : ServerState
 -- ---- a whole try
 
 pub windows_unread : {R W : Type 0} (remaining : R → Option (List ℕ)) (contents : W → Option (List ℕ)) (s : ServerState)
-    (r : Metered R) (w0 w1 : Metered W) (marks : List (ℕ × Code)) (turns : ℕ) (sent : List ℕ) (result : Result Windowed DriveFault)
-    → Appends (contents w0.device) (contents w1.device) sent → WindowEnds s s [] sent (remaining r.device) turns 0 0 result
+    (r : Metered R) (w0 w1 : Metered W) (marks : List (ℕ × Code)) (turns : ℕ) (sent : List ℕ)
+    (result : Result Windowed DriveFault)
+    → Appends (contents w0.device) (contents w1.device) sent
+    → WindowEnds s s [] sent (remaining r.device) turns 0 0 result
     → w1.failures ≡ write_failures result w0.failures → is_closed result ≡ false
     → Windows remaining contents s s r r w0 w1 marks marks turns result
 windows_unread remaining contents s r w0 w1 marks turns sent result wrote ends failures goes_on = record {
@@ -203,7 +209,8 @@ windows_unread remaining contents s r w0 w1 marks turns sent result wrote ends f
   write_failures = failures;
 }
 
-pub windows_read : {R W : Type 0} (remaining : R → Option (List ℕ)) (contents : W → Option (List ℕ)) (s0 s1 : ServerState)
+pub windows_read : {R W : Type 0} (remaining : R → Option (List ℕ)) (contents : W → Option (List ℕ))
+    (s0 s1 : ServerState)
     (r0 r1 : Metered R) (w0 w1 : Metered W) (m0 m1 : List (ℕ × Code)) (turns : ℕ) (result : Result Windowed DriveFault)
     → Appends (contents w0.device) (contents w1.device) (window_sent s0) → w1.failures ≡ w0.failures
     → Gathers remaining s0 s1 r0 r1 m0 m1 turns result → Windows remaining contents s0 s1 r0 r1 w0 w1 m0 m1 turns result
@@ -227,7 +234,9 @@ windows_read remaining contents s0 s1 r0 r1 w0 w1 m0 m1 turns result wrote failu
     go (Err (WriteFailed w)) ends = absurd ends
     go (Err TriesSpent) ends = ends
 
-    kept : (result : Result Windowed DriveFault) → ReadsEnd s0 s1 reads.read (remaining r1.device) turns reads.reads reads.failed result → w1.failures ≡ write_failures result w0.failures
+    kept : (result : Result Windowed DriveFault)
+        → ReadsEnd s0 s1 reads.read (remaining r1.device) turns reads.reads reads.failed result
+        → w1.failures ≡ write_failures result w0.failures
     kept (Ok windowed) ends = failures
     kept (Err Closed) ends = failures
     kept (Err (WriteFailed w)) ends = absurd ends

@@ -50,4 +50,5 @@ pub returns-clause-outstanding : goal.returns-clause-outstanding
 returns-clause-outstanding g c = still_waits c.args.server.now c.loop-before.server c.loop-before.invariant.read c.loop-before.invariant.state c.loop-before.invariant.silent
 
 pub listen-requires : goal.listen-requires
-listen-requires g c = few_wait c.args.server.now c.loop-before.server c.loop-before.invariant.read (omega (arith, c.requires)) c.loop-before.invariant.state c.loop-before.invariant.silent
+listen-requires g c = few_wait c.args.server.now c.loop-before.server c.loop-before.invariant.read
+    (omega (arith, c.requires)) c.loop-before.invariant.state c.loop-before.invariant.silent

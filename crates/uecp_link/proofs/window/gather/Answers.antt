@@ -16,7 +16,8 @@ returns-clause-gathers g c =
 
 pub returns-in-Err-clause-gathers : goal.returns-in-Err-clause-gathers
 returns-in-Err-clause-gathers g c =
-    let failed = failed_read g.R.Read.remaining c.loop-turn.reader _ c.in-Err.ensures.bytes c.read.ensures.calls c.in-Err.ensures.failures c.in-Err.ensures.empty in
+    let failed = failed_read g.R.Read.remaining c.loop-turn.reader _ c.in-Err.ensures.bytes c.read.ensures.calls
+        c.in-Err.ensures.failures c.in-Err.ensures.empty in
     gathers_quiet g.R.Read.remaining _ _ _ _ _ _ c.loop-turn._turn c.loop-turn.invariant _ _ _ c.args.turns 1 1 _
     failed (search rules) (search rules) (omega arith) (search rules)
 
@@ -25,7 +26,8 @@ returns-in-Ok-eq0-clause-gathers g c =
     let counts : c.read.new.self.empty ≡ counted c.loop-turn.reader.empty = search rules in
     let zero : c.in-Ok-eq0.field-0 ≡ 0 = c.in-Ok-eq0.field-0-test in
     let none = subst (λ n. Consumes (g.R.Read.remaining c.loop-turn.reader.device) (g.R.Read.remaining c.read.new.self.device) (take n c.read.new.buffer)) zero c.in-Ok-eq0.ensures.bytes.0 in
-    let last = last_read g.R.Read.remaining c.loop-turn.reader _ none c.read.ensures.calls c.in-Ok-eq0.ensures.failures counts in
+    let last = last_read g.R.Read.remaining c.loop-turn.reader _ none c.read.ensures.calls c.in-Ok-eq0.ensures.failures
+        counts in
     gathers_quiet g.R.Read.remaining _ _ _ _ _ _ c.loop-turn._turn c.loop-turn.invariant _ _ _ c.args.turns 1 0 _
     last (search rules) (search rules) (omega arith) (search rules)
 
@@ -34,8 +36,10 @@ returns-then-is_idle-clause-gathers g c =
     let piece = take c.in-Ok.count c.read.new.buffer in
     let room : length piece ≤ 64 = search rules in
     let stays : c.read.new.self.empty ≡ c.loop-turn.reader.empty = search rules in
-    let brought = one_read g.R.Read.remaining c.loop-turn.reader _ piece c.in-Ok.ensures.bytes.0 room c.read.ensures.calls c.in-Ok.ensures.failures stays in
-    gathers_more g.R.Read.remaining _ _ _ c.loop-turn.reader _ _ c.loop-turn._turn c.loop-turn.invariant _ _ _ piece c.args.turns _
+    let brought = one_read g.R.Read.remaining c.loop-turn.reader _ piece c.in-Ok.ensures.bytes.0 room
+        c.read.ensures.calls c.in-Ok.ensures.failures stays in
+    gathers_more g.R.Read.remaining _ _ _ c.loop-turn.reader _ _ c.loop-turn._turn c.loop-turn.invariant _ _ _ piece
+        c.args.turns _
     brought (search rules) (search rules) refl (omega arith) (λ late. search rules)
 
 pub loop-turn-preserved : goal.loop-turn-preserved
@@ -43,7 +47,8 @@ loop-turn-preserved g c =
     let piece = take c.in-Ok.count c.read.new.buffer in
     let room : length piece ≤ 64 = search rules in
     let stays : c.read.new.self.empty ≡ c.loop-turn.reader.empty = search rules in
-    let brought = one_read g.R.Read.remaining c.loop-turn.reader _ piece c.in-Ok.ensures.bytes.0 room c.read.ensures.calls c.in-Ok.ensures.failures stays in
+    let brought = one_read g.R.Read.remaining c.loop-turn.reader _ piece c.in-Ok.ensures.bytes.0 room
+        c.read.ensures.calls c.in-Ok.ensures.failures stays in
     let busy : c.hear_marks.new.server.held ≢ [] = search rules in
     gathered_on g.R.Read.remaining _ _ _ c.loop-turn.reader _ _ c.loop-turn._turn c.loop-turn.invariant _ _ _ piece
     brought (search rules) (search rules) busy (search rules)
