@@ -15,7 +15,8 @@ use Rattle.uecp_net.specs.declared.sending.Outstanding.{Outstanding}
 module _ {I O : Type 0} (remaining : I → Option (List ℕ)) (contents : O → Option (List ℕ)) where
   -- ---- what one call leaves
 
-  pub window_spent : (turns : ℕ) (u u' : Underway I O) → Calls remaining contents turns u u' (Ok Spent) → u'.server.held ≢ []
+  pub window_spent : (turns : ℕ) (u u' : Underway I O) → Calls remaining contents turns u u' (Ok Spent)
+      → u'.server.held ≢ []
   window_spent turns u u' windows = windows.ends.1.0
 
   pub window_failed : (turns : ℕ) (u u' : Underway I O) (fault : DriveFault) → u.server.held ≢ []
@@ -29,15 +30,18 @@ module _ {I O : Type 0} (remaining : I → Option (List ℕ)) (contents : O → 
   -- ---- the calls on one connection
 
   module _ (turns calls : ℕ) (u0 u1 u2 : Underway I O) (spent : SpentCalls remaining contents turns calls u0 u1) where
-    pub spent_on : Calls remaining contents turns u1 u2 (Ok Spent) → SpentCalls remaining contents turns (calls + 1) u0 u2
+    pub spent_on : Calls remaining contents turns u1 u2 (Ok Spent)
+        → SpentCalls remaining contents turns (calls + 1) u0 u2
     spent_on windows =
-        subst (λ n. SpentCalls remaining contents turns n u0 u2) (let q : suc calls ≡ calls + 1 = omega arith in q) (u1, spent, windows)
+        subst (λ n. SpentCalls remaining contents turns n u0 u2) (let q : suc calls ≡ calls + 1 = omega arith in q)
+        (u1, spent, windows)
 
     pub tried_idle : (tries : ℕ) → calls < tries → Calls remaining contents turns u1 u2 (Ok Idle)
         → Tried remaining contents tries turns u0 u2 (Ok (calls + 1))
     tried_idle tries below windows = (calls, u1, refl, omega (arith, below), spent, windows)
 
-    pub tried_failed : (tries : ℕ) (fault : DriveFault) → calls < tries → Calls remaining contents turns u1 u2 (Err fault)
+    pub tried_failed : (tries : ℕ) (fault : DriveFault) → calls < tries
+        → Calls remaining contents turns u1 u2 (Err fault)
         → Tried remaining contents tries turns u0 u2 (Err fault)
     tried_failed tries (WriteFailed written) below windows = (calls, u1, below, spent, windows)
     tried_failed tries Closed below windows = (calls, u1, below, spent, windows)
@@ -47,20 +51,29 @@ module _ {I O : Type 0} (remaining : I → Option (List ℕ)) (contents : O → 
 
   module _ {C : Type 0} (opens : C → Option (I × O) → C → Type 0) (closes : C → I → O → C → Type 0) where
     -- the sender took its ends out, and put them back after the calls
-    pub attempted : (old start now : SenderOver C I O) (server : ServerState) (ends ends' : TwoEnds I O) (marks marks' : Marks)
+    pub attempted : (old start now : SenderOver C I O) (server : ServerState) (ends ends' : TwoEnds I O)
+        (marks marks' : Marks)
         (result : Result ℕ DriveFault) → GoesOn opens old start → start.ends ≡ Some ends → now ≡ without_ends start
         → Tried remaining contents now.sender.tries now.sender.turns (underway now ends marks)
-            (record { server = server; input = ends'.input; output = ends'.output; marks = marks' }) result
-        → Attempts opens remaining contents old (record now { sender = record now.sender { server = server }; ends = Some ends' }) marks marks' result
+        (record { server = server; input = ends'.input; output = ends'.output; marks = marks' }) result
+        → Attempts opens remaining contents old
+        (record now { sender = record now.sender { server = server }; ends = Some ends' }) marks marks' result
     attempted old start now server ends ends' marks marks' result goes_on has now_is tried =
-        let after : Underway I O = record { server = server; input = ends'.input; output = ends'.output; marks = marks' } in
+        let after : Underway I O = record {
+          server = server;
+          input = ends'.input;
+          output = ends'.output;
+          marks =
+              marks';
+        } in
         record {
           start = start;
           ends = ends;
           ends' = ends';
           goes_on = goes_on;
           has = has;
-          went = subst (λ (d : SenderOver C I O). Tried remaining contents d.sender.tries d.sender.turns (underway d ends marks) after result) now_is tried;
+          went = subst (λ (d : SenderOver C I O). Tried remaining contents d.sender.tries d.sender.turns
+              (underway d ends marks) after result) now_is tried;
           leaves = ap (λ (d : SenderOver C I O). record d { sender = record d.sender { server = server }; ends = Some ends' }) now_is;
         }
 

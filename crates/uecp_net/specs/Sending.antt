@@ -101,7 +101,8 @@ pub record Attempts {C I O : Type 0} (opens : C → Option (I × O) → C → Ty
   pub ends' : TwoEnds I O
   pub goes_on : GoesOn opens old start
   pub has : start.ends ≡ Some ends
-  pub went : Tried remaining contents start.sender.tries start.sender.turns (underway start ends marks) (underway new ends' marks') result
+  pub went : Tried remaining contents start.sender.tries start.sender.turns (underway start ends marks)
+      (underway new ends' marks') result
   pub leaves : new ≡ record start { sender = record start.sender { server = new.sender.server }; ends = Some ends' }
 
 -- Why messages are outstanding where a connection ended so and there is no other.

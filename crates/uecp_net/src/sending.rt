@@ -150,7 +150,10 @@ impl<'a, C: Connect> Sender<'a, C> {
 
     /// Sends the messages that wait on the connection that there is, and on new ones as long as reconnects are left,
     /// and answers how many tries the last one took.
-    fn send_on_any(&mut self, marks: &mut ArrayVec<(u8, Code), WINDOW_MAX>) -> Result<u32, Outstanding>
+    fn send_on_any(
+        &mut self,
+        marks: &mut ArrayVec<(u8, Code), WINDOW_MAX>,
+    ) -> Result<u32, Outstanding>
         requires busy { self.old.sender.server.held ≢ [] }
         requires few { length (waiting self.old.sender.server) ≤ 8 }
         requires none { marks.old.items ≡ [] }

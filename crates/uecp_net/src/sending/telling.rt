@@ -23,7 +23,10 @@ pub(super) fn counters_of(server: &Server) -> ArrayVec<u8, WINDOW_MAX>
 }
 
 /// The codes that marks give these counters, in order: each that of the first mark with its counter. Each has one.
-pub(super) fn codes_of(counters: &ArrayVec<u8, WINDOW_MAX>, marks: &ArrayVec<(u8, Code), WINDOW_MAX>) -> ArrayVec<Code, WINDOW_MAX>
+pub(super) fn codes_of(
+    counters: &ArrayVec<u8, WINDOW_MAX>,
+    marks: &ArrayVec<(u8, Code), WINDOW_MAX>,
+) -> ArrayVec<Code, WINDOW_MAX>
     requires { All (λ counter. IsSome (code_under counter marks.now.items)) counters.now.items }
     ensures { map Some result.items ≡ map (λ counter. code_under counter marks.now.items) counters.now.items }
 {
