@@ -170,8 +170,13 @@ same_waiting s x none = ap waiting (silent_state s x none).is
 pub few_wait : (s s' : ServerState) (x : List ℕ) → length (waiting s) ≤ 1 → s' ≡ heard s x → acknowledged_in s x ≡ None
     → length (waiting s') ≤ 1
 few_wait s s' x few state none =
-    omega (arith, few, ap (λ (t : ServerState). length (waiting t)) state, ap (λ (ws : List (ℕ × List ℕ)). length ws)
-        (same_waiting s x none))
+    omega (
+      arith,
+      few,
+      ap (λ (t : ServerState). length (waiting t)) state,
+      ap (λ (ws : List (ℕ × List ℕ)). length ws)
+          (same_waiting s x none),
+    )
 
 -- the same frame is sent
 pub same_frame : (s : ServerState) (x : List ℕ) → acknowledged_in s x ≡ None → frame_sent (heard s x) ≡ frame_sent s

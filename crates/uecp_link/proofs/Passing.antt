@@ -108,7 +108,7 @@ module _ {R : Type 0} (remaining : R → Option (List ℕ)) (s0 s1 : ServerState
       let front : take n (so_far.read ++ piece) ≡ take n so_far.read = take-append-le n so_far.read piece within in
       let joined : IsJoinedBy (reply_counters s0.address s0.part (so_far.read ++ piece)) =
       neither_finds (reply_counters s0.address s0.part (so_far.read ++ piece))
-          (sym (more_seen piece seen' is) ∙ both) in
+      (sym (more_seen piece seen' is) ∙ both) in
       record {
         read = so_far.read ++ piece;
         reads = reads + 1;

@@ -1,5 +1,5 @@
 -- Reads, one after another.
-use Rattle.std.proofs.Common.{◌≡◌, ℕ, ◌+◌, ◌≤◌, Bool, true, false, cond, List, [], ◌++◌, length, Option, refl, ◌∙◌, ap, subst, arith, append-nil, length-append}
+use Rattle.std.proofs.Common.{◌≡◌, ℕ, ◌+◌, ◌≤◌, Bool, true, false, cond, List, [], ◌++◌, length, take, Option, refl, ◌∙◌, ap, subst, arith, append-nil, length-append}
 use Rattle.std.specs.Io.KnownBytes.{Consumes, Keeps}
 use Rattle.std.proofs.KnownBytes.{Consumes-nil, Consumes-kept, Consumes-trans}
 use Rattle.uecp_encoder.specs.Metered.{Metered, counted}
@@ -39,12 +39,13 @@ module _ {R : Type 0} (remaining : R → Option (List ℕ)) where
     empties = empty;
   }
 
-  -- a read that meets the end of input
-  pub last_read : (r r' : Metered R) → Consumes (remaining r.device) (remaining r'.device) []
+  -- a read that meets the end of input: none of what it was to fill
+  pub last_read : (r r' : Metered R) (buffer : List ℕ) (n : ℕ) → n ≡ 0
+      → Consumes (remaining r.device) (remaining r'.device) (take n buffer)
       → r'.calls ≡ counted r.calls → r'.failures ≡ r.failures → r'.empty ≡ counted r.empty
       → Reads remaining r r' [] 1 0 true
-  last_read r r' took calls failures empty = record {
-    consumed = took;
+  last_read r r' buffer n none took calls failures empty = record {
+    consumed = subst (λ k. Consumes (remaining r.device) (remaining r'.device) (take k buffer)) none took;
     few_bytes = omega arith;
     calls = λ h. omega (arith, calls, h);
     failures = λ h. omega (arith, failures);
@@ -71,4 +72,4 @@ module _ {R : Type 0} (remaining : R → Option (List ℕ)) where
       let same : 0 + g ≡ g = omega arith in
       subst (λ k. Reads remaining r0 r2 x (n + m) k ended) same
       (subst (λ bytes. Reads remaining r0 r2 bytes (n + m) (0 + g) ended) (append-nil x)
-          (reads_on r0 r1 r2 x n 0 before [] m g ended after))
+      (reads_on r0 r1 r2 x n 0 before [] m g ended after))

@@ -205,7 +205,7 @@ module _ {V : Type 0} (step : Step V) (taken : Taken V) (address : ℕ) where
           → Kept address (numbered step e' (frame_of address o k) c) s (delivered step o k c) (one_more p c (is_next_number o.codes (length o.sent) k)) q
       go (Some c) is e' e'_is below =
           passed (numbered step e' (frame_of address o k) (Some c))
-              (record { address = e'_is.address; value = e'_is.value; ring = e'_is.ring })
+          (record { address = e'_is.address; value = e'_is.value; ring = e'_is.ring })
       go None is e' e'_is below =
           let turn : is_next_kept e'.ring (counter_of k) ≡ (k == p) = ap (λ ring. is_next_kept ring (counter_of k)) e'_is.ring ∙ in_turn address e s o p q kept k below is in
           rw (turn, next_number o.codes p (length o.sent) k kept.applied kept.p_le) (by (k == p) refl)
@@ -368,7 +368,7 @@ module _ {V : Type 0} (step : Step V) (taken : Taken V) (address : ℕ) where
   keeps_take e s o p q kept =
       let value = ap (λ v. (taken v).0) kept.encoder.value in
       with_ends address e s o p q kept (encoder_after step taken address o e Take) s (taken o.value).0 o.to_encoder
-          o.to_server
+      o.to_server
       (record { address = kept.encoder.address; value = value; ring = kept.encoder.ring }) kept.server
 
   -- an event that is not refused keeps the facts

@@ -98,8 +98,11 @@ module _ {R : Type 0} (remaining : R → Option (List ℕ)) (s0 s1 : ServerState
         failed = 0;
         reading = reads_on remaining r0 r1 r2 so_far.read reads 0 so_far.reading piece 1 0 false brought;
         state = heard_on s0 s1 s2 so_far.read piece so_far.state state;
-        hears = (acknowledged_last s0 so_far.read piece code so_far.silent few (more_heard piece ∙ comes), refl,
-            omega arith);
+        hears = (
+          acknowledged_last s0 so_far.read piece code so_far.silent few (more_heard piece ∙ comes),
+          refl,
+          omega arith,
+        );
         few_reads = omega (arith, below);
       }
 
@@ -239,8 +242,13 @@ module _ {R W : Type 0} (remaining : R → Option (List ℕ)) (contents : W → 
         );
         made = made_before;
         few_reads = omega (arith, so_far.few_reads);
-        at_most = omega (arith, so_far.reading.few_bytes, so_far.few_reads, mul-le-mul_right turns
-            (let le : t ≤ tries = omega (arith, below) in le));
+        at_most = omega (
+          arith,
+          so_far.reading.few_bytes,
+          so_far.few_reads,
+          mul-le-mul_right turns
+              (let le : t ≤ tries = omega (arith, below) in le),
+        );
         write_failures_are = failures ∙ ap counted so_far.write_failures;
       }
 
@@ -255,7 +263,7 @@ module _ {R W : Type 0} (remaining : R → Option (List ℕ)) (contents : W → 
   ended_at s2 r2 w2 tries heard_so result try below wrote none_failed closed made failures ends =
       let reads : ℕ = so_far.reads + try.reads in
       let reading = reads_on remaining r0 r1 r2 so_far.read so_far.reads so_far.failed so_far.reading try.read try.reads
-          try.failed (met_end heard_so) try.reading in
+      try.failed (met_end heard_so) try.reading in
       let few : reads ≤ (t + 1) * turns = omega (arith, so_far.few_reads, try.few_reads) in
       record {
         read = so_far.read ++ try.read;
@@ -266,14 +274,19 @@ module _ {R W : Type 0} (remaining : R → Option (List ℕ)) (contents : W → 
         reading =
             subst (Reads remaining r0 r2 (so_far.read ++ try.read) reads so_far.failed) closed
             (subst (λ n. Reads remaining r0 r2 (so_far.read ++ try.read) reads n (met_end heard_so))
-                (let same : so_far.failed + try.failed ≡ so_far.failed = omega (arith, none_failed) in same) reading);
+            (let same : so_far.failed + try.failed ≡ so_far.failed = omega (arith, none_failed) in same) reading);
         appended = one_more contents s0 s1 w0 w1 w2 so_far.read t so_far.silent so_far.state so_far.appended wrote;
         state = heard_on s0 s1 s2 so_far.read try.read so_far.state try.state;
         ends = ends;
         made = made;
         few_reads = few;
-        at_most = omega (arith, reading.few_bytes, few, mul-le-mul_right turns
-            (let le : t + 1 ≤ tries = omega (arith, below) in le));
+        at_most = omega (
+          arith,
+          reading.few_bytes,
+          few,
+          mul-le-mul_right turns
+              (let le : t + 1 ≤ tries = omega (arith, below) in le),
+        );
         write_failures_are = failures;
       }
 
@@ -284,7 +297,7 @@ module _ {R W : Type 0} (remaining : R → Option (List ℕ)) (contents : W → 
       → Drives remaining contents s0 s2 r0 r2 w0 w2 tries turns (Ok (record { code = code; tries = t + 1 }))
   acknowledged_at s2 r2 w2 tries code below wrote failures try =
       ended_at s2 r2 w2 tries _ _ try below wrote try.hears.1 refl
-          (made_before.0, omega (arith, try.hears.2, made_before.1))
+      (made_before.0, omega (arith, try.hears.2, made_before.1))
       (failures ∙ so_far.write_failures) (
         refl,
         omega arith,
@@ -300,7 +313,7 @@ module _ {R W : Type 0} (remaining : R → Option (List ℕ)) (contents : W → 
       → Drives remaining contents s0 s2 r0 r2 w0 w2 tries turns (Err Closed)
   closed_at s2 r2 w2 tries below wrote failures try =
       ended_at s2 r2 w2 tries _ _ try below wrote try.hears.1 refl
-          (made_before.0, omega (arith, try.hears.2, made_before.1))
+      (made_before.0, omega (arith, try.hears.2, made_before.1))
       (failures ∙ so_far.write_failures)
       (omega arith, omega (arith, below), refl, more_tried try.read ∙ try.hears.0, try.hears.3)
 

@@ -161,7 +161,7 @@ module _ {R : Type 0} (remaining : R → Option (List ℕ)) (s0 s1 : ServerState
       late : (heard s0 (take (length (so_far.read ++ piece) - 64) (so_far.read ++ piece))).held ≡ [] → ⊥
       late before =
           let within : length (so_far.read ++ piece) - 64 ≤ length so_far.read =
-              omega (arith, length-append so_far.read piece, brought.few_bytes) in
+          omega (arith, length-append so_far.read piece, brought.few_bytes) in
           let front = take-append-le (length (so_far.read ++ piece) - 64) so_far.read piece within in
           let x : List ℕ = take (length (so_far.read ++ piece) - 64) so_far.read in
           let y : List ℕ = drop (length (so_far.read ++ piece) - 64) so_far.read in

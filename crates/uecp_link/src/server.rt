@@ -14,7 +14,9 @@ mod replies;
 use crate::counters::counter_of;
 use crate::counts::ServerCounts;
 use crate::heard::{Heard, HeardWhat};
-use crate::held_message::{HeldMessage, WINDOW_MAX, count_waiting, counter_at, frame_at, let_go, mark};
+use crate::held_message::{
+    HeldMessage, WINDOW_MAX, count_waiting, counter_at, frame_at, let_go, mark,
+};
 use crate::server::replies::acknowledging;
 use arrayvec::ArrayVec;
 use std::marker::Model;

@@ -19,20 +19,17 @@ returns g c =
 pub returns-in-Err : goal.returns-in-Err
 returns-in-Err g c =
     let failed = failed_read g.R.Read.remaining c.loop-turn.reader _ c.in-Err.ensures.bytes c.read.ensures.calls
-        c.in-Err.ensures.failures c.in-Err.ensures.empty in
+    c.in-Err.ensures.failures c.in-Err.ensures.empty in
     replies_quiet g.R.Read.remaining _ _ _ _ _ c.loop-turn._turn c.loop-turn.invariant _ _ c.args.turns 1 1 _ failed
-        refl (omega arith)
+    refl (omega arith)
     (not_brought g.R.Read.remaining _ _ _ _ _ _ c.loop-turn.invariant c.requires.closed, inl (refl, omega arith))
 
 pub returns-in-Ok-eq0 : goal.returns-in-Ok-eq0
 returns-in-Ok-eq0 g c =
-    let counts : c.read.new.self.empty ≡ counted c.loop-turn.reader.empty = search rules in
-    let zero : c.in-Ok-eq0.field-0 ≡ 0 = c.in-Ok-eq0.field-0-test in
-    let none = subst (λ n. Consumes (g.R.Read.remaining c.loop-turn.reader.device) (g.R.Read.remaining c.read.new.self.device) (take n c.read.new.buffer)) zero c.in-Ok-eq0.ensures.bytes.0 in
-    let last = last_read g.R.Read.remaining c.loop-turn.reader _ none c.read.ensures.calls c.in-Ok-eq0.ensures.failures
-        counts in
+    let last = last_read g.R.Read.remaining c.loop-turn.reader c.read.new.self c.read.new.buffer _
+        c.in-Ok-eq0.field-0-test c.in-Ok-eq0.ensures.bytes.0 c.read.ensures.calls c.in-Ok-eq0.ensures.failures (search rules) in
     replies_quiet g.R.Read.remaining _ _ _ _ _ c.loop-turn._turn c.loop-turn.invariant _ _ c.args.turns 1 0 _ last refl
-        (omega arith)
+    (omega arith)
     (not_brought g.R.Read.remaining _ _ _ _ _ _ c.loop-turn.invariant c.requires.closed, refl, omega arith, search rules)
 
 pub returns-then-eq : goal.returns-then-eq
@@ -41,10 +38,10 @@ returns-then-eq g c =
     let room : length piece ≤ 64 = search rules in
     let stays : c.read.new.self.empty ≡ c.loop-turn.reader.empty = search rules in
     let brought = one_read g.R.Read.remaining c.loop-turn.reader _ piece c.in-Ok.ensures.bytes.0 room
-        c.read.ensures.calls c.in-Ok.ensures.failures stays in
+    c.read.ensures.calls c.in-Ok.ensures.failures stays in
     let both : c.hear_replies-seen.result ≡ Both = search rules in
     replies_both g.R.Read.remaining _ _ _ c.loop-turn.reader _ c.loop-turn._turn c.loop-turn.invariant _ _
-        c.hear_replies-seen.result piece
+    c.hear_replies-seen.result piece
     c.args.turns c.requires.closed brought (search rules) (search rules) both (omega arith)
 
 pub loop-turn-preserved : goal.loop-turn-preserved
@@ -53,8 +50,8 @@ loop-turn-preserved g c =
     let room : length piece ≤ 64 = search rules in
     let stays : c.read.new.self.empty ≡ c.loop-turn.reader.empty = search rules in
     let brought = one_read g.R.Read.remaining c.loop-turn.reader _ piece c.in-Ok.ensures.bytes.0 room
-        c.read.ensures.calls c.in-Ok.ensures.failures stays in
+    c.read.ensures.calls c.in-Ok.ensures.failures stays in
     let waits : c.hear_replies-seen.result ≢ Both = search rules in
     read_on g.R.Read.remaining _ _ _ c.loop-turn.reader _ c.loop-turn._turn c.loop-turn.invariant _ _
-        c.hear_replies-seen.result piece
+    c.hear_replies-seen.result piece
     brought (search rules) (search rules) waits

@@ -17,17 +17,14 @@ returns-clause-gathers g c =
 pub returns-in-Err-clause-gathers : goal.returns-in-Err-clause-gathers
 returns-in-Err-clause-gathers g c =
     let failed = failed_read g.R.Read.remaining c.loop-turn.reader _ c.in-Err.ensures.bytes c.read.ensures.calls
-        c.in-Err.ensures.failures c.in-Err.ensures.empty in
+    c.in-Err.ensures.failures c.in-Err.ensures.empty in
     gathers_quiet g.R.Read.remaining _ _ _ _ _ _ c.loop-turn._turn c.loop-turn.invariant _ _ _ c.args.turns 1 1 _
     failed (search rules) (search rules) (omega arith) (search rules)
 
 pub returns-in-Ok-eq0-clause-gathers : goal.returns-in-Ok-eq0-clause-gathers
 returns-in-Ok-eq0-clause-gathers g c =
-    let counts : c.read.new.self.empty ≡ counted c.loop-turn.reader.empty = search rules in
-    let zero : c.in-Ok-eq0.field-0 ≡ 0 = c.in-Ok-eq0.field-0-test in
-    let none = subst (λ n. Consumes (g.R.Read.remaining c.loop-turn.reader.device) (g.R.Read.remaining c.read.new.self.device) (take n c.read.new.buffer)) zero c.in-Ok-eq0.ensures.bytes.0 in
-    let last = last_read g.R.Read.remaining c.loop-turn.reader _ none c.read.ensures.calls c.in-Ok-eq0.ensures.failures
-        counts in
+    let last = last_read g.R.Read.remaining c.loop-turn.reader c.read.new.self c.read.new.buffer _
+        c.in-Ok-eq0.field-0-test c.in-Ok-eq0.ensures.bytes.0 c.read.ensures.calls c.in-Ok-eq0.ensures.failures (search rules) in
     gathers_quiet g.R.Read.remaining _ _ _ _ _ _ c.loop-turn._turn c.loop-turn.invariant _ _ _ c.args.turns 1 0 _
     last (search rules) (search rules) (omega arith) (search rules)
 
@@ -37,9 +34,9 @@ returns-then-is_idle-clause-gathers g c =
     let room : length piece ≤ 64 = search rules in
     let stays : c.read.new.self.empty ≡ c.loop-turn.reader.empty = search rules in
     let brought = one_read g.R.Read.remaining c.loop-turn.reader _ piece c.in-Ok.ensures.bytes.0 room
-        c.read.ensures.calls c.in-Ok.ensures.failures stays in
+    c.read.ensures.calls c.in-Ok.ensures.failures stays in
     gathers_more g.R.Read.remaining _ _ _ c.loop-turn.reader _ _ c.loop-turn._turn c.loop-turn.invariant _ _ _ piece
-        c.args.turns _
+    c.args.turns _
     brought (search rules) (search rules) refl (omega arith) (λ late. search rules)
 
 pub loop-turn-preserved : goal.loop-turn-preserved
@@ -48,7 +45,7 @@ loop-turn-preserved g c =
     let room : length piece ≤ 64 = search rules in
     let stays : c.read.new.self.empty ≡ c.loop-turn.reader.empty = search rules in
     let brought = one_read g.R.Read.remaining c.loop-turn.reader _ piece c.in-Ok.ensures.bytes.0 room
-        c.read.ensures.calls c.in-Ok.ensures.failures stays in
+    c.read.ensures.calls c.in-Ok.ensures.failures stays in
     let busy : c.hear_marks.new.server.held ≢ [] = search rules in
     gathered_on g.R.Read.remaining _ _ _ c.loop-turn.reader _ _ c.loop-turn._turn c.loop-turn.invariant _ _ _ piece
     brought (search rules) (search rules) busy (search rules)
