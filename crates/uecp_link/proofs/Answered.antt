@@ -166,6 +166,18 @@ idle_hears s bytes idle =
 pub same_waiting : (s : ServerState) (x : List ℕ) → acknowledged_in s x ≡ None → waiting (heard s x) ≡ waiting s
 same_waiting s x none = ap waiting (silent_state s x none).is
 
+-- no more of them than before
+pub few_wait : (s s' : ServerState) (x : List ℕ) → length (waiting s) ≤ 1 → s' ≡ heard s x → acknowledged_in s x ≡ None
+    → length (waiting s') ≤ 1
+few_wait s s' x few state none =
+    omega (
+      arith,
+      few,
+      ap (λ (t : ServerState). length (waiting t)) state,
+      ap (λ (ws : List (ℕ × List ℕ)). length ws)
+          (same_waiting s x none),
+    )
+
 -- the same frame is sent
 pub same_frame : (s : ServerState) (x : List ℕ) → acknowledged_in s x ≡ None → frame_sent (heard s x) ≡ frame_sent s
 same_frame s x none = ap frame_sent (silent_state s x none).is
@@ -178,6 +190,10 @@ acknowledged_later s x y none =
     let here = silent_state s x none in
     ap (first_code s) (in_pieces_lem s.part x y).found ∙ first_code-append s (found_beyond s.part x) ys ∙ ap (λ k. option_or k (first_code s ys)) none
     ∙ sym (first_but_for s here.counts o ys) ∙ sym (ap (λ d. acknowledged_in d y) here.is)
+
+pub acknowledged_on : (s0 s1 : ServerState) (x y : List ℕ) → s1 ≡ heard s0 x → acknowledged_in s0 x ≡ None
+    → acknowledged_in s0 (x ++ y) ≡ acknowledged_in s1 y
+acknowledged_on s0 s1 x y state none = acknowledged_later s0 x y none ∙ ap (λ d. acknowledged_in d y) (sym state)
 
 earlier_silent : (s : ServerState) (x y : List ℕ) → acknowledged_in s (x ++ y) ≡ None → acknowledged_in s x ≡ None
 earlier_silent s x y none =

@@ -169,6 +169,10 @@ acknowledgements-append s x y = said-append code_heard s x y
 pub server_in_pieces : (s : ServerState) (x y : List ℕ) → IsInPieces heard acknowledgements s x y
 server_in_pieces s x y = record { state = heard-append s x y; said = acknowledgements-append s x y }
 
+-- more is heard after what was heard before
+pub heard_on : (s0 s1 s2 : ServerState) (x y : List ℕ) → s1 ≡ heard s0 x → s2 ≡ heard s1 y → s2 ≡ heard s0 (x ++ y)
+heard_on s0 s1 s2 x y before after = after ∙ ap (λ d. heard d y) before ∙ sym (server_in_pieces s0 x y).state
+
 -- ---- noise
 pub found_split : (o : OpenPart) (n : ℕ) (bytes : List ℕ) → found_beyond o bytes ≡ found_beyond o (take n bytes) ++ found_beyond (open_beyond o (take n bytes)) (drop n bytes)
 found_split o n bytes = ap (found_beyond o) (sym (take-append-drop n bytes)) ∙ (in_pieces_lem o (take n bytes) (drop n bytes)).found

@@ -8,8 +8,8 @@ use Rattle.std.proofs.lemmas.List.{length-map}
 use Rattle.uecp_frame.specs.Frame.{spelling}
 use Rattle.uecp_link.specs.Frames.{frame_under}
 use Rattle.uecp_link.specs.Server.{ServerState, waiting_among, waiting, frames_waiting, is_marked, marked_at, freed_of}
-use Rattle.uecp_link.specs.declared.holding.HeldMessage.{HeldMessage}
-use Rattle.uecp_link.specs.Holding.{held_as, held_in, frames_among, with_mark, left_of, AreSpelled, AreInTurn, IsHolding}
+use Rattle.uecp_link.specs.declared.held_message.HeldMessage.{HeldMessage}
+use Rattle.uecp_link.specs.HeldMessages.{held_as, held_in, frames_among, with_mark, left_of, AreSpelled, AreInTurn, IsHolding}
 
 -- the frames that are lent are the spellings of the messages that wait
 pub frames_are : (address : ℕ) (hs : List HeldMessage) → AreSpelled address hs → frames_among hs ≡ map (λ w. spelling (frame_under address w)) (waiting_among (held_in hs))

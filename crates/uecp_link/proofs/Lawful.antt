@@ -8,8 +8,8 @@ use Rattle.uecp_frame.specs.Findings.{Closed}
 use Rattle.uecp_encoder.specs.Target.{Step, Taken}
 use Rattle.uecp_encoder.specs.State.{EncoderState, opening}
 use Rattle.uecp_link.specs.Counters.{counter_of}
-use Rattle.uecp_link.specs.Server.{ServerState, waiting_among, waiting}
-use Rattle.uecp_link.specs.Once.{Event, Once, message_at, missing, refusal_of, after, answer_of}
+use Rattle.uecp_link.specs.Server.{ServerState, idle_at, waiting_among, waiting}
+use Rattle.uecp_link.specs.Once.{Event, Once, at_first, message_at, missing, refusal_of, after, answer_of}
 use Rattle.uecp_link.specs.History.{Act, act_of, history}
 use Rattle.uecp_link.specs.Law.{World, encoder_after, server_after, run, start_from, start, Fits, Numbers, Law, LawFrom}
 use Rattle.uecp_link.specs.Kept.{IsReady, Kept, Hears}
@@ -60,27 +60,31 @@ module _ {V : Type 0} (step : Step V) (taken : Taken V) (address : ℕ) (opening
 pub ready_at_first : IsReady []
 ready_at_first = inl refl
 
--- an encoder that is ready, with nothing open, and a new server
+-- an encoder that is ready and a new server, at first
+pub kept_at_first : {V : Type 0} (e : EncoderState V) → IsReady e.ring → Kept e.address e (idle_at e.address) (at_first e.value) 0 0
+kept_at_first e ready = record {
+  base = e.ring;
+  ready = ready;
+  encoder = record { address = refl; value = refl; ring = sym (take_all 127 e.ring (ready_few e.ring ready)) };
+  count = 0;
+  server = record { address = refl; last = refl; held = refl };
+  count_is = omega arith;
+  few = omega arith;
+  below = λ k l. absurd (omega arith);
+  oldest = λ some. absurd (omega arith);
+  applied = λ k. sym (le-ltb k 0 (omega arith));
+  within = λ k acked. absurd (false≢true acked);
+  p_le = omega arith;
+  q_le = omega arith;
+  fits = λ k. omega arith;
+}
+
+-- and with nothing open
 pub lawful_from : {V : Type 0} (step : Step V) (taken : Taken V) (e : EncoderState V) → IsReady e.ring → e.part ≡ Closed → Lawful step taken e.address e.value (start_from e) []
 lawful_from step taken e ready shut = record {
   p = 0;
   q = 0;
-  kept = record {
-    base = e.ring;
-    ready = ready;
-    encoder = record { address = refl; value = refl; ring = sym (take_all 127 e.ring (ready_few e.ring ready)) };
-    count = 0;
-    server = record { address = refl; last = refl; held = refl };
-    count_is = omega arith;
-    few = omega arith;
-    below = λ k l. absurd (omega arith);
-    oldest = λ some. absurd (omega arith);
-    applied = λ k. sym (le-ltb k 0 (omega arith));
-    within = λ k acked. absurd (false≢true acked);
-    p_le = omega arith;
-    q_le = omega arith;
-    fits = λ k. omega arith;
-  };
+  kept = kept_at_first e ready;
   hears = record { encoder = shut ∙ sym left_none; server = sym left_none; encoder_quiet = quiet_none; server_quiet = quiet_none };
   folded_is = record { order = refl; value = refl; codes = λ k. refl };
 }

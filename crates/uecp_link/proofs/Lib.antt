@@ -23,6 +23,7 @@ pub mod Acknowledging
 pub mod Opening
 pub mod Stepping
 pub mod Answered
+pub mod Reading
 pub mod Tries
 pub mod Windowing
 pub mod Marks

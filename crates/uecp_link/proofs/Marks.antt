@@ -13,8 +13,8 @@ use Rattle.uecp_encoder.specs.State.{raised}
 use Rattle.uecp_link.specs.Counters.{counter_of}
 use Rattle.uecp_link.specs.Server.{ServerState, Held, waiting_among, waiting, waits_for, marked_at, acknowledges, freed, raised_by, heard_finding, heard_findings, heard, told, all_heard_as, counters_waiting}
 use Rattle.uecp_link.specs.Window.{mark_in, marks_in, code_under}
-use Rattle.uecp_link.specs.declared.holding.HeldMessage.{HeldMessage}
-use Rattle.uecp_link.specs.Holding.{held_in, with_mark, left_of, AreInTurn, IsHolding}
+use Rattle.uecp_link.specs.declared.held_message.HeldMessage.{HeldMessage}
+use Rattle.uecp_link.specs.HeldMessages.{held_in, with_mark, left_of, AreInTurn, IsHolding}
 use Rattle.uecp_link.proofs.HeldFields.{marked_in, left_in}
 use Rattle.uecp_link.proofs.Waiting.{acknowledged_waits, freed_waits}
 use Rattle.uecp_link.proofs.FeedingLemmas.{heard_open}

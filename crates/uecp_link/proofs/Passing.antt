@@ -1,16 +1,15 @@
 -- A pass: its frames, and the reads that end with both replies.
-use Rattle.std.proofs.Common.{◌≡◌, ◌≢◌, ℕ, zero, suc, ◌+◌, ◌-◌, ◌^◌, ◌<◌, ◌≤◌, List, [], ◌∷◌, ◌++◌, length, map, take, drop, Option, Some, None, Result, Ok, Err, refl, ◌∙◌, ap, sym, subst, arith, length-append, append-nil, take-append-drop}
+use Rattle.std.proofs.Common.{◌≡◌, ◌≢◌, ℕ, zero, suc, ◌+◌, ◌-◌, ◌<◌, ◌≤◌, false, List, [], ◌∷◌, ◌++◌, length, map, take, drop, Option, Some, None, Result, Ok, Err, refl, ◌∙◌, ap, sym, subst, arith, length-append, append-nil, take-append-drop}
 use Rattle.std.specs.Prelude.{slice_get}
 use Rattle.std.proofs.lemmas.List.{take-append-le, take_all}
-use Rattle.std.specs.Io.KnownBytes.{Appends, Consumes}
-use Rattle.std.proofs.KnownBytes.{Consumes-nil, Consumes-trans}
+use Rattle.std.specs.Io.KnownBytes.{Appends}
 use Rattle.uecp_frame.specs.Frame.{spelling}
 use Rattle.uecp_frame.specs.Findings.{Finding, OpenPart, Closed as NothingOpen}
 use Rattle.uecp_frame.specs.Beyond.{found_beyond, open_beyond}
 use Rattle.uecp_frame.proofs.Sending.{length-spelling-le}
 use Rattle.uecp_elements.specs.declared.code.Code.{Code}
 use Rattle.uecp_encoder.specs.Joining.{rising}
-use Rattle.uecp_encoder.specs.Metered.{Metered, counted}
+use Rattle.uecp_encoder.specs.Metered.{Metered}
 use Rattle.uecp_link.specs.declared.driving.DriveFault.{DriveFault}
 use Rattle.uecp_link.specs.declared.driving.DriveFault.TheVariants.{WriteFailed, Closed, TriesSpent}
 use Rattle.uecp_link.specs.declared.joining.Joining.{Joining}
@@ -19,9 +18,11 @@ use Rattle.uecp_link.specs.declared.joining.Seen.{Seen}
 use Rattle.uecp_link.specs.declared.joining.Seen.TheVariants.{Neither, Both}
 use Rattle.uecp_link.specs.Frames.{frame_under}
 use Rattle.uecp_link.specs.Server.{ServerState, waiting_among, freed, heard_finding, heard_findings, heard}
-use Rattle.uecp_link.specs.Joining.{frames_of_pass, pass_sent, reply_counters, IsJoinedBy, BringsBoth, anew, IsStillNew, RepliesEnd, PassEnds, pass_failures, MakesPass, seen_after, ReadsReplies, ReadSoFar}
+use Rattle.uecp_link.specs.Reading.{Reads, is_closed, write_failures}
+use Rattle.uecp_link.specs.Joining.{frames_of_pass, pass_sent, reply_counters, IsJoinedBy, BringsBoth, anew, IsStillNew, RepliesEnd, PassEnds, MakesPass, seen_after, ReadsReplies, ReadSoFar}
 use Rattle.uecp_link.proofs.Answered.{idle_hears}
-use Rattle.uecp_link.proofs.FeedingLemmas.{heard_none, server_in_pieces}
+use Rattle.uecp_link.proofs.FeedingLemmas.{heard_none, heard_on}
+use Rattle.uecp_link.proofs.Reading.{no_read, reads_on, reads_end}
 use Rattle.uecp_link.proofs.SeenReplies.{neither_finds, joined_seen, counters_none, brought_later, seen_on}
 use Rattle.uecp_link.proofs.Waiting.{none_acknowledged}
 
@@ -60,38 +61,29 @@ frame_is_short address counter = length-spelling-le (frame_under address (counte
 pub read_none : {R : Type 0} (remaining : R → Option (List ℕ)) (s : ServerState) (reader : Metered R) → s.held ≡ [] → ReadSoFar remaining s s reader reader Neither 0
 read_none remaining s reader idle = record {
   read = [];
-  consumed = Consumes-nil _;
+  reading = no_read remaining reader;
   state = sym (heard_none s);
   idle = idle;
   seen_is = sym (ap (seen_after Neither) (counters_none s.address s.part));
   waits = λ h. cc;
-  bring = refl;
-  few_bytes = omega arith;
-  calls = λ h. omega arith;
-  read_failures = refl;
 }
 
 module _ {R : Type 0} (remaining : R → Option (List ℕ)) (s0 s1 : ServerState) (r0 r1 : Metered R) (seen : Seen) (reads : ℕ) (so_far : ReadSoFar remaining s0 s1 r0 r1 seen reads) where
-  more_state : (piece : List ℕ) (s2 : ServerState) → s2 ≡ heard s1 piece → s2 ≡ heard s0 (so_far.read ++ piece)
-  more_state piece s2 state = state ∙ ap (λ d. heard d piece) so_far.state ∙ sym (server_in_pieces s0 so_far.read piece).state
-
   more_seen : (piece : List ℕ) (seen' : Seen) → seen' ≡ seen_after seen (reply_counters s1.address s1.part piece) → seen' ≡ seen_after Neither (reply_counters s0.address s0.part (so_far.read ++ piece))
   more_seen piece seen' is = is ∙ seen_on s0 s1 so_far.read piece Neither seen so_far.state so_far.seen_is
 
   -- one read more, after which not both were read
-  pub read_on : (s2 : ServerState) (r2 : Metered R) (seen' : Seen) (piece : List ℕ) → Consumes (remaining r1.device) (remaining r2.device) piece → length piece ≤ 64 → s2 ≡ heard s1 piece
-      → seen' ≡ seen_after seen (reply_counters s1.address s1.part piece) → seen' ≢ Both → r2.calls ≡ counted r1.calls → r2.failures ≡ r1.failures → r2.empty ≡ r1.empty → ReadSoFar remaining s0 s2 r0 r2 seen' (reads + 1)
-  read_on s2 r2 seen' piece took few state is waits calls failures empty = record {
+  pub read_on : (s2 : ServerState) (r2 : Metered R) (seen' : Seen) (piece : List ℕ)
+      → Reads remaining r1 r2 piece 1 0 false
+      → s2 ≡ heard s1 piece → seen' ≡ seen_after seen (reply_counters s1.address s1.part piece) → seen' ≢ Both
+      → ReadSoFar remaining s0 s2 r0 r2 seen' (reads + 1)
+  read_on s2 r2 seen' piece brought state is waits = record {
     read = so_far.read ++ piece;
-    consumed = Consumes-trans _ _ _ _ _ so_far.consumed took;
-    state = more_state piece s2 state;
+    reading = reads_on remaining r0 r1 r2 so_far.read reads 0 so_far.reading piece 1 0 false brought;
+    state = heard_on s0 s1 s2 so_far.read piece so_far.state state;
     idle = ap (λ (t : ServerState). t.held) state ∙ idle_hears s1 piece so_far.idle;
     seen_is = more_seen piece seen' is;
     waits = waits;
-    bring = empty ∙ so_far.bring;
-    few_bytes = omega (arith, length-append so_far.read piece, few, so_far.few_bytes);
-    calls = λ h. omega (arith, calls, so_far.calls (omega (arith, h)), h);
-    read_failures = failures ∙ so_far.read_failures;
   }
 
   -- what was read before the last 64 bytes, or all where no more was read, does not bring both
@@ -105,92 +97,83 @@ module _ {R : Type 0} (remaining : R → Option (List ℕ)) (s0 s1 : ServerState
   not_brought closed = not_yet so_far.read [] closed (append-nil so_far.read)
 
   -- the reads end with one more, with which both were read
-  pub replies_both : (s2 : ServerState) (r2 : Metered R) (seen' : Seen) (piece : List ℕ) (turns : ℕ) → s0.part ≡ NothingOpen → Consumes (remaining r1.device) (remaining r2.device) piece → length piece ≤ 64
-      → s2 ≡ heard s1 piece → seen' ≡ seen_after seen (reply_counters s1.address s1.part piece) → seen' ≡ Both → r2.calls ≡ counted r1.calls → r2.failures ≡ r1.failures → r2.empty ≡ r1.empty → reads < turns → ReadsReplies remaining s0 s2 r0 r2 turns (Ok Joined)
-  replies_both s2 r2 seen' piece turns closed took few state is both calls failures empty below =
+  pub replies_both : (s2 : ServerState) (r2 : Metered R) (seen' : Seen) (piece : List ℕ) (turns : ℕ)
+      → s0.part ≡ NothingOpen
+      → Reads remaining r1 r2 piece 1 0 false → s2 ≡ heard s1 piece
+      → seen' ≡ seen_after seen (reply_counters s1.address s1.part piece) → seen' ≡ Both → reads < turns
+      → ReadsReplies remaining s0 s2 r0 r2 turns (Ok Joined)
+  replies_both s2 r2 seen' piece turns closed brought state is both below =
       let n : ℕ = length (so_far.read ++ piece) - 64 in
-      let within : n ≤ length so_far.read = omega (arith, length-append so_far.read piece, few) in
+      let within : n ≤ length so_far.read = omega (arith, length-append so_far.read piece, brought.few_bytes) in
       let front : take n (so_far.read ++ piece) ≡ take n so_far.read = take-append-le n so_far.read piece within in
-      let brought : IsJoinedBy (reply_counters s0.address s0.part (so_far.read ++ piece)) = neither_finds (reply_counters s0.address s0.part (so_far.read ++ piece)) (sym (more_seen piece seen' is) ∙ both) in
+      let joined : IsJoinedBy (reply_counters s0.address s0.part (so_far.read ++ piece)) =
+      neither_finds (reply_counters s0.address s0.part (so_far.read ++ piece))
+      (sym (more_seen piece seen' is) ∙ both) in
       record {
         read = so_far.read ++ piece;
         reads = reads + 1;
         failed = 0;
-        consumed = Consumes-trans _ _ _ _ _ so_far.consumed took;
-        state = more_state piece s2 state;
+        reading = reads_on remaining r0 r1 r2 so_far.read reads 0 so_far.reading piece 1 0 false brought;
+        state = heard_on s0 s1 s2 so_far.read piece so_far.state state;
         ends = (
-          subst (λ (o : OpenPart). IsJoinedBy (reply_counters s0.address o (so_far.read ++ piece))) closed brought,
+          subst (λ (o : OpenPart). IsJoinedBy (reply_counters s0.address o (so_far.read ++ piece))) closed joined,
           λ early. not_yet (take n so_far.read) (drop n so_far.read) closed (take-append-drop n so_far.read) (subst (BringsBoth s0.address) front early),
           refl,
           omega arith,
         );
-        bring = λ open_. empty ∙ so_far.bring;
-        end = λ ended. cc;
         few_reads = omega (arith, below);
-        few_bytes = omega (arith, length-append so_far.read piece, few, so_far.few_bytes);
-        calls = λ h. omega (arith, calls, so_far.calls (omega (arith, h)), h);
-        read_failures = λ h. omega (arith, failures, so_far.read_failures, h);
       }
 
   -- they end with no more, or with one more that brought none
-  pub replies_quiet : (s2 : ServerState) (r2 : Metered R) (turns more failed : ℕ) (result : Result Joining DriveFault) → Consumes (remaining r1.device) (remaining r2.device) [] → s2 ≡ s1
-      → (r1.calls + more < 2 ^ 128 → r2.calls ≡ r1.calls + more) → (r1.failures + failed < 2 ^ 128 → r2.failures ≡ r1.failures + failed) → reads + more ≤ turns → (result ≢ Err Closed → r2.empty ≡ r1.empty)
-      → (result ≡ Err Closed → r2.empty ≡ counted r1.empty)
-      → RepliesEnd s0.address so_far.read (remaining r2.device) turns (reads + more) failed result → ReadsReplies remaining s0 s2 r0 r2 turns result
-  replies_quiet s2 r2 turns more failed result took stays calls failures below brings empties ends = record {
+  pub replies_quiet : (s2 : ServerState) (r2 : Metered R) (turns more failed : ℕ) (result : Result Joining DriveFault)
+      → Reads remaining r1 r2 [] more failed (is_closed result) → s2 ≡ s1 → reads + more ≤ turns
+      → RepliesEnd s0.address so_far.read (remaining r2.device) turns (reads + more) failed result
+      → ReadsReplies remaining s0 s2 r0 r2 turns result
+  replies_quiet s2 r2 turns more failed result quiet stays below ends = record {
     read = so_far.read;
     reads = reads + more;
     failed = failed;
-    consumed = subst (Consumes (remaining r0.device) (remaining r2.device)) (append-nil so_far.read) (Consumes-trans _ _ _ _ _ so_far.consumed took);
+    reading = reads_end remaining r0 r1 r2 so_far.read reads so_far.reading more failed (is_closed result) quiet;
     state = stays ∙ so_far.state;
     ends = ends;
-    bring = λ open_. brings open_ ∙ so_far.bring;
-    end = λ ended. empties ended ∙ ap counted so_far.bring;
     few_reads = below;
-    few_bytes = omega (arith, so_far.few_bytes);
-    calls = λ h. omega (arith, calls, so_far.calls (omega (arith, h)), h);
-    read_failures = λ h. omega (arith, failures, so_far.read_failures, h);
   }
 
 -- ---- a whole pass
 
-pub pass_unread : {R W : Type 0} (remaining : R → Option (List ℕ)) (contents : W → Option (List ℕ)) (s s' : ServerState) (r : Metered R) (w0 w1 : Metered W) (turns : ℕ) (sent : List ℕ) (result : Result Joining DriveFault) → s' ≡ anew s
-    → Appends (contents w0.device) (contents w1.device) sent → PassEnds s.address [] sent (remaining r.device) turns 0 0 result → w1.failures ≡ pass_failures result w0.failures → result ≢ Err Closed → MakesPass remaining contents s s' r r w0 w1 turns result
+pub pass_unread : {R W : Type 0} (remaining : R → Option (List ℕ)) (contents : W → Option (List ℕ)) (s s' : ServerState)
+    (r : Metered R) (w0 w1 : Metered W) (turns : ℕ) (sent : List ℕ) (result : Result Joining DriveFault) → s' ≡ anew s
+    → Appends (contents w0.device) (contents w1.device) sent
+    → PassEnds s.address [] sent (remaining r.device) turns 0 0 result → w1.failures ≡ write_failures result w0.failures
+    → is_closed result ≡ false → MakesPass remaining contents s s' r r w0 w1 turns result
 pass_unread remaining contents s s' r w0 w1 turns sent result begins wrote ends failures goes_on = record {
   read = [];
   sent = sent;
   reads = 0;
   failed = 0;
-  consumed = Consumes-nil _;
+  reading = rw goes_on (no_read remaining r);
   appended = wrote;
   state = begins ∙ sym (heard_none (anew s));
   ends = ends;
-  bring = λ h. refl;
-  end = λ ended. absurd (goes_on ended);
   few_reads = omega arith;
-  few_bytes = omega arith;
-  calls = λ h. omega arith;
-  read_failures = λ h. omega arith;
   write_failures = failures;
 }
 
-pub pass_read : {R W : Type 0} (remaining : R → Option (List ℕ)) (contents : W → Option (List ℕ)) (s0 s1 s2 : ServerState) (r0 r1 : Metered R) (w0 w1 : Metered W) (turns : ℕ) (result : Result Joining DriveFault) → s1 ≡ anew s0
-    → Appends (contents w0.device) (contents w1.device) (pass_sent s0.address) → w1.failures ≡ w0.failures → ReadsReplies remaining s1 s2 r0 r1 turns result → MakesPass remaining contents s0 s2 r0 r1 w0 w1 turns result
+pub pass_read : {R W : Type 0} (remaining : R → Option (List ℕ)) (contents : W → Option (List ℕ))
+    (s0 s1 s2 : ServerState)
+    (r0 r1 : Metered R) (w0 w1 : Metered W) (turns : ℕ) (result : Result Joining DriveFault) → s1 ≡ anew s0
+    → Appends (contents w0.device) (contents w1.device) (pass_sent s0.address) → w1.failures ≡ w0.failures
+    → ReadsReplies remaining s1 s2 r0 r1 turns result → MakesPass remaining contents s0 s2 r0 r1 w0 w1 turns result
 pass_read remaining contents s0 s1 s2 r0 r1 w0 w1 turns result begins wrote failures reads = record {
   read = reads.read;
   sent = pass_sent s0.address;
   reads = reads.reads;
   failed = reads.failed;
-  consumed = reads.consumed;
+  reading = reads.reading;
   appended = wrote;
   state = reads.state ∙ ap (λ (s : ServerState). heard s reads.read) begins;
   ends = go result ends;
-  bring = reads.bring;
-  end = reads.end;
   few_reads = reads.few_reads;
-  few_bytes = reads.few_bytes;
-  calls = reads.calls;
-  read_failures = reads.read_failures;
   write_failures = kept result ends;
 }
   where
@@ -203,7 +186,9 @@ pass_read remaining contents s0 s1 s2 r0 r1 w0 w1 turns result begins wrote fail
     go (Err (WriteFailed w)) ends = absurd ends
     go (Err TriesSpent) ends = ends
 
-    kept : (result : Result Joining DriveFault) → RepliesEnd s0.address reads.read (remaining r1.device) turns reads.reads reads.failed result → w1.failures ≡ pass_failures result w0.failures
+    kept : (result : Result Joining DriveFault)
+        → RepliesEnd s0.address reads.read (remaining r1.device) turns reads.reads reads.failed result
+        → w1.failures ≡ write_failures result w0.failures
     kept (Ok joining) ends = failures
     kept (Err Closed) ends = failures
     kept (Err (WriteFailed w)) ends = absurd ends

@@ -1,4 +1,5 @@
 -- The headline, of a line that went on by steps.
+use mathlib.Core.Path.{fun_ext}
 use Rattle.std.proofs.Common.{◌≡◌, ℕ, suc, List, [], ◌∷◌, ◌++◌, append-nil, append_assoc, Ok, Err, length, map, nat_lt, refl, ap, sym, subst, ◌∙◌, arith, inl, inr}
 use Rattle.std.specs.Prelude.{is_some, is_none, slice_get}
 use Rattle.std.proofs.lemmas.Bool.{cases_order, lt-ltb, le-ltb, false≢true}
@@ -13,7 +14,7 @@ use Rattle.uecp_encoder.specs.State.{EncoderState, opening}
 use Rattle.uecp_link.specs.Counters.{counter_of}
 use Rattle.uecp_link.specs.declared.stepped.Stepped.{Stepped}
 use Rattle.uecp_link.specs.Frames.{frame_under}
-use Rattle.uecp_link.specs.Server.{ServerState, waiting, frames_waiting}
+use Rattle.uecp_link.specs.Server.{ServerState, idle_at, waiting, frames_waiting}
 use Rattle.uecp_link.specs.Once.{Event, Once, Answer, message_at, missing, after, at_first}
 use Rattle.uecp_link.specs.Events.{answer_seen}
 use Rattle.uecp_link.specs.History.{Act, act_of}
@@ -25,9 +26,9 @@ use Rattle.uecp_link.specs.Headline.{IsHeadline}
 use Rattle.uecp_link.proofs.Ready.{ready_few}
 use Rattle.uecp_link.proofs.Steps.{sent_le}
 use Rattle.uecp_link.proofs.Folding.{Folded}
-use Rattle.uecp_link.proofs.Goes.{kept_at, line_stays}
+use Rattle.uecp_link.proofs.Goes.{kept_at, kept_same, line_stays}
 use Rattle.uecp_link.proofs.Opening.{holds_from}
-use Rattle.uecp_link.proofs.Lawful.{lawful_after, waiting_is, numbers_from, ready_at_first}
+use Rattle.uecp_link.proofs.Lawful.{kept_at_first, lawful_after, waiting_is, numbers_from, ready_at_first}
 
 -- two bounds below which the same numbers are
 pub same_bound : (p q : ℕ) → ((k : ℕ) → nat_lt k p ≡ nat_lt k q) → p ≡ q
@@ -66,22 +67,10 @@ frames_of a sent (k ∷ ks) = ap (λ fs. spelling (frame_under a (counter_of k, 
 
 -- an encoder that is ready and a new server are a line
 pub line_ready : {V : Type 0} (e : EncoderState V) → IsReady e.ring → e.part ≡ Closed → IsLine (line_from e)
-line_ready e ready shut = record {
-  base = e.ring;
-  ready = ready;
-  encoder = record { address = refl; value = refl; ring = sym (take_all 127 e.ring (ready_few e.ring ready)) };
-  count = 0;
-  server = record { address = refl; last = refl; held = refl };
-  count_is = omega arith;
-  few = omega arith;
-  below = λ k l. absurd (omega arith);
-  oldest = λ some. absurd (omega arith);
-  applied = λ k. sym (le-ltb k 0 (omega arith));
-  within = λ k acked. absurd (false≢true (sym ((holds_from e shut).acknowledged k) ∙ acked));
-  p_le = omega arith;
-  q_le = omega arith;
-  fits = λ k. omega arith;
-}
+line_ready e ready shut =
+    let h = holds_from e shut in
+    kept_same e.address e (idle_at e.address) (at_first e.value) (once_of (line_from e)) 0 0 refl refl
+    (fun_ext (λ k. sym (h.codes k))) (fun_ext (λ k. sym (h.acknowledged k))) (kept_at_first e ready)
 
 module _ {V : Type 0} (step : Step V) (taken : Taken V) (address : ℕ) (opening : V) where
   -- the state is that of a line to this address, it holds what the once-machine holds, and that has the value and the

@@ -118,6 +118,29 @@ quiet_none = rw found_none refl
 
 -- The events.
 
+-- what is known of the numbers stays where the ends, the value and the noise alone change
+with_ends : {V : Type 0} (address : ℕ) (e : EncoderState V) (s : ServerState) (o : Once V) (p q : ℕ)
+    (kept : Kept address e s o p q) (e' : EncoderState V) (s' : ServerState) (value : V) (x y : List ℕ)
+    → EncoderIs e' address value (take 127 (pairs kept.base (code_at o.codes) p))
+    → ServerIs s' address (last_counter (length o.sent)) (held_from o.sent o.acknowledged q kept.count)
+    → Kept address e' s' (record o { value = value; to_encoder = x; to_server = y }) p q
+with_ends address e s o p q kept e' s' value x y encoder server = record {
+  encoder = encoder;
+  server = server;
+  base = kept.base;
+  ready = kept.ready;
+  count = kept.count;
+  count_is = kept.count_is;
+  few = kept.few;
+  below = kept.below;
+  oldest = kept.oldest;
+  applied = kept.applied;
+  within = kept.within;
+  p_le = kept.p_le;
+  q_le = kept.q_le;
+  fits = kept.fits;
+}
+
 module _ {V : Type 0} (step : Step V) (taken : Taken V) (address : ℕ) where
   pub keeps_submit : (e : EncoderState V) (s : ServerState) (o : Once V) (p q : ℕ) (m : List ℕ) → IsMessage m → is_none (refusal_of o (Submit m)) ≡ true
       → Kept address e s o p q → Kept address e (submitted s m) (after step taken o (Submit m)) p q
@@ -173,24 +196,16 @@ module _ {V : Type 0} (step : Step V) (taken : Taken V) (address : ℕ) where
       let known : kept_code came.0.ring (counter_of k) ≡ o.codes k = rw (came.1.ring, ← kept.encoder.ring) answers in
       rw (whole, known) (go (o.codes k) refl came.0 came.1 below)
     where
+      -- a frame that is not applied
+      passed : (e' : EncoderState V) → EncoderIs e' address o.value (take 127 (pairs kept.base (code_at o.codes) p))
+          → Kept address e' s (record o { to_encoder = [] }) p q
+      passed e' e'_is = with_ends address e s o p q kept e' s o.value [] o.to_server e'_is kept.server
+
       go : (c : Option Code) → o.codes k ≡ c → (e' : EncoderState V) → EncoderIs e' address o.value (take 127 (pairs kept.base (code_at o.codes) p)) → k < length o.sent
           → Kept address (numbered step e' (frame_of address o k) c) s (delivered step o k c) (one_more p c (is_next_number o.codes (length o.sent) k)) q
-      go (Some c) is e' e'_is below = record {
-        encoder = record { address = e'_is.address; value = e'_is.value; ring = e'_is.ring };
-        count = kept.count;
-        server = kept.server;
-        base = kept.base;
-        ready = kept.ready;
-        count_is = kept.count_is;
-        few = kept.few;
-        below = kept.below;
-        oldest = kept.oldest;
-        applied = kept.applied;
-        within = kept.within;
-        p_le = kept.p_le;
-        q_le = kept.q_le;
-        fits = kept.fits;
-      }
+      go (Some c) is e' e'_is below =
+          passed (numbered step e' (frame_of address o k) (Some c))
+          (record { address = e'_is.address; value = e'_is.value; ring = e'_is.ring })
       go None is e' e'_is below =
           let turn : is_next_kept e'.ring (counter_of k) ≡ (k == p) = ap (λ ring. is_next_kept ring (counter_of k)) e'_is.ring ∙ in_turn address e s o p q kept k below is in
           rw (turn, next_number o.codes p (length o.sent) k kept.applied kept.p_le) (by (k == p) refl)
@@ -222,22 +237,7 @@ module _ {V : Type 0} (step : Step V) (taken : Taken V) (address : ℕ) where
                 q_le = omega (arith, kept.q_le);
                 fits = kept.fits;
               }
-          by false other = record {
-            encoder = record { address = e'_is.address; value = e'_is.value; ring = e'_is.ring };
-            count = kept.count;
-            server = kept.server;
-            base = kept.base;
-            ready = kept.ready;
-            count_is = kept.count_is;
-            few = kept.few;
-            below = kept.below;
-            oldest = kept.oldest;
-            applied = kept.applied;
-            within = kept.within;
-            p_le = kept.p_le;
-            q_le = kept.q_le;
-            fits = kept.fits;
-          }
+          by false other = passed e' e'_is
 
   pub keeps_reply : (e : EncoderState V) (s : ServerState) (o : Once V) (p q k : ℕ) → is_none (refusal_of o (ReplyComes k)) ≡ true
       → Kept address e s o p q → (q' : ℕ) × Kept address e (heard s (reply_bytes address k (o.codes k))) (after step taken o (ReplyComes k)) p q'
@@ -340,98 +340,36 @@ module _ {V : Type 0} (step : Step V) (taken : Taken V) (address : ℕ) where
 
   pub keeps_noise_to_encoder : (e : EncoderState V) (s : ServerState) (o : Once V) (p q : ℕ) (x : List ℕ) → has_frame (found_beyond e.part x) ≡ false
       → Kept address e s o p q → Kept address (fed step e x) s (after step taken o (NoiseToEncoder x)) p q
-  keeps_noise_to_encoder e s o p q x none kept = record {
-    encoder = fed_faults step e address o.value (take 127 (pairs kept.base (code_at o.codes) p)) x none kept.encoder;
-    count = kept.count;
-    server = kept.server;
-    base = kept.base;
-    ready = kept.ready;
-    count_is = kept.count_is;
-    few = kept.few;
-    below = kept.below;
-    oldest = kept.oldest;
-    applied = kept.applied;
-    within = kept.within;
-    p_le = kept.p_le;
-    q_le = kept.q_le;
-    fits = kept.fits;
-  }
+  keeps_noise_to_encoder e s o p q x none kept =
+      with_ends address e s o p q kept (fed step e x) s o.value (o.to_encoder ++ x) o.to_server
+      (fed_faults step e address o.value (take 127 (pairs kept.base (code_at o.codes) p)) x none kept.encoder)
+      kept.server
 
   pub keeps_noise_to_server : (e : EncoderState V) (s : ServerState) (o : Once V) (p q : ℕ) (x : List ℕ) → has_frame (found_beyond s.part x) ≡ false
       → Kept address e s o p q → Kept address e (heard s x) (after step taken o (NoiseToServer x)) p q
-  keeps_noise_to_server e s o p q x none kept = record {
-    encoder = kept.encoder;
-    count = kept.count;
-    server = heard_bytes_faults s address (last_counter (length o.sent)) (held_from o.sent o.acknowledged q kept.count) x none kept.server;
-    base = kept.base;
-    ready = kept.ready;
-    count_is = kept.count_is;
-    few = kept.few;
-    below = kept.below;
-    oldest = kept.oldest;
-    applied = kept.applied;
-    within = kept.within;
-    p_le = kept.p_le;
-    q_le = kept.q_le;
-    fits = kept.fits;
-  }
+  keeps_noise_to_server e s o p q x none kept =
+      with_ends address e s o p q kept e (heard s x) o.value o.to_encoder (o.to_server ++ x) kept.encoder
+      (heard_bytes_faults s address _ (held_from o.sent o.acknowledged q kept.count) x none kept.server)
 
   pub keeps_encoder_lost : (e : EncoderState V) (s : ServerState) (o : Once V) (p q : ℕ) → Kept address e s o p q
       → Kept address (record e { part = Closed }) s (after step taken o EncoderLost) p q
-  keeps_encoder_lost e s o p q kept = record {
-    encoder = record { address = kept.encoder.address; value = kept.encoder.value; ring = kept.encoder.ring };
-    count = kept.count;
-    server = kept.server;
-    base = kept.base;
-    ready = kept.ready;
-    count_is = kept.count_is;
-    few = kept.few;
-    below = kept.below;
-    oldest = kept.oldest;
-    applied = kept.applied;
-    within = kept.within;
-    p_le = kept.p_le;
-    q_le = kept.q_le;
-    fits = kept.fits;
-  }
+  keeps_encoder_lost e s o p q kept =
+      with_ends address e s o p q kept (record e { part = Closed }) s o.value [] o.to_server
+      (record { address = kept.encoder.address; value = kept.encoder.value; ring = kept.encoder.ring }) kept.server
 
   pub keeps_server_lost : (e : EncoderState V) (s : ServerState) (o : Once V) (p q : ℕ) → Kept address e s o p q
       → Kept address e (record s { part = Closed }) (after step taken o ServerLost) p q
-  keeps_server_lost e s o p q kept = record {
-    encoder = kept.encoder;
-    count = kept.count;
-    server = record { address = kept.server.address; last = kept.server.last; held = kept.server.held };
-    base = kept.base;
-    ready = kept.ready;
-    count_is = kept.count_is;
-    few = kept.few;
-    below = kept.below;
-    oldest = kept.oldest;
-    applied = kept.applied;
-    within = kept.within;
-    p_le = kept.p_le;
-    q_le = kept.q_le;
-    fits = kept.fits;
-  }
+  keeps_server_lost e s o p q kept =
+      with_ends address e s o p q kept e (record s { part = Closed }) o.value o.to_encoder [] kept.encoder
+      (record { address = kept.server.address; last = kept.server.last; held = kept.server.held })
 
   pub keeps_take : (e : EncoderState V) (s : ServerState) (o : Once V) (p q : ℕ) → Kept address e s o p q
       → Kept address (encoder_after step taken address o e Take) s (after step taken o Take) p q
-  keeps_take e s o p q kept = record {
-    encoder = record { address = kept.encoder.address; value = ap (λ v. (taken v).0) kept.encoder.value; ring = kept.encoder.ring };
-    count = kept.count;
-    server = kept.server;
-    base = kept.base;
-    ready = kept.ready;
-    count_is = kept.count_is;
-    few = kept.few;
-    below = kept.below;
-    oldest = kept.oldest;
-    applied = kept.applied;
-    within = kept.within;
-    p_le = kept.p_le;
-    q_le = kept.q_le;
-    fits = kept.fits;
-  }
+  keeps_take e s o p q kept =
+      let value = ap (λ v. (taken v).0) kept.encoder.value in
+      with_ends address e s o p q kept (encoder_after step taken address o e Take) s (taken o.value).0 o.to_encoder
+      o.to_server
+      (record { address = kept.encoder.address; value = value; ring = kept.encoder.ring }) kept.server
 
   -- an event that is not refused keeps the facts
   pub keeps : (e : EncoderState V) (s : ServerState) (o : Once V) (p q : ℕ) (event : Event) → Fits event → is_none (refusal_of o event) ≡ true → Hears e s o → Kept address e s o p q

@@ -1,26 +1,27 @@
 -- A try for all messages that wait: what is written, what is read, and the marks that this brings.
-use Rattle.std.proofs.Common.{◌≡◌, ◌≢◌, ℕ, ◌+◌, ◌-◌, ◌^◌, ◌<◌, ◌≤◌, List, [], ◌∷◌, ◌++◌, length, take, drop, get_or, Option, Some, None, Result, Ok, Err, refl, ◌∙◌, ap, sym, subst, arith, length-append, append_assoc, append-nil, take-append-drop}
+use Rattle.std.proofs.Common.{◌≡◌, ◌≢◌, ℕ, ◌+◌, ◌-◌, ◌<◌, ◌≤◌, false, List, [], ◌∷◌, ◌++◌, length, take, drop, get_or, Option, Some, None, Result, Ok, Err, refl, ◌∙◌, ap, sym, subst, arith, length-append, append_assoc, append-nil, take-append-drop}
 use Rattle.std.specs.Prelude.{filter_map, slice_get, option_to_list}
 use Rattle.std.specs.List.{concat}
 use Rattle.std.proofs.Math.Seq.{take-append-add}
 use Rattle.std.proofs.lemmas.List.{take-append-le, take_more, drop_more}
 use Rattle.std.proofs.lemmas.List.Folds.{concat-append}
 use Rattle.std.proofs.lemmas.Option.{slice_get_within, get_or_from_slice_get}
-use Rattle.std.specs.Io.KnownBytes.{Appends, Consumes}
-use Rattle.std.proofs.KnownBytes.{Consumes-nil, Consumes-trans}
+use Rattle.std.specs.Io.KnownBytes.{Appends}
 use Rattle.uecp_elements.specs.declared.code.Code.{Code}
 use Rattle.uecp_frame.specs.Beyond.{found_beyond}
 use Rattle.uecp_frame.proofs.Pieces.{new_start_lem}
-use Rattle.uecp_encoder.specs.Metered.{Metered, counted}
+use Rattle.uecp_encoder.specs.Metered.{Metered}
 use Rattle.uecp_link.specs.declared.driving.DriveFault.{DriveFault}
 use Rattle.uecp_link.specs.declared.driving.DriveFault.TheVariants.{WriteFailed, Closed, TriesSpent}
 use Rattle.uecp_link.specs.declared.heard.HeardWhat.{HeardWhat}
 use Rattle.uecp_link.specs.declared.heard.HeardWhat.TheVariants as what
 use Rattle.uecp_link.specs.declared.window.Windowed.{Windowed}
 use Rattle.uecp_link.specs.Server.{ServerState, waiting, heard, all_heard_as, whats_of}
-use Rattle.uecp_link.specs.Window.{mark_in, marks_in, window_sent, window_failures, ReadsEnd, WindowEnds, Windows, Gathers, Gathered, Hearing}
+use Rattle.uecp_link.specs.Reading.{Reads, is_closed, write_failures}
+use Rattle.uecp_link.specs.Window.{mark_in, marks_in, window_sent, ReadsEnd, WindowEnds, Windows, Gathers, Gathered, Hearing}
 use Rattle.uecp_link.proofs.Answered.{idle_hears}
-use Rattle.uecp_link.proofs.FeedingLemmas.{heard_none, said-append, server_in_pieces}
+use Rattle.uecp_link.proofs.FeedingLemmas.{heard_none, heard_on, said-append, server_in_pieces}
+use Rattle.uecp_link.proofs.Reading.{no_read, reads_on, reads_end}
 
 -- ---- frames, one after another
 
@@ -112,15 +113,11 @@ hears_on s0 s s' n piece rest rest' w m0 m m' so_far state left said fewer added
 pub gathered_none : {R : Type 0} (remaining : R → Option (List ℕ)) (s : ServerState) (reader : Metered R) (marks : List (ℕ × Code)) → s.held ≢ [] → Gathered remaining s s reader reader marks marks 0
 gathered_none remaining s reader marks busy = record {
   read = [];
-  consumed = Consumes-nil _;
+  reading = no_read remaining reader;
   state = sym (heard_none s);
   marked = sym (ap (λ ms. marks ++ ms) (marks_none s) ∙ append-nil marks);
   busy = busy;
-  bring = refl;
   room = refl;
-  few_bytes = omega arith;
-  calls = λ h. omega arith;
-  read_failures = refl;
 }
 
 module _ {R : Type 0} (remaining : R → Option (List ℕ)) (s0 s1 : ServerState) (r0 r1 : Metered R) (m0 m1 : List (ℕ × Code)) (reads : ℕ) (so_far : Gathered remaining s0 s1 r0 r1 m0 m1 reads) where
@@ -129,48 +126,42 @@ module _ {R : Type 0} (remaining : R → Option (List ℕ)) (s0 s1 : ServerState
       marked ∙ ap (λ ms. ms ++ marks_in s1 piece) so_far.marked ∙ ap (λ (d : ServerState). (m0 ++ marks_in s0 so_far.read) ++ marks_in d piece) so_far.state
       ∙ append_assoc m0 (marks_in s0 so_far.read) (marks_in (heard s0 so_far.read) piece) ∙ ap (λ ms. m0 ++ ms) (sym (marks-append s0 so_far.read piece))
 
-  more_state : (piece : List ℕ) (s2 : ServerState) → s2 ≡ heard s1 piece → s2 ≡ heard s0 (so_far.read ++ piece)
-  more_state piece s2 state = state ∙ ap (λ d. heard d piece) so_far.state ∙ sym (server_in_pieces s0 so_far.read piece).state
-
   -- one read more, after which messages wait
-  pub gathered_on : (s2 : ServerState) (r2 : Metered R) (m2 : List (ℕ × Code)) (piece : List ℕ) → Consumes (remaining r1.device) (remaining r2.device) piece → length piece ≤ 64 → s2 ≡ heard s1 piece → m2 ≡ m1 ++ marks_in s1 piece →
-      s2.held ≢ [] → length m2 + length (waiting s2) ≡ length m1 + length (waiting s1) → r2.calls ≡ counted r1.calls → r2.failures ≡ r1.failures → r2.empty ≡ r1.empty → Gathered remaining s0 s2 r0 r2 m0 m2 (reads + 1)
-  gathered_on s2 r2 m2 piece took few state marked busy room calls failures empty = record {
+  pub gathered_on : (s2 : ServerState) (r2 : Metered R) (m2 : List (ℕ × Code)) (piece : List ℕ)
+      → Reads remaining r1 r2 piece 1 0 false → s2 ≡ heard s1 piece → m2 ≡ m1 ++ marks_in s1 piece → s2.held ≢ []
+      → length m2 + length (waiting s2) ≡ length m1 + length (waiting s1)
+      → Gathered remaining s0 s2 r0 r2 m0 m2 (reads + 1)
+  gathered_on s2 r2 m2 piece brought state marked busy room = record {
     read = so_far.read ++ piece;
-    consumed = Consumes-trans _ _ _ _ _ so_far.consumed took;
-    state = more_state piece s2 state;
+    reading = reads_on remaining r0 r1 r2 so_far.read reads 0 so_far.reading piece 1 0 false brought;
+    state = heard_on s0 s1 s2 so_far.read piece so_far.state state;
     marked = more_marks piece m2 marked;
     busy = busy;
-    bring = empty ∙ so_far.bring;
     room = room ∙ so_far.room;
-    few_bytes = omega (arith, length-append so_far.read piece, few, so_far.few_bytes);
-    calls = λ h. omega (arith, calls, so_far.calls (omega (arith, h)), h);
-    read_failures = failures ∙ so_far.read_failures;
   }
 
   -- the reads end with one more, which brought bytes
-  pub gathers_more : (s2 : ServerState) (r2 : Metered R) (m2 : List (ℕ × Code)) (piece : List ℕ) (turns : ℕ) (result : Result Windowed DriveFault) → Consumes (remaining r1.device) (remaining r2.device) piece → length piece ≤ 64
-      → s2 ≡ heard s1 piece → m2 ≡ m1 ++ marks_in s1 piece → r2.calls ≡ counted r1.calls → r2.failures ≡ r1.failures → r2.empty ≡ r1.empty → result ≢ Err Closed → reads < turns
-      → ((heard s0 (take (length (so_far.read ++ piece) - 64) (so_far.read ++ piece))).held ≢ [] → ReadsEnd s0 s2 (so_far.read ++ piece) (remaining r2.device) turns (reads + 1) 0 result) → Gathers remaining s0 s2 r0 r2 m0 m2 turns result
-  gathers_more s2 r2 m2 piece turns result took few state marked calls failures empty goes_on below ends = record {
+  pub gathers_more : (s2 : ServerState) (r2 : Metered R) (m2 : List (ℕ × Code)) (piece : List ℕ) (turns : ℕ)
+      (result : Result Windowed DriveFault) → Reads remaining r1 r2 piece 1 0 false → s2 ≡ heard s1 piece
+      → m2 ≡ m1 ++ marks_in s1 piece → is_closed result ≡ false → reads < turns
+      → ((heard s0 (take (length (so_far.read ++ piece) - 64) (so_far.read ++ piece))).held ≢ []
+      → ReadsEnd s0 s2 (so_far.read ++ piece) (remaining r2.device) turns (reads + 1) 0 result)
+      → Gathers remaining s0 s2 r0 r2 m0 m2 turns result
+  gathers_more s2 r2 m2 piece turns result brought state marked goes_on below ends = record {
     read = so_far.read ++ piece;
     reads = reads + 1;
     failed = 0;
-    consumed = Consumes-trans _ _ _ _ _ so_far.consumed took;
-    state = more_state piece s2 state;
+    reading = rw goes_on (reads_on remaining r0 r1 r2 so_far.read reads 0 so_far.reading piece 1 0 false brought);
+    state = heard_on s0 s1 s2 so_far.read piece so_far.state state;
     marked = more_marks piece m2 marked;
     ends = ends late;
-    bring = λ open_. empty ∙ so_far.bring;
-    end = λ closed. absurd (goes_on closed);
     few_reads = omega (arith, below);
-    few_bytes = omega (arith, length-append so_far.read piece, few, so_far.few_bytes);
-    calls = λ h. omega (arith, calls, so_far.calls (omega (arith, h)), h);
-    read_failures = λ h. omega (arith, failures, so_far.read_failures, h);
   }
     where
       late : (heard s0 (take (length (so_far.read ++ piece) - 64) (so_far.read ++ piece))).held ≡ [] → ⊥
       late before =
-          let within : length (so_far.read ++ piece) - 64 ≤ length so_far.read = omega (arith, length-append so_far.read piece, few) in
+          let within : length (so_far.read ++ piece) - 64 ≤ length so_far.read =
+          omega (arith, length-append so_far.read piece, brought.few_bytes) in
           let front = take-append-le (length (so_far.read ++ piece) - 64) so_far.read piece within in
           let x : List ℕ = take (length (so_far.read ++ piece) - 64) so_far.read in
           let y : List ℕ = drop (length (so_far.read ++ piece) - 64) so_far.read in
@@ -179,67 +170,61 @@ module _ {R : Type 0} (remaining : R → Option (List ℕ)) (s0 s1 : ServerState
           so_far.busy (ap (λ (t : ServerState). t.held) so_far.state ∙ ap (λ (bs : List ℕ). (heard s0 bs).held) (sym (take-append-drop (length (so_far.read ++ piece) - 64) so_far.read)) ∙ later)
 
   -- they end with no more, or with one more that brought none
-  pub gathers_quiet : (s2 : ServerState) (r2 : Metered R) (m2 : List (ℕ × Code)) (turns more failed : ℕ) (result : Result Windowed DriveFault) → Consumes (remaining r1.device) (remaining r2.device) [] → s2 ≡ s1 → m2 ≡ m1
-      → (r1.calls + more < 2 ^ 128 → r2.calls ≡ r1.calls + more) → (r1.failures + failed < 2 ^ 128 → r2.failures ≡ r1.failures + failed) → reads + more ≤ turns → (result ≢ Err Closed → r2.empty ≡ r1.empty)
-      → (result ≡ Err Closed → r2.empty ≡ counted r1.empty)
-      → ReadsEnd s0 s1 so_far.read (remaining r2.device) turns (reads + more) failed result → Gathers remaining s0 s2 r0 r2 m0 m2 turns result
-  gathers_quiet s2 r2 m2 turns more failed result took stays same calls failures below brings empties ends = record {
-    bring = λ open_. brings open_ ∙ so_far.bring;
-    end = λ closed. empties closed ∙ ap counted so_far.bring;
+  pub gathers_quiet : (s2 : ServerState) (r2 : Metered R) (m2 : List (ℕ × Code)) (turns more failed : ℕ)
+      (result : Result Windowed DriveFault) → Reads remaining r1 r2 [] more failed (is_closed result) → s2 ≡ s1
+      → m2 ≡ m1
+      → reads + more ≤ turns → ReadsEnd s0 s1 so_far.read (remaining r2.device) turns (reads + more) failed result
+      → Gathers remaining s0 s2 r0 r2 m0 m2 turns result
+  gathers_quiet s2 r2 m2 turns more failed result quiet stays same below ends = record {
     read = so_far.read;
     reads = reads + more;
     failed = failed;
-    consumed = subst (Consumes (remaining r0.device) (remaining r2.device)) (append-nil so_far.read) (Consumes-trans _ _ _ _ _ so_far.consumed took);
+    reading = reads_end remaining r0 r1 r2 so_far.read reads so_far.reading more failed (is_closed result) quiet;
     state = stays ∙ so_far.state;
     marked = same ∙ so_far.marked;
     ends = subst (λ (s : ServerState). ReadsEnd s0 s so_far.read (remaining r2.device) turns (reads + more) failed result) (sym stays) ends;
     few_reads = below;
-    few_bytes = omega (arith, so_far.few_bytes);
-    calls = λ h. omega (arith, calls, so_far.calls (omega (arith, h)), h);
-    read_failures = λ h. omega (arith, failures, so_far.read_failures, h);
   }
 
 -- ---- a whole try
 
-pub windows_unread : {R W : Type 0} (remaining : R → Option (List ℕ)) (contents : W → Option (List ℕ)) (s : ServerState) (r : Metered R) (w0 w1 : Metered W) (marks : List (ℕ × Code)) (turns : ℕ) (sent : List ℕ) (result : Result Windowed DriveFault) →
-    Appends (contents w0.device) (contents w1.device) sent → WindowEnds s s [] sent (remaining r.device) turns 0 0 result → w1.failures ≡ window_failures result w0.failures → result ≢ Err Closed → Windows remaining contents s s r r w0 w1 marks marks turns result
+pub windows_unread : {R W : Type 0} (remaining : R → Option (List ℕ)) (contents : W → Option (List ℕ)) (s : ServerState)
+    (r : Metered R) (w0 w1 : Metered W) (marks : List (ℕ × Code)) (turns : ℕ) (sent : List ℕ)
+    (result : Result Windowed DriveFault)
+    → Appends (contents w0.device) (contents w1.device) sent
+    → WindowEnds s s [] sent (remaining r.device) turns 0 0 result
+    → w1.failures ≡ write_failures result w0.failures → is_closed result ≡ false
+    → Windows remaining contents s s r r w0 w1 marks marks turns result
 windows_unread remaining contents s r w0 w1 marks turns sent result wrote ends failures goes_on = record {
   read = [];
   sent = sent;
   reads = 0;
   failed = 0;
-  consumed = Consumes-nil _;
+  reading = rw goes_on (no_read remaining r);
   appended = wrote;
   state = sym (heard_none s);
   marked = sym (ap (λ ms. marks ++ ms) (marks_none s) ∙ append-nil marks);
   ends = ends;
-  bring = λ h. refl;
-  end = λ closed. absurd (goes_on closed);
   few_reads = omega arith;
-  few_bytes = omega arith;
-  calls = λ h. omega arith;
-  read_failures = λ h. omega arith;
   write_failures = failures;
 }
 
-pub windows_read : {R W : Type 0} (remaining : R → Option (List ℕ)) (contents : W → Option (List ℕ)) (s0 s1 : ServerState) (r0 r1 : Metered R) (w0 w1 : Metered W) (m0 m1 : List (ℕ × Code)) (turns : ℕ) (result : Result Windowed DriveFault) →
-    Appends (contents w0.device) (contents w1.device) (window_sent s0) → w1.failures ≡ w0.failures → Gathers remaining s0 s1 r0 r1 m0 m1 turns result → Windows remaining contents s0 s1 r0 r1 w0 w1 m0 m1 turns result
+pub windows_read : {R W : Type 0} (remaining : R → Option (List ℕ)) (contents : W → Option (List ℕ))
+    (s0 s1 : ServerState)
+    (r0 r1 : Metered R) (w0 w1 : Metered W) (m0 m1 : List (ℕ × Code)) (turns : ℕ) (result : Result Windowed DriveFault)
+    → Appends (contents w0.device) (contents w1.device) (window_sent s0) → w1.failures ≡ w0.failures
+    → Gathers remaining s0 s1 r0 r1 m0 m1 turns result → Windows remaining contents s0 s1 r0 r1 w0 w1 m0 m1 turns result
 windows_read remaining contents s0 s1 r0 r1 w0 w1 m0 m1 turns result wrote failures reads = record {
   read = reads.read;
   sent = window_sent s0;
   reads = reads.reads;
   failed = reads.failed;
-  consumed = reads.consumed;
+  reading = reads.reading;
   appended = wrote;
   state = reads.state;
   marked = reads.marked;
   ends = go result reads.ends;
-  bring = reads.bring;
-  end = reads.end;
   few_reads = reads.few_reads;
-  few_bytes = reads.few_bytes;
-  calls = reads.calls;
-  read_failures = reads.read_failures;
   write_failures = kept result reads.ends;
 }
   where
@@ -249,7 +234,9 @@ windows_read remaining contents s0 s1 r0 r1 w0 w1 m0 m1 turns result wrote failu
     go (Err (WriteFailed w)) ends = absurd ends
     go (Err TriesSpent) ends = ends
 
-    kept : (result : Result Windowed DriveFault) → ReadsEnd s0 s1 reads.read (remaining r1.device) turns reads.reads reads.failed result → w1.failures ≡ window_failures result w0.failures
+    kept : (result : Result Windowed DriveFault)
+        → ReadsEnd s0 s1 reads.read (remaining r1.device) turns reads.reads reads.failed result
+        → w1.failures ≡ write_failures result w0.failures
     kept (Ok windowed) ends = failures
     kept (Err Closed) ends = failures
     kept (Err (WriteFailed w)) ends = absurd ends

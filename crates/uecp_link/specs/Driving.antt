@@ -1,15 +1,16 @@
 -- What `drive` and `resend` do over a reader and a writer; a reader has to believe it. Source: profile.
-use Rattle.std.specs.Prelude.{◌≡◌, ◌≢◌, ℕ, ◌+◌, ◌-◌, ◌*◌, ◌^◌, ◌<◌, ◌≤◌, zero, suc, List, [], ◌∷◌, ◌++◌, length, take, Option, Some, None, Result, Ok, Err}
+use Rattle.std.specs.Prelude.{◌≡◌, ℕ, ◌+◌, ◌-◌, ◌*◌, ◌<◌, ◌≤◌, zero, suc, List, [], ◌∷◌, ◌++◌, length, take, Option, Some, None, Result, Ok, Err}
 use Rattle.std.specs.Option.{option_or, option_map}
-use Rattle.std.specs.Io.KnownBytes.{Appends, Consumes, IsAtEnd}
+use Rattle.std.specs.Io.KnownBytes.{Appends, IsAtEnd}
 use Rattle.uecp_frame.specs.Findings.{Finding}
 use Rattle.uecp_frame.specs.Beyond.{found_beyond}
 use Rattle.uecp_elements.specs.declared.code.Code.{Code}
-use Rattle.uecp_encoder.specs.Metered.{Metered, counted}
+use Rattle.uecp_encoder.specs.Metered.{Metered}
 use Rattle.uecp_encoder.specs.State.{raised}
 use Rattle.uecp_link.specs.declared.driving.Driven.{Driven}
 use Rattle.uecp_link.specs.declared.driving.DriveFault.{DriveFault}
 use Rattle.uecp_link.specs.declared.driving.DriveFault.TheVariants.{WriteFailed, Closed, TriesSpent}
+use Rattle.uecp_link.specs.Reading.{Reads, is_closed, write_failures}
 use Rattle.uecp_link.specs.Server.{ServerState, acknowledges, heard, outgoing_bytes}
 
 -- ---- What is sent.
@@ -81,13 +82,6 @@ ReadsMade (Err (WriteFailed w)) turns begun reads failed = (failed < begun) × (
 ReadsMade (Err Closed) turns begun reads failed = (failed < begun) × (failed + (begun - 1 - failed) * turns + 1 ≤ reads)
 ReadsMade (Err TriesSpent) turns begun reads failed = (failed ≤ begun) × (failed + (begun - failed) * turns ≤ reads)
 
--- the writer's failures after the call: one more at `WriteFailed`
-abbrev pub write_failures : Result Driven DriveFault → ℕ → ℕ
-write_failures (Ok driven) failures = failures
-write_failures (Err (WriteFailed w)) failures = counted failures
-write_failures (Err Closed) failures = failures
-write_failures (Err TriesSpent) failures = failures
-
 -- A call from one state of the server to another, over a reader and a writer before and after it: what was read and
 -- sent, in how many tries and reads, and how it ended. But for `Closed`, no read brought nothing; there one did.
 pub record Drives {R W : Type 0} (remaining : R → Option (List ℕ)) (contents : W → Option (List ℕ)) (old new : ServerState) (reader reader' : Metered R) (writer writer' : Metered W) (tries turns : ℕ) (result : Result Driven DriveFault) : Type 0 where
@@ -96,16 +90,11 @@ pub record Drives {R W : Type 0} (remaining : R → Option (List ℕ)) (contents
   pub begun : ℕ
   pub reads : ℕ
   pub failed : ℕ
-  pub consumed : Consumes (remaining reader.device) (remaining reader'.device) read
+  pub reading : Reads remaining reader reader' read reads failed (is_closed result)
   pub appended : Appends (contents writer.device) (contents writer'.device) sent
   pub state : new ≡ heard old read
   pub ends : Ends old read sent (remaining reader'.device) tries begun result
-  pub bring : result ≢ Err Closed → reader'.empty ≡ reader.empty
-  pub end : result ≡ Err Closed → reader'.empty ≡ counted reader.empty
   pub made : ReadsMade result turns begun reads failed
   pub few_reads : reads ≤ begun * turns
-  pub few_bytes : length read ≤ 64 * reads
   pub at_most : length read ≤ 64 * (tries * turns)
-  pub calls : reader.calls + reads < 2 ^ 128 → reader'.calls ≡ reader.calls + reads
-  pub read_failures : reader.failures + failed < 2 ^ 128 → reader'.failures ≡ reader.failures + failed
   pub write_failures_are : writer'.failures ≡ write_failures result writer.failures

@@ -1,9 +1,9 @@
 -- How a server that knows nothing of an encoder joins it: by a pass of empty messages, and the replies to two of them;
 -- a reader has to believe it, but for what is marked private. Source: profile.
-use Rattle.std.specs.Prelude.{◌≡◌, ◌≢◌, ℕ, ◌+◌, ◌-◌, ◌*◌, ◌^◌, ◌<◌, ◌≤◌, ◌==◌, ◌⊎◌, List, [], ◌∷◌, ◌++◌, length, map, take, filter_map, Option, None, Result, Ok, Err, if◌then◌else◌}
+use Rattle.std.specs.Prelude.{◌≡◌, ◌≢◌, ℕ, ◌-◌, ◌<◌, ◌≤◌, ◌==◌, ◌⊎◌, List, [], ◌∷◌, ◌++◌, length, map, take, filter_map, false, Option, None, Result, Ok, Err, if◌then◌else◌}
 use Rattle.std.specs.List.{concat}
 use Rattle.std.specs.Option.{option_map}
-use Rattle.std.specs.Io.KnownBytes.{Appends, Consumes, IsAtEnd}
+use Rattle.std.specs.Io.KnownBytes.{Appends, IsAtEnd}
 use Rattle.uecp_frame.specs.Frame.{spelling}
 use Rattle.uecp_frame.specs.Findings.{Finding, OpenPart, Closed as NothingOpen}
 use Rattle.uecp_frame.specs.Beyond.{found_beyond, open_beyond}
@@ -13,7 +13,7 @@ use Rattle.uecp_encoder.specs.State.{EncoderState, opening, next_after, fed}
 use Rattle.uecp_encoder.specs.Answering.{answers}
 use Rattle.uecp_encoder.specs.Laws.{Happening, after_happenings}
 use Rattle.uecp_encoder.specs.Joining.{rising, falling}
-use Rattle.uecp_encoder.specs.Metered.{Metered, counted}
+use Rattle.uecp_encoder.specs.Metered.{Metered}
 use Rattle.uecp_link.specs.declared.driving.DriveFault.{DriveFault}
 use Rattle.uecp_link.specs.declared.driving.DriveFault.TheVariants.{WriteFailed, Closed, TriesSpent}
 use Rattle.uecp_link.specs.declared.joining.Joining.{Joining}
@@ -21,6 +21,7 @@ use Rattle.uecp_link.specs.declared.joining.Joining.TheVariants.{Joined, Spent}
 use Rattle.uecp_link.specs.declared.joining.Seen.{Seen}
 use Rattle.uecp_link.specs.declared.joining.Seen.TheVariants.{Neither, First, Both}
 use Rattle.uecp_link.specs.Frames.{frame_under}
+use Rattle.uecp_link.specs.Reading.{Reads, is_closed, write_failures}
 use Rattle.uecp_link.specs.Server.{ServerState, reply_from, heard}
 
 -- ---- What is sent.
@@ -85,13 +86,6 @@ PassEnds address read sent unread turns reads failed (Err Closed) = (sent ≡ pa
 PassEnds address read sent unread turns reads failed (Err TriesSpent) = ⊥
 PassEnds address read sent unread turns reads failed (Ok joining) = (sent ≡ pass_sent address) × RepliesEnd address read unread turns reads failed (Ok joining)
 
--- the writer's failures after the pass: one more at `WriteFailed`
-abbrev pub pass_failures : Result Joining DriveFault → ℕ → ℕ
-pass_failures (Err (WriteFailed w)) failures = counted failures
-pass_failures (Err Closed) failures = failures
-pass_failures (Err TriesSpent) failures = failures
-pass_failures (Ok joining) failures = failures
-
 -- A pass from one state of the server to another, over a reader and a writer before and after it: what was sent and
 -- read, by how many reads, and how it ended. The server begins anew and hears all that was read; as it holds nothing,
 -- each reply counts as stray. But for `Closed`, no read brought nothing; there one did.
@@ -100,17 +94,12 @@ pub record MakesPass {R W : Type 0} (remaining : R → Option (List ℕ)) (conte
   pub sent : List ℕ
   pub reads : ℕ
   pub failed : ℕ
-  pub consumed : Consumes (remaining reader.device) (remaining reader'.device) read
+  pub reading : Reads remaining reader reader' read reads failed (is_closed result)
   pub appended : Appends (contents writer.device) (contents writer'.device) sent
   pub state : new ≡ heard (anew old) read
   pub ends : PassEnds old.address read sent (remaining reader'.device) turns reads failed result
-  pub bring : result ≢ Err Closed → reader'.empty ≡ reader.empty
-  pub end : result ≡ Err Closed → reader'.empty ≡ counted reader.empty
   pub few_reads : reads ≤ turns
-  pub few_bytes : length read ≤ 64 * reads
-  pub calls : reader.calls + reads < 2 ^ 128 → reader'.calls ≡ reader.calls + reads
-  pub read_failures : reader.failures + failed < 2 ^ 128 → reader'.failures ≡ reader.failures + failed
-  pub write_failures : writer'.failures ≡ pass_failures result writer.failures
+  pub write_failures : writer'.failures ≡ write_failures result writer.failures
 
 -- ---- Both directions of one connection.
 
@@ -172,28 +161,19 @@ pub record ReadsReplies {R : Type 0} (remaining : R → Option (List ℕ)) (old 
   pub read : List ℕ
   pub reads : ℕ
   pub failed : ℕ
-  pub consumed : Consumes (remaining reader.device) (remaining reader'.device) read
+  pub reading : Reads remaining reader reader' read reads failed (is_closed result)
   pub state : new ≡ heard old read
   pub ends : RepliesEnd old.address read (remaining reader'.device) turns reads failed result
-  pub bring : result ≢ Err Closed → reader'.empty ≡ reader.empty
-  pub end : result ≡ Err Closed → reader'.empty ≡ counted reader.empty
   pub few_reads : reads ≤ turns
-  pub few_bytes : length read ≤ 64 * reads
-  pub calls : reader.calls + reads < 2 ^ 128 → reader'.calls ≡ reader.calls + reads
-  pub read_failures : reader.failures + failed < 2 ^ 128 → reader'.failures ≡ reader.failures + failed
 
 -- So many reads, none of which failed or brought nothing, after which the two replies were not both read (private).
 pub record ReadSoFar {R : Type 0} (remaining : R → Option (List ℕ)) (old new : ServerState) (reader reader' : Metered R) (seen : Seen) (reads : ℕ) : Type 0 where
   pub read : List ℕ
-  pub consumed : Consumes (remaining reader.device) (remaining reader'.device) read
+  pub reading : Reads remaining reader reader' read reads 0 false
   pub state : new ≡ heard old read
   pub idle : new.held ≡ []
   pub seen_is : seen ≡ seen_after Neither (reply_counters old.address old.part read)
   pub waits : seen ≢ Both
-  pub bring : reader'.empty ≡ reader.empty
-  pub few_bytes : length read ≤ 64 * reads
-  pub calls : reader.calls + reads < 2 ^ 128 → reader'.calls ≡ reader.calls + reads
-  pub read_failures : reader'.failures ≡ reader.failures
 
 -- A piece is heard up to its rest, which brings what is left of the replies (private).
 pub record HearsOn (old new : ServerState) (piece rest : List ℕ) (seen seen' : Seen) : Type 0 where

@@ -1,7 +1,7 @@
 pub mod Counters
 pub mod Frames
 pub mod Server
-pub mod Holding
+pub mod HeldMessages
 pub mod Damage
 pub mod Replying
 pub mod Once
@@ -16,6 +16,7 @@ pub mod Next
 pub mod Whole
 pub mod Headline
 pub mod Using
+pub mod Reading
 pub mod Driving
 pub mod Listening
 pub mod Window

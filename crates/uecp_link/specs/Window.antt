@@ -1,18 +1,19 @@
 -- What `send_window` does over a reader and a writer; a reader has to believe it, but for `Gathers` and `Gathered`.
 -- Source: profile.
-use Rattle.std.specs.Prelude.{◌≡◌, ◌≢◌, ℕ, ◌+◌, ◌-◌, ◌*◌, ◌^◌, ◌<◌, ◌≤◌, ◌==◌, ◌⊎◌, List, [], ◌++◌, length, take, filter_map, Option, Some, None, Result, Ok, Err}
+use Rattle.std.specs.Prelude.{◌≡◌, ◌≢◌, ℕ, ◌+◌, ◌-◌, ◌<◌, ◌≤◌, ◌==◌, ◌⊎◌, List, [], ◌++◌, length, take, filter_map, false, Option, Some, None, Result, Ok, Err}
 use Rattle.std.specs.List.{concat}
 use Rattle.std.specs.Map.{lookup}
-use Rattle.std.specs.Io.KnownBytes.{Appends, Consumes, IsAtEnd}
+use Rattle.std.specs.Io.KnownBytes.{Appends, IsAtEnd}
 use Rattle.uecp_frame.specs.Beyond.{found_beyond}
 use Rattle.uecp_elements.specs.declared.code.Code.{Code}
-use Rattle.uecp_encoder.specs.Metered.{Metered, counted}
+use Rattle.uecp_encoder.specs.Metered.{Metered}
 use Rattle.uecp_link.specs.declared.heard.HeardWhat.{HeardWhat}
 use Rattle.uecp_link.specs.declared.heard.HeardWhat.TheVariants as what
 use Rattle.uecp_link.specs.declared.driving.DriveFault.{DriveFault}
 use Rattle.uecp_link.specs.declared.driving.DriveFault.TheVariants.{WriteFailed, Closed, TriesSpent}
 use Rattle.uecp_link.specs.declared.window.Windowed.{Windowed}
 use Rattle.uecp_link.specs.declared.window.Windowed.TheVariants.{Idle, Spent}
+use Rattle.uecp_link.specs.Reading.{Reads, is_closed, write_failures}
 use Rattle.uecp_link.specs.Server.{ServerState, waiting, heard, all_heard_as, frames_waiting}
 
 -- The frames of all messages that wait, one after another, the oldest first.
@@ -50,13 +51,6 @@ WindowEnds old new read sent unread turns reads failed (Err Closed) = (sent ≡ 
 WindowEnds old new read sent unread turns reads failed (Err TriesSpent) = ⊥
 WindowEnds old new read sent unread turns reads failed (Ok windowed) = (sent ≡ window_sent old) × ReadsEnd old new read unread turns reads failed (Ok windowed)
 
--- the writer's failures after the try: one more at `WriteFailed`
-abbrev pub window_failures : Result Windowed DriveFault → ℕ → ℕ
-window_failures (Err (WriteFailed w)) failures = counted failures
-window_failures (Err Closed) failures = failures
-window_failures (Err TriesSpent) failures = failures
-window_failures (Ok windowed) failures = failures
-
 -- A try from one state of the server to another, over a reader and a writer before and after it: what was sent and
 -- read, by how many reads, how it ended, and that to the marks those were added which the read bytes bring. But for
 -- `Closed`, no read brought nothing; there one did.
@@ -65,47 +59,33 @@ pub record Windows {R W : Type 0} (remaining : R → Option (List ℕ)) (content
   pub sent : List ℕ
   pub reads : ℕ
   pub failed : ℕ
-  pub consumed : Consumes (remaining reader.device) (remaining reader'.device) read
+  pub reading : Reads remaining reader reader' read reads failed (is_closed result)
   pub appended : Appends (contents writer.device) (contents writer'.device) sent
   pub state : new ≡ heard old read
   pub marked : marks' ≡ marks ++ marks_in old read
   pub ends : WindowEnds old new read sent (remaining reader'.device) turns reads failed result
-  pub bring : result ≢ Err Closed → reader'.empty ≡ reader.empty
-  pub end : result ≡ Err Closed → reader'.empty ≡ counted reader.empty
   pub few_reads : reads ≤ turns
-  pub few_bytes : length read ≤ 64 * reads
-  pub calls : reader.calls + reads < 2 ^ 128 → reader'.calls ≡ reader.calls + reads
-  pub read_failures : reader.failures + failed < 2 ^ 128 → reader'.failures ≡ reader.failures + failed
-  pub write_failures : writer'.failures ≡ window_failures result writer.failures
+  pub write_failures : writer'.failures ≡ write_failures result writer.failures
 
 -- The reads of a try (private).
 pub record Gathers {R : Type 0} (remaining : R → Option (List ℕ)) (old new : ServerState) (reader reader' : Metered R) (marks marks' : List (ℕ × Code)) (turns : ℕ) (result : Result Windowed DriveFault) : Type 0 where
   pub read : List ℕ
   pub reads : ℕ
   pub failed : ℕ
-  pub consumed : Consumes (remaining reader.device) (remaining reader'.device) read
+  pub reading : Reads remaining reader reader' read reads failed (is_closed result)
   pub state : new ≡ heard old read
   pub marked : marks' ≡ marks ++ marks_in old read
   pub ends : ReadsEnd old new read (remaining reader'.device) turns reads failed result
-  pub bring : result ≢ Err Closed → reader'.empty ≡ reader.empty
-  pub end : result ≡ Err Closed → reader'.empty ≡ counted reader.empty
   pub few_reads : reads ≤ turns
-  pub few_bytes : length read ≤ 64 * reads
-  pub calls : reader.calls + reads < 2 ^ 128 → reader'.calls ≡ reader.calls + reads
-  pub read_failures : reader.failures + failed < 2 ^ 128 → reader'.failures ≡ reader.failures + failed
 
 -- So many reads, none of which failed or brought nothing, after which messages wait (private).
 pub record Gathered {R : Type 0} (remaining : R → Option (List ℕ)) (old new : ServerState) (reader reader' : Metered R) (marks marks' : List (ℕ × Code)) (reads : ℕ) : Type 0 where
   pub read : List ℕ
-  pub consumed : Consumes (remaining reader.device) (remaining reader'.device) read
+  pub reading : Reads remaining reader reader' read reads 0 false
   pub state : new ≡ heard old read
   pub marked : marks' ≡ marks ++ marks_in old read
   pub busy : new.held ≢ []
-  pub bring : reader'.empty ≡ reader.empty
   pub room : length marks' + length (waiting new) ≡ length marks + length (waiting old)
-  pub few_bytes : length read ≤ 64 * reads
-  pub calls : reader.calls + reads < 2 ^ 128 → reader'.calls ≡ reader.calls + reads
-  pub read_failures : reader'.failures ≡ reader.failures
 
 -- A piece is heard up to its rest, which brings what is left of the marks; each mark more is one message fewer that
 -- waits (private).

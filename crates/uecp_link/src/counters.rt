@@ -3,6 +3,9 @@
 ghost use Rattle.std.specs.Prelude.{◌≡◌, ◌<◌, true};
 ghost use Rattle.uecp_link.specs.Counters.{counter_of, is_recent};
 
+/// The greatest counter, and how many counters there are: 01 to FF.
+pub(crate) const COUNTER_MAX: u8 = 0xFF;
+
 /// How many messages may be numbered after one that still comes: one fewer than the replies that an encoder keeps.
 const LATENESS: usize = 126;
 
@@ -10,7 +13,7 @@ const LATENESS: usize = 126;
 pub(crate) fn counter_of(number: usize) -> u8
     ensures { result ≡ counter_of number }
 {
-    (1 + number % 255) as u8
+    (1 + number % COUNTER_MAX as usize) as u8
 }
 
 /// Whether at most 126 messages were numbered after this one, of so many in all.

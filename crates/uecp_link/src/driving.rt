@@ -13,6 +13,9 @@ use uecp_elements::Code;
 use uecp_encoder::{Failed, Meter};
 use uecp_frame::Message;
 
+/// How many bytes one read takes at most: a reply has few, and what comes later is read by the next.
+pub(crate) const READ_MAX: usize = 64;
+
 /// The message was acknowledged.
 #[derive(Clone, Copy, Debug, PartialEq, Eq)]
 pub struct Driven {
@@ -136,7 +139,7 @@ fn listen<R: Read>(server: &mut Server, reader: &mut Meter<R>, turns: u32) -> Li
     requires { length (waiting server.old) ≤ 1 }
     ensures { Listens R.remaining server.old server.new reader.old reader.new turns result }
 {
-    let mut buffer = [0u8; 64];
+    let mut buffer = [0u8; READ_MAX];
     for _turn in 0..turns {
         match reader.read(&mut buffer) {
             Err(Failed) => return Listened::Nothing,

@@ -15,7 +15,7 @@ use uecp_encoder::{Encoder, Target};
 use uecp_frame::{Deframer, Found};
 
 /// What is left of a piece once this many bytes of it were used.
-pub(crate) fn left(piece: &[u8], used: usize) -> &[u8]
+pub(crate) fn rest_of(piece: &[u8], used: usize) -> &[u8]
     requires { used ≤ length piece.now }
     ensures { result.now ≡ drop used piece.now }
 {
@@ -95,7 +95,7 @@ pub(crate) fn give_piece<E: End>(
     let mut rest = piece;
     while !rest.is_empty() {
         let (used, said) = end.give_first(rest);
-        rest = left(rest, used);
+        rest = rest_of(rest, used);
         last = said.or(last);
     }
     last
@@ -127,7 +127,7 @@ pub(crate) fn dropped_by(deframer: &Deframer, noise: &[u8]) -> Option<usize>
     let mut rest = noise;
     while !rest.is_empty() {
         let fed = copy.feed(rest);
-        rest = left(rest, fed.used);
+        rest = rest_of(rest, fed.used);
         match fed.found {
             Found::Nothing => {}
             Found::Refused(_) => dropped += 1,

@@ -7,12 +7,16 @@ ghost use Rattle.uecp_encoder.specs.Metered.{failures_after};
 ghost use Rattle.uecp_link.specs.Server.{heard};
 ghost use Rattle.uecp_link.specs.Joining.{pass_sent, reply_counters, IsStillNew, MakesPass, ReadsReplies, seen_with, seen_after};
 
-use crate::driving::DriveFault;
-use crate::feeding::left;
+use crate::counters::COUNTER_MAX;
+use crate::driving::{DriveFault, READ_MAX};
+use crate::feeding::rest_of;
 use crate::server::Server;
 use std::io::{Read, Write};
 use uecp_encoder::{Failed, Meter};
 use uecp_frame::{Address, Frame, FrameBytes, Message, encode};
+
+/// The oldest counter whose reply an encoder still keeps after a pass: FF and the 126 before it are newer or this.
+const OLDEST_KEPT: u8 = 0x81;
 
 /// How a pass ended, where no fault ended it.
 #[derive(Clone, Copy, Debug, PartialEq, Eq)]
@@ -81,7 +85,7 @@ fn write_pass<W: Write>(address: Address, writer: &mut Meter<W>) -> Result<(), u
 {
     let mut written = 0u64;
     let mut bytes = FrameBytes::new();
-    for before in 0..255u8 {
+    for before in 0..COUNTER_MAX {
         let frame = Frame {
             address,
             counter: before + 1,
@@ -106,7 +110,7 @@ fn read_replies<R: Read>(
     requires closed { server.old.part ≡ Closed }
     ensures { ReadsReplies R.remaining server.old server.new reader.old reader.new turns result }
 {
-    let mut buffer = [0u8; 64];
+    let mut buffer = [0u8; READ_MAX];
     let mut seen = Seen::Neither;
     for _turn in 0..turns {
         match reader.read(&mut buffer) {
@@ -133,7 +137,7 @@ fn hear_replies(server: &mut Server, piece: &[u8], before: Seen) -> Seen
     let mut rest = piece;
     while !rest.is_empty() {
         let (used, counter) = server.hear_reply(rest);
-        rest = left(rest, used);
+        rest = rest_of(rest, used);
         if let Some(counter) = counter {
             seen = seen_with(seen, counter);
         }
@@ -146,8 +150,8 @@ fn seen_with(seen: Seen, counter: u8) -> Seen
     ensures { result ≡ seen_with seen counter }
 {
     match (seen, counter) {
-        (Seen::Neither, 0x81) => Seen::First,
-        (Seen::First, 0xFF) => Seen::Both,
+        (Seen::Neither, OLDEST_KEPT) => Seen::First,
+        (Seen::First, COUNTER_MAX) => Seen::Both,
         (seen, _) => seen,
     }
 }

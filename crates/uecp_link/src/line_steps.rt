@@ -18,7 +18,7 @@ use crate::event::Side;
 use crate::feeding::{dropped_by, give_cut};
 use crate::line::Line;
 use crate::refusal::LineRefusal;
-use crate::server::Server;
+use crate::server::{REPLY, Server};
 use crate::stepped::Stepped;
 use uecp_elements::Code;
 use uecp_encoder::{Encoder, Target};
@@ -142,7 +142,7 @@ impl<T: Target> Line<T> {
         requires { number < length self.now.codes }
         ensures { result.items ≡ reply_bytes self.now.encoder.address number (slice_get self.now.codes number) }
     {
-        let acknowledgement = [0x18, self.codes[number].byte(), counter_of(number)];
+        let acknowledgement = [REPLY, self.codes[number].byte(), counter_of(number)];
         let Some(message) = Message::from_bytes(&acknowledgement) else {
             unreachable!();
         };

@@ -6,6 +6,7 @@ ghost use Rattle.uecp_link.specs.Once.{at_first};
 ghost use Rattle.uecp_link.specs.Holds.{Holds};
 ghost use Rattle.uecp_link.specs.Restarting.{EmptyChangesNothing, Restarts};
 
+use crate::counters::COUNTER_MAX;
 use crate::feeding::give_cut;
 use crate::line::Line;
 use uecp_encoder::{Encoder, Target};
@@ -44,7 +45,7 @@ fn give_pass<T: Target>(address: Address, encoder: &mut Encoder<T>)
     ensures { encoder.new ≡ fed T.step encoder.old (pass_sent address) }
 {
     let mut bytes = FrameBytes::new();
-    for before in 0..255u8 {
+    for before in 0..COUNTER_MAX {
         let frame = Frame {
             address,
             counter: before + 1,

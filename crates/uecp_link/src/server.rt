@@ -14,11 +14,16 @@ mod replies;
 use crate::counters::counter_of;
 use crate::counts::ServerCounts;
 use crate::heard::{Heard, HeardWhat};
-use crate::holding::{HeldMessage, count_waiting, counter_at, frame_at, let_go, mark};
+use crate::held_message::{
+    HeldMessage, WINDOW_MAX, count_waiting, counter_at, frame_at, let_go, mark,
+};
 use crate::server::replies::acknowledging;
 use arrayvec::ArrayVec;
 use std::marker::Model;
 use uecp_frame::{Address, Deframer, FoundRef, Frame, FrameBytes, Message, encode};
+
+/// The first byte of a reply's message: the element message acknowledgement.
+pub(crate) const REPLY: u8 = 0x18;
 
 /// A server that sends messages to one encoder, up to eight outstanding at a time: it numbers a message, lends its
 /// frame as often as the caller sends it, and knows the encoder's reply to it from all else. Contracts see it as one
@@ -31,7 +36,7 @@ pub struct Server {
     last: u8,
     /// The messages that are held, the oldest first: those that no reply has come to, and those marked ones that are
     /// newer.
-    held: ArrayVec<HeldMessage, 8>,
+    held: ArrayVec<HeldMessage, WINDOW_MAX>,
     /// What was heard, by kind.
     counts: ServerCounts,
     /// Finds the frames in what is heard.
@@ -40,7 +45,7 @@ pub struct Server {
 
 impl Model for Server {
     ghost use Rattle.uecp_link.specs.Server.{ServerState};
-    ghost use Rattle.uecp_link.specs.Holding.{held_in, IsHolding};
+    ghost use Rattle.uecp_link.specs.HeldMessages.{held_in, IsHolding};
 
     ghost Value = { ServerState };
 

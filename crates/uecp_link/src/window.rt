@@ -5,9 +5,10 @@ ghost use Rattle.uecp_encoder.specs.Metered.{failures_after};
 ghost use Rattle.uecp_link.specs.Server.{waiting, heard};
 ghost use Rattle.uecp_link.specs.Window.{Windows, Gathers, marks_in, window_sent};
 
-use crate::driving::DriveFault;
-use crate::feeding::left;
+use crate::driving::{DriveFault, READ_MAX};
+use crate::feeding::rest_of;
 use crate::heard::HeardWhat;
+use crate::held_message::WINDOW_MAX;
 use crate::server::Server;
 use arrayvec::ArrayVec;
 use std::io::{Read, Write};
@@ -38,7 +39,7 @@ pub fn send_window<R: Read, W: Write>(
     reader: &mut Meter<R>,
     writer: &mut Meter<W>,
     turns: u32,
-    marks: &mut ArrayVec<(u8, Code), 8>,
+    marks: &mut ArrayVec<(u8, Code), WINDOW_MAX>,
 ) -> Result<Windowed, DriveFault>
     requires busy { server.old.held ≢ [] }
     requires room { length marks.old.items + length (waiting server.old) ≤ 8 }
@@ -76,14 +77,14 @@ fn gather<R: Read>(
     server: &mut Server,
     reader: &mut Meter<R>,
     turns: u32,
-    marks: &mut ArrayVec<(u8, Code), 8>,
+    marks: &mut ArrayVec<(u8, Code), WINDOW_MAX>,
 ) -> Result<Windowed, DriveFault>
     requires busy { server.old.held ≢ [] }
     requires room { length marks.old.items + length (waiting server.old) ≤ 8 }
     ensures gathers { Gathers R.remaining server.old server.new reader.old reader.new marks.old.items marks.new.items turns result }
     ensures room { length marks.new.items + length (waiting server.new) ≡ length marks.old.items + length (waiting server.old) }
 {
-    let mut buffer = [0u8; 64];
+    let mut buffer = [0u8; READ_MAX];
     for _turn in 0..turns {
         match reader.read(&mut buffer) {
             Err(Failed) => return Ok(Windowed::Spent),
@@ -100,7 +101,7 @@ fn gather<R: Read>(
 }
 
 /// Lets the server hear a piece, and adds the counter and the code of each message that it acknowledges.
-fn hear_marks(server: &mut Server, piece: &[u8], marks: &mut ArrayVec<(u8, Code), 8>)
+fn hear_marks(server: &mut Server, piece: &[u8], marks: &mut ArrayVec<(u8, Code), WINDOW_MAX>)
     requires { length marks.old.items + length (waiting server.old) ≤ 8 }
     ensures state { server.new ≡ heard server.old piece.now }
     ensures marks { marks.new.items ≡ marks.old.items ++ marks_in server.old piece.now }
@@ -109,7 +110,7 @@ fn hear_marks(server: &mut Server, piece: &[u8], marks: &mut ArrayVec<(u8, Code)
     let mut rest = piece;
     while !rest.is_empty() {
         let heard = server.hear(rest);
-        rest = left(rest, heard.used);
+        rest = rest_of(rest, heard.used);
         if let HeardWhat::Acknowledged { counter, code } = heard.what {
             marks.push((counter, code));
         }

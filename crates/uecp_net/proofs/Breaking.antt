@@ -8,60 +8,72 @@ use Rattle.uecp_link.specs.declared.driving.DriveFault.{DriveFault}
 use Rattle.uecp_link.specs.declared.driving.DriveFault.TheVariants.{WriteFailed, Closed, TriesSpent}
 use Rattle.uecp_link.specs.declared.window.Windowed.TheVariants.{Idle, Spent}
 use Rattle.uecp_link.proofs.FeedingLemmas.{heard_none}
-use Rattle.uecp_net.specs.Sending.{SenderOver, Marks, GoesOn, Opens, unused, SpentCalls, Tried, Attempts, Delivers, HangsUp, reason_of, without_ends, reconnecting}
+use Rattle.uecp_net.specs.Sending.{SenderOver, Marks, GoesOn, Opens, unused, Underway, underway, Calls, SpentCalls, Tried, Attempts, Delivers, HangsUp, reason_of, without_ends, reconnecting}
 use Rattle.uecp_net.specs.declared.sending.TwoEnds.{TwoEnds}
 use Rattle.uecp_net.specs.declared.sending.Outstanding.{Outstanding}
 
 module _ {I O : Type 0} (remaining : I → Option (List ℕ)) (contents : O → Option (List ℕ)) where
   -- ---- what one call leaves
 
-  pub window_idle : (s s' : ServerState) (r r' : Metered I) (w w' : Metered O) (m m' : Marks) (turns : ℕ) → Windows remaining contents s s' r r' w w' m m' turns (Ok Idle) → s'.held ≡ []
-  window_idle s s' r r' w w' m m' turns windows = windows.ends.1.0
+  pub window_spent : (turns : ℕ) (u u' : Underway I O) → Calls remaining contents turns u u' (Ok Spent)
+      → u'.server.held ≢ []
+  window_spent turns u u' windows = windows.ends.1.0
 
-  pub window_spent : (s s' : ServerState) (r r' : Metered I) (w w' : Metered O) (m m' : Marks) (turns : ℕ) → Windows remaining contents s s' r r' w w' m m' turns (Ok Spent) → s'.held ≢ []
-  window_spent s s' r r' w w' m m' turns windows = windows.ends.1.0
-
-  pub window_failed : (s s' : ServerState) (r r' : Metered I) (w w' : Metered O) (m m' : Marks) (turns : ℕ) (fault : DriveFault) → s.held ≢ [] → Windows remaining contents s s' r r' w w' m m' turns (Err fault) → s'.held ≢ []
-  window_failed s s' r r' w w' m m' turns (WriteFailed written) busy windows =
-      let same : s' ≡ s = windows.state ∙ ap (heard s) windows.ends.2 ∙ heard_none s in
+  pub window_failed : (turns : ℕ) (u u' : Underway I O) (fault : DriveFault) → u.server.held ≢ []
+      → Calls remaining contents turns u u' (Err fault) → u'.server.held ≢ []
+  window_failed turns u u' (WriteFailed written) busy windows =
+      let same : u'.server ≡ u.server = windows.state ∙ ap (heard u.server) windows.ends.2 ∙ heard_none u.server in
       λ none. busy (sym (ap (λ (d : ServerState). d.held) same) ∙ none)
-  window_failed s s' r r' w w' m m' turns Closed busy windows = windows.ends.1.0
-  window_failed s s' r r' w w' m m' turns TriesSpent busy windows = absurd windows.ends
+  window_failed turns u u' Closed busy windows = windows.ends.1.0
+  window_failed turns u u' TriesSpent busy windows = absurd windows.ends
 
   -- ---- the calls on one connection
 
-  pub spent_on : (turns calls : ℕ) (s0 s1 s2 : ServerState) (r0 r1 r2 : Metered I) (w0 w1 w2 : Metered O) (m0 m1 m2 : Marks) → SpentCalls remaining contents turns calls s0 s1 r0 r1 w0 w1 m0 m1 →
-      Windows remaining contents s1 s2 r1 r2 w1 w2 m1 m2 turns (Ok Spent) → SpentCalls remaining contents turns (calls + 1) s0 s2 r0 r2 w0 w2 m0 m2
-  spent_on turns calls s0 s1 s2 r0 r1 r2 w0 w1 w2 m0 m1 m2 spent windows =
-      subst (λ n. SpentCalls remaining contents turns n s0 s2 r0 r2 w0 w2 m0 m2) (let q : suc calls ≡ calls + 1 = omega arith in q) (s1, r1, w1, m1, spent, windows)
+  module _ (turns calls : ℕ) (u0 u1 u2 : Underway I O) (spent : SpentCalls remaining contents turns calls u0 u1) where
+    pub spent_on : Calls remaining contents turns u1 u2 (Ok Spent)
+        → SpentCalls remaining contents turns (calls + 1) u0 u2
+    spent_on windows =
+        subst (λ n. SpentCalls remaining contents turns n u0 u2) (let q : suc calls ≡ calls + 1 = omega arith in q)
+        (u1, spent, windows)
 
-  module _ (tries turns calls : ℕ) (s0 s1 s2 : ServerState) (r0 r1 r2 : Metered I) (w0 w1 w2 : Metered O) (m0 m1 m2 : Marks) (spent : SpentCalls remaining contents turns calls s0 s1 r0 r1 w0 w1 m0 m1) where
-    pub tried_idle : calls < tries → Windows remaining contents s1 s2 r1 r2 w1 w2 m1 m2 turns (Ok Idle) → Tried remaining contents tries turns s0 s2 r0 r2 w0 w2 m0 m2 (Ok (calls + 1))
-    tried_idle below windows = (calls, s1, r1, w1, m1, refl, omega (arith, below), spent, windows)
+    pub tried_idle : (tries : ℕ) → calls < tries → Calls remaining contents turns u1 u2 (Ok Idle)
+        → Tried remaining contents tries turns u0 u2 (Ok (calls + 1))
+    tried_idle tries below windows = (calls, u1, refl, omega (arith, below), spent, windows)
 
-    pub tried_failed : (fault : DriveFault) → calls < tries → Windows remaining contents s1 s2 r1 r2 w1 w2 m1 m2 turns (Err fault) → Tried remaining contents tries turns s0 s2 r0 r2 w0 w2 m0 m2 (Err fault)
-    tried_failed (WriteFailed written) below windows = (calls, s1, r1, w1, m1, below, spent, windows)
-    tried_failed Closed below windows = (calls, s1, r1, w1, m1, below, spent, windows)
-    tried_failed TriesSpent below windows = absurd windows.ends
-
-    pub tried_all : calls ≡ tries → Tried remaining contents tries turns s0 s1 r0 r1 w0 w1 m0 m1 (Err TriesSpent)
-    tried_all all = subst (λ n. SpentCalls remaining contents turns n s0 s1 r0 r1 w0 w1 m0 m1) all spent
+    pub tried_failed : (tries : ℕ) (fault : DriveFault) → calls < tries
+        → Calls remaining contents turns u1 u2 (Err fault)
+        → Tried remaining contents tries turns u0 u2 (Err fault)
+    tried_failed tries (WriteFailed written) below windows = (calls, u1, below, spent, windows)
+    tried_failed tries Closed below windows = (calls, u1, below, spent, windows)
+    tried_failed tries TriesSpent below windows = absurd windows.ends
 
   -- ---- connections
 
   module _ {C : Type 0} (opens : C → Option (I × O) → C → Type 0) (closes : C → I → O → C → Type 0) where
     -- the sender took its ends out, and put them back after the calls
-    pub attempted : (old start now : SenderOver C I O) (server : ServerState) (ends ends' : TwoEnds I O) (marks marks' : Marks) (result : Result ℕ DriveFault) → GoesOn opens old start → start.ends ≡ Some ends → now ≡ without_ends start →
-        Tried remaining contents now.sender.tries now.sender.turns now.sender.server server ends.input ends'.input ends.output ends'.output marks marks' result →
-        Attempts opens remaining contents old (record now { sender = record now.sender { server = server }; ends = Some ends' }) marks marks' result
+    pub attempted : (old start now : SenderOver C I O) (server : ServerState) (ends ends' : TwoEnds I O)
+        (marks marks' : Marks)
+        (result : Result ℕ DriveFault) → GoesOn opens old start → start.ends ≡ Some ends → now ≡ without_ends start
+        → Tried remaining contents now.sender.tries now.sender.turns (underway now ends marks)
+        (record { server = server; input = ends'.input; output = ends'.output; marks = marks' }) result
+        → Attempts opens remaining contents old
+        (record now { sender = record now.sender { server = server }; ends = Some ends' }) marks marks' result
     attempted old start now server ends ends' marks marks' result goes_on has now_is tried =
+        let after : Underway I O = record {
+          server = server;
+          input = ends'.input;
+          output = ends'.output;
+          marks =
+              marks';
+        } in
         record {
           start = start;
           ends = ends;
           ends' = ends';
           goes_on = goes_on;
           has = has;
-          went = subst (λ (d : SenderOver C I O). Tried remaining contents d.sender.tries d.sender.turns d.sender.server server ends.input ends'.input ends.output ends'.output marks marks' result) now_is tried;
+          went = subst (λ (d : SenderOver C I O). Tried remaining contents d.sender.tries d.sender.turns
+              (underway d ends marks) after result) now_is tried;
           leaves = ap (λ (d : SenderOver C I O). record d { sender = record d.sender { server = server }; ends = Some ends' }) now_is;
         }
 

@@ -6,6 +6,7 @@ use Rattle.uecp_encoder.specs.Metered.{Metered}
 use Rattle.uecp_link.specs.declared.driving.DriveFault.{DriveFault}
 use Rattle.uecp_link.specs.declared.driving.DriveFault.TheVariants as drive
 use Rattle.uecp_elements.specs.declared.code.Code.{Code}
+use Rattle.uecp_link.specs.declared.window.Windowed.{Windowed}
 use Rattle.uecp_link.specs.declared.window.Windowed.TheVariants.{Idle, Spent}
 use Rattle.uecp_link.specs.Server.{ServerState, submitted, waiting, waits_for, counters_waiting, raised_by}
 use Rattle.uecp_link.specs.Window.{Windows, code_under}
@@ -53,25 +54,44 @@ OpensNone opens s s' = (s.ends ≡ None) × opens s.connect None s'.connect × (
 abbrev pub GoesOn : {C I O : Type 0} → (opens : C → Option (I × O) → C → Type 0) → SenderOver C I O → SenderOver C I O → Type 0
 GoesOn opens s s' = (IsSome s.ends × (s' ≡ s)) ⊎ ((s.ends ≡ None) × Opens opens s s')
 
+-- A server with the two ends of a connection, and the marks so far.
+pub record Underway (I O : Type 0) : Type 0 where
+  pub server : ServerState
+  pub input : Metered I
+  pub output : Metered O
+  pub marks : Marks
+
+-- One call of `send_window` with so many turns.
+abbrev pub Calls : {I O : Type 0} → (I → Option (List ℕ)) → (O → Option (List ℕ)) → (turns : ℕ)
+    → (old new : Underway I O) → Result Windowed DriveFault → Type 0
+Calls remaining contents turns u u' result =
+    Windows remaining contents u.server u'.server u.input u'.input u.output u'.output u.marks u'.marks turns result
+
 -- So many calls of `send_window` on one connection, over its reader and writer and with the same marks, after each of
 -- which messages waited and nothing had failed.
-abbrev pub SpentCalls : {I O : Type 0} → (I → Option (List ℕ)) → (O → Option (List ℕ)) → (turns calls : ℕ) → (old new : ServerState) → (input input' : Metered I) → (output output' : Metered O) → (marks marks' : Marks) → Type 0
-SpentCalls remaining contents turns zero old new input input' output output' marks marks' = (new ≡ old) × (input' ≡ input) × (output' ≡ output) × (marks' ≡ marks)
-SpentCalls {I} {O} remaining contents turns (suc n) old new input input' output output' marks marks' =
-    (between : ServerState) × (reader : Metered I) × (writer : Metered O) × (some : Marks)
-    × SpentCalls remaining contents turns n old between input reader output writer marks some × Windows remaining contents between new reader input' writer output' some marks' turns (Ok Spent)
+abbrev pub SpentCalls : {I O : Type 0} → (I → Option (List ℕ)) → (O → Option (List ℕ)) → (turns calls : ℕ)
+    → (old new : Underway I O) → Type 0
+SpentCalls remaining contents turns zero u u' = u' ≡ u
+SpentCalls {I} {O} remaining contents turns (suc n) u u' =
+    (between : Underway I O) × SpentCalls remaining contents turns n u between
+    × Calls remaining contents turns between u' (Ok Spent)
 
 -- How the calls on one connection went, with so many tries of so many turns. Acknowledged: the last of n calls, which
 -- are as many as are allowed or fewer, left no message waiting. Every try spent: so many calls, and messages wait. Else
 -- a call failed.
-abbrev pub Tried : {I O : Type 0} → (I → Option (List ℕ)) → (O → Option (List ℕ)) → (tries turns : ℕ) → (old new : ServerState) → (input input' : Metered I) → (output output' : Metered O) → (marks marks' : Marks) → Result ℕ DriveFault → Type 0
-Tried {I} {O} remaining contents tries turns old new input input' output output' marks marks' (Ok n) =
-    (before : ℕ) × (between : ServerState) × (reader : Metered I) × (writer : Metered O) × (some : Marks) × (n ≡ before + 1) × (n ≤ tries)
-    × SpentCalls remaining contents turns before old between input reader output writer marks some × Windows remaining contents between new reader input' writer output' some marks' turns (Ok Idle)
-Tried remaining contents tries turns old new input input' output output' marks marks' (Err drive.TriesSpent) = SpentCalls remaining contents turns tries old new input input' output output' marks marks'
-Tried {I} {O} remaining contents tries turns old new input input' output output' marks marks' (Err fault) =
-    (before : ℕ) × (between : ServerState) × (reader : Metered I) × (writer : Metered O) × (some : Marks) × (before < tries)
-    × SpentCalls remaining contents turns before old between input reader output writer marks some × Windows remaining contents between new reader input' writer output' some marks' turns (Err fault)
+abbrev pub Tried : {I O : Type 0} → (I → Option (List ℕ)) → (O → Option (List ℕ)) → (tries turns : ℕ)
+    → (old new : Underway I O) → Result ℕ DriveFault → Type 0
+Tried {I} {O} remaining contents tries turns u u' (Ok n) =
+    (before : ℕ) × (between : Underway I O) × (n ≡ before + 1) × (n ≤ tries)
+    × SpentCalls remaining contents turns before u between × Calls remaining contents turns between u' (Ok Idle)
+Tried remaining contents tries turns u u' (Err drive.TriesSpent) = SpentCalls remaining contents turns tries u u'
+Tried {I} {O} remaining contents tries turns u u' (Err fault) =
+    (before : ℕ) × (between : Underway I O) × (before < tries)
+    × SpentCalls remaining contents turns before u between × Calls remaining contents turns between u' (Err fault)
+
+-- These two ends, with the server that the sender has and the marks so far.
+abbrev pub underway : {C I O : Type 0} → SenderOver C I O → TwoEnds I O → Marks → Underway I O
+underway s ends marks = record { server = s.sender.server; input = ends.input; output = ends.output; marks = marks }
 
 -- On one connection, that which the sender has or a new one: the calls of `send_window` did this over its two ends,
 -- which the sender still has, as the calls left them.
@@ -81,7 +101,8 @@ pub record Attempts {C I O : Type 0} (opens : C → Option (I × O) → C → Ty
   pub ends' : TwoEnds I O
   pub goes_on : GoesOn opens old start
   pub has : start.ends ≡ Some ends
-  pub went : Tried remaining contents start.sender.tries start.sender.turns start.sender.server new.sender.server ends.input ends'.input ends.output ends'.output marks marks' result
+  pub went : Tried remaining contents start.sender.tries start.sender.turns (underway start ends marks)
+      (underway new ends' marks') result
   pub leaves : new ≡ record start { sender = record start.sender { server = new.sender.server }; ends = Some ends' }
 
 -- Why messages are outstanding where a connection ended so and there is no other.

@@ -13,10 +13,10 @@
 
 mod connect;
 mod sending;
-mod serving;
+mod sessions;
 mod tcp;
 
 pub use connect::Connect;
 pub use sending::{Limits, Outstanding, Sender, Settled};
-pub use serving::serve_connection;
+pub use sessions::serve_connection;
 pub use tcp::{DialFault, Dialing, Listening, Local};

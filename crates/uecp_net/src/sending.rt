@@ -1,20 +1,21 @@
 //! A server over connections that may break, with several messages on their way at a time. Source: profile.
-ghost use Rattle.std.specs.Prelude.{◌≡◌, ◌≢◌, ℕ, ◌+◌, ◌<◌, ◌≤◌, ◌↔◌, [], All, IsSome, length, map, Some, None, Ok, Err, IfOk, IfErr, IfSome, IfNone, IsTrue};
-ghost use Rattle.uecp_link.specs.Server.{waiting, counters_waiting};
-ghost use Rattle.uecp_link.specs.Window.{code_under};
+ghost use Rattle.std.specs.Prelude.{◌≡◌, ◌≢◌, ℕ, ◌<◌, ◌≤◌, ◌↔◌, [], length, Some, None, Ok, Err, IfOk, IfErr, IsTrue};
+ghost use Rattle.uecp_link.specs.Server.{waiting};
 ghost use Rattle.uecp_net.specs.declared.sending.Outstanding.TheVariants.{ConnectionFailed};
-ghost use Rattle.uecp_net.specs.Sending.{SenderOver, Marks, Goes, GoesOn, Opens, OpensNone, Tried, Follows, Delivers, HangsUp, reason_of, submitted_to, without_ends, AreTold, AreFreed, StillWait};
+ghost use Rattle.uecp_net.specs.Sending.{SenderOver, Marks, Follows, Delivers, HangsUp, reason_of, submitted_to, AreTold, AreFreed, StillWait};
 
+mod connections;
 mod joining;
+mod telling;
 
 use crate::connect::Connect;
+use crate::sending::telling::{codes_of, counters_of};
 use arrayvec::ArrayVec;
-use std::io::{Read, Write};
 use std::marker::Model;
 use uecp_elements::Code;
 use uecp_encoder::Meter;
 use uecp_frame::Message;
-use uecp_link::{DriveFault, Server, Windowed, send_window};
+use uecp_link::{DriveFault, Server, WINDOW_MAX};
 
 /// Why messages are still outstanding.
 #[derive(Clone, Copy, Debug, PartialEq, Eq)]
@@ -31,7 +32,7 @@ pub enum Outstanding {
 #[derive(Drop)]
 pub struct Settled {
     /// The codes of the replies, one for each message, in the order of the messages.
-    pub codes: ArrayVec<Code, 8>,
+    pub codes: ArrayVec<Code, WINDOW_MAX>,
     /// How many tries the last connection took, from 1.
     pub tries: u32,
 }
@@ -149,7 +150,10 @@ impl<'a, C: Connect> Sender<'a, C> {
 
     /// Sends the messages that wait on the connection that there is, and on new ones as long as reconnects are left,
     /// and answers how many tries the last one took.
-    fn send_on_any(&mut self, marks: &mut ArrayVec<(u8, Code), 8>) -> Result<u32, Outstanding>
+    fn send_on_any(
+        &mut self,
+        marks: &mut ArrayVec<(u8, Code), WINDOW_MAX>,
+    ) -> Result<u32, Outstanding>
         requires busy { self.old.sender.server.held ≢ [] }
         requires few { length (waiting self.old.sender.server) ≤ 8 }
         requires none { marks.old.items ≡ [] }
@@ -174,92 +178,6 @@ impl<'a, C: Connect> Sender<'a, C> {
             self.limits.reconnects -= 1;
         }
     }
-
-    /// Sends the messages that wait on the connection that there is, or on a new one, and says how that went; or None
-    /// where there is none to be had.
-    fn send_on_one(
-        &mut self,
-        marks: &mut ArrayVec<(u8, Code), 8>,
-    ) -> Option<Result<u32, DriveFault>>
-        requires busy { self.old.sender.server.held ≢ [] }
-        requires room { length marks.old.items + length (waiting self.old.sender.server) ≤ 8 }
-        ensures goes { Goes C.opens C.Input.remaining C.Output.contents self.old self.new marks.old.items marks.new.items result }
-        ensures idle { IfSome result (λ went. IfOk went (λ tries. (self.new.sender.server.held ≡ []) × (1 ≤ tries) × (tries ≤ self.old.sender.tries))) }
-        ensures outstanding { IfSome result (λ went. IfErr went (λ _. self.new.sender.server.held ≢ [])) }
-        ensures follows { Follows self.old.sender.server self.new.sender.server marks.old.items marks.new.items }
-        ensures stays { record self.new.sender { server = self.old.sender.server } ≡ self.old.sender }
-    {
-        let mut ends = self.ready()?;
-        let went = send_waiting(
-            &mut self.server,
-            &mut ends.input,
-            &mut ends.output,
-            self.limits,
-            marks,
-        );
-        self.ends = Some(ends);
-        Some(went)
-    }
-
-    /// Lets the connection go, if there is one.
-    fn hang_up(&mut self)
-        ensures { HangsUp C.closes self.old self.new }
-    {
-        if let Some(ends) = self.ends.take() {
-            self.connect
-                .close(ends.input.into_inner(), ends.output.into_inner());
-        }
-    }
-
-    /// The connection that there is, or a new one, or None where there is none to be had.
-    fn ready(&mut self) -> Option<TwoEnds<C::Input, C::Output>>
-        ensures goes_on { IfSome result (λ ends. (start : SenderOver C C.Input C.Output) × GoesOn C.opens self.old start × (start.ends ≡ Some ends) × (self.new ≡ without_ends start)) }
-        ensures none { IfNone result (OpensNone C.opens self.old self.new) }
-    {
-        match self.ends.take() {
-            Some(ends) => Some(ends),
-            None => self.connected(),
-        }
-    }
-
-    /// A new connection, or None where there is none to be had. What the one before left open is forgotten.
-    fn connected(&mut self) -> Option<TwoEnds<C::Input, C::Output>>
-        requires { self.old.ends ≡ None }
-        ensures opens { IfSome result (λ ends. (start : SenderOver C C.Input C.Output) × Opens C.opens self.old start × (start.ends ≡ Some ends) × (self.new ≡ without_ends start)) }
-        ensures none { IfNone result (OpensNone C.opens self.old self.new) }
-    {
-        let (input, output) = self.connect.open()?;
-        self.server.line_lost();
-        Some(TwoEnds {
-            input: Meter::new(input),
-            output: Meter::new(output),
-        })
-    }
-}
-
-/// Sends the messages that wait on one connection, as often as the limits allow, and answers how often it did.
-fn send_waiting<R: Read, W: Write>(
-    server: &mut Server,
-    reader: &mut Meter<R>,
-    writer: &mut Meter<W>,
-    limits: Limits,
-    marks: &mut ArrayVec<(u8, Code), 8>,
-) -> Result<u32, DriveFault>
-    requires busy { server.old.held ≢ [] }
-    requires room { length marks.old.items + length (waiting server.old) ≤ 8 }
-    ensures tried { Tried R.remaining W.contents limits.tries limits.turns server.old server.new reader.old reader.new writer.old writer.new marks.old.items marks.new.items result }
-    ensures idle { IfOk result (λ n. (server.new.held ≡ []) × (1 ≤ n) × (n ≤ limits.tries)) }
-    ensures outstanding { IfErr result (λ _. server.new.held ≢ []) }
-    ensures follows { Follows server.old server.new marks.old.items marks.new.items }
-{
-    for before in 0..limits.tries {
-        match send_window(server, reader, writer, limits.turns, marks) {
-            Err(fault) => return Err(fault),
-            Ok(Windowed::Idle) => return Ok(before + 1),
-            Ok(Windowed::Spent) => {}
-        }
-    }
-    Err(DriveFault::TriesSpent)
 }
 
 /// Why messages are outstanding where a connection ended so and there is no other.
@@ -270,46 +188,4 @@ fn reason_of(fault: DriveFault) -> Outstanding
         DriveFault::WriteFailed { .. } | DriveFault::Closed => Outstanding::ConnectionFailed,
         DriveFault::TriesSpent => Outstanding::TriesSpent,
     }
-}
-
-/// The counters of the messages that wait, the oldest first.
-fn counters_of(server: &Server) -> ArrayVec<u8, 8>
-    ensures counters { result.items ≡ counters_waiting server.now }
-    ensures few { length (waiting server.now) ≤ 8 }
-{
-    let mut counters = ArrayVec::new();
-    for place in 0..server.waiting() {
-        let Some(counter) = server.counter(place) else {
-            unreachable!();
-        };
-        counters.push(counter);
-    }
-    counters
-}
-
-/// The codes that marks give these counters, in order: each that of the first mark with its counter. Each has one.
-fn codes_of(counters: &ArrayVec<u8, 8>, marks: &ArrayVec<(u8, Code), 8>) -> ArrayVec<Code, 8>
-    requires { All (λ counter. IsSome (code_under counter marks.now.items)) counters.now.items }
-    ensures { map Some result.items ≡ map (λ counter. code_under counter marks.now.items) counters.now.items }
-{
-    let mut codes = ArrayVec::new();
-    for counter in counters.as_slice() {
-        let Some(code) = first_code(*counter, marks) else {
-            unreachable!();
-        };
-        codes.push(code);
-    }
-    codes
-}
-
-/// The code of the first mark with this counter, if there is one.
-fn first_code(counter: u8, marks: &ArrayVec<(u8, Code), 8>) -> Option<Code>
-    ensures { result ≡ code_under counter marks.now.items }
-{
-    for (marked, code) in marks.as_slice() {
-        if *marked == counter {
-            return Some(*code);
-        }
-    }
-    None
 }

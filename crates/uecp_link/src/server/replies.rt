@@ -4,9 +4,10 @@ ghost use Rattle.std.specs.Prelude.{◌≡◌};
 ghost use Rattle.uecp_frame.specs.Findings.{Closed};
 ghost use Rattle.uecp_frame.specs.Lent.{frame_lent};
 ghost use Rattle.uecp_link.specs.Server.{nothing_counted, reply_from, acknowledges};
-ghost use Rattle.uecp_link.specs.Holding.{held_in};
+ghost use Rattle.uecp_link.specs.HeldMessages.{held_in};
 
-use crate::holding::{HeldMessage, is_waiting};
+use crate::held_message::{HeldMessage, is_waiting};
+use crate::server::REPLY;
 use uecp_elements::Code;
 use uecp_frame::{Address, FrameRef};
 
@@ -17,7 +18,7 @@ pub(crate) fn reply_from(address: Address, frame: &FrameRef<'_>) -> Option<(u8, 
     if *frame.address != address || frame.counter != 0 {
         return None;
     }
-    let [0x18, code, counter] = frame.message else {
+    let [REPLY, code, counter] = frame.message else {
         return None;
     };
     let code = Code::from_byte(*code)?;

@@ -8,6 +8,9 @@ use super::{Outstanding, Sender, reason_of};
 use crate::connect::Connect;
 use uecp_link::{DriveFault, Joining, join};
 
+/// How many frames a pass has, one under each counter: it may make so many times the reads of a try.
+const PASS_FRAMES: u32 = 255;
+
 impl<'a, C: Connect> Sender<'a, C> {
     /// Joins the encoder, so that the server may begin with counter 01 whatever the encoder has kept: makes a pass of
     /// empty messages over a new connection, and where that is not complete another one over the next, as long as
@@ -50,7 +53,7 @@ impl<'a, C: Connect> Sender<'a, C> {
         ensures loan { self.new.loan ≡ self.old.loan }
     {
         let mut ends = self.connected()?;
-        let turns = self.limits.turns.saturating_mul(255);
+        let turns = self.limits.turns.saturating_mul(PASS_FRAMES);
         let went = join(&mut self.server, &mut ends.input, &mut ends.output, turns);
         self.ends = Some(ends);
         Some(end_of_pass(went))

@@ -1,7 +1,7 @@
-use Rattle.std.proofs.Common.{◌≤◌, ℕ, List, length, ap, arith}
+use Rattle.std.proofs.Common.{◌≤◌, length, arith}
 use Rattle.uecp_link.specs.Server.{waiting}
 use Rattle.uecp_link.proofs.Tries.{tried_none, tried_on, write_failed_at, acknowledged_at, closed_at, spent_at}
-use Rattle.uecp_link.proofs.Answered.{still_waits, is_freed, same_waiting}
+use Rattle.uecp_link.proofs.Answered.{still_waits, is_freed, few_wait}
 use Rattle.uecp_link.proofs.driving.resend.Goals as goal
 
 pub loop-before-init : goal.loop-before-init
@@ -50,5 +50,5 @@ pub returns-clause-outstanding : goal.returns-clause-outstanding
 returns-clause-outstanding g c = still_waits c.args.server.now c.loop-before.server c.loop-before.invariant.read c.loop-before.invariant.state c.loop-before.invariant.silent
 
 pub listen-requires : goal.listen-requires
-listen-requires g c =
-    omega (arith, c.requires, ap (λ d. length (waiting d)) c.loop-before.invariant.state, ap (λ (ws : List (ℕ × List ℕ)). length ws) (same_waiting c.args.server.now c.loop-before.invariant.read c.loop-before.invariant.silent))
+listen-requires g c = few_wait c.args.server.now c.loop-before.server c.loop-before.invariant.read
+    (omega (arith, c.requires)) c.loop-before.invariant.state c.loop-before.invariant.silent

@@ -15,8 +15,8 @@ loop-rest-preserved g c =
     let last_is : c.or-last.result ≡ last_or c.loop-rest.last (says e (take n rest)) =
     c.or-last.ensures ∙ last_said c.loop-rest.last c.give_first-used.result.1 ∙ sym (ap (last_or c.loop-rest.last) c.give_first-used.ensures.said) in
     record {
-      state = after_on after says pieces e e' n rest c.left-rest.result.now c.give_first-used.ensures.state c.left-rest.ensures ∙ c.loop-rest.invariant.state;
-      said = said_on after says pieces e e' n rest c.left-rest.result.now c.loop-rest.last c.or-last.result c.give_first-used.ensures.state c.left-rest.ensures last_is ∙ c.loop-rest.invariant.said;
+      state = after_on after says pieces e e' n rest c.rest_of-rest.result.now c.give_first-used.ensures.state c.rest_of-rest.ensures ∙ c.loop-rest.invariant.state;
+      said = said_on after says pieces e e' n rest c.rest_of-rest.result.now c.loop-rest.last c.or-last.result c.give_first-used.ensures.state c.rest_of-rest.ensures last_is ∙ c.loop-rest.invariant.said;
     }
 
 pub returns-clause-state : goal.returns-clause-state

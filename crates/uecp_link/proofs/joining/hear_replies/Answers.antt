@@ -27,10 +27,10 @@ returns-clause-seen c =
 pub loop-rest-preserved-in-Some : goal.loop-rest-preserved-in-Some
 loop-rest-preserved-in-Some c =
     let said = ap (λ cs. seen_after c.loop-rest.seen cs) (c.hear_reply-used.ensures.counter ∙ ap (λ (o : Option ℕ). option_to_list o) c.in-Some.is) in
-    hears_more _ c.loop-rest.server c.hear_reply-used.new.self c.hear_reply-used.result.0 _ c.loop-rest.rest.now c.left-rest.result.now _ c.loop-rest.seen _ c.loop-rest.invariant (search rules) (search rules)
+    hears_more _ c.loop-rest.server c.hear_reply-used.new.self c.hear_reply-used.result.0 _ c.loop-rest.rest.now c.rest_of-rest.result.now _ c.loop-rest.seen _ c.loop-rest.invariant (search rules) (search rules)
     (c.seen_with-seen.ensures ∙ sym said)
 
 pub loop-rest-preserved : goal.loop-rest-preserved
 loop-rest-preserved c =
     let said = ap (λ cs. seen_after c.loop-rest.seen cs) (c.hear_reply-used.ensures.counter ∙ ap (λ (o : Option ℕ). option_to_list o) (none_is c.hear_reply-used.result.1 c.in_default.not-Some)) in
-    hears_more _ c.loop-rest.server c.hear_reply-used.new.self c.hear_reply-used.result.0 _ c.loop-rest.rest.now c.left-rest.result.now _ c.loop-rest.seen _ c.loop-rest.invariant (search rules) (search rules) (sym said)
+    hears_more _ c.loop-rest.server c.hear_reply-used.new.self c.hear_reply-used.result.0 _ c.loop-rest.rest.now c.rest_of-rest.result.now _ c.loop-rest.seen _ c.loop-rest.invariant (search rules) (search rules) (sym said)

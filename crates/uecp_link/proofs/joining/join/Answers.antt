@@ -1,4 +1,4 @@
-use Rattle.std.proofs.Common.{[], ◌∙◌, ap, sym, take, rules}
+use Rattle.std.proofs.Common.{[], ◌∙◌, refl, ap, sym, take, rules}
 use Rattle.uecp_link.specs.Server.{ServerState, heard}
 use Rattle.uecp_link.specs.Joining.{pass_sent, anew}
 use Rattle.uecp_link.proofs.Answered.{idle_hears}
@@ -10,7 +10,7 @@ pub returns-in-Err-clause-passes : goal.returns-in-Err-clause-passes
 returns-in-Err-clause-passes g c =
     let (below, wrote) = c.in-Err.ensures.err in
     pass_unread g.R.Read.remaining g.W.Write.contents c.args.server.now c.begin_anew.new.self c.args.reader.now c.args.writer.now c.write_pass.new.writer c.args.turns (take c.in-Err.written (pass_sent c.args.server.now.address)) _
-    c.begin_anew.ensures (search rules) (search rules) (search rules) (λ closed. cc)
+    c.begin_anew.ensures (search rules) (search rules) (search rules) refl
 
 pub returns-clause-passes : goal.returns-clause-passes
 returns-clause-passes g c =

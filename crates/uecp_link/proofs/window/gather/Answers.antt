@@ -1,7 +1,7 @@
 use Rattle.std.proofs.Common.{rules, arith, ◌≡◌, ◌≢◌, ◌≤◌, [], refl, length, take, subst}
 use Rattle.std.specs.Io.KnownBytes.{Consumes}
-use Rattle.std.proofs.KnownBytes.{Consumes-nil, Consumes-kept}
 use Rattle.uecp_encoder.specs.Metered.{counted}
+use Rattle.uecp_link.proofs.Reading.{no_read, one_read, failed_read, last_read}
 use Rattle.uecp_link.proofs.Windowing.{gathered_none, gathered_on, gathers_more, gathers_quiet}
 use Rattle.uecp_link.proofs.window.gather.Goals as goal
 
@@ -11,34 +11,41 @@ loop-turn-init g c = gathered_none g.R.Read.remaining c.args.server.now c.args.r
 pub returns-clause-gathers : goal.returns-clause-gathers
 returns-clause-gathers g c =
     let all : c.loop-turn._turn ≡ c.args.turns = omega arith in
-    gathers_quiet g.R.Read.remaining _ _ _ _ _ _ c.loop-turn._turn c.loop-turn.invariant _ _ _ c.args.turns 0 0 _ (Consumes-nil _) (search rules) (search rules) (λ h. omega arith) (λ h. omega arith) (omega arith) (λ h. refl) (λ closed. cc) (search rules)
+    gathers_quiet g.R.Read.remaining _ _ _ _ _ _ c.loop-turn._turn c.loop-turn.invariant _ _ _ c.args.turns 0 0 _
+    (no_read g.R.Read.remaining _) (search rules) (search rules) (omega arith) (search rules)
 
 pub returns-in-Err-clause-gathers : goal.returns-in-Err-clause-gathers
 returns-in-Err-clause-gathers g c =
-    gathers_quiet g.R.Read.remaining _ _ _ _ _ _ c.loop-turn._turn c.loop-turn.invariant _ _ _ c.args.turns 1 1 _ (Consumes-kept _ _ _ _ (Consumes-nil _) c.in-Err.ensures.bytes) (search rules) (search rules)
-    (λ h. omega (arith, c.read.ensures.calls, h)) (λ h. omega (arith, c.in-Err.ensures.failures, h)) (omega arith) (λ h. c.in-Err.ensures.empty) (λ closed. cc) (search rules)
+    let failed = failed_read g.R.Read.remaining c.loop-turn.reader _ c.in-Err.ensures.bytes c.read.ensures.calls
+    c.in-Err.ensures.failures c.in-Err.ensures.empty in
+    gathers_quiet g.R.Read.remaining _ _ _ _ _ _ c.loop-turn._turn c.loop-turn.invariant _ _ _ c.args.turns 1 1 _
+    failed (search rules) (search rules) (omega arith) (search rules)
 
 pub returns-in-Ok-eq0-clause-gathers : goal.returns-in-Ok-eq0-clause-gathers
 returns-in-Ok-eq0-clause-gathers g c =
-    let counts : c.read.new.self.empty ≡ counted c.loop-turn.reader.empty = search rules in
-    let zero : c.in-Ok-eq0.field-0 ≡ 0 = c.in-Ok-eq0.field-0-test in
-    let none = subst (λ n. Consumes (g.R.Read.remaining c.loop-turn.reader.device) (g.R.Read.remaining c.read.new.self.device) (take n c.read.new.buffer)) zero c.in-Ok-eq0.ensures.bytes.0 in
-    gathers_quiet g.R.Read.remaining _ _ _ _ _ _ c.loop-turn._turn c.loop-turn.invariant _ _ _ c.args.turns 1 0 _ none (search rules) (search rules)
-    (λ h. omega (arith, c.read.ensures.calls, h)) (λ h. omega (arith, c.in-Ok-eq0.ensures.failures, h)) (omega arith) (λ h. absurd (h refl)) (λ closed. counts) (search rules)
+    let last = last_read g.R.Read.remaining c.loop-turn.reader c.read.new.self c.read.new.buffer _
+        c.in-Ok-eq0.field-0-test c.in-Ok-eq0.ensures.bytes.0 c.read.ensures.calls c.in-Ok-eq0.ensures.failures (search rules) in
+    gathers_quiet g.R.Read.remaining _ _ _ _ _ _ c.loop-turn._turn c.loop-turn.invariant _ _ _ c.args.turns 1 0 _
+    last (search rules) (search rules) (omega arith) (search rules)
 
 pub returns-then-is_idle-clause-gathers : goal.returns-then-is_idle-clause-gathers
 returns-then-is_idle-clause-gathers g c =
     let piece = take c.in-Ok.count c.read.new.buffer in
     let room : length piece ≤ 64 = search rules in
     let stays : c.read.new.self.empty ≡ c.loop-turn.reader.empty = search rules in
-    gathers_more g.R.Read.remaining _ _ _ c.loop-turn.reader _ _ c.loop-turn._turn c.loop-turn.invariant _ _ _ piece c.args.turns _ c.in-Ok.ensures.bytes.0 room (search rules) (search rules) c.read.ensures.calls
-    c.in-Ok.ensures.failures stays (λ closed. cc) (omega arith) (λ late. search rules)
+    let brought = one_read g.R.Read.remaining c.loop-turn.reader _ piece c.in-Ok.ensures.bytes.0 room
+    c.read.ensures.calls c.in-Ok.ensures.failures stays in
+    gathers_more g.R.Read.remaining _ _ _ c.loop-turn.reader _ _ c.loop-turn._turn c.loop-turn.invariant _ _ _ piece
+    c.args.turns _
+    brought (search rules) (search rules) refl (omega arith) (λ late. search rules)
 
 pub loop-turn-preserved : goal.loop-turn-preserved
 loop-turn-preserved g c =
     let piece = take c.in-Ok.count c.read.new.buffer in
     let room : length piece ≤ 64 = search rules in
     let stays : c.read.new.self.empty ≡ c.loop-turn.reader.empty = search rules in
+    let brought = one_read g.R.Read.remaining c.loop-turn.reader _ piece c.in-Ok.ensures.bytes.0 room
+    c.read.ensures.calls c.in-Ok.ensures.failures stays in
     let busy : c.hear_marks.new.server.held ≢ [] = search rules in
-    gathered_on g.R.Read.remaining _ _ _ c.loop-turn.reader _ _ c.loop-turn._turn c.loop-turn.invariant _ _ _ piece c.in-Ok.ensures.bytes.0 room (search rules) (search rules)
-    busy (search rules) c.read.ensures.calls c.in-Ok.ensures.failures stays
+    gathered_on g.R.Read.remaining _ _ _ c.loop-turn.reader _ _ c.loop-turn._turn c.loop-turn.invariant _ _ _ piece
+    brought (search rules) (search rules) busy (search rules)

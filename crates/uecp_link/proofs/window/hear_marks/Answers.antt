@@ -21,14 +21,14 @@ pub loop-rest-preserved-in-Acknowledged : goal.loop-rest-preserved-in-Acknowledg
 loop-rest-preserved-in-Acknowledged c =
     let w : HeardWhat = c.hear-heard.result.what in
     let said : (c.in-Acknowledged.counter, c.in-Acknowledged.code) ∷ [] ≡ option_to_list (mark_in w) = sym (ap (λ (w : HeardWhat). option_to_list (mark_in w)) c.in-Acknowledged.is) in
-    hears_on _ c.loop-rest.server c.hear-heard.new.self c.hear-heard.result.used _ c.loop-rest.rest.now c.left-rest.result.now w _ c.loop-rest.marks.items _ c.loop-rest.invariant (search rules) (search rules) (search rules) (search rules)
+    hears_on _ c.loop-rest.server c.hear-heard.new.self c.hear-heard.result.used _ c.loop-rest.rest.now c.rest_of-rest.result.now w _ c.loop-rest.marks.items _ c.loop-rest.invariant (search rules) (search rules) (search rules) (search rules)
     (with_added _ c.loop-rest.marks.items _ _ said (search rules))
 
 pub loop-rest-preserved : goal.loop-rest-preserved
 loop-rest-preserved c =
     let w : HeardWhat = c.hear-heard.result.what in
     let none : [] ≡ option_to_list (mark_in w) = sym (ap (λ (o : Option (ℕ × Code)). option_to_list o) (no_mark w c.in_default.not-Acknowledged)) in
-    hears_on _ c.loop-rest.server c.hear-heard.new.self c.hear-heard.result.used _ c.loop-rest.rest.now c.left-rest.result.now w _ c.loop-rest.marks.items _ c.loop-rest.invariant (search rules) (search rules) (search rules) (search rules)
+    hears_on _ c.loop-rest.server c.hear-heard.new.self c.hear-heard.result.used _ c.loop-rest.rest.now c.rest_of-rest.result.now w _ c.loop-rest.marks.items _ c.loop-rest.invariant (search rules) (search rules) (search rules) (search rules)
     (with_added _ c.loop-rest.marks.items _ _ none (sym (append-nil c.loop-rest.marks.items)))
 
 pub returns-clause-state : goal.returns-clause-state

@@ -1,4 +1,4 @@
-use Rattle.std.proofs.Common.{take, rules}
+use Rattle.std.proofs.Common.{refl, take, rules}
 use Rattle.uecp_link.specs.Window.{window_sent}
 use Rattle.uecp_link.proofs.Windowing.{windows_unread, windows_read}
 use Rattle.uecp_link.proofs.window.send_window.Goals as goal
@@ -7,7 +7,7 @@ pub returns-in-Err-clause-windows : goal.returns-in-Err-clause-windows
 returns-in-Err-clause-windows g c =
     let (below, wrote) = c.in-Err.ensures.err in
     windows_unread g.R.Read.remaining g.W.Write.contents c.args.server.now c.args.reader.now c.args.writer.now c.write_window.new.writer c.args.marks.now.items c.args.turns (take c.in-Err.written (window_sent c.args.server.now)) _ wrote
-    (search rules) (search rules) (λ closed. cc)
+    (search rules) (search rules) refl
 
 pub returns-clause-windows : goal.returns-clause-windows
 returns-clause-windows g c =

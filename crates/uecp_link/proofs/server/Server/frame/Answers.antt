@@ -1,7 +1,7 @@
 use Rattle.std.proofs.Common.{◌∙◌, ap}
 use Rattle.std.specs.Prelude.{slice_get}
 use Rattle.uecp_link.specs.Server.{ServerState, frames_waiting}
-use Rattle.uecp_link.specs.Holding.{frames_among}
+use Rattle.uecp_link.specs.HeldMessages.{frames_among}
 use Rattle.uecp_link.proofs.HeldFields.{frames_are, none_past}
 use Rattle.uecp_link.proofs.server.Server.frame.Goals as goal
 

@@ -3,7 +3,7 @@ use Rattle.std.specs.List.{refill}
 use Rattle.uecp_frame.specs.Findings.{Closed}
 use Rattle.uecp_frame.specs.Lent.{frame_lent}
 use Rattle.uecp_link.specs.Server.{ServerState, waiting, nothing_counted, acknowledges}
-use Rattle.uecp_link.specs.Holding.{held_in, with_mark, left_of, IsHolding}
+use Rattle.uecp_link.specs.HeldMessages.{held_in, with_mark, left_of, IsHolding}
 use Rattle.uecp_link.proofs.HeldFields.{still_holds}
 use Rattle.uecp_link.proofs.Waiting.{acknowledged_waits}
 use Rattle.uecp_link.proofs.Marks.{marked_one}

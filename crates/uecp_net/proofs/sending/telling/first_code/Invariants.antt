@@ -1,6 +1,6 @@
 use Rattle.std.proofs.Common.{◌≡◌, drop}
 use Rattle.uecp_link.specs.Window.{code_under}
-use Rattle.uecp_net.proofs.sending.first_code.Given as goal
+use Rattle.uecp_net.proofs.sending.telling.first_code.Given as goal
 
 -- the first mark is among the rest
 abbrev pub invariant-loop-marked : goal.invariant-loop-marked

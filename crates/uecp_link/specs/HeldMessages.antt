@@ -4,7 +4,7 @@ use Rattle.uecp_frame.specs.Frame.{spelling}
 use Rattle.uecp_link.specs.Counters.{next_counter}
 use Rattle.uecp_link.specs.Frames.{frame_under}
 use Rattle.uecp_link.specs.Server.{Held}
-use Rattle.uecp_link.specs.declared.holding.HeldMessage.{HeldMessage}
+use Rattle.uecp_link.specs.declared.held_message.HeldMessage.{HeldMessage}
 
 -- A held message as a contract sees it: without its frame.
 abbrev pub held_as : HeldMessage → Held

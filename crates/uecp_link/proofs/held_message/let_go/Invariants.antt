@@ -1,6 +1,6 @@
 use Rattle.std.proofs.Common.{◌≡◌, length}
-use Rattle.uecp_link.specs.Holding.{left_of}
-use Rattle.uecp_link.proofs.holding.let_go.Given as goal
+use Rattle.uecp_link.specs.HeldMessages.{left_of}
+use Rattle.uecp_link.proofs.held_message.let_go.Given as goal
 
 -- the same is left of the rest
 abbrev pub invariant-loop-held : goal.invariant-loop-held

@@ -1,6 +1,6 @@
 use Rattle.std.proofs.Common.{◌≡◌, ◌++◌, map, take, drop}
-use Rattle.uecp_link.specs.Holding.{with_mark}
-use Rattle.uecp_link.proofs.holding.mark.Given as goal
+use Rattle.uecp_link.specs.HeldMessages.{with_mark}
+use Rattle.uecp_link.proofs.held_message.mark.Given as goal
 
 -- what is done, and what is left to do
 abbrev pub invariant-loop-message : goal.invariant-loop-message

@@ -1,7 +1,7 @@
 use Rattle.std.proofs.Common.{◌≡◌, drop}
 use Rattle.uecp_link.specs.Server.{waiting_among, waits_for}
-use Rattle.uecp_link.specs.Holding.{held_in}
-use Rattle.uecp_link.proofs.holding.is_waiting.Given as goal
+use Rattle.uecp_link.specs.HeldMessages.{held_in}
+use Rattle.uecp_link.proofs.held_message.is_waiting.Given as goal
 
 -- the rest decides
 abbrev pub invariant-loop-message : goal.invariant-loop-message

@@ -2,10 +2,13 @@
 ghost use Rattle.std.specs.Prelude.{◌≡◌, ◌≤◌, IfSome, length, map, slice_get};
 ghost use Rattle.std.specs.Option.{option_copied};
 ghost use Rattle.uecp_link.specs.Server.{waiting_among, waits_for};
-ghost use Rattle.uecp_link.specs.Holding.{held_in, frames_among, with_mark, oldest_marked, left_of};
+ghost use Rattle.uecp_link.specs.HeldMessages.{held_in, frames_among, with_mark, oldest_marked, left_of};
 
 use arrayvec::ArrayVec;
 use uecp_frame::{FrameBytes, Message};
+
+/// How many messages a server holds at most: so many may be on their way at a time.
+pub const WINDOW_MAX: usize = 8;
 
 /// A message that was submitted. It is held until its reply has come, and those of all older ones.
 #[derive(Drop)]
@@ -115,7 +118,7 @@ fn is_oldest_marked(held: &[HeldMessage]) -> bool
 }
 
 /// Lets the marked messages go, from the oldest up to the first that waits.
-pub(crate) fn let_go(held: &mut ArrayVec<HeldMessage, 8>)
+pub(crate) fn let_go(held: &mut ArrayVec<HeldMessage, WINDOW_MAX>)
     ensures { held.new.items ≡ left_of held.old.items }
 {
     while is_oldest_marked(held.as_slice()) {

@@ -1,6 +1,6 @@
 use Rattle.std.proofs.Common.{◌≡◌, map, take, Some}
 use Rattle.uecp_link.specs.Window.{code_under}
-use Rattle.uecp_net.proofs.sending.codes_of.Given as goal
+use Rattle.uecp_net.proofs.sending.telling.codes_of.Given as goal
 
 -- the codes so far are those of the counters so far
 abbrev pub invariant-loop-counter : goal.invariant-loop-counter

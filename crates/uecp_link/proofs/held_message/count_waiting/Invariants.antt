@@ -1,7 +1,7 @@
 use Rattle.std.proofs.Common.{◌≡◌, ◌+◌, ◌≤◌, length, drop}
 use Rattle.uecp_link.specs.Server.{waiting_among}
-use Rattle.uecp_link.specs.Holding.{held_in}
-use Rattle.uecp_link.proofs.holding.count_waiting.Given as goal
+use Rattle.uecp_link.specs.HeldMessages.{held_in}
+use Rattle.uecp_link.proofs.held_message.count_waiting.Given as goal
 
 -- what is counted, and what waits among the rest
 abbrev pub invariant-loop-message : goal.invariant-loop-message

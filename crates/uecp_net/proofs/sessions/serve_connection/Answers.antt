@@ -1,6 +1,6 @@
 use Rattle.std.proofs.Common.{rules}
 use Rattle.uecp_net.proofs.Served.{session_of}
-use Rattle.uecp_net.proofs.serving.serve_connection.Goals as goal
+use Rattle.uecp_net.proofs.sessions.serve_connection.Goals as goal
 
 pub returns-clause-served : goal.returns-clause-served
 returns-clause-served g c =

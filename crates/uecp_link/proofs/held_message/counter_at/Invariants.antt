@@ -1,8 +1,8 @@
 use Rattle.std.proofs.Common.{◌≡◌, map, drop}
 use Rattle.std.specs.Prelude.{slice_get}
 use Rattle.uecp_link.specs.Server.{waiting_among}
-use Rattle.uecp_link.specs.Holding.{held_in}
-use Rattle.uecp_link.proofs.holding.counter_at.Given as goal
+use Rattle.uecp_link.specs.HeldMessages.{held_in}
+use Rattle.uecp_link.proofs.held_message.counter_at.Given as goal
 
 -- the counter is that far among the rest
 abbrev pub invariant-loop-message : goal.invariant-loop-message

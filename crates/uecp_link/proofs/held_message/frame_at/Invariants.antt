@@ -1,7 +1,7 @@
 use Rattle.std.proofs.Common.{◌≡◌, drop}
 use Rattle.std.specs.Prelude.{slice_get}
-use Rattle.uecp_link.specs.Holding.{frames_among}
-use Rattle.uecp_link.proofs.holding.frame_at.Given as goal
+use Rattle.uecp_link.specs.HeldMessages.{frames_among}
+use Rattle.uecp_link.proofs.held_message.frame_at.Given as goal
 
 -- the frame is that far among the rest
 abbrev pub invariant-loop-message : goal.invariant-loop-message
