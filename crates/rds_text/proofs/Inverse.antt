@@ -1,7 +1,12 @@
 -- No byte from FF on stands for a character, and no character stands twice.
 use Rattle.std.proofs.Common.{◌≡◌, ℕ, ◌+◌, ◌-◌, ◌<◌, ◌≤◌, ◌==◌, ◌⊎◌, List, ◌++◌, length, map}
 use Rattle.std.proofs.Common.{Option, Some, None, refl, sym, ap, subst, ◌∙◌, inl, inr, arith, get_or}
-use Rattle.std.specs.List.{range_with_len, position}
+use Rattle.std.specs.List.{range_with_len, position, list_all}
+use Rattle.std.specs.Prelude.{nat_lt, true}
+use Rattle.std.proofs.lemmas.List.Quantifiers.{position-Some}
+use Rattle.std.proofs.lemmas.List.Elements.{All-get_or}
+use Rattle.std.proofs.lemmas.List.Sums.{AllPass-from_list_all}
+use Rattle.std.proofs.lemmas.Bool.{eqb-true, ltb-true}
 use Rattle.std.specs.Option.{option_map_or}
 use Rattle.std.proofs.lemmas.Option.{slice_get_past}
 use Rattle.std.proofs.lemmas.List.FromFn.{get_or-map-range_with_len}
@@ -79,7 +84,8 @@ in_list all from count byte i same within at =
 at_first : (byte character : ℕ) → character_of byte ≡ Some character → place_in numbers character ≡ Some byte
 at_first byte character is =
     let number : number_of byte ≡ character = ap (λ (o : Option ℕ). option_map_or (λ (c : ℕ). c) o 0) is in
-    subst (λ n. place_in numbers n ≡ Some byte) number (first (cases_lt byte 0x20) (cases_lt byte 0x50) (cases_lt byte 0x7F)
+    subst (λ n. place_in numbers n ≡ Some byte) number
+    (first (cases_lt byte 0x20) (cases_lt byte 0x50) (cases_lt byte 0x7F)
     (cases_lt byte 0x80) (cases_lt byte 0xA0) (cases_lt byte 0xC0) (cases_lt byte 0xE0) (cases_lt byte 0xFF))
   where
     no : character_of byte ≡ None → ⊥
@@ -102,6 +108,21 @@ at_first byte character is =
     first _ _ _ _ _ (inr a) (inl b) _ = found 0xC0 0x20 from_c0 a (omega arith)
     first _ _ _ _ _ _ (inr a) (inl b) = found 0xE0 0x1F from_e0 a (omega arith)
     first _ _ _ _ _ _ _ (inr past) = absurd (no (none_from_ff byte past))
+
+-- Each character's number is below this.
+small_numbers : list_all (λ c. nat_lt c 0xD800) numbers ≡ true
+unfolding character_of upper
+small_numbers = refl
+
+-- A character of the set is no surrogate and none beyond Unicode.
+pub small : (byte character : ℕ) → character_of byte ≡ Some character → character < 0xD800
+small byte character is =
+    let found = position-Some (λ c. c == character) numbers byte 0 (at_first byte character is) in
+    let here : get_or numbers byte 0 ≡ character = eqb-true _ _ found.1 in
+    let below : nat_lt (get_or numbers byte 0) 0xD800 ≡ true =
+    All-get_or (λ c. nat_lt c 0xD800 ≡ true) numbers byte 0 found.0
+    (AllPass-from_list_all (λ c. nat_lt c 0xD800) numbers small_numbers) in
+    subst (λ c. c < 0xD800) here (ltb-true _ _ below)
 
 pub one_byte : (a b character : ℕ) → character_of a ≡ Some character → character_of b ≡ Some character → a ≡ b
 one_byte a b character is_a is_b =

@@ -1,2 +1,4 @@
 pub mod Inverse
 pub mod Names
+pub mod Spelled
+pub mod ReadBack

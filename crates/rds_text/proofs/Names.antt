@@ -45,7 +45,8 @@ north_american : places NorthAmerica (keys NorthAmerica) (range_with_len 0 27) �
 unfolding keys name_of names
 north_american = refl
 
-north_american_last : places NorthAmerica (keys NorthAmerica) (range_with_len 29 3) ≡ map (λ n. Some n) (range_with_len 29 3)
+north_american_last : places NorthAmerica (keys NorthAmerica) (range_with_len 29 3)
+    ≡ map (λ n. Some n) (range_with_len 29 3)
 unfolding keys name_of names
 north_american_last = refl
 
@@ -96,7 +97,8 @@ at_first region number name is =
 
 pub named_once : (region : Region) (a b : ℕ) (text : List ℕ) → HasName region a text → HasName region b text → a ≡ b
 named_once region a b text has_a has_b =
-    let key : (n : ℕ) (name : List ℕ) → name_of region n ≡ Some name → map to_ascii_lowercase name ≡ map to_ascii_lowercase text
+    let key : (n : ℕ) (name : List ℕ) → name_of region n ≡ Some name
+    → map to_ascii_lowercase name ≡ map to_ascii_lowercase text
     → key_at region n ≡ key_of text =
     λ n name is same. ap (λ (o : Option (List ℕ)). option_map_or key_of o 0) is
     ∙ ap (λ (l : List ℕ). fold (λ s c. s * 256 + c) 0 l) same in

@@ -1,5 +1,5 @@
--- The basic character set of RDS: which character each byte of a name or of a RadioText stands for. Characters are their
--- Unicode numbers. Source: IEC 62106, basic character set.
+-- The basic character set of RDS: which character each byte of a name or of a RadioText stands for. Characters are
+-- their Unicode numbers. Source: IEC 62106, basic character set.
 use Rattle.std.specs.Prelude.{◌≡◌, ℕ, ◌-◌, ◌==◌, ◌&&◌, nat_le, List, [], ◌∷◌, ◌++◌, Option, Some, None}
 use Rattle.std.specs.Prelude.{if◌then◌else◌, slice_get}
 

@@ -1,2 +1,3 @@
 pub mod BasicSet
 pub mod ProgrammeTypes
+pub mod Quoted

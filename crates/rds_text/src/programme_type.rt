@@ -12,8 +12,8 @@ pub enum Region {
     NorthAmerica,
 }
 
-/// The name of a programme type, at most sixteen characters of ASCII, or None where it has none: from 32 on, and 27 and 28
-/// in North America.
+/// The name of a programme type, at most sixteen characters of ASCII, or None where it has none: from 32 on, and 27 and
+/// 28 in North America.
 ///
 /// ```
 /// name_of(Region::Europe, 10); // Some("Pop Music")

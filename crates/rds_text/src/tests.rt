@@ -98,3 +98,20 @@ fn names_of_programme_types(rt: HostRuntime) -> Result<(), Fail> {
     assert_eq!(rt; number_of(Region::Europe, ""), None);
     Ok(())
 }
+
+#[test]
+fn bytes_as_they_are_written_between_quotes(rt: HostRuntime) {
+    assert_eq!(rt; written(0x82).as_slice(), ['é'].as_slice());
+    assert_eq!(rt; written(0x22).as_slice(), ['\\', '"'].as_slice());
+    assert_eq!(rt; written(0x0d).as_slice(), ['\\', 'x', '0', 'D'].as_slice());
+    assert_eq!(rt; first_byte(&['\\', 'x', '0', 'd', 'A']), Ok((0x0d, 4)));
+    assert_eq!(rt; first_byte(&['\\', 'u', '0', '0', 'E', '9']), Ok((0x82, 6)));
+    assert_eq!(rt; first_byte(&['\\', '\\']), Ok((0x5c, 2)));
+    assert_eq!(rt; first_byte(&['é', 'A']), Ok((0x82, 1)));
+    assert_eq!(rt; first_byte(&['\\', 'x', '0']), Err(QuotedFault::Escape));
+    assert_eq!(rt;
+        first_byte(&['\\', 'u', 'D', '8', '0', '0']),
+        Err(QuotedFault::Escape)
+    );
+    assert_eq!(rt; first_byte(&['^']), Err(QuotedFault::NotInSet));
+}

@@ -7,7 +7,8 @@ use Rattle.rds_text.proofs.basic_set.upper_at.Goals as goal
 pub returns-then-place : goal.returns-then-place
 unfolding upper
 returns-then-place c =
-    sym (slice_get-get_or upper c.args.place c.index-place-place.result c.if-place.true ∙ ap (λ x. Some x) (sym c.index-place-place.is))
+    sym (slice_get-get_or upper c.args.place c.index-place-place.result c.if-place.true
+    ∙ ap (λ x. Some x) (sym c.index-place-place.is))
 
 pub returns-else-place : goal.returns-else-place
 unfolding upper
