@@ -1,5 +1,5 @@
 -- The command line that the program takes, and what it asks for (profile).
-use Rattle.std.specs.Prelude.{◌≡◌, ◌⊎◌, ℕ, ◌≤◌, ◌==◌, Bool, true, false, List, [], ◌∷◌, ◌++◌, codes, map, Option, Some, None, Ok, is_none, unwrap_or, pos}
+use Rattle.std.specs.Prelude.{◌≡◌, ◌⊎◌, ℕ, ◌≤◌, ◌==◌, Bool, true, false, List, [], ◌∷◌, ◌++◌, codes, map, Option, Some, None, Ok, is_none, option_map, unwrap_or, pos}
 use Rattle.std.specs.List.{slice_split}
 use Rattle.std.specs.String.{string_bytes}
 use Rattle.std.specs.Str.Parse.{IsNumeral, without_leading_plus, digits_value}
@@ -13,6 +13,7 @@ use Rattle.clap.specs.declared.builder.action.ArgAction.TheVariants.{Set, SetTru
 use Rattle.clap.specs.declared.builder.value_parser.ValueParser.TheVariants.{Signed}
 use Rattle.uecp_jobs.specs.declared.job.Job.{Job}
 use Rattle.uecp_jobs.specs.declared.job.Job.TheVariants.{Answer, Show, Make, Line, Encoder, Server}
+use Rattle.uecp_cli.specs.declared.numbers.NumberOption.{NumberOption}
 use Rattle.uecp_cli.specs.declared.usage.Usage.{Usage}
 use Rattle.uecp_cli.specs.declared.usage.Usage.TheVariants.{Refused, NotAList, OutOfMemory}
 
@@ -117,6 +118,10 @@ word_option name default =
 -- An option with a number from the least to the greatest. One without a default has to be given.
 abbrev pub number_option : (name : List ℕ) → (least greatest : ℕ) → (default : Option (List ℕ)) → Rule
 number_option name least greatest default = record (word_option name default) { parser = Some (Signed (pos least) (pos greatest)) }
+
+-- The option of a table's row.
+abbrev pub rule_for : NumberOption → Rule
+rule_for option = number_option option.name.now option.least option.most (option_map (λ text. text.now) option.default)
 
 -- The option with the list of services, 01 where it is not given.
 abbrev pub services_option : Rule

@@ -6,11 +6,12 @@ ghost use Rattle.clap.specs.Simple.{new_shape};
 ghost use Rattle.uecp_cli.specs.Ranges.{IsInRange};
 ghost use Rattle.uecp_cli.specs.CommandLine.{Asks, RefusesWords, command_with, place_options, encoder_options, store_command, listening_command, sending_command, uecp_app};
 
-use crate::arguments::{
-    connections, encoder, host, join, port, reconnects, serve_turns, services, sets, site, store,
-    timeout, tries, try_turns, window,
-};
+use crate::arguments::{host, join, number, services, store};
 use crate::matched::{answer_of, encoder_of, line_of, server_of};
+use crate::numbers::{
+    CONNECTIONS, ENCODER, PORT, RECONNECTS, SERVE_TURNS, SETS, SITE, TIMEOUT, TRIES, TRY_TURNS,
+    WINDOW,
+};
 use crate::usage::Usage;
 use clap::Command;
 use std::alloc::{AllocError, Global};
@@ -111,9 +112,9 @@ fn encoder_command<'a>(alloc: Global) -> Result<Command<'a>, AllocError>
             "Standard input is not read.\nExample: uecp encoder --port 4001 --connections 2 --services 01,02",
         );
     with_encoder(alloc, command)?
-        .arg(port(alloc))?
-        .arg(connections(alloc))?
-        .arg(serve_turns(alloc))
+        .arg(number(alloc, &PORT))?
+        .arg(number(alloc, &CONNECTIONS))?
+        .arg(number(alloc, &SERVE_TURNS))
 }
 
 fn server_command<'a>(alloc: Global) -> Result<Command<'a>, AllocError>
@@ -128,12 +129,12 @@ fn server_command<'a>(alloc: Global) -> Result<Command<'a>, AllocError>
         );
     with_place(alloc, command)?
         .arg(host(alloc))?
-        .arg(port(alloc))?
-        .arg(tries(alloc))?
-        .arg(timeout(alloc))?
-        .arg(try_turns(alloc))?
-        .arg(reconnects(alloc))?
-        .arg(window(alloc))?
+        .arg(number(alloc, &PORT))?
+        .arg(number(alloc, &TRIES))?
+        .arg(number(alloc, &TIMEOUT))?
+        .arg(number(alloc, &TRY_TURNS))?
+        .arg(number(alloc, &RECONNECTS))?
+        .arg(number(alloc, &WINDOW))?
         .arg(join(alloc))
 }
 
@@ -149,7 +150,7 @@ fn with_encoder<'a>(alloc: Global, command: Command<'a>) -> Result<Command<'a>, 
     ensures { (name : List ℕ) → shape_of command.entry ≡ new_shape name → IfOk result (λ whole. shape_of whole ≡ command_with name encoder_options) }
 {
     with_place(alloc, command)?
-        .arg(sets(alloc))?
+        .arg(number(alloc, &SETS))?
         .arg(services(alloc))
 }
 
@@ -157,5 +158,7 @@ fn with_encoder<'a>(alloc: Global, command: Command<'a>) -> Result<Command<'a>, 
 fn with_place<'a>(alloc: Global, command: Command<'a>) -> Result<Command<'a>, AllocError>
     ensures { (name : List ℕ) → shape_of command.entry ≡ new_shape name → IfOk result (λ whole. shape_of whole ≡ command_with name place_options) }
 {
-    command.arg(site(alloc))?.arg(encoder(alloc))
+    command
+        .arg(number(alloc, &SITE))?
+        .arg(number(alloc, &ENCODER))
 }

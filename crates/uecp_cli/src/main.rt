@@ -13,6 +13,7 @@
 mod arguments;
 mod command_line;
 mod matched;
+mod numbers;
 mod program;
 mod services;
 mod unreached;

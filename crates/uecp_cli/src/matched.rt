@@ -2,46 +2,46 @@
 ghost use Rattle.std.specs.Prelude.{◌≡◌, ◌≤◌, codes, IfOk, IfErr};
 ghost use Rattle.std.specs.String.{string_bytes};
 ghost use Rattle.clap.specs.Words.{found_of, one_of, rows_of};
-ghost use Rattle.uecp_cli.specs.CommandLine.{IsOption, IsPort, IsList, IsJobOf, RefusesList, services_text, host_text};
+ghost use Rattle.uecp_cli.specs.CommandLine.{IsOption, IsList, IsJobOf, RefusesList, services_text, host_text};
 ghost use Rattle.uecp_cli.specs.declared.usage.Usage.TheVariants.{OutOfMemory};
 
+use crate::numbers::{
+    CONNECTIONS, ENCODER, NumberOption, PORT, RECONNECTS, SERVE_TURNS, SETS, SITE, TIMEOUT, TRIES,
+    TRY_TURNS, WINDOW,
+};
 use crate::services::services_of;
 use crate::usage::Usage;
 use clap::ArgMatches;
 use std::alloc::{AllocError, Global};
 use uecp_jobs::Job;
 
-/// The encoder's site, 1 to 1023.
-fn site_of(found: &ArgMatches<'_>) -> u16
-    ensures { IsOption (one_of (codes "site") (rows_of (found_of found.now))) 1 1023 result }
-{
-    found.get_one::<u16>("site").unwrap_or(1).clamp(1, 1023)
-}
-
-/// The encoder's port, 1 to 65535.
-fn port_of(found: &ArgMatches<'_>) -> u16
-    ensures { IsPort (rows_of (found_of found.now)) result }
-{
-    found.get_one::<u16>("port").unwrap_or(1).max(1)
-}
-
-/// The value of an option that is a number from 1 to `most`.
-fn small_of(found: &ArgMatches<'_>, name: &str, most: u8) -> u8
-    requires { 1 ≤ most }
-    ensures { IsOption (one_of name.now (rows_of (found_of found.now))) 1 most result }
-{
-    found.get_one::<u8>(name).unwrap_or(1).clamp(1, most)
-}
-
-/// The value of an option that is a number from `least` to `most`.
-fn large_of(found: &ArgMatches<'_>, name: &str, least: u32, most: u32) -> u32
-    requires { least ≤ most }
-    ensures { IsOption (one_of name.now (rows_of (found_of found.now))) least most result }
+/// The number of an option.
+fn number_of(found: &ArgMatches<'_>, option: &NumberOption) -> u32
+    requires { option.now.least ≤ option.now.most }
+    ensures { IsOption (one_of option.now.name.now (rows_of (found_of found.now))) option.now.least option.now.most result }
 {
     found
-        .get_one::<u32>(name)
-        .unwrap_or(least)
-        .clamp(least, most)
+        .get_one::<u32>(option.name)
+        .unwrap_or(option.least)
+        .clamp(option.least, option.most)
+}
+
+/// The number of an option that is 65535 at most.
+fn short_of(found: &ArgMatches<'_>, option: &NumberOption) -> u16
+    requires range { option.now.least ≤ option.now.most }
+    requires short { option.now.most ≤ 65535 }
+    ensures { IsOption (one_of option.now.name.now (rows_of (found_of found.now))) option.now.least option.now.most result }
+{
+    number_of(found, option) as u16
+}
+
+/// The number of an option that is 255 at most.
+fn small_of(found: &ArgMatches<'_>, option: &NumberOption) -> u8
+    requires range { option.now.least ≤ option.now.most }
+    requires small { option.now.most ≤ 255 }
+    ensures { IsOption (one_of option.now.name.now (rows_of (found_of found.now))) option.now.least option.now.most result }
+{
+    number_of(found, option) as u8
 }
 
 /// The numbers of the services, `01` where they are not given.
@@ -65,9 +65,9 @@ pub fn answer_of(alloc: Global, found: &ArgMatches<'_>) -> Result<Job, Usage>
     ensures refused { IfErr result (RefusesList (services_text (rows_of (found_of found.now)))) }
 {
     Ok(Job::Answer {
-        site: site_of(found),
-        encoder: small_of(found, "encoder", 63),
-        sets: small_of(found, "sets", 8),
+        site: short_of(found, &SITE),
+        encoder: small_of(found, &ENCODER),
+        sets: small_of(found, &SETS),
         services: list_of(alloc, found)?,
         store: found.get_flag("store"),
     })
@@ -79,9 +79,9 @@ pub fn line_of(alloc: Global, found: &ArgMatches<'_>) -> Result<Job, Usage>
     ensures refused { IfErr result (RefusesList (services_text (rows_of (found_of found.now)))) }
 {
     Ok(Job::Line {
-        site: site_of(found),
-        encoder: small_of(found, "encoder", 63),
-        sets: small_of(found, "sets", 8),
+        site: short_of(found, &SITE),
+        encoder: small_of(found, &ENCODER),
+        sets: small_of(found, &SETS),
         services: list_of(alloc, found)?,
         store: found.get_flag("store"),
     })
@@ -93,13 +93,13 @@ pub fn encoder_of(alloc: Global, found: &ArgMatches<'_>) -> Result<Job, Usage>
     ensures refused { IfErr result (RefusesList (services_text (rows_of (found_of found.now)))) }
 {
     Ok(Job::Encoder {
-        site: site_of(found),
-        encoder: small_of(found, "encoder", 63),
-        sets: small_of(found, "sets", 8),
+        site: short_of(found, &SITE),
+        encoder: small_of(found, &ENCODER),
+        sets: small_of(found, &SETS),
         services: list_of(alloc, found)?,
-        port: port_of(found),
-        connections: large_of(found, "connections", 1, 1000),
-        turns: large_of(found, "turns", 1, 1_000_000),
+        port: short_of(found, &PORT),
+        connections: number_of(found, &CONNECTIONS),
+        turns: number_of(found, &SERVE_TURNS),
     })
 }
 
@@ -109,15 +109,15 @@ pub fn server_of(alloc: Global, found: &ArgMatches<'_>) -> Result<Job, Usage>
     ensures refused { IfErr result (λ why. why ≡ OutOfMemory) }
 {
     Ok(Job::Server {
-        site: site_of(found),
-        encoder: small_of(found, "encoder", 63),
+        site: short_of(found, &SITE),
+        encoder: small_of(found, &ENCODER),
         host: host_of(alloc, found)?,
-        port: port_of(found),
-        tries: large_of(found, "tries", 1, 100),
-        timeout: large_of(found, "timeout", 1, 60_000),
-        turns: large_of(found, "turns", 1, 1000),
-        reconnects: large_of(found, "reconnects", 0, 100),
-        window: small_of(found, "window", 8),
+        port: short_of(found, &PORT),
+        tries: number_of(found, &TRIES),
+        timeout: number_of(found, &TIMEOUT),
+        turns: number_of(found, &TRY_TURNS),
+        reconnects: number_of(found, &RECONNECTS),
+        window: small_of(found, &WINDOW),
         join: found.get_flag("join"),
     })
 }

@@ -130,7 +130,7 @@ pub fn refuse<W: Write, E: Write>(usage: &Usage, writer: &mut W, errors: &mut E)
             Ok(()) => 0,
             Err(fault) => fail(&fault, errors),
         },
-        Usage::NotAList => fail(&RunFault::Services("NotAList"), errors),
+        Usage::NotAList => fail(&RunFault::NotAList, errors),
         Usage::OutOfMemory => fail(&RunFault::OutOfMemory, errors),
     }
 }

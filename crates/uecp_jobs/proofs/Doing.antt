@@ -20,7 +20,7 @@ use Rattle.uecp_jobs.specs.Commands.{Shows, Answers}
 use Rattle.uecp_jobs.specs.FrameScript.{Makes, spelled_line}
 use Rattle.uecp_jobs.specs.Playing.{Plays, closing_lines}
 use Rattle.uecp_jobs.specs.Setups.{Options, RefusesSetup, encoder_at_first, line_at_first}
-use Rattle.uecp_jobs.specs.Jobs.{options, IsLocal, ByCommand, JobPrints, JobBreaks, RefusesJob, DoesJob, Wrote}
+use Rattle.uecp_jobs.specs.Jobs.{options, Describes, IsLocal, ByCommand, JobPrints, JobBreaks, RefusesJob, DoesJob, Wrote}
 use Rattle.uecp_jobs.proofs.Parts.{whole_part}
 
 -- what is told of a meaning, a value, and closing lines
@@ -34,6 +34,15 @@ does_by job meaning v closing unread unread' held held' result ran by = elim ran
   | inl (fault, is, breaks) ↦ inl (fault, is, by (λ V meaning start closing. Breaks meaning start closing unread unread' held held' fault) breaks)
   | inr (input, written, is_input, prints, appends) ↦ inr (input, written, is_input, by (λ V meaning start closing. Prints meaning start closing input result written) prints, appends)
 ]
+
+-- ---- a job whose encoder was refused
+pub setup_refused : (job : Job) (o : Options) (fault : RunFault) → Describes job o → RefusesSetup o fault → RefusesJob job fault
+setup_refused Show o fault is refused = absurd is
+setup_refused Make o fault is refused = absurd is
+setup_refused (Answer site encoder sets services store) o fault is refused = subst (λ o. RefusesSetup o fault) is refused
+setup_refused (Line site encoder sets services store) o fault is refused = subst (λ o. RefusesSetup o fault) is refused
+setup_refused (Encoder site encoder sets services port connections turns) o fault is refused = subst (λ o. RefusesSetup o fault) is refused
+setup_refused (Server site encoder host port tries timeout turns reconnects window join) o fault is refused = absurd is
 
 -- ---- each command
 pub showed : (s : Showing) (unread unread' held held' : Option (List ℕ)) (result : Result (Unit {0}) RunFault) → s.deframer ≡ Closed →
@@ -84,8 +93,9 @@ not_failed run.TooLong status f is = sym is
 not_failed run.Reading status f is = sym is
 not_failed run.Writing status f is = sym is
 not_failed run.OutOfMemory status f is = sym is
-not_failed (run.Line number refusal) status f is = absurd f
-not_failed (run.Services name) status f is = absurd f
+not_failed (run.Text number refusal) status f is = absurd f
+not_failed (run.Services refusal) status f is = absurd f
+not_failed run.NotAList status f is = absurd f
 not_failed run.Address status f is = absurd f
 not_failed run.Listening status f is = absurd f
 not_failed run.Connection status f is = absurd f
@@ -127,7 +137,7 @@ stop_status meaning v v' [] lines fault (lines_are, stop, same) is = let none : 
 stop_status meaning v v' ((number, text) ∷ texts) lines fault ran is = elim ran [
   | inl taken ↦ stop_status meaning taken.2 v' texts taken.1 fault taken.5 is
   | inr (inl (refusal, refused, none, stop)) ↦
-      let same : fault ≡ run.Line number refusal = let e : Some fault ≡ Some (run.Line number refusal) = stop in cc in
+      let same : fault ≡ run.Text number refusal = let e : Some fault ≡ Some (run.Text number refusal) = stop in cc in
       let two : 1 ≡ 2 = sym (ap status_of same) ∙ is in omega (arith, two)
   | inr (inr (ended, stop)) ↦
       let same : fault ≡ run.Outstanding = let e : Some fault ≡ Some run.Outstanding = stop in cc in
@@ -149,7 +159,7 @@ no_end meaning never v v' [] lines fault (lines_are, stop, same) is = let none :
 no_end meaning never v v' ((number, text) ∷ texts) lines fault ran is = elim ran [
   | inl taken ↦ no_end meaning never taken.2 v' texts taken.1 fault taken.5 is
   | inr (inl (refusal, refused, none, stop)) ↦
-      let same : fault ≡ run.Line number refusal = let e : Some fault ≡ Some (run.Line number refusal) = stop in cc in
+      let same : fault ≡ run.Text number refusal = let e : Some fault ≡ Some (run.Text number refusal) = stop in cc in
       let two : 1 ≡ 3 = sym (ap status_of same) ∙ is in omega (arith, two)
   | inr (inr (ended, stop)) ↦ never v text lines v' ended
 ]
@@ -165,10 +175,10 @@ local_status (Encoder site encoder sets services port connections turns) local i
 -- a refusal of status 3 is want of memory
 pub setup_wants : (o : Options) (fault : RunFault) → RefusesSetup o fault → status_of fault ≡ 3 → fault ≡ run.OutOfMemory
 setup_wants o fault (inl (store.OutOfMemory, refused, says)) is = says
-setup_wants o fault (inl (store.SetCount, refused, says)) is = absurd (let two : 2 ≡ 3 = sym (ap status_of says.1) ∙ is in omega (arith, two))
-setup_wants o fault (inl (store.ServiceCount, refused, says)) is = absurd (let two : 2 ≡ 3 = sym (ap status_of says.1) ∙ is in omega (arith, two))
-setup_wants o fault (inl (store.ServiceZero, refused, says)) is = absurd (let two : 2 ≡ 3 = sym (ap status_of says.1) ∙ is in omega (arith, two))
-setup_wants o fault (inl (store.ServiceTwice, refused, says)) is = absurd (let two : 2 ≡ 3 = sym (ap status_of says.1) ∙ is in omega (arith, two))
+setup_wants o fault (inl (store.SetCount, refused, says)) is = absurd (let two : 2 ≡ 3 = sym (ap status_of says) ∙ is in omega (arith, two))
+setup_wants o fault (inl (store.ServiceCount, refused, says)) is = absurd (let two : 2 ≡ 3 = sym (ap status_of says) ∙ is in omega (arith, two))
+setup_wants o fault (inl (store.ServiceZero, refused, says)) is = absurd (let two : 2 ≡ 3 = sym (ap status_of says) ∙ is in omega (arith, two))
+setup_wants o fault (inl (store.ServiceTwice, refused, says)) is = absurd (let two : 2 ≡ 3 = sym (ap status_of says) ∙ is in omega (arith, two))
 setup_wants o fault (inr (address, none, apart)) is = absurd (let two : 2 ≡ 3 = sym (ap status_of address) ∙ is in omega (arith, two))
 
 job_wants : (job : Job) → IsLocal job → (fault : RunFault) → RefusesJob job fault → status_of fault ≡ 3 → fault ≡ run.OutOfMemory
@@ -187,10 +197,10 @@ wants_first job local unread unread' held held' unmoved unwritten =
 
 says_status : (o : Options) (fault : RunFault) → RefusesSetup o fault → status_of fault ≡ 1 → ⊥
 says_status o fault (inl (store.OutOfMemory, refused, says)) is = let two : 3 ≡ 1 = sym (ap status_of says) ∙ is in omega (arith, two)
-says_status o fault (inl (store.SetCount, refused, says)) is = let two : 2 ≡ 1 = sym (ap status_of says.1) ∙ is in omega (arith, two)
-says_status o fault (inl (store.ServiceCount, refused, says)) is = let two : 2 ≡ 1 = sym (ap status_of says.1) ∙ is in omega (arith, two)
-says_status o fault (inl (store.ServiceZero, refused, says)) is = let two : 2 ≡ 1 = sym (ap status_of says.1) ∙ is in omega (arith, two)
-says_status o fault (inl (store.ServiceTwice, refused, says)) is = let two : 2 ≡ 1 = sym (ap status_of says.1) ∙ is in omega (arith, two)
+says_status o fault (inl (store.SetCount, refused, says)) is = let two : 2 ≡ 1 = sym (ap status_of says) ∙ is in omega (arith, two)
+says_status o fault (inl (store.ServiceCount, refused, says)) is = let two : 2 ≡ 1 = sym (ap status_of says) ∙ is in omega (arith, two)
+says_status o fault (inl (store.ServiceZero, refused, says)) is = let two : 2 ≡ 1 = sym (ap status_of says) ∙ is in omega (arith, two)
+says_status o fault (inl (store.ServiceTwice, refused, says)) is = let two : 2 ≡ 1 = sym (ap status_of says) ∙ is in omega (arith, two)
 says_status o fault (inr (address, none, apart)) is = let two : 2 ≡ 1 = sym (ap status_of address) ∙ is in omega (arith, two)
 
 pub job_status : (job : Job) (fault : RunFault) → RefusesJob job fault → status_of fault ≡ 1 → ⊥

@@ -88,7 +88,8 @@ module _ {C I O : Type 0} (opens : C → Option (I × O) → C → Type 0) (clos
   some_by (outcomes, count, sessions, begins) = (outcomes, e', count, subst (λ first. Sessions step opens closes remaining contents turns first c outcomes e' c') at_first sessions, begins)
 
 pub few_statuses : (fault : RunFault) (status : ℕ) → status ≡ status_of fault → status ≤ 3
-few_statuses (run.Line number refusal) status is = omega arith
-few_statuses (run.Services name) status is = omega arith
+few_statuses (run.Text number refusal) status is = omega arith
+few_statuses (run.Services refusal) status is = omega arith
+few_statuses run.NotAList status is = omega arith
 few_statuses run.Address status is = omega arith
 few_statuses fault status is = omega arith

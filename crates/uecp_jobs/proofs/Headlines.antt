@@ -13,7 +13,7 @@ use Rattle.uecp_link.specs.Holds.{Plays as PlaysSteps}
 use Rattle.uecp_link.proofs.Opening.{holds_from, new_holds}
 use Rattle.uecp_link.proofs.Played.{headline, headline_from}
 use Rattle.uecp_text.specs.declared.run_fault.RunFault.{RunFault}
-use Rattle.uecp_text.specs.declared.run_fault.RunFault.TheVariants as LineFaults
+use Rattle.uecp_text.specs.declared.run_fault.RunFault.TheVariants as RunFaults
 use Rattle.uecp_text.specs.Words.{words}
 use Rattle.uecp_text.specs.Run.{Brings, Runs}
 use Rattle.uecp_words.specs.EventWords.{Names}
@@ -124,7 +124,7 @@ script_played line line' o ((number, text) ∷ texts) lines stop holds ran = eli
           | inr since ↦ inr (one_before line next line' number text first texts stop (inr again) since)
         ]
   ]
-  | inr (inl refused) ↦ inl (record { events = []; outcomes = []; last = o; named = (λ h. let some : None ≡ Some (LineFaults.Line number refused.0) = sym h ∙ refused.3 in cc); plays = (refused.1.3, refl) })
+  | inr (inl refused) ↦ inl (record { events = []; outcomes = []; last = o; named = (λ h. let some : None ≡ Some (RunFaults.Text number refused.0) = sym h ∙ refused.3 in cc); plays = (refused.1.3, refl) })
   | inr (inr ended) ↦ absurd ended.0
 ]
 

@@ -3,9 +3,9 @@ use lib.Pointwise.{pointwise}
 use Rattle.std.proofs.Common.{◌≡◌, ◌≢◌, ℕ, ◌+◌, ◌<◌, ◌≤◌, ◌==◌, suc, nat_le, cond, false, List, [], ◌∷◌, length, codes, Some, None, Result, Ok, Err, IsErr, refl, ◌∙◌, ap, sym, inl, inr, arith, le-leb, leb-true}
 use Rattle.std.specs.Cmp.Lexicographic.{same_text}
 use Rattle.std.proofs.lemmas.Bool.{cases_Bool}
-use Rattle.uecp_text.specs.declared.line_fault.LineFault.{LineFault}
-use Rattle.uecp_text.specs.declared.line_fault.LineFault.TheVariants.{NotHex, MessageTooLong}
-use Rattle.uecp_text.specs.declared.run_fault.RunFault.TheVariants.{Line}
+use Rattle.uecp_text.specs.declared.text_fault.TextFault.{TextFault}
+use Rattle.uecp_text.specs.declared.text_fault.TextFault.TheVariants.{NotHex, MessageTooLong}
+use Rattle.uecp_text.specs.declared.run_fault.RunFault.TheVariants.{Text}
 use Rattle.uecp_text.specs.Input.{under, numbered, said, lines_of}
 use Rattle.uecp_text.specs.Words.{bytes_in}
 use Rattle.uecp_jobs.specs.Messages.{message_of, spelled, before, messages_first, refused_at, refusal_in}
@@ -73,19 +73,19 @@ module _ (number : ℕ) (rest line more : List ℕ) (lines : lines_of rest ≡ l
     pub none_refused_yet : (message : List ℕ) → spelled text ≡ Ok message → refusal_in (numbered number (lines_of rest)) ≡ refusal_in (numbered (number + 1) (lines_of more))
     none_refused_yet message is = ap refusal_in one_text ∙ ap (λ r. refused_at number r (refusal_in (numbered (number + 1) (lines_of more)))) is
 
-    pub no_message : (fault : LineFault) → spelled text ≡ Err fault → messages_first (numbered number (lines_of rest)) ≡ []
+    pub no_message : (fault : TextFault) → spelled text ≡ Err fault → messages_first (numbered number (lines_of rest)) ≡ []
     no_message fault is = ap messages_first one_text ∙ ap (λ r. before r (messages_first (numbered (number + 1) (lines_of more)))) is
 
-    pub refused_here : (fault : LineFault) → spelled text ≡ Err fault → refusal_in (numbered number (lines_of rest)) ≡ Some (Line number fault)
+    pub refused_here : (fault : TextFault) → spelled text ≡ Err fault → refusal_in (numbered number (lines_of rest)) ≡ Some (Text number fault)
     refused_here fault is = ap refusal_in one_text ∙ ap (λ r. refused_at number r (refusal_in (numbered (number + 1) (lines_of more)))) is
 
 -- ---- all texts
 
 -- where no text is refused each brings a message
-each_brings : (r : Result (List ℕ) LineFault) (number n : ℕ) (text : List ℕ) (texts : List (ℕ × List ℕ)) → (refusal_in texts ≡ None → length (messages_first texts) ≡ length texts) → refused_at number r (refusal_in texts) ≡ None →
+each_brings : (r : Result (List ℕ) TextFault) (number n : ℕ) (text : List ℕ) (texts : List (ℕ × List ℕ)) → (refusal_in texts ≡ None → length (messages_first texts) ≡ length texts) → refused_at number r (refusal_in texts) ≡ None →
     length (before r (messages_first texts)) ≡ suc (length texts)
 each_brings (Ok message) number n text texts later none = ap suc (later none)
-each_brings (Err fault) number n text texts later none = absurd (let no : Some (Line number fault) ≡ None = none in cc)
+each_brings (Err fault) number n text texts later none = absurd (let no : Some (Text number fault) ≡ None = none in cc)
 
 pub all_bring : (texts : List (ℕ × List ℕ)) → refusal_in texts ≡ None → length (messages_first texts) ≡ length texts
 all_bring [] none = refl

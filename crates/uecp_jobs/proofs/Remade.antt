@@ -5,7 +5,7 @@ use Rattle.std.proofs.lemmas.List.{length-append}
 use Rattle.uecp_frame.specs.declared.frame.Frame.{Frame}
 use Rattle.uecp_elements.specs.Grammar.{Element, IsElement, AreBytes, EndsWith, spelling}
 use Rattle.uecp_elements.specs.declared.fault.ElementFault.{ElementFault}
-use Rattle.uecp_text.specs.declared.line_fault.LineFault.{LineFault}
+use Rattle.uecp_text.specs.declared.text_fault.TextFault.{TextFault}
 use Rattle.uecp_elements.specs.Reading.{Item, items, fault_item}
 use Rattle.uecp_elements.proofs.Items.{has_reading}
 use Rattle.uecp_lines.specs.Lines.{element_words, item_line, frame_lines}
@@ -52,7 +52,7 @@ bytes_parts (b ∷ x) y h = let r = bytes_parts x y h.1 in ((h.0, r.0), r.1)
 -- ---- One line of the script.
 
 step_one : (before : Option Frame) (number : ℕ) (text lines : List ℕ) (stop : Option RunFault) (left : Option Frame) (texts : List (ℕ × List ℕ)) (line : Line) →
-    Says (words text) line → ((why : LineFault) → IsUndone before line why → ⊥) → Runs Makes before ((number, text) ∷ texts) lines stop left →
+    Says (words text) line → ((why : TextFault) → IsUndone before line why → ⊥) → Runs Makes before ((number, text) ∷ texts) lines stop left →
     (first : List ℕ) × (rest : List ℕ) × (next : Option Frame) × Does before line first next × (lines ≡ first ++ rest) × Runs Makes next texts rest stop left
 step_one before number text lines stop left texts line says able (inl (first, rest, next, (other, said, does), is, ran)) =
     (first, rest, next, subst (λ l. Does before l first next) (one_meaning (words text) other line said says) does, is, ran)
@@ -99,7 +99,7 @@ no_texts : (number : ℕ) → numbered number (lines_of []) ≡ []
 unfolding lines_of numbered
 no_texts number = refl
 
-no_begin_undone : (before : Option Frame) (address counter : ℕ) (why : LineFault) → IsUndone before (Begins address counter) why → ⊥
+no_begin_undone : (before : Option Frame) (address counter : ℕ) (why : TextFault) → IsUndone before (Begins address counter) why → ⊥
 no_begin_undone None address counter why h = h
 no_begin_undone (Some f) address counter why h = h
 

@@ -2,7 +2,7 @@
 use Rattle.std.proofs.Common.{◌≡◌, ◌⊎◌, ℕ, ◌≤◌, Bool, List, [], ◌∷◌, length, Option, Some, None, Result, Ok, Err, IfOk, IfErr, refl, sym, ap, subst, ◌∙◌, inl, inr, arith}
 use Rattle.uecp_text.specs.declared.run_fault.RunFault.{RunFault}
 use Rattle.uecp_text.specs.declared.run_fault.RunFault.TheVariants as run
-use Rattle.uecp_text.specs.declared.line_fault.LineFault.{LineFault}
+use Rattle.uecp_text.specs.declared.text_fault.TextFault.{TextFault}
 use Rattle.uecp_text.specs.Faults.{status_of, error_lines}
 use Rattle.uecp_text.specs.Input.{texts_of}
 use Rattle.uecp_text.specs.Run.{StopsReading}
@@ -73,9 +73,9 @@ none_status : (unread unread' held held' : Option (List ℕ)) (fault : RunFault)
 none_status unread unread' held held' fault (inl (read, consumed, stops), kept) = stops_status fault read stops
 none_status unread unread' held held' fault (inr (input, is_input, is), kept) = ap status_of is
 
-refused_here : (r : Result (List ℕ) LineFault) (number : ℕ) (later : Option RunFault) (fault : RunFault) → (later ≡ Some fault → status_of fault ≡ 1) → refused_at number r later ≡ Some fault → status_of fault ≡ 1
+refused_here : (r : Result (List ℕ) TextFault) (number : ℕ) (later : Option RunFault) (fault : RunFault) → (later ≡ Some fault → status_of fault ≡ 1) → refused_at number r later ≡ Some fault → status_of fault ≡ 1
 refused_here (Ok message) number later fault next is = next is
-refused_here (Err refusal) number later fault next is = ap status_of (let same : run.Line number refusal ≡ fault = (let e : Some (run.Line number refusal) ≡ Some fault = is in cc) in sym same)
+refused_here (Err refusal) number later fault next is = ap status_of (let same : run.Text number refusal ≡ fault = (let e : Some (run.Text number refusal) ≡ Some fault = is in cc) in sym same)
 
 refused_status : (texts : List (ℕ × List ℕ)) (fault : RunFault) → refusal_in texts ≡ Some fault → status_of fault ≡ 1
 refused_status [] fault is = absurd (let no : None ≡ Some fault = is in cc)

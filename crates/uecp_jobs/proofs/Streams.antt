@@ -9,7 +9,7 @@ use Rattle.uecp_encoder.specs.State.{fed}
 use Rattle.uecp_encoder.specs.Answering.{responses_to}
 use Rattle.uecp_encoder.proofs.InPieces.{in_pieces_of_encoder}
 use Rattle.uecp_lines.specs.Lines.{finding_lines, response_line}
-use Rattle.uecp_text.specs.declared.run_fault.RunFault.TheVariants.{Line}
+use Rattle.uecp_text.specs.declared.run_fault.RunFault.TheVariants.{Text}
 use Rattle.uecp_text.specs.Run.{Runs}
 use Rattle.uecp_jobs.specs.Commands.{Shows}
 use Rattle.uecp_jobs.specs.Streams.{Spell, ShowsOneStream, AnswersOneStream}
@@ -26,7 +26,7 @@ shown_beyond o o' ((number, text) ∷ texts) lines ran = elim ran [
         lines_are ∙ ap (λ l. l ++ rest) first_is ∙ ap (λ l. flat_map finding_lines (found_beyond o piece) ++ l) (behind.2 ∙ ap (λ p. flat_map finding_lines (found_beyond p behind.0)) next_is)
             ∙ sym (ap (flat_map finding_lines) (in_pieces_lem o piece behind.0).found ∙ flat_map-append finding_lines (found_beyond o piece) (found_beyond (open_beyond o piece) behind.0)),
       )
-  | inr (inl refused) ↦ absurd (let none : None ≡ Some (Line number refused.0) = refused.3 in cc)
+  | inr (inl refused) ↦ absurd (let none : None ≡ Some (Text number refused.0) = refused.3 in cc)
   | inr (inr ended) ↦ absurd ended.0
 ]
 
@@ -49,6 +49,6 @@ answers_one_stream_lem e e' ((number, text) ∷ texts) lines ran = elim ran [
             ∙ sym (ap (flat_map response_line) pieces.responses ∙ flat_map-append response_line (responses_to step e piece) (responses_to step (fed step e piece) behind.0)),
         behind.3 ∙ ap (λ d. fed step d behind.0) next_is ∙ sym pieces.state,
       )
-  | inr (inl refused) ↦ absurd (let none : None ≡ Some (Line number refused.0) = refused.3 in cc)
+  | inr (inl refused) ↦ absurd (let none : None ≡ Some (Text number refused.0) = refused.3 in cc)
   | inr (inr ended) ↦ absurd ended.0
 ]

@@ -6,7 +6,7 @@ use Rattle.rds_store.specs.Value.{Store}
 use Rattle.rds_store.specs.Step.{step}
 use Rattle.uecp_encoder.specs.State.{EncoderState, fed}
 use Rattle.uecp_encoder.specs.Answering.{responses_to}
-use Rattle.uecp_text.specs.declared.line_fault.LineFault.TheVariants.{NotHex}
+use Rattle.uecp_text.specs.declared.text_fault.TextFault.TheVariants.{NotHex}
 use Rattle.uecp_lines.specs.Lines.{finding_lines, response_line}
 use Rattle.uecp_text.specs.Run.{Meaning, Brings, Ends, Refuses}
 use Rattle.uecp_text.specs.Words.{bytes_in}

@@ -3,8 +3,8 @@ use Rattle.std.specs.Prelude.{◌≡◌, ◌⊎◌, ℕ, ◌+◌, ◌<◌, ◌�
 use Rattle.hex.specs.Hex.{encode_upper}
 use Rattle.uecp_frame.specs.declared.frame.Frame.{Frame}
 use Rattle.uecp_frame.specs.Frame.{spelling as frame_spelling}
-use Rattle.uecp_text.specs.declared.line_fault.LineFault.{LineFault}
-use Rattle.uecp_text.specs.declared.line_fault.LineFault.TheVariants.{NotACommand, NoFrame, MessageTooLong}
+use Rattle.uecp_text.specs.declared.text_fault.TextFault.{TextFault}
+use Rattle.uecp_text.specs.declared.text_fault.TextFault.TheVariants.{NotACommand, NoFrame, MessageTooLong}
 use Rattle.uecp_text.specs.Run.{Meaning, Brings, Ends, Refuses}
 use Rattle.uecp_text.specs.Words.{words as words_in}
 use Rattle.uecp_words.specs.ScriptWords.{Line, Begins, Extends, Says, SaysNothing}
@@ -25,7 +25,7 @@ Does before (Begins address counter) lines after = (lines ≡ spelled_line befor
 Does before (Extends bytes) lines after = (f : Frame) × (before ≡ Some f) × (length f.message + length bytes ≤ 255) × (lines ≡ []) × (after ≡ Some (extended f bytes))
 
 -- Why a line that says so is refused: there is no frame to add to, or the message would have more than 255 bytes.
-abbrev pub IsUndone : (before : Option Frame) → Line → LineFault → Type 0
+abbrev pub IsUndone : (before : Option Frame) → Line → TextFault → Type 0
 IsUndone before (Begins address counter) why = ⊥
 IsUndone None (Extends bytes) why = why ≡ NoFrame
 IsUndone (Some f) (Extends bytes) why = (why ≡ MessageTooLong) × (255 < length f.message + length bytes)

@@ -18,6 +18,20 @@ use Rattle.uecp_jobs.specs.Playing.{Plays, closing_lines}
 abbrev pub options : (site encoder sets : ℕ) (services : List ℕ) → Options
 options site encoder sets services = record { site = site; encoder = encoder; sets = sets; services = services }
 
+-- The job has an encoder of its own.
+abbrev pub HasEncoder : Job → Type 0
+HasEncoder Show = ⊥
+HasEncoder Make = ⊥
+HasEncoder (Server site encoder host port tries timeout turns reconnects window join) = ⊥
+HasEncoder job = Unit {0}
+
+-- These are the options of that encoder.
+abbrev pub Describes : Job → Options → Type 0
+Describes (Answer site encoder sets services store) o = o ≡ options site encoder sets services.items
+Describes (Line site encoder sets services store) o = o ≡ options site encoder sets services.items
+Describes (Encoder site encoder sets services port connections turns) o = o ≡ options site encoder sets services.items
+Describes job o = ⊥
+
 -- The job is that of a command without a connection.
 abbrev pub IsLocal : Job → Type 0
 IsLocal (Encoder site encoder sets services port connections turns) = ⊥

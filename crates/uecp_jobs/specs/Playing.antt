@@ -15,7 +15,7 @@ use Rattle.uecp_text.specs.Words.{words}
 use Rattle.uecp_lines.specs.StoreLines.{last_lines}
 use Rattle.uecp_text.specs.Run.{Meaning, Brings, Ends}
 use Rattle.uecp_text.specs.Run.{Refuses as Declines}
-use Rattle.uecp_text.specs.declared.line_fault.LineFault.TheVariants.{OutOfMemory}
+use Rattle.uecp_text.specs.declared.text_fault.TextFault.TheVariants.{OutOfMemory}
 
 -- The event takes place: the line goes on as the once-machine does, from whatever of its values the line holds, and
 -- this is said of what it answers.

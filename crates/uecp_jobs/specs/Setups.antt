@@ -1,9 +1,7 @@
 -- The encoder that the options describe (profile).
-use denote.Ref.{Bor}
 use Rattle.std.specs.Prelude.{◌≡◌, ℕ, ◌+◌, ◌*◌, ◌≤◌, ◌⊎◌, List, Some, None}
 use Rattle.rds_store.specs.declared.fault.StoreFault.{StoreFault}
 use Rattle.rds_store.specs.declared.fault.StoreFault.TheVariants as store
-use Rattle.rds_store.specs.Fault.{name_of}
 use Rattle.rds_store.specs.Opening.{fault_of, opening}
 use Rattle.rds_store.specs.Value.{Store}
 use Rattle.uecp_encoder.specs.State.{EncoderState}
@@ -45,10 +43,10 @@ encoder_at_first o = state.opening (address_of o.site o.encoder) (opening o.sets
 abbrev pub line_at_first : Options → LineState Store
 line_at_first o = new_line (address_of o.site o.encoder) (opening o.sets o.services)
 
--- What a run says where no store was made: want of memory, else the services, by the fault's name.
+-- What a run says where no store was made: want of memory, else that the services were refused for that.
 abbrev pub SaysStoreFault : StoreFault → RunFault → Type 0
 SaysStoreFault store.OutOfMemory fault = fault ≡ OutOfMemory
-SaysStoreFault refusal fault = (name : Bor (List ℕ)) × (fault ≡ Services name) × (name.now ≡ name_of refusal)
+SaysStoreFault refusal fault = fault ≡ Services refusal
 
 -- The options describe no encoder, and this is said: the first fault of the services, else that the address is not that
 -- of one encoder.

@@ -15,7 +15,7 @@ use rds_store::RdsStore;
 use std::alloc::Global;
 use uecp_encoder::Encoder;
 use uecp_lines::{put_answer, put_last};
-use uecp_text::{Interpreter, LineFault, Output, PieceBuffer, RunFault, Taken, left};
+use uecp_text::{Interpreter, Output, PieceBuffer, RunFault, Taken, TextFault, rest_after};
 
 /// Feeds pieces to an encoder and says what it answers to each; then, where that is asked for, its store.
 #[derive(Drop)]
@@ -53,7 +53,7 @@ impl Interpreter for Answering {
         _alloc: Global,
         text: &[u8],
         output: &mut Output,
-    ) -> Result<Taken, LineFault> {
+    ) -> Result<Taken, TextFault> {
         let piece = self.room.read(text)?;
         answer_piece(&mut self.encoder, piece, output);
         output.check()?;
@@ -73,7 +73,7 @@ fn answer_piece(encoder: &mut Encoder<RdsStore>, piece: &[u8], output: &mut Outp
     let mut rest = piece;
     while !rest.is_empty() {
         let used = answer_first(encoder, rest, output);
-        rest = left(rest, used);
+        rest = rest_after(rest, used);
     }
 }
 

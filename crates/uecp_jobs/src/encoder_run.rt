@@ -11,7 +11,7 @@ ghost use Rattle.uecp_jobs.specs.EncoderRun.{IsEncoder, ServedAll, Serves, HasNo
 
 use crate::job::Job;
 use crate::run::fail;
-use crate::setup::{Setup, new_encoder};
+use crate::setup::{new_encoder, setup_of};
 use std::alloc::Global;
 use std::io::Write;
 use uecp_encoder::{Encoder, ServeFault, Served, Target};
@@ -55,21 +55,11 @@ fn serve_all<W: Write, C: Connect>(
 {
     match job {
         Job::Encoder {
-            site,
-            encoder,
-            sets,
-            services,
             connections,
             turns,
             ..
         } => {
-            let services = services.as_slice();
-            let setup = Setup {
-                site: *site,
-                encoder: *encoder,
-                sets: *sets,
-                services,
-            };
+            let setup = setup_of(job);
             let mut encoder = new_encoder(alloc, &setup)?;
             match serve_connections(alloc, &mut encoder, *connections, *turns, connect, writer) {
                 Ok(()) => Ok(()),

@@ -17,7 +17,7 @@ use rds_store::laws::empty_message_changes_nothing;
 use std::alloc::Global;
 use uecp_lines::{put_given_up, put_last, put_step, put_totals};
 use uecp_link::{Line, LineEvent, Side};
-use uecp_text::{Interpreter, LineFault, Output, RunFault, Taken, words_of};
+use uecp_text::{Interpreter, Output, RunFault, Taken, TextFault, words_of};
 use uecp_words::{EventLine, event_of, is_restart};
 
 /// Plays events on a line and says what came of each; then the totals and, where that is asked for, the store.
@@ -50,7 +50,7 @@ impl Interpreter for Playing {
         alloc: Global,
         text: &[u8],
         output: &mut Output,
-    ) -> Result<Taken, LineFault> {
+    ) -> Result<Taken, TextFault> {
         let words = words_of(alloc, text)?;
         if is_restart(words.as_slice()) {
             restart(&mut self.line, output);

@@ -6,7 +6,7 @@ ghost use Rattle.uecp_jobs.specs.FrameScript.{Does, IsUndone, Makes, spelled_lin
 
 use std::alloc::Global;
 use uecp_frame::{Frame, FrameBytes, Message, encode};
-use uecp_text::{Interpreter, LineFault, Output, Taken};
+use uecp_text::{Interpreter, Output, Taken, TextFault};
 use uecp_words::{ScriptLine, script_line};
 
 /// Writes the frames of a script in hexadecimal: each as the next one begins, and the last one at the end.
@@ -34,7 +34,7 @@ impl Interpreter for Making {
         alloc: Global,
         text: &[u8],
         output: &mut Output,
-    ) -> Result<Taken, LineFault> {
+    ) -> Result<Taken, TextFault> {
         do_line(script_line(alloc, text)?, &mut self.frame, output)?;
         output.check()?;
         Ok(Taken::GoesOn)
@@ -50,7 +50,7 @@ fn do_line(
     line: ScriptLine,
     frame: &mut Option<Frame>,
     output: &mut Output,
-) -> Result<(), LineFault>
+) -> Result<(), TextFault>
     ensures done { OnOk result ((lines : List ℕ) × Does frame.old (line_of line) lines frame.new × Adds output.old output.new lines) }
     ensures undone { IfErr result (λ e. IsUndone frame.old (line_of line) e × (frame.new ≡ frame.old)) }
     ensures unwritten { OnErr result (output.new ≡ output.old) }
@@ -71,16 +71,16 @@ fn do_line(
 }
 
 /// Adds the bytes to the frame that was begun.
-fn add_bytes(frame: &mut Option<Frame>, bytes: &[u8]) -> Result<(), LineFault>
+fn add_bytes(frame: &mut Option<Frame>, bytes: &[u8]) -> Result<(), TextFault>
     ensures done { OnOk result (Does frame.old (Extends bytes.now) [] frame.new) }
     ensures undone { IfErr result (λ e. IsUndone frame.old (Extends bytes.now) e × (frame.new ≡ frame.old)) }
 {
     match frame {
-        None => Err(LineFault::NoFrame),
+        None => Err(TextFault::NoFrame),
         Some(frame) => frame
             .message
             .extend(bytes)
-            .map_err(|_| LineFault::MessageTooLong),
+            .map_err(|_| TextFault::MessageTooLong),
     }
 }
 

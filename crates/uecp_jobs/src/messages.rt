@@ -1,13 +1,13 @@
 //! The messages of an input, one a line (profile).
 ghost use Rattle.std.specs.Prelude.{◌≡◌, ◌⊎◌, Ok, Err, IfOk, IfErr};
-ghost use Rattle.uecp_text.specs.declared.line_fault.LineFault.TheVariants as line;
+ghost use Rattle.uecp_text.specs.declared.text_fault.TextFault.TheVariants as flaw;
 ghost use Rattle.uecp_text.specs.declared.run_fault.RunFault.TheVariants as run;
 ghost use Rattle.uecp_text.specs.Input.{texts_of};
 ghost use Rattle.uecp_jobs.specs.Messages.{spelled, messages_first, refusal_in};
 
 use std::alloc::Global;
 use uecp_frame::Message;
-use uecp_text::{LineFault, PieceBuffer, RunFault, first_line, text_of};
+use uecp_text::{PieceBuffer, RunFault, TextFault, first_input_line, text_of};
 use uecp_words::message_of;
 
 /// The messages of an input.
@@ -28,17 +28,18 @@ pub(crate) fn messages_of(alloc: Global, input: &[u8]) -> Result<Messages, RunFa
     ensures refused { IfErr result (λ fault. fault ≡ run.OutOfMemory) }
 {
     let mut list = Vec::new(alloc);
+    let mut room = PieceBuffer::new(alloc);
     let mut rest = input;
     let mut number = 1;
     while !rest.is_empty() {
-        let (line, more) = first_line(rest);
+        let (line, more) = first_input_line(rest);
         if let Some(text) = text_of(line) {
-            match message_in(alloc, text) {
+            match message_in(text, &mut room) {
                 Ok(message) => list.push(message)?,
                 Err(fault) => match fault {
-                    LineFault::OutOfMemory => return Err(RunFault::OutOfMemory),
+                    TextFault::OutOfMemory => return Err(RunFault::OutOfMemory),
                     _ => {
-                        let refused = Some(RunFault::Line(number, fault));
+                        let refused = Some(RunFault::Text(number, fault));
                         return Ok(Messages { list, refused });
                     }
                 },
@@ -53,16 +54,13 @@ pub(crate) fn messages_of(alloc: Global, input: &[u8]) -> Result<Messages, RunFa
     })
 }
 
-/// The message that a text spells; a lone `-` is the empty one.
-fn message_in(alloc: Global, text: &[u8]) -> Result<Message, LineFault>
+/// The message that a text spells, its bytes read into this room; a lone `-` is the empty one.
+fn message_in(text: &[u8], room: &mut PieceBuffer) -> Result<Message, TextFault>
     ensures message { IfOk result (λ m. spelled text.now ≡ Ok m) }
-    ensures refused { IfErr result (λ fault. (fault ≡ line.OutOfMemory) ⊎ (spelled text.now ≡ Err fault)) }
+    ensures refused { IfErr result (λ fault. (fault ≡ flaw.OutOfMemory) ⊎ (spelled text.now ≡ Err fault)) }
 {
     match text {
         b"-" => Ok(Message::new()),
-        _ => {
-            let mut room = PieceBuffer::new(alloc);
-            message_of(room.read(text)?)
-        }
+        _ => message_of(room.read(text)?),
     }
 }

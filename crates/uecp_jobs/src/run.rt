@@ -9,7 +9,7 @@ use crate::answering::Answering;
 use crate::event_script::Playing;
 use crate::frame_script::Making;
 use crate::job::Job;
-use crate::setup::Setup;
+use crate::setup::setup_of;
 use crate::showing::Showing;
 use std::alloc::Global;
 use std::io::{Read, Write};
@@ -60,37 +60,13 @@ fn do_job<R: Read, W: Write>(
     match job {
         Job::Show => run(alloc, reader, &mut Showing::new(alloc), writer),
         Job::Make => run(alloc, reader, &mut Making::new(), writer),
-        Job::Answer {
-            site,
-            encoder,
-            sets,
-            services,
-            store,
-        } => {
-            let services = services.as_slice();
-            let setup = Setup {
-                site: *site,
-                encoder: *encoder,
-                sets: *sets,
-                services,
-            };
+        Job::Answer { store, .. } => {
+            let setup = setup_of(job);
             let mut answering = Answering::new(alloc, &setup, *store)?;
             run(alloc, reader, &mut answering, writer)
         }
-        Job::Line {
-            site,
-            encoder,
-            sets,
-            services,
-            store,
-        } => {
-            let services = services.as_slice();
-            let setup = Setup {
-                site: *site,
-                encoder: *encoder,
-                sets: *sets,
-                services,
-            };
+        Job::Line { store, .. } => {
+            let setup = setup_of(job);
             let mut playing = Playing::new(alloc, &setup, *store)?;
             run(alloc, reader, &mut playing, writer)
         }

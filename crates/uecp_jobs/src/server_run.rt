@@ -17,6 +17,9 @@ use uecp_link::Server;
 use uecp_net::{Connect, Limits, Sender};
 use uecp_text::{RunFault, read_all};
 
+/// The most messages that may be on their way at once.
+const WINDOW_MAX: u8 = 8;
+
 /// Does the job of `server` and answers the exit status: 0 done, 1 a line was refused, 2 the address was refused, 3 a
 /// batch of messages is outstanding, or memory, reading or writing failed. The input is read to its end before the
 /// first message is sent; what is said of a batch is written out before the next one is sent.
@@ -121,7 +124,7 @@ fn refusal(messages: Messages) -> Result<(), RunFault>
 fn batch_size(window: u8) -> usize
     ensures { result ≡ batch_size window }
 {
-    usize::from(window.clamp(1, 8))
+    usize::from(window.clamp(1, WINDOW_MAX))
 }
 
 /// Sends these messages to the encoder at this address, by one sender, in batches of this size. The encoder is joined

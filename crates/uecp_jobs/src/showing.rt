@@ -9,7 +9,7 @@ ghost use Rattle.uecp_jobs.specs.Commands.{Shows};
 use std::alloc::Global;
 use uecp_frame::Deframer;
 use uecp_lines::put_found;
-use uecp_text::{Interpreter, LineFault, Output, PieceBuffer, Taken, left};
+use uecp_text::{Interpreter, Output, PieceBuffer, Taken, TextFault, rest_after};
 
 /// Says what frames and elements stand in pieces, as one stream.
 #[derive(Drop)]
@@ -41,7 +41,7 @@ impl Interpreter for Showing {
         _alloc: Global,
         text: &[u8],
         output: &mut Output,
-    ) -> Result<Taken, LineFault> {
+    ) -> Result<Taken, TextFault> {
         let piece = self.room.read(text)?;
         show_piece(&mut self.deframer, piece, output);
         output.check()?;
@@ -59,7 +59,7 @@ fn show_piece(deframer: &mut Deframer, piece: &[u8], output: &mut Output)
     let mut rest = piece;
     while !rest.is_empty() {
         let fed = deframer.feed(rest);
-        rest = left(rest, fed.used);
+        rest = rest_after(rest, fed.used);
         put_found(&fed.found, output);
     }
 }

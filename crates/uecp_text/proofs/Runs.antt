@@ -1,7 +1,7 @@
 -- Runs over texts, part by part.
 use Rattle.std.proofs.Common.{◌≡◌, ℕ, ◌+◌, List, [], ◌∷◌, ◌++◌, Option, Some, None, Err, refl, sym, ap, ◌∙◌, append_assoc, append-nil, inl, inr, subst, true, Result, Ok, ◌⊎◌}
-use Rattle.uecp_text.specs.declared.line_fault.LineFault.{LineFault}
-use Rattle.uecp_text.specs.declared.line_fault.LineFault.TheVariants as line
+use Rattle.uecp_text.specs.declared.text_fault.TextFault.{TextFault}
+use Rattle.uecp_text.specs.declared.text_fault.TextFault.TheVariants as flaw
 use Rattle.uecp_text.specs.declared.run_fault.RunFault.{RunFault}
 use Rattle.uecp_text.specs.declared.run_fault.RunFault.TheVariants as run
 use Rattle.uecp_text.specs.declared.interpreter.Taken.{Taken}
@@ -49,7 +49,7 @@ runs_on meaning v m v' ((number, text) ∷ now) later first rest stop ran more =
     ap (λ f. f ++ rest) taken.4 ∙ append_assoc taken.0 taken.1 rest,
     runs_on meaning taken.2 m v' now later taken.1 rest stop taken.5 more,
   )
-  | inr (inl refused) ↦ absurd (let none : None ≡ Some (run.Line number refused.0) = refused.3 in cc)
+  | inr (inl refused) ↦ absurd (let none : None ≡ Some (run.Text number refused.0) = refused.3 in cc)
   | inr (inr ended) ↦ absurd (let none : None ≡ Some run.Outstanding = ended.1 in cc)
 ]
 
@@ -70,7 +70,7 @@ under-more number (Some text) rest = refl
 pub takes_one : {V : Type 0} (meaning : Meaning V) (v v' : V) (number : ℕ) (text lines : List ℕ) → meaning v text (Brings lines) v' → Runs meaning v ((number, text) ∷ []) lines None v'
 takes_one meaning v v' number text lines said = inl (lines, [], v', said, sym (append-nil lines), (refl, refl, refl))
 
-refuses_one : {V : Type 0} (meaning : Meaning V) (v v' : V) (number : ℕ) (text : List ℕ) (fault : LineFault) → meaning v text (Refuses fault) v' → Runs meaning v ((number, text) ∷ []) [] (Some (run.Line number fault)) v'
+refuses_one : {V : Type 0} (meaning : Meaning V) (v v' : V) (number : ℕ) (text : List ℕ) (fault : TextFault) → meaning v text (Refuses fault) v' → Runs meaning v ((number, text) ∷ []) [] (Some (run.Text number fault)) v'
 refuses_one meaning v v' number text fault said = inr (inl (fault, said, refl, refl))
 
 -- what says how a run goes on after a text that was taken
@@ -93,22 +93,22 @@ taken_one meaning v v' number text said turn empty took before after text_is non
     by_turn taken.Ends came = inr (lines, inr (inr (came, refl)), wrote)
 
 -- a text whose taking failed with this fault, which the run reports under the line's number
-pub failed_one : {V : Type 0} (meaning : Meaning V) (v v' : V) (number : ℕ) (text : Option (List ℕ)) (said : List ℕ) (fault : LineFault) (reported : RunFault) (empty took out : Kept) →
-    text ≡ Some said → reported ≡ fault_at number fault → (fault ≡ line.OutOfMemory) ⊎ (meaning v said (Refuses fault) v' × Writes empty took []) →
+pub failed_one : {V : Type 0} (meaning : Meaning V) (v v' : V) (number : ℕ) (text : Option (List ℕ)) (said : List ℕ) (fault : TextFault) (reported : RunFault) (empty took out : Kept) →
+    text ≡ Some said → reported ≡ fault_at number fault → (fault ≡ flaw.OutOfMemory) ⊎ (meaning v said (Refuses fault) v' × Writes empty took []) →
     RunsOn meaning v (under number text []) out (Err reported) v' out
 failed_one meaning v v' number text said fault reported empty took out text_is reported_is failed =
     subst (λ t. RunsOn meaning v (under number t []) out (Err reported) v' out) (sym text_is)
     (subst (λ r. RunsOn meaning v ((number, said) ∷ []) out (Err r) v' out) (sym reported_is) (by_fault fault failed))
   where
-    named : (fault : LineFault) → meaning v said (Refuses fault) v' × Writes empty took [] → RunsOn meaning v ((number, said) ∷ []) out (Err (run.Line number fault)) v' out
+    named : (fault : TextFault) → meaning v said (Refuses fault) v' × Writes empty took [] → RunsOn meaning v ((number, said) ∷ []) out (Err (run.Text number fault)) v' out
     named fault (refused, writes) = inr ([], refuses_one meaning v v' number said fault refused, writes_nothing out)
 
-    by_fault : (fault : LineFault) → (fault ≡ line.OutOfMemory) ⊎ (meaning v said (Refuses fault) v' × Writes empty took []) → RunsOn meaning v ((number, said) ∷ []) out (Err (fault_at number fault)) v' out
-    by_fault line.OutOfMemory h = wanting meaning v v' ((number, said) ∷ []) out
-    by_fault line.NotHex h = elim h [ inl e ↦ absurd (let n : line.NotHex ≡ line.OutOfMemory = e in cc) | inr s ↦ named line.NotHex s ]
-    by_fault line.NotACommand h = elim h [ inl e ↦ absurd (let n : line.NotACommand ≡ line.OutOfMemory = e in cc) | inr s ↦ named line.NotACommand s ]
-    by_fault line.NoFrame h = elim h [ inl e ↦ absurd (let n : line.NoFrame ≡ line.OutOfMemory = e in cc) | inr s ↦ named line.NoFrame s ]
-    by_fault line.MessageTooLong h = elim h [ inl e ↦ absurd (let n : line.MessageTooLong ≡ line.OutOfMemory = e in cc) | inr s ↦ named line.MessageTooLong s ]
+    by_fault : (fault : TextFault) → (fault ≡ flaw.OutOfMemory) ⊎ (meaning v said (Refuses fault) v' × Writes empty took []) → RunsOn meaning v ((number, said) ∷ []) out (Err (fault_at number fault)) v' out
+    by_fault flaw.OutOfMemory h = wanting meaning v v' ((number, said) ∷ []) out
+    by_fault flaw.NotHex h = elim h [ inl e ↦ absurd (let n : flaw.NotHex ≡ flaw.OutOfMemory = e in cc) | inr s ↦ named flaw.NotHex s ]
+    by_fault flaw.NotACommand h = elim h [ inl e ↦ absurd (let n : flaw.NotACommand ≡ flaw.OutOfMemory = e in cc) | inr s ↦ named flaw.NotACommand s ]
+    by_fault flaw.NoFrame h = elim h [ inl e ↦ absurd (let n : flaw.NoFrame ≡ flaw.OutOfMemory = e in cc) | inr s ↦ named flaw.NoFrame s ]
+    by_fault flaw.MessageTooLong h = elim h [ inl e ↦ absurd (let n : flaw.MessageTooLong ≡ flaw.OutOfMemory = e in cc) | inr s ↦ named flaw.MessageTooLong s ]
 
 -- ---- one line after another
 -- The texts before these were taken, and what they brought is written.

@@ -1,14 +1,16 @@
 -- Why runs stop: their exit statuses, and what is said of them on standard error (profile).
 use Rattle.std.specs.Prelude.{ℕ, List, [], ◌++◌, codes, decimal}
-use Rattle.uecp_text.specs.declared.line_fault.LineFault.{LineFault}
-use Rattle.uecp_text.specs.declared.line_fault.LineFault.TheVariants as line
+use Rattle.rds_store.specs.Fault.{name_of}
+use Rattle.uecp_text.specs.declared.text_fault.TextFault.{TextFault}
+use Rattle.uecp_text.specs.declared.text_fault.TextFault.TheVariants as flaw
 use Rattle.uecp_text.specs.declared.run_fault.RunFault.{RunFault}
-use Rattle.uecp_text.specs.declared.run_fault.RunFault.TheVariants.{Line, Services, Address, TooLong, Reading, Writing, OutOfMemory, Listening, Connection, Outstanding}
+use Rattle.uecp_text.specs.declared.run_fault.RunFault.TheVariants.{Text, Services, NotAList, Address, TooLong, Reading, Writing, OutOfMemory, Listening, Connection, Outstanding}
 
 -- 1 for a line of input, 2 for what the command line gave, 3 for the rest.
 abbrev pub status_of : RunFault → ℕ
-status_of (Line number refusal) = 1
-status_of (Services name) = 2
+status_of (Text number refusal) = 1
+status_of (Services refusal) = 2
+status_of NotAList = 2
 status_of Address = 2
 status_of TooLong = 3
 status_of Reading = 3
@@ -19,18 +21,19 @@ status_of Connection = 3
 status_of Outstanding = 3
 
 -- What is said of a line that was refused.
-abbrev pub refusal_text : LineFault → List ℕ
-refusal_text line.NotHex = codes "not hex"
-refusal_text line.NotACommand = codes "not a command"
-refusal_text line.NoFrame = codes "no frame"
-refusal_text line.MessageTooLong = codes "message too long"
-refusal_text line.OutOfMemory = codes "out of memory"
+abbrev pub refusal_text : TextFault → List ℕ
+refusal_text flaw.NotHex = codes "not hex"
+refusal_text flaw.NotACommand = codes "not a command"
+refusal_text flaw.NoFrame = codes "no frame"
+refusal_text flaw.MessageTooLong = codes "message too long"
+refusal_text flaw.OutOfMemory = codes "out of memory"
 
 -- What is said of a run that stopped: of a line its number and what is wrong with it, of services the name of their
 -- fault. Of one that a text ended nothing is said.
 abbrev pub fault_text : RunFault → List ℕ
-fault_text (Line number refusal) = codes "uecp: line " ++ decimal number ++ codes ": " ++ refusal_text refusal
-fault_text (Services name) = codes "uecp: services: " ++ name.now
+fault_text (Text number refusal) = codes "uecp: line " ++ decimal number ++ codes ": " ++ refusal_text refusal
+fault_text (Services refusal) = codes "uecp: services: " ++ name_of refusal
+fault_text NotAList = codes "uecp: services: NotAList"
 fault_text Address = codes "uecp: address: NotExact"
 fault_text TooLong = codes "uecp: input too long"
 fault_text Reading = codes "uecp: reading failed"
@@ -51,8 +54,9 @@ Fails TooLong = Unit {0}
 Fails Reading = Unit {0}
 Fails Writing = Unit {0}
 Fails OutOfMemory = Unit {0}
-Fails (Line number refusal) = ⊥
-Fails (Services name) = ⊥
+Fails (Text number refusal) = ⊥
+Fails (Services refusal) = ⊥
+Fails NotAList = ⊥
 Fails Address = ⊥
 Fails Listening = ⊥
 Fails Connection = ⊥

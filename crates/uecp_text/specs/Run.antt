@@ -1,8 +1,8 @@
 -- A run over the texts of an input (profile).
 use Rattle.std.specs.Prelude.{◌≡◌, ℕ, List, [], ◌∷◌, ◌++◌, Option, Some, None, Result, Err, ◌⊎◌, MatchResult, ◌≤◌, length}
 use Rattle.std.specs.Io.KnownBytes.{Consumes, IsAtEnd, Appends}
-use Rattle.uecp_text.specs.declared.line_fault.LineFault.{LineFault}
-use Rattle.uecp_text.specs.declared.line_fault.LineFault.TheVariants as line
+use Rattle.uecp_text.specs.declared.text_fault.TextFault.{TextFault}
+use Rattle.uecp_text.specs.declared.text_fault.TextFault.TheVariants as flaw
 use Rattle.uecp_text.specs.declared.run_fault.RunFault.{RunFault}
 use Rattle.uecp_text.specs.declared.run_fault.RunFault.TheVariants as run
 use Rattle.uecp_text.specs.declared.interpreter.Taken.{Taken}
@@ -17,7 +17,7 @@ pub data Outcome : Type 0 where
   -- it brings these lines of output, and the run ends there
   Ends : (lines : List ℕ) → Outcome
   -- it is refused for this
-  Refuses : LineFault → Outcome
+  Refuses : TextFault → Outcome
 
 -- What texts mean to an interpreter: of a value and a text, what the text comes to, and the value that it leaves.
 abbrev pub Meaning : Type 0 → Type 1
@@ -27,7 +27,7 @@ Meaning V = V → List ℕ → Outcome → V → Type 0
 -- run. This says why, and this value is left.
 abbrev pub StopsAt : {V : Type 0} → Meaning V → V → (number : ℕ) → (text lines : List ℕ) → Option RunFault → V → Type 0
 StopsAt meaning v number text lines stop v' =
-    ((refusal : LineFault) × meaning v text (Refuses refusal) v' × (lines ≡ []) × (stop ≡ Some (run.Line number refusal)))
+    ((refusal : TextFault) × meaning v text (Refuses refusal) v' × (lines ≡ []) × (stop ≡ Some (run.Text number refusal)))
     ⊎ (meaning v text (Ends lines) v' × (stop ≡ Some run.Outstanding))
 
 -- The texts are taken one after another, up to the first at which the run stops, if there is one: they bring these
@@ -39,9 +39,9 @@ Runs {V} meaning v ((number, text) ∷ texts) lines stop v' =
     ⊎ StopsAt meaning v number text lines stop v'
 
 -- The fault of a run where the line of this number has this fault: want of memory is not the line's.
-abbrev pub fault_at : ℕ → LineFault → RunFault
-fault_at number line.OutOfMemory = run.OutOfMemory
-fault_at number fault = run.Line number fault
+abbrev pub fault_at : ℕ → TextFault → RunFault
+fault_at number flaw.OutOfMemory = run.OutOfMemory
+fault_at number fault = run.Text number fault
 
 -- What a text that was taken comes to, by whether the run goes on after it.
 abbrev pub outcome_of : Taken → List ℕ → Outcome
@@ -50,11 +50,11 @@ outcome_of taken.Ends lines = Ends lines
 
 -- One text was taken: what it brings was added to the output, or it was refused for its fault and nothing was added; or
 -- memory was wanting.
-abbrev pub Takes : {V : Type 0} → Meaning V → V → List ℕ → Kept → Result Taken LineFault → V → Kept → Type 0
+abbrev pub Takes : {V : Type 0} → Meaning V → V → List ℕ → Kept → Result Taken TextFault → V → Kept → Type 0
 Takes meaning v text before result v' after =
     MatchResult result
     (λ taken. (lines : List ℕ) × meaning v text (outcome_of taken lines) v' × Writes before after lines)
-    (λ fault. (fault ≡ line.OutOfMemory) ⊎ (meaning v text (Refuses fault) v' × Writes before after []))
+    (λ fault. (fault ≡ flaw.OutOfMemory) ⊎ (meaning v text (Refuses fault) v' × Writes before after []))
 
 -- Some first texts of these, or all, were taken one after another, and bring these lines.
 abbrev pub RunsFirst : {V : Type 0} → Meaning V → V → List (ℕ × List ℕ) → List ℕ → Type 0

@@ -72,7 +72,7 @@ fn without_end(line: &[u8]) -> &[u8]
 }
 
 /// The first line of an input that is not empty, with its line feed if it has one, and what follows it.
-pub fn first_line(input: &[u8]) -> (&[u8], &[u8])
+pub fn first_input_line(input: &[u8]) -> (&[u8], &[u8])
     requires { 0 < length input.now }
     ensures lines { lines_of input.now ≡ result.0.now ∷ lines_of result.1.now }
     ensures shorter { length result.1.now < length input.now }
@@ -84,7 +84,7 @@ pub fn first_line(input: &[u8]) -> (&[u8], &[u8])
 }
 
 /// What is left of some bytes once this many of them were used.
-pub fn left(bytes: &[u8], used: usize) -> &[u8]
+pub fn rest_after(bytes: &[u8], used: usize) -> &[u8]
     requires { used ≤ length bytes.now }
     ensures { result.now ≡ drop used bytes.now }
 {

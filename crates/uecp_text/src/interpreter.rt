@@ -4,10 +4,10 @@ ghost use Rattle.uecp_text.specs.Run.{Meaning, Takes, RunsOn, RunsInto, RunsWhol
 ghost use Rattle.uecp_text.specs.Input.{said, under, texts_of};
 ghost use Rattle.uecp_text.specs.Written.{Adds};
 
-use crate::input::{first_line, read_all, text_of};
-use crate::line_fault::LineFault;
+use crate::input::{first_input_line, read_all, text_of};
 use crate::output::Output;
 use crate::run_fault::RunFault;
+use crate::text_fault::TextFault;
 use std::alloc::Global;
 use std::io::{Read, Write};
 
@@ -31,7 +31,7 @@ pub trait Interpreter {
 
     /// Takes one text, and adds what it brings to the output. Where it is refused nothing is added; where memory is
     /// wanting nothing is said of the value and of the output.
-    fn take(&mut self, alloc: Global, text: &[u8], output: &mut Output) -> Result<Taken, LineFault>
+    fn take(&mut self, alloc: Global, text: &[u8], output: &mut Output) -> Result<Taken, TextFault>
         ensures { Takes meaning self.old text.now output.old result self.new output.new };
 
     /// Adds the lines that come last.
@@ -89,7 +89,7 @@ fn run_lines<I: Interpreter>(
     let mut rest = input;
     let mut number = 1;
     while !rest.is_empty() {
-        let (line, more) = first_line(rest);
+        let (line, more) = first_input_line(rest);
         take_line(alloc, number, line, interpreter, lines, output)?;
         rest = more;
         number += 1;

@@ -7,7 +7,7 @@
 //!
 //! - [`Interpreter`], [`run`]: what texts do, and the loop over them.
 //! - [`Output`]: the lines that a run writes, kept until they are written out.
-//! - [`RunFault`], [`LineFault`]: why a run stops, with its exit status and its text.
+//! - [`RunFault`], [`TextFault`]: why a run stops, with its exit status and its text.
 //! - [`words_of`] and its neighbours: the words of a text, and the bytes and numbers that they spell.
 //! - [`PieceBuffer`]: the bytes that a whole text spells, in room that is kept from one text to the next.
 #![tactic(auto)]
@@ -15,19 +15,19 @@
 mod input;
 mod interpreter;
 pub mod laws;
-mod line_fault;
 mod output;
 mod piece_buffer;
 mod reporting;
 mod run_fault;
+mod text_fault;
+mod whole_writes;
 mod words;
-mod writing;
 
-pub use input::{first_line, left, read_all, text_of};
+pub use input::{first_input_line, read_all, rest_after, text_of};
 pub use interpreter::{Interpreter, Taken, run};
-pub use line_fault::LineFault;
 pub use output::Output;
 pub use piece_buffer::PieceBuffer;
 pub use reporting::{report, write_parts};
 pub use run_fault::RunFault;
+pub use text_fault::TextFault;
 pub use words::{byte_of, bytes_of, bytes_or_none, decimal_of, digits_of, number_of, words_of};

@@ -7,7 +7,7 @@ ghost use Rattle.uecp_text.specs.declared.run_fault.RunFault.TheVariants.{Writin
 ghost use Rattle.uecp_text.specs.Written.{Kept, Adds, AddsFirst, Begins};
 
 use crate::run_fault::RunFault;
-use crate::writing::write_whole;
+use crate::whole_writes::write_whole;
 use itoa::Buffer;
 use std::alloc::{AllocError, Global};
 use std::io::Write;

@@ -1,10 +1,10 @@
 //! Room for the bytes of one text after another (profile).
 ghost use Rattle.std.specs.Prelude.{◌≡◌, ◌⊎◌, ◌==◌, not, filter, true, false, Ok, IfOk, IfErr, IsErr};
 ghost use Rattle.hex.specs.Hex.{decode_of};
-ghost use Rattle.uecp_text.specs.declared.line_fault.LineFault.TheVariants.{NotHex, OutOfMemory};
+ghost use Rattle.uecp_text.specs.declared.text_fault.TextFault.TheVariants.{NotHex, OutOfMemory};
 ghost use Rattle.uecp_text.specs.Words.{bytes_in};
 
-use crate::line_fault::LineFault;
+use crate::text_fault::TextFault;
 use std::alloc::{AllocError, Global};
 use std::marker::Model;
 
@@ -43,7 +43,7 @@ impl PieceBuffer {
     /// let piece = room.read(b"fe 00 41")?; // FE, 00, 41
     /// ```
     #[inline]
-    pub fn read(&mut self, text: &[u8]) -> Result<&[u8], LineFault>
+    pub fn read(&mut self, text: &[u8]) -> Result<&[u8], TextFault>
         ensures piece { IfOk result (λ p. bytes_in text.now ≡ Ok p.now) }
         ensures refused { IfErr result (λ e. (e ≡ OutOfMemory) ⊎ ((e ≡ NotHex) × IsErr (bytes_in text.now))) }
     {
@@ -56,7 +56,7 @@ impl PieceBuffer {
 /// does not decode as it stands.
 #[inline(always)]
 #[tactic(auto, using(crate::proofs::Pieces::piece_as_it_stands))]
-fn put_bytes(text: &[u8], bytes: &mut Vec<u8>, digits: &mut Vec<u8>) -> Result<(), LineFault>
+fn put_bytes(text: &[u8], bytes: &mut Vec<u8>, digits: &mut Vec<u8>) -> Result<(), TextFault>
     ensures piece { IfOk result (λ _. bytes_in text.now ≡ Ok bytes.new.items) }
     ensures refused { IfErr result (λ e. (e ≡ OutOfMemory) ⊎ ((e ≡ NotHex) × IsErr (bytes_in text.now))) }
 {
@@ -67,7 +67,7 @@ fn put_bytes(text: &[u8], bytes: &mut Vec<u8>, digits: &mut Vec<u8>) -> Result<(
     if decode(digits.as_slice(), bytes)? {
         Ok(())
     } else {
-        Err(LineFault::NotHex)
+        Err(TextFault::NotHex)
     }
 }
 

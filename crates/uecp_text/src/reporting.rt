@@ -6,7 +6,7 @@ ghost use Rattle.uecp_text.specs.declared.run_fault.RunFault.TheVariants.{Writin
 ghost use Rattle.uecp_text.specs.Written.{Begins};
 
 use crate::run_fault::RunFault;
-use crate::writing::write_whole;
+use crate::whole_writes::write_whole;
 use itoa::Buffer;
 use std::io::Write;
 
@@ -19,14 +19,16 @@ pub fn report<W: Write>(fault: &RunFault, writer: &mut W) -> Result<(), RunFault
 {
     let mut buffer = Buffer::new();
     match *fault {
-        RunFault::Line(number, refusal) => {
+        RunFault::Text(number, refusal) => {
             let digits = buffer.format(number).as_bytes();
             let text = refusal.text().as_bytes();
             write_parts(&[b"uecp: line ", digits, b": ", text, b"\n"], writer)
         }
-        RunFault::Services(name) => {
-            write_parts(&[b"uecp: services: ", name.as_bytes(), b"\n"], writer)
+        RunFault::Services(fault) => {
+            let name = fault.name().as_bytes();
+            write_parts(&[b"uecp: services: ", name, b"\n"], writer)
         }
+        RunFault::NotAList => write_parts(&[b"uecp: services: NotAList\n"], writer),
         RunFault::Address => write_parts(&[b"uecp: address: NotExact\n"], writer),
         RunFault::TooLong => write_parts(&[b"uecp: input too long\n"], writer),
         RunFault::Reading => write_parts(&[b"uecp: reading failed\n"], writer),

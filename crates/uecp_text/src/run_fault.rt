@@ -1,20 +1,21 @@
 //! Why a run stopped (profile).
-ghost use Rattle.std.specs.Prelude.{◌≡◌, Some};
-ghost use Rattle.uecp_text.specs.Faults.{status_of, fault_text};
+ghost use Rattle.std.specs.Prelude.{◌≡◌};
+ghost use Rattle.uecp_text.specs.Faults.{status_of};
 ghost use Rattle.uecp_text.specs.declared.run_fault.RunFault.TheVariants.{OutOfMemory};
 
-use crate::line_fault::LineFault;
+use crate::text_fault::TextFault;
+use rds_store::StoreFault;
 use std::alloc::{AllocError, AllocFailed};
-use std::error::Error;
-use std::fmt;
 
-/// Why a run stopped before its end.
+/// Why a run stopped before its end. `report` has what is said of each.
 #[derive(Debug, Drop)]
 pub enum RunFault {
-    /// The line of this number, counted from 1, was refused.
-    Line(usize, LineFault),
-    /// The services or the number of data sets were refused, by this name.
-    Services(&'static str),
+    /// The text of the line of this number, counted from 1, was refused.
+    Text(usize, TextFault),
+    /// The services or the number of data sets were refused by the store.
+    Services(StoreFault),
+    /// The services are no list of hexadecimal numbers.
+    NotAList,
     /// The address is not that of one encoder. The command line gives no such address.
     Address,
     /// The input has more than 1,048,576 bytes.
@@ -39,33 +40,12 @@ impl RunFault {
         ensures { result ≡ status_of self.now }
     {
         match self {
-            RunFault::Line(_, _) => 1,
-            RunFault::Services(_) | RunFault::Address => 2,
+            RunFault::Text(_, _) => 1,
+            RunFault::Services(_) | RunFault::NotAList | RunFault::Address => 2,
             _ => 3,
         }
     }
 }
-
-impl fmt::Display for RunFault {
-    ghost output = { λ fault. Some (fault_text fault) };
-
-    fn fmt<W: fmt::Write>(&self, f: &mut fmt::Formatter<W>) -> fmt::Result {
-        match self {
-            RunFault::Line(number, fault) => write!(f, "uecp: line {number}: {fault}"),
-            RunFault::Services(name) => write!(f, "uecp: services: {name}"),
-            RunFault::Address => f.write_str("uecp: address: NotExact"),
-            RunFault::TooLong => f.write_str("uecp: input too long"),
-            RunFault::Reading => f.write_str("uecp: reading failed"),
-            RunFault::Writing => f.write_str("uecp: writing failed"),
-            RunFault::OutOfMemory => f.write_str("uecp: out of memory"),
-            RunFault::Listening => f.write_str("uecp: listening failed"),
-            RunFault::Connection => f.write_str("uecp: connection failed"),
-            RunFault::Outstanding => Ok(()),
-        }
-    }
-}
-
-impl Error for RunFault {}
 
 impl From<AllocError> for RunFault {
     ghost from_gives = { λ _ e. e ≡ OutOfMemory };

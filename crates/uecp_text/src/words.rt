@@ -2,10 +2,10 @@
 ghost use Rattle.std.specs.Prelude.{◌≡◌, ◌≤◌, ◌<◌, ◌⊎◌, ℕ, List, [], ◌∷◌, length, Ok, IfOk, IfErr, IfSome, IfNone, IsErr};
 ghost use Rattle.hex.specs.Hex.{decode_of, decode_sized};
 ghost use Rattle.uecp_frame.specs.Frame.{high_first};
-ghost use Rattle.uecp_text.specs.declared.line_fault.LineFault.TheVariants.{NotACommand, OutOfMemory};
+ghost use Rattle.uecp_text.specs.declared.text_fault.TextFault.TheVariants.{NotACommand, OutOfMemory};
 ghost use Rattle.uecp_text.specs.Words.{words, texts, decimal_in, IsRow};
 
-use crate::line_fault::LineFault;
+use crate::text_fault::TextFault;
 use std::alloc::{AllocError, Global};
 
 /// The words of a text: its longest parts without a space.
@@ -18,25 +18,25 @@ pub fn words_of(alloc: Global, text: &[u8]) -> Result<Vec<&[u8]>, AllocError>
 }
 
 /// The bytes of a word of hexadecimal digits of either case, two for each; `refusal` where it is none.
-pub fn bytes_of(alloc: Global, word: &[u8], refusal: LineFault) -> Result<Vec<u8>, LineFault>
+pub fn bytes_of(alloc: Global, word: &[u8], refusal: TextFault) -> Result<Vec<u8>, TextFault>
     ensures bytes { IfOk result (λ b. decode_of word.now ≡ Ok b.items) }
     ensures refused { IfErr result (λ e. (e ≡ OutOfMemory) ⊎ ((e ≡ refusal) × IsErr (decode_of word.now))) }
 {
     match hex::decode(alloc, word) {
         Ok(bytes) => Ok(bytes),
-        Err(hex::FromHexError::OutOfMemory) => Err(LineFault::OutOfMemory),
+        Err(hex::FromHexError::OutOfMemory) => Err(TextFault::OutOfMemory),
         Err(_) => Err(refusal),
     }
 }
 
 /// The same, and no bytes for a lone `-`.
-pub fn bytes_or_none(alloc: Global, word: &[u8]) -> Result<Vec<u8>, LineFault>
+pub fn bytes_or_none(alloc: Global, word: &[u8]) -> Result<Vec<u8>, TextFault>
     ensures row { IfOk result (λ b. IsRow word.now b.items) }
     ensures refused { IfErr result (λ e. (e ≡ OutOfMemory) ⊎ ((e ≡ NotACommand) × ((bytes : List ℕ) → IsRow word.now bytes → ⊥))) }
 {
     match word {
         b"-" => Ok(Vec::new(alloc)),
-        _ => bytes_of(alloc, word, LineFault::NotACommand),
+        _ => bytes_of(alloc, word, TextFault::NotACommand),
     }
 }
 

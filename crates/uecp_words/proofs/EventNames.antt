@@ -7,8 +7,8 @@ use Rattle.uecp_link.specs.Once.{Event, Submit, FrameComes, ReplyComes, EncoderL
 use Rattle.uecp_link.specs.Events.{lost_of}
 use Rattle.uecp_link.specs.declared.event.Side.{Side}
 use Rattle.uecp_link.specs.declared.event.Side.TheVariants as side
-use Rattle.uecp_text.specs.declared.line_fault.LineFault.{LineFault}
-use Rattle.uecp_text.specs.declared.line_fault.LineFault.TheVariants.{NotACommand, OutOfMemory}
+use Rattle.uecp_text.specs.declared.text_fault.TextFault.{TextFault}
+use Rattle.uecp_text.specs.declared.text_fault.TextFault.TheVariants.{NotACommand, OutOfMemory}
 use Rattle.uecp_text.specs.Words.{IsRow, decimal_in}
 use Rattle.uecp_words.specs.EventWords.{name_of, end_word, noise_to, is_cut, AreCuts, TellsMessage, TellsNoise, TellsRow, Names, Submits, IsFaultOf}
 
@@ -75,15 +75,15 @@ no_loss words none ServerLost named =
 no_loss words none event named = apart (codes "line-lost") (name_of event) words named.0 refl named.1
 
 -- Why a word, or all words after the first, are refused.
-abbrev pub FailsFor : {A : Type 0} → (A → Type 0) → LineFault → Type 0
+abbrev pub FailsFor : {A : Type 0} → (A → Type 0) → TextFault → Type 0
 FailsFor {A} fits e = (e ≡ OutOfMemory) ⊎ ((e ≡ NotACommand) × ((a : A) → fits a → ⊥))
 
 -- Why the words after the name of a frame or a reply are refused.
-abbrev pub FailsFrom : List (List ℕ) → LineFault → Type 0
+abbrev pub FailsFrom : List (List ℕ) → TextFault → Type 0
 FailsFrom words e = ((e ≡ OutOfMemory) × (1 < length words)) ⊎ ((e ≡ NotACommand) × ((number : ℕ) → TellsMessage words number → ⊥))
 
 -- The same of a slice of words.
-pub fails_from : (words : List (Bor (List ℕ))) (e : LineFault) → ((e ≡ OutOfMemory) × (1 < length words)) ⊎ ((e ≡ NotACommand) × ((number : ℕ) → TellsMessage (map (λ w. w.now) words) number → ⊥)) → FailsFrom (map (λ w. w.now) words) e
+pub fails_from : (words : List (Bor (List ℕ))) (e : TextFault) → ((e ≡ OutOfMemory) × (1 < length words)) ⊎ ((e ≡ NotACommand) × ((number : ℕ) → TellsMessage (map (λ w. w.now) words) number → ⊥)) → FailsFrom (map (λ w. w.now) words) e
 fails_from words e (inl out) = inl (out.0, let same = length-map words (λ (w : Bor (List ℕ)). w.now) in omega arith)
 fails_from words e (inr f) = inr f
 
@@ -92,17 +92,17 @@ pub one_long : (words : List (Bor (List ℕ))) → 1 ≤ length words → length
 one_long words at_least below = let same = length-map words (λ (w : Bor (List ℕ)). w.now) in omega arith
 
 -- What `frame` is refused for is the fault of the words.
-pub frame_refused : (words : List (List ℕ)) (e : LineFault) → FailsFrom words e → IsFaultOf (codes "frame" ∷ words) e
+pub frame_refused : (words : List (List ℕ)) (e : TextFault) → FailsFrom words e → IsFaultOf (codes "frame" ∷ words) e
 frame_refused words e (inl out) = rw out.0 (FrameComes 0, words, refl, out.1)
 frame_refused words e (inr f) = rw f.0 (record { no_event = no_frame words f.1; no_bytes = no_bytes (codes "frame") words refl })
 
 -- What `reply` is refused for is the fault of the words.
-pub reply_refused : (words : List (List ℕ)) (e : LineFault) → FailsFrom words e → IsFaultOf (codes "reply" ∷ words) e
+pub reply_refused : (words : List (List ℕ)) (e : TextFault) → FailsFrom words e → IsFaultOf (codes "reply" ∷ words) e
 reply_refused words e (inl out) = rw out.0 (ReplyComes 0, words, refl, out.1)
 reply_refused words e (inr f) = rw f.0 (record { no_event = no_reply words f.1; no_bytes = no_bytes (codes "reply") words refl })
 
 -- What the row of `submit` is refused for is the fault of the words.
-pub submission_refused : (words : List (List ℕ)) (e : LineFault) → length words ≡ 1 → FailsFor (TellsRow words) e → IsFaultOf (codes "submit" ∷ words) e
+pub submission_refused : (words : List (List ℕ)) (e : TextFault) → length words ≡ 1 → FailsFor (TellsRow words) e → IsFaultOf (codes "submit" ∷ words) e
 submission_refused words e one (inl out) = rw out (Submit [], words, refl, one)
 submission_refused words e one (inr f) = rw f.0 (record {
   no_event = no_submission words f.1;
@@ -110,12 +110,12 @@ submission_refused words e one (inr f) = rw f.0 (record {
 })
 
 -- What the end of `line-lost` is refused for is the fault of the words.
-pub loss_refused : (word : List ℕ) (words : List (List ℕ)) (e : LineFault) → words ≡ word ∷ [] → (e ≡ NotACommand) × ((end : Side) → word ≡ end_word end → ⊥) → IsFaultOf (codes "line-lost" ∷ words) e
+pub loss_refused : (word : List ℕ) (words : List (List ℕ)) (e : TextFault) → words ≡ word ∷ [] → (e ≡ NotACommand) × ((end : Side) → word ≡ end_word end → ⊥) → IsFaultOf (codes "line-lost" ∷ words) e
 loss_refused word words e is f =
     rw f.0 (record { no_event = no_loss words (λ end same. f.1 end (let one : word ∷ [] ≡ end_word end ∷ [] = sym is ∙ same in first_same word (end_word end) one)); no_bytes = no_bytes (codes "line-lost") words refl })
 
 -- A lone word that fits nothing makes words that tell nothing.
-pub row_fails : (word : List ℕ) (words : List (List ℕ)) (e : LineFault) → words ≡ word ∷ [] → FailsFor (IsRow word) e → FailsFor (TellsRow words) e
+pub row_fails : (word : List ℕ) (words : List (List ℕ)) (e : TextFault) → words ≡ word ∷ [] → FailsFor (IsRow word) e → FailsFor (TellsRow words) e
 row_fails word words e is (inl out) = inl out
 row_fails word words e is (inr f) = inr (f.0, λ bytes row. f.1 bytes (subst (λ w. IsRow w bytes) (sym (first_same word row.0 (sym is ∙ row.1))) row.2))
 

@@ -8,8 +8,8 @@ use Rattle.uecp_link.specs.declared.event.Side.{Side}
 use Rattle.uecp_link.specs.declared.event.Side.TheVariants as side
 use Rattle.uecp_words.specs.declared.event_words.EventLine.{EventLine}
 use Rattle.uecp_words.specs.declared.event_words.EventLine.TheVariants as line
-use Rattle.uecp_text.specs.declared.line_fault.LineFault.{LineFault}
-use Rattle.uecp_text.specs.declared.line_fault.LineFault.TheVariants as fault
+use Rattle.uecp_text.specs.declared.text_fault.TextFault.{TextFault}
+use Rattle.uecp_text.specs.declared.text_fault.TextFault.TheVariants as fault
 use Rattle.uecp_text.specs.Words.{decimal_in, IsRow}
 
 -- The first word of the line that names an event.
@@ -94,7 +94,7 @@ MayWantMemory words = (event : Event) × (others : List (List ℕ)) × (words �
 
 -- What is wrong with the words: they name nothing; or they submit more than 255 bytes. Or memory was wanting for what
 -- they hold.
-abbrev pub IsFaultOf : List (List ℕ) → LineFault → Type 0
+abbrev pub IsFaultOf : List (List ℕ) → TextFault → Type 0
 IsFaultOf words fault.NotACommand = NamesNothing words
 IsFaultOf words fault.MessageTooLong = (bytes : List ℕ) × Submits words bytes × (255 < length bytes)
 IsFaultOf words fault.OutOfMemory = MayWantMemory words

@@ -14,6 +14,9 @@ use uecp_text::{byte_of, digits_of, number_of};
 /// The most bytes of a text.
 const TEXT_MAX: usize = 64;
 
+/// The bytes of a programme service name.
+const NAME_LENGTH: usize = 8;
+
 /// The spelling of the element that the words name, or None where they name none.
 pub fn spelling_of(words: &[&[u8]]) -> Option<Message>
     ensures named { IfSome result (λ m. NamesSpelling (texts words.now) m) }
@@ -53,7 +56,7 @@ fn of_ps(words: &[&[u8]]) -> Option<Message>
     let [dsn, psn, name] = words else {
         return None;
     };
-    let (dsn, psn, name) = (byte_of(dsn)?, byte_of(psn)?, digits_of::<8>(name)?);
+    let (dsn, psn, name) = (byte_of(dsn)?, byte_of(psn)?, digits_of::<NAME_LENGTH>(name)?);
     Some(spelled(&Element::Ps {
         dsn,
         psn,

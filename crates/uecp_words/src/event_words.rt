@@ -2,7 +2,7 @@
 ghost use Rattle.std.specs.Prelude.{◌≡◌, ◌<◌, ℕ, List, [], ◌∷◌, ◌⊎◌, length, drop, codes, true, false, IfOk, IfErr};
 ghost use Rattle.std.specs.List.{list_all};
 ghost use Rattle.uecp_link.specs.declared.event.Side.{Side as End};
-ghost use Rattle.uecp_text.specs.declared.line_fault.LineFault.TheVariants.{NotACommand, OutOfMemory};
+ghost use Rattle.uecp_text.specs.declared.text_fault.TextFault.TheVariants.{NotACommand, OutOfMemory};
 ghost use Rattle.uecp_text.specs.Words.{texts};
 ghost use Rattle.uecp_words.specs.EventWords.{Names, IsCutAs, IsFaultOf, IsMessageNumber, AreCuts, is_cut, TellsMessage, end_word, noise_to, name_of, event_seen};
 
@@ -10,10 +10,13 @@ use crate::messages::message_of;
 use std::alloc::Global;
 use uecp_frame::Message;
 use uecp_link::Side;
-use uecp_text::{LineFault, bytes_of, bytes_or_none, decimal_of};
+use uecp_text::{TextFault, bytes_of, bytes_or_none, decimal_of};
 
 /// The greatest number that nine digits spell.
 const NUMBER_MAX: u32 = 999_999_999;
+
+/// The most digits of a number.
+const DIGITS_MAX: usize = 9;
 
 /// One line of an event script: an event that holds its bytes and lengths itself.
 #[derive(Debug, Drop)]
@@ -33,19 +36,19 @@ pub enum EventLine {
 }
 
 /// Reads the words of a line.
-pub fn event_of(alloc: Global, words: &[&[u8]]) -> Result<EventLine, LineFault>
+pub fn event_of(alloc: Global, words: &[&[u8]]) -> Result<EventLine, TextFault>
     ensures named { IfOk result (λ e. Names (texts words.now) (event_seen e)) }
     ensures pieces { IfOk result (λ e. IsCutAs (texts words.now) e) }
     ensures refused { IfErr result (λ e. IsFaultOf (texts words.now) e) }
 {
     match words {
         [name, others @ ..] => event_named(alloc, name, others),
-        [] => Err(LineFault::NotACommand),
+        [] => Err(TextFault::NotACommand),
     }
 }
 
 /// The event of that name, which the other words tell.
-fn event_named(alloc: Global, name: &[u8], words: &[&[u8]]) -> Result<EventLine, LineFault>
+fn event_named(alloc: Global, name: &[u8], words: &[&[u8]]) -> Result<EventLine, TextFault>
     ensures named { IfOk result (λ e. Names (name.now ∷ texts words.now) (event_seen e)) }
     ensures pieces { IfOk result (λ e. IsCutAs (name.now ∷ texts words.now) e) }
     ensures refused { IfErr result (λ e. IsFaultOf (name.now ∷ texts words.now) e) }
@@ -65,12 +68,12 @@ fn event_named(alloc: Global, name: &[u8], words: &[&[u8]]) -> Result<EventLine,
     } else if name == b"take".as_slice() {
         take_of(words)
     } else {
-        Err(LineFault::NotACommand)
+        Err(TextFault::NotACommand)
     }
 }
 
 /// A submission of the message that the words tell.
-fn submit_of(alloc: Global, words: &[&[u8]]) -> Result<EventLine, LineFault>
+fn submit_of(alloc: Global, words: &[&[u8]]) -> Result<EventLine, TextFault>
     ensures named { IfOk result (λ e. Names (codes "submit" ∷ texts words.now) (event_seen e)) }
     ensures pieces { IfOk result (λ e. IsCutAs (codes "submit" ∷ texts words.now) e) }
     ensures refused { IfErr result (λ e. IsFaultOf (codes "submit" ∷ texts words.now) e) }
@@ -80,12 +83,12 @@ fn submit_of(alloc: Global, words: &[&[u8]]) -> Result<EventLine, LineFault>
             let bytes = bytes_or_none(alloc, word)?;
             Ok(EventLine::Submit(message_of(bytes.as_slice())?))
         }
-        _ => Err(LineFault::NotACommand),
+        _ => Err(TextFault::NotACommand),
     }
 }
 
 /// The frame of the message that the words tell.
-fn frame_of(alloc: Global, words: &[&[u8]]) -> Result<EventLine, LineFault>
+fn frame_of(alloc: Global, words: &[&[u8]]) -> Result<EventLine, TextFault>
     ensures named { IfOk result (λ e. Names (codes "frame" ∷ texts words.now) (event_seen e)) }
     ensures pieces { IfOk result (λ e. IsCutAs (codes "frame" ∷ texts words.now) e) }
     ensures refused { IfErr result (λ e. IsFaultOf (codes "frame" ∷ texts words.now) e) }
@@ -95,7 +98,7 @@ fn frame_of(alloc: Global, words: &[&[u8]]) -> Result<EventLine, LineFault>
 }
 
 /// The reply to the message that the words tell.
-fn reply_of(alloc: Global, words: &[&[u8]]) -> Result<EventLine, LineFault>
+fn reply_of(alloc: Global, words: &[&[u8]]) -> Result<EventLine, TextFault>
     ensures named { IfOk result (λ e. Names (codes "reply" ∷ texts words.now) (event_seen e)) }
     ensures pieces { IfOk result (λ e. IsCutAs (codes "reply" ∷ texts words.now) e) }
     ensures refused { IfErr result (λ e. IsFaultOf (codes "reply" ∷ texts words.now) e) }
@@ -105,55 +108,55 @@ fn reply_of(alloc: Global, words: &[&[u8]]) -> Result<EventLine, LineFault>
 }
 
 /// The number of a message and any cuts.
-fn number_and_cut(alloc: Global, words: &[&[u8]]) -> Result<(usize, Vec<u16>), LineFault>
+fn number_and_cut(alloc: Global, words: &[&[u8]]) -> Result<(usize, Vec<u16>), TextFault>
     ensures told { IfOk result (λ told. TellsMessage (texts words.now) told.0) }
     ensures pieces { IfOk result (λ told. AreCuts (drop 1 (texts words.now)) told.1.items) }
     ensures refused { IfErr result (λ e. ((e ≡ OutOfMemory) × (1 < length words.now)) ⊎ ((e ≡ NotACommand) × ((number : ℕ) → TellsMessage (texts words.now) number → ⊥))) }
 {
     match words {
         [number, cut @ ..] => Ok((message_number_of(number)?, cut_of(alloc, cut)?)),
-        [] => Err(LineFault::NotACommand),
+        [] => Err(TextFault::NotACommand),
     }
 }
 
 /// Noise towards that end, of the bytes that the words tell.
-fn noise_of(alloc: Global, side: Side, words: &[&[u8]]) -> Result<EventLine, LineFault>
+fn noise_of(alloc: Global, side: Side, words: &[&[u8]]) -> Result<EventLine, TextFault>
     ensures named { IfOk result (λ e. Names (name_of (noise_to side []) ∷ texts words.now) (event_seen e)) }
     ensures pieces { IfOk result (λ e. IsCutAs (name_of (noise_to side []) ∷ texts words.now) e) }
     ensures refused { IfErr result (λ e. IsFaultOf (name_of (noise_to side []) ∷ texts words.now) e) }
 {
     match words {
-        [word] => Ok(EventLine::Noise(side, bytes_of(alloc, word, LineFault::NotACommand)?)),
-        _ => Err(LineFault::NotACommand),
+        [word] => Ok(EventLine::Noise(side, bytes_of(alloc, word, TextFault::NotACommand)?)),
+        _ => Err(TextFault::NotACommand),
     }
 }
 
 /// The loss of the line at the end that the words tell.
-fn loss_of(words: &[&[u8]]) -> Result<EventLine, LineFault>
+fn loss_of(words: &[&[u8]]) -> Result<EventLine, TextFault>
     ensures named { IfOk result (λ e. Names (codes "line-lost" ∷ texts words.now) (event_seen e)) }
     ensures pieces { IfOk result (λ e. IsCutAs (codes "line-lost" ∷ texts words.now) e) }
     ensures refused { IfErr result (λ e. IsFaultOf (codes "line-lost" ∷ texts words.now) e) }
 {
     match words {
         [word] => Ok(EventLine::LineLost(end_of(word)?)),
-        _ => Err(LineFault::NotACommand),
+        _ => Err(TextFault::NotACommand),
     }
 }
 
 /// A take; no words tell more of it.
-fn take_of(words: &[&[u8]]) -> Result<EventLine, LineFault>
+fn take_of(words: &[&[u8]]) -> Result<EventLine, TextFault>
     ensures named { IfOk result (λ e. Names (codes "take" ∷ texts words.now) (event_seen e)) }
     ensures pieces { IfOk result (λ e. IsCutAs (codes "take" ∷ texts words.now) e) }
     ensures refused { IfErr result (λ e. IsFaultOf (codes "take" ∷ texts words.now) e) }
 {
     if !words.is_empty() {
-        return Err(LineFault::NotACommand);
+        return Err(TextFault::NotACommand);
     }
     Ok(EventLine::Take)
 }
 
 /// The end of that name.
-fn end_of(word: &[u8]) -> Result<Side, LineFault>
+fn end_of(word: &[u8]) -> Result<Side, TextFault>
     ensures named { IfOk result (λ s. word.now ≡ end_word s) }
     ensures refused { IfErr result (λ e. (e ≡ NotACommand) × ((s : End) → word.now ≡ end_word s → ⊥)) }
 {
@@ -162,26 +165,26 @@ fn end_of(word: &[u8]) -> Result<Side, LineFault>
     } else if word == b"server".as_slice() {
         Ok(Side::Server)
     } else {
-        Err(LineFault::NotACommand)
+        Err(TextFault::NotACommand)
     }
 }
 
 /// The number of a message, of one to nine digits.
-fn message_number_of(word: &[u8]) -> Result<usize, LineFault>
+fn message_number_of(word: &[u8]) -> Result<usize, TextFault>
     ensures number { IfOk result (λ number. IsMessageNumber word.now number) }
     ensures refused { IfErr result (λ e. (e ≡ NotACommand) × ((number : ℕ) → IsMessageNumber word.now number → ⊥)) }
 {
-    if word.len() > 9 {
-        return Err(LineFault::NotACommand);
+    if word.len() > DIGITS_MAX {
+        return Err(TextFault::NotACommand);
     }
     match decimal_of(word, NUMBER_MAX) {
         Some(number) => Ok(number as usize),
-        None => Err(LineFault::NotACommand),
+        None => Err(TextFault::NotACommand),
     }
 }
 
 /// The lengths of pieces, each 0 to 65535.
-fn cut_of(alloc: Global, words: &[&[u8]]) -> Result<Vec<u16>, LineFault>
+fn cut_of(alloc: Global, words: &[&[u8]]) -> Result<Vec<u16>, TextFault>
     ensures cuts { IfOk result (λ cut. list_all is_cut (texts words.now) ≡ true) }
     ensures pieces { IfOk result (λ cut. AreCuts (texts words.now) cut.items) }
     ensures refused { IfErr result (λ e. ((e ≡ OutOfMemory) × (0 < length words.now)) ⊎ ((e ≡ NotACommand) × (list_all is_cut (texts words.now) ≡ false))) }
@@ -190,7 +193,7 @@ fn cut_of(alloc: Global, words: &[&[u8]]) -> Result<Vec<u16>, LineFault>
     for word in words {
         match decimal_of(word, u32::from(u16::MAX)) {
             Some(length) => cut.push(length as u16)?,
-            None => return Err(LineFault::NotACommand),
+            None => return Err(TextFault::NotACommand),
         }
     }
     Ok(cut)

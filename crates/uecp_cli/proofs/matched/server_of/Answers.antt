@@ -7,14 +7,14 @@ pub returns-clause-job : goal.returns-clause-job
 returns-clause-job c =
     let flag = one_text-rows (found_of c.args.found.now) (codes "join") in (
       refl,
-      (c.site_of.ensures, c.small_of.ensures),
+      (c.short_of.ensures, c.small_of.ensures),
       record {
         is_host = c.in_ok-host_of.ensures;
-        is_port = c.port_of.ensures;
-        is_tries = c.large_of.ensures;
-        is_timeout = c.large_of-2.ensures;
-        is_turns = c.large_of-3.ensures;
-        is_reconnects = c.large_of-4.ensures;
+        is_port = c.short_of-2.ensures;
+        is_tries = c.number_of.ensures;
+        is_timeout = c.number_of-2.ensures;
+        is_turns = c.number_of-3.ensures;
+        is_reconnects = c.number_of-4.ensures;
         is_window = c.small_of-2.ensures;
         is_join = record {
           given = λ e. c.get_flag.ensures.value (flag ∙ e);

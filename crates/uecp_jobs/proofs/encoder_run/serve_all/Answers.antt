@@ -1,10 +1,10 @@
 use Rattle.std.proofs.Common.{rules, ◌≡◌, Err, refl, sym, ap, subst, inl, inr}
-use Rattle.uecp_jobs.specs.Setups.{RefusesSetup}
-use Rattle.uecp_jobs.specs.Jobs.{options, RefusesJob}
+use Rattle.uecp_jobs.specs.Setups.{options_of}
+use Rattle.uecp_jobs.specs.Jobs.{options, Describes}
 use Rattle.uecp_text.specs.Faults.{Fails}
 use Rattle.uecp_jobs.specs.EncoderRun.{ServedAll, ServedFewer, ServedSome, Serves}
 use Rattle.uecp_jobs.proofs.EncoderRun.{served_none, ServedBy, FewerBy, SomeBy, served_by, fewer_by, some_by}
-use Rattle.uecp_jobs.proofs.Doing.{stopped}
+use Rattle.uecp_jobs.proofs.Doing.{setup_refused, stopped}
 use Rattle.uecp_jobs.proofs.encoder_run.serve_all.Goals as goal
 
 pub returns-in_err-encoder-in-Encoder : goal.returns-in_err-encoder-in-Encoder
@@ -14,7 +14,6 @@ returns-in_err-encoder-in-Encoder g c =
     let left = g.C.Input.Read.remaining in
     let sent = g.C.Output.Write.contents in
     let held = g.W.Write.contents in
-    let i = c.in-Encoder in
     let fault = c.in_err-encoder-in-Encoder.field-0.0 in
     let same : c.from_residual.result ≡ Err fault = search rules in
     elim c.in_err-encoder-in-Encoder.ensures.refused [
@@ -25,7 +24,7 @@ returns-in_err-encoder-in-Encoder g c =
           inl (
             fault,
             same,
-            subst (λ job. RefusesJob job fault) (sym i.is) (subst (λ services. RefusesSetup (options i.site i.encoder i.sets services) fault) c.as_slice-services.ensures.value refused),
+            setup_refused c.args.job.now (options_of c.setup_of-setup.result) fault c.setup_of-setup.ensures refused,
             refl,
             refl,
           )
@@ -39,11 +38,13 @@ returns-in-Ok g c =
     let sent = g.C.Output.Write.contents in
     let held = g.W.Write.contents in
     let i = c.in-Encoder in
+    let setup = options_of c.setup_of-setup.result in
+    let is_setup : setup ≡ options i.site i.encoder i.sets i.services.items = subst (λ job. Describes job setup) i.is c.setup_of-setup.ensures in
     let e = c.in_ok-encoder-in-Encoder in
     let now = c.serve_connections.new in
     inr (subst (λ job. ServedAll opens closes left sent job c.args.connect.now now.connect (held c.args.writer.now) (held now.writer)) (sym i.is)
-    (subst (λ services. ServedBy opens closes left sent i.connections i.turns c.args.connect.now now.connect (held c.args.writer.now) (held now.writer) (options i.site i.encoder i.sets services)) c.as_slice-services.ensures.value
-    (served_by opens closes left sent i.connections i.turns c.args.connect.now now.connect (held c.args.writer.now) (held now.writer) (options i.site i.encoder i.sets c.as_slice-services.result.now) e.encoder now.encoder
+    (subst (ServedBy opens closes left sent i.connections i.turns c.args.connect.now now.connect (held c.args.writer.now) (held now.writer)) is_setup
+    (served_by opens closes left sent i.connections i.turns c.args.connect.now now.connect (held c.args.writer.now) (held now.writer) setup e.encoder now.encoder
     e.ensures.described e.ensures.made c.in-Ok.ensures.served)))
 
 pub returns-in-Encoder : goal.returns-in-Encoder
@@ -54,21 +55,23 @@ returns-in-Encoder g c =
     let sent = g.C.Output.Write.contents in
     let held = g.W.Write.contents in
     let i = c.in-Encoder in
+    let setup = options_of c.setup_of-setup.result in
+    let is_setup : setup ≡ options i.site i.encoder i.sets i.services.items = subst (λ job. Describes job setup) i.is c.setup_of-setup.ensures in
     let e = c.in_ok-encoder-in-Encoder in
     let now = c.serve_connections.new in
     inr (elim c.in-Err.ensures.faults [
       | inl is ↦ inl (
         is,
         subst (λ job. ServedFewer opens closes left sent job c.args.connect.now now.connect (held c.args.writer.now) (held now.writer)) (sym i.is)
-            (subst (λ services. FewerBy opens closes left sent i.connections i.turns c.args.connect.now now.connect (held c.args.writer.now) (held now.writer) (options i.site i.encoder i.sets services)) c.as_slice-services.ensures.value
-            (fewer_by opens closes left sent i.connections i.turns c.args.connect.now now.connect (held c.args.writer.now) (held now.writer) (options i.site i.encoder i.sets c.as_slice-services.result.now) e.encoder now.encoder
+            (subst (FewerBy opens closes left sent i.connections i.turns c.args.connect.now now.connect (held c.args.writer.now) (held now.writer)) is_setup
+            (fewer_by opens closes left sent i.connections i.turns c.args.connect.now now.connect (held c.args.writer.now) (held now.writer) setup e.encoder now.encoder
             e.ensures.described e.ensures.made (c.in-Err.ensures.refused (ap stopped is)))),
       )
       | inr (other, fails) ↦ inr (
         fails,
         subst (λ job. ServedSome opens closes left sent job c.args.connect.now now.connect (held c.args.writer.now) (held now.writer)) (sym i.is)
-            (subst (λ services. SomeBy opens closes left sent i.connections i.turns c.args.connect.now now.connect (held c.args.writer.now) (held now.writer) (options i.site i.encoder i.sets services)) c.as_slice-services.ensures.value
-            (some_by opens closes left sent i.connections i.turns c.args.connect.now now.connect (held c.args.writer.now) (held now.writer) (options i.site i.encoder i.sets c.as_slice-services.result.now) e.encoder now.encoder
+            (subst (SomeBy opens closes left sent i.connections i.turns c.args.connect.now now.connect (held c.args.writer.now) (held now.writer)) is_setup
+            (some_by opens closes left sent i.connections i.turns c.args.connect.now now.connect (held c.args.writer.now) (held now.writer) setup e.encoder now.encoder
             e.ensures.described e.ensures.made (c.in-Err.ensures.broken other))),
       )
     ])

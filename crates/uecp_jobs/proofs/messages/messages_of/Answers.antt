@@ -12,24 +12,24 @@ loop-rest-init c = record { count = omega arith; messages = search rules; refusa
 pub returns-in_default-fault : goal.returns-in_default-fault
 returns-in_default-fault c =
     let now = c.loop-rest in
-    let line = c.first_line.result.0.now in
-    let more = c.first_line.result.1.now in
+    let line = c.first_input_line.result.0.now in
+    let more = c.first_input_line.result.1.now in
     let text = c.in-Some.text.now in
     let fault = c.in-Err.fault in
     let says : Some text ≡ said line = c.in-Some.ensures in
     let is : spelled text ≡ Err fault = elim c.in-Err.ensures.refused [ inl wanting ↦ absurd (c.in_default-fault.not-OutOfMemory wanting) | inr refused ↦ refused ] in
     record {
-      messages = sym (now.invariant.messages ∙ ap (λ l. now.list.items ++ l) (no_message now.number now.rest.now line more c.first_line.ensures.lines text says fault is) ∙ append-nil now.list.items);
-      refused_line = sym (now.invariant.refusal ∙ refused_here now.number now.rest.now line more c.first_line.ensures.lines text says fault is);
+      messages = sym (now.invariant.messages ∙ ap (λ l. now.list.items ++ l) (no_message now.number now.rest.now line more c.first_input_line.ensures.lines text says fault is) ∙ append-nil now.list.items);
+      refused_line = sym (now.invariant.refusal ∙ refused_here now.number now.rest.now line more c.first_input_line.ensures.lines text says fault is);
       refused = tt;
     }
 
 pub loop-rest-preserved : goal.loop-rest-preserved
 loop-rest-preserved c =
     let now = c.loop-rest in
-    let line = c.first_line.result.0.now in
-    let more = c.first_line.result.1.now in
-    let shorter = c.first_line.ensures.shorter in
+    let line = c.first_input_line.result.0.now in
+    let more = c.first_input_line.result.1.now in
+    let shorter = c.first_input_line.ensures.shorter in
     let so_far = now.invariant.count in
     elim c.match-text_of.branch [
       | in-Some+in-Ok+in_ok-push-in-Ok w ↦
@@ -41,14 +41,14 @@ loop-rest-preserved c =
           record {
             count = omega (arith, shorter, so_far);
             messages =
-                now.invariant.messages ∙ ap (λ l. now.list.items ++ l) (one_message now.number now.rest.now line more c.first_line.ensures.lines w.in-Some.text.now says message is)
+                now.invariant.messages ∙ ap (λ l. now.list.items ++ l) (one_message now.number now.rest.now line more c.first_input_line.ensures.lines w.in-Some.text.now says message is)
                 ∙ sym (append_assoc now.list.items (message ∷ []) later) ∙ ap (λ l. l ++ later) (sym list_is);
-            refusal = now.invariant.refusal ∙ none_refused_yet now.number now.rest.now line more c.first_line.ensures.lines w.in-Some.text.now says message is;
+            refusal = now.invariant.refusal ∙ none_refused_yet now.number now.rest.now line more c.first_input_line.ensures.lines w.in-Some.text.now says message is;
           }
       | in_default w ↦
           let says : None ≡ said line = search rules in
           let list_is : c.match-text_of.list.items ≡ now.list.items = search rules in
-          let same = no_text now.number now.rest.now line more c.first_line.ensures.lines says in
+          let same = no_text now.number now.rest.now line more c.first_input_line.ensures.lines says in
           record {
             count = omega (arith, shorter, so_far);
             messages = now.invariant.messages ∙ ap (λ l. now.list.items ++ messages_first l) same ∙ ap (λ l. l ++ messages_first (numbered (now.number + 1) (lines_of more))) (sym list_is);

@@ -15,12 +15,12 @@ loop-rest-preserved c =
     let o = c.loop-rest.deframer in
     let o' = c.feed-fed.new.self in
     let rest : List ℕ = c.loop-rest.rest.now in
-    let rest' : List ℕ = c.left-rest.result.now in
+    let rest' : List ℕ = c.rest_after-rest.result.now in
     let now : List Finding = findings_of c.feed-fed.result.found in
     let later : List Finding = found_beyond o' rest' in
-    let found = found_on o o' c.feed-fed.result rest rest' c.feed-fed.ensures.feeds c.left-rest.ensures in
+    let found = found_on o o' c.feed-fed.result rest rest' c.feed-fed.ensures.feeds c.rest_after-rest.ensures in
     record {
-      part = open_on o o' c.feed-fed.result rest rest' c.feed-fed.ensures.feeds c.left-rest.ensures ∙ c.loop-rest.invariant.part;
+      part = open_on o o' c.feed-fed.result rest rest' c.feed-fed.ensures.feeds c.rest_after-rest.ensures ∙ c.loop-rest.invariant.part;
       lines = leads_on c.args.output.now c.loop-rest.output c.put_found.new.output
           (flat_map finding_lines now) (flat_map finding_lines (found_beyond o rest)) (flat_map finding_lines later)
           (flat_map finding_lines (found_beyond c.args.deframer.now c.args.piece.now))

@@ -13,7 +13,7 @@ returns-in_err-take_line g c =
     let now = c.loop-rest in
     let fault = c.in_err-take_line.field-0.0 in
     let out = led_out g.I.Interpreter.meaning c.args.interpreter.now now.interpreter (texts_of c.args.input.now) c.args.output.now now.output c.take_line.new.output
-    now.number now.rest.now c.first_line.result.0.now c.first_line.result.1.now now.invariant.led c.first_line.ensures.lines c.take_line.new.interpreter fault c.in_err-take_line.ensures in
+    now.number now.rest.now c.first_input_line.result.0.now c.first_input_line.result.1.now now.invariant.led c.first_input_line.ensures.lines c.take_line.new.interpreter fault c.in_err-take_line.ensures in
     let same : c.from_residual.result ≡ Err fault = search rules in
     subst (λ result. RunsOn g.I.Interpreter.meaning c.args.interpreter.now (texts_of c.args.input.now) c.args.output.now result c.take_line.new.interpreter c.take_line.new.output) (sym same) out
 
@@ -21,9 +21,9 @@ pub loop-rest-preserved : goal.loop-rest-preserved
 loop-rest-preserved g c =
     let now = c.loop-rest in
     record {
-      count = let shorter = c.first_line.ensures.shorter in let so_far = now.invariant.count in omega (arith, shorter, so_far);
+      count = let shorter = c.first_input_line.ensures.shorter in let so_far = now.invariant.count in omega (arith, shorter, so_far);
       led = led_on g.I.Interpreter.meaning c.args.interpreter.now now.interpreter (texts_of c.args.input.now) c.args.output.now now.output c.take_line.new.output
-          now.number now.rest.now c.first_line.result.0.now c.first_line.result.1.now now.invariant.led c.first_line.ensures.lines c.take_line.new.interpreter c.in_ok-take_line.ensures;
+          now.number now.rest.now c.first_input_line.result.0.now c.first_input_line.result.1.now now.invariant.led c.first_input_line.ensures.lines c.take_line.new.interpreter c.in_ok-take_line.ensures;
     }
 
 pub returns : goal.returns

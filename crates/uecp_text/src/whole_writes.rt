@@ -4,7 +4,7 @@ ghost use Rattle.std.specs.Io.KnownBytes.{Appends};
 ghost use Rattle.uecp_text.specs.declared.run_fault.RunFault.TheVariants.{Writing};
 ghost use Rattle.uecp_text.specs.Written.{Begins};
 
-use crate::input::left;
+use crate::input::rest_after;
 use crate::run_fault::RunFault;
 use std::io::{ErrorKind, Write};
 
@@ -22,7 +22,7 @@ pub(crate) fn write_whole<W: Write>(bytes: &[u8], writer: &mut W) -> Result<(), 
         }
         match writer.write(rest) {
             Ok(0) => return Err(RunFault::Writing),
-            Ok(count) => rest = left(rest, count),
+            Ok(count) => rest = rest_after(rest, count),
             Err(error) if error.kind() == ErrorKind::Interrupted => {}
             Err(_) => return Err(RunFault::Writing),
         }

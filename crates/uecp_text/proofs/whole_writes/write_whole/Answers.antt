@@ -1,8 +1,8 @@
 use Rattle.std.proofs.Common.{◌++◌, ap, ◌∙◌, sym}
 use Rattle.std.proofs.KnownBytes.{Appends-kept}
 use Rattle.uecp_text.proofs.Begun.{more_written}
-use Rattle.uecp_text.proofs.writing.write_whole.Goals as goal
-use Rattle.uecp_text.proofs.writing.write_whole.Goals.{in-Ok, in-Err}
+use Rattle.uecp_text.proofs.whole_writes.write_whole.Goals as goal
+use Rattle.uecp_text.proofs.whole_writes.write_whole.Goals.{in-Ok, in-Err}
 
 pub loop-turn-preserved : goal.loop-turn-preserved
 loop-turn-preserved g c =
@@ -10,8 +10,8 @@ loop-turn-preserved g c =
     let now = c.loop-turn in
     elim c.match-write.branch [
       | in-Ok w ↦
-          let more = more_written (held c.args.writer.now) (held now.writer) (held c.write.new.self) c.args.bytes.now now.invariant.0 now.rest.now w.left-rest.result.now w.in-Ok.count
-          now.invariant.1 now.invariant.2 w.in-Ok.ensures.bytes w.left-rest.ensures in
+          let more = more_written (held c.args.writer.now) (held now.writer) (held c.write.new.self) c.args.bytes.now now.invariant.0 now.rest.now w.rest_after-rest.result.now w.in-Ok.count
+          now.invariant.1 now.invariant.2 w.in-Ok.ensures.bytes w.rest_after-rest.ensures in
           (more.0, more.1 ∙ ap (λ rest. more.0 ++ rest.now) (sym w.rest-is), more.2)
       | in-Err w ↦ (
         now.invariant.0,

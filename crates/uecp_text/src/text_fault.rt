@@ -2,7 +2,7 @@
 ghost use Rattle.std.specs.Prelude.{◌≡◌, Some};
 ghost use Rattle.uecp_text.specs.Faults.{refusal_text};
 ghost use Rattle.uecp_text.specs.Run.{fault_at};
-ghost use Rattle.uecp_text.specs.declared.line_fault.LineFault.TheVariants.{OutOfMemory};
+ghost use Rattle.uecp_text.specs.declared.text_fault.TextFault.TheVariants.{OutOfMemory};
 
 use crate::run_fault::RunFault;
 use std::alloc::{AllocError, AllocFailed};
@@ -11,7 +11,7 @@ use std::fmt;
 
 /// What is wrong with one line, in the order in which it is looked for.
 #[derive(Clone, Copy, Debug, PartialEq, Eq)]
-pub enum LineFault {
+pub enum TextFault {
     /// A line of pieces has another character than a digit, or an odd number of digits.
     NotHex,
     /// A line of a script has an unknown first word, a wrong number of words or wrong digits.
@@ -24,14 +24,14 @@ pub enum LineFault {
     OutOfMemory,
 }
 
-impl LineFault {
+impl TextFault {
     /// The run's fault where this is the fault of the line of this number, counted from 1.
     pub fn at(self, number: usize) -> RunFault
         ensures { result ≡ fault_at number self }
     {
         match self {
-            LineFault::OutOfMemory => RunFault::OutOfMemory,
-            refusal => RunFault::Line(number, refusal),
+            TextFault::OutOfMemory => RunFault::OutOfMemory,
+            refusal => RunFault::Text(number, refusal),
         }
     }
 
@@ -40,16 +40,16 @@ impl LineFault {
         ensures { result.now ≡ refusal_text self }
     {
         match self {
-            LineFault::NotHex => "not hex",
-            LineFault::NotACommand => "not a command",
-            LineFault::NoFrame => "no frame",
-            LineFault::MessageTooLong => "message too long",
-            LineFault::OutOfMemory => "out of memory",
+            TextFault::NotHex => "not hex",
+            TextFault::NotACommand => "not a command",
+            TextFault::NoFrame => "no frame",
+            TextFault::MessageTooLong => "message too long",
+            TextFault::OutOfMemory => "out of memory",
         }
     }
 }
 
-impl fmt::Display for LineFault {
+impl fmt::Display for TextFault {
     ghost output = { λ fault. Some (refusal_text fault) };
 
     fn fmt<W: fmt::Write>(&self, f: &mut fmt::Formatter<W>) -> fmt::Result {
@@ -57,20 +57,20 @@ impl fmt::Display for LineFault {
     }
 }
 
-impl Error for LineFault {}
+impl Error for TextFault {}
 
-impl From<AllocError> for LineFault {
+impl From<AllocError> for TextFault {
     ghost from_gives = { λ _ e. e ≡ OutOfMemory };
 
-    fn from(_error: AllocError) -> LineFault {
-        LineFault::OutOfMemory
+    fn from(_error: AllocError) -> TextFault {
+        TextFault::OutOfMemory
     }
 }
 
-impl<T: Drop> From<AllocFailed<T>> for LineFault {
+impl<T: Drop> From<AllocFailed<T>> for TextFault {
     ghost from_gives = { λ _ e. e ≡ OutOfMemory };
 
-    fn from(_error: AllocFailed<T>) -> LineFault {
-        LineFault::OutOfMemory
+    fn from(_error: AllocFailed<T>) -> TextFault {
+        TextFault::OutOfMemory
     }
 }

@@ -1,6 +1,6 @@
 use Rattle.std.proofs.Common.{◌≡◌, ℕ, List, ◌++◌}
 use Rattle.std.specs.Io.KnownBytes.{Appends}
-use Rattle.uecp_text.proofs.writing.write_whole.Given as goal
+use Rattle.uecp_text.proofs.whole_writes.write_whole.Given as goal
 
 -- what was written so far, and what is left
 abbrev pub invariant-loop-turn : goal.invariant-loop-turn

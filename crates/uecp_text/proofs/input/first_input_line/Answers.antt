@@ -1,7 +1,7 @@
 use Rattle.std.proofs.Common.{◌∷◌, ◌+◌, drop, ◌∙◌, ap, sym}
 use Rattle.uecp_text.specs.Input.{lines_of}
 use Rattle.uecp_text.proofs.Lines.{first_up_to, first_alone}
-use Rattle.uecp_text.proofs.input.first_line.Goals as goal
+use Rattle.uecp_text.proofs.input.first_input_line.Goals as goal
 
 pub returns-in-Some-clause-lines : goal.returns-in-Some-clause-lines
 returns-in-Some-clause-lines c =

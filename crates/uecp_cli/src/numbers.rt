@@ -1,0 +1,115 @@
+//! The numbers that the program's commands take: a table of their options (profile).
+
+/// An option with a number.
+#[derive(Clone, Copy)]
+pub struct NumberOption {
+    /// The option's name.
+    pub name: &'static str,
+    /// The least number.
+    pub least: u32,
+    /// The greatest number.
+    pub most: u32,
+    /// The number where the option is not given, or None where it has to be.
+    pub default: Option<&'static str>,
+    /// What `--help` says of it.
+    pub help: &'static str,
+}
+
+/// The encoder's site.
+pub const SITE: NumberOption = NumberOption {
+    name: "site",
+    least: 1,
+    most: 1023,
+    default: Some("1"),
+    help: "The encoder's site, 1 to 1023",
+};
+
+/// The encoder's number at its site.
+pub const ENCODER: NumberOption = NumberOption {
+    name: "encoder",
+    least: 1,
+    most: 63,
+    default: Some("1"),
+    help: "The encoder's number at its site, 1 to 63",
+};
+
+/// How many data sets the encoder has.
+pub const SETS: NumberOption = NumberOption {
+    name: "sets",
+    least: 1,
+    most: 8,
+    default: Some("1"),
+    help: "How many data sets the encoder has, 1 to 8",
+};
+
+/// The encoder's port, which has to be given.
+pub const PORT: NumberOption = NumberOption {
+    name: "port",
+    least: 1,
+    most: 65_535,
+    default: None,
+    help: "The encoder's port, 1 to 65535",
+};
+
+/// How many connections `encoder` serves.
+pub const CONNECTIONS: NumberOption = NumberOption {
+    name: "connections",
+    least: 1,
+    most: 1000,
+    default: Some("1"),
+    help: "How many connections are served, one after another, 1 to 1000",
+};
+
+/// How many reads one connection of `encoder` may take.
+pub const SERVE_TURNS: NumberOption = NumberOption {
+    name: "turns",
+    least: 1,
+    most: 1_000_000,
+    default: Some("100000"),
+    help: "How many reads one connection may take, 1 to 1000000",
+};
+
+/// How often `server` sends a message on one connection.
+pub const TRIES: NumberOption = NumberOption {
+    name: "tries",
+    least: 1,
+    most: 100,
+    default: Some("3"),
+    help: "How often a message is sent on one connection, 1 to 100",
+};
+
+/// How many milliseconds connecting, a read or a write of `server` may take.
+pub const TIMEOUT: NumberOption = NumberOption {
+    name: "timeout",
+    least: 1,
+    most: 60_000,
+    default: Some("1000"),
+    help: "How many milliseconds connecting, a read or a write may take, 1 to 60000",
+};
+
+/// How many reads one try of `server` makes at most.
+pub const TRY_TURNS: NumberOption = NumberOption {
+    name: "turns",
+    least: 1,
+    most: 1000,
+    default: Some("16"),
+    help: "How many reads one try makes at most, 1 to 1000",
+};
+
+/// How many connections `server` may open after the first.
+pub const RECONNECTS: NumberOption = NumberOption {
+    name: "reconnects",
+    least: 0,
+    most: 100,
+    default: Some("3"),
+    help: "How many connections may be opened in all after the first, 0 to 100",
+};
+
+/// How many messages of `server` are on their way at once.
+pub const WINDOW: NumberOption = NumberOption {
+    name: "window",
+    least: 1,
+    most: 8,
+    default: Some("1"),
+    help: "How many messages are on their way at once, 1 to 8",
+};
