@@ -1,5 +1,6 @@
 -- What `put` is for an element that names a service.
-use Rattle.std.proofs.Common.{◌≡◌, ℕ, true, false, ◌&&◌, Option, Some, None, refl, ap, ◌∙◌, not, is_none, ◌==◌, if◌then◌else◌}
+use Rattle.std.proofs.Common.{◌≡◌, ℕ, true, false, ◌&&◌, Option, Some, None, refl, ap, ◌∙◌, not, is_none, ◌==◌}
+use Rattle.std.proofs.Common.{if◌then◌else◌}
 use Rattle.std.specs.Option.{option_map_or, unwrap_or}
 use Rattle.uecp_elements.specs.declared.code.Code.{Code}
 use Rattle.uecp_elements.specs.declared.code.Code.TheVariants.{Applied, DataSet, Service, OutOfRange, BufferFull}
@@ -67,13 +68,23 @@ module _ (v : Store) (e : Element) (d p : ℕ) (h : address e ≡ Some (d, p)) w
     pub put-full : is_out_of_range e ≡ false → (adds_text e && has_full_set v d n) ≡ true → put v e ≡ (v, BufferFull)
     put-full r f = by_code BufferFull (addressed_code v e (d, p) h ∙ rw (a, b, r, f) refl)
 
-    pub put-stored : is_out_of_range e ≡ false → (adds_text e && has_full_set v d n) ≡ false → put v e ≡ (stored_at v e (d, p), Applied)
-    put-stored r f = by_code Applied (addressed_code v e (d, p) h ∙ rw (a, b, r, f) refl) ∙ ap (λ w. (w, Applied)) (addressed_stored v e (d, p) h)
+    pub put-stored : is_out_of_range e ≡ false → (adds_text e && has_full_set v d n) ≡ false
+        → put v e ≡ (stored_at v e (d, p), Applied)
+    put-stored r f = by_code Applied (addressed_code v e (d, p) h ∙ rw (a, b, r, f) refl)
+        ∙ ap (λ w. (w, Applied)) (addressed_stored v e (d, p) h)
 
     -- in the words of one service
     pub put-changed : is_out_of_range e ≡ false → (adds_text e && has_full_set v d n) ≡ false
-        → put v e ≡ (record v { places = change_where (at_service (names_set d v.current) n) (taken e) v.places }, Applied)
+        → put v e ≡ (
+          record v { places = change_where (at_service (names_set d v.current) n) (taken e) v.places },
+          Applied,
+        )
     put-changed r f = put-stored r f ∙ ap (λ o. (named_change o, Applied)) b
       where
         named_change : Option ℕ → Store
-        named_change o = record v { places = change_where (λ place. names_set d v.current place.0 && option_map_or (λ service. service == place.1) o false) (taken e) v.places }
+        named_change o = record v {
+          places = change_where
+              (λ place. names_set d v.current place.0 && option_map_or (λ service. service == place.1) o false)
+              (taken e)
+              v.places;
+        }

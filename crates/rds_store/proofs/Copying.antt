@@ -1,5 +1,6 @@
 -- Services are copied one after another.
-use Rattle.std.proofs.Common.{◌≡◌, ℕ, suc, zero, List, [], ◌∷◌, ◌++◌, length, take, drop, slice_get, Some, None, IfSome, refl, sym, ap, ◌∙◌}
+use Rattle.std.proofs.Common.{◌≡◌, ℕ, suc, zero, List, [], ◌∷◌, ◌++◌, length, take, drop, slice_get, Some, None, IfSome}
+use Rattle.std.proofs.Common.{refl, sym, ap, ◌∙◌}
 use Rattle.std.specs.List.{AllByRecursion}
 use Rattle.std.specs.Map.{keys_of, values_of}
 use Rattle.indexmap.specs.Layout.{set_value_at}
@@ -9,7 +10,8 @@ use Rattle.rds_store.specs.Kept.{shape_of}
 abbrev Held : Type 0
 Held = List (ℕ × List ServiceData)
 
-pub written_past : (es : Held) (i : ℕ) (w : List ServiceData) → slice_get (values_of es) i ≡ None → es ≡ set_value_at es i w
+pub written_past : (es : Held) (i : ℕ) (w : List ServiceData) → slice_get (values_of es) i ≡ None
+    → es ≡ set_value_at es i w
 written_past [] i w h = refl
 written_past (e ∷ es) zero w h = absurd_some h
   where
@@ -18,7 +20,8 @@ written_past (e ∷ es) zero w h = absurd_some h
 written_past (e ∷ es) (suc i) w h = ap (λ rest. e ∷ rest) (written_past es i w h)
 
 -- the service that is copied next has as many sets
-pub next_length : (i : ℕ) (held others : Held) (o : ℕ × List ServiceData) → shape_of held ≡ shape_of others → slice_get others i ≡ Some o
+pub next_length : (i : ℕ) (held others : Held) (o : ℕ × List ServiceData) → shape_of held ≡ shape_of others
+    → slice_get others i ≡ Some o
     → IfSome (slice_get (values_of (take i others ++ drop i held)) i) (λ h. length h ≡ length o.1)
 next_length i [] [] o shape at = cc
 next_length i [] (b ∷ bs) o shape at = cc
@@ -32,7 +35,8 @@ next_length (suc i) (a ∷ rs) (b ∷ bs) o shape at =
     next_length i rs bs o rest at
 
 -- and is then what it is there
-pub next_copied : (i : ℕ) (held others : Held) (o : ℕ × List ServiceData) → shape_of held ≡ shape_of others → slice_get others i ≡ Some o
+pub next_copied : (i : ℕ) (held others : Held) (o : ℕ × List ServiceData) → shape_of held ≡ shape_of others
+    → slice_get others i ≡ Some o
     → set_value_at (take i others ++ drop i held) i o.1 ≡ take (suc i) others ++ drop (suc i) held
 next_copied i held [] o shape at = cc
 next_copied i [] (b ∷ bs) o shape at = cc
@@ -46,7 +50,8 @@ next_copied (suc i) (a ∷ rs) (b ∷ bs) o shape at =
 
 -- services of one order and as many sets have one shape
 pub same_shape : (sets : ℕ) (held others : Held) → keys_of held ≡ keys_of others
-    → AllByRecursion (λ e. length e.1 ≡ sets) held → AllByRecursion (λ e. length e.1 ≡ sets) others → shape_of held ≡ shape_of others
+    → AllByRecursion (λ e. length e.1 ≡ sets) held → AllByRecursion (λ e. length e.1 ≡ sets) others
+    → shape_of held ≡ shape_of others
 same_shape sets [] [] keys h k = refl
 same_shape sets [] (b ∷ bs) keys h k = cc
 same_shape sets (a ∷ rs) [] keys h k = cc

@@ -1,10 +1,12 @@
 -- Worked examples: the definitions compute.
-use Rattle.std.proofs.Common.{◌≡◌, ℕ, List, [], ◌∷◌, ◌++◌, false, ◌&&◌, Some, None, refl, ap, ◌∙◌, replicate, if◌then◌else◌}
+use Rattle.std.proofs.Common.{◌≡◌, ℕ, List, [], ◌∷◌, ◌++◌, false, ◌&&◌, Some, None, refl, ap, ◌∙◌, replicate}
+use Rattle.std.proofs.Common.{if◌then◌else◌}
 use Rattle.std.specs.Option.{option_map}
 use Rattle.std.specs.List.{flat_map}
 use Rattle.std.specs.FinMap.{get, from_entries, get-from_entries}
 use Rattle.uecp_elements.specs.declared.code.Code.{Code}
-use Rattle.uecp_elements.specs.declared.code.Code.TheVariants.{Applied, UnknownElement, DataSet, Service, OutOfRange, ElementLength, NotHere, BufferFull}
+use Rattle.uecp_elements.specs.declared.code.Code.TheVariants.{Applied, UnknownElement, DataSet, Service, OutOfRange}
+use Rattle.uecp_elements.specs.declared.code.Code.TheVariants.{ElementLength, NotHere, BufferFull}
 use Rattle.uecp_elements.specs.Grammar.{Element, Pi, Pty, Rt, NoText, Text, Select, Group, Ack}
 use Rattle.uecp_elements.specs.Reading.{items_at, first}
 use Rattle.uecp_elements.specs.Folding.{folded, is_applied}
@@ -35,7 +37,8 @@ no_place = get-from_entries place_total (flat_map (opening_places 2) (0x01 ∷ [
 -- what an element leaves at a place
 at_place : (v : Store) (e : Element) (place : ℕ × ℕ) (s : ServiceData) → get v.places place ≡ Some s
     → get (put v e).0.places place ≡ Some (if is_applied (put v e).1 && names v e place then taken e s else s)
-at_place v e place s h = changes_named_places_alone v e place ∙ ap (option_map (λ s. if is_applied (put v e).1 && names v e place then taken e s else s)) h
+at_place v e place s h = changes_named_places_alone v e place
+    ∙ ap (option_map (λ s. if is_applied (put v e).1 && names v e place then taken e s else s)) h
 
 abbrev hi : StoredText
 hi = record { toggle = false; transmissions = 0; bytes = 0x48 ∷ 0x49 ∷ [] }
@@ -66,7 +69,8 @@ no_set : (put one_set (Pi 0xFE 0x00 0x1234)).1 ≡ Applied
 no_set = refl
 
 no_set_is_changed : get (put one_set (Pi 0xFE 0x00 0x1234)).0.places (1, 0x01) ≡ Some opening_service
-no_set_is_changed = at_place one_set (Pi 0xFE 0x00 0x1234) (1, 0x01) opening_service (get-from_entries place_total (flat_map (opening_places 1) (0x01 ∷ [])) (1, 0x01))
+no_set_is_changed = at_place one_set (Pi 0xFE 0x00 0x1234) (1, 0x01) opening_service
+    (get-from_entries place_total (flat_map (opening_places 1) (0x01 ∷ [])) (1, 0x01))
 
 no_set_but_no_service : (put one_set (Pi 0xFE 0x05 0x1234)).1 ≡ Service
 no_set_but_no_service = refl
@@ -80,14 +84,17 @@ chosen_set = refl
 
 set_2_is_chosen : get chosen.places (2, 0x01) ≡ Some (record opening_service { pi = 0xABCD })
 set_2_is_chosen =
-    at_place (after two_sets (Select 0x02 ∷ Pi 0x00 0x00 0xABCD ∷ [])) (Pi 0xFE 0x00 0x1111) (2, 0x01) (record opening_service { pi = 0xABCD })
-    (at_place (after two_sets (Select 0x02 ∷ [])) (Pi 0x00 0x00 0xABCD) (2, 0x01) opening_service (at_place two_sets (Select 0x02) (2, 0x01) opening_service opening_place))
+    at_place (after two_sets (Select 0x02 ∷ Pi 0x00 0x00 0xABCD ∷ [])) (Pi 0xFE 0x00 0x1111) (2, 0x01)
+    (record opening_service { pi = 0xABCD })
+    (at_place (after two_sets (Select 0x02 ∷ [])) (Pi 0x00 0x00 0xABCD) (2, 0x01) opening_service
+    (at_place two_sets (Select 0x02) (2, 0x01) opening_service opening_place))
 
 set_1_is_the_other : get chosen.places (1, 0x01) ≡ Some (record opening_service { pi = 0x1111 })
 set_1_is_the_other =
     at_place (after two_sets (Select 0x02 ∷ Pi 0x00 0x00 0xABCD ∷ [])) (Pi 0xFE 0x00 0x1111) (1, 0x01) opening_service
     (at_place (after two_sets (Select 0x02 ∷ [])) (Pi 0x00 0x00 0xABCD) (1, 0x01) opening_service
-    (at_place two_sets (Select 0x02) (1, 0x01) opening_service (get-from_entries place_total (flat_map (opening_places 2) (0x01 ∷ [])) (1, 0x01))))
+    (at_place two_sets (Select 0x02) (1, 0x01) opening_service
+    (get-from_entries place_total (flat_map (opening_places 2) (0x01 ∷ [])) (1, 0x01))))
 
 no_third_set : put chosen (Select 0x03) ≡ (chosen, DataSet)
 no_third_set = refl
@@ -126,7 +133,8 @@ full_queue = refl
 range_before_room : code_after one_set (replicate 32 (group_element 0x43)) (Group 0x20 0x40 0x0000 0x0000) ≡ OutOfRange
 range_before_room = refl
 
-one_group_again : (after one_set (replicate 32 (group_element 0x43) ++ group_element 0x03 ∷ [])).groups ≡ waiting_group ∷ []
+one_group_again : (after one_set (replicate 32 (group_element 0x43) ++ group_element 0x03 ∷ [])).groups ≡ waiting_group
+    ∷ []
 one_group_again = refl
 
 -- takes
@@ -142,7 +150,8 @@ first_in_first_out = (refl, (refl, refl))
 none_to_take : group_taken one_set ≡ (one_set, None)
 none_to_take = refl
 
-room_after_a_take : code_after (group_taken (after one_set (replicate 32 (group_element 0x43)))).0 [] (group_element 0x43) ≡ Applied
+room_after_a_take : code_after (group_taken (after one_set (replicate 32 (group_element 0x43)))).0 []
+    (group_element 0x43) ≡ Applied
 room_after_a_take = refl
 
 -- messages
@@ -154,11 +163,14 @@ an_empty_text : step one_set (0x0A ∷ 0x00 ∷ 0x00 ∷ 0x01 ∷ 0x00 ∷ []) �
 unfolding folded items_at first
 an_empty_text = refl
 
-no_text : get (step one_set (0x0A ∷ 0x00 ∷ 0x00 ∷ 0x01 ∷ 0x00 ∷ 0x0A ∷ 0x00 ∷ 0x00 ∷ 0x00 ∷ [])).0.places (1, 0x01) ≡ Some opening_service
+no_text : get (step one_set (0x0A ∷ 0x00 ∷ 0x00 ∷ 0x01 ∷ 0x00 ∷ 0x0A ∷ 0x00 ∷ 0x00 ∷ 0x00 ∷ [])).0.places (1, 0x01)
+    ≡ Some opening_service
 unfolding folded items_at first
 no_text =
-    at_place (after one_set (Rt 0x00 0x00 (Text 0x00 []) ∷ [])) (Rt 0x00 0x00 NoText) (1, 0x01) (record opening_service { texts = record { toggle = false; transmissions = 0; bytes = [] } ∷ [] })
-    (at_place one_set (Rt 0x00 0x00 (Text 0x00 [])) (1, 0x01) opening_service (get-from_entries place_total (flat_map (opening_places 1) (0x01 ∷ [])) (1, 0x01)))
+    at_place (after one_set (Rt 0x00 0x00 (Text 0x00 []) ∷ [])) (Rt 0x00 0x00 NoText) (1, 0x01)
+    (record opening_service { texts = record { toggle = false; transmissions = 0; bytes = [] } ∷ [] })
+    (at_place one_set (Rt 0x00 0x00 (Text 0x00 [])) (1, 0x01) opening_service
+    (get-from_entries place_total (flat_map (opening_places 1) (0x01 ∷ [])) (1, 0x01)))
 
 a_long_text : step one_set (0x0A ∷ 0x00 ∷ 0x00 ∷ 0x42 ∷ []) ≡ (one_set, ElementLength)
 unfolding folded items_at first

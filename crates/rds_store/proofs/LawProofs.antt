@@ -1,9 +1,11 @@
 -- The laws of a store under elements.
-use Rattle.std.proofs.Common.{◌≡◌, ◌≢◌, ℕ, List, [], ◌∷◌, Ok, Err, Bool, true, false, ◌==◌, ◌&&◌, Option, Some, None, refl, ap, ◌∙◌, if◌then◌else◌}
+use Rattle.std.proofs.Common.{◌≡◌, ◌≢◌, ℕ, List, [], ◌∷◌, Ok, Err, Bool, true, false, ◌==◌, ◌&&◌, Option, Some, None}
+use Rattle.std.proofs.Common.{refl, ap, ◌∙◌, if◌then◌else◌}
 use Rattle.std.specs.Option.{option_map}
 use Rattle.std.specs.FinMap.{get}
 use Rattle.uecp_elements.specs.declared.code.Code.{Code}
-use Rattle.uecp_elements.specs.declared.code.Code.TheVariants.{Applied, UnknownElement, DataSet, Service, OutOfRange, ElementLength, NotHere, BufferFull}
+use Rattle.uecp_elements.specs.declared.code.Code.TheVariants.{Applied, UnknownElement, DataSet, Service, OutOfRange}
+use Rattle.uecp_elements.specs.declared.code.Code.TheVariants.{ElementLength, NotHere, BufferFull}
 use Rattle.uecp_elements.specs.Grammar.{Element, Pi, Ps, TaTp, Ms, Pty, Rt, NoText, Text, Select, Group, Ack}
 use Rattle.uecp_elements.specs.Folding.{is_applied, folded}
 use Rattle.uecp_elements.specs.Reading.{Item, items}
@@ -14,7 +16,9 @@ use Rattle.rds_store.specs.Content.{taken}
 use Rattle.rds_store.specs.Refusals.{code_of}
 use Rattle.rds_store.specs.Put.{put, stored, stored_on}
 use Rattle.rds_store.specs.Step.{element_by_element, whole_or_none}
-use Rattle.rds_store.specs.Laws.{RefusalChangesNothing, ChangesNamedPlacesAlone, KeepsSelectionAndGroups, KeepsSetsAndServices, MessagesKeepSetsAndServices, TakesOut, GroupsGoOutInOrder, IsKnownByPlaces}
+use Rattle.rds_store.specs.Laws.{RefusalChangesNothing, ChangesNamedPlacesAlone, KeepsSelectionAndGroups}
+use Rattle.rds_store.specs.Laws.{KeepsSetsAndServices, MessagesKeepSetsAndServices, TakesOut, GroupsGoOutInOrder}
+use Rattle.rds_store.specs.Laws.{IsKnownByPlaces}
 use Rattle.rds_store.proofs.Places.{get-change_where, same_places}
 
 -- ---- A refusal.
@@ -48,13 +52,15 @@ stored-places v (TaTp d p n) place = get-change_where (names_place v d p) (taken
 stored-places v (Ms d p n) place = get-change_where (names_place v d p) (taken (Ms d p n)) v.places place
 stored-places v (Pty d p n) place = get-change_where (names_place v d p) (taken (Pty d p n)) v.places place
 stored-places v (Rt d p NoText) place = get-change_where (names_place v d p) (taken (Rt d p NoText)) v.places place
-stored-places v (Rt d p (Text n b)) place = get-change_where (names_place v d p) (taken (Rt d p (Text n b))) v.places place
+stored-places v (Rt d p (Text n b)) place = get-change_where (names_place v d p) (taken (Rt d p (Text n b))) v.places
+    place
 stored-places v (Select d) place = ap (λ m. get m place) (selected (d == 0x00) v d) ∙ same_option (get v.places place)
 stored-places v (Group k m x y) place = same_option (get v.places place)
 stored-places v (Ack c n) place = same_option (get v.places place)
 
 by_code : (c : Code) (v : Store) (e : Element) (place : ℕ × ℕ)
-    → get (stored_on c v e).places place ≡ option_map (λ s. if is_applied c && names v e place then taken e s else s) (get v.places place)
+    → get (stored_on c v e).places place ≡ option_map (λ s. if is_applied c && names v e place then taken e s else s)
+    (get v.places place)
 by_code Applied v e place = stored-places v e place
 by_code UnknownElement v e place = same_option (get v.places place)
 by_code DataSet v e place = same_option (get v.places place)
@@ -74,7 +80,8 @@ is_known_by_places = same_places
 abbrev Stays : {A : Type 0} → (Store → A) → Store → Element → Code → Type 0
 Stays part v e c = part (stored_on c v e) ≡ part v
 
-stays : {A : Type 0} (part : Store → A) (v : Store) (e : Element) → part (stored v e) ≡ part v → (c : Code) → Stays part v e c
+stays : {A : Type 0} (part : Store → A) (v : Store) (e : Element) → part (stored v e) ≡ part v → (c : Code)
+    → Stays part v e c
 stays part v e h Applied = h
 stays part v e h UnknownElement = refl
 stays part v e h DataSet = refl
@@ -111,7 +118,8 @@ selected_sets : (b : Bool) (v : Store) (dsn : ℕ) → (if b then v else record 
 selected_sets true v dsn = refl
 selected_sets false v dsn = refl
 
-selected_services : (b : Bool) (v : Store) (dsn : ℕ) → (if b then v else record v { current = dsn }).services ≡ v.services
+selected_services : (b : Bool) (v : Store) (dsn : ℕ)
+    → (if b then v else record v { current = dsn }).services ≡ v.services
 selected_services true v dsn = refl
 selected_services false v dsn = refl
 
@@ -140,7 +148,8 @@ folded-stays part same v [] = refl
 folded-stays part same v (Err fault ∷ others) = refl
 folded-stays part same v (Ok e ∷ others) = by (is_applied (put v e).1) (folded-stays part same (put v e).0 others)
   where
-    by : (b : Bool) → part (folded put (put v e).0 others).0 ≡ part (put v e).0 → part (if b then folded put (put v e).0 others else put v e).0 ≡ part v
+    by : (b : Bool) → part (folded put (put v e).0 others).0 ≡ part (put v e).0
+        → part (if b then folded put (put v e).0 others else put v e).0 ≡ part v
     by true more = more ∙ same v e
     by false more = same v e
 
@@ -151,7 +160,8 @@ pub elements_keep_services : (v : Store) (m : List ℕ) → (element_by_element 
 elements_keep_services v m = folded-stays (λ w. w.services) (λ w e. (keeps_sets_and_services w e).1) v (items m)
 
 -- and so whether they are taken as a whole or not at all
-whole-stays : {A : Type 0} (part : Store → A) (v : Store) (after : Store × Code) → part after.0 ≡ part v → part (whole_or_none v after).0 ≡ part v
+whole-stays : {A : Type 0} (part : Store → A) (v : Store) (after : Store × Code) → part after.0 ≡ part v
+    → part (whole_or_none v after).0 ≡ part v
 whole-stays part v after same = by (is_applied after.1)
   where
     by : (b : Bool) → part (if b then after.0 else v) ≡ part v
@@ -165,7 +175,8 @@ messages_keep_sets_and_services v m = (
 )
 
 -- ---- Takes.
-all_taken : (v : Store) (groups : List WaitingGroup) → TakesOut (record v { groups = groups }) groups (record v { groups = [] })
+all_taken : (v : Store) (groups : List WaitingGroup)
+    → TakesOut (record v { groups = groups }) groups (record v { groups = [] })
 all_taken v [] = refl
 all_taken v (group ∷ groups) = (refl, all_taken v groups)
 

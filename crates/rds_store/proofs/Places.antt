@@ -1,7 +1,10 @@
 -- The finite map that the services in each set stand for.
-use Rattle.std.proofs.Common.{◌≡◌, ℕ, suc, ◌+◌, ◌-◌, ◌<◌, ◌≤◌, Bool, true, false, cond, ◌&&◌, ◌||◌, eqb, List, [], ◌∷◌, ◌++◌, length, map, Option, Some, None, refl, sym, ap, subst, ◌∙◌, slice_get, nat_lt, nat_le, ◌==◌, arith, ◌⊎◌, inl, inr, is_some, IfSome, if◌then◌else◌}
+use Rattle.std.proofs.Common.{◌≡◌, ℕ, suc, ◌+◌, ◌-◌, ◌<◌, ◌≤◌, Bool, true, false, cond, ◌&&◌, ◌||◌, eqb, List, [], ◌∷◌}
+use Rattle.std.proofs.Common.{◌++◌, length, map, Option, Some, None, refl, sym, ap, subst, ◌∙◌, slice_get, nat_lt}
+use Rattle.std.proofs.Common.{nat_le, ◌==◌, arith, ◌⊎◌, inl, inr, is_some, IfSome, if◌then◌else◌}
 use Rattle.std.proofs.lemmas.Bool.Decides.{nat_tests}
-use Rattle.std.proofs.lemmas.Bool.{false≢true, cases_order, cases_lt, lt-ltb, le-ltb, le-leb, lt-leb, eq-eqb, ne_eqb, eqb-true}
+use Rattle.std.proofs.lemmas.Bool.{false≢true, cases_order, cases_lt, lt-ltb, le-ltb, le-leb, lt-leb, eq-eqb, ne_eqb}
+use Rattle.std.proofs.lemmas.Bool.{eqb-true}
 use Rattle.std.proofs.lemmas.List.{map-append}
 use Rattle.std.proofs.lemmas.Option.{slice_get_past, slice_get-get_or}
 use Rattle.std.specs.Map.{lookup, set_value, keys_of}
@@ -20,7 +23,8 @@ use Rattle.rds_store.specs.Names.{service_of}
 use Rattle.rds_store.specs.Content.{opening_service}
 use Rattle.rds_store.specs.Refusals.{is_full, count_up}
 use Rattle.rds_store.specs.Put.{change_where}
-use Rattle.rds_store.specs.Kept.{places_of, all_places, changed_sets, changed_service, any_set_full, at_service, in_set, IsKept}
+use Rattle.rds_store.specs.Kept.{places_of, all_places, changed_sets, changed_service, any_set_full, at_service, in_set}
+use Rattle.rds_store.specs.Kept.{IsKept}
 
 -- ---- The order of places.
 pub place_total : IsTotalOrder place_cmp
@@ -41,26 +45,33 @@ pub tied : (s p n q : ℕ) → eq_by_cmp place_cmp (s, p) (n, q) ≡ (eqb s n &&
 tied s p n q = then_tied (nat_cmp s n) (nat_cmp p q) ∙ (λ i. number_tied s n i && number_tied p q i)
 
 -- ---- What is found in entries.
-or_cond : {A : Type 0} (b : Bool) (x : Option A) (o p : Option A) → cond b x (option_or o p) ≡ option_or (cond b x o) (cond b x p)
+or_cond : {A : Type 0} (b : Bool) (x : Option A) (o p : Option A)
+    → cond b x (option_or o p) ≡ option_or (cond b x o) (cond b x p)
 or_cond true None o p = refl
 or_cond true (Some x) o p = refl
 or_cond false x o p = refl
 
-cond_some_or : {A : Type 0} (b : Bool) (x : A) (o p : Option A) → cond b (Some x) (option_or o p) ≡ option_or (cond b (Some x) o) p
+cond_some_or : {A : Type 0} (b : Bool) (x : A) (o p : Option A)
+    → cond b (Some x) (option_or o p) ≡ option_or (cond b (Some x) o) p
 cond_some_or true x o p = refl
 cond_some_or false x o p = refl
 
-pub find-append : (q : ℕ × ℕ) (xs ys : List ((ℕ × ℕ) × ServiceData)) → find place_cmp q (xs ++ ys) ≡ option_or (find place_cmp q xs) (find place_cmp q ys)
+pub find-append : (q : ℕ × ℕ) (xs ys : List ((ℕ × ℕ) × ServiceData))
+    → find place_cmp q (xs ++ ys) ≡ option_or (find place_cmp q xs) (find place_cmp q ys)
 find-append q [] ys = refl
-find-append q (x ∷ xs) ys = ap (cond (eq_by_cmp place_cmp q x.0) (Some x.1)) (find-append q xs ys) ∙ cond_some_or (eq_by_cmp place_cmp q x.0) x.1 _ _
+find-append q (x ∷ xs) ys = ap (cond (eq_by_cmp place_cmp q x.0) (Some x.1)) (find-append q xs ys)
+    ∙ cond_some_or (eq_by_cmp place_cmp q x.0) x.1 _ _
 
 -- ---- A change of the places that pass a test.
-abbrev pub changed : (ℕ × ℕ → Bool) → (ServiceData → ServiceData) → List ((ℕ × ℕ) × ServiceData) → List ((ℕ × ℕ) × ServiceData)
+abbrev pub changed : (ℕ × ℕ → Bool) → (ServiceData → ServiceData) → List ((ℕ × ℕ) × ServiceData)
+    → List ((ℕ × ℕ) × ServiceData)
 changed test change es = map (λ e. (e.0, (if test e.0 then change e.1 else e.1))) es
 
-found_there : (b : Bool) (test : ℕ × ℕ → Bool) (change : ServiceData → ServiceData) (q k : ℕ × ℕ) (x : ServiceData) (o : Option ServiceData)
+found_there : (b : Bool) (test : ℕ × ℕ → Bool) (change : ServiceData → ServiceData) (q k : ℕ × ℕ) (x : ServiceData)
+    (o : Option ServiceData)
     → (b ≡ true → q ≡ k)
-    → cond b (Some (if test k then change x else x)) (option_map (λ y. if test q then change y else y) o) ≡ option_map (λ y. if test q then change y else y) (cond b (Some x) o)
+    → cond b (Some (if test k then change x else x)) (option_map (λ y. if test q then change y else y) o)
+    ≡ option_map (λ y. if test q then change y else y) (cond b (Some x) o)
 found_there true test change q k x o same = ap (λ r. Some (if test r then change x else x)) (sym (same refl))
 found_there false test change q k x o same = refl
 
@@ -69,20 +80,24 @@ equal_from Less e = absurd (false≢true e)
 equal_from Equal e = refl
 equal_from Greater e = absurd (false≢true e)
 
-pub find-changed : (test : ℕ × ℕ → Bool) (change : ServiceData → ServiceData) (q : ℕ × ℕ) (es : List ((ℕ × ℕ) × ServiceData))
+pub find-changed : (test : ℕ × ℕ → Bool) (change : ServiceData → ServiceData) (q : ℕ × ℕ)
+    (es : List ((ℕ × ℕ) × ServiceData))
     → find place_cmp q (changed test change es) ≡ option_map (λ y. if test q then change y else y) (find place_cmp q es)
 find-changed test change q [] = refl
 find-changed test change q (e ∷ es) =
     ap (cond (eq_by_cmp place_cmp q e.0) (Some (if test e.0 then change e.1 else e.1))) (find-changed test change q es)
-    ∙ found_there (eq_by_cmp place_cmp q e.0) test change q e.0 e.1 (find place_cmp q es) (λ b. place_exact q e.0 (equal_from (place_cmp q e.0) b))
+    ∙ found_there (eq_by_cmp place_cmp q e.0) test change q e.0 e.1 (find place_cmp q es)
+    (λ b. place_exact q e.0 (equal_from (place_cmp q e.0) b))
 
 -- a change of the map is one of any entries that make it
-pub change_where-from_entries : (test : ℕ × ℕ → Bool) (change : ServiceData → ServiceData) (es : List ((ℕ × ℕ) × ServiceData))
+pub change_where-from_entries : (test : ℕ × ℕ → Bool) (change : ServiceData → ServiceData)
+    (es : List ((ℕ × ℕ) × ServiceData))
     → change_where test change (from_entries es) ≡ from_entries (changed test change es)
 change_where-from_entries test change es = same_map place_total place_exact _ _ (λ q.
     get-from_entries place_total (changed test change (entries (from_entries es))) q
     ∙ find-changed test change q (entries (from_entries es))
-    ∙ ap (option_map (λ y. if test q then change y else y)) (sym (get-entries (from_entries es) q) ∙ get-from_entries place_total es q)
+    ∙ ap (option_map (λ y. if test q then change y else y))
+    (sym (get-entries (from_entries es) q) ∙ get-from_entries place_total es q)
     ∙ sym (get-from_entries place_total (changed test change es) q ∙ find-changed test change q es))
 
 -- ---- A change of one service.
@@ -95,24 +110,31 @@ and_false true = refl
 and_false false = refl
 
 module _ (t : ℕ → Bool) (p : ℕ) (change : ServiceData → ServiceData) where
-  named_service : (n q : ℕ) (xs : List ServiceData) → eqb p q ≡ true → changed (at_service t p) change (places_of n q xs) ≡ places_of n q (changed_sets n t change xs)
+  named_service : (n q : ℕ) (xs : List ServiceData) → eqb p q ≡ true
+      → changed (at_service t p) change (places_of n q xs) ≡ places_of n q (changed_sets n t change xs)
   named_service n q [] e = refl
   named_service n q (x ∷ xs) e = λ i.
       ((n, q), (if (ap (λ b. t n && b) e ∙ and_true (t n)) i then change x else x)) ∷ named_service (n + 1) q xs e i
 
-  other_service : (n q : ℕ) (xs : List ServiceData) → eqb p q ≡ false → changed (at_service t p) change (places_of n q xs) ≡ places_of n q xs
+  other_service : (n q : ℕ) (xs : List ServiceData) → eqb p q ≡ false
+      → changed (at_service t p) change (places_of n q xs) ≡ places_of n q xs
   other_service n q [] e = refl
   other_service n q (x ∷ xs) e = λ i.
       ((n, q), (if (ap (λ b. t n && b) e ∙ and_false (t n)) i then change x else x)) ∷ other_service (n + 1) q xs e i
 
-  changed-append : (xs ys : List ((ℕ × ℕ) × ServiceData)) → changed (at_service t p) change (xs ++ ys) ≡ changed (at_service t p) change xs ++ changed (at_service t p) change ys
+  changed-append : (xs ys : List ((ℕ × ℕ) × ServiceData))
+      → changed (at_service t p) change (xs ++ ys) ≡ changed (at_service t p) change xs
+      ++ changed (at_service t p) change ys
   changed-append xs ys = map-append _ xs ys
 
-  pub other_services : (es : List (ℕ × List ServiceData)) → lookup (eqb p) es ≡ None → changed (at_service t p) change (all_places es) ≡ all_places es
+  pub other_services : (es : List (ℕ × List ServiceData)) → lookup (eqb p) es ≡ None
+      → changed (at_service t p) change (all_places es) ≡ all_places es
   other_services [] h = refl
   other_services (e ∷ es) h = by (eqb p e.0) refl (λ n. other_services es n)
     where
-      by : (b : Bool) → eqb p e.0 ≡ b → (lookup (eqb p) es ≡ None → changed (at_service t p) change (all_places es) ≡ all_places es) → changed (at_service t p) change (all_places (e ∷ es)) ≡ all_places (e ∷ es)
+      by : (b : Bool) → eqb p e.0 ≡ b → (lookup (eqb p) es ≡ None
+          → changed (at_service t p) change (all_places es) ≡ all_places es)
+          → changed (at_service t p) change (all_places (e ∷ es)) ≡ all_places (e ∷ es)
       by true is more = absurd (some_not_none e.1 (ap (λ b. cond b (Some e.1) (lookup (eqb p) es)) (sym is) ∙ h))
         where
           some_not_none : (held : List ServiceData) → Some held ≡ None → ⊥
@@ -120,7 +142,8 @@ module _ (t : ℕ → Bool) (p : ℕ) (change : ServiceData → ServiceData) whe
       by false is more = changed-append (places_of 1 e.0 e.1) (all_places es)
           ∙ (λ i. other_service 1 e.0 e.1 is i ++ more (ap (λ b. cond b (Some e.1) (lookup (eqb p) es)) (sym is) ∙ h) i)
 
-  not_among : (es : List (ℕ × List ServiceData)) → AllByRecursion (λ y. eqb p y ≡ false) (keys_of es) → lookup (eqb p) es ≡ None
+  not_among : (es : List (ℕ × List ServiceData)) → AllByRecursion (λ y. eqb p y ≡ false) (keys_of es)
+      → lookup (eqb p) es ≡ None
   not_among [] h = refl
   not_among (e ∷ es) h = ap (λ b. cond b (Some e.1) (lookup (eqb p) es)) h.0 ∙ not_among es h.1
 
@@ -132,20 +155,27 @@ module _ (t : ℕ → Bool) (p : ℕ) (change : ServiceData → ServiceData) whe
     where
       by : (b : Bool) → eqb p e.0 ≡ b
           → (changed (at_service t p) change (all_places es) ≡ all_places (changed_service p t change es))
-          → changed (at_service t p) change (all_places (e ∷ es)) ≡ all_places (if b then (e.0, changed_sets 1 t change e.1) ∷ es else e ∷ changed_service p t change es)
+          → changed (at_service t p) change (all_places (e ∷ es))
+          ≡ all_places (if b then (e.0, changed_sets 1 t change e.1) ∷ es else e ∷ changed_service p t change es)
       by true is more =
-          let none : lookup (eqb p) es ≡ None = not_among es (subst (λ k. AllByRecursion (λ y. eqb k y ≡ false) (keys_of es)) (sym (eqb-true p e.0 is)) d.0) in
-          changed-append (places_of 1 e.0 e.1) (all_places es) ∙ (λ i. named_service 1 e.0 e.1 is i ++ other_services es none i)
-      by false is more = changed-append (places_of 1 e.0 e.1) (all_places es) ∙ (λ i. other_service 1 e.0 e.1 is i ++ more i)
+          let none : lookup (eqb p) es ≡ None = not_among es
+          (subst (λ k. AllByRecursion (λ y. eqb k y ≡ false) (keys_of es)) (sym (eqb-true p e.0 is)) d.0) in
+          changed-append (places_of 1 e.0 e.1) (all_places es)
+          ∙ (λ i. named_service 1 e.0 e.1 is i ++ other_services es none i)
+      by false is more = changed-append (places_of 1 e.0 e.1) (all_places es)
+          ∙ (λ i. other_service 1 e.0 e.1 is i ++ more i)
 
   -- what a look-up and a write of the service come to
-  pub written_service : (es : List (ℕ × List ServiceData)) (held : List ServiceData) → Some held ≡ lookup (eqb p) es → set_value (eqb p) es (changed_sets 1 t change held) ≡ changed_service p t change es
+  pub written_service : (es : List (ℕ × List ServiceData)) (held : List ServiceData) → Some held ≡ lookup (eqb p) es
+      → set_value (eqb p) es (changed_sets 1 t change held) ≡ changed_service p t change es
   written_service [] held h = refl
   written_service (e ∷ es) held h = by (eqb p e.0) h (written_service es held)
     where
       by : (b : Bool) → Some held ≡ cond b (Some e.1) (lookup (eqb p) es)
-          → (Some held ≡ lookup (eqb p) es → set_value (eqb p) es (changed_sets 1 t change held) ≡ changed_service p t change es)
-          → cond b ((e.0, changed_sets 1 t change held) ∷ es) (e ∷ set_value (eqb p) es (changed_sets 1 t change held)) ≡ (if b then (e.0, changed_sets 1 t change e.1) ∷ es else e ∷ changed_service p t change es)
+          → (Some held ≡ lookup (eqb p) es → set_value (eqb p) es (changed_sets 1 t change held)
+          ≡ changed_service p t change es)
+          → cond b ((e.0, changed_sets 1 t change held) ∷ es) (e ∷ set_value (eqb p) es (changed_sets 1 t change held))
+          ≡ (if b then (e.0, changed_sets 1 t change e.1) ∷ es else e ∷ changed_service p t change es)
       by true k more = let same : held ≡ e.1 = cc in ap (λ r. (e.0, changed_sets 1 t change r) ∷ es) same
       by false k more = ap (λ rest. e ∷ rest) (more k)
 
@@ -153,7 +183,8 @@ module _ (t : ℕ → Bool) (p : ℕ) (change : ServiceData → ServiceData) whe
   no_service [] h = refl
   no_service (e ∷ es) h = by (eqb p e.0) h (no_service es)
     where
-      by : (b : Bool) → None ≡ cond b (Some e.1) (lookup (eqb p) es) → (None ≡ lookup (eqb p) es → changed_service p t change es ≡ es)
+      by : (b : Bool) → None ≡ cond b (Some e.1) (lookup (eqb p) es)
+          → (None ≡ lookup (eqb p) es → changed_service p t change es ≡ es)
           → (if b then (e.0, changed_sets 1 t change e.1) ∷ es else e ∷ changed_service p t change es) ≡ e ∷ es
       by true k more = none_some k
         where
@@ -161,37 +192,46 @@ module _ (t : ℕ → Bool) (p : ℕ) (change : ServiceData → ServiceData) whe
           none_some k = cc
       by false k more = ap (λ rest. e ∷ rest) (more k)
 
-pub length-changed_sets : (n : ℕ) (t : ℕ → Bool) (change : ServiceData → ServiceData) (xs : List ServiceData) → length (changed_sets n t change xs) ≡ length xs
+pub length-changed_sets : (n : ℕ) (t : ℕ → Bool) (change : ServiceData → ServiceData) (xs : List ServiceData)
+    → length (changed_sets n t change xs) ≡ length xs
 length-changed_sets n t change [] = refl
 length-changed_sets n t change (x ∷ xs) = ap suc (length-changed_sets (n + 1) t change xs)
 
-pub lengths-changed_service : (sets p : ℕ) (t : ℕ → Bool) (change : ServiceData → ServiceData) (es : List (ℕ × List ServiceData))
-    → AllByRecursion (λ e. length e.1 ≡ sets) es → AllByRecursion (λ e. length e.1 ≡ sets) (changed_service p t change es)
+pub lengths-changed_service : (sets p : ℕ) (t : ℕ → Bool) (change : ServiceData → ServiceData)
+    (es : List (ℕ × List ServiceData))
+    → AllByRecursion (λ e. length e.1 ≡ sets) es → AllByRecursion (λ e. length e.1 ≡ sets)
+    (changed_service p t change es)
 lengths-changed_service sets p t change [] h = h
 lengths-changed_service sets p t change (e ∷ es) h =
-    elim (eqb p e.0) as (λ b. AllByRecursion (λ e. length e.1 ≡ sets) (if b then (e.0, changed_sets 1 t change e.1) ∷ es else e ∷ changed_service p t change es)) [
+    elim (eqb p e.0) as (λ b. AllByRecursion (λ e. length e.1 ≡ sets)
+    (if b then (e.0, changed_sets 1 t change e.1) ∷ es else e ∷ changed_service p t change es)) [
       | true ↦ (length-changed_sets 1 t change e.1 ∙ h.0, h.1)
       | false ↦ (h.0, lengths-changed_service sets p t change es h.1)
     ]
 
-pub keys-changed_service : (p : ℕ) (t : ℕ → Bool) (change : ServiceData → ServiceData) (es : List (ℕ × List ServiceData)) → keys_of (changed_service p t change es) ≡ keys_of es
+pub keys-changed_service : (p : ℕ) (t : ℕ → Bool) (change : ServiceData → ServiceData)
+    (es : List (ℕ × List ServiceData)) → keys_of (changed_service p t change es) ≡ keys_of es
 keys-changed_service p t change [] = refl
 keys-changed_service p t change (e ∷ es) =
-    elim (eqb p e.0) as (λ b. keys_of (if b then (e.0, changed_sets 1 t change e.1) ∷ es else e ∷ changed_service p t change es) ≡ e.0 ∷ keys_of es) [
+    elim (eqb p e.0) as (λ b. keys_of (if b then (e.0, changed_sets 1 t change e.1) ∷ es else e
+    ∷ changed_service p t change es) ≡ e.0 ∷ keys_of es) [
       | true ↦ refl
       | false ↦ ap (λ ks. e.0 ∷ ks) (keys-changed_service p t change es)
     ]
 
-pub some-changed_service : (p : ℕ) (t : ℕ → Bool) (change : ServiceData → ServiceData) (es : List (ℕ × List ServiceData)) → 0 < length es → 0 < length (changed_service p t change es)
+pub some-changed_service : (p : ℕ) (t : ℕ → Bool) (change : ServiceData → ServiceData)
+    (es : List (ℕ × List ServiceData)) → 0 < length es → 0 < length (changed_service p t change es)
 some-changed_service p t change [] h = h
 some-changed_service p t change (e ∷ es) h =
-    elim (eqb p e.0) as (λ b. 0 < length (if b then (e.0, changed_sets 1 t change e.1) ∷ es else e ∷ changed_service p t change es)) [
+    elim (eqb p e.0) as (λ b. 0 < length (if b then (e.0, changed_sets 1 t change e.1) ∷ es else e
+    ∷ changed_service p t change es)) [
       | true ↦ omega arith
       | false ↦ omega arith
     ]
 
 -- ---- What stands at a place.
-in_set_more : (n s : ℕ) (x : ServiceData) (xs : List ServiceData) → cond (eqb s n) (Some x) (in_set (n + 1) xs s) ≡ in_set n (x ∷ xs) s
+in_set_more : (n s : ℕ) (x : ServiceData) (xs : List ServiceData)
+    → cond (eqb s n) (Some x) (in_set (n + 1) xs s) ≡ in_set n (x ∷ xs) s
 in_set_more n s x xs = by (cases_order s n)
   where
     by : (s ≡ n) ⊎ ((s < n) ⊎ (n < s)) → cond (eqb s n) (Some x) (in_set (n + 1) xs s) ≡ in_set n (x ∷ xs) s
@@ -220,14 +260,17 @@ if_none : {A : Type 0} (b : Bool) (o : Option A) → o ≡ None → (if b then N
 if_none true o e = refl
 if_none false o e = e
 
-find-places_of : (s p n q : ℕ) (xs : List ServiceData) → find place_cmp (s, p) (places_of n q xs) ≡ cond (eqb p q) (in_set n xs s) None
-find-places_of s p n q [] = sym (ap (λ o. cond (eqb p q) o None) (if_none (nat_lt s n) (slice_get [] (s - n)) (slice_get_past [] (s - n) (omega arith))) ∙ cond_same (eqb p q) None)
+find-places_of : (s p n q : ℕ) (xs : List ServiceData)
+    → find place_cmp (s, p) (places_of n q xs) ≡ cond (eqb p q) (in_set n xs s) None
+find-places_of s p n q [] = sym (ap (λ o. cond (eqb p q) o None)
+    (if_none (nat_lt s n) (slice_get [] (s - n)) (slice_get_past [] (s - n) (omega arith))) ∙ cond_same (eqb p q) None)
 find-places_of s p n q (x ∷ xs) =
     ap (λ b. cond b (Some x) (find place_cmp (s, p) (places_of (n + 1) q xs))) (tied s p n q)
     ∙ ap (cond (eqb s n && eqb p q) (Some x)) (find-places_of s p (n + 1) q xs)
     ∙ by (eqb p q)
   where
-    by : (b : Bool) → cond (eqb s n && b) (Some x) (cond b (in_set (n + 1) xs s) None) ≡ cond b (in_set n (x ∷ xs) s) None
+    by : (b : Bool) → cond (eqb s n && b) (Some x) (cond b (in_set (n + 1) xs s) None)
+        ≡ cond b (in_set n (x ∷ xs) s) None
     by true = ap (λ c. cond c (Some x) (in_set (n + 1) xs s)) (and_true (eqb s n)) ∙ in_set_more n s x xs
     by false = ap (λ c. cond c (Some x) None) (and_false (eqb s n))
 
@@ -250,14 +293,18 @@ module _ (sets s : ℕ) where
     where
       by : (s < 1) ⊎ (1 ≤ s) → (s - 1 < sets) ⊎ (sets ≤ s - 1) → NoneThere ⊎ SomeThere
       by (inl h) k = inl (λ held l. let a : nat_lt s 1 ≡ true = lt-ltb s 1 h in rw a refl)
-      by (inr h) (inl k) = inr (λ held l. let a : nat_lt s 1 ≡ false = le-ltb s 1 h in rw a (some_within held (s - 1) (omega arith)))
-      by (inr h) (inr k) = inl (λ held l. let a : nat_lt s 1 ≡ false = le-ltb s 1 h in rw a (slice_get_past held (s - 1) (omega arith)))
+      by (inr h) (inl k) = inr (λ held l. let a : nat_lt s 1 ≡ false = le-ltb s 1 h in
+          rw a (some_within held (s - 1) (omega arith)))
+      by (inr h) (inr k) = inl (λ held l. let a : nat_lt s 1 ≡ false = le-ltb s 1 h in
+          rw a (slice_get_past held (s - 1) (omega arith)))
 
-  find_none : (p : ℕ) (es : List (ℕ × List ServiceData)) → NoneThere → AllByRecursion (λ e. length e.1 ≡ sets) es → find place_cmp (s, p) (all_places es) ≡ None
+  find_none : (p : ℕ) (es : List (ℕ × List ServiceData)) → NoneThere → AllByRecursion (λ e. length e.1 ≡ sets) es
+      → find place_cmp (s, p) (all_places es) ≡ None
   find_none p [] none h = refl
   find_none p (e ∷ es) none h =
       find-append (s, p) (places_of 1 e.0 e.1) (all_places es)
-      ∙ ap (λ o. option_or o (find place_cmp (s, p) (all_places es))) (find-places_of s p 1 e.0 e.1 ∙ ap (λ o. cond (eqb p e.0) o None) (none e.1 h.0) ∙ cond_same (eqb p e.0) None)
+      ∙ ap (λ o. option_or o (find place_cmp (s, p) (all_places es)))
+      (find-places_of s p 1 e.0 e.1 ∙ ap (λ o. cond (eqb p e.0) o None) (none e.1 h.0) ∙ cond_same (eqb p e.0) None)
       ∙ find_none p es none h.1
 
   pub find-placed : (p : ℕ) (es : List (ℕ × List ServiceData)) → AllByRecursion (λ e. length e.1 ≡ sets) es
@@ -268,18 +315,24 @@ module _ (sets s : ℕ) where
       ∙ ap (λ o. option_or o (find place_cmp (s, p) (all_places es))) (find-places_of s p 1 e.0 e.1)
       ∙ by (eqb p e.0) in_row_cases (find-placed p es h.1)
     where
-      by : (b : Bool) → NoneThere ⊎ SomeThere → find place_cmp (s, p) (all_places es) ≡ option_and_then (λ held. in_set 1 held s) (lookup (eqb p) es) → option_or (cond b (in_set 1 e.1 s) None) (find place_cmp (s, p) (all_places es)) ≡ option_and_then (λ held. in_set 1 held s) (cond b (Some e.1) (lookup (eqb p) es))
+      by : (b : Bool) → NoneThere ⊎ SomeThere → find place_cmp (s, p) (all_places es)
+          ≡ option_and_then (λ held. in_set 1 held s) (lookup (eqb p) es)
+          → option_or (cond b (in_set 1 e.1 s) None) (find place_cmp (s, p) (all_places es))
+          ≡ option_and_then (λ held. in_set 1 held s) (cond b (Some e.1) (lookup (eqb p) es))
       by false c more = more
-      by true (inl none) more = ap (λ o. option_or o (find place_cmp (s, p) (all_places es))) (none e.1 h.0) ∙ find_none p es none h.1 ∙ sym (none e.1 h.0)
+      by true (inl none) more = ap (λ o. option_or o (find place_cmp (s, p) (all_places es))) (none e.1 h.0)
+          ∙ find_none p es none h.1 ∙ sym (none e.1 h.0)
       by true (inr some) more = or_some (in_set 1 e.1 s) (find place_cmp (s, p) (all_places es)) (some e.1 h.0)
 
   -- what the map has at a place
   pub get-all_places : (p : ℕ) (es : List (ℕ × List ServiceData)) → AllByRecursion (λ e. length e.1 ≡ sets) es
-      → get (from_entries {R = place_cmp} (all_places es)) (s, p) ≡ option_and_then (λ held. in_set 1 held s) (lookup (eqb p) es)
+      → get (from_entries {R = place_cmp} (all_places es)) (s, p)
+      ≡ option_and_then (λ held. in_set 1 held s) (lookup (eqb p) es)
   get-all_places p es h = get-from_entries place_total (all_places es) (s, p) ∙ find-placed p es h
 
 -- ---- A full set.
-pub any_full : (t : ℕ → Bool) (g : ℕ → Option ServiceData) (n : ℕ) (xs : List ServiceData) → ((k : ℕ) → k < length xs → g (n + k) ≡ slice_get xs k)
+pub any_full : (t : ℕ → Bool) (g : ℕ → Option ServiceData) (n : ℕ) (xs : List ServiceData)
+    → ((k : ℕ) → k < length xs → g (n + k) ≡ slice_get xs k)
     → list_any (λ s. t s && option_map_or is_full (g s) false) (count_up (length xs) n) ≡ any_set_full n t xs
 any_full t g n [] h = refl
 any_full t g n (x ∷ xs) h =
@@ -291,16 +344,19 @@ any_full t g n (x ∷ xs) h =
 pub none_full : (t : ℕ → Bool) (g : ℕ → Option ServiceData) (ks : List ℕ) → ((k : ℕ) → g k ≡ None)
     → list_any (λ s. t s && option_map_or is_full (g s) false) ks ≡ false
 none_full t g [] h = refl
-none_full t g (k ∷ ks) h = (λ i. (t k && option_map_or is_full (h k i) false) || none_full t g ks h i) ∙ ap (λ b. b || false) (and_false (t k))
+none_full t g (k ∷ ks) h = (λ i. (t k && option_map_or is_full (h k i) false) || none_full t g ks h i)
+    ∙ ap (λ b. b || false) (and_false (t k))
 
-length_found : (sets p : ℕ) (es : List (ℕ × List ServiceData)) (held : List ServiceData) → AllByRecursion (λ e. length e.1 ≡ sets) es → lookup (eqb p) es ≡ Some held → length held ≡ sets
+length_found : (sets p : ℕ) (es : List (ℕ × List ServiceData)) (held : List ServiceData)
+    → AllByRecursion (λ e. length e.1 ≡ sets) es → lookup (eqb p) es ≡ Some held → length held ≡ sets
 length_found sets p [] held all h = none_some h
   where
     none_some : None ≡ Some held → length held ≡ sets
     none_some e = cc
 length_found sets p (e ∷ es) held all h = by (eqb p e.0) h (length_found sets p es held all.1)
   where
-    by : (b : Bool) → cond b (Some e.1) (lookup (eqb p) es) ≡ Some held → (lookup (eqb p) es ≡ Some held → length held ≡ sets) → length held ≡ sets
+    by : (b : Bool) → cond b (Some e.1) (lookup (eqb p) es) ≡ Some held
+        → (lookup (eqb p) es ≡ Some held → length held ≡ sets) → length held ≡ sets
     by true k more = let same : e.1 ≡ held = cc in ap length (sym same) ∙ all.0
     by false k more = more k
 
@@ -310,26 +366,33 @@ in_set_at held k =
     let b : (1 + k) - 1 ≡ k = omega arith in
     rw (a, b) refl
 
-module _ (t : ℕ → Bool) (sets p : ℕ) (es : List (ℕ × List ServiceData)) (all : AllByRecursion (λ e. length e.1 ≡ sets) es) where
+module _ (t : ℕ → Bool) (sets p : ℕ) (es : List (ℕ × List ServiceData))
+    (all : AllByRecursion (λ e. length e.1 ≡ sets) es) where
   -- what a look-up of the service says of the sets
   pub full_set : (held : List ServiceData) → Some held ≡ lookup (eqb p) es
-      → list_any (λ s. t s && option_map_or is_full (get (from_entries {R = place_cmp} (all_places es)) (s, p)) false) (count_up sets 1) ≡ any_set_full 1 t held
+      → list_any (λ s. t s && option_map_or is_full (get (from_entries {R = place_cmp} (all_places es)) (s, p)) false)
+      (count_up sets 1) ≡ any_set_full 1 t held
   full_set held h =
-      ap (λ n. list_any (λ s. t s && option_map_or is_full (get (from_entries {R = place_cmp} (all_places es)) (s, p)) false) (count_up n 1)) (sym (length_found sets p es held all (sym h)))
+      ap (λ n. list_any (λ s. t s && option_map_or is_full (get (from_entries {R = place_cmp} (all_places es)) (s, p))
+      false) (count_up n 1)) (sym (length_found sets p es held all (sym h)))
       ∙ any_full t (λ s. get (from_entries {R = place_cmp} (all_places es)) (s, p)) 1 held
-      (λ k l. get-all_places sets (1 + k) p es all ∙ ap (option_and_then (λ r. in_set 1 r (1 + k))) (sym h) ∙ in_set_at held k)
+      (λ k l. get-all_places sets (1 + k) p es all ∙ ap (option_and_then (λ r. in_set 1 r (1 + k))) (sym h)
+      ∙ in_set_at held k)
 
   pub no_full_set : None ≡ lookup (eqb p) es
-      → list_any (λ s. t s && option_map_or is_full (get (from_entries {R = place_cmp} (all_places es)) (s, p)) false) (count_up sets 1) ≡ false
+      → list_any (λ s. t s && option_map_or is_full (get (from_entries {R = place_cmp} (all_places es)) (s, p)) false)
+      (count_up sets 1) ≡ false
   no_full_set h = none_full t (λ s. get (from_entries {R = place_cmp} (all_places es)) (s, p)) (count_up sets 1)
       (λ s. get-all_places sets s p es all ∙ ap (option_and_then (λ r. in_set 1 r s)) (sym h))
 
 -- a key of a map is one that a look-up finds
-pub listed : (p : ℕ) (es : List (ℕ × List ServiceData)) → is_some (lookup (eqb p) es) ≡ list_any (λ k. eqb p k) (keys_of es)
+pub listed : (p : ℕ) (es : List (ℕ × List ServiceData))
+    → is_some (lookup (eqb p) es) ≡ list_any (λ k. eqb p k) (keys_of es)
 listed p [] = refl
 listed p (e ∷ es) = by (eqb p e.0) (listed p es)
   where
-    by : (b : Bool) → is_some (lookup (eqb p) es) ≡ list_any (λ k. eqb p k) (keys_of es) → is_some (cond b (Some e.1) (lookup (eqb p) es)) ≡ (b || list_any (λ k. eqb p k) (keys_of es))
+    by : (b : Bool) → is_some (lookup (eqb p) es) ≡ list_any (λ k. eqb p k) (keys_of es)
+        → is_some (cond b (Some e.1) (lookup (eqb p) es)) ≡ (b || list_any (λ k. eqb p k) (keys_of es))
     by true h = refl
     by false h = h
 
@@ -337,20 +400,24 @@ pub room : (a b : Bool) → (a && b) ≡ false → a ≡ true → b ≡ false
 room true b h e = h
 room false b h e = absurd (false≢true e)
 
-pub listed_service : (p : ℕ) (es : List (ℕ × List ServiceData)) → (p ≡ 0 → ⊥) → is_some (lookup (eqb p) es) ≡ true → Some p ≡ service_of (keys_of es) p
+pub listed_service : (p : ℕ) (es : List (ℕ × List ServiceData)) → (p ≡ 0 → ⊥) → is_some (lookup (eqb p) es) ≡ true
+    → Some p ≡ service_of (keys_of es) p
 listed_service p es apart there =
     let a : eqb p 0 ≡ false = ne_eqb p 0 apart in
     let b : list_any (λ k. eqb p k) (keys_of es) ≡ true = sym (listed p es) ∙ there in
     rw (a, b) refl
 
-pub not_listed : (p : ℕ) (es : List (ℕ × List ServiceData)) → (p ≡ 0 → ⊥) → is_some (lookup (eqb p) es) ≡ false → None ≡ service_of (keys_of es) p
+pub not_listed : (p : ℕ) (es : List (ℕ × List ServiceData)) → (p ≡ 0 → ⊥) → is_some (lookup (eqb p) es) ≡ false
+    → None ≡ service_of (keys_of es) p
 not_listed p es apart there =
     let a : eqb p 0 ≡ false = ne_eqb p 0 apart in
     let b : list_any (λ k. eqb p k) (keys_of es) ≡ false = sym (listed p es) ∙ there in
     rw (a, b) refl
 
-pub not_full : (t : ℕ → Bool) (sets p : ℕ) (es : List (ℕ × List ServiceData)) → AllByRecursion (λ e. length e.1 ≡ sets) es
-    → list_any (λ s. t s && option_map_or is_full (get (from_entries {R = place_cmp} (all_places es)) (s, p)) false) (count_up sets 1) ≡ false
+pub not_full : (t : ℕ → Bool) (sets p : ℕ) (es : List (ℕ × List ServiceData))
+    → AllByRecursion (λ e. length e.1 ≡ sets) es
+    → list_any (λ s. t s && option_map_or is_full (get (from_entries {R = place_cmp} (all_places es)) (s, p)) false)
+    (count_up sets 1) ≡ false
     → IfSome (lookup (eqb p) es) (λ held. any_set_full 1 t held ≡ false)
 not_full t sets p es all h = by (lookup (eqb p) es) refl
   where
@@ -358,7 +425,8 @@ not_full t sets p es all h = by (lookup (eqb p) es) refl
     by None e = tt
     by (Some held) e = sym (full_set t sets p es all held e) ∙ h
 
-pub kept_changed : (sets current p : ℕ) (t : ℕ → Bool) (change : ServiceData → ServiceData) (es : List (ℕ × List ServiceData)) (groups : List Group)
+pub kept_changed : (sets current p : ℕ) (t : ℕ → Bool) (change : ServiceData → ServiceData)
+    (es : List (ℕ × List ServiceData)) (groups : List Group)
     → IsKept sets current es groups → IsKept sets current (changed_service p t change es) groups
 kept_changed sets current p t change es groups h = record {
   some_set = h.some_set;
@@ -374,9 +442,12 @@ kept_changed sets current p t change es groups h = record {
 }
 
 -- the map of the changed services is the changed map
-pub places_changed : (p : ℕ) (t : ℕ → Bool) (change : ServiceData → ServiceData) (es : List (ℕ × List ServiceData)) → IsDistinct eqb (keys_of es)
-    → from_entries {R = place_cmp} (all_places (changed_service p t change es)) ≡ change_where (at_service t p) change (from_entries (all_places es))
-places_changed p t change es d = ap (λ l. from_entries {R = place_cmp} l) (sym (one_service t p change es d)) ∙ sym (change_where-from_entries (at_service t p) change (all_places es))
+pub places_changed : (p : ℕ) (t : ℕ → Bool) (change : ServiceData → ServiceData) (es : List (ℕ × List ServiceData))
+    → IsDistinct eqb (keys_of es)
+    → from_entries {R = place_cmp} (all_places (changed_service p t change es))
+    ≡ change_where (at_service t p) change (from_entries (all_places es))
+places_changed p t change es d = ap (λ l. from_entries {R = place_cmp} l) (sym (one_service t p change es d))
+    ∙ sym (change_where-from_entries (at_service t p) change (all_places es))
 
 -- what a change leaves at a place
 pub get-change_where : (test : ℕ × ℕ → Bool) (change : ServiceData → ServiceData) (m : Data) (q : ℕ × ℕ)
@@ -390,31 +461,39 @@ get-change_where test change m q =
 pub same_places : (m n : Data) → ((q : ℕ × ℕ) → get m q ≡ get n q) → m ≡ n
 same_places = same_map place_total place_exact
 
-some_in_set : (sets s : ℕ) (held : List ServiceData) → length held ≡ sets → is_some (in_set 1 held s) ≡ (nat_le 1 s && nat_le s sets)
+some_in_set : (sets s : ℕ) (held : List ServiceData) → length held ≡ sets
+    → is_some (in_set 1 held s) ≡ (nat_le 1 s && nat_le s sets)
 some_in_set sets s held l = by (cases_lt s 1) (cases_lt (s - 1) sets)
   where
     by : (s < 1) ⊎ (1 ≤ s) → (s - 1 < sets) ⊎ (sets ≤ s - 1) → is_some (in_set 1 held s) ≡ (nat_le 1 s && nat_le s sets)
-    by (inl h) k = let a : nat_lt s 1 ≡ true = lt-ltb s 1 h in let b : nat_le 1 s ≡ false = lt-leb 1 s h in rw (a, b) refl
+    by (inl h) k = let a : nat_lt s 1 ≡ true = lt-ltb s 1 h in let b : nat_le 1 s ≡ false = lt-leb 1 s h in
+        rw (a, b) refl
     by (inr h) (inl k) =
-        let a : nat_lt s 1 ≡ false = le-ltb s 1 h in let b : nat_le 1 s ≡ true = le-leb 1 s h in let c : nat_le s sets ≡ true = le-leb s sets (omega arith) in
+        let a : nat_lt s 1 ≡ false = le-ltb s 1 h in let b : nat_le 1 s ≡ true = le-leb 1 s h in
+        let c : nat_le s sets ≡ true = le-leb s sets (omega arith) in
         rw (a, b, c) (some_within held (s - 1) (omega arith))
     by (inr h) (inr k) =
-        let a : nat_lt s 1 ≡ false = le-ltb s 1 h in let b : nat_le 1 s ≡ true = le-leb 1 s h in let c : nat_le s sets ≡ false = lt-leb s sets (omega arith) in
+        let a : nat_lt s 1 ≡ false = le-ltb s 1 h in let b : nat_le 1 s ≡ true = le-leb 1 s h in
+        let c : nat_le s sets ≡ false = lt-leb s sets (omega arith) in
         rw (a, b, c) (ap is_some (slice_get_past held (s - 1) (omega arith)))
 
 -- a place is there exactly where its set is and its service is listed
 pub some_at : (sets s p : ℕ) (es : List (ℕ × List ServiceData)) → AllByRecursion (λ e. length e.1 ≡ sets) es
-    → is_some (option_and_then (λ held. in_set 1 held s) (lookup (eqb p) es)) ≡ (list_any (λ k. p == k) (keys_of es) && (nat_le 1 s && nat_le s sets))
+    → is_some (option_and_then (λ held. in_set 1 held s) (lookup (eqb p) es))
+    ≡ (list_any (λ k. p == k) (keys_of es) && (nat_le 1 s && nat_le s sets))
 some_at sets s p [] all = refl
 some_at sets s p (e ∷ es) all = by (eqb p e.0) (some_at sets s p es all.1)
   where
-    by : (b : Bool) → is_some (option_and_then (λ held. in_set 1 held s) (lookup (eqb p) es)) ≡ (list_any (λ k. p == k) (keys_of es) && (nat_le 1 s && nat_le s sets))
-        → is_some (option_and_then (λ held. in_set 1 held s) (cond b (Some e.1) (lookup (eqb p) es))) ≡ ((b || list_any (λ k. p == k) (keys_of es)) && (nat_le 1 s && nat_le s sets))
+    by : (b : Bool) → is_some (option_and_then (λ held. in_set 1 held s) (lookup (eqb p) es))
+        ≡ (list_any (λ k. p == k) (keys_of es) && (nat_le 1 s && nat_le s sets))
+        → is_some (option_and_then (λ held. in_set 1 held s) (cond b (Some e.1) (lookup (eqb p) es)))
+        ≡ ((b || list_any (λ k. p == k) (keys_of es)) && (nat_le 1 s && nat_le s sets))
     by true more = some_in_set sets s e.1 all.0
     by false more = more
 
 -- no service is 00
-pub zero_not_listed : (p : ℕ) (ks : List ℕ) → p ≡ 0x00 → list_any (λ s. s == 0x00) ks ≡ false → list_any (λ k. p == k) ks ≡ false
+pub zero_not_listed : (p : ℕ) (ks : List ℕ) → p ≡ 0x00 → list_any (λ s. s == 0x00) ks ≡ false
+    → list_any (λ k. p == k) ks ≡ false
 zero_not_listed p [] e h = refl
 zero_not_listed p (k ∷ ks) e h =
     let both = neither (k == 0x00) (list_any (λ s. s == 0x00) ks) h in

@@ -38,4 +38,12 @@ taken (Ack c counter) s = s
 
 -- A new service: PI 0000, PS of eight spaces, TP, TA and music off, PTY 0 and no text. (profile)
 abbrev pub opening_service : ServiceData
-opening_service = record { pi = 0x0000; ps = replicate 8 0x20; tp = false; ta = false; music = false; pty = 0; texts = [] }
+opening_service = record {
+  pi = 0x0000;
+  ps = replicate 8 0x20;
+  tp = false;
+  ta = false;
+  music = false;
+  pty = 0;
+  texts = [];
+}

@@ -1,7 +1,8 @@
 -- The numbers and names of the faults, in the order in which they are looked for.
 use Rattle.std.specs.Prelude.{ℕ, List, codes}
 use Rattle.rds_store.specs.declared.fault.StoreFault.{StoreFault}
-use Rattle.rds_store.specs.declared.fault.StoreFault.TheVariants.{SetCount, ServiceCount, ServiceZero, ServiceTwice, OutOfMemory}
+use Rattle.rds_store.specs.declared.fault.StoreFault.TheVariants.{SetCount, ServiceCount, ServiceZero, ServiceTwice}
+use Rattle.rds_store.specs.declared.fault.StoreFault.TheVariants.{OutOfMemory}
 
 -- The number of a fault, from 1 in the order in which they are looked for. (profile)
 abbrev pub number_of : StoreFault → ℕ

@@ -1,6 +1,7 @@
 -- How the code keeps the data: each service by its number, with what it has in set 1 first; and which places that
 -- stands for. No public clause cites this.
-use Rattle.std.specs.Prelude.{◌≡◌, ℕ, ◌+◌, ◌<◌, ◌≤◌, Bool, false, ◌&&◌, ◌||◌, ◌==◌, ◌-◌, nat_lt, slice_get, Option, None, List, [], ◌∷◌, ◌++◌, length, map, if◌then◌else◌}
+use Rattle.std.specs.Prelude.{◌≡◌, ℕ, ◌+◌, ◌<◌, ◌≤◌, Bool, false, ◌&&◌, ◌||◌, ◌==◌, ◌-◌, nat_lt, slice_get, Option}
+use Rattle.std.specs.Prelude.{None, List, [], ◌∷◌, ◌++◌, length, map, if◌then◌else◌}
 use Rattle.std.specs.List.{All, AllByRecursion, list_any}
 use Rattle.std.specs.Map.{keys_of}
 use Rattle.rds_store.specs.declared.group.Group.{Group}
@@ -23,7 +24,8 @@ changed_sets set test change [] = []
 changed_sets set test change (s ∷ ss) = (if test set then change s else s) ∷ changed_sets (set + 1) test change ss
 
 -- What all services have once one of them was so changed.
-abbrev pub changed_service : (service : ℕ) → (ℕ → Bool) → (ServiceData → ServiceData) → List (ℕ × List ServiceData) → List (ℕ × List ServiceData)
+abbrev pub changed_service : (service : ℕ) → (ℕ → Bool) → (ServiceData → ServiceData) → List (ℕ × List ServiceData)
+    → List (ℕ × List ServiceData)
 changed_service service test change [] = []
 changed_service service test change (e ∷ es) =
     if service == e.0 then (e.0, changed_sets 1 test change e.1) ∷ es else e ∷ changed_service service test change es

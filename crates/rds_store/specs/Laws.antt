@@ -21,7 +21,8 @@ RefusalChangesNothing = (v : Store) (e : Element) → (put v e).1 ≢ Applied �
 abbrev pub ChangesNamedPlacesAlone : Type 0
 ChangesNamedPlacesAlone =
     (v : Store) (e : Element) (place : ℕ × ℕ)
-    → get (put v e).0.places place ≡ option_map (λ s. if is_applied (put v e).1 && names v e place then taken e s else s) (get v.places place)
+    → get (put v e).0.places place ≡ option_map (λ s. if is_applied (put v e).1
+    && names v e place then taken e s else s) (get v.places place)
 
 -- An element that names places keeps the current set and the groups.
 abbrev pub KeepsSelectionAndGroups : Type 0
@@ -35,7 +36,8 @@ KeepsSetsAndServices = (v : Store) (e : Element) → ((put v e).0.sets ≡ v.set
 
 -- No message changes how many sets there are, or which services.
 abbrev pub MessagesKeepSetsAndServices : Type 0
-MessagesKeepSetsAndServices = (v : Store) (message : List ℕ) → ((step v message).0.sets ≡ v.sets) × ((step v message).0.services ≡ v.services)
+MessagesKeepSetsAndServices = (v : Store) (message : List ℕ)
+    → ((step v message).0.sets ≡ v.sets) × ((step v message).0.services ≡ v.services)
 
 -- What a store has at each place, its current set and its groups are those that they were.
 pub record IsAsBefore (before after : Store) : Type 0 where
@@ -45,7 +47,8 @@ pub record IsAsBefore (before after : Store) : Type 0 where
 
 -- A message that is answered with another code than 00 leaves every place, the current set and the groups as they were.
 abbrev pub RefusedMessageChangesNothing : Type 0
-RefusedMessageChangesNothing = (v : Store) (message : List ℕ) → (step v message).1 ≢ Applied → IsAsBefore v (step v message).0
+RefusedMessageChangesNothing = (v : Store) (message : List ℕ) → (step v message).1 ≢ Applied
+    → IsAsBefore v (step v message).0
 
 -- The elements, put into the store one after another, are each answered with 00, and leave that store.
 abbrev pub PutsEach : Store → List Element → (after : Store) → Type 0
@@ -76,7 +79,8 @@ TakesOut v (group ∷ groups) after = ((group_taken v).1 ≡ Some group) × Take
 -- The groups that wait go out in the order in which they wait, and nothing else changes; then there is none to go out.
 abbrev pub GroupsGoOutInOrder : Type 0
 GroupsGoOutInOrder =
-    (v : Store) → TakesOut v v.groups (record v { groups = [] }) × (group_taken (record v { groups = [] }) ≡ (record v { groups = [] }, None))
+    (v : Store) → TakesOut v v.groups (record v { groups = [] })
+    × (group_taken (record v { groups = [] }) ≡ (record v { groups = [] }, None))
 
 -- What is kept at each place is all that there is to know of the data.
 abbrev pub IsKnownByPlaces : Type 0

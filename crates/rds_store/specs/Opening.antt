@@ -1,5 +1,6 @@
 -- The opening store, and when there is none.
-use Rattle.std.specs.Prelude.{ℕ, ◌==◌, Bool, false, nat_lt, ◌||◌, List, [], ◌∷◌, length, map, flat_map, if◌then◌else◌, Option, Some, None}
+use Rattle.std.specs.Prelude.{ℕ, ◌==◌, Bool, false, nat_lt, ◌||◌, List, [], ◌∷◌, length, map, flat_map, if◌then◌else◌}
+use Rattle.std.specs.Prelude.{Option, Some, None}
 use Rattle.std.specs.List.{list_any}
 use Rattle.std.specs.FinMap.{from_entries}
 use Rattle.rds_store.specs.Value.{Store, ServiceData}

@@ -13,7 +13,8 @@ use Rattle.rds_store.specs.Refusals.{code_of}
 
 -- Each place that passes the test takes the change, and the others stay.
 abbrev pub change_where : (test : ℕ × ℕ → Bool) → (change : ServiceData → ServiceData) → Data → Data
-change_where test change places = from_entries (map (λ e. (e.0, (if test e.0 then change e.1 else e.1))) (entries places))
+change_where test change places =
+    from_entries (map (λ e. (e.0, (if test e.0 then change e.1 else e.1))) (entries places))
 
 -- Each place that the DSN and PSN of the element name takes the element's content. (SPB 490, data sets and programme
 -- services)
@@ -26,7 +27,14 @@ stored_at v e a = record v { places = change_where (names_place v a.0 a.1) (take
 abbrev pub stored : Store → Element → Store
 stored v (Select dsn) = if dsn == 0x00 then v else record v { current = dsn }
 stored v (Group kind mode block3 block4) =
-    record v { groups = buffered mode v.groups (record { kind = kind; bits = bits_4_to_0 mode; block3 = block3; block4 = block4 }) }
+    record v {
+      groups = buffered mode v.groups (record {
+        kind = kind;
+        bits = bits_4_to_0 mode;
+        block3 = block3;
+        block4 = block4;
+      });
+    }
 stored v e = option_map_or (stored_at v e) (address e) v
 
 -- A code but 00 leaves the store. (profile)

@@ -1,10 +1,12 @@
 -- With which code a store answers an element.
-use Rattle.std.specs.Prelude.{ℕ, zero, suc, ◌==◌, ◌+◌, Bool, true, false, not, ◌&&◌, ◌||◌, nat_lt, List, [], ◌∷◌, length, if◌then◌else◌, is_none}
+use Rattle.std.specs.Prelude.{ℕ, zero, suc, ◌==◌, ◌+◌, Bool, true, false, not, ◌&&◌, ◌||◌, nat_lt, List, [], ◌∷◌}
+use Rattle.std.specs.Prelude.{length, if◌then◌else◌, is_none}
 use Rattle.std.specs.Option.{option_map_or}
 use Rattle.std.specs.List.{list_any}
 use Rattle.std.specs.FinMap.{get}
 use Rattle.uecp_elements.specs.declared.code.Code.{Code}
-use Rattle.uecp_elements.specs.declared.code.Code.TheVariants.{Applied, DataSet, Service, OutOfRange, NotHere, BufferFull}
+use Rattle.uecp_elements.specs.declared.code.Code.TheVariants.{Applied, DataSet, Service, OutOfRange, NotHere}
+use Rattle.uecp_elements.specs.declared.code.Code.TheVariants.{BufferFull}
 use Rattle.uecp_elements.specs.Grammar.{Element, Pty, Rt, Text, Select, Group, Ack}
 use Rattle.rds_store.specs.Value.{ServiceData, Data, Store}
 use Rattle.rds_store.specs.Names.{address, names_set, is_dsn, service_of}
@@ -56,11 +58,13 @@ is_full_in places set service = option_map_or is_full (get places (set, service)
 
 -- The service has 8 texts in one of the sets that the DSN names. (profile)
 abbrev pub has_full_set : Store → (dsn service : ℕ) → Bool
-has_full_set v dsn service = list_any (λ set. names_set dsn v.current set && is_full_in v.places set service) (set_numbers v.sets)
+has_full_set v dsn service = list_any (λ set. names_set dsn v.current set && is_full_in v.places set service)
+    (set_numbers v.sets)
 
 -- 0B: an added text finds 8 texts at its service in one of its sets, or an added group finds 32 groups. (profile)
 abbrev pub has_no_room : Store → Element → Bool
-has_no_room v (Rt dsn psn (Text head bytes)) = adds head && option_map_or (has_full_set v dsn) (service_of v.services psn) false
+has_no_room v (Rt dsn psn (Text head bytes)) = adds head
+    && option_map_or (has_full_set v dsn) (service_of v.services psn) false
 has_no_room v (Group kind mode block3 block4) = adds mode && (length v.groups == 32)
 has_no_room v _ = false
 

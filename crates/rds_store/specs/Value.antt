@@ -55,9 +55,18 @@ coded_text = code_by (Bool × (ℕ × List ℕ)) (coded× coded_bool (coded× co
 -- Services are the same where their seven parts are.
 abbrev pub coded_service : Coded ServiceData
 coded_service = code_by (ℕ × (List ℕ × (Bool × (Bool × (Bool × (ℕ × List StoredText))))))
-    (coded× coded_ℕ (coded× (coded_list coded_ℕ) (coded× coded_bool (coded× coded_bool (coded× coded_bool (coded× coded_ℕ (coded_list coded_text)))))))
+    (coded× coded_ℕ (coded× (coded_list coded_ℕ) (coded× coded_bool
+    (coded× coded_bool (coded× coded_bool (coded× coded_ℕ (coded_list coded_text)))))))
     (λ s. (s.pi, (s.ps, (s.tp, (s.ta, (s.music, (s.pty, s.texts)))))))
-    (λ p. record { pi = p.0; ps = p.1.0; tp = p.1.1.0; ta = p.1.1.1.0; music = p.1.1.1.1.0; pty = p.1.1.1.1.1.0; texts = p.1.1.1.1.1.1 }) (λ _. refl)
+    (λ p. record {
+      pi = p.0;
+      ps = p.1.0;
+      tp = p.1.1.0;
+      ta = p.1.1.1.0;
+      music = p.1.1.1.1.0;
+      pty = p.1.1.1.1.1.0;
+      texts = p.1.1.1.1.1.1;
+    }) (λ _. refl)
 
 -- Groups are the same where their four parts are.
 abbrev pub coded_group : Coded Group
@@ -68,6 +77,8 @@ coded_group = code_by (ℕ × (ℕ × (ℕ × ℕ))) (coded× coded_ℕ (coded×
 -- Stores are the same where their five parts are.
 abbrev pub coded_store : Coded Store
 coded_store = code_by (ℕ × (List ℕ × (ℕ × (Data × List Group))))
-    (coded× coded_ℕ (coded× (coded_list coded_ℕ) (coded× coded_ℕ (coded× (map.code (coded× coded_ℕ coded_ℕ) coded_service) (coded_list coded_group)))))
+    (coded× coded_ℕ (coded× (coded_list coded_ℕ) (coded× coded_ℕ
+    (coded× (map.code (coded× coded_ℕ coded_ℕ) coded_service) (coded_list coded_group)))))
     (λ v. (v.sets, (v.services, (v.current, (v.places, v.groups)))))
-    (λ p. record { sets = p.0; services = p.1.0; current = p.1.1.0; places = p.1.1.1.0; groups = p.1.1.1.1 }) (λ _. refl)
+    (λ p. record { sets = p.0; services = p.1.0; current = p.1.1.0; places = p.1.1.1.0; groups = p.1.1.1.1 })
+    (λ _. refl)

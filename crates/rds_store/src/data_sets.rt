@@ -39,7 +39,13 @@ impl Model for DataSets {
 
     ghost coded = { coded_store };
 
-    ghost view = { λ r. record { sets = r.sets; services = keys r.services; current = r.current; places = from_entries (all_places r.services.entries); groups = r.groups.items } };
+    ghost view = { λ r. record {
+      sets = r.sets;
+      services = keys r.services;
+      current = r.current;
+      places = from_entries (all_places r.services.entries);
+      groups = r.groups.items;
+    } };
 
     ghost invariant = { λ r. IsKept r.sets r.current r.services.entries r.groups.items };
 }

@@ -72,8 +72,10 @@ impl ServiceInSets {
     pub(crate) fn change(&mut self, named: NamedSets, element: &Element<'_>)
         requires short { grammar.IsElement (element_of element.now) }
         requires in_range { is_out_of_range (element_of element.now) ≡ false }
-        requires room { IsTrue (adds_text (element_of element.now)) → any_set_full 1 (names_set named.dsn named.current) self.old ≡ false }
-        ensures { self.new ≡ changed_sets 1 (names_set named.dsn named.current) (taken (element_of element.now)) self.old }
+        requires room { IsTrue (adds_text (element_of element.now))
+            → any_set_full 1 (names_set named.dsn named.current) self.old ≡ false }
+        ensures { self.new ≡ changed_sets 1 (names_set named.dsn named.current) (taken (element_of element.now))
+            self.old }
     {
         change_each(self.sets.as_mut_slice(), named, element);
     }
@@ -116,7 +118,8 @@ fn change_each(sets: &mut [Service], named: NamedSets, element: &Element<'_>)
     requires few { length sets.old ≤ 8 }
     requires short { grammar.IsElement (element_of element.now) }
     requires in_range { is_out_of_range (element_of element.now) ≡ false }
-    requires room { IsTrue (adds_text (element_of element.now)) → any_set_full 1 (names_set named.dsn named.current) sets.old ≡ false }
+    requires room { IsTrue (adds_text (element_of element.now))
+        → any_set_full 1 (names_set named.dsn named.current) sets.old ≡ false }
     ensures { sets.new ≡ changed_sets 1 (names_set named.dsn named.current) (taken (element_of element.now)) sets.old }
 {
     let mut set = 1u8;
@@ -138,8 +141,10 @@ pub(crate) fn change_service(
     requires short { grammar.IsElement (element_of element.now) }
     requires in_range { is_out_of_range (element_of element.now) ≡ false }
     requires room { IsTrue (adds_text (element_of element.now))
-        → IfSome (index.get nat_eq services.old number) (λ held. any_set_full 1 (names_set named.dsn named.current) held ≡ false) }
-    ensures services { services.new.entries ≡ changed_service number (names_set named.dsn named.current) (taken (element_of element.now)) services.old.entries }
+        → IfSome (index.get nat_eq services.old number) (λ held. any_set_full 1 (names_set named.dsn named.current) held
+        ≡ false) }
+    ensures services { services.new.entries ≡ changed_service number (names_set named.dsn named.current)
+        (taken (element_of element.now)) services.old.entries }
     ensures unique { index.IsUnique nat_eq services.old }
 {
     match services.get_mut(&number) {

@@ -1,5 +1,8 @@
 //! Laws of a store under elements, messages and takes, each the contract of a function that does nothing.
-ghost use Rattle.rds_store.specs.Laws.{RefusalChangesNothing, ChangesNamedPlacesAlone, KeepsSelectionAndGroups, KeepsSetsAndServices, MessagesKeepSetsAndServices, RefusedMessageChangesNothing, AppliedMessageIsWhole, WholeMessageIsApplied, EmptyMessageChangesNothing, GroupsGoOutInOrder, IsKnownByPlaces};
+ghost use Rattle.rds_store.specs.Laws.{RefusalChangesNothing, ChangesNamedPlacesAlone, KeepsSelectionAndGroups};
+ghost use Rattle.rds_store.specs.Laws.{KeepsSetsAndServices, MessagesKeepSetsAndServices, RefusedMessageChangesNothing};
+ghost use Rattle.rds_store.specs.Laws.{AppliedMessageIsWhole, WholeMessageIsApplied, EmptyMessageChangesNothing};
+ghost use Rattle.rds_store.specs.Laws.{GroupsGoOutInOrder, IsKnownByPlaces};
 
 /// An element that is answered with another code than 00 leaves the store as it was.
 #[tactic(auto, using(crate::proofs::LawProofs::refusal_changes_nothing))]

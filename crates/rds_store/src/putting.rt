@@ -60,7 +60,8 @@ impl DataSets {
         requires in_range { is_out_of_range (element_of element.now) ≡ false }
         requires room { (adds_text (element_of element.now) && has_full_set self.old dsn number) ≡ false }
         ensures { self.new ≡ record self.old {
-          places = change_where (at_service (names_set dsn self.old.current) number) (taken (element_of element.now)) self.old.places;
+          places = change_where (at_service (names_set dsn self.old.current) number) (taken (element_of element.now))
+              self.old.places;
         } }
     {
         let named = NamedSets {

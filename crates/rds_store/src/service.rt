@@ -40,7 +40,15 @@ impl Model for Service {
 
     ghost coded = { coded_service };
 
-    ghost view = { λ s. record { pi = s.pi; ps = s.ps; tp = s.tp; ta = s.ta; music = s.music; pty = s.pty; texts = s.texts.items } };
+    ghost view = { λ s. record {
+      pi = s.pi;
+      ps = s.ps;
+      tp = s.tp;
+      ta = s.ta;
+      music = s.music;
+      pty = s.pty;
+      texts = s.texts.items;
+    } };
 
     ghost invariant = { λ s. (s.pty ≤ 0x1F) × (length s.texts.items ≤ 8) };
 }

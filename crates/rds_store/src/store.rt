@@ -1,6 +1,7 @@
 //! The store: a message is whole or none. Source: RDS Forum SPB 490 for data sets and programme services, profile for
 //! the limits.
-ghost use Rattle.std.specs.Prelude.{◌≡◌, ◌==◌, All, ◌&&◌, nat_le, is_some, false, ◌<◌, ◌≤◌, IfSome, length, slice_get, IfOk, IfErr, unwrap_or, None};
+ghost use Rattle.std.specs.Prelude.{◌≡◌, ◌==◌, All, ◌&&◌, nat_le, is_some, false, ◌<◌, ◌≤◌, IfSome, length, slice_get};
+ghost use Rattle.std.specs.Prelude.{IfOk, IfErr, unwrap_or, None};
 ghost use Rattle.std.specs.Option.{option_copied};
 ghost use Rattle.std.specs.List.{list_any};
 ghost use Rattle.std.specs.FinMap.{get};
@@ -167,7 +168,8 @@ impl RdsStore {
     /// current set nor the main service.
     pub fn service(&self, set: u8, psn: u8) -> Option<&Service>
         ensures value { option_copied result ≡ get self.now.places (set, psn) }
-        ensures there { is_some result ≡ (list_any (λ s. psn == s) self.now.services && (nat_le 1 set && nat_le set self.now.sets)) }
+        ensures there { is_some result ≡ (list_any (λ s. psn == s) self.now.services
+            && (nat_le 1 set && nat_le set self.now.sets)) }
         ensures zero { psn ≡ 0x00 → is_some result ≡ false }
     {
         match self.main.services.get(&psn) {

@@ -8,15 +8,18 @@ use Rattle.clap.proofs.WalkLemmas.{both}
 use Rattle.clap.proofs.SimpleLemmas.{is_false}
 
 -- a command with one more argument
-pub arg_added : (old new : Command) (a : Arg) (s : Shape) (r : Rule) → AddsArg old a new → a.global ≡ false → shape_of old ≡ s → rule_of a ≡ r → shape_of new ≡ record s { rules = s.rules ++ r ∷ [] }
+pub arg_added : (old new : Command) (a : Arg) (s : Shape) (r : Rule) → AddsArg old a new → a.global ≡ false
+    → shape_of old ≡ s → rule_of a ≡ r → shape_of new ≡ record s { rules = s.rules ++ r ∷ [] }
 arg_added old new a s r added own is_s is_r =
-    ap (λ (x : App). x.top) (added.shape own) ∙ ap₂ (λ (x : Shape) (y : Rule). record x { rules = x.rules ++ y ∷ [] }) is_s is_r
+    ap (λ (x : App). x.top) (added.shape own) ∙ ap₂ (λ (x : Shape) (y : Rule). record x { rules = x.rules ++ y ∷ [] })
+    is_s is_r
 
 -- a plain command has no global argument
 plain_own : (c : Command) → (shape_of c).is_plain ≡ true → (fields_of c).has_globals ≡ false
 plain_own c plain = is_false _ (both _ _ (both _ _ (both _ _ plain).1).1).0
 
 -- a command with one more subcommand
-pub sub_added : (old sub new : Command) (a : App) (s : Shape) → AddsSubcommand old sub new → s.is_plain ≡ true → app_of old ≡ a → shape_of sub ≡ s → app_of new ≡ with_subcommand a s
+pub sub_added : (old sub new : Command) (a : App) (s : Shape) → AddsSubcommand old sub new → s.is_plain ≡ true
+    → app_of old ≡ a → shape_of sub ≡ s → app_of new ≡ with_subcommand a s
 sub_added old sub new a s added plain is_a is_s =
     added.shape (plain_own sub (ap (λ (x : Shape). x.is_plain) is_s ∙ plain)) ∙ ap₂ with_subcommand is_a is_s

@@ -17,7 +17,8 @@ use Rattle.uecp_jobs.specs.declared.job.Job.TheVariants.{Answer, Show, Make, Lin
 use Rattle.uecp_cli.specs.declared.usage.Usage.{Usage}
 use Rattle.uecp_cli.specs.Ranges.{IsInRange, IsPlaceInRange, IsSetupInRange, Lies}
 use Rattle.uecp_cli.specs.Usages.{SaysError}
-use Rattle.uecp_cli.specs.CommandLine.{AreOptions, Asks, IsJobOf, IsOption, IsPlace, RefusesList, RefusesWords, services_text, uecp_app}
+use Rattle.uecp_cli.specs.CommandLine.{AreOptions, Asks, IsJobOf, IsOption, IsPlace, RefusesList, RefusesWords}
+use Rattle.uecp_cli.specs.CommandLine.{services_text, uecp_app}
 use Rattle.uecp_cli.proofs.Helps.{one_named}
 
 -- ---- by what clap's clauses say of a parse
@@ -29,22 +30,27 @@ free_app : is_simple_and_free uecp_app ≡ true
 unfolding clap_on_literals
 free_app = refl
 
-pub met_of : (a : App) (words : List Text) (m : ArgMatches) → a ≡ uecp_app → HasMatchesOf a words m → subcommand_rows_of m ≡ subcommand_of uecp_app words
+pub met_of : (a : App) (words : List Text) (m : ArgMatches) → a ≡ uecp_app → HasMatchesOf a words m
+    → subcommand_rows_of m ≡ subcommand_of uecp_app words
 met_of a words m is h = (subst (λ (x : App). HasMatchesOf x words m) is h simple_app).1
 
-pub faultless_of : (a : App) (words : List Text) → a ≡ uecp_app → (is_simple_and_free a ≡ true → fault_of a words ≡ []) → fault_of uecp_app words ≡ []
+pub faultless_of : (a : App) (words : List Text) → a ≡ uecp_app → (is_simple_and_free a ≡ true → fault_of a words ≡ [])
+    → fault_of uecp_app words ≡ []
 faultless_of a words is h = subst (λ (x : App). is_simple_and_free x ≡ true → fault_of x words ≡ []) is h free_app
 
-pub faulty_of : (a : App) (words : List Text) (e : Error) → a ≡ uecp_app → (is_simple_and_free a ≡ true → HasKind (fault_of a words) e) → HasKind (fault_of uecp_app words) e
+pub faulty_of : (a : App) (words : List Text) (e : Error) → a ≡ uecp_app
+    → (is_simple_and_free a ≡ true → HasKind (fault_of a words) e) → HasKind (fault_of uecp_app words) e
 faulty_of a words e is h = subst (λ (x : App). is_simple_and_free x ≡ true → HasKind (fault_of x words) e) is h free_app
 
 -- ---- the name and the rows of what was met
 both_met : {Z : Type 0} (o : Option (Box SubCommand Z)) (name : Text) (rows : List Row)
-    → Some name ≡ option_map (λ b. (out-SubCommand (box_value b)).name.now) o → Some rows ≡ option_map (λ p. p.1) (subcommand_rows o) → subcommand_rows o ≡ Some (name, rows)
+    → Some name ≡ option_map (λ b. (out-SubCommand (box_value b)).name.now) o
+    → Some rows ≡ option_map (λ p. p.1) (subcommand_rows o) → subcommand_rows o ≡ Some (name, rows)
 both_met None name rows e f = cc
 both_met (Some b) name rows e f = cc
 
-name_met : {Z : Type 0} (o : Option (Box SubCommand Z)) → option_map (λ b. (out-SubCommand (box_value b)).name.now) o ≡ option_map (λ p. p.0) (subcommand_rows o)
+name_met : {Z : Type 0} (o : Option (Box SubCommand Z))
+    → option_map (λ b. (out-SubCommand (box_value b)).name.now) o ≡ option_map (λ p. p.0) (subcommand_rows o)
 name_met None = refl
 name_met (Some b) = refl
 
@@ -53,8 +59,10 @@ none_named f None name is e = absurd (let none : None ≡ Some name = e in cc)
 none_named f (Some x) name is e = absurd (let some : Some x ≡ None = is in cc)
 
 -- ---- what the words ask for
-pub asks : (words : List Text) (m : ArgMatches) (name : Text) (rows : List Row) (job : Job) → Some name ≡ subcommand_name_of m → Some rows ≡ option_map (λ p. p.1) (subcommand_rows_of m)
-    → subcommand_rows_of m ≡ subcommand_of uecp_app words → fault_of uecp_app words ≡ [] → IsJobOf name rows job → Asks words job
+pub asks : (words : List Text) (m : ArgMatches) (name : Text) (rows : List Row) (job : Job)
+    → Some name ≡ subcommand_name_of m → Some rows ≡ option_map (λ p. p.1) (subcommand_rows_of m)
+    → subcommand_rows_of m ≡ subcommand_of uecp_app words → fault_of uecp_app words ≡ [] → IsJobOf name rows job
+    → Asks words job
 asks words m name rows job e f met none is = record {
   faultless = none;
   name = name;
@@ -64,8 +72,10 @@ asks words m name rows job e f met none is = record {
 }
 
 -- the words with no fault name one of the six commands
-pub no_other : (words : List Text) (m : ArgMatches) (o : Option Text) → o ≡ subcommand_name_of m → subcommand_rows_of m ≡ subcommand_of uecp_app words → fault_of uecp_app words ≡ []
-    → (o ≡ Some (codes "answer") → ⊥) → (o ≡ Some (codes "line") → ⊥) → (o ≡ Some (codes "make") → ⊥) → (o ≡ Some (codes "show") → ⊥) → (o ≡ Some (codes "encoder") → ⊥) → (o ≡ Some (codes "server") → ⊥) → ⊥
+pub no_other : (words : List Text) (m : ArgMatches) (o : Option Text) → o ≡ subcommand_name_of m
+    → subcommand_rows_of m ≡ subcommand_of uecp_app words → fault_of uecp_app words ≡ []
+    → (o ≡ Some (codes "answer") → ⊥) → (o ≡ Some (codes "line") → ⊥) → (o ≡ Some (codes "make") → ⊥)
+    → (o ≡ Some (codes "show") → ⊥) → (o ≡ Some (codes "encoder") → ⊥) → (o ≡ Some (codes "server") → ⊥) → ⊥
 no_other words m o e met none no_answer no_line no_make no_show no_encoder no_server =
     let n = one_named words none in
     let name : o ≡ Some n.0.0 = e ∙ name_met (out-ArgMatches m).subcommand ∙ ap (option_map (λ p. p.0)) (met ∙ n.1) in
@@ -78,8 +88,11 @@ no_other words m o e met none no_answer no_line no_make no_show no_encoder no_se
       | inr (inr (inr (inr (inr is)))) ↦ no_server (name ∙ ap Some is)
     ]
 
-pub gives_no_list : (words : List Text) (m : ArgMatches) (name : Text) (rows : List Row) (why : Usage) → Some name ≡ subcommand_name_of m → Some rows ≡ option_map (λ p. p.1) (subcommand_rows_of m)
-    → subcommand_rows_of m ≡ subcommand_of uecp_app words → (name ≡ codes "answer") ⊎ ((name ≡ codes "line") ⊎ (name ≡ codes "encoder")) → RefusesList (services_text rows) why → RefusesWords words why
+pub gives_no_list : (words : List Text) (m : ArgMatches) (name : Text) (rows : List Row) (why : Usage)
+    → Some name ≡ subcommand_name_of m → Some rows ≡ option_map (λ p. p.1) (subcommand_rows_of m)
+    → subcommand_rows_of m ≡ subcommand_of uecp_app words
+    → (name ≡ codes "answer") ⊎ ((name ≡ codes "line") ⊎ (name ≡ codes "encoder"))
+    → RefusesList (services_text rows) why → RefusesWords words why
 gives_no_list words m name rows why e f met has_encoder refused = elim refused [
   | inl is ↦ subst (RefusesWords words) (sym is) tt
   | inr none ↦ subst (RefusesWords words) (sym none.0) (record {
@@ -91,32 +104,44 @@ gives_no_list words m name rows why e f met has_encoder refused = elim refused [
   })
 ]
 
-says_why : (words : List Text) (e : Error) (why : Usage) → HasKind (fault_of uecp_app words) e → SaysError e why → RefusesWords words why
+says_why : (words : List Text) (e : Error) (why : Usage) → HasKind (fault_of uecp_app words) e → SaysError e why
+    → RefusesWords words why
 says_why words e why kinds says = elim says [
   | inl out ↦ subst (RefusesWords words) (sym out.1) tt
   | inr is ↦ subst (RefusesWords words) (sym is.1) (elim kinds [ inl out ↦ absurd (is.0 out) | inr among ↦ among ])
 ]
 
-pub refuses_words : (words : List Text) (e : Error) (r : Result Job Usage) → HasKind (fault_of uecp_app words) e → IsErrAnd r (SaysError e) → IfErr r (RefusesWords words)
+pub refuses_words : (words : List Text) (e : Error) (r : Result Job Usage) → HasKind (fault_of uecp_app words) e
+    → IsErrAnd r (SaysError e) → IfErr r (RefusesWords words)
 refuses_words words e (Ok job) kinds says = tt
 refuses_words words e (Err why) kinds says = says_why words e why kinds says
 
 -- ---- ranges
-in_range : (text : Option Text) (least greatest number : ℕ) → IsOption text least greatest number → Lies least greatest number
+in_range : (text : Option Text) (least greatest number : ℕ) → IsOption text least greatest number
+    → Lies least greatest number
 in_range text least greatest number o = (o.at_least, o.at_most)
 
 place_in_range : (rows : List Row) (site encoder : ℕ) → IsPlace rows site encoder → IsPlaceInRange site encoder
 place_in_range rows site encoder p = (in_range _ _ _ _ p.0, in_range _ _ _ _ p.1)
 
-setup_in_range : (rows : List Row) (site encoder sets : ℕ) (services : List ℕ) → AreOptions rows site encoder sets services → IsSetupInRange site encoder sets
-setup_in_range rows site encoder sets services o = (place_in_range rows site encoder o.is_place, in_range _ _ _ _ o.is_sets)
+setup_in_range : (rows : List Row) (site encoder sets : ℕ) (services : List ℕ)
+    → AreOptions rows site encoder sets services → IsSetupInRange site encoder sets
+setup_in_range rows site encoder sets services o =
+    (place_in_range rows site encoder o.is_place, in_range _ _ _ _ o.is_sets)
 
 -- the numbers of such a job are in their ranges
 pub is_in_range : (name : Text) (rows : List Row) (job : Job) → IsJobOf name rows job → IsInRange job
-is_in_range name rows (Answer site encoder sets services store) h = setup_in_range rows site encoder sets services.items h.1
-is_in_range name rows (Line site encoder sets services store) h = setup_in_range rows site encoder sets services.items h.1
+is_in_range name rows (Answer site encoder sets services store) h =
+    setup_in_range rows site encoder sets services.items h.1
+is_in_range name rows (Line site encoder sets services store) h =
+    setup_in_range rows site encoder sets services.items h.1
 is_in_range name rows (Encoder site encoder sets services port connections turns) h =
-    let o = h.2 in (setup_in_range rows site encoder sets services.items h.1, in_range _ _ _ _ o.is_port, in_range _ _ _ _ o.is_connections, in_range _ _ _ _ o.is_turns)
+    let o = h.2 in (
+      setup_in_range rows site encoder sets services.items h.1,
+      in_range _ _ _ _ o.is_port,
+      in_range _ _ _ _ o.is_connections,
+      in_range _ _ _ _ o.is_turns,
+    )
 is_in_range name rows (Server site encoder host port tries timeout turns reconnects window join) h =
     let o = h.2 in (
       place_in_range rows site encoder h.1,

@@ -20,7 +20,8 @@ unfolding walked
 command_of_a_line = refl
 
 abbrev server_words : List (List ℕ)
-server_words = codes "uecp" ∷ codes "server" ∷ codes "--port" ∷ codes "4000" ∷ codes "--reconnects=0" ∷ codes "--window" ∷ codes "8" ∷ []
+server_words = codes "uecp" ∷ codes "server" ∷ codes "--port" ∷ codes "4000" ∷ codes "--reconnects=0" ∷ codes "--window"
+    ∷ codes "8" ∷ []
 
 no_fault_of_a_server : fault_of uecp_app server_words ≡ []
 unfolding walk_fault walked defaults_fault

@@ -1,5 +1,6 @@
 -- The command line that the program takes, and what it asks for (profile).
-use Rattle.std.specs.Prelude.{◌≡◌, ◌⊎◌, ℕ, ◌≤◌, ◌==◌, Bool, true, false, List, [], ◌∷◌, ◌++◌, codes, map, Option, Some, None, Ok, is_none, option_map, unwrap_or, pos}
+use Rattle.std.specs.Prelude.{◌≡◌, ◌⊎◌, ℕ, ◌≤◌, ◌==◌, Bool, true, false, List, [], ◌∷◌, ◌++◌, codes, map, Option, Some}
+use Rattle.std.specs.Prelude.{None, Ok, is_none, option_map, unwrap_or, pos}
 use Rattle.std.specs.List.{slice_split}
 use Rattle.std.specs.String.{string_bytes}
 use Rattle.std.specs.Str.Parse.{IsNumeral, without_leading_plus, digits_value}
@@ -19,7 +20,8 @@ use Rattle.uecp_cli.specs.declared.usage.Usage.TheVariants.{Refused, NotAList, O
 
 -- The parts of a list between its commas are two hexadecimal digits each, and spell these bytes in order.
 abbrev pub IsList : (list bytes : List ℕ) → Type 0
-IsList list bytes = map (λ part. decode_sized part 1) (slice_split (λ b. b == 44) list) ≡ map (λ byte. Ok (byte ∷ [])) bytes
+IsList list bytes = map (λ part. decode_sized part 1) (slice_split (λ b. b == 44) list)
+    ≡ map (λ byte. Ok (byte ∷ [])) bytes
 
 -- Why a list was refused: it spells no bytes, or there was no memory.
 abbrev pub RefusesList : (list : List ℕ) → Usage → Type 0
@@ -56,7 +58,8 @@ host_text rows = word_text (codes "host") (codes "127.0.0.1") rows
 
 -- The site and the encoder's number at it are those that the matches of a command have.
 abbrev pub IsPlace : (rows : List Row) → (site encoder : ℕ) → Type 0
-IsPlace rows site encoder = IsOption (one_of (codes "site") rows) 1 1023 site × IsOption (one_of (codes "encoder") rows) 1 63 encoder
+IsPlace rows site encoder = IsOption (one_of (codes "site") rows) 1 1023 site
+    × IsOption (one_of (codes "encoder") rows) 1 63 encoder
 
 -- The options of an encoder are those that the matches of its command have.
 pub record AreOptions (rows : List Row) (site encoder sets : ℕ) (services : List ℕ) : Type 0 where
@@ -80,7 +83,8 @@ pub record AreListening (rows : List Row) (port connections turns : ℕ) : Type 
 
 -- Where a server finds its encoder, its bounds, and whether it joins first, are those that the matches of its command
 -- have.
-pub record AreSending (rows : List Row) (host : List ℕ) (port tries timeout turns reconnects window : ℕ) (join : Bool) : Type 0 where
+pub record AreSending (rows : List Row) (host : List ℕ) (port tries timeout turns reconnects window : ℕ)
+    (join : Bool) : Type 0 where
   pub is_host : host ≡ host_text rows
   pub is_port : IsPort rows port
   pub is_tries : IsOption (one_of (codes "tries") rows) 1 100 tries
@@ -97,9 +101,11 @@ IsJobOf name rows (Answer site encoder sets services store) =
 IsJobOf name rows (Line site encoder sets services store) =
     (name ≡ codes "line") × AreOptions rows site encoder sets services.items × IsStore rows store
 IsJobOf name rows (Encoder site encoder sets services port connections turns) =
-    (name ≡ codes "encoder") × AreOptions rows site encoder sets services.items × AreListening rows port connections turns
+    (name ≡ codes "encoder") × AreOptions rows site encoder sets services.items
+    × AreListening rows port connections turns
 IsJobOf name rows (Server site encoder host port tries timeout turns reconnects window join) =
-    (name ≡ codes "server") × IsPlace rows site encoder × AreSending rows (string_bytes host) port tries timeout turns reconnects window join
+    (name ≡ codes "server") × IsPlace rows site encoder
+    × AreSending rows (string_bytes host) port tries timeout turns reconnects window join
 IsJobOf name rows Make = name ≡ codes "make"
 IsJobOf name rows Show = name ≡ codes "show"
 
@@ -113,11 +119,18 @@ default_texts (Some text) = text ∷ []
 -- An option with a word. One without a default has to be given.
 abbrev pub word_option : (name : List ℕ) → (default : Option (List ℕ)) → Rule
 word_option name default =
-    record (new_rule name) { long = Some name; action = Some Set; value_names = 1; defaults = default_texts default; required = is_none default }
+    record (new_rule name) {
+      long = Some name;
+      action = Some Set;
+      value_names = 1;
+      defaults = default_texts default;
+      required = is_none default;
+    }
 
 -- An option with a number from the least to the greatest. One without a default has to be given.
 abbrev pub number_option : (name : List ℕ) → (least greatest : ℕ) → (default : Option (List ℕ)) → Rule
-number_option name least greatest default = record (word_option name default) { parser = Some (Signed (pos least) (pos greatest)) }
+number_option name least greatest default =
+    record (word_option name default) { parser = Some (Signed (pos least) (pos greatest)) }
 
 -- The option of a table's row.
 abbrev pub rule_for : NumberOption → Rule
@@ -137,7 +150,8 @@ join_flag = record (new_rule (codes "join")) { long = Some (codes "join"); actio
 
 -- The options of an encoder's place: its site and its number there, both 1 where they are not given.
 abbrev pub place_options : List Rule
-place_options = number_option (codes "site") 1 1023 (Some (codes "1")) ∷ number_option (codes "encoder") 1 63 (Some (codes "1")) ∷ []
+place_options = number_option (codes "site") 1 1023 (Some (codes "1"))
+    ∷ number_option (codes "encoder") 1 63 (Some (codes "1")) ∷ []
 
 -- The options of an encoder, each with a default.
 abbrev pub encoder_options : List Rule
@@ -159,23 +173,29 @@ store_command name = command_with name (encoder_options ++ store_flag ∷ [])
 abbrev pub listening_command : Shape
 listening_command =
     command_with (codes "encoder")
-    (encoder_options ++ port_option ∷ number_option (codes "connections") 1 1000 (Some (codes "1")) ∷ number_option (codes "turns") 1 1000000 (Some (codes "100000")) ∷ [])
+    (encoder_options ++ port_option ∷ number_option (codes "connections") 1 1000 (Some (codes "1"))
+    ∷ number_option (codes "turns") 1 1000000 (Some (codes "100000")) ∷ [])
 
 -- The options of a server's bounds.
 abbrev pub bound_options : List Rule
 bound_options =
-    number_option (codes "tries") 1 100 (Some (codes "3")) ∷ number_option (codes "timeout") 1 60000 (Some (codes "1000")) ∷ number_option (codes "turns") 1 1000 (Some (codes "16")) ∷ number_option (codes "reconnects") 0 100 (Some (codes "3"))
+    number_option (codes "tries") 1 100 (Some (codes "3"))
+    ∷ number_option (codes "timeout") 1 60000 (Some (codes "1000"))
+    ∷ number_option (codes "turns") 1 1000 (Some (codes "16"))
+    ∷ number_option (codes "reconnects") 0 100 (Some (codes "3"))
     ∷ number_option (codes "window") 1 8 (Some (codes "1")) ∷ []
 
 -- The command `server`.
 abbrev pub sending_command : Shape
-sending_command = command_with (codes "server") (place_options ++ word_option (codes "host") (Some (codes "127.0.0.1")) ∷ port_option ∷ bound_options ++ join_flag ∷ [])
+sending_command = command_with (codes "server") (place_options ++ word_option (codes "host") (Some (codes "127.0.0.1"))
+    ∷ port_option ∷ bound_options ++ join_flag ∷ [])
 
 -- The program: it has a version, and one of six commands has to be named.
 abbrev pub uecp_app : App
 uecp_app = record {
   top = record (new_shape (codes "uecp")) { is_leaf = false; has_version = true; subcommand_required = true };
-  subs = store_command (codes "answer") ∷ new_shape (codes "show") ∷ new_shape (codes "make") ∷ store_command (codes "line") ∷ listening_command ∷ sending_command ∷ [];
+  subs = store_command (codes "answer") ∷ new_shape (codes "show") ∷ new_shape (codes "make")
+      ∷ store_command (codes "line") ∷ listening_command ∷ sending_command ∷ [];
 }
 
 -- The words have no fault, and ask for this job: they name its command, and give its options.

@@ -28,7 +28,8 @@ ListensFor job listened = ⊥
 
 -- The host and the port of the job are dialled, with its limit of time, and no connection was refused yet.
 abbrev pub DialsFor : Job → Dials → Type 0
-DialsFor (Server site encoder host port tries timeout turns reconnects window join) dials = dials ≡ record { host = string_bytes host; port = port; timeout = timeout; failed = None }
+DialsFor (Server site encoder host port tries timeout turns reconnects window join) dials =
+    dials ≡ record { host = string_bytes host; port = port; timeout = timeout; failed = None }
 DialsFor job dials = ⊥
 
 -- ---- by the words of the command line
@@ -38,7 +39,8 @@ AskForText words = IsAmong DisplayHelp (fault_of uecp_app words) ⊎ IsAmong Dis
 
 -- The words have a fault, and it is no question for a text.
 abbrev pub AreMistaken : (words : List (List ℕ)) → Type 0
-AreMistaken words = (kind : ErrorKind) × IsAmong kind (fault_of uecp_app words) × (kind ≢ DisplayHelp) × (kind ≢ DisplayVersion)
+AreMistaken words = (kind : ErrorKind) × IsAmong kind (fault_of uecp_app words) × (kind ≢ DisplayHelp)
+    × (kind ≢ DisplayVersion)
 
 -- What is said of a list of services that is none.
 abbrev pub no_list_line : List ℕ
@@ -47,7 +49,8 @@ no_list_line = codes "uecp: services: NotAList\n"
 -- All of the job was done: of its input; or its connections were served, and then no input was read; or its messages
 -- were acknowledged.
 abbrev pub IsAllDone : Job → (unread unread' held held' : Option (List ℕ)) → Type 0
-IsAllDone job unread unread' held held' = IsDone job unread unread' held held' ⊎ ((HasServed job held held' × (unread' ≡ unread)) ⊎ AreAcknowledged job unread unread' held held')
+IsAllDone job unread unread' held held' = IsDone job unread unread' held held'
+    ⊎ ((HasServed job held held' × (unread' ≡ unread)) ⊎ AreAcknowledged job unread unread' held held')
 
 -- The words ask for a job, and it was done.
 abbrev pub HasDone : (words : List (List ℕ)) → (unread unread' held held' : Option (List ℕ)) → Type 0
@@ -56,22 +59,27 @@ HasDone words unread unread' held held' = (job : Job) × Asks words job × IsAll
 -- A line of the job's input was refused: what the lines before it bring was written, or their messages were
 -- acknowledged.
 abbrev pub HasLineRefused : Job → (unread unread' held held' told told' : Option (List ℕ)) → Type 0
-HasLineRefused job unread unread' held held' told told' = IsRefused job unread unread' held held' told told' ⊎ AreAcknowledgedBefore job unread unread' held held' told told'
+HasLineRefused job unread unread' held held' told told' =
+    IsRefused job unread unread' held held' told told' ⊎ AreAcknowledgedBefore job unread unread' held held' told told'
 
 -- The words ask for a job, and a line was refused.
 abbrev pub HasRefused : (words : List (List ℕ)) → (unread unread' held held' told told' : Option (List ℕ)) → Type 0
-HasRefused words unread unread' held held' told told' = (job : Job) × Asks words job × HasLineRefused job unread unread' held held' told told'
+HasRefused words unread unread' held held' told told' =
+    (job : Job) × Asks words job × HasLineRefused job unread unread' held held' told told'
 
 -- The job came to no end, and that was said: memory, reading or writing failed, and what was written is a beginning of
 -- what the job writes of its input; or not all its messages were sent or told, and where a connection could not be made
 -- the next line says why; or connections could not be served, and no input was read.
 abbrev pub HasNotEnded : Job → (unread unread' held held' told told' : Option (List ℕ)) → Type 0
 HasNotEnded job unread unread' held held' told told' =
-    HasFailed job unread unread' held held' told told' ⊎ (((between : Option (List ℕ)) × AreNotAcknowledged job unread unread' held held' told between × MaySayUnreached job between told') ⊎ (HasStopped job held held' told told' × (unread' ≡ unread)))
+    HasFailed job unread unread' held held' told told'
+    ⊎ (((between : Option (List ℕ)) × AreNotAcknowledged job unread unread' held held' told between
+    × MaySayUnreached job between told') ⊎ (HasStopped job held held' told told' × (unread' ≡ unread)))
 
 -- The words ask for a job, and it came to no end.
 abbrev pub HasBrokenOff : (words : List (List ℕ)) → (unread unread' held held' told told' : Option (List ℕ)) → Type 0
-HasBrokenOff words unread unread' held held' told told' = (job : Job) × Asks words job × HasNotEnded job unread unread' held held' told told'
+HasBrokenOff words unread unread' held held' told told' =
+    (job : Job) × Asks words job × HasNotEnded job unread unread' held held' told told'
 
 -- Memory was wanting, or the text that was asked for could not be written, and that was said, or begun to be said.
 abbrev pub SaysFailure : (told told' : Option (List ℕ)) → Type 0
@@ -82,7 +90,8 @@ SaysFailure told told' = (fault : RunFault) × Fails fault × Begins told told' 
 -- said by clap.
 abbrev pub HasRefusedWords : (words : List (List ℕ)) → (told told' : Option (List ℕ)) → Type 0
 HasRefusedWords words told told' =
-    AreMistaken words ⊎ ((GivesNoList words × Begins told told' no_list_line) ⊎ ((job : Job) × Asks words job × IsUndescribed job told told'))
+    AreMistaken words ⊎ ((GivesNoList words × Begins told told' no_list_line)
+    ⊎ ((job : Job) × Asks words job × IsUndescribed job told told'))
 
 -- ---- by the refusal of the words
 -- It is a question for a text.

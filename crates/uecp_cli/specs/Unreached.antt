@@ -17,7 +17,8 @@ dial_words Failed = codes "failed"
 
 -- the line of a host and a port at which no connection could be made
 abbrev pub dial_line : (host : List ℕ) (port : ℕ) → DialFault → List ℕ
-dial_line host port fault = codes "uecp: " ++ (host ++ (codes " port " ++ (decimal port ++ (codes ": " ++ (dial_words fault ++ codes "\n")))))
+dial_line host port fault = codes "uecp: " ++ (host
+    ++ (codes " port " ++ (decimal port ++ (codes ": " ++ (dial_words fault ++ codes "\n")))))
 
 -- Where one could not be made its line was said, or begun to be said; else nothing was.
 abbrev pub SaysUnreached : (host : List ℕ) (port : ℕ) → Option DialFault → (told told' : Option (List ℕ)) → Type 0
@@ -26,5 +27,6 @@ SaysUnreached host port (Some fault) told told' = Begins told told' (dial_line h
 
 -- Of what the job dials it was said why no connection could be made, or begun to be said; or nothing was said.
 abbrev pub MaySayUnreached : Job → (told told' : Option (List ℕ)) → Type 0
-MaySayUnreached (Server site encoder host port tries timeout turns reconnects window join) told told' = (failed : Option DialFault) × SaysUnreached (string_bytes host) port failed told told'
+MaySayUnreached (Server site encoder host port tries timeout turns reconnects window join) told told' =
+    (failed : Option DialFault) × SaysUnreached (string_bytes host) port failed told told'
 MaySayUnreached job told told' = told' ≡ told

@@ -9,4 +9,5 @@ use Rattle.uecp_cli.specs.declared.usage.Usage.TheVariants.{Refused, OutOfMemory
 -- The error as it is, but want of memory as that.
 abbrev pub SaysError : Error → Usage → Type 0
 SaysError error usage =
-    ((kind_of error ≡ kind.OutOfMemory) × (usage ≡ OutOfMemory)) ⊎ ((kind_of error ≢ kind.OutOfMemory) × (usage ≡ Refused error))
+    ((kind_of error ≡ kind.OutOfMemory) × (usage ≡ OutOfMemory))
+    ⊎ ((kind_of error ≢ kind.OutOfMemory) × (usage ≡ Refused error))

@@ -4,7 +4,8 @@ ghost use Rattle.std.specs.String.{string_bytes};
 ghost use Rattle.clap.specs.Words.{app_of, shape_of};
 ghost use Rattle.clap.specs.Simple.{new_shape};
 ghost use Rattle.uecp_cli.specs.Ranges.{IsInRange};
-ghost use Rattle.uecp_cli.specs.CommandLine.{Asks, RefusesWords, command_with, place_options, encoder_options, store_command, listening_command, sending_command, uecp_app};
+ghost use Rattle.uecp_cli.specs.CommandLine.{Asks, RefusesWords, command_with, place_options, encoder_options};
+ghost use Rattle.uecp_cli.specs.CommandLine.{store_command, listening_command, sending_command, uecp_app};
 
 use crate::arguments::{host, join, number, services, store};
 use crate::matched::{answer_of, encoder_of, line_of, server_of};
@@ -140,14 +141,16 @@ fn server_command<'a>(alloc: Global) -> Result<Command<'a>, AllocError>
 
 /// The command with the options of an encoder and the flag for its store.
 fn with_store<'a>(alloc: Global, command: Command<'a>) -> Result<Command<'a>, AllocError>
-    ensures { (name : List ℕ) → shape_of command.entry ≡ new_shape name → IfOk result (λ whole. shape_of whole ≡ store_command name) }
+    ensures { (name : List ℕ) → shape_of command.entry ≡ new_shape name
+        → IfOk result (λ whole. shape_of whole ≡ store_command name) }
 {
     with_encoder(alloc, command)?.arg(store(alloc))
 }
 
 /// The command with the options of an encoder.
 fn with_encoder<'a>(alloc: Global, command: Command<'a>) -> Result<Command<'a>, AllocError>
-    ensures { (name : List ℕ) → shape_of command.entry ≡ new_shape name → IfOk result (λ whole. shape_of whole ≡ command_with name encoder_options) }
+    ensures { (name : List ℕ) → shape_of command.entry ≡ new_shape name
+        → IfOk result (λ whole. shape_of whole ≡ command_with name encoder_options) }
 {
     with_place(alloc, command)?
         .arg(number(alloc, &SETS))?
@@ -156,7 +159,8 @@ fn with_encoder<'a>(alloc: Global, command: Command<'a>) -> Result<Command<'a>, 
 
 /// The command with the options of an encoder's place.
 fn with_place<'a>(alloc: Global, command: Command<'a>) -> Result<Command<'a>, AllocError>
-    ensures { (name : List ℕ) → shape_of command.entry ≡ new_shape name → IfOk result (λ whole. shape_of whole ≡ command_with name place_options) }
+    ensures { (name : List ℕ) → shape_of command.entry ≡ new_shape name
+        → IfOk result (λ whole. shape_of whole ≡ command_with name place_options) }
 {
     command
         .arg(number(alloc, &SITE))?

@@ -18,7 +18,8 @@ use uecp_jobs::Job;
 /// The number of an option.
 fn number_of(found: &ArgMatches<'_>, option: &NumberOption) -> u32
     requires { option.now.least ≤ option.now.most }
-    ensures { IsOption (one_of option.now.name.now (rows_of (found_of found.now))) option.now.least option.now.most result }
+    ensures { IsOption (one_of option.now.name.now (rows_of (found_of found.now))) option.now.least option.now.most
+        result }
 {
     found
         .get_one::<u32>(option.name)
@@ -30,7 +31,8 @@ fn number_of(found: &ArgMatches<'_>, option: &NumberOption) -> u32
 fn short_of(found: &ArgMatches<'_>, option: &NumberOption) -> u16
     requires range { option.now.least ≤ option.now.most }
     requires short { option.now.most ≤ 65535 }
-    ensures { IsOption (one_of option.now.name.now (rows_of (found_of found.now))) option.now.least option.now.most result }
+    ensures { IsOption (one_of option.now.name.now (rows_of (found_of found.now))) option.now.least option.now.most
+        result }
 {
     number_of(found, option) as u16
 }
@@ -39,7 +41,8 @@ fn short_of(found: &ArgMatches<'_>, option: &NumberOption) -> u16
 fn small_of(found: &ArgMatches<'_>, option: &NumberOption) -> u8
     requires range { option.now.least ≤ option.now.most }
     requires small { option.now.most ≤ 255 }
-    ensures { IsOption (one_of option.now.name.now (rows_of (found_of found.now))) option.now.least option.now.most result }
+    ensures { IsOption (one_of option.now.name.now (rows_of (found_of found.now))) option.now.least option.now.most
+        result }
 {
     number_of(found, option) as u8
 }

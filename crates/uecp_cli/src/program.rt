@@ -5,7 +5,9 @@ ghost use Rattle.uecp_text.specs.declared.run_fault.RunFault.TheVariants.{Writin
 ghost use Rattle.uecp_jobs.specs.EncoderRun.{IsEncoder};
 ghost use Rattle.uecp_jobs.specs.Jobs.{IsUndescribed};
 ghost use Rattle.uecp_jobs.specs.ServerRun.{IsServer};
-ghost use Rattle.uecp_cli.specs.Program.{AskForText, IsAllDone, HasDone, HasLineRefused, HasRefused, HasNotEnded, HasBrokenOff, HasRefusedWords, ListensFor, DialsFor, AsksForText, SaysMistake, SaysFailure};
+ghost use Rattle.uecp_cli.specs.Program.{AskForText, IsAllDone, HasDone, HasLineRefused, HasRefused, HasNotEnded};
+ghost use Rattle.uecp_cli.specs.Program.{HasBrokenOff, HasRefusedWords, ListensFor, DialsFor, AsksForText, SaysMistake};
+ghost use Rattle.uecp_cli.specs.Program.{SaysFailure};
 
 use crate::command_line::parse;
 use crate::unreached::say_unreached;
@@ -31,15 +33,23 @@ pub fn run_words<R: Read, W: Write, E: Write, N: Net<Listener = TcpListener, Str
 ) -> u8
     ensures status { result ≤ 3 }
     // 0: the job of the words was done; or they ask for a text, and nothing was read. Nothing was said on `errors`.
-    ensures done { result ≡ 0 → (HasDone (map string_bytes words.now) (R.remaining reader.old) (R.remaining reader.new) (W.contents writer.old) (W.contents writer.new) ⊎ (AskForText (map string_bytes words.now) × (reader.new ≡ reader.old))) × (errors.new ≡ errors.old) }
+    ensures done { result ≡ 0 → (HasDone (map string_bytes words.now) (R.remaining reader.old) (R.remaining reader.new)
+        (W.contents writer.old) (W.contents writer.new) ⊎ (AskForText (map string_bytes words.now)
+        × (reader.new ≡ reader.old))) × (errors.new ≡ errors.old) }
     // 1: the words ask for a job, and a line was refused.
-    ensures refused { result ≡ 1 → HasRefused (map string_bytes words.now) (R.remaining reader.old) (R.remaining reader.new) (W.contents writer.old) (W.contents writer.new) (E.contents errors.old) (E.contents errors.new) }
+    ensures refused { result ≡ 1 → HasRefused (map string_bytes words.now) (R.remaining reader.old)
+        (R.remaining reader.new) (W.contents writer.old) (W.contents writer.new) (E.contents errors.old)
+        (E.contents errors.new) }
     // 2: the words ask for no job that can be done. Nothing was read or written.
-    ensures mistaken { result ≡ 2 → HasRefusedWords (map string_bytes words.now) (E.contents errors.old) (E.contents errors.new) × (reader.new ≡ reader.old) × (writer.new ≡ writer.old) }
+    ensures mistaken { result ≡ 2 → HasRefusedWords (map string_bytes words.now) (E.contents errors.old)
+        (E.contents errors.new) × (reader.new ≡ reader.old) × (writer.new ≡ writer.old) }
     // 3: memory, reading, writing or a connection failed: of the job of the words, and what was written is a beginning
     // of what it writes; or before there was a job, and nothing was read, and but for the text that was asked for
     // nothing was written.
-    ensures failed { result ≡ 3 → HasBrokenOff (map string_bytes words.now) (R.remaining reader.old) (R.remaining reader.new) (W.contents writer.old) (W.contents writer.new) (E.contents errors.old) (E.contents errors.new) ⊎ (SaysFailure (E.contents errors.old) (E.contents errors.new) × (reader.new ≡ reader.old) × (AskForText (map string_bytes words.now) ⊎ (writer.new ≡ writer.old))) }
+    ensures failed { result ≡ 3 → HasBrokenOff (map string_bytes words.now) (R.remaining reader.old)
+        (R.remaining reader.new) (W.contents writer.old) (W.contents writer.new) (E.contents errors.old)
+        (E.contents errors.new) ⊎ (SaysFailure (E.contents errors.old) (E.contents errors.new)
+        × (reader.new ≡ reader.old) × (AskForText (map string_bytes words.now) ⊎ (writer.new ≡ writer.old))) }
 {
     match parse(alloc, words) {
         Ok(job) => run_any(alloc, &job, reader, writer, errors, net),
@@ -57,10 +67,14 @@ fn run_any<R: Read, W: Write, E: Write, N: Net<Listener = TcpListener, Stream = 
     net: &N,
 ) -> u8
     ensures status { result ≤ 3 }
-    ensures done { result ≡ 0 → IsAllDone job.now (R.remaining reader.old) (R.remaining reader.new) (W.contents writer.old) (W.contents writer.new) × (errors.new ≡ errors.old) }
-    ensures refused { result ≡ 1 → HasLineRefused job.now (R.remaining reader.old) (R.remaining reader.new) (W.contents writer.old) (W.contents writer.new) (E.contents errors.old) (E.contents errors.new) }
-    ensures undescribed { result ≡ 2 → IsUndescribed job.now (E.contents errors.old) (E.contents errors.new) × (reader.new ≡ reader.old) × (writer.new ≡ writer.old) }
-    ensures failed { result ≡ 3 → HasNotEnded job.now (R.remaining reader.old) (R.remaining reader.new) (W.contents writer.old) (W.contents writer.new) (E.contents errors.old) (E.contents errors.new) }
+    ensures done { result ≡ 0 → IsAllDone job.now (R.remaining reader.old) (R.remaining reader.new)
+        (W.contents writer.old) (W.contents writer.new) × (errors.new ≡ errors.old) }
+    ensures refused { result ≡ 1 → HasLineRefused job.now (R.remaining reader.old) (R.remaining reader.new)
+        (W.contents writer.old) (W.contents writer.new) (E.contents errors.old) (E.contents errors.new) }
+    ensures undescribed { result ≡ 2 → IsUndescribed job.now (E.contents errors.old) (E.contents errors.new)
+        × (reader.new ≡ reader.old) × (writer.new ≡ writer.old) }
+    ensures failed { result ≡ 3 → HasNotEnded job.now (R.remaining reader.old) (R.remaining reader.new)
+        (W.contents writer.old) (W.contents writer.new) (E.contents errors.old) (E.contents errors.new) }
 {
     match job {
         Job::Encoder { .. } => {
@@ -118,8 +132,10 @@ fn dialing_of<'a, N: Net<Listener = TcpListener, Stream = TcpStream>>(
 pub fn refuse<W: Write, E: Write>(usage: &Usage, writer: &mut W, errors: &mut E) -> u8
     ensures status { (result ≤ 3) × (result ≢ 1) }
     ensures text { result ≡ 0 → AsksForText usage.now × (errors.new ≡ errors.old) }
-    ensures mistaken { result ≡ 2 → SaysMistake usage.now (E.contents errors.old) (E.contents errors.new) × (writer.new ≡ writer.old) }
-    ensures failed { result ≡ 3 → SaysFailure (E.contents errors.old) (E.contents errors.new) × (AsksForText usage.now ⊎ (writer.new ≡ writer.old)) }
+    ensures mistaken { result ≡ 2 → SaysMistake usage.now (E.contents errors.old) (E.contents errors.new)
+        × (writer.new ≡ writer.old) }
+    ensures failed { result ≡ 3 → SaysFailure (E.contents errors.old) (E.contents errors.new)
+        × (AsksForText usage.now ⊎ (writer.new ≡ writer.old)) }
 {
     match usage {
         Usage::Refused(error) if error.use_stderr() => {

@@ -34,7 +34,8 @@ fn write_line<'a, E: Write>(
     words: &'a [u8],
     errors: &mut E,
 ) -> Result<(), RunFault>
-    ensures { Begins (E.contents errors.old) (E.contents errors.new) (codes "uecp: " ++ (host.now ++ (codes " port " ++ (port.now ++ (codes ": " ++ (words.now ++ codes "\n")))))) }
+    ensures { Begins (E.contents errors.old) (E.contents errors.new)
+        (codes "uecp: " ++ (host.now ++ (codes " port " ++ (port.now ++ (codes ": " ++ (words.now ++ codes "\n")))))) }
 {
     write_parts(
         &[b"uecp: ", host, b" port ", port, b": ", words, b"\n"],

@@ -2,7 +2,8 @@
 use Rattle.std.proofs.Common.{◌≡◌, ℕ, ◌==◌, cond, Option, Some, refl, ◌∙◌, ap, sym}
 use Rattle.std.proofs.lemmas.Bool.{cond_both, eqb-true}
 use Rattle.uecp_elements.specs.declared.code.Code.{Code}
-use Rattle.uecp_elements.specs.declared.code.Code.TheVariants.{Applied, UnknownElement, DataSet, Service, OutOfRange, ElementLength, NotHere, BufferFull}
+use Rattle.uecp_elements.specs.declared.code.Code.TheVariants.{Applied, UnknownElement, DataSet, Service, OutOfRange}
+use Rattle.uecp_elements.specs.declared.code.Code.TheVariants.{ElementLength, NotHere, BufferFull}
 use Rattle.uecp_elements.specs.Codes.{byte_of, code_of_byte, IsReadBack, IsWrittenBack}
 
 pub read_back : IsReadBack

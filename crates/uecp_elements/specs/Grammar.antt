@@ -1,5 +1,6 @@
 -- The grammar of messages: how each element is spelled, and how a message reads.
-use Rattle.std.specs.Prelude.{◌≡◌, ◌≢◌, ℕ, ◌+◌, ◌-◌, ◌<◌, ◌≤◌, ◌==◌, Bool, ◌||◌, if◌then◌else◌, List, [], ◌∷◌, ◌++◌, length, slice_index, flat_map, Option, Some, None}
+use Rattle.std.specs.Prelude.{◌≡◌, ◌≢◌, ℕ, ◌+◌, ◌-◌, ◌<◌, ◌≤◌, ◌==◌, Bool, ◌||◌, if◌then◌else◌, List, [], ◌∷◌, ◌++◌}
+use Rattle.std.specs.Prelude.{length, slice_index, flat_map, Option, Some, None}
 use Rattle.std.specs.List.{AllByRecursion}
 use Rattle.uecp_frame.specs.Frame.{high_first}
 use Rattle.uecp_elements.specs.declared.code.Code.TheVariants.{UnknownElement, ElementLength}
@@ -49,7 +50,8 @@ spelling (Group kind mode block3 block4) = 0x24 ∷ kind ∷ mode ∷ (high_firs
 -- Whether an element begins with this byte (the codes of the table above).
 abbrev pub is_known : ℕ → Bool
 is_known code =
-    code == 0x01 || code == 0x02 || code == 0x03 || code == 0x05 || code == 0x07 || code == 0x0A || code == 0x18 || code == 0x1C || code == 0x24
+    code == 0x01 || code == 0x02 || code == 0x03 || code == 0x05 || code == 0x07 || code == 0x0A || code == 0x18 || code
+    == 0x1C || code == 0x24
 
 -- What an element may hold: a name has 8 bytes (SPB 490, element 02), and a text at most 64 (SPB 490, element 0A).
 abbrev pub IsElement : Element → Type 0

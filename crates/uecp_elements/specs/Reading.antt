@@ -1,9 +1,12 @@
 -- The reading of a message as the list of its items: its elements, and its fault last.
-use Rattle.std.specs.Prelude.{◌≡◌, ◌⊎◌, ℕ, zero, suc, ◌+◌, ◌-◌, ◌*◌, ◌==◌, ◌&&◌, ◌≤◌, nat_le, if◌then◌else◌, List, [], ◌∷◌, ◌++◌, map, length, drop, slice_index, slice_range, Option, Some, None, Result, Ok, Err}
+use Rattle.std.specs.Prelude.{◌≡◌, ◌⊎◌, ℕ, zero, suc, ◌+◌, ◌-◌, ◌*◌, ◌==◌, ◌&&◌, ◌≤◌, nat_le, if◌then◌else◌, List, []}
+use Rattle.std.specs.Prelude.{◌∷◌, ◌++◌, map, length, drop, slice_index, slice_range, Option, Some, None, Result, Ok}
+use Rattle.std.specs.Prelude.{Err}
 use Rattle.uecp_elements.specs.declared.code.Code.{Code}
 use Rattle.uecp_elements.specs.declared.code.Code.TheVariants.{UnknownElement, ElementLength}
 use Rattle.uecp_elements.specs.declared.fault.ElementFault.{ElementFault}
-use Rattle.uecp_elements.specs.Grammar.{Part, NoText, Text, Element, Pi, Ps, TaTp, Ms, Pty, Rt, Select, Group, Ack, spelling, IsElement, Reading, Reads, AreBytes}
+use Rattle.uecp_elements.specs.Grammar.{Part, NoText, Text, Element, Pi, Ps, TaTp, Ms, Pty, Rt, Select, Group, Ack}
+use Rattle.uecp_elements.specs.Grammar.{spelling, IsElement, Reading, Reads, AreBytes}
 
 -- One item of a reading: an element, or the fault.
 abbrev pub Item : Type 0
@@ -25,7 +28,8 @@ part_at r = if slice_index r 3 == 0 then NoText else Text (slice_index r 4) (sli
 -- The RadioText at the front of r: its count is at most 41, and all its bytes are there (SPB 490, element 0A).
 abbrev pub text_at : List ℕ → Result Element Code
 text_at r =
-    if nat_le (slice_index r 3) 0x41 && nat_le 4 (length r) then whole (4 + slice_index r 3) r (Rt (slice_index r 1) (slice_index r 2) (part_at r))
+    if nat_le (slice_index r 3) 0x41 && nat_le 4 (length r) then whole (4 + slice_index r 3) r
+    (Rt (slice_index r 1) (slice_index r 2) (part_at r))
     else Err ElementLength
 
 -- The group at the front of r (profile, element 24).

@@ -9,12 +9,18 @@ use Rattle.uecp_encoder.specs.Answering.{responses, bytes_sent}
 use Rattle.uecp_encoder.specs.Laws.{DamageChangesNothing}
 
 faults_leave : {V : Type 0} (step : Step V) (e : EncoderState V) (fs : List Finding) → has_frame fs ≡ false →
-    after_findings step e fs ≡ record e { counts = record e.counts { dropped = (after_findings step e fs).counts.dropped } }
+    after_findings step e fs ≡ record e {
+      counts = record e.counts {
+        dropped =
+            (after_findings step e fs).counts.dropped;
+      };
+    }
 faults_leave step e [] h = refl
 faults_leave step e (Err fault ∷ fs) h = faults_leave step (after_finding step e (Err fault)) fs h
 faults_leave step e (Ok f ∷ fs) h = absurd (cc)
 
-faults_count : {V : Type 0} (step : Step V) (e : EncoderState V) (fs : List Finding) → has_frame fs ≡ false → e.counts.dropped < 2 ^ 64 →
+faults_count : {V : Type 0} (step : Step V) (e : EncoderState V) (fs : List Finding) → has_frame fs ≡ false
+    → e.counts.dropped < 2 ^ 64 →
     (after_findings step e fs).counts.dropped ≡ min (e.counts.dropped + length fs) (2 ^ 64 - 1)
 faults_count step e [] h small = omega (arith, small)
 faults_count step e (Err fault ∷ fs) h small =
@@ -22,7 +28,8 @@ faults_count step e (Err fault ∷ fs) h small =
     omega (arith, later, small)
 faults_count step e (Ok f ∷ fs) h small = absurd (cc)
 
-faults_silent : {V : Type 0} (step : Step V) (e : EncoderState V) (fs : List Finding) → has_frame fs ≡ false → flat_map bytes_sent (responses step e fs) ≡ []
+faults_silent : {V : Type 0} (step : Step V) (e : EncoderState V) (fs : List Finding) → has_frame fs ≡ false
+    → flat_map bytes_sent (responses step e fs) ≡ []
 faults_silent step e [] h = refl
 faults_silent step e (Err fault ∷ fs) h = faults_silent step (after_finding step e (Err fault)) fs h
 faults_silent step e (Ok f ∷ fs) h = absurd (cc)

@@ -1,7 +1,8 @@
 -- A reply is short.
 use Rattle.std.proofs.Common.{◌≡◌, ◌≤◌, ◌<◌, ◌+◌, ◌/◌, ◌%◌, ℕ, List, [], ◌∷◌, ◌∙◌, ap, length, arith, length-append}
 use Rattle.uecp_elements.specs.declared.code.Code.{Code}
-use Rattle.uecp_elements.specs.declared.code.Code.TheVariants.{Applied, UnknownElement, DataSet, Service, OutOfRange, ElementLength, NotHere, BufferFull}
+use Rattle.uecp_elements.specs.declared.code.Code.TheVariants.{Applied, UnknownElement, DataSet, Service, OutOfRange}
+use Rattle.uecp_elements.specs.declared.code.Code.TheVariants.{ElementLength, NotHere, BufferFull}
 use Rattle.uecp_elements.specs.Codes.{byte_of}
 use Rattle.uecp_frame.specs.Stuffing.{code, stuffed}
 use Rattle.uecp_frame.specs.Check.{check}
@@ -14,10 +15,12 @@ use Rattle.uecp_encoder.specs.Answering.{reply_of}
 stuffed-plain : (b : ℕ) (u : List ℕ) → b < 253 → length (stuffed (b ∷ u)) ≡ 1 + length (stuffed u)
 stuffed-plain b u small =
     ap length (stuffed-cons b u) ∙ length-append (code b) (stuffed u)
-    ∙ ap (λ x. length x + length (stuffed u)) (code-plain b (λ e. absurd (omega arith)) (λ e. absurd (omega arith)) (λ e. absurd (omega arith)))
+    ∙ ap (λ x. length x + length (stuffed u)) (code-plain b (λ e. absurd (omega arith)) (λ e. absurd (omega arith))
+    (λ e. absurd (omega arith)))
 
 stuffed-any : (b : ℕ) (u : List ℕ) → length (stuffed (b ∷ u)) ≤ 2 + length (stuffed u)
-stuffed-any b u = let e = ap length (stuffed-cons b u) ∙ length-append (code b) (stuffed u) in omega (arith, e, length-code-le b)
+stuffed-any b u = let e = ap length (stuffed-cons b u) ∙ length-append (code b) (stuffed u) in
+    omega (arith, e, length-code-le b)
 
 byte_of-small : (c : Code) → byte_of c < 253
 byte_of-small Applied = omega arith
@@ -47,5 +50,6 @@ pub reply_is_short : (address counter : ℕ) (c : Code) → length (spelling (re
 unfolding spelling plain_bytes body
 reply_is_short address counter c =
     let inside : length (stuffed (plain_bytes (reply_of address counter c))) ≤ 14 =
-    nine (address / 0x100) (address % 0x100) (byte_of c) counter (check (body (reply_of address counter c)) / 0x100) (check (body (reply_of address counter c)) % 0x100) (byte_of-small c) in
+    nine (address / 0x100) (address % 0x100) (byte_of c) counter (check (body (reply_of address counter c)) / 0x100)
+    (check (body (reply_of address counter c)) % 0x100) (byte_of-small c) in
     omega (arith, inside, length-append (stuffed (plain_bytes (reply_of address counter c))) (255 ∷ []))

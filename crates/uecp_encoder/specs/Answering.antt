@@ -1,5 +1,6 @@
 -- What an encoder answers. Source: profile; a reply is a frame of RDS Forum SPB 490.
-use Rattle.std.specs.Prelude.{◌≡◌, ℕ, ◌<◌, ◌==◌, Bool, true, false, List, [], ◌∷◌, length, take, flat_map, Option, Some, None, Ok, Err, if◌then◌else◌}
+use Rattle.std.specs.Prelude.{◌≡◌, ℕ, ◌<◌, ◌==◌, Bool, true, false, List, [], ◌∷◌, length, take, flat_map, Option, Some}
+use Rattle.std.specs.Prelude.{None, Ok, Err, if◌then◌else◌}
 use Rattle.uecp_frame.specs.declared.frame.Frame.{Frame}
 use Rattle.uecp_frame.specs.declared.fault.FrameFault.{FrameFault}
 use Rattle.uecp_frame.specs.Address.{reaches}
@@ -31,14 +32,16 @@ pub data Response : Type 0 where
 -- message applied now where its counter is the next, and no reply where it is not.
 abbrev pub replied : {V : Type 0} → Step V → EncoderState V → Frame → Option Code → Response
 replied step e f (Some code) = Replied (spelling (reply_of e.address f.counter code)) false
-replied step e f None = if is_next e.ring f.counter then Replied (spelling (reply_of e.address f.counter (step e.value f.message).1)) true else NotNext
+replied step e f None = if is_next e.ring f.counter then Replied
+    (spelling (reply_of e.address f.counter (step e.value f.message).1)) true else NotNext
 
 -- To one finding, from this state: a fault is dropped, a frame for another and one with counter 00 are named, and a
 -- numbered frame for this encoder gets a reply, unless it is neither a repeat nor the next.
 abbrev pub response_to : {V : Type 0} → Step V → EncoderState V → Finding → Response
 response_to step e (Err fault) = Dropped fault
 response_to step e (Ok f) =
-    if reaches f.address e.address then (if f.counter == 0 then Unnumbered else replied step e f (kept_code e.ring f.counter)) else NotForMe
+    if reaches f.address e.address then (if f.counter
+    == 0 then Unnumbered else replied step e f (kept_code e.ring f.counter)) else NotForMe
 
 -- to findings one after another, each from the state that the one before left
 abbrev pub responses : {V : Type 0} → Step V → EncoderState V → List Finding → List Response
@@ -72,7 +75,8 @@ responses_of (what.Dropped fault) = Dropped fault ∷ []
 
 -- The bytes of the piece up to the one at which the first finding is judged are used, or all where there is none; and
 -- the answer is to that finding.
-pub record AnswersPiece {V : Type 0} (step : Step V) (old : EncoderState V) (piece : List ℕ) (answer : Answer) : Type 0 where
+pub record AnswersPiece {V : Type 0} (step : Step V) (old : EncoderState V) (piece : List ℕ) (answer : Answer) : Type
+    0 where
   pub said : responses step old (found_beyond old.part (take answer.used piece)) ≡ responses_of answer.what
   pub first : (k : ℕ) → k < answer.used → found_beyond old.part (take k piece) ≡ []
   pub all : answer.what ≡ what.Nothing → answer.used ≡ length piece

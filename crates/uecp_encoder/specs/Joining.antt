@@ -1,6 +1,7 @@
 -- How a server that knows nothing of an encoder brings it to counter FF, by empty messages; a reader has to believe it.
 -- Source: profile.
-use Rattle.std.specs.Prelude.{◌≡◌, ℕ, zero, suc, ◌+◌, ◌-◌, ◌≤◌, ◌==◌, ◌&&◌, not, Bool, List, [], ◌∷◌, ◌++◌, map, Contains, Ok, Err, if◌then◌else◌}
+use Rattle.std.specs.Prelude.{◌≡◌, ℕ, zero, suc, ◌+◌, ◌-◌, ◌≤◌, ◌==◌, ◌&&◌, not, Bool, List, [], ◌∷◌, ◌++◌, map}
+use Rattle.std.specs.Prelude.{Contains, Ok, Err, if◌then◌else◌}
 use Rattle.uecp_frame.specs.declared.frame.Frame.{Frame}
 use Rattle.uecp_frame.specs.Address.{reaches}
 use Rattle.reply_ring.specs.Ring.{newest}
@@ -18,7 +19,8 @@ is_message_to address f = reaches f.address address && not (f.counter == 0)
 -- the frames that do, one after another
 abbrev pub messages_to : {V : Type 0} → (address : ℕ) → List (Happening V) → List Frame
 messages_to address [] = []
-messages_to address (Finds (Ok f) ∷ hs) = if is_message_to address f then f ∷ messages_to address hs else messages_to address hs
+messages_to address (Finds (Ok f) ∷ hs) = if is_message_to address f then f
+    ∷ messages_to address hs else messages_to address hs
 messages_to address (Finds (Err fault) ∷ hs) = messages_to address hs
 messages_to address (Becomes value counts part ∷ hs) = messages_to address hs
 

@@ -1,5 +1,6 @@
 -- What users of an encoder rely on, for every target. Source: profile.
-use Rattle.std.specs.Prelude.{◌≡◌, ℕ, ◌+◌, ◌-◌, ◌%◌, ◌^◌, ◌<◌, ◌≤◌, ◌==◌, min, true, false, List, [], ◌∷◌, ◌++◌, length, get_or, flat_map, Option, Some, Ok, Err, if◌then◌else◌}
+use Rattle.std.specs.Prelude.{◌≡◌, ℕ, ◌+◌, ◌-◌, ◌%◌, ◌^◌, ◌<◌, ◌≤◌, ◌==◌, min, true, false, List, [], ◌∷◌, ◌++◌, length}
+use Rattle.std.specs.Prelude.{get_or, flat_map, Option, Some, Ok, Err, if◌then◌else◌}
 use Rattle.uecp_frame.specs.declared.frame.Frame.{Frame}
 use Rattle.uecp_frame.specs.Frame.{spelling}
 use Rattle.uecp_frame.specs.Findings.{Finding, OpenPart, Closed, has_frame, is_quiet}
@@ -8,7 +9,8 @@ use Rattle.reply_ring.specs.Ring.{newest}
 use Rattle.uecp_encoder.specs.declared.counts.Counts.{Counts}
 use Rattle.uecp_encoder.specs.Target.{Step}
 use Rattle.uecp_encoder.specs.State.{EncoderState, opening, next_after, after_finding, fed}
-use Rattle.uecp_encoder.specs.Answering.{Response, Replied, NotForMe, Unnumbered, NotNext, Dropped, response_to, responses_to, answers}
+use Rattle.uecp_encoder.specs.Answering.{Response, Replied, NotForMe, Unnumbered, NotNext, Dropped, response_to}
+use Rattle.uecp_encoder.specs.Answering.{responses_to, answers}
 
 -- ---- A retry acts once.
 
@@ -100,7 +102,8 @@ Follow last (counter ∷ later) = (counter ≡ next_after last) × Follow (Some 
 -- Whatever happens to an encoder, the counters of the messages that it applies follow the newest that it had kept, one
 -- after another.
 abbrev pub AppliesInOrder : {V : Type 0} → Step V → Type 0
-AppliesInOrder {V} step = (e : EncoderState V) (hs : List (Happening V)) → Follow (newest e.ring) (counters_applied step e hs)
+AppliesInOrder {V} step = (e : EncoderState V) (hs : List (Happening V))
+    → Follow (newest e.ring) (counters_applied step e hs)
 
 -- Whatever happens to a new encoder, the first message that it applies has counter 01, and so on up to FF and from 01
 -- again.
@@ -142,10 +145,15 @@ IsHeardAfterNoise =
 -- Some bytes leave an encoder its address, its target, its kept replies and its counts but that of the dropped
 -- segments, which rises by one for each of their findings; and no reply goes back.
 pub record IsUnmoved {V : Type 0} (step : Step V) (e : EncoderState V) (bytes : List ℕ) : Type 0 where
-  pub state : fed step e bytes ≡ record e { counts = record e.counts { dropped = (fed step e bytes).counts.dropped }; part = open_beyond e.part bytes }
-  pub dropped : e.counts.dropped < 2 ^ 64 → (fed step e bytes).counts.dropped ≡ min (e.counts.dropped + length (found_beyond e.part bytes)) (2 ^ 64 - 1)
+  pub state : fed step e bytes ≡ record e {
+    counts = record e.counts { dropped = (fed step e bytes).counts.dropped };
+    part = open_beyond e.part bytes;
+  }
+  pub dropped : e.counts.dropped < 2 ^ 64 → (fed step e bytes).counts.dropped
+      ≡ min (e.counts.dropped + length (found_beyond e.part bytes)) (2 ^ 64 - 1)
   pub silent : answers step e bytes ≡ []
 
 -- Whatever is open, bytes in which no frame is found do so.
 abbrev pub DamageChangesNothing : {V : Type 0} → Step V → Type 0
-DamageChangesNothing {V} step = (e : EncoderState V) (bytes : List ℕ) → has_frame (found_beyond e.part bytes) ≡ false → IsUnmoved step e bytes
+DamageChangesNothing {V} step = (e : EncoderState V) (bytes : List ℕ) → has_frame (found_beyond e.part bytes) ≡ false
+    → IsUnmoved step e bytes

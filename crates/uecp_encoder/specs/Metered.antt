@@ -12,7 +12,8 @@ pub record Metered (D : Type 0) : Type 0 where
 
 abbrev pub metered_code : {D : Type 0} → Coded D → Coded (Metered D)
 metered_code {D} code =
-    code_by (D × (ℕ × (ℕ × ℕ))) (coded× code (coded× coded_ℕ (coded× coded_ℕ coded_ℕ))) (λ m. (m.device, (m.calls, (m.failures, m.empty))))
+    code_by (D × (ℕ × (ℕ × ℕ))) (coded× code (coded× coded_ℕ (coded× coded_ℕ coded_ℕ)))
+    (λ m. (m.device, (m.calls, (m.failures, m.empty))))
     (λ p. record { device = p.0; calls = p.1.0; failures = p.1.1.0; empty = p.1.1.1 }) (λ _. refl)
 
 -- one more, up to the greatest count

@@ -21,7 +21,8 @@ coded step e f None = if is_next e.ring f.counter then Some (true, (step e.value
 abbrev pub reply_to : {V : Type 0} → Step V → EncoderState V → Finding → Option (Bool × Code)
 reply_to step e (Err fault) = None
 reply_to step e (Ok f) =
-    if reaches f.address e.address then (if f.counter == 0 then None else coded step e f (kept_code e.ring f.counter)) else None
+    if reaches f.address e.address then (if f.counter
+    == 0 then None else coded step e f (kept_code e.ring f.counter)) else None
 
 -- The encoder's replies to findings, in order.
 abbrev pub replies_to : {V : Type 0} → Step V → EncoderState V → List Finding → List (Bool × Code)

@@ -6,7 +6,8 @@ use Rattle.uecp_encoder.specs.declared.serving.ServeFault.{ServeFault}
 use Rattle.uecp_encoder.specs.declared.serving.ServeFault.TheVariants.{ReadFailed, WriteFailed, TurnsSpent}
 use Rattle.uecp_encoder.specs.Target.{Step}
 use Rattle.uecp_encoder.specs.State.{EncoderState, fed}
-use Rattle.uecp_encoder.specs.Answering.{Response, Replied, NotForMe, Unnumbered, NotNext, Dropped, responses_to, answers}
+use Rattle.uecp_encoder.specs.Answering.{Response, Replied, NotForMe, Unnumbered, NotNext, Dropped, responses_to}
+use Rattle.uecp_encoder.specs.Answering.{answers}
 use Rattle.uecp_encoder.specs.Metered.{counted}
 
 -- 1 for a reply, else 0
@@ -29,7 +30,8 @@ pub record AnswersAll {V : Type 0} (step : Step V) (e e' : EncoderState V) (s se
 
 -- All of s was fed, and all replies to it were written: so many replies, of so many bytes. A reply comes with a byte of
 -- s, and has at most 16 bytes.
-pub record Sends {V : Type 0} (step : Step V) (e e' : EncoderState V) (s sent : List ℕ) (replies bytes : ℕ) : Type 0 where
+pub record Sends {V : Type 0} (step : Step V) (e e' : EncoderState V) (s sent : List ℕ) (replies bytes : ℕ) : Type
+    0 where
   pub all : AnswersAll step e e' s sent
   pub replies_are : replies ≡ replies_among (responses_to step e s)
   pub bytes_are : bytes ≡ length sent
@@ -39,7 +41,8 @@ pub record Sends {V : Type 0} (step : Step V) (e e' : EncoderState V) (s sent : 
 -- A write failed after the first w bytes of the replies to s. The encoder was fed s up to and with the byte at this
 -- place, at which the reply that was being written became due: the replies before it were written whole, and it was
 -- not.
-pub record StopsWriting {V : Type 0} (step : Step V) (e e' : EncoderState V) (s sent : List ℕ) (w place : ℕ) : Type 0 where
+pub record StopsWriting {V : Type 0} (step : Step V) (e e' : EncoderState V) (s sent : List ℕ) (w place : ℕ) : Type
+    0 where
   pub within : place < length s
   pub state : e' ≡ fed step e (take (place + 1) s)
   pub written : sent ≡ take w (answers step e s)
@@ -49,12 +52,15 @@ pub record StopsWriting {V : Type 0} (step : Step V) (e e' : EncoderState V) (s 
 -- How a call ended that read s and wrote these bytes. The end of input comes with the number of bytes read and of
 -- replies; where the turns are spent, each gave a byte; where a write failed, fewer than 512 bytes were read past those
 -- that were fed.
-abbrev pub Serves : {V : Type 0} → Step V → (e e' : EncoderState V) → (s sent : List ℕ) → (unread : Option (List ℕ)) → (turns : ℕ) → Result Served ServeFault → Type 0
+abbrev pub Serves : {V : Type 0} → Step V → (e e' : EncoderState V) → (s sent : List ℕ) → (unread : Option (List ℕ))
+    → (turns : ℕ) → Result Served ServeFault → Type 0
 Serves step e e' s sent unread turns (Ok served) =
-    AnswersAll step e e' s sent × IsAtEnd unread × (served.read ≡ length s) × (served.replies ≡ replies_among (responses_to step e s))
+    AnswersAll step e e' s sent × IsAtEnd unread × (served.read ≡ length s)
+    × (served.replies ≡ replies_among (responses_to step e s))
 Serves step e e' s sent unread turns (Err ReadFailed) = AnswersAll step e e' s sent
 Serves step e e' s sent unread turns (Err TurnsSpent) = AnswersAll step e e' s sent × (turns ≤ length s)
-Serves step e e' s sent unread turns (Err (WriteFailed w)) = (place : ℕ) × StopsWriting step e e' s sent w place × (length s < place + 1 + 512)
+Serves step e e' s sent unread turns (Err (WriteFailed w)) =
+    (place : ℕ) × StopsWriting step e e' s sent w place × (length s < place + 1 + 512)
 
 -- how many reads a call made: all turns where they are spent, else at least one
 abbrev pub ReadsMade : Result Served ServeFault → (turns n : ℕ) → Type 0

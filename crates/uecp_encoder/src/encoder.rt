@@ -1,5 +1,6 @@
 //! The encoder's end of the line. Source: RDS Forum SPB 490, two-way mode; profile for the kept replies.
-ghost use Rattle.std.specs.Prelude.{◌≡◌, ◌<◌, ◌≤◌, ℕ, IsTrue, IfOk, IfErr, IfSome, length, take, option_to_list, [], ◌∷◌};
+ghost use Rattle.std.specs.Prelude.{◌≡◌, ◌<◌, ◌≤◌, ℕ, IsTrue, IfOk, IfErr, IfSome, length, take, option_to_list, []};
+ghost use Rattle.std.specs.Prelude.{◌∷◌};
 ghost use Rattle.std.specs.Borrow.{sem};
 ghost use Rattle.std.specs.Io.BufRead.{Rests};
 ghost use Rattle.uecp_frame.specs.Address.{is_exact};
@@ -91,7 +92,8 @@ impl<T: Target> Encoder<T> {
         ensures fits { result.used ≤ length piece.now }
         ensures moves { 0 < length piece.now → 0 < result.used }
         ensures answers { AnswersPiece T.step self.old piece.now result }
-        ensures* after { sem 𝓛 (Rests (the_row T.row T.Target) self.entry (λ v. v ≡ fed T.step self.old (take result.used piece.now))) }
+        ensures* after { sem 𝓛 (Rests (the_row T.row T.Target) self.entry
+            (λ v. v ≡ fed T.step self.old (take result.used piece.now))) }
     {
         let fed = self.deframer.feed_ref(piece);
         let used = fed.used;
@@ -126,7 +128,8 @@ impl<T: Target> Encoder<T> {
         ensures reply { replies T.step self.old (take result.used piece.now) ≡ option_to_list result.reply }
         // It is the reply that `feed` would lend.
         ensures spelled { IfSome result.reply (λ reply. (counter : ℕ)
-            × (responses_to T.step self.old (take result.used piece.now) ≡ Replied (spelling (reply_of self.old.address counter reply.1)) reply.0 ∷ [])) }
+            × (responses_to T.step self.old (take result.used piece.now)
+            ≡ Replied (spelling (reply_of self.old.address counter reply.1)) reply.0 ∷ [])) }
     {
         let brought = self.deframer.feed_ref(piece);
         Coded {

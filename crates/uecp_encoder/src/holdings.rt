@@ -50,9 +50,12 @@ impl<T: Target> Holdings<T> {
     /// Takes what a piece of the stream brought.
     #[inline(always)]
     pub(crate) fn take(&mut self, found: &FoundRef<'_>) -> Outcome
-        ensures holds { (part : OpenPart) → with_part self.new part ≡ after_findings T.step (with_part self.old part) (findings_of (found_lent found.now)) }
-        ensures says { (part : OpenPart) → said_of self.old.address result ≡ responses T.step (with_part self.old part) (findings_of (found_lent found.now)) }
-        ensures codes { (part : OpenPart) → option_to_list (coded_of result) ≡ replies_to T.step (with_part self.old part) (findings_of (found_lent found.now)) }
+        ensures holds { (part : OpenPart) → with_part self.new part
+            ≡ after_findings T.step (with_part self.old part) (findings_of (found_lent found.now)) }
+        ensures says { (part : OpenPart) → said_of self.old.address result
+            ≡ responses T.step (with_part self.old part) (findings_of (found_lent found.now)) }
+        ensures codes { (part : OpenPart) → option_to_list (coded_of result)
+            ≡ replies_to T.step (with_part self.old part) (findings_of (found_lent found.now)) }
         ensures address { self.new.address ≡ self.old.address }
     {
         match found {
@@ -69,9 +72,12 @@ impl<T: Target> Holdings<T> {
     /// message is applied.
     #[inline(never)]
     fn take_frame(&mut self, frame: &FrameRef<'_>) -> Outcome
-        ensures holds { (part : OpenPart) → with_part self.new part ≡ after_finding T.step (with_part self.old part) (Ok (frame_lent frame.now)) }
-        ensures says { (part : OpenPart) → said_of self.old.address result ≡ response_to T.step (with_part self.old part) (Ok (frame_lent frame.now)) ∷ [] }
-        ensures codes { (part : OpenPart) → option_to_list (coded_of result) ≡ replies_to T.step (with_part self.old part) (Ok (frame_lent frame.now) ∷ []) }
+        ensures holds { (part : OpenPart) → with_part self.new part
+            ≡ after_finding T.step (with_part self.old part) (Ok (frame_lent frame.now)) }
+        ensures says { (part : OpenPart) → said_of self.old.address result
+            ≡ response_to T.step (with_part self.old part) (Ok (frame_lent frame.now)) ∷ [] }
+        ensures codes { (part : OpenPart) → option_to_list (coded_of result)
+            ≡ replies_to T.step (with_part self.old part) (Ok (frame_lent frame.now) ∷ []) }
         ensures address { self.new.address ≡ self.old.address }
     {
         if !frame.address.reaches(self.address) {

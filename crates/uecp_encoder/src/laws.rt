@@ -1,7 +1,8 @@
 //! Laws of the definitions, each the contract of a function that does nothing.
 ghost use Rattle.std.specs.Prelude.{ℕ, List};
 ghost use Rattle.uecp_encoder.specs.State.{EncoderState};
-ghost use Rattle.uecp_encoder.specs.Laws.{RetryActsOnce, AppliedOnce, AppliesInOrder, AppliesFrom01, IsInPieces, IsHeardAfterNoise, DamageChangesNothing};
+ghost use Rattle.uecp_encoder.specs.Laws.{RetryActsOnce, AppliedOnce, AppliesInOrder, AppliesFrom01, IsInPieces};
+ghost use Rattle.uecp_encoder.specs.Laws.{IsHeardAfterNoise, DamageChangesNothing};
 ghost use Rattle.uecp_encoder.specs.Joining.{Joins, WholePassIsReplied};
 
 use crate::target::Target;

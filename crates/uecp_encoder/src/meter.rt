@@ -136,7 +136,8 @@ impl<D: Write> Meter<D> {
         ensures ok { OnOk result (Appends (D.contents self.old.device) (D.contents self.new.device) bytes.now) }
         ensures err { IfErr result (λ w. (w < length bytes.now)
             × Appends (D.contents self.old.device) (D.contents self.new.device) (take w bytes.now)) }
-        ensures calls { self.old.calls + length bytes.now < 2 ^ 128 → (self.old.calls ≤ self.new.calls) × (self.new.calls ≤ self.old.calls + length bytes.now) }
+        ensures calls { self.old.calls + length bytes.now < 2 ^ 128
+            → (self.old.calls ≤ self.new.calls) × (self.new.calls ≤ self.old.calls + length bytes.now) }
         ensures failures { self.new.failures ≡ failures_after result self.old.failures }
         ensures empty { self.new.empty ≡ self.old.empty }
     {

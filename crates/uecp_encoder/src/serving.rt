@@ -3,7 +3,8 @@ ghost use Rattle.std.specs.Prelude.{◌≡◌, ◌<◌, ◌≤◌, ◌+◌, ◌*
 ghost use Rattle.std.specs.Io.KnownBytes.{Appends, Consumes};
 ghost use Rattle.uecp_encoder.specs.Answering.{bytes_sent, responses_of};
 ghost use Rattle.uecp_encoder.specs.Metered.{failures_after};
-ghost use Rattle.uecp_encoder.specs.Serving.{replies_among, Sends, StopsWriting, Serves, ReadsMade, read_failures, empty_reads, write_failures};
+ghost use Rattle.uecp_encoder.specs.Serving.{replies_among, Sends, StopsWriting, Serves, ReadsMade, read_failures};
+ghost use Rattle.uecp_encoder.specs.Serving.{empty_reads, write_failures};
 
 use crate::answer::What;
 use crate::encoder::Encoder;
@@ -67,7 +68,8 @@ pub fn serve<T: Target, R: Read, W: Write>(
         × Appends (W.contents writer.old.device) (W.contents writer.new.device) written
         × Serves T.step encoder.old encoder.new s written (R.remaining reader.new.device) turns result
         × (length s ≤ 512 * turns) }
-    ensures reads { (n : ℕ) × ReadsMade result turns n × (reader.old.calls + n < 2 ^ 128 → reader.new.calls ≡ reader.old.calls + n) }
+    ensures reads { (n : ℕ) × ReadsMade result turns n
+        × (reader.old.calls + n < 2 ^ 128 → reader.new.calls ≡ reader.old.calls + n) }
     ensures read_failures { reader.new.failures ≡ read_failures result reader.old.failures }
     ensures empty_reads { reader.new.empty ≡ empty_reads result reader.old.empty }
     ensures write_failures { writer.new.failures ≡ write_failures result writer.old.failures }
@@ -159,7 +161,8 @@ fn answer_first<T: Target, W: Write>(
     ensures used { IfOk result (λ first. (0 < first.used) × (first.used ≤ length piece.now)) }
     ensures ok { IfOk result (λ first. (written : List ℕ)
         × Appends (W.contents writer.old.device) (W.contents writer.new.device) written
-        × Sends T.step encoder.old encoder.new (take first.used piece.now) written first.sent.replies first.sent.bytes) }
+        × Sends T.step encoder.old encoder.new (take first.used piece.now) written first.sent.replies
+        first.sent.bytes) }
     ensures err { IfErr result (λ w. (written : List ℕ) × (place : ℕ)
         × Appends (W.contents writer.old.device) (W.contents writer.new.device) written
         × StopsWriting T.step encoder.old encoder.new piece.now written w place) }
@@ -176,12 +179,14 @@ fn answer_first<T: Target, W: Write>(
 
 /// Writes the reply of an answer, if it has one. A failure says how many bytes were written.
 fn write_answer<W: Write>(writer: &mut Meter<W>, what: What<'_>) -> Result<Sent, u64>
-    ensures ok { OnOk result (Appends (W.contents writer.old.device) (W.contents writer.new.device) (flat_map bytes_sent (responses_of what.entry))) }
+    ensures ok { OnOk result (Appends (W.contents writer.old.device) (W.contents writer.new.device)
+        (flat_map bytes_sent (responses_of what.entry))) }
     ensures replies { IfOk result (λ sent. sent.replies ≡ replies_among (responses_of what.entry)) }
     ensures bytes { IfOk result (λ sent. sent.bytes ≡ length (flat_map bytes_sent (responses_of what.entry))) }
     ensures few { IfOk result (λ sent. (sent.replies ≤ 1) × (sent.bytes ≤ 16)) }
     ensures err { IfErr result (λ w. (w < length (flat_map bytes_sent (responses_of what.entry)))
-        × Appends (W.contents writer.old.device) (W.contents writer.new.device) (take w (flat_map bytes_sent (responses_of what.entry)))) }
+        × Appends (W.contents writer.old.device) (W.contents writer.new.device)
+        (take w (flat_map bytes_sent (responses_of what.entry)))) }
     ensures few_written { IfErr result (λ w. w ≤ 16) }
     ensures failures { writer.new.failures ≡ failures_after result writer.old.failures }
 {

@@ -1,5 +1,6 @@
 -- A segment that stands alone, by what a deframer finds in it.
-use Rattle.std.proofs.Common.{◌≡◌, ◌<◌, ◌≤◌, ◌-◌, ◌==◌, ℕ, zero, suc, true, false, refl, List, [], ◌∷◌, ◌++◌, ◌∙◌, ap, sym, length, take, get_or, arith, Result, Ok, Err, inl, inr}
+use Rattle.std.proofs.Common.{◌≡◌, ◌<◌, ◌≤◌, ◌-◌, ◌==◌, ℕ, zero, suc, true, false, refl, List, [], ◌∷◌, ◌++◌, ◌∙◌, ap}
+use Rattle.std.proofs.Common.{sym, length, take, get_or, arith, Result, Ok, Err, inl, inr}
 use Rattle.std.specs.List.{list_any}
 use Rattle.std.proofs.lemmas.Bool.{cases_lt, cases_Bool, or_parts, eqb-false}
 use Rattle.std.proofs.lemmas.List.{append-nil, take-take, take_all}
@@ -43,25 +44,29 @@ before_end [] h k l = absurd (omega arith)
 before_end (a ∷ y) h zero l = found-nil
 before_end (a ∷ y) h (suc k) l =
     ap (λ (n : ℕ). found (n ∷ take k y)) h.begins
-    ∙ begun_found (take k y) (let e : take k (inner (a ∷ y)) ≡ take k y = take-take k (length (a ∷ y) - 1 - 1) y (omega arith) in
+    ∙ begun_found (take k y) (let e : take k (inner (a ∷ y))
+    ≡ take k y = take-take k (length (a ∷ y) - 1 - 1) y (omega arith) in
     sym (ap (list_any is_delimiter) e) ∙ none_taken (inner (a ∷ y)) k h.inside)
 
 -- a segment that ends comes to its finding, and another to nothing
-ended_found : (s : List ℕ) → IsSegment s → 2 ≤ length s → is_delimiter (get_or s (length s - 1) 0) ≡ true → found s ≡ decoded s ∷ []
+ended_found : (s : List ℕ) → IsSegment s → 2 ≤ length s → is_delimiter (get_or s (length s - 1) 0) ≡ true
+    → found s ≡ decoded s ∷ []
 unfolding decoded
 ended_found s h two ends =
     let x = inner s in
     let d = get_or s (length s - 1) 0 in
     ap found (split_is s h.begins two) ∙ ends_after (254 ∷ x) d ends
     ∙ ap (λ f. f ++ closing (open_from (open_bytes (254 ∷ x))) [] d) (begun_found x h.inside)
-    ∙ ap (λ o. closing (open_from o) [] d) (open_bytes-here 254 x h.inside refl) ∙ closing_is x [] d ∙ ap (λ y. finding y d ∷ []) (append-nil x)
+    ∙ ap (λ o. closing (open_from o) [] d) (open_bytes-here 254 x h.inside refl) ∙ closing_is x [] d
+    ∙ ap (λ y. finding y d ∷ []) (append-nil x)
 
 open_found : (s : List ℕ) → IsSegment s → 2 ≤ length s → is_delimiter (get_or s (length s - 1) 0) ≡ false → found s ≡ []
 open_found s h two stays =
     let x = inner s in
     let d = get_or s (length s - 1) 0 in
     let p = or_parts (d == 254) (d == 255) stays in
-    ap found (split_is s h.begins two) ∙ other_finds (254 ∷ x) d (eqb-false d 254 p.0) (eqb-false d 255 p.1) ∙ begun_found x h.inside
+    ap found (split_is s h.begins two) ∙ other_finds (254 ∷ x) d (eqb-false d 254 p.0) (eqb-false d 255 p.1)
+    ∙ begun_found x h.inside
 
 -- ---- the answer
 of_one : (answer : Found) (r : Result FrameValue FrameFault) → findings_of answer ≡ r ∷ [] → r ≡ decoded_of answer
@@ -76,15 +81,18 @@ of_none (Refused fault) e = absurd (cc)
 
 all_used : (s : List ℕ) (fed : Fed) (new : OpenPart) → IsSegment s → Feeds Closed s fed new → fed.used ≡ length s
 all_used s fed new h feeds = elim (cases_lt fed.used (length s)) [
-  | inl short ↦ feeds.all (of_none fed.found (sym feeds.answer ∙ found_beyond-closed (take fed.used s) ∙ before_end s h fed.used short))
+  | inl short ↦ feeds.all (of_none fed.found (sym feeds.answer ∙ found_beyond-closed (take fed.used s)
+      ∙ before_end s h fed.used short))
   | inr long ↦ omega (arith, feeds.used)
 ]
 
-pub decoded_alone : (s : List ℕ) (fed : Fed) (new : OpenPart) → IsSegment s → Feeds Closed s fed new → decoded s ≡ decoded_of fed.found
+pub decoded_alone : (s : List ℕ) (fed : Fed) (new : OpenPart) → IsSegment s → Feeds Closed s fed new
+    → decoded s ≡ decoded_of fed.found
 decoded_alone s fed new h feeds = at s h answer
   where
     answer : findings_of fed.found ≡ found s
-    answer = sym feeds.answer ∙ found_beyond-closed (take fed.used s) ∙ ap found (ap (λ (n : ℕ). take n s) (all_used s fed new h feeds) ∙ take_all (length s) s (omega arith))
+    answer = sym feeds.answer ∙ found_beyond-closed (take fed.used s)
+        ∙ ap found (ap (λ (n : ℕ). take n s) (all_used s fed new h feeds) ∙ take_all (length s) s (omega arith))
 
     nothing : (z : List ℕ) → found z ≡ [] → findings_of fed.found ≡ found z → decoded_of fed.found ≡ Err Unended
     nothing z none is = ap decoded_of (of_none fed.found (is ∙ none))
@@ -97,7 +105,8 @@ decoded_alone s fed new h feeds = at s h answer
     at (a ∷ b ∷ z) k is = elim (cases_Bool (is_delimiter (get_or (a ∷ b ∷ z) (length (a ∷ b ∷ z) - 1) 0))) [
       | inl ends ↦ of_one fed.found (decoded (a ∷ b ∷ z)) (is ∙ ended_found (a ∷ b ∷ z) k (omega arith) ends)
       | inr stays ↦
-          (let p = or_parts (get_or (a ∷ b ∷ z) (length (a ∷ b ∷ z) - 1) 0 == 254) (get_or (a ∷ b ∷ z) (length (a ∷ b ∷ z) - 1) 0 == 255) stays in
+          (let p = or_parts (get_or (a ∷ b ∷ z) (length (a ∷ b ∷ z) - 1) 0 == 254)
+          (get_or (a ∷ b ∷ z) (length (a ∷ b ∷ z) - 1) 0 == 255) stays in
           decoded-unended (a ∷ b ∷ z) (eqb-false (get_or (a ∷ b ∷ z) (length (a ∷ b ∷ z) - 1) 0) 255 p.1)
           ∙ sym (nothing (a ∷ b ∷ z) (open_found (a ∷ b ∷ z) k (omega arith) stays) is))
     ]

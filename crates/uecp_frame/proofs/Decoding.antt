@@ -1,11 +1,15 @@
 -- What decodes to a frame is its spelling, and its spelling decodes to it.
-use Rattle.std.proofs.Common.{◌≡◌, ◌≢◌, ◌<◌, ◌≤◌, ◌+◌, ◌-◌, ◌*◌, ◌/◌, ◌%◌, ◌==◌, ℕ, zero, suc, true, cond, List, [], ◌∷◌, ◌++◌, refl, ◌∙◌, ap, sym, subst, length, take, drop, get_or, arith, append_assoc, length-append, Result, Ok, Err, inl, inr, lit<, IfOk}
+use Rattle.std.proofs.Common.{◌≡◌, ◌≢◌, ◌<◌, ◌≤◌, ◌+◌, ◌-◌, ◌*◌, ◌/◌, ◌%◌, ◌==◌, ℕ, zero, suc, true, cond, List, []}
+use Rattle.std.proofs.Common.{◌∷◌, ◌++◌, refl, ◌∙◌, ap, sym, subst, length, take, drop, get_or, arith, append_assoc}
+use Rattle.std.proofs.Common.{length-append, Result, Ok, Err, inl, inr, lit<, IfOk}
 use Rattle.std.specs.Prelude.{nat_lt, nat_le}
 use Rattle.std.proofs.lemmas.Bool.{cases_eq, cases_Bool, eq-eqb, eqb-true, le-ltb, ltb-false, ne_eqb, leb-false}
-use Rattle.std.proofs.lemmas.List.{append-nil, take_at, get_or_at, drop_all, take-append-drop, drop_more, length-take-le}
+use Rattle.std.proofs.lemmas.List.{append-nil, take_at, get_or_at, drop_all, take-append-drop, drop_more}
+use Rattle.std.proofs.lemmas.List.{length-take-le}
 use Rattle.uecp_frame.specs.declared.frame.Frame.{Frame}
 use Rattle.uecp_frame.specs.declared.fault.FrameFault.{FrameFault}
-use Rattle.uecp_frame.specs.declared.fault.FrameFault.TheVariants.{BadStuffing, TooLong, TooShort, WrongLength, WrongCheck, Unended}
+use Rattle.uecp_frame.specs.declared.fault.FrameFault.TheVariants.{BadStuffing, TooLong, TooShort, WrongLength}
+use Rattle.uecp_frame.specs.declared.fault.FrameFault.TheVariants.{WrongCheck, Unended}
 use Rattle.uecp_frame.specs.Stuffing.{stuffed, unstuffed, Reading}
 use Rattle.uecp_frame.specs.Check.{check}
 use Rattle.uecp_frame.specs.Frame.{high_first, body, plain_bytes, spelling}
@@ -17,9 +21,14 @@ use Rattle.uecp_frame.proofs.Reading.{judged_read, unstuffed-nil, unstuffed-plai
 use Rattle.uecp_frame.proofs.Resumed.{unstuffed-stuffed, unstuffed-joined, along_codes}
 
 -- ---- when plain bytes make a frame
-pub content-frame : (u : List ℕ) → 6 ≤ length u → get_or u 3 0 ≡ length u - 6 → number_at u (length u - 2) ≡ check (take (length u - 2) u) → content u ≡ Ok (frame_of u)
+pub content-frame : (u : List ℕ) → 6 ≤ length u → get_or u 3 0 ≡ length u - 6
+    → number_at u (length u - 2) ≡ check (take (length u - 2) u) → content u ≡ Ok (frame_of u)
 unfolding content
-content-frame u long len ck = rw (le-ltb (length u) 6 long, eq-eqb (get_or u 3 0) (length u - 6) len, eq-eqb (number_at u (length u - 2)) (check (take (length u - 2) u)) ck)
+content-frame u long len ck = rw (
+  le-ltb (length u) 6 long,
+  eq-eqb (get_or u 3 0) (length u - 6) len,
+  eq-eqb (number_at u (length u - 2)) (check (take (length u - 2) u)) ck,
+)
 
 pub record Makes (u : List ℕ) (f : Frame) : Type 0 where
   pub long : 6 ≤ length u
@@ -72,19 +81,25 @@ content_of a b c m k l ck = content-frame u (omega (arith, len)) (omega (arith, 
 
     low : get_or u (length u - 2 + 1) 0 ≡ l
     low = ap (λ t. get_or t (length u - 2 + 1) 0) (sym (append_assoc (a ∷ b ∷ c ∷ length m ∷ m) (k ∷ []) (l ∷ [])))
-        ∙ get_or_at ((a ∷ b ∷ c ∷ length m ∷ m) ++ k ∷ []) l [] 0 (length u - 2 + 1) (length-append (a ∷ b ∷ c ∷ length m ∷ m) (k ∷ []) ∙ omega (arith, at))
+        ∙ get_or_at ((a ∷ b ∷ c ∷ length m ∷ m) ++ k ∷ []) l [] 0 (length u - 2 + 1)
+        (length-append (a ∷ b ∷ c ∷ length m ∷ m) (k ∷ []) ∙ omega (arith, at))
 
     checked : number_at u (length u - 2) ≡ check (take (length u - 2) u)
-    checked = ap (λ n. 256 * n + get_or u (length u - 2 + 1) 0) high ∙ ap (λ n. 256 * k + n) low ∙ ck ∙ sym (ap check front)
+    checked = ap (λ n. 256 * n + get_or u (length u - 2 + 1) 0) high ∙ ap (λ n. 256 * k + n) low ∙ ck
+        ∙ sym (ap check front)
 
     frame : frame_of u ≡ record { address = 256 * a + b; counter = c; message = m }
-    frame = ap (λ (t : List ℕ). let g : Frame = record { address = 256 * a + b; counter = c; message = drop 4 t } in g) front
+    frame = ap (λ (t : List ℕ). let g : Frame = record { address = 256 * a + b; counter = c; message = drop 4 t } in g)
+        front
 
 pub content-plain_bytes : (f : Frame) → content (plain_bytes f) ≡ Ok f
 unfolding plain_bytes body
 content-plain_bytes f =
-    content_of (f.address / 256) (f.address % 256) f.counter f.message (check (body f) / 256) (check (body f) % 256) (omega arith)
-    ∙ ap (λ (a : ℕ). let g : Result Frame FrameFault = Ok (record { address = a; counter = f.counter; message = f.message }) in g) (let e : 256 * (f.address / 256) + f.address % 256 ≡ f.address = omega arith in e)
+    content_of (f.address / 256) (f.address % 256) f.counter f.message (check (body f) / 256) (check (body f) % 256)
+    (omega arith)
+    ∙ ap (λ (a : ℕ). let g : Result Frame FrameFault =
+    Ok (record { address = a; counter = f.counter; message = f.message }) in g)
+    (let e : 256 * (f.address / 256) + f.address % 256 ≡ f.address = omega arith in e)
 
 -- ---- the spelling of a frame decodes to it
 length-plain_bytes : (f : Frame) → length (plain_bytes f) ≡ length f.message + 6
@@ -160,11 +175,13 @@ judged_at p [] f e =
     ]
 judged_at p (b ∷ r) f e =
     elim (cases_Bool (nat_le (length p) 260)) [
-      | inl t ↦ absurd (no_err (BadStuffing (1 + length (stuffed p))) f (let k : Err (BadStuffing (1 + length (stuffed p))) ≡ Ok f = rw t at e in k))
+      | inl t ↦ absurd (no_err (BadStuffing (1 + length (stuffed p))) f
+          (let k : Err (BadStuffing (1 + length (stuffed p))) ≡ Ok f = rw t at e in k))
       | inr above ↦ elim (cases_Bool (nat_lt 261 (length p))) [
         | inl t ↦ absurd (no_err TooLong f (let k : Err TooLong ≡ Ok f = rw (above, t) at e in k))
         | inr most ↦
-            (let full : (length p == 261) ≡ true = eq-eqb (length p) 261 (omega (arith, leb-false (length p) 260 above, ltb-false 261 (length p) most)) in
+            (let full : (length p == 261) ≡ true = eq-eqb (length p) 261
+            (omega (arith, leb-false (length p) 260 above, ltb-false 261 (length p) most)) in
             absurd (no_err TooLong f (let k : Err TooLong ≡ Ok f = rw (above, most, full) at e in k)))
       ]
     ]
@@ -181,7 +198,8 @@ two_bytes k l n h e =
     let low : n % 256 ≡ l = omega arith in
     ap (λ a. a ∷ n % 256 ∷ []) high ∙ ap (λ b. k ∷ b ∷ []) low
 
-last_two : (x : List ℕ) → 2 ≤ length x → x ≡ take (length x - 2) x ++ get_or x (length x - 2) 0 ∷ get_or x (length x - 2 + 1) 0 ∷ []
+last_two : (x : List ℕ) → 2 ≤ length x → x ≡ take (length x - 2) x ++ get_or x (length x - 2) 0
+    ∷ get_or x (length x - 2 + 1) 0 ∷ []
 last_two x h =
     sym (take-append-drop (length x - 2) x)
     ∙ ap (λ t. take (length x - 2) x ++ t)
@@ -195,7 +213,8 @@ plain_bytes_of [] f bytes makes = absurd (omega (arith, makes.long))
 plain_bytes_of (a ∷ []) f bytes makes = absurd (omega (arith, makes.long))
 plain_bytes_of (a ∷ b ∷ []) f bytes makes = absurd (omega (arith, makes.long))
 plain_bytes_of (a ∷ b ∷ c ∷ []) f bytes makes = absurd (omega (arith, makes.long))
-plain_bytes_of (a ∷ b ∷ c ∷ n ∷ rest) f bytes makes = sym (ap (λ t. a ∷ b ∷ c ∷ n ∷ t) (sym parts)) ∙ sym spelled ∙ ap plain_bytes frame
+plain_bytes_of (a ∷ b ∷ c ∷ n ∷ rest) f bytes makes =
+    sym (ap (λ t. a ∷ b ∷ c ∷ n ∷ t) (sym parts)) ∙ sym spelled ∙ ap plain_bytes frame
   where
     m : List ℕ
     m = take (length rest - 2) rest
@@ -222,10 +241,13 @@ plain_bytes_of (a ∷ b ∷ c ∷ n ∷ rest) f bytes makes = sym (ap (λ t. a �
     high = ap (λ (i : ℕ). get_or (a ∷ b ∷ c ∷ n ∷ rest) i 0) at
 
     low : get_or (a ∷ b ∷ c ∷ n ∷ rest) (length (a ∷ b ∷ c ∷ n ∷ rest) - 2 + 1) 0 ≡ l
-    low = ap (λ (i : ℕ). get_or (a ∷ b ∷ c ∷ n ∷ rest) i 0) (let e : length (a ∷ b ∷ c ∷ n ∷ rest) - 2 + 1 ≡ suc (suc (suc (suc (length rest - 2 + 1)))) = omega (arith, at) in e)
+    low = ap (λ (i : ℕ). get_or (a ∷ b ∷ c ∷ n ∷ rest) i 0)
+        (let e : length (a ∷ b ∷ c ∷ n ∷ rest) - 2 + 1 ≡ suc (suc (suc (suc (length rest - 2 + 1)))) =
+        omega (arith, at) in e)
 
     number : 256 * k + l ≡ check (a ∷ b ∷ c ∷ n ∷ m)
-    number = sym (ap (λ i. 256 * i + get_or (a ∷ b ∷ c ∷ n ∷ rest) (length (a ∷ b ∷ c ∷ n ∷ rest) - 2 + 1) 0) high ∙ ap (λ i. 256 * k + i) low) ∙ makes.checked ∙ ap check front
+    number = sym (ap (λ i. 256 * i + get_or (a ∷ b ∷ c ∷ n ∷ rest) (length (a ∷ b ∷ c ∷ n ∷ rest) - 2 + 1) 0) high
+        ∙ ap (λ i. 256 * k + i) low) ∙ makes.checked ∙ ap check front
 
     n_is : n ≡ length m
     n_is = makes.len ∙ omega (arith, two, length-take-le (length rest - 2) rest (omega arith))
@@ -234,13 +256,16 @@ plain_bytes_of (a ∷ b ∷ c ∷ n ∷ rest) f bytes makes = sym (ap (λ t. a �
     F = record { address = 256 * a + b; counter = c; message = m }
 
     frame : F ≡ f
-    frame = sym (ap (λ (t : List ℕ). let g : Frame = record { address = 256 * a + b; counter = c; message = drop 4 t } in g) front) ∙ makes.is
+    frame = sym (ap (λ (t : List ℕ). let g : Frame =
+        record { address = 256 * a + b; counter = c; message = drop 4 t } in g) front) ∙ makes.is
 
     body_is : body F ≡ a ∷ b ∷ c ∷ n ∷ m
-    body_is = ap (λ h. h ++ c ∷ length m ∷ m) (two_bytes a b (256 * a + b) bytes.1.0 refl) ∙ ap (λ (i : ℕ). a ∷ b ∷ c ∷ i ∷ m) (sym n_is)
+    body_is = ap (λ h. h ++ c ∷ length m ∷ m) (two_bytes a b (256 * a + b) bytes.1.0 refl)
+        ∙ ap (λ (i : ℕ). a ∷ b ∷ c ∷ i ∷ m) (sym n_is)
 
     check_is : high_first (check (body F)) ≡ k ∷ l ∷ []
-    check_is = two_bytes k l (check (body F)) (bytes_at rest (length rest - 2 + 1) bytes.1.1.1.1) (number ∙ sym (ap check body_is))
+    check_is = two_bytes k l (check (body F)) (bytes_at rest (length rest - 2 + 1) bytes.1.1.1.1)
+        (number ∙ sym (ap check body_is))
 
     spelled : plain_bytes F ≡ a ∷ b ∷ c ∷ n ∷ (m ++ k ∷ l ∷ [])
     spelled = ap (λ x. x ++ high_first (check (body F))) body_is ∙ ap (λ x. (a ∷ b ∷ c ∷ n ∷ m) ++ x) check_is
@@ -254,13 +279,16 @@ split_is (a ∷ b ∷ s) begins two =
     ∙ ap (λ t. 254 ∷ t) (sym (take-append-drop (length s) (b ∷ s))
     ∙ ap (λ t. take (length s) (b ∷ s) ++ t) (drop_more (b ∷ s) (length s) 0 (omega arith)
     ∙ ap (λ t. get_or (b ∷ s) (length s) 0 ∷ t) (drop_all (length s + 1) (b ∷ s) (omega arith)))
-    ∙ ap (λ (i : ℕ). take i (b ∷ s) ++ get_or (b ∷ s) (length s) 0 ∷ []) (let e : length s ≡ length (a ∷ b ∷ s) - 1 - 1 = omega arith in e)
-    ∙ ap (λ (i : ℕ). inner (a ∷ b ∷ s) ++ get_or (a ∷ b ∷ s) i 0 ∷ []) (let e : suc (length s) ≡ length (a ∷ b ∷ s) - 1 = omega arith in e))
+    ∙ ap (λ (i : ℕ). take i (b ∷ s) ++ get_or (b ∷ s) (length s) 0 ∷ [])
+    (let e : length s ≡ length (a ∷ b ∷ s) - 1 - 1 = omega arith in e)
+    ∙ ap (λ (i : ℕ). inner (a ∷ b ∷ s) ++ get_or (a ∷ b ∷ s) i 0 ∷ [])
+    (let e : suc (length s) ≡ length (a ∷ b ∷ s) - 1 = omega arith in e))
 
 segment_is : (s : List ℕ) → IsSegment s → get_or s (length s - 1) 0 ≡ 255 → s ≡ 254 ∷ inner s ++ 255 ∷ []
 segment_is [] h last = absurd (omega (arith, h.begins))
 segment_is (a ∷ []) h last = absurd (omega (arith, h.begins))
-segment_is (a ∷ b ∷ s) h last = split_is (a ∷ b ∷ s) h.begins (omega arith) ∙ ap (λ (n : ℕ). 254 ∷ inner (a ∷ b ∷ s) ++ n ∷ []) last
+segment_is (a ∷ b ∷ s) h last = split_is (a ∷ b ∷ s) h.begins (omega arith)
+    ∙ ap (λ (n : ℕ). 254 ∷ inner (a ∷ b ∷ s) ++ n ∷ []) last
 
 pub spelled_lem : (s : List ℕ) (f : Frame) → IsSegment s → IsBytes s → decoded s ≡ Ok f → s ≡ spelling f
 unfolding decoded finding spelling
@@ -270,12 +298,14 @@ spelled_lem s f h bytes e =
           (let k : judged (unstuffed (inner s)) ≡ Ok f = rw (eq-eqb (get_or s (length s - 1) 0) 255 last) at e in
           let y = judged_at (unstuffed (inner s)).plain (unstuffed (inner s)).rest f k in
           let makes = content_makes (unstuffed (inner s)).plain f y.1 in
-          let u_is = plain_bytes_of (unstuffed (inner s)).plain f (bytes_unstuffed (inner s) (bytes_take (length s - 1 - 1) (drop 1 s) (bytes_drop 1 s bytes))) makes in
+          let u_is = plain_bytes_of (unstuffed (inner s)).plain f
+          (bytes_unstuffed (inner s) (bytes_take (length s - 1 - 1) (drop 1 s) (bytes_drop 1 s bytes))) makes in
           let inner_is : inner s ≡ stuffed (plain_bytes f) =
           unstuffed-joined (inner s) h.inside ∙ ap (λ r. stuffed (unstuffed (inner s)).plain ++ r) y.0
           ∙ append-nil (stuffed (unstuffed (inner s)).plain) ∙ ap stuffed u_is in
           segment_is s h last ∙ ap (λ x. 254 ∷ x ++ 255 ∷ []) inner_is)
-      | inr other ↦ absurd (no_err Unended f (let k : Err Unended ≡ Ok f = rw (ne_eqb (get_or s (length s - 1) 0) 255 other) at e in k))
+      | inr other ↦ absurd (no_err Unended f (let k : Err Unended
+          ≡ Ok f = rw (ne_eqb (get_or s (length s - 1) 0) 255 other) at e in k))
     ]
 
 inner_is : (x : List ℕ) → inner (254 ∷ x ++ 255 ∷ []) ≡ x
@@ -284,12 +314,17 @@ inner_is x = take_at x (255 ∷ []) (length (254 ∷ x ++ 255 ∷ []) - 1 - 1) (
 -- a spelling is a segment
 pub spelling_is_segment : (f : Frame) → IsSegment (spelling f)
 unfolding spelling
-spelling_is_segment f = record { begins = refl; inside = ap (list_any is_delimiter) (inner_is (stuffed (plain_bytes f))) ∙ stuffed_none (plain_bytes f) }
+spelling_is_segment f = record {
+  begins = refl;
+  inside = ap (list_any is_delimiter) (inner_is (stuffed (plain_bytes f)))
+      ∙ stuffed_none (plain_bytes f);
+}
 
 pub decoded-unended : (s : List ℕ) → get_or s (length s - 1) 0 ≢ 255 → decoded s ≡ Err Unended
 unfolding decoded finding
 decoded-unended s h = rw (ne_eqb (get_or s (length s - 1) 0) 255 h)
 
-pub if_ok_spelled : (s : List ℕ) (r : Result Frame FrameFault) → IsSegment s → IsBytes s → r ≡ decoded s → IfOk r (λ f. s ≡ spelling f)
+pub if_ok_spelled : (s : List ℕ) (r : Result Frame FrameFault) → IsSegment s → IsBytes s → r ≡ decoded s
+    → IfOk r (λ f. s ≡ spelling f)
 if_ok_spelled s (Ok f) h bytes e = spelled_lem s f h bytes (sym e)
 if_ok_spelled s (Err fault) h bytes e = tt

@@ -28,8 +28,11 @@ found-spelling : (f : Frame) → length f.message ≤ 255 → found (spelling f)
 unfolding spelling
 found-spelling f small =
     found-start 254 (x ++ 255 ∷ []) refl
-    ∙ ap (λ g. g ++ found (x ++ 255 ∷ [])) (ended_finding x (stuffed_none (plain_bytes f)) ∙ ap (λ r. r ∷ []) (judged_spelling f small))
-    ∙ ap (λ g. Ok f ∷ g) (ends_after x 255 refl ∙ ap (λ g. found x ++ g) (ap (λ o. closing (open_from o) [] 255) (open_bytes-none x (stuffed_none (plain_bytes f)))) ∙ append-nil (found x) ∙ found-none x (stuffed_none (plain_bytes f)))
+    ∙ ap (λ g. g ++ found (x ++ 255 ∷ [])) (ended_finding x (stuffed_none (plain_bytes f))
+    ∙ ap (λ r. r ∷ []) (judged_spelling f small))
+    ∙ ap (λ g. Ok f ∷ g) (ends_after x 255 refl ∙ ap (λ g. found x ++ g)
+    (ap (λ o. closing (open_from o) [] 255) (open_bytes-none x (stuffed_none (plain_bytes f))))
+    ∙ append-nil (found x) ∙ found-none x (stuffed_none (plain_bytes f)))
   where
     x : List ℕ
     x = stuffed (plain_bytes f)
@@ -37,6 +40,8 @@ found-spelling f small =
 pub always_heard_lem : (o : OpenPart) (f : Frame) → length f.message ≤ 255 → IsHeard o f
 unfolding spelling
 always_heard_lem o f small = record {
-  found = beyond_is o (spelling f) ∙ ap (λ g. g ++ found (spelling f)) (closing_unended o) ∙ ap (λ g. unended o ++ g) (found-spelling f small);
-  left = open_beyond-append o (254 ∷ stuffed (plain_bytes f)) (255 ∷ []) ∙ end_closes (open_beyond o (254 ∷ stuffed (plain_bytes f)));
+  found = beyond_is o (spelling f) ∙ ap (λ g. g ++ found (spelling f)) (closing_unended o)
+      ∙ ap (λ g. unended o ++ g) (found-spelling f small);
+  left = open_beyond-append o (254 ∷ stuffed (plain_bytes f)) (255 ∷ [])
+      ∙ end_closes (open_beyond o (254 ∷ stuffed (plain_bytes f)));
 }

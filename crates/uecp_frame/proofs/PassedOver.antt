@@ -41,14 +41,19 @@ is_begun x b = go x b.joined b.begun
     go [] e some = absurd (some refl)
     go (a ∷ u) e some =
         let first : a ≡ 254 = cc in
-        let later : u ++ b.rest ≡ stuffed (plain_bytes b.frame) ++ 255 ∷ [] = cc in
-        (u, ap (λ n. n ∷ u) first, front_none u b.rest (stuffed (plain_bytes b.frame)) 255 later b.unfinished (stuffed_none (plain_bytes b.frame)))
+        let later : u ++ b.rest ≡ stuffed (plain_bytes b.frame) ++ 255 ∷ [] = cc in (
+          u,
+          ap (λ n. n ∷ u) first,
+          front_none u b.rest (stuffed (plain_bytes b.frame)) 255 later b.unfinished
+              (stuffed_none (plain_bytes b.frame)),
+        )
 
 begun_finds : (o : OpenPart) (u : List ℕ) → HasNone u → found_beyond o (254 ∷ u) ≡ unended o
 begun_finds o u none =
     beyond_is o (254 ∷ u)
     ∙ ap (λ g. g ++ found (254 ∷ u)) (closing_unended o)
-    ∙ ap (λ g. unended o ++ g) (found-start 254 u refl ∙ ap (λ g. g ++ found u) (segment_found-none u none) ∙ found-none u none)
+    ∙ ap (λ g. unended o ++ g) (found-start 254 u refl ∙ ap (λ g. g ++ found u) (segment_found-none u none)
+    ∙ found-none u none)
     ∙ append-nil (unended o)
 
 -- and leaves something open
@@ -60,15 +65,18 @@ begun_opens o u none =
       | inr part ↦ ap unended part
     ]
 
-pub passed_over_lem : (o : OpenPart) (x : List ℕ) (next : Frame) → BreaksOff x → length next.message ≤ 255 → IsPassedOver o x next
+pub passed_over_lem : (o : OpenPart) (x : List ℕ) (next : Frame) → BreaksOff x → length next.message ≤ 255
+    → IsPassedOver o x next
 passed_over_lem o x next b small =
     let (u, is, none) = is_begun x b in
     let pieces = in_pieces_lem o x (spelling next) in
     let later = always_heard_lem (open_beyond o x) next small in
     let first : found_beyond o x ≡ unended o = ap (found_beyond o) is ∙ begun_finds o u none in
-    let open_ : unended (open_beyond o x) ≡ Err Unended ∷ [] = ap (λ y. unended (open_beyond o y)) is ∙ begun_opens o u none in
+    let open_ : unended (open_beyond o x) ≡ Err Unended ∷ [] =
+    ap (λ y. unended (open_beyond o y)) is ∙ begun_opens o u none in
     record {
       none = first;
-      heard = pieces.found ∙ ap (λ f. f ++ found_beyond (open_beyond o x) (spelling next)) first ∙ ap (λ f. unended o ++ f) (later.found ∙ ap (λ f. f ++ Ok next ∷ []) open_);
+      heard = pieces.found ∙ ap (λ f. f ++ found_beyond (open_beyond o x) (spelling next)) first
+          ∙ ap (λ f. unended o ++ f) (later.found ∙ ap (λ f. f ++ Ok next ∷ []) open_);
       left = pieces.left ∙ later.left;
     }

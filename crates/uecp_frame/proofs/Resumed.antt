@@ -1,11 +1,13 @@
 -- How the reading of a byte list goes on when more bytes come.
-use Rattle.std.proofs.Common.{◌≡◌, ◌≢◌, ◌<◌, ◌≤◌, ◌+◌, ◌*◌, ◌==◌, ℕ, true, false, List, [], ◌∷◌, ◌++◌, refl, ◌∙◌, ap, sym, subst, length, arith, append_assoc, length-append, inl, inr, lit<}
+use Rattle.std.proofs.Common.{◌≡◌, ◌≢◌, ◌<◌, ◌≤◌, ◌+◌, ◌*◌, ◌==◌, ℕ, true, false, List, [], ◌∷◌, ◌++◌, refl, ◌∙◌, ap}
+use Rattle.std.proofs.Common.{sym, subst, length, arith, append_assoc, length-append, inl, inr, lit<}
 use Rattle.std.specs.List.{list_any}
 use Rattle.std.proofs.lemmas.Bool.{cases_eq, cases_lt, eqb-false, or_parts}
 use Rattle.uecp_frame.specs.Stuffing.{code, stuffed, unstuffed, Reading, Reads, after, IsNoCode, is_delimiter}
 use Rattle.uecp_frame.specs.Findings.{has_two}
 use Rattle.uecp_frame.specs.Beyond.{resumed}
-use Rattle.uecp_frame.proofs.Codes.{stuffed-append, stuffed-nil, stuffed-one, stuffed-cons, code-plain, code-escaped, length-code-le}
+use Rattle.uecp_frame.proofs.Codes.{stuffed-append, stuffed-nil, stuffed-one, stuffed-cons, code-plain, code-escaped}
+use Rattle.uecp_frame.proofs.Codes.{length-code-le}
 use Rattle.uecp_frame.proofs.Reading.{after-after, unstuffed-nil, unstuffed-plain, unstuffed-escaped, unstuffed-stuck}
 use Rattle.uecp_frame.proofs.Delimiters.{HasNone}
 
@@ -32,8 +34,10 @@ pub unstuffed-append : (x z : List ℕ) → unstuffed (x ++ z) ≡ resumed (unst
 unstuffed-append x z =
     along_codes (λ x. unstuffed (x ++ z) ≡ resumed (unstuffed x) z)
     (sym (ap (λ y. resumed y z) unstuffed-nil))
-    (λ b x ne so_far. unstuffed-plain b (x ++ z) ne ∙ ap (after (b ∷ [])) so_far ∙ sym (ap (λ y. resumed y z) (unstuffed-plain b x ne)))
-    (λ b c x e small so_far. unstuffed-escaped b c (x ++ z) e small ∙ ap (after ((253 + c) ∷ [])) so_far ∙ sym (ap (λ y. resumed y z) (unstuffed-escaped b c x e small)))
+    (λ b x ne so_far. unstuffed-plain b (x ++ z) ne ∙ ap (after (b ∷ [])) so_far
+    ∙ sym (ap (λ y. resumed y z) (unstuffed-plain b x ne)))
+    (λ b c x e small so_far. unstuffed-escaped b c (x ++ z) e small ∙ ap (after ((253 + c) ∷ [])) so_far
+    ∙ sym (ap (λ y. resumed y z) (unstuffed-escaped b c x e small)))
     (λ x stuck. sym (ap (λ y. resumed y z) (unstuffed-stuck x stuck)))
     x
 
@@ -49,7 +53,8 @@ rest_is_no_code x =
     along_codes (λ x. IsNoCode (unstuffed x).rest)
     (let P : Reading → Type 0 = λ y. IsNoCode y.rest in subst P (sym unstuffed-nil) tt)
     (λ b x ne so_far. let P : Reading → Type 0 = λ y. IsNoCode y.rest in subst P (sym (unstuffed-plain b x ne)) so_far)
-    (λ b c x e small so_far. let P : Reading → Type 0 = λ y. IsNoCode y.rest in subst P (sym (unstuffed-escaped b c x e small)) so_far)
+    (λ b c x e small so_far. let P : Reading → Type 0 = λ y. IsNoCode y.rest in
+    subst P (sym (unstuffed-escaped b c x e small)) so_far)
     (λ x stuck. let P : Reading → Type 0 = λ y. IsNoCode y.rest in subst P (sym (unstuffed-stuck x stuck)) stuck)
     x
 
@@ -70,8 +75,10 @@ code-is b ne h =
     let p = or_parts (b == 254) (b == 255) h in
     code-plain b ne (eqb-false b 254 p.0) (eqb-false b 255 p.1)
 
-stuffed-after : (front : List ℕ) (y : Reading) → stuffed (after front y).plain ++ (after front y).rest ≡ stuffed front ++ (stuffed y.plain ++ y.rest)
-stuffed-after front y = ap (λ s. s ++ y.rest) (stuffed-append front y.plain) ∙ append_assoc (stuffed front) (stuffed y.plain) y.rest
+stuffed-after : (front : List ℕ) (y : Reading) → stuffed (after front y).plain ++ (after front y).rest ≡ stuffed front
+    ++ (stuffed y.plain ++ y.rest)
+stuffed-after front y = ap (λ s. s ++ y.rest) (stuffed-append front y.plain)
+    ∙ append_assoc (stuffed front) (stuffed y.plain) y.rest
 
 abbrev joined : Reading → List ℕ
 joined y = stuffed y.plain ++ y.rest
@@ -98,11 +105,14 @@ unstuffed-joined x =
 unstuffed-code : (b : ℕ) (s : List ℕ) → unstuffed (code b ++ s) ≡ after (b ∷ []) (unstuffed s)
 unstuffed-code b s =
     elim (cases_eq b 253) [
-      | inl e ↦ ap (λ n. unstuffed (code n ++ s)) e ∙ ap (λ t. unstuffed (t ++ s)) (code-escaped 0 (lit< tt)) ∙ unstuffed-escaped 253 0 s refl (lit< tt) ∙ ap (λ n. after (n ∷ []) (unstuffed s)) (sym e)
+      | inl e ↦ ap (λ n. unstuffed (code n ++ s)) e ∙ ap (λ t. unstuffed (t ++ s)) (code-escaped 0 (lit< tt))
+          ∙ unstuffed-escaped 253 0 s refl (lit< tt) ∙ ap (λ n. after (n ∷ []) (unstuffed s)) (sym e)
       | inr not_fd ↦ elim (cases_eq b 254) [
-        | inl e ↦ ap (λ n. unstuffed (code n ++ s)) e ∙ ap (λ t. unstuffed (t ++ s)) (code-escaped 1 (lit< tt)) ∙ unstuffed-escaped 253 1 s refl (lit< tt) ∙ ap (λ n. after (n ∷ []) (unstuffed s)) (sym e)
+        | inl e ↦ ap (λ n. unstuffed (code n ++ s)) e ∙ ap (λ t. unstuffed (t ++ s)) (code-escaped 1 (lit< tt))
+            ∙ unstuffed-escaped 253 1 s refl (lit< tt) ∙ ap (λ n. after (n ∷ []) (unstuffed s)) (sym e)
         | inr not_fe ↦ elim (cases_eq b 255) [
-          | inl e ↦ ap (λ n. unstuffed (code n ++ s)) e ∙ ap (λ t. unstuffed (t ++ s)) (code-escaped 2 (lit< tt)) ∙ unstuffed-escaped 253 2 s refl (lit< tt) ∙ ap (λ n. after (n ∷ []) (unstuffed s)) (sym e)
+          | inl e ↦ ap (λ n. unstuffed (code n ++ s)) e ∙ ap (λ t. unstuffed (t ++ s)) (code-escaped 2 (lit< tt))
+              ∙ unstuffed-escaped 253 2 s refl (lit< tt) ∙ ap (λ n. after (n ∷ []) (unstuffed s)) (sym e)
           | inr not_ff ↦ ap (λ t. unstuffed (t ++ s)) (code-plain b not_fd not_fe not_ff) ∙ unstuffed-plain b s not_fd
         ]
       ]

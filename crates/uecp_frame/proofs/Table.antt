@@ -1,5 +1,6 @@
 -- A table of the check by one step for eight bits.
-use Rattle.std.proofs.Common.{◌≡◌, ◌<◌, ◌+◌, ◌*◌, ◌/◌, ◌%◌, ℕ, List, [], ◌∷◌, refl, ◌∙◌, ap, sym, fold, map, replicate, arith, get_or, subst}
+use Rattle.std.proofs.Common.{◌≡◌, ◌<◌, ◌+◌, ◌*◌, ◌/◌, ◌%◌, ℕ, List, [], ◌∷◌, refl, ◌∙◌, ap, sym, fold, map, replicate}
+use Rattle.std.proofs.Common.{arith, get_or, subst}
 use Rattle.std.specs.List.{range_with_len, AllByRecursion}
 use Rattle.std.proofs.lemmas.Nat.Bits.{bit_at-lt}
 use Rattle.std.specs.Prelude.{bit_xor, zero, suc, ◌^◌}
@@ -14,7 +15,26 @@ abbrev entry : ℕ → ℕ
 entry i = fold with_bit (i * 256) zeros
 
 abbrev table : List ℕ
-table = 0x0000 ∷ 0x1021 ∷ 0x2042 ∷ 0x3063 ∷ 0x4084 ∷ 0x50A5 ∷ 0x60C6 ∷ 0x70E7 ∷ 0x8108 ∷ 0x9129 ∷ 0xA14A ∷ 0xB16B ∷ 0xC18C ∷ 0xD1AD ∷ 0xE1CE ∷ 0xF1EF ∷ 0x1231 ∷ 0x0210 ∷ 0x3273 ∷ 0x2252 ∷ 0x52B5 ∷ 0x4294 ∷ 0x72F7 ∷ 0x62D6 ∷ 0x9339 ∷ 0x8318 ∷ 0xB37B ∷ 0xA35A ∷ 0xD3BD ∷ 0xC39C ∷ 0xF3FF ∷ 0xE3DE ∷ 0x2462 ∷ 0x3443 ∷ 0x0420 ∷ 0x1401 ∷ 0x64E6 ∷ 0x74C7 ∷ 0x44A4 ∷ 0x5485 ∷ 0xA56A ∷ 0xB54B ∷ 0x8528 ∷ 0x9509 ∷ 0xE5EE ∷ 0xF5CF ∷ 0xC5AC ∷ 0xD58D ∷ 0x3653 ∷ 0x2672 ∷ 0x1611 ∷ 0x0630 ∷ 0x76D7 ∷ 0x66F6 ∷ 0x5695 ∷ 0x46B4 ∷ 0xB75B ∷ 0xA77A ∷ 0x9719 ∷ 0x8738 ∷ 0xF7DF ∷ 0xE7FE ∷ 0xD79D ∷ 0xC7BC ∷ 0x48C4 ∷ 0x58E5 ∷ 0x6886 ∷ 0x78A7 ∷ 0x0840 ∷ 0x1861 ∷ 0x2802 ∷ 0x3823 ∷ 0xC9CC ∷ 0xD9ED ∷ 0xE98E ∷ 0xF9AF ∷ 0x8948 ∷ 0x9969 ∷ 0xA90A ∷ 0xB92B ∷ 0x5AF5 ∷ 0x4AD4 ∷ 0x7AB7 ∷ 0x6A96 ∷ 0x1A71 ∷ 0x0A50 ∷ 0x3A33 ∷ 0x2A12 ∷ 0xDBFD ∷ 0xCBDC ∷ 0xFBBF ∷ 0xEB9E ∷ 0x9B79 ∷ 0x8B58 ∷ 0xBB3B ∷ 0xAB1A ∷ 0x6CA6 ∷ 0x7C87 ∷ 0x4CE4 ∷ 0x5CC5 ∷ 0x2C22 ∷ 0x3C03 ∷ 0x0C60 ∷ 0x1C41 ∷ 0xEDAE ∷ 0xFD8F ∷ 0xCDEC ∷ 0xDDCD ∷ 0xAD2A ∷ 0xBD0B ∷ 0x8D68 ∷ 0x9D49 ∷ 0x7E97 ∷ 0x6EB6 ∷ 0x5ED5 ∷ 0x4EF4 ∷ 0x3E13 ∷ 0x2E32 ∷ 0x1E51 ∷ 0x0E70 ∷ 0xFF9F ∷ 0xEFBE ∷ 0xDFDD ∷ 0xCFFC ∷ 0xBF1B ∷ 0xAF3A ∷ 0x9F59 ∷ 0x8F78 ∷ 0x9188 ∷ 0x81A9 ∷ 0xB1CA ∷ 0xA1EB ∷ 0xD10C ∷ 0xC12D ∷ 0xF14E ∷ 0xE16F ∷ 0x1080 ∷ 0x00A1 ∷ 0x30C2 ∷ 0x20E3 ∷ 0x5004 ∷ 0x4025 ∷ 0x7046 ∷ 0x6067 ∷ 0x83B9 ∷ 0x9398 ∷ 0xA3FB ∷ 0xB3DA ∷ 0xC33D ∷ 0xD31C ∷ 0xE37F ∷ 0xF35E ∷ 0x02B1 ∷ 0x1290 ∷ 0x22F3 ∷ 0x32D2 ∷ 0x4235 ∷ 0x5214 ∷ 0x6277 ∷ 0x7256 ∷ 0xB5EA ∷ 0xA5CB ∷ 0x95A8 ∷ 0x8589 ∷ 0xF56E ∷ 0xE54F ∷ 0xD52C ∷ 0xC50D ∷ 0x34E2 ∷ 0x24C3 ∷ 0x14A0 ∷ 0x0481 ∷ 0x7466 ∷ 0x6447 ∷ 0x5424 ∷ 0x4405 ∷ 0xA7DB ∷ 0xB7FA ∷ 0x8799 ∷ 0x97B8 ∷ 0xE75F ∷ 0xF77E ∷ 0xC71D ∷ 0xD73C ∷ 0x26D3 ∷ 0x36F2 ∷ 0x0691 ∷ 0x16B0 ∷ 0x6657 ∷ 0x7676 ∷ 0x4615 ∷ 0x5634 ∷ 0xD94C ∷ 0xC96D ∷ 0xF90E ∷ 0xE92F ∷ 0x99C8 ∷ 0x89E9 ∷ 0xB98A ∷ 0xA9AB ∷ 0x5844 ∷ 0x4865 ∷ 0x7806 ∷ 0x6827 ∷ 0x18C0 ∷ 0x08E1 ∷ 0x3882 ∷ 0x28A3 ∷ 0xCB7D ∷ 0xDB5C ∷ 0xEB3F ∷ 0xFB1E ∷ 0x8BF9 ∷ 0x9BD8 ∷ 0xABBB ∷ 0xBB9A ∷ 0x4A75 ∷ 0x5A54 ∷ 0x6A37 ∷ 0x7A16 ∷ 0x0AF1 ∷ 0x1AD0 ∷ 0x2AB3 ∷ 0x3A92 ∷ 0xFD2E ∷ 0xED0F ∷ 0xDD6C ∷ 0xCD4D ∷ 0xBDAA ∷ 0xAD8B ∷ 0x9DE8 ∷ 0x8DC9 ∷ 0x7C26 ∷ 0x6C07 ∷ 0x5C64 ∷ 0x4C45 ∷ 0x3CA2 ∷ 0x2C83 ∷ 0x1CE0 ∷ 0x0CC1 ∷ 0xEF1F ∷ 0xFF3E ∷ 0xCF5D ∷ 0xDF7C ∷ 0xAF9B ∷ 0xBFBA ∷ 0x8FD9 ∷ 0x9FF8 ∷ 0x6E17 ∷ 0x7E36 ∷ 0x4E55 ∷ 0x5E74 ∷ 0x2E93 ∷ 0x3EB2 ∷ 0x0ED1 ∷ 0x1EF0 ∷ []
+table = 0x0000 ∷ 0x1021 ∷ 0x2042 ∷ 0x3063 ∷ 0x4084 ∷ 0x50A5 ∷ 0x60C6 ∷ 0x70E7 ∷ 0x8108 ∷ 0x9129 ∷ 0xA14A ∷ 0xB16B
+    ∷ 0xC18C ∷ 0xD1AD ∷ 0xE1CE ∷ 0xF1EF ∷ 0x1231 ∷ 0x0210 ∷ 0x3273 ∷ 0x2252 ∷ 0x52B5 ∷ 0x4294 ∷ 0x72F7 ∷ 0x62D6 ∷ 0x9339
+    ∷ 0x8318 ∷ 0xB37B ∷ 0xA35A ∷ 0xD3BD ∷ 0xC39C ∷ 0xF3FF ∷ 0xE3DE ∷ 0x2462 ∷ 0x3443 ∷ 0x0420 ∷ 0x1401 ∷ 0x64E6 ∷ 0x74C7
+    ∷ 0x44A4 ∷ 0x5485 ∷ 0xA56A ∷ 0xB54B ∷ 0x8528 ∷ 0x9509 ∷ 0xE5EE ∷ 0xF5CF ∷ 0xC5AC ∷ 0xD58D ∷ 0x3653 ∷ 0x2672 ∷ 0x1611
+    ∷ 0x0630 ∷ 0x76D7 ∷ 0x66F6 ∷ 0x5695 ∷ 0x46B4 ∷ 0xB75B ∷ 0xA77A ∷ 0x9719 ∷ 0x8738 ∷ 0xF7DF ∷ 0xE7FE ∷ 0xD79D ∷ 0xC7BC
+    ∷ 0x48C4 ∷ 0x58E5 ∷ 0x6886 ∷ 0x78A7 ∷ 0x0840 ∷ 0x1861 ∷ 0x2802 ∷ 0x3823 ∷ 0xC9CC ∷ 0xD9ED ∷ 0xE98E ∷ 0xF9AF ∷ 0x8948
+    ∷ 0x9969 ∷ 0xA90A ∷ 0xB92B ∷ 0x5AF5 ∷ 0x4AD4 ∷ 0x7AB7 ∷ 0x6A96 ∷ 0x1A71 ∷ 0x0A50 ∷ 0x3A33 ∷ 0x2A12 ∷ 0xDBFD ∷ 0xCBDC
+    ∷ 0xFBBF ∷ 0xEB9E ∷ 0x9B79 ∷ 0x8B58 ∷ 0xBB3B ∷ 0xAB1A ∷ 0x6CA6 ∷ 0x7C87 ∷ 0x4CE4 ∷ 0x5CC5 ∷ 0x2C22 ∷ 0x3C03 ∷ 0x0C60
+    ∷ 0x1C41 ∷ 0xEDAE ∷ 0xFD8F ∷ 0xCDEC ∷ 0xDDCD ∷ 0xAD2A ∷ 0xBD0B ∷ 0x8D68 ∷ 0x9D49 ∷ 0x7E97 ∷ 0x6EB6 ∷ 0x5ED5 ∷ 0x4EF4
+    ∷ 0x3E13 ∷ 0x2E32 ∷ 0x1E51 ∷ 0x0E70 ∷ 0xFF9F ∷ 0xEFBE ∷ 0xDFDD ∷ 0xCFFC ∷ 0xBF1B ∷ 0xAF3A ∷ 0x9F59 ∷ 0x8F78 ∷ 0x9188
+    ∷ 0x81A9 ∷ 0xB1CA ∷ 0xA1EB ∷ 0xD10C ∷ 0xC12D ∷ 0xF14E ∷ 0xE16F ∷ 0x1080 ∷ 0x00A1 ∷ 0x30C2 ∷ 0x20E3 ∷ 0x5004 ∷ 0x4025
+    ∷ 0x7046 ∷ 0x6067 ∷ 0x83B9 ∷ 0x9398 ∷ 0xA3FB ∷ 0xB3DA ∷ 0xC33D ∷ 0xD31C ∷ 0xE37F ∷ 0xF35E ∷ 0x02B1 ∷ 0x1290 ∷ 0x22F3
+    ∷ 0x32D2 ∷ 0x4235 ∷ 0x5214 ∷ 0x6277 ∷ 0x7256 ∷ 0xB5EA ∷ 0xA5CB ∷ 0x95A8 ∷ 0x8589 ∷ 0xF56E ∷ 0xE54F ∷ 0xD52C ∷ 0xC50D
+    ∷ 0x34E2 ∷ 0x24C3 ∷ 0x14A0 ∷ 0x0481 ∷ 0x7466 ∷ 0x6447 ∷ 0x5424 ∷ 0x4405 ∷ 0xA7DB ∷ 0xB7FA ∷ 0x8799 ∷ 0x97B8 ∷ 0xE75F
+    ∷ 0xF77E ∷ 0xC71D ∷ 0xD73C ∷ 0x26D3 ∷ 0x36F2 ∷ 0x0691 ∷ 0x16B0 ∷ 0x6657 ∷ 0x7676 ∷ 0x4615 ∷ 0x5634 ∷ 0xD94C ∷ 0xC96D
+    ∷ 0xF90E ∷ 0xE92F ∷ 0x99C8 ∷ 0x89E9 ∷ 0xB98A ∷ 0xA9AB ∷ 0x5844 ∷ 0x4865 ∷ 0x7806 ∷ 0x6827 ∷ 0x18C0 ∷ 0x08E1 ∷ 0x3882
+    ∷ 0x28A3 ∷ 0xCB7D ∷ 0xDB5C ∷ 0xEB3F ∷ 0xFB1E ∷ 0x8BF9 ∷ 0x9BD8 ∷ 0xABBB ∷ 0xBB9A ∷ 0x4A75 ∷ 0x5A54 ∷ 0x6A37 ∷ 0x7A16
+    ∷ 0x0AF1 ∷ 0x1AD0 ∷ 0x2AB3 ∷ 0x3A92 ∷ 0xFD2E ∷ 0xED0F ∷ 0xDD6C ∷ 0xCD4D ∷ 0xBDAA ∷ 0xAD8B ∷ 0x9DE8 ∷ 0x8DC9 ∷ 0x7C26
+    ∷ 0x6C07 ∷ 0x5C64 ∷ 0x4C45 ∷ 0x3CA2 ∷ 0x2C83 ∷ 0x1CE0 ∷ 0x0CC1 ∷ 0xEF1F ∷ 0xFF3E ∷ 0xCF5D ∷ 0xDF7C ∷ 0xAF9B ∷ 0xBFBA
+    ∷ 0x8FD9 ∷ 0x9FF8 ∷ 0x6E17 ∷ 0x7E36 ∷ 0x4E55 ∷ 0x5E74 ∷ 0x2E93 ∷ 0x3EB2 ∷ 0x0ED1 ∷ 0x1EF0 ∷ []
 
 table_is : map entry (range_with_len 0 256) ≡ table
 unfolding with_bit
@@ -30,9 +50,11 @@ doubled r s =
     let e : r * 2 ^ 1 + 0 ≡ 2 * r = omega arith in
     let f : s * 2 ^ 1 + 0 ≡ 2 * s = omega arith in
     let g : 2 * bit_xor r s ≡ bit_xor r s * 2 ^ 1 + bit_xor 0 0 = omega arith in
-    g ∙ sym (xor_block 1 r s 0 0 (omega arith) (omega arith)) ∙ ap (λ x. bit_xor x (s * 2 ^ 1 + 0)) e ∙ ap (λ x. bit_xor (2 * r) x) f
+    g ∙ sym (xor_block 1 r s 0 0 (omega arith) (omega arith)) ∙ ap (λ x. bit_xor x (s * 2 ^ 1 + 0)) e
+    ∙ ap (λ x. bit_xor (2 * r) x) f
 
-with_bit-is : (r c t : ℕ) → t ≡ r / 0x8000 → t < 2 → c < 2 → with_bit r c ≡ bit_xor (2 * r % 0x10000) (0x1021 * bit_xor t c)
+with_bit-is : (r c t : ℕ) → t ≡ r / 0x8000 → t < 2 → c < 2
+    → with_bit r c ≡ bit_xor (2 * r % 0x10000) (0x1021 * bit_xor t c)
 unfolding with_bit
 with_bit-is r zero zero e h k = rw (sym e) (sym (xor_zero_r (2 * r % 0x10000)))
 with_bit-is r (suc zero) zero e h k = rw (sym e) refl
@@ -53,19 +75,23 @@ masks (suc zero) (suc (suc u)) h k = absurd (omega arith)
 
 swap : (a b c d : ℕ) → bit_xor (bit_xor a b) (bit_xor c d) ≡ bit_xor (bit_xor a c) (bit_xor b d)
 swap a b c d =
-    xor_assoc a b (bit_xor c d) ∙ ap (bit_xor a) (sym (xor_assoc b c d) ∙ ap (λ x. bit_xor x d) (xor_comm b c) ∙ xor_assoc c b d) ∙ sym (xor_assoc a c (bit_xor b d))
+    xor_assoc a b (bit_xor c d) ∙ ap (bit_xor a) (sym (xor_assoc b c d) ∙ ap (λ x. bit_xor x d) (xor_comm b c)
+    ∙ xor_assoc c b d) ∙ sym (xor_assoc a c (bit_xor b d))
 
-linear : (r s c d : ℕ) → r < 0x10000 → s < 0x10000 → c < 2 → d < 2 → with_bit (bit_xor r s) (bit_xor c d) ≡ bit_xor (with_bit r c) (with_bit s d)
+linear : (r s c d : ℕ) → r < 0x10000 → s < 0x10000 → c < 2 → d < 2
+    → with_bit (bit_xor r s) (bit_xor c d) ≡ bit_xor (with_bit r c) (with_bit s d)
 linear r s c d hr hs hc hd =
     let t = r / 0x8000 in
     let u = s / 0x8000 in
     let ht : t < 2 = omega arith in
     let hu : u < 2 = omega arith in
-    with_bit-is (bit_xor r s) (bit_xor c d) (bit_xor t u) (sym (xor_shr r s 15)) (xor_lt 1 t u ht hu) (xor_lt 1 c d hc hd)
+    with_bit-is (bit_xor r s) (bit_xor c d) (bit_xor t u) (sym (xor_shr r s 15)) (xor_lt 1 t u ht hu)
+    (xor_lt 1 c d hc hd)
     ∙ ap (λ x. bit_xor (x % 0x10000) (0x1021 * bit_xor (bit_xor t u) (bit_xor c d))) (doubled r s)
     ∙ ap (λ x. bit_xor x (0x1021 * bit_xor (bit_xor t u) (bit_xor c d))) (xor_mod (2 * r) (2 * s) 16)
     ∙ ap (λ x. bit_xor (bit_xor (2 * r % 0x10000) (2 * s % 0x10000)) (0x1021 * x)) (swap t u c d)
-    ∙ ap (λ x. bit_xor (bit_xor (2 * r % 0x10000) (2 * s % 0x10000)) x) (masks (bit_xor t c) (bit_xor u d) (xor_lt 1 t c ht hc) (xor_lt 1 u d hu hd))
+    ∙ ap (λ x. bit_xor (bit_xor (2 * r % 0x10000) (2 * s % 0x10000)) x)
+    (masks (bit_xor t c) (bit_xor u d) (xor_lt 1 t c ht hc) (xor_lt 1 u d hu hd))
     ∙ swap (2 * r % 0x10000) (2 * s % 0x10000) (0x1021 * bit_xor t c) (0x1021 * bit_xor u d)
     ∙ ap (λ x. bit_xor x (bit_xor (2 * s % 0x10000) (0x1021 * bit_xor u d))) (sym (with_bit-is r c t refl ht hc))
     ∙ ap (λ x. bit_xor (with_bit r c) x) (sym (with_bit-is s d u refl hu hd))
@@ -77,7 +103,8 @@ low = refl
 get-map : (f : ℕ → ℕ) (a n i : ℕ) → i < n → get_or (map f (range_with_len a n)) i 0 ≡ f (a + i)
 get-map f a zero i h = absurd (omega arith)
 get-map f a (suc n) zero h = let e : a ≡ a + 0 = omega arith in ap f e
-get-map f a (suc n) (suc i) h = let e : a + 1 + i ≡ a + suc i = omega arith in get-map f (a + 1) n i (omega arith) ∙ ap f e
+get-map f a (suc n) (suc i) h = let e : a + 1 + i ≡ a + suc i = omega arith in
+    get-map f (a + 1) n i (omega arith) ∙ ap f e
 
 from-zero : (f : ℕ → ℕ) (n i : ℕ) → i < n → get_or (map f (range_with_len 0 n)) i 0 ≡ f i
 from-zero f n i h = let e : 0 + i ≡ i = omega arith in get-map f 0 n i h ∙ ap f e
@@ -85,17 +112,31 @@ from-zero f n i h = let e : 0 + i ≡ i = omega arith in get-map f 0 n i h ∙ a
 with_bit-lt : (r c : ℕ) → c < 2 → r < 0x10000 → with_bit r c < 0x10000
 with_bit-lt r c hc hr =
     let ht : r / 0x8000 < 2 = omega arith in
-    subst (λ (x : ℕ). x < 0x10000) (sym (with_bit-is r c (r / 0x8000) refl ht hc)) (xor_lt 16 (2 * r % 0x10000) (0x1021 * bit_xor (r / 0x8000) c) (omega arith) (omega (arith, xor_lt 1 (r / 0x8000) c ht hc)))
+    subst (λ (x : ℕ). x < 0x10000) (sym (with_bit-is r c (r / 0x8000) refl ht hc))
+    (xor_lt 16 (2 * r % 0x10000) (0x1021 * bit_xor (r / 0x8000) c) (omega arith)
+    (omega (arith, xor_lt 1 (r / 0x8000) c ht hc)))
 
-folds : (cs : List ℕ) → AllByRecursion (λ c. c < 2) cs → (r s : ℕ) → r < 0x10000 → s < 0x10000 → fold with_bit (bit_xor r s) cs ≡ bit_xor (fold with_bit r cs) (fold with_bit s (map (λ (c : ℕ). 0) cs))
+folds : (cs : List ℕ) → AllByRecursion (λ c. c < 2) cs → (r s : ℕ) → r < 0x10000 → s < 0x10000
+    → fold with_bit (bit_xor r s) cs ≡ bit_xor (fold with_bit r cs) (fold with_bit s (map (λ (c : ℕ). 0) cs))
 folds [] all r s hr hs = refl
 folds (c ∷ cs) all r s hr hs =
-    ap (λ x. fold with_bit x cs) (ap (with_bit (bit_xor r s)) (sym (xor_zero_r c)) ∙ linear r s c 0 hr hs all.0 (omega arith))
+    ap (λ x. fold with_bit x cs) (ap (with_bit (bit_xor r s)) (sym (xor_zero_r c))
+    ∙ linear r s c 0 hr hs all.0 (omega arith))
     ∙ folds cs all.1 (with_bit r c) (with_bit s 0) (with_bit-lt r c all.0 hr) (with_bit-lt s 0 (omega arith) hs)
 
-folds_byte : (b r s : ℕ) → r < 0x10000 → s < 0x10000 → fold with_bit (bit_xor r s) (bits b) ≡ bit_xor (fold with_bit r (bits b)) (fold with_bit s zeros)
+folds_byte : (b r s : ℕ) → r < 0x10000 → s < 0x10000
+    → fold with_bit (bit_xor r s) (bits b) ≡ bit_xor (fold with_bit r (bits b)) (fold with_bit s zeros)
 unfolding bits
-folds_byte b r s hr hs = folds (bits b) (bit_at-lt b 7, (bit_at-lt b 6, (bit_at-lt b 5, (bit_at-lt b 4, (bit_at-lt b 3, (bit_at-lt b 2, (bit_at-lt b 1, (bit_at-lt b 0, tt)))))))) r s hr hs
+folds_byte b r s hr hs = folds (bits b) (
+  bit_at-lt b 7,
+  (
+    bit_at-lt b 6,
+    (
+      bit_at-lt b 5,
+      (bit_at-lt b 4, (bit_at-lt b 3, (bit_at-lt b 2, (bit_at-lt b 1, (bit_at-lt b 0, tt))))),
+    ),
+  ),
+) r s hr hs
 
 at_entry : (i : ℕ) → i < 256 → get_or table i 0 ≡ entry i
 at_entry i h = ap (λ xs. get_or xs i 0) (sym table_is) ∙ from-zero entry 256 i h
@@ -109,23 +150,28 @@ replicated (suc n) zero = refl
 replicated (suc n) (suc i) = replicated n i
 
 at_cancelled : (i : ℕ) → i < 256 → fold with_bit (i * 256) (bits i) ≡ 0
-at_cancelled i h = sym (from-zero (λ (i : ℕ). fold with_bit (i * 256) (bits i)) 256 i h) ∙ ap (λ xs. get_or xs i 0) cancelled ∙ replicated 256 i
+at_cancelled i h = sym (from-zero (λ (i : ℕ). fold with_bit (i * 256) (bits i)) 256 i h)
+    ∙ ap (λ xs. get_or xs i 0) cancelled ∙ replicated 256 i
 
 at_low : (i : ℕ) → i < 256 → fold with_bit i zeros ≡ i * 256
-at_low i h = sym (from-zero (λ (i : ℕ). fold with_bit i zeros) 256 i h) ∙ ap (λ xs. get_or xs i 0) low ∙ from-zero (λ (i : ℕ). i * 256) 256 i h
+at_low i h = sym (from-zero (λ (i : ℕ). fold with_bit i zeros) 256 i h) ∙ ap (λ xs. get_or xs i 0) low
+    ∙ from-zero (λ (i : ℕ). i * 256) 256 i h
 
 apart_of : (h b : ℕ) → h * 256 ≡ bit_xor (b * 256) (bit_xor h b * 256)
 apart_of h b =
     let i = bit_xor h b in
-    let e : bit_xor b i ≡ h = ap (bit_xor b) (xor_comm h b) ∙ sym (xor_assoc b b h) ∙ ap (λ x. bit_xor x h) (xor_self b) ∙ xor_zero_l h in
-    let f : bit_xor (b * 2 ^ 8 + 0) (i * 2 ^ 8 + 0) ≡ bit_xor b i * 2 ^ 8 + bit_xor 0 0 = xor_block 8 b i 0 0 (omega arith) (omega arith) in
+    let e : bit_xor b i ≡ h = ap (bit_xor b) (xor_comm h b) ∙ sym (xor_assoc b b h) ∙ ap (λ x. bit_xor x h) (xor_self b)
+    ∙ xor_zero_l h in
+    let f : bit_xor (b * 2 ^ 8 + 0) (i * 2 ^ 8 + 0) ≡ bit_xor b i * 2 ^ 8 + bit_xor 0 0 =
+    xor_block 8 b i 0 0 (omega arith) (omega arith) in
     let g : b * 256 ≡ b * 2 ^ 8 + 0 = omega arith in
     let k : i * 256 ≡ i * 2 ^ 8 + 0 = omega arith in
     let m : bit_xor b i * 256 ≡ bit_xor b i * 2 ^ 8 + bit_xor 0 0 = omega arith in
     ap (λ (x : ℕ). x * 256) (sym e) ∙ m ∙ sym f ∙ sym (ap (λ x. bit_xor x (i * 256)) g ∙ ap (bit_xor (b * 2 ^ 8 + 0)) k)
 
 -- eight bit steps are one table step
-pub one_step : (r b : ℕ) → r < 0x10000 → b < 0x100 → fold with_bit r (bits b) ≡ bit_xor (r * 256 % 0x10000) (get_or table (bit_xor (r / 256) b) 0)
+pub one_step : (r b : ℕ) → r < 0x10000 → b < 0x100
+    → fold with_bit r (bits b) ≡ bit_xor (r * 256 % 0x10000) (get_or table (bit_xor (r / 256) b) 0)
 one_step r b hr hb =
     let hi = r / 256 in
     let lo = r % 256 in
@@ -133,11 +179,13 @@ one_step r b hr hb =
     let hhi : hi < 256 = omega arith in
     let hlo : lo < 256 = omega arith in
     let hi_lt : i < 256 = xor_lt 8 hi b hhi hb in
-    let split : r ≡ bit_xor (hi * 2 ^ 8) lo = (let e : r ≡ hi * 2 ^ 8 + lo = omega arith in e) ∙ sym (xor_shifted hi 8 lo hlo) in
+    let split : r ≡ bit_xor (hi * 2 ^ 8) lo = (let e : r ≡ hi * 2 ^ 8 + lo = omega arith in e)
+    ∙ sym (xor_shifted hi 8 lo hlo) in
     let apart : hi * 256 ≡ bit_xor (b * 256) (i * 256) = apart_of hi b in
     let same : r * 256 % 0x10000 ≡ lo * 256 = omega arith in
     ap (λ x. fold with_bit x (bits b)) split ∙ folds_byte b (hi * 256) lo (omega arith) (omega arith)
     ∙ ap (bit_xor (fold with_bit (hi * 256) (bits b))) (at_low lo hlo)
     ∙ ap (λ x. bit_xor (fold with_bit x (bits b)) (lo * 256)) apart
-    ∙ ap (λ x. bit_xor x (lo * 256)) (folds_byte b (b * 256) (i * 256) (omega arith) (omega arith) ∙ ap (λ x. bit_xor x (entry i)) (at_cancelled b hb) ∙ xor_zero_l (entry i) ∙ sym (at_entry i hi_lt))
+    ∙ ap (λ x. bit_xor x (lo * 256)) (folds_byte b (b * 256) (i * 256) (omega arith) (omega arith)
+    ∙ ap (λ x. bit_xor x (entry i)) (at_cancelled b hb) ∙ xor_zero_l (entry i) ∙ sym (at_entry i hi_lt))
     ∙ xor_comm (get_or table i 0) (lo * 256) ∙ ap (λ x. bit_xor x (get_or table i 0)) (sym same)

@@ -16,4 +16,5 @@ is_exact address = not (site_of address == 0) && not (encoder_of address == 0)
 -- A frame to the one address is for the encoder of the other where each part is 0 or that encoder's own (SPB 490,
 -- addressing).
 abbrev pub reaches : (to own : ℕ) → Bool
-reaches to own = (site_of to == 0 || site_of to == site_of own) && (encoder_of to == 0 || encoder_of to == encoder_of own)
+reaches to own = (site_of to == 0 || site_of to == site_of own)
+    && (encoder_of to == 0 || encoder_of to == encoder_of own)

@@ -6,7 +6,8 @@ use Rattle.uecp_frame.specs.declared.fault.FrameFault.TheVariants.{Unended}
 use Rattle.uecp_frame.specs.Stuffing.{is_delimiter, Reading, after, unstuffed}
 use Rattle.uecp_frame.specs.Segment.{judged}
 use Rattle.uecp_frame.specs.Frame.{spelling}
-use Rattle.uecp_frame.specs.Findings.{Finding, before_delimiter, from_delimiter, found, OpenPart, Closed, Doomed, Part, progress, open_part}
+use Rattle.uecp_frame.specs.Findings.{Finding, before_delimiter, from_delimiter, found, OpenPart, Closed, Doomed, Part}
+use Rattle.uecp_frame.specs.Findings.{progress, open_part}
 
 -- A reading goes on from what it left where bytes z follow (profile).
 abbrev pub resumed : Reading → List ℕ → Reading

@@ -1,5 +1,6 @@
 -- A segment that is read as its bytes come.
-use Rattle.std.specs.Prelude.{◌≡◌, ℕ, ◌-◌, ◌<◌, ◌≤◌, Bool, true, if◌then◌else◌, List, [], ◌∷◌, length, take, Option, Some, None}
+use Rattle.std.specs.Prelude.{◌≡◌, ℕ, ◌-◌, ◌<◌, ◌≤◌, Bool, true, if◌then◌else◌, List, [], ◌∷◌, length, take, Option}
+use Rattle.std.specs.Prelude.{Some, None}
 use Rattle.uecp_frame.specs.declared.fault.FrameFault.{FrameFault}
 use Rattle.uecp_frame.specs.declared.fed.Found.{Found}
 use Rattle.uecp_frame.specs.declared.fed.Found.TheVariants as owned

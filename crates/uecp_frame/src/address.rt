@@ -81,7 +81,8 @@ impl Address {
     /// Whether a frame to this address is for the encoder of the other one: each part is 0 or that of the other.
     pub fn reaches(self, other: Address) -> bool
         ensures exact { result ≡ reaches self other }
-        ensures parts { IsTrue result ↔ (((site_of self ≡ 0) ⊎ (site_of self ≡ site_of other)) × ((encoder_of self ≡ 0) ⊎ (encoder_of self ≡ encoder_of other))) }
+        ensures parts { IsTrue result ↔ (((site_of self ≡ 0) ⊎ (site_of self ≡ site_of other))
+            × ((encoder_of self ≡ 0) ⊎ (encoder_of self ≡ encoder_of other))) }
     {
         (self.site() == 0 || self.site() == other.site())
             && (self.encoder() == 0 || self.encoder() == other.encoder())

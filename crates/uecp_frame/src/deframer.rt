@@ -85,7 +85,8 @@ impl Deframer {
         // By the open part alone,
         ensures feeds { Feeds self.old piece.now (fed_lent result) (open_beyond self.old (take result.used piece.now)) }
         // and so after whatever bytes have left it.
-        ensures after { (s : List ℕ) → open_part s ≡ self.old → FeedsAfter s piece.now (fed_lent result) (open_beyond self.old (take result.used piece.now)) }
+        ensures after { (s : List ℕ) → open_part s ≡ self.old
+            → FeedsAfter s piece.now (fed_lent result) (open_beyond self.old (take result.used piece.now)) }
         ensures lends { LendsAtMost 255 result.found }
         ensures* rests { sem 𝓛 (Rests the_row self.entry (λ d. d ≡ open_beyond self.old (take result.used piece.now))) }
     {

@@ -62,5 +62,6 @@ pub fn always_heard()
 /// Whatever part is open, the spelling of a frame that breaks off holds no frame; where the spelling of a frame follows
 /// it, the one is dropped as `Unended` and the other is heard.
 pub fn passed_over()
-    ensures { (o : OpenPart) (x : List ℕ) (next : FrameValue) → BreaksOff x → length next.message ≤ 255 → IsPassedOver o x next }
+    ensures { (o : OpenPart) (x : List ℕ) (next : FrameValue) → BreaksOff x → length next.message ≤ 255
+        → IsPassedOver o x next }
 {}

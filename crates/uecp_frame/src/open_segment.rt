@@ -46,7 +46,8 @@ impl OpenSegment {
     ghost use Rattle.uecp_frame.specs.Findings.{Closed, Part};
     ghost use Rattle.uecp_frame.specs.Beyond.{closing, unended};
     ghost use Rattle.uecp_frame.specs.Feeding.{Feeds, findings_of};
-    ghost use Rattle.uecp_frame.specs.OpenSegment.{inside_of, part_of, IsOpenSegment, found_ended, fed_ended, IsWhole, Takes};
+    ghost use Rattle.uecp_frame.specs.OpenSegment.{inside_of, part_of, IsOpenSegment, found_ended, fed_ended, IsWhole};
+    ghost use Rattle.uecp_frame.specs.OpenSegment.{Takes};
 
     /// No segment is open.
     pub(crate) fn new() -> OpenSegment
@@ -177,7 +178,8 @@ impl OpenSegment {
     /// What a segment is at its FF.
     fn judged(&self) -> Ended
         requires { IsOpenSegment self.now }
-        ensures findings { closing (inside_of self.now.fault self.now.plain.items self.now.is_escaping) [] 255 ≡ findings_of (found_ended result self.now.plain.items) }
+        ensures findings { closing (inside_of self.now.fault self.now.plain.items self.now.is_escaping) [] 255
+            ≡ findings_of (found_ended result self.now.plain.items) }
         ensures whole { IsWhole result self.now.plain.items }
     {
         match self.fault {

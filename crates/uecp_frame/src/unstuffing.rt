@@ -22,7 +22,8 @@ impl OpenSegment {
         ensures some { 0 < result }
         ensures fits { result ≤ length rest.now }
         ensures inside { (k : ℕ) → k < result → slice_index rest.now k < 254 }
-        ensures part { prolonged (inside_of self.old.fault self.old.plain.items self.old.is_escaping) (take result rest.now) ≡ inside_of self.new.fault self.new.plain.items self.new.is_escaping }
+        ensures part { prolonged (inside_of self.old.fault self.old.plain.items self.old.is_escaping)
+            (take result rest.now) ≡ inside_of self.new.fault self.new.plain.items self.new.is_escaping }
         ensures open { self.new.is_open ≡ self.old.is_open }
         ensures kept { IsOpenSegment self.new }
     {
@@ -53,7 +54,8 @@ impl OpenSegment {
         ensures some { 0 < result }
         ensures fits { result ≤ length rest.now }
         ensures inside { (k : ℕ) → k < result → slice_index rest.now k < 254 }
-        ensures part { prolonged (Part (record { plain = self.old.plain.items; rest = [] })) (take result rest.now) ≡ inside_of self.new.fault self.new.plain.items self.new.is_escaping }
+        ensures part { prolonged (Part (record { plain = self.old.plain.items; rest = [] })) (take result rest.now)
+            ≡ inside_of self.new.fault self.new.plain.items self.new.is_escaping }
         ensures open { self.new.is_open ≡ self.old.is_open }
         ensures kept { IsOpenSegment self.new }
     {
@@ -70,7 +72,8 @@ impl OpenSegment {
         requires kept { IsOpenSegment self.old }
         requires certain { self.old.fault ≡ None }
         requires plain { self.old.is_escaping ≡ false }
-        ensures part { prolonged (Part (record { plain = self.old.plain.items; rest = [] })) (253 ∷ []) ≡ inside_of self.new.fault self.new.plain.items self.new.is_escaping }
+        ensures part { prolonged (Part (record { plain = self.old.plain.items; rest = [] })) (253 ∷ [])
+            ≡ inside_of self.new.fault self.new.plain.items self.new.is_escaping }
         ensures room { self.new.is_escaping ≡ true → self.new.fault ≡ None }
         ensures open { self.new.is_open ≡ self.old.is_open }
         ensures kept { IsOpenSegment self.new }
@@ -87,7 +90,8 @@ impl OpenSegment {
         requires kept { IsOpenSegment self.old }
         requires certain { self.old.fault ≡ None }
         requires escaping { self.old.is_escaping ≡ true }
-        ensures part { prolonged (Part (record { plain = self.old.plain.items; rest = 253 ∷ [] })) (byte ∷ []) ≡ inside_of self.new.fault self.new.plain.items self.new.is_escaping }
+        ensures part { prolonged (Part (record { plain = self.old.plain.items; rest = 253 ∷ [] })) (byte ∷ [])
+            ≡ inside_of self.new.fault self.new.plain.items self.new.is_escaping }
         ensures open { self.new.is_open ≡ self.old.is_open }
         ensures kept { IsOpenSegment self.new }
     {
@@ -108,7 +112,8 @@ impl OpenSegment {
         requires plain { self.old.is_escaping ≡ false }
         requires some { 0 < length run.now }
         requires below { (k : ℕ) → k < length run.now → slice_index run.now k < 253 }
-        ensures part { prolonged (Part (record { plain = self.old.plain.items; rest = [] })) run.now ≡ inside_of self.new.fault self.new.plain.items self.new.is_escaping }
+        ensures part { prolonged (Part (record { plain = self.old.plain.items; rest = [] })) run.now
+            ≡ inside_of self.new.fault self.new.plain.items self.new.is_escaping }
         ensures open { self.new.is_open ≡ self.old.is_open }
         ensures kept { IsOpenSegment self.new }
     {
@@ -124,7 +129,8 @@ impl OpenSegment {
     /// Takes the register along after so many more plain bytes.
     fn check_more(&mut self, more: usize)
         requires fits { more ≤ length self.old.plain.items }
-        requires before { self.old.register ≡ register_after 0xFFFF (checked (take (length self.old.plain.items - more) self.old.plain.items)) }
+        requires before { self.old.register ≡ register_after 0xFFFF
+            (checked (take (length self.old.plain.items - more) self.old.plain.items)) }
         ensures { self.new ≡ record self.old { register = register_after 0xFFFF (checked self.old.plain.items) } }
     {
         let end = self.plain.len().saturating_sub(CHECK);

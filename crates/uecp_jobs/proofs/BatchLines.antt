@@ -1,5 +1,7 @@
 -- The lines of a batch, and its messages, one by one.
-use Rattle.std.proofs.Common.{◌≡◌, ℕ, ◌+◌, ◌<◌, ◌==◌, cond, Bool, true, false, get_or, List, [], ◌∷◌, ◌++◌, length, take, drop, min, zero, suc, refl, eqb-true, ◌∙◌, ap, sym, arith, append_assoc, append-nil, length-append}
+use Rattle.std.proofs.Common.{◌≡◌, ℕ, ◌+◌, ◌<◌, ◌==◌, cond, Bool, true, false, get_or, List, [], ◌∷◌, ◌++◌, length}
+use Rattle.std.proofs.Common.{take, drop, min, zero, suc, refl, eqb-true, ◌∙◌, ap, sym, arith, append_assoc, append-nil}
+use Rattle.std.proofs.Common.{length-append}
 use Rattle.std.proofs.Math.Nat.{suc-min-suc}
 use Rattle.std.proofs.lemmas.List.{take_more}
 use Rattle.uecp_elements.specs.declared.code.Code.{Code}
@@ -15,15 +17,20 @@ adds_on a b c x y first second whole =
     let (start, before) = first middle in
     (start, added ∙ ap (λ l. l ++ y) before ∙ append_assoc a.bytes x y)
 
-batch_append : (some more : List Code) (tries : ℕ) → batch_lines (some ++ more) tries ≡ batch_lines some tries ++ batch_lines more tries
+batch_append : (some more : List Code) (tries : ℕ)
+    → batch_lines (some ++ more) tries ≡ batch_lines some tries ++ batch_lines more tries
 batch_append [] more tries = refl
 batch_append (code ∷ some) more tries =
-    ap (λ l. acknowledged_line code tries ++ l) (batch_append some more tries) ∙ sym (append_assoc (acknowledged_line code tries) (batch_lines some tries) (batch_lines more tries))
+    ap (λ l. acknowledged_line code tries ++ l) (batch_append some more tries)
+    ∙ sym (append_assoc (acknowledged_line code tries) (batch_lines some tries) (batch_lines more tries))
 
 -- the line of one message more
-pub batch_on : (told : List Code) (place : ℕ) (d : Code) (tries : ℕ) → place < length told → batch_lines (take (place + 1) told) tries ≡ batch_lines (take place told) tries ++ acknowledged_line (get_or told place d) tries
+pub batch_on : (told : List Code) (place : ℕ) (d : Code) (tries : ℕ) → place < length told
+    → batch_lines (take (place + 1) told) tries ≡ batch_lines (take place told) tries
+    ++ acknowledged_line (get_or told place d) tries
 batch_on told place d tries within =
-    ap (λ l. batch_lines l tries) (take_more told place d within) ∙ batch_append (take place told) (get_or told place d ∷ []) tries
+    ap (λ l. batch_lines l tries) (take_more told place d within)
+    ∙ batch_append (take place told) (get_or told place d ∷ []) tries
     ∙ ap (λ l. batch_lines (take place told) tries ++ l) (append-nil (acknowledged_line (get_or told place d) tries))
 
 -- ---- the messages of a batch
@@ -47,7 +54,9 @@ none_by_test (x ∷ xs) is = absurd (let k : suc (length xs) ≡ 0 = eqb-true (s
 
 -- ---- messages that are submitted
 
-waiting_more : (hs : List Held) (counter : ℕ) (m : List ℕ) → length (waiting_among (hs ++ record { counter = counter; message = m; marked = false } ∷ [])) ≡ length (waiting_among hs) + 1
+waiting_more : (hs : List Held) (counter : ℕ) (m : List ℕ)
+    → length (waiting_among (hs ++ record { counter = counter; message = m; marked = false } ∷ []))
+    ≡ length (waiting_among hs) + 1
 waiting_more [] counter m = refl
 waiting_more (h ∷ hs) counter m = go h.marked (waiting_more hs counter m)
   where
@@ -55,7 +64,8 @@ waiting_more (h ∷ hs) counter m = go h.marked (waiting_more hs counter m)
     after = hs ++ record { counter = counter; message = m; marked = false } ∷ []
 
     go : (b : Bool) → length (waiting_among after) ≡ length (waiting_among hs) + 1 →
-        length (cond b (waiting_among after) ((h.counter, h.message) ∷ waiting_among after)) ≡ length (cond b (waiting_among hs) ((h.counter, h.message) ∷ waiting_among hs)) + 1
+        length (cond b (waiting_among after) ((h.counter, h.message) ∷ waiting_among after))
+        ≡ length (cond b (waiting_among hs) ((h.counter, h.message) ∷ waiting_among hs)) + 1
     go true one = one
     go false one = omega (arith, one)
 
@@ -66,7 +76,8 @@ module _ {C I O : Type 0} where
   abbrev waiting_with : SenderOver C I O → ℕ
   waiting_with s = length (waiting s.sender.server)
 
-  pub all_held : (s : SenderOver C I O) (batch : List (List ℕ)) → length (held_by (submitted_all s batch)) ≡ length (held_by s) + length batch
+  pub all_held : (s : SenderOver C I O) (batch : List (List ℕ))
+      → length (held_by (submitted_all s batch)) ≡ length (held_by s) + length batch
   all_held s [] = omega arith
   all_held s (m ∷ batch) =
       let later = all_held (submitted_to s m) batch in
@@ -74,11 +85,13 @@ module _ {C I O : Type 0} where
       let one : length (held_by (submitted_to s m)) ≡ length (held_by s) + 1 = length-append (held_by s) (h ∷ []) in
       omega (arith, later, one)
 
-  pub all_wait : (s : SenderOver C I O) (batch : List (List ℕ)) → waiting_with (submitted_all s batch) ≡ waiting_with s + length batch
+  pub all_wait : (s : SenderOver C I O) (batch : List (List ℕ))
+      → waiting_with (submitted_all s batch) ≡ waiting_with s + length batch
   all_wait s [] = omega arith
   all_wait s (m ∷ batch) =
       let later = all_wait (submitted_to s m) batch in
-      let one : waiting_with (submitted_to s m) ≡ waiting_with s + 1 = waiting_more (held_by s) (next_counter s.sender.server.last) m in
+      let one : waiting_with (submitted_to s m) ≡ waiting_with s + 1 =
+      waiting_more (held_by s) (next_counter s.sender.server.last) m in
       omega (arith, later, one)
 
   -- the sender itself, but for its server, and the loan stay as they are
@@ -90,10 +103,14 @@ module _ {C I O : Type 0} where
   all_loan s [] = refl
   all_loan s (m ∷ batch) = all_loan (submitted_to s m) batch
 
-  submitted_append : (s : SenderOver C I O) (batch more : List (List ℕ)) → submitted_all s (batch ++ more) ≡ submitted_all (submitted_all s batch) more
+  submitted_append : (s : SenderOver C I O) (batch more : List (List ℕ))
+      → submitted_all s (batch ++ more) ≡ submitted_all (submitted_all s batch) more
   submitted_append s [] more = refl
   submitted_append s (m ∷ batch) more = submitted_append (submitted_to s m) batch more
 
   -- one message more
-  pub submitted_on : (s : SenderOver C I O) (batch : List (List ℕ)) (place : ℕ) (d : List ℕ) → place < length batch → submitted_all s (take (place + 1) batch) ≡ submitted_to (submitted_all s (take place batch)) (get_or batch place d)
-  submitted_on s batch place d within = ap (submitted_all s) (take_more batch place d within) ∙ submitted_append s (take place batch) (get_or batch place d ∷ [])
+  pub submitted_on : (s : SenderOver C I O) (batch : List (List ℕ)) (place : ℕ) (d : List ℕ) → place < length batch
+      → submitted_all s (take (place + 1) batch) ≡ submitted_to (submitted_all s (take place batch))
+      (get_or batch place d)
+  submitted_on s batch place d within = ap (submitted_all s) (take_more batch place d within)
+      ∙ submitted_append s (take place batch) (get_or batch place d ∷ [])

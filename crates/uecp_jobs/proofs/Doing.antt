@@ -1,5 +1,6 @@
 -- Jobs by the runs of their commands.
-use Rattle.std.proofs.Common.{◌≡◌, ◌⊎◌, ℕ, ◌∷◌, List, [], Option, None, Some, Bool, Result, Err, refl, sym, ap, subst, ◌∙◌, inl, inr, arith}
+use Rattle.std.proofs.Common.{◌≡◌, ◌⊎◌, ℕ, ◌∷◌, List, [], Option, None, Some, Bool, Result, Err, refl, sym, ap, subst}
+use Rattle.std.proofs.Common.{◌∙◌, inl, inr, arith}
 use Rattle.std.specs.Io.KnownBytes.{Consumes}
 use Rattle.std.proofs.KnownBytes.{Consumes-nil}
 use Rattle.rds_store.specs.declared.fault.StoreFault.TheVariants as store
@@ -20,7 +21,8 @@ use Rattle.uecp_jobs.specs.Commands.{Shows, Answers}
 use Rattle.uecp_jobs.specs.FrameScript.{Makes, spelled_line}
 use Rattle.uecp_jobs.specs.Playing.{Plays, closing_lines}
 use Rattle.uecp_jobs.specs.Setups.{Options, RefusesSetup, encoder_at_first, line_at_first}
-use Rattle.uecp_jobs.specs.Jobs.{options, Describes, IsLocal, ByCommand, JobPrints, JobBreaks, RefusesJob, DoesJob, Wrote}
+use Rattle.uecp_jobs.specs.Jobs.{options, Describes, IsLocal, ByCommand, JobPrints, JobBreaks, RefusesJob, DoesJob}
+use Rattle.uecp_jobs.specs.Jobs.{Wrote}
 use Rattle.uecp_jobs.proofs.Parts.{whole_part}
 
 -- what is told of a meaning, a value, and closing lines
@@ -28,64 +30,94 @@ abbrev Tells : Type 1
 Tells = (V : Type 0) → Meaning V → (start : V) → (closing : V → List ℕ) → Type 0
 
 -- a job whose command ran
-pub does_by : {V : Type 0} (job : Job) (meaning : Meaning V) (v : V) (closing : V → List ℕ) (unread unread' held held' : Option (List ℕ)) (result : Result (Unit {0}) RunFault) →
-    RunsWhole meaning v closing unread unread' held held' result → ((tells : Tells) → tells V meaning v closing → ByCommand job tells) → DoesJob job unread unread' held held' result
+pub does_by : {V : Type 0} (job : Job) (meaning : Meaning V) (v : V) (closing : V → List ℕ)
+    (unread unread' held held' : Option (List ℕ)) (result : Result (Unit {0}) RunFault) →
+    RunsWhole meaning v closing unread unread' held held' result
+    → ((tells : Tells) → tells V meaning v closing → ByCommand job tells)
+    → DoesJob job unread unread' held held' result
 does_by job meaning v closing unread unread' held held' result ran by = elim ran [
-  | inl (fault, is, breaks) ↦ inl (fault, is, by (λ V meaning start closing. Breaks meaning start closing unread unread' held held' fault) breaks)
-  | inr (input, written, is_input, prints, appends) ↦ inr (input, written, is_input, by (λ V meaning start closing. Prints meaning start closing input result written) prints, appends)
+  | inl (fault, is, breaks) ↦ inl
+      (fault, is, by (λ V meaning start closing. Breaks meaning start closing unread unread' held held' fault) breaks)
+  | inr (input, written, is_input, prints, appends) ↦ inr (
+    input,
+    written,
+    is_input,
+    by (λ V meaning start closing. Prints meaning start closing input result written)
+        prints,
+    appends,
+  )
 ]
 
 -- ---- a job whose encoder was refused
-pub setup_refused : (job : Job) (o : Options) (fault : RunFault) → Describes job o → RefusesSetup o fault → RefusesJob job fault
+pub setup_refused : (job : Job) (o : Options) (fault : RunFault) → Describes job o → RefusesSetup o fault
+    → RefusesJob job fault
 setup_refused Show o fault is refused = absurd is
 setup_refused Make o fault is refused = absurd is
-setup_refused (Answer site encoder sets services store) o fault is refused = subst (λ o. RefusesSetup o fault) is refused
+setup_refused (Answer site encoder sets services store) o fault is refused =
+    subst (λ o. RefusesSetup o fault) is refused
 setup_refused (Line site encoder sets services store) o fault is refused = subst (λ o. RefusesSetup o fault) is refused
-setup_refused (Encoder site encoder sets services port connections turns) o fault is refused = subst (λ o. RefusesSetup o fault) is refused
+setup_refused (Encoder site encoder sets services port connections turns) o fault is refused =
+    subst (λ o. RefusesSetup o fault) is refused
 setup_refused (Server site encoder host port tries timeout turns reconnects window join) o fault is refused = absurd is
 
 -- ---- each command
-pub showed : (s : Showing) (unread unread' held held' : Option (List ℕ)) (result : Result (Unit {0}) RunFault) → s.deframer ≡ Closed →
-    RunsWhole (λ (s : Showing) text outcome (s' : Showing). Shows s.deframer text outcome s'.deframer) s (λ _. []) unread unread' held held' result →
+pub showed : (s : Showing) (unread unread' held held' : Option (List ℕ)) (result : Result (Unit {0}) RunFault)
+    → s.deframer ≡ Closed →
+    RunsWhole (λ (s : Showing) text outcome (s' : Showing). Shows s.deframer text outcome s'.deframer) s (λ _. [])
+    unread unread' held held' result →
     DoesJob Show unread unread' held held' result
 showed s unread unread' held held' result closed ran =
     does_by Show Shows Closed (λ part. []) unread unread' held held' result
     (subst (λ part. RunsWhole Shows part (λ part. []) unread unread' held held' result) closed
-    (whole_part {F = ℕ} (λ (s : Showing) text outcome (s' : Showing). Shows s.deframer text outcome s'.deframer) Shows (λ (s : Showing). s.deframer) (λ _. 0) (λ v text outcome v' m. (m, refl))
+    (whole_part {F = ℕ} (λ (s : Showing) text outcome (s' : Showing). Shows s.deframer text outcome s'.deframer) Shows
+    (λ (s : Showing). s.deframer) (λ _. 0) (λ v text outcome v' m. (m, refl))
     s (λ _. []) (λ _ part. []) unread unread' held held' result (λ v'. refl) ran))
     (λ tells told. told)
 
-pub made : (m : Making) (unread unread' held held' : Option (List ℕ)) (result : Result (Unit {0}) RunFault) → m.frame ≡ None →
-    RunsWhole (λ (m : Making) text outcome (m' : Making). Makes m.frame text outcome m'.frame) m (λ (m : Making). spelled_line m.frame) unread unread' held held' result →
+pub made : (m : Making) (unread unread' held held' : Option (List ℕ)) (result : Result (Unit {0}) RunFault)
+    → m.frame ≡ None →
+    RunsWhole (λ (m : Making) text outcome (m' : Making). Makes m.frame text outcome m'.frame) m
+    (λ (m : Making). spelled_line m.frame) unread unread' held held' result →
     DoesJob Make unread unread' held held' result
 made m unread unread' held held' result none ran =
     does_by Make Makes None spelled_line unread unread' held held' result
     (subst (λ frame. RunsWhole Makes frame spelled_line unread unread' held held' result) none
-    (whole_part {F = ℕ} (λ (m : Making) text outcome (m' : Making). Makes m.frame text outcome m'.frame) Makes (λ (m : Making). m.frame) (λ _. 0) (λ v text outcome v' m. (m, refl))
-    m (λ (m : Making). spelled_line m.frame) (λ _ frame. spelled_line frame) unread unread' held held' result (λ v'. refl) ran))
+    (whole_part {F = ℕ} (λ (m : Making) text outcome (m' : Making). Makes m.frame text outcome m'.frame) Makes
+    (λ (m : Making). m.frame) (λ _. 0) (λ v text outcome v' m. (m, refl))
+    m (λ (m : Making). spelled_line m.frame) (λ _ frame. spelled_line frame) unread unread' held held' result
+    (λ v'. refl) ran))
     (λ tells told. told)
 
-pub answered : (o : Options) (asked : Bool) (a : Answering) (unread unread' held held' : Option (List ℕ)) (result : Result (Unit {0}) RunFault) →
+pub answered : (o : Options) (asked : Bool) (a : Answering) (unread unread' held held' : Option (List ℕ))
+    (result : Result (Unit {0}) RunFault) →
     (a.encoder ≡ encoder_at_first o) × (a.store ≡ asked) →
-    RunsWhole (λ (a : Answering) text outcome (a' : Answering). Answers a.encoder text outcome a'.encoder × (a'.store ≡ a.store)) a (λ (a : Answering). last_lines a.store a.encoder.value)
+    RunsWhole (λ (a : Answering) text outcome (a' : Answering). Answers a.encoder text outcome a'.encoder
+    × (a'.store ≡ a.store)) a (λ (a : Answering). last_lines a.store a.encoder.value)
     unread unread' held held' result →
     RunsWhole Answers (encoder_at_first o) (λ e. last_lines asked e.value) unread unread' held held' result
 answered o asked a unread unread' held held' result (encoder, store) ran =
-    subst (λ s. RunsWhole Answers (encoder_at_first o) (λ e. last_lines s e.value) unread unread' held held' result) store
+    subst (λ s. RunsWhole Answers (encoder_at_first o) (λ e. last_lines s e.value) unread unread' held held' result)
+    store
     (subst (λ e. RunsWhole Answers e (λ e. last_lines a.store e.value) unread unread' held held' result) encoder
-    (whole_part (λ (a : Answering) text outcome (a' : Answering). Answers a.encoder text outcome a'.encoder × (a'.store ≡ a.store)) Answers (λ (a : Answering). a.encoder) (λ (a : Answering). a.store)
-    (λ v text outcome v' m. m) a (λ (a : Answering). last_lines a.store a.encoder.value) (λ s e. last_lines s e.value) unread unread' held held' result (λ v'. refl) ran))
+    (whole_part (λ (a : Answering) text outcome (a' : Answering). Answers a.encoder text outcome a'.encoder
+    × (a'.store ≡ a.store)) Answers (λ (a : Answering). a.encoder) (λ (a : Answering). a.store)
+    (λ v text outcome v' m. m) a (λ (a : Answering). last_lines a.store a.encoder.value) (λ s e. last_lines s e.value)
+    unread unread' held held' result (λ v'. refl) ran))
 
-pub played : (o : Options) (asked : Bool) (p : Playing) (unread unread' held held' : Option (List ℕ)) (result : Result (Unit {0}) RunFault) →
+pub played : (o : Options) (asked : Bool) (p : Playing) (unread unread' held held' : Option (List ℕ))
+    (result : Result (Unit {0}) RunFault) →
     (p.line ≡ line_at_first o) × (p.store ≡ asked) →
-    RunsWhole (λ (p : Playing) text outcome (p' : Playing). Plays p.line text outcome p'.line × (p'.store ≡ p.store)) p (λ (p : Playing). closing_lines p.store p.line)
+    RunsWhole (λ (p : Playing) text outcome (p' : Playing). Plays p.line text outcome p'.line × (p'.store ≡ p.store)) p
+    (λ (p : Playing). closing_lines p.store p.line)
     unread unread' held held' result →
     RunsWhole Plays (line_at_first o) (closing_lines asked) unread unread' held held' result
 played o asked p unread unread' held held' result (line, store) ran =
     subst (λ s. RunsWhole Plays (line_at_first o) (closing_lines s) unread unread' held held' result) store
     (subst (λ l. RunsWhole Plays l (closing_lines p.store) unread unread' held held' result) line
-    (whole_part (λ (p : Playing) text outcome (p' : Playing). Plays p.line text outcome p'.line × (p'.store ≡ p.store)) Plays (λ (p : Playing). p.line) (λ (p : Playing). p.store)
-    (λ v text outcome v' m. m) p (λ (p : Playing). closing_lines p.store p.line) closing_lines unread unread' held held' result (λ v'. refl) ran))
+    (whole_part (λ (p : Playing) text outcome (p' : Playing). Plays p.line text outcome p'.line × (p'.store ≡ p.store))
+    Plays (λ (p : Playing). p.line) (λ (p : Playing). p.store)
+    (λ v text outcome v' m. m) p (λ (p : Playing). closing_lines p.store p.line) closing_lines unread unread' held held'
+    result (λ v'. refl) ran))
 
 -- ---- by the status of what stopped a job
 pub not_failed : (fault : RunFault) (status : ℕ) → Fails fault → status_of fault ≡ status → status ≡ 3
@@ -102,28 +134,39 @@ not_failed run.Connection status f is = absurd f
 not_failed run.Outstanding status f is = absurd f
 
 -- what a job failed for
-pub breaks_fails : {V : Type 0} (meaning : Meaning V) (start : V) (closing : V → List ℕ) (unread unread' held held' : Option (List ℕ)) (fault : RunFault) → Breaks meaning start closing unread unread' held held' fault → Fails fault
+pub breaks_fails : {V : Type 0} (meaning : Meaning V) (start : V) (closing : V → List ℕ)
+    (unread unread' held held' : Option (List ℕ)) (fault : RunFault)
+    → Breaks meaning start closing unread unread' held held' fault → Fails fault
 breaks_fails meaning start closing unread unread' held held' run.TooLong breaks = tt
 breaks_fails meaning start closing unread unread' held held' run.Reading breaks = tt
 breaks_fails meaning start closing unread unread' held held' run.Writing breaks = tt
 breaks_fails meaning start closing unread unread' held held' run.OutOfMemory breaks = tt
-breaks_fails meaning start closing unread unread' held held' fault breaks = elim breaks [ inl ((read, consumed, stops), same) ↦ absurd stops | inr (input, is_input, some) ↦ absurd some ]
+breaks_fails meaning start closing unread unread' held held' fault breaks =
+    elim breaks [ inl ((read, consumed, stops), same) ↦ absurd stops | inr (input, is_input, some) ↦ absurd some ]
 
 -- what follows from what is told of any meaning
-from_command : (job : Job) (tells : Tells) (P : Type 0) → ((V : Type 0) (meaning : Meaning V) (start : V) (closing : V → List ℕ) → tells V meaning start closing → P) → ByCommand job tells → P
+from_command : (job : Job) (tells : Tells) (P : Type 0)
+    → ((V : Type 0) (meaning : Meaning V) (start : V) (closing : V → List ℕ) → tells V meaning start closing → P)
+    → ByCommand job tells → P
 from_command Show tells P follows told = follows _ _ _ _ told
 from_command Make tells P follows told = follows _ _ _ _ told
 from_command (Answer site encoder sets services store) tells P follows told = follows _ _ _ _ told
 from_command (Line site encoder sets services store) tells P follows told = follows _ _ _ _ told
-from_command (Server site encoder host port tries timeout turns reconnects window join) tells P follows told = absurd told
+from_command (Server site encoder host port tries timeout turns reconnects window join) tells P follows told =
+    absurd told
 from_command (Encoder site encoder sets services port connections turns) tells P follows told = absurd told
 
-pub job_breaks_fails : (job : Job) (unread unread' held held' : Option (List ℕ)) (fault : RunFault) → JobBreaks job unread unread' held held' fault → Fails fault
+pub job_breaks_fails : (job : Job) (unread unread' held held' : Option (List ℕ)) (fault : RunFault)
+    → JobBreaks job unread unread' held held' fault → Fails fault
 job_breaks_fails job unread unread' held held' fault breaks =
-    from_command job (λ V meaning start closing. Breaks meaning start closing unread unread' held held' fault) (Fails fault) (λ V meaning start closing. breaks_fails meaning start closing unread unread' held held' fault) breaks
+    from_command job (λ V meaning start closing. Breaks meaning start closing unread unread' held held' fault)
+    (Fails fault) (λ V meaning start closing. breaks_fails meaning start closing unread unread' held held' fault)
+    breaks
 
 -- what is told of every meaning
-of_local : (job : Job) → IsLocal job → (tells : Tells) → ((V : Type 0) (meaning : Meaning V) (start : V) (closing : V → List ℕ) → tells V meaning start closing) → ByCommand job tells
+of_local : (job : Job) → IsLocal job → (tells : Tells)
+    → ((V : Type 0) (meaning : Meaning V) (start : V) (closing : V → List ℕ) → tells V meaning start closing)
+    → ByCommand job tells
 of_local Show local tells told = told _ _ _ _
 of_local Make local tells told = told _ _ _ _
 of_local (Answer site encoder sets services store) local tells told = told _ _ _ _
@@ -132,7 +175,8 @@ of_local (Server site encoder host port tries timeout turns reconnects window jo
 of_local (Encoder site encoder sets services port connections turns) local tells told = absurd local
 
 -- a text that stops a run has status 1 or 3
-stop_status : {V : Type 0} (meaning : Meaning V) (v v' : V) (texts : List (ℕ × List ℕ)) (lines : List ℕ) (fault : RunFault) → Runs meaning v texts lines (Some fault) v' → status_of fault ≡ 2 → ⊥
+stop_status : {V : Type 0} (meaning : Meaning V) (v v' : V) (texts : List (ℕ × List ℕ)) (lines : List ℕ)
+    (fault : RunFault) → Runs meaning v texts lines (Some fault) v' → status_of fault ≡ 2 → ⊥
 stop_status meaning v v' [] lines fault (lines_are, stop, same) is = let none : Some fault ≡ None = stop in cc
 stop_status meaning v v' ((number, text) ∷ texts) lines fault ran is = elim ran [
   | inl taken ↦ stop_status meaning taken.2 v' texts taken.1 fault taken.5 is
@@ -144,16 +188,21 @@ stop_status meaning v v' ((number, text) ∷ texts) lines fault ran is = elim ra
       let two : 3 ≡ 2 = sym (ap status_of same) ∙ is in omega (arith, two)
 ]
 
-prints_status : (job : Job) (input written : List ℕ) (fault : RunFault) → JobPrints job input (Err fault) written → status_of fault ≡ 2 → ⊥
+prints_status : (job : Job) (input written : List ℕ) (fault : RunFault) → JobPrints job input (Err fault) written
+    → status_of fault ≡ 2 → ⊥
 prints_status Show input written fault (v', ran) is = stop_status Shows _ v' (texts_of input) written fault ran is
 prints_status Make input written fault (v', ran) is = stop_status Makes _ v' (texts_of input) written fault ran is
-prints_status (Answer site encoder sets services store) input written fault (v', ran) is = stop_status Answers _ v' (texts_of input) written fault ran is
-prints_status (Line site encoder sets services store) input written fault (v', ran) is = stop_status Plays _ v' (texts_of input) written fault ran is
-prints_status (Server site encoder host port tries timeout turns reconnects window join) input written fault prints is = absurd prints
+prints_status (Answer site encoder sets services store) input written fault (v', ran) is =
+    stop_status Answers _ v' (texts_of input) written fault ran is
+prints_status (Line site encoder sets services store) input written fault (v', ran) is =
+    stop_status Plays _ v' (texts_of input) written fault ran is
+prints_status (Server site encoder host port tries timeout turns reconnects window join) input written fault prints is =
+    absurd prints
 prints_status (Encoder site encoder sets services port connections turns) input written fault prints is = absurd prints
 
 -- where no text ends a run, one that a text stops has status 1
-no_end : {V : Type 0} (meaning : Meaning V) (never : (v : V) (text lines : List ℕ) (v' : V) → meaning v text (Ends lines) v' → ⊥) (v v' : V) (texts : List (ℕ × List ℕ)) (lines : List ℕ) (fault : RunFault) →
+no_end : {V : Type 0} (meaning : Meaning V) (never : (v : V) (text lines : List ℕ) (v' : V)
+    → meaning v text (Ends lines) v' → ⊥) (v v' : V) (texts : List (ℕ × List ℕ)) (lines : List ℕ) (fault : RunFault) →
     Runs meaning v texts lines (Some fault) v' → status_of fault ≡ 3 → ⊥
 no_end meaning never v v' [] lines fault (lines_are, stop, same) is = let none : Some fault ≡ None = stop in cc
 no_end meaning never v v' ((number, text) ∷ texts) lines fault ran is = elim ran [
@@ -164,52 +213,81 @@ no_end meaning never v v' ((number, text) ∷ texts) lines fault ran is = elim r
   | inr (inr (ended, stop)) ↦ never v text lines v' ended
 ]
 
-local_status : (job : Job) → IsLocal job → (input written : List ℕ) (fault : RunFault) → JobPrints job input (Err fault) written → status_of fault ≡ 3 → ⊥
-local_status Show local input written fault (v', ran) is = no_end Shows (λ v text lines v' ended. ended) _ v' (texts_of input) written fault ran is
-local_status Make local input written fault (v', ran) is = no_end Makes (λ v text lines v' ended. ended) _ v' (texts_of input) written fault ran is
-local_status (Answer site encoder sets services store) local input written fault (v', ran) is = no_end Answers (λ v text lines v' ended. ended) _ v' (texts_of input) written fault ran is
-local_status (Line site encoder sets services store) local input written fault (v', ran) is = no_end Plays (λ v text lines v' ended. ended) _ v' (texts_of input) written fault ran is
-local_status (Server site encoder host port tries timeout turns reconnects window join) local input written fault prints is = local
+local_status : (job : Job) → IsLocal job → (input written : List ℕ) (fault : RunFault)
+    → JobPrints job input (Err fault) written → status_of fault ≡ 3 → ⊥
+local_status Show local input written fault (v', ran) is =
+    no_end Shows (λ v text lines v' ended. ended) _ v' (texts_of input) written fault ran is
+local_status Make local input written fault (v', ran) is =
+    no_end Makes (λ v text lines v' ended. ended) _ v' (texts_of input) written fault ran is
+local_status (Answer site encoder sets services store) local input written fault (v', ran) is =
+    no_end Answers (λ v text lines v' ended. ended) _ v' (texts_of input) written fault ran is
+local_status (Line site encoder sets services store) local input written fault (v', ran) is =
+    no_end Plays (λ v text lines v' ended. ended) _ v' (texts_of input) written fault ran is
+local_status (Server site encoder host port tries timeout turns reconnects window join) local input written fault prints
+    is = local
 local_status (Encoder site encoder sets services port connections turns) local input written fault prints is = local
 
 -- a refusal of status 3 is want of memory
-pub setup_wants : (o : Options) (fault : RunFault) → RefusesSetup o fault → status_of fault ≡ 3 → fault ≡ run.OutOfMemory
+pub setup_wants : (o : Options) (fault : RunFault) → RefusesSetup o fault → status_of fault ≡ 3
+    → fault ≡ run.OutOfMemory
 setup_wants o fault (inl (store.OutOfMemory, refused, says)) is = says
-setup_wants o fault (inl (store.SetCount, refused, says)) is = absurd (let two : 2 ≡ 3 = sym (ap status_of says) ∙ is in omega (arith, two))
-setup_wants o fault (inl (store.ServiceCount, refused, says)) is = absurd (let two : 2 ≡ 3 = sym (ap status_of says) ∙ is in omega (arith, two))
-setup_wants o fault (inl (store.ServiceZero, refused, says)) is = absurd (let two : 2 ≡ 3 = sym (ap status_of says) ∙ is in omega (arith, two))
-setup_wants o fault (inl (store.ServiceTwice, refused, says)) is = absurd (let two : 2 ≡ 3 = sym (ap status_of says) ∙ is in omega (arith, two))
-setup_wants o fault (inr (address, none, apart)) is = absurd (let two : 2 ≡ 3 = sym (ap status_of address) ∙ is in omega (arith, two))
+setup_wants o fault (inl (store.SetCount, refused, says)) is =
+    absurd (let two : 2 ≡ 3 = sym (ap status_of says) ∙ is in omega (arith, two))
+setup_wants o fault (inl (store.ServiceCount, refused, says)) is =
+    absurd (let two : 2 ≡ 3 = sym (ap status_of says) ∙ is in omega (arith, two))
+setup_wants o fault (inl (store.ServiceZero, refused, says)) is =
+    absurd (let two : 2 ≡ 3 = sym (ap status_of says) ∙ is in omega (arith, two))
+setup_wants o fault (inl (store.ServiceTwice, refused, says)) is =
+    absurd (let two : 2 ≡ 3 = sym (ap status_of says) ∙ is in omega (arith, two))
+setup_wants o fault (inr (address, none, apart)) is =
+    absurd (let two : 2 ≡ 3 = sym (ap status_of address) ∙ is in omega (arith, two))
 
-job_wants : (job : Job) → IsLocal job → (fault : RunFault) → RefusesJob job fault → status_of fault ≡ 3 → fault ≡ run.OutOfMemory
+job_wants : (job : Job) → IsLocal job → (fault : RunFault) → RefusesJob job fault → status_of fault ≡ 3
+    → fault ≡ run.OutOfMemory
 job_wants Show local fault refused is = absurd refused
 job_wants Make local fault refused is = absurd refused
-job_wants (Answer site encoder sets services store) local fault refused is = setup_wants (options site encoder sets services.items) fault refused is
-job_wants (Line site encoder sets services store) local fault refused is = setup_wants (options site encoder sets services.items) fault refused is
-job_wants (Server site encoder host port tries timeout turns reconnects window join) local fault refused is = absurd local
+job_wants (Answer site encoder sets services store) local fault refused is =
+    setup_wants (options site encoder sets services.items) fault refused is
+job_wants (Line site encoder sets services store) local fault refused is =
+    setup_wants (options site encoder sets services.items) fault refused is
+job_wants (Server site encoder host port tries timeout turns reconnects window join) local fault refused is =
+    absurd local
 job_wants (Encoder site encoder sets services port connections turns) local fault refused is = absurd local
 
 -- a job for which memory was wanting before anything was read
-wants_first : (job : Job) → IsLocal job → (unread unread' held held' : Option (List ℕ)) → unread' ≡ unread → held' ≡ held → JobBreaks job unread unread' held held' run.OutOfMemory
+wants_first : (job : Job) → IsLocal job → (unread unread' held held' : Option (List ℕ)) → unread' ≡ unread
+    → held' ≡ held → JobBreaks job unread unread' held held' run.OutOfMemory
 wants_first job local unread unread' held held' unmoved unwritten =
-    of_local job local (λ V meaning start closing. Breaks meaning start closing unread unread' held held' run.OutOfMemory)
-    (λ V meaning start closing. inl (([], subst (λ left. Consumes unread left []) (sym unmoved) (Consumes-nil unread), tt), unwritten))
+    of_local job local (λ V meaning start closing. Breaks meaning start closing unread unread' held held'
+    run.OutOfMemory)
+    (λ V meaning start closing. inl
+    (([], subst (λ left. Consumes unread left []) (sym unmoved) (Consumes-nil unread), tt), unwritten))
 
 says_status : (o : Options) (fault : RunFault) → RefusesSetup o fault → status_of fault ≡ 1 → ⊥
-says_status o fault (inl (store.OutOfMemory, refused, says)) is = let two : 3 ≡ 1 = sym (ap status_of says) ∙ is in omega (arith, two)
-says_status o fault (inl (store.SetCount, refused, says)) is = let two : 2 ≡ 1 = sym (ap status_of says) ∙ is in omega (arith, two)
-says_status o fault (inl (store.ServiceCount, refused, says)) is = let two : 2 ≡ 1 = sym (ap status_of says) ∙ is in omega (arith, two)
-says_status o fault (inl (store.ServiceZero, refused, says)) is = let two : 2 ≡ 1 = sym (ap status_of says) ∙ is in omega (arith, two)
-says_status o fault (inl (store.ServiceTwice, refused, says)) is = let two : 2 ≡ 1 = sym (ap status_of says) ∙ is in omega (arith, two)
-says_status o fault (inr (address, none, apart)) is = let two : 2 ≡ 1 = sym (ap status_of address) ∙ is in omega (arith, two)
+says_status o fault (inl (store.OutOfMemory, refused, says)) is = let two : 3 ≡ 1 = sym (ap status_of says) ∙ is in
+    omega (arith, two)
+says_status o fault (inl (store.SetCount, refused, says)) is = let two : 2 ≡ 1 = sym (ap status_of says) ∙ is in
+    omega (arith, two)
+says_status o fault (inl (store.ServiceCount, refused, says)) is = let two : 2 ≡ 1 = sym (ap status_of says) ∙ is in
+    omega (arith, two)
+says_status o fault (inl (store.ServiceZero, refused, says)) is = let two : 2 ≡ 1 = sym (ap status_of says) ∙ is in
+    omega (arith, two)
+says_status o fault (inl (store.ServiceTwice, refused, says)) is = let two : 2 ≡ 1 = sym (ap status_of says) ∙ is in
+    omega (arith, two)
+says_status o fault (inr (address, none, apart)) is = let two : 2 ≡ 1 = sym (ap status_of address) ∙ is in
+    omega (arith, two)
 
 pub job_status : (job : Job) (fault : RunFault) → RefusesJob job fault → status_of fault ≡ 1 → ⊥
 job_status Show fault refused is = refused
 job_status Make fault refused is = refused
-job_status (Answer site encoder sets services store) fault refused is = says_status (options site encoder sets services.items) fault refused is
-job_status (Line site encoder sets services store) fault refused is = says_status (options site encoder sets services.items) fault refused is
-job_status (Encoder site encoder sets services port connections turns) fault refused is = says_status (options site encoder sets services.items) fault refused is
-job_status (Server site encoder host port tries timeout turns reconnects window join) fault refused is = let two : 2 ≡ 1 = sym (ap status_of refused.0) ∙ is in omega (arith, two)
+job_status (Answer site encoder sets services store) fault refused is =
+    says_status (options site encoder sets services.items) fault refused is
+job_status (Line site encoder sets services store) fault refused is =
+    says_status (options site encoder sets services.items) fault refused is
+job_status (Encoder site encoder sets services port connections turns) fault refused is =
+    says_status (options site encoder sets services.items) fault refused is
+job_status (Server site encoder host port tries timeout turns reconnects window join) fault refused is =
+    let two : 2 ≡ 1 = sym (ap status_of refused.0) ∙ is in omega (arith, two)
 
 -- a run that stopped for this
 abbrev pub stopped : RunFault → Result (Unit {0}) RunFault
@@ -219,27 +297,42 @@ pub same_fault : (a b : RunFault) → stopped a ≡ stopped b → a ≡ b
 same_fault a b e = let same : Err a ≡ Err b = e in cc
 
 module _ (job : Job) (unread unread' held held' : Option (List ℕ)) (unmoved unwritten : Type 0) (fault : RunFault)
-    (does : ((f : RunFault) × (stopped fault ≡ stopped f) × RefusesJob job f × unmoved × unwritten) ⊎ DoesJob job unread unread' held held' (stopped fault)) where
+    (does : ((f : RunFault) × (stopped fault ≡ stopped f) × RefusesJob job f × unmoved × unwritten)
+    ⊎ DoesJob job unread unread' held held' (stopped fault)) where
   pub refused_by : status_of fault ≡ 1 → Wrote job unread unread' (Err fault) held held'
   refused_by is = elim does [
-    | inl (f, same, refused, reader, writer) ↦ absurd (job_status job f refused (sym (ap status_of (same_fault fault f same)) ∙ is))
-    | inr (inl (f, same, breaks)) ↦ absurd (let one : 1 ≡ 3 = not_failed f 1 (job_breaks_fails job unread unread' held held' f breaks) (sym (ap status_of (same_fault fault f same)) ∙ is) in omega (arith, one))
+    | inl (f, same, refused, reader, writer) ↦ absurd
+        (job_status job f refused (sym (ap status_of (same_fault fault f same)) ∙ is))
+    | inr (inl (f, same, breaks)) ↦ absurd (let one : 1
+        ≡ 3 = not_failed f 1 (job_breaks_fails job unread unread' held held' f breaks)
+        (sym (ap status_of (same_fault fault f same)) ∙ is) in omega (arith, one))
     | inr (inr wrote) ↦ wrote
   ]
 
   pub undescribed_by : status_of fault ≡ 2 → RefusesJob job fault × unmoved × unwritten
   undescribed_by is = elim does [
-    | inl (f, same, refused, reader, writer) ↦ (subst (RefusesJob job) (sym (same_fault fault f same)) refused, reader, writer)
-    | inr (inl (f, same, breaks)) ↦ absurd (let one : 2 ≡ 3 = not_failed f 2 (job_breaks_fails job unread unread' held held' f breaks) (sym (ap status_of (same_fault fault f same)) ∙ is) in omega (arith, one))
+    | inl (f, same, refused, reader, writer) ↦ (
+      subst (RefusesJob job) (sym (same_fault fault f same)) refused,
+      reader,
+      writer,
+    )
+    | inr (inl (f, same, breaks)) ↦ absurd (let one : 2
+        ≡ 3 = not_failed f 2 (job_breaks_fails job unread unread' held held' f breaks)
+        (sym (ap status_of (same_fault fault f same)) ∙ is) in omega (arith, one))
     | inr (inr (input, written, is_input, prints, appends)) ↦ absurd (prints_status job input written fault prints is)
   ]
 
-  pub failed_by : IsLocal job → (unmoved → unread' ≡ unread) → (unwritten → held' ≡ held) → status_of fault ≡ 3 → JobBreaks job unread unread' held held' fault
+  pub failed_by : IsLocal job → (unmoved → unread' ≡ unread) → (unwritten → held' ≡ held) → status_of fault ≡ 3
+      → JobBreaks job unread unread' held held' fault
   failed_by local stays kept is = elim does [
     | inl (f, same, refused, reader, writer) ↦
         (let same_as = same_fault fault f same in
-        let wanting : fault ≡ run.OutOfMemory = same_as ∙ job_wants job local f refused (sym (ap status_of same_as) ∙ is) in
-        subst (JobBreaks job unread unread' held held') (sym wanting) (wants_first job local unread unread' held held' (stays reader) (kept writer)))
-    | inr (inl (f, same, breaks)) ↦ subst (JobBreaks job unread unread' held held') (sym (same_fault fault f same)) breaks
-    | inr (inr (input, written, is_input, prints, appends)) ↦ absurd (local_status job local input written fault prints is)
+        let wanting : fault ≡ run.OutOfMemory = same_as ∙ job_wants job local f refused
+        (sym (ap status_of same_as) ∙ is) in
+        subst (JobBreaks job unread unread' held held') (sym wanting)
+        (wants_first job local unread unread' held held' (stays reader) (kept writer)))
+    | inr (inl (f, same, breaks)) ↦ subst (JobBreaks job unread unread' held held') (sym (same_fault fault f same))
+        breaks
+    | inr (inr (input, written, is_input, prints, appends)) ↦ absurd
+        (local_status job local input written fault prints is)
   ]

@@ -14,7 +14,8 @@ use Rattle.uecp_lines.specs.Steps.{totals_line}
 -- ---- lines
 
 -- a comment and an empty line are passed over and counted, one carriage return goes, and a last line needs no end
-lines_with_all : texts_of (codes "# first\n  FE 41 \r\n\n00\r\r\n FF") ≡ (2, codes "FE 41") ∷ (4, codes "00\r") ∷ (5, codes "FF") ∷ []
+lines_with_all : texts_of (codes "# first\n  FE 41 \r\n\n00\r\r\n FF") ≡ (2, codes "FE 41") ∷ (4, codes "00\r")
+    ∷ (5, codes "FF") ∷ []
 unfolding lines_of numbered
 lines_with_all = refl
 

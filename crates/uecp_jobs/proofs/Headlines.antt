@@ -1,9 +1,11 @@
 -- The headline, of the line that a script leaves.
-use Rattle.std.proofs.Common.{◌≡◌, ℕ, List, [], ◌∷◌, ◌++◌, Option, Some, None, Ok, Err, refl, ap, sym, ◌∙◌, subst, inl, inr, ◌⊎◌}
+use Rattle.std.proofs.Common.{◌≡◌, ℕ, List, [], ◌∷◌, ◌++◌, Option, Some, None, Ok, Err, refl, ap, sym, ◌∙◌, subst, inl}
+use Rattle.std.proofs.Common.{inr, ◌⊎◌}
 use Rattle.rds_store.specs.Value.{Store}
 use Rattle.rds_store.specs.Opening.{opening}
 use Rattle.rds_store.specs.Step.{step, group_taken}
-use Rattle.uecp_link.specs.Once.{Event, Submit, FrameComes, ReplyComes, NoiseToEncoder, NoiseToServer, EncoderLost, ServerLost, Take, Once, after, at_first}
+use Rattle.uecp_link.specs.Once.{Event, Submit, FrameComes, ReplyComes, NoiseToEncoder, NoiseToServer, EncoderLost}
+use Rattle.uecp_link.specs.Once.{ServerLost, Take, Once, after, at_first}
 use Rattle.uecp_link.specs.Law.{Fits}
 use Rattle.uecp_link.specs.Holds.{LineState, Outcome, Holds, history_by, line_from, new_line}
 use Rattle.uecp_link.specs.Headline.{IsHeadline}
@@ -33,29 +35,37 @@ named_fits words ServerLost names = tt
 named_fits words Take names = tt
 
 -- from a line that joined on, steps keep the headline, with the store that the line before it left
-since_joined : (left joined : LineState Store) (given_up : ℕ) → Restarts step left given_up joined → (events : List Event) (outcomes : List Outcome) (line : LineState Store) (o : Once Store) →
-    PlaysSteps step group_taken joined (at_first left.encoder.value) events outcomes line o → IsHeadline step group_taken left.encoder.address left.encoder.value (history_by events outcomes) line
+since_joined : (left joined : LineState Store) (given_up : ℕ) → Restarts step left given_up joined
+    → (events : List Event) (outcomes : List Outcome) (line : LineState Store) (o : Once Store) →
+    PlaysSteps step group_taken joined (at_first left.encoder.value) events outcomes line o
+    → IsHeadline step group_taken left.encoder.address left.encoder.value (history_by events outcomes) line
 since_joined left joined given_up restarts events outcomes line o plays =
     let e : EncoderState Store = joined.encoder in
-    let from : joined ≡ line_from e = restarts.begins ∙ ap line_from (sym (ap (λ (l : LineState Store). l.encoder) restarts.begins)) in
+    let from : joined ≡ line_from e = restarts.begins
+    ∙ ap line_from (sym (ap (λ (l : LineState Store). l.encoder) restarts.begins)) in
     let value : left.encoder.value ≡ e.value = sym restarts.joined.value_is in
     let moved : PlaysSteps step group_taken (line_from e) (at_first e.value) events outcomes line o =
     subst (λ (l : LineState Store). PlaysSteps step group_taken l (at_first e.value) events outcomes line o) from
     (subst (λ (v : Store). PlaysSteps step group_taken joined (at_first v) events outcomes line o) value plays) in
-    subst (λ (a : ℕ). IsHeadline step group_taken a left.encoder.value (history_by events outcomes) line) restarts.address
+    subst (λ (a : ℕ). IsHeadline step group_taken a left.encoder.value (history_by events outcomes) line)
+    restarts.address
     (subst (λ (v : Store). IsHeadline step group_taken e.address v (history_by events outcomes) line) (sym value)
     (headline_from step group_taken e (inr restarts.joined.kept) restarts.joined.closed events outcomes line o moved))
 
 -- a line that joined holds what a new once-machine with the store that was left holds
-joined_holds : (left joined : LineState Store) (given_up : ℕ) → Restarts step left given_up joined → Holds joined (at_first left.encoder.value)
+joined_holds : (left joined : LineState Store) (given_up : ℕ) → Restarts step left given_up joined
+    → Holds joined (at_first left.encoder.value)
 joined_holds left joined given_up restarts =
     let e : EncoderState Store = joined.encoder in
-    let from : joined ≡ line_from e = restarts.begins ∙ ap line_from (sym (ap (λ (l : LineState Store). l.encoder) restarts.begins)) in
+    let from : joined ≡ line_from e = restarts.begins
+    ∙ ap line_from (sym (ap (λ (l : LineState Store). l.encoder) restarts.begins)) in
     subst (λ (l : LineState Store). Holds l (at_first left.encoder.value)) (sym from)
-    (subst (λ (v : Store). Holds (line_from e) (at_first v)) restarts.joined.value_is (holds_from e restarts.joined.closed))
+    (subst (λ (v : Store). Holds (line_from e) (at_first v)) restarts.joined.value_is
+    (holds_from e restarts.joined.closed))
 
 -- The events that texts name are steps of the line, one by one.
-pub record Played (line : LineState Store) (o : Once Store) (texts : List (ℕ × List ℕ)) (stop : Option RunFault) (line' : LineState Store) : Type 0 where
+pub record Played (line : LineState Store) (o : Once Store) (texts : List (ℕ × List ℕ)) (stop : Option RunFault)
+    (line' : LineState Store) : Type 0 where
   pub events : List Event
   pub outcomes : List Outcome
   pub last : Once Store
@@ -63,7 +73,8 @@ pub record Played (line : LineState Store) (o : Once Store) (texts : List (ℕ �
   pub plays : PlaysSteps step group_taken line o events outcomes line' last
 
 -- a text more before those since which the headline is kept
-one_before : (line next line' : LineState Store) (number : ℕ) (text first : List ℕ) (texts : List (ℕ × List ℕ)) (stop : Option RunFault) → Plays line text (Brings first) next →
+one_before : (line next line' : LineState Store) (number : ℕ) (text first : List ℕ) (texts : List (ℕ × List ℕ))
+    (stop : Option RunFault) → Plays line text (Brings first) next →
     KeepsHeadlineSince next texts stop line' → KeepsHeadlineSince line ((number, text) ∷ texts) stop line'
 one_before line next line' number text first texts stop plays since = record {
   before = (number, text) ∷ since.before;
@@ -81,25 +92,44 @@ one_before line next line' number text first texts stop plays since = record {
 }
 
 -- the texts before the first that starts the server again, or all, and those since the last
-script_played : (line line' : LineState Store) (o : Once Store) (texts : List (ℕ × List ℕ)) (lines : List ℕ) (stop : Option RunFault) → Holds line o → Runs Plays line texts lines stop line' →
+script_played : (line line' : LineState Store) (o : Once Store) (texts : List (ℕ × List ℕ)) (lines : List ℕ)
+    (stop : Option RunFault) → Holds line o → Runs Plays line texts lines stop line' →
     Played line o texts stop line' ⊎ KeepsHeadlineSince line texts stop line'
-script_played line line' o [] lines stop holds ran = inl (record { events = []; outcomes = []; last = o; named = (ran.1, refl); plays = (ran.2, refl) })
+script_played line line' o [] lines stop holds ran =
+    inl (record { events = []; outcomes = []; last = o; named = (ran.1, refl); plays = (ran.2, refl) })
 script_played line line' o ((number, text) ∷ texts) lines stop holds ran = elim ran [
   | inl (first, rest, next, plays, lines_are, more) ↦ elim plays [
     | inl (event, names, what) ↦ elim what [
       | inl takes ↦ (let steps = takes.steps o holds in
           elim (script_played next line' (after step group_taken o event) texts rest stop steps.holds more) [
-            | inl p ↦ inl (record { events = event ∷ p.events; outcomes = Ok takes.answer ∷ p.outcomes; last = p.last; named = (names, p.named); plays = (next, (named_fits (words text) event names, steps), p.plays) })
-            | inr since ↦ inr (one_before line next line' number text first texts stop (inl (event, names, inl takes)) since)
+            | inl p ↦ inl (record {
+              events = event ∷ p.events;
+              outcomes = Ok takes.answer ∷ p.outcomes;
+              last = p.last;
+              named = (names, p.named);
+              plays = (next, (named_fits (words text) event names, steps), p.plays);
+            })
+            | inr since ↦ inr (one_before line next line' number text first texts stop (inl (event, names, inl takes))
+                since)
           ])
       | inr refused ↦
-          elim (script_played next line' o texts rest stop (subst (λ (l : LineState Store). Holds l o) (sym refused.unchanged) holds) more) [
-            | inl p ↦ inl (record { events = event ∷ p.events; outcomes = Err refused.refusal ∷ p.outcomes; last = p.last; named = (names, p.named); plays = (next, (refused.refuses o holds, refused.unchanged), p.plays) })
-            | inr since ↦ inr (one_before line next line' number text first texts stop (inl (event, names, inr refused)) since)
+          elim (script_played next line' o texts rest stop
+          (subst (λ (l : LineState Store). Holds l o) (sym refused.unchanged) holds) more) [
+            | inl p ↦ inl (record {
+              events = event ∷ p.events;
+              outcomes = Err refused.refusal ∷ p.outcomes;
+              last = p.last;
+              named = (names, p.named);
+              plays =
+                  (next, (refused.refuses o holds, refused.unchanged), p.plays);
+            })
+            | inr since ↦ inr (one_before line next line' number text first texts stop (inl (event, names, inr refused))
+                since)
           ]
     ]
     | inr again ↦
-        elim (script_played next line' (at_first line.encoder.value) texts rest stop (joined_holds line next again.given_up again.restarts) more) [
+        elim (script_played next line' (at_first line.encoder.value) texts rest stop
+        (joined_holds line next again.given_up again.restarts) more) [
           | inl p ↦ inr (record {
             before = [];
             restart = (number, text);
@@ -124,7 +154,14 @@ script_played line line' o ((number, text) ∷ texts) lines stop holds ran = eli
           | inr since ↦ inr (one_before line next line' number text first texts stop (inr again) since)
         ]
   ]
-  | inr (inl refused) ↦ inl (record { events = []; outcomes = []; last = o; named = (λ h. let some : None ≡ Some (RunFaults.Text number refused.0) = sym h ∙ refused.3 in cc); plays = (refused.1.3, refl) })
+  | inr (inl refused) ↦ inl (record {
+    events = [];
+    outcomes = [];
+    last = o;
+    named = (λ h. let some : None ≡ Some (RunFaults.Text number refused.0) = sym h ∙ refused.3 in cc);
+    plays =
+        (refused.1.3, refl);
+  })
   | inr (inr ended) ↦ absurd ended.0
 ]
 

@@ -1,5 +1,6 @@
 -- The job `server` by what was sent.
-use Rattle.std.proofs.Common.{◌≡◌, ◌⊎◌, ℕ, ◌≤◌, Bool, List, [], ◌∷◌, length, Option, Some, None, Result, Ok, Err, IfOk, IfErr, refl, sym, ap, subst, ◌∙◌, inl, inr, arith}
+use Rattle.std.proofs.Common.{◌≡◌, ◌⊎◌, ℕ, ◌≤◌, Bool, List, [], ◌∷◌, length, Option, Some, None, Result, Ok, Err, IfOk}
+use Rattle.std.proofs.Common.{IfErr, refl, sym, ap, subst, ◌∙◌, inl, inr, arith}
 use Rattle.uecp_text.specs.declared.run_fault.RunFault.{RunFault}
 use Rattle.uecp_text.specs.declared.run_fault.RunFault.TheVariants as run
 use Rattle.uecp_text.specs.declared.text_fault.TextFault.{TextFault}
@@ -16,17 +17,28 @@ use Rattle.uecp_jobs.specs.Setups.{address_of}
 use Rattle.uecp_jobs.specs.Jobs.{RefusesJob}
 use Rattle.uecp_jobs.specs.Messages.{spelled, refused_at, messages_first, refusal_in}
 use Rattle.uecp_jobs.specs.Batches.{batch_size, AreBatches}
-use Rattle.uecp_jobs.specs.ServerRun.{IsServer, sender_at_first, unconnected, SendsMessages, Sends, SendsNone, SendsUpTo, HasSentAll, HasSentBefore, HasNotSentAll, AreAcknowledged, AreAcknowledgedBefore, AreNotAcknowledged}
+use Rattle.uecp_jobs.specs.ServerRun.{IsServer, sender_at_first, unconnected, SendsMessages, Sends, SendsNone}
+use Rattle.uecp_jobs.specs.ServerRun.{SendsUpTo, HasSentAll, HasSentBefore, HasNotSentAll, AreAcknowledged}
+use Rattle.uecp_jobs.specs.ServerRun.{AreAcknowledgedBefore, AreNotAcknowledged}
 use Rattle.uecp_jobs.proofs.MessageTexts.{all_bring}
 use Rattle.uecp_jobs.proofs.JoiningFirst.{sent_run, stopped_run, run_status}
 
 -- ---- how it starts
 
-pub starts_so : {C I O : Type 0} (s : SenderOver C I O) (c : C) (given : ℕ) (server : ServerState) (address : ℕ) (limits : Limits) →
-    s ≡ unconnected c given (record { server = server; tries = limits.tries; turns = limits.turns; left = limits.reconnects }) → server ≡ idle_at address → s ≡ unconnected c s.loan (sender_at_first address limits)
+pub starts_so : {C I O : Type 0} (s : SenderOver C I O) (c : C) (given : ℕ) (server : ServerState) (address : ℕ)
+    (limits : Limits) →
+    s ≡ unconnected c given (record {
+      server = server;
+      tries = limits.tries;
+      turns = limits.turns;
+      left = limits.reconnects;
+    }) → server ≡ idle_at address
+    → s ≡ unconnected c s.loan (sender_at_first address limits)
 starts_so s c given server address limits made idle =
     made
-    ∙ ap (λ (server : ServerState). let s : SenderState = record { server = server; tries = limits.tries; turns = limits.turns; left = limits.reconnects } in unconnected c given s) idle
+    ∙ ap (λ (server : ServerState). let s : SenderState =
+    record { server = server; tries = limits.tries; turns = limits.turns; left = limits.reconnects } in
+    unconnected c given s) idle
     ∙ ap (λ n. unconnected c n (sender_at_first address limits)) (sym (ap (λ (d : SenderOver _ _ _). d.loan) made))
 
 pub ok_map : {A B : Type 0} (r : Result A B) (P Q : A → Type 0) → ((x : A) → P x → Q x) → IfOk r P → IfOk r Q
@@ -37,22 +49,42 @@ pub err_map : {A B : Type 0} (r : Result A B) (P Q : B → Type 0) → ((e : B) 
 err_map (Ok x) P Q follows holds = tt
 err_map (Err e) P Q follows holds = follows e holds
 
-module _ {C I O : Type 0} (opens : C → Option (I × O) → C → Type 0) (closes : C → I → O → C → Type 0) (remaining : I → Option (List ℕ)) (contents : O → Option (List ℕ)) where
-  pub sends_by : (address site encoder port tries timeout turns reconnects window size : ℕ) (join : Bool) (messages : List (List ℕ)) (input : List ℕ) (c c' : C) (held held' : Option (List ℕ)) (result : Result (Unit {0}) RunFault) →
+module _ {C I O : Type 0} (opens : C → Option (I × O) → C → Type 0) (closes : C → I → O → C → Type 0)
+    (remaining : I → Option (List ℕ)) (contents : O → Option (List ℕ)) where
+  pub sends_by : (address site encoder port tries timeout turns reconnects window size : ℕ) (join : Bool)
+      (messages : List (List ℕ)) (input : List ℕ) (c c' : C) (held held' : Option (List ℕ))
+      (result : Result (Unit {0}) RunFault) →
       address ≡ address_of site encoder → size ≡ batch_size window → messages ≡ messages_first (texts_of input) →
-      SendsMessages opens closes remaining contents address (record { tries = tries; turns = turns; reconnects = reconnects }) join size messages c c' held held' result →
-      SendsMessages opens closes remaining contents (address_of site encoder) (record { tries = tries; turns = turns; reconnects = reconnects }) join (batch_size window) (messages_first (texts_of input)) c c' held held' result
-  sends_by address site encoder port tries timeout turns reconnects window size join messages input c c' held held' result address_is size_is messages_are sends =
-      subst (λ a. SendsMessages opens closes remaining contents a (record { tries = tries; turns = turns; reconnects = reconnects }) join (batch_size window) (messages_first (texts_of input)) c c' held held' result) address_is
-      (subst (λ n. SendsMessages opens closes remaining contents address (record { tries = tries; turns = turns; reconnects = reconnects }) join n (messages_first (texts_of input)) c c' held held' result) size_is
-      (subst (λ ms. SendsMessages opens closes remaining contents address (record { tries = tries; turns = turns; reconnects = reconnects }) join size ms c c' held held' result) messages_are sends))
+      SendsMessages opens closes remaining contents address
+      (record { tries = tries; turns = turns; reconnects = reconnects }) join size messages c c' held held' result →
+      SendsMessages opens closes remaining contents (address_of site encoder)
+      (record { tries = tries; turns = turns; reconnects = reconnects }) join (batch_size window)
+      (messages_first (texts_of input)) c c' held held' result
+  sends_by address site encoder port tries timeout turns reconnects window size join messages input c c' held held'
+      result address_is size_is messages_are sends =
+      subst (λ a. SendsMessages opens closes remaining contents a
+      (record { tries = tries; turns = turns; reconnects = reconnects }) join (batch_size window)
+      (messages_first (texts_of input)) c c' held held' result) address_is
+      (subst (λ n. SendsMessages opens closes remaining contents address
+      (record { tries = tries; turns = turns; reconnects = reconnects }) join n (messages_first (texts_of input)) c
+      c' held held' result) size_is
+      (subst (λ ms. SendsMessages opens closes remaining contents address
+      (record { tries = tries; turns = turns; reconnects = reconnects }) join size ms c c' held held' result)
+      messages_are sends))
 
 -- a batch ended the run for this
-pub sent_to : {C I O : Type 0} (unmoved unwritten : Type 0) (opens : C → Option (I × O) → C → Type 0) (closes : C → I → O → C → Type 0) (remaining : I → Option (List ℕ)) (contents : O → Option (List ℕ)) (job : Job) (c c' : C) (unread unread' held held' : Option (List ℕ))
-    (result : Result (Unit {0}) RunFault) (fault : RunFault) → result ≡ Err fault → SendsUpTo opens closes remaining contents job c c' unread unread' held held' fault →
-    IfErr result (λ f. (RefusesJob job f × unmoved × unwritten × (c' ≡ c)) ⊎ ((SendsNone unread unread' held held' f × (c' ≡ c)) ⊎ SendsUpTo opens closes remaining contents job c c' unread unread' held held' f))
+pub sent_to : {C I O : Type 0} (unmoved unwritten : Type 0) (opens : C → Option (I × O) → C → Type 0)
+    (closes : C → I → O → C → Type 0) (remaining : I → Option (List ℕ)) (contents : O → Option (List ℕ)) (job : Job)
+    (c c' : C) (unread unread' held held' : Option (List ℕ))
+    (result : Result (Unit {0}) RunFault) (fault : RunFault) → result ≡ Err fault
+    → SendsUpTo opens closes remaining contents job c c' unread unread' held held' fault →
+    IfErr result (λ f. (RefusesJob job f × unmoved × unwritten × (c' ≡ c))
+    ⊎ ((SendsNone unread unread' held held' f × (c' ≡ c))
+    ⊎ SendsUpTo opens closes remaining contents job c c' unread unread' held held' f))
 sent_to unmoved unwritten opens closes remaining contents job c c' unread unread' held held' result fault is sends =
-    subst (λ r. IfErr r (λ f. (RefusesJob job f × unmoved × unwritten × (c' ≡ c)) ⊎ ((SendsNone unread unread' held held' f × (c' ≡ c)) ⊎ SendsUpTo opens closes remaining contents job c c' unread unread' held held' f))) (sym is) (inr (inr sends))
+    subst (λ r. IfErr r (λ f. (RefusesJob job f × unmoved × unwritten × (c' ≡ c))
+    ⊎ ((SendsNone unread unread' held held' f × (c' ≡ c))
+    ⊎ SendsUpTo opens closes remaining contents job c c' unread unread' held held' f))) (sym is) (inr (inr sends))
 
 -- ---- how it ends
 
@@ -60,7 +92,8 @@ some_size : (window : ℕ) → 1 ≤ batch_size window
 some_size window = omega arith
 
 server_refuses : (job : Job) (fault : RunFault) → IsServer job → RefusesJob job fault → status_of fault ≡ 2
-server_refuses (Server site encoder host port tries timeout turns reconnects window join) fault serves refused = ap status_of refused.0
+server_refuses (Server site encoder host port tries timeout turns reconnects window join) fault serves refused =
+    ap status_of refused.0
 server_refuses job fault serves refused = absurd serves
 
 stops_status : (fault : RunFault) (read : List ℕ) → StopsReading fault read → status_of fault ≡ 3
@@ -69,86 +102,146 @@ stops_status run.Reading read stops = refl
 stops_status run.OutOfMemory read stops = refl
 stops_status fault read stops = absurd stops
 
-none_status : (unread unread' held held' : Option (List ℕ)) (fault : RunFault) → SendsNone unread unread' held held' fault → status_of fault ≡ 3
+none_status : (unread unread' held held' : Option (List ℕ)) (fault : RunFault)
+    → SendsNone unread unread' held held' fault → status_of fault ≡ 3
 none_status unread unread' held held' fault (inl (read, consumed, stops), kept) = stops_status fault read stops
 none_status unread unread' held held' fault (inr (input, is_input, is), kept) = ap status_of is
 
-refused_here : (r : Result (List ℕ) TextFault) (number : ℕ) (later : Option RunFault) (fault : RunFault) → (later ≡ Some fault → status_of fault ≡ 1) → refused_at number r later ≡ Some fault → status_of fault ≡ 1
+refused_here : (r : Result (List ℕ) TextFault) (number : ℕ) (later : Option RunFault) (fault : RunFault)
+    → (later ≡ Some fault → status_of fault ≡ 1) → refused_at number r later ≡ Some fault → status_of fault ≡ 1
 refused_here (Ok message) number later fault next is = next is
-refused_here (Err refusal) number later fault next is = ap status_of (let same : run.Text number refusal ≡ fault = (let e : Some (run.Text number refusal) ≡ Some fault = is in cc) in sym same)
+refused_here (Err refusal) number later fault next is =
+    ap status_of (let same : run.Text number refusal
+    ≡ fault = (let e : Some (run.Text number refusal) ≡ Some fault = is in cc) in sym same)
 
 refused_status : (texts : List (ℕ × List ℕ)) (fault : RunFault) → refusal_in texts ≡ Some fault → status_of fault ≡ 1
 refused_status [] fault is = absurd (let no : None ≡ Some fault = is in cc)
-refused_status ((number, text) ∷ texts) fault is = refused_here (spelled text) number (refusal_in texts) fault (refused_status texts fault) is
+refused_status ((number, text) ∷ texts) fault is =
+    refused_here (spelled text) number (refusal_in texts) fault (refused_status texts fault) is
 
-module _ {C I O : Type 0} (opens : C → Option (I × O) → C → Type 0) (closes : C → I → O → C → Type 0) (remaining : I → Option (List ℕ)) (contents : O → Option (List ℕ)) (job : Job) (c c' : C) (unread unread' held held' : Option (List ℕ)) where
-  pub acknowledged_all : HasSentAll opens closes remaining contents job c c' unread unread' held held' → AreAcknowledged job unread unread' held held'
+module _ {C I O : Type 0} (opens : C → Option (I × O) → C → Type 0) (closes : C → I → O → C → Type 0)
+    (remaining : I → Option (List ℕ)) (contents : O → Option (List ℕ)) (job : Job) (c c' : C)
+    (unread unread' held held' : Option (List ℕ)) where
+  pub acknowledged_all : HasSentAll opens closes remaining contents job c c' unread unread' held held'
+      → AreAcknowledged job unread unread' held held'
   acknowledged_all (input, sends, none) = by job sends
     where
-      by : (job : Job) → Sends opens closes remaining contents job input c c' unread unread' held held' (Ok tt) → AreAcknowledged job unread unread' held held'
-      by (Server site encoder host port tries timeout turns reconnects window join) (one, is_input, (loan, s', ran, finishes)) =
-          let (batches, are, appends) = sent_run opens closes remaining contents join (batch_size window) (unconnected c loan (sender_at_first (address_of site encoder) (record { tries = tries; turns = turns; reconnects = reconnects }))) s' (messages_first (texts_of input)) held held' (some_size window) ran in
-          (one, (input, batches, is_input, none, subst (λ k. AreBatches (batch_size window) tries k batches) (all_bring (texts_of input) none) are, appends))
+      by : (job : Job) → Sends opens closes remaining contents job input c c' unread unread' held held' (Ok tt)
+          → AreAcknowledged job unread unread' held held'
+      by (Server site encoder host port tries timeout turns reconnects window join)
+          (one, is_input, (loan, s', ran, finishes)) =
+          let (batches, are, appends) = sent_run opens closes remaining contents join (batch_size window)
+          (unconnected c loan (sender_at_first (address_of site encoder)
+          (record { tries = tries; turns = turns; reconnects = reconnects }))) s' (messages_first (texts_of input))
+          held held' (some_size window) ran in (
+            one,
+            (
+              input,
+              batches,
+              is_input,
+              none,
+              subst (λ k. AreBatches (batch_size window) tries k batches)
+                  (all_bring (texts_of input) none) are,
+              appends,
+            ),
+          )
       by job sends = absurd sends
 
-  acknowledged_up_to : (told told' : Option (List ℕ)) → HasSentBefore opens closes remaining contents job c c' unread unread' held held' told told' → AreAcknowledgedBefore job unread unread' held held' told told'
+  acknowledged_up_to : (told told' : Option (List ℕ))
+      → HasSentBefore opens closes remaining contents job c c' unread unread' held held' told told'
+      → AreAcknowledgedBefore job unread unread' held held' told told'
   acknowledged_up_to told told' (input, fault, sends, refused, begins) = by job sends
     where
-      by : (job : Job) → Sends opens closes remaining contents job input c c' unread unread' held held' (Ok tt) → AreAcknowledgedBefore job unread unread' held held' told told'
-      by (Server site encoder host port tries timeout turns reconnects window join) (one, is_input, (loan, s', ran, finishes)) =
-          let (batches, are, appends) = sent_run opens closes remaining contents join (batch_size window) (unconnected c loan (sender_at_first (address_of site encoder) (record { tries = tries; turns = turns; reconnects = reconnects }))) s' (messages_first (texts_of input)) held held' (some_size window) ran in
+      by : (job : Job) → Sends opens closes remaining contents job input c c' unread unread' held held' (Ok tt)
+          → AreAcknowledgedBefore job unread unread' held held' told told'
+      by (Server site encoder host port tries timeout turns reconnects window join)
+          (one, is_input, (loan, s', ran, finishes)) =
+          let (batches, are, appends) = sent_run opens closes remaining contents join (batch_size window)
+          (unconnected c loan (sender_at_first (address_of site encoder)
+          (record { tries = tries; turns = turns; reconnects = reconnects }))) s' (messages_first (texts_of input))
+          held held' (some_size window) ran in
           (one, (input, batches, fault, is_input, refused, are, appends, begins))
       by job sends = absurd sends
 
-  stops_three : (job : Job) (input : List ℕ) (fault : RunFault) → Sends opens closes remaining contents job input c c' unread unread' held held' (Err fault) → status_of fault ≡ 3
-  stops_three (Server site encoder host port tries timeout turns reconnects window join) input fault (one, is_input, (loan, s', ran, finishes)) =
+  stops_three : (job : Job) (input : List ℕ) (fault : RunFault)
+      → Sends opens closes remaining contents job input c c' unread unread' held held' (Err fault) → status_of fault ≡ 3
+  stops_three (Server site encoder host port tries timeout turns reconnects window join) input fault
+      (one, is_input, (loan, s', ran, finishes)) =
       run_status join (batch_size window) tries (length (messages_first (texts_of input))) held held' fault
-      (stopped_run opens closes remaining contents join (batch_size window) (unconnected c loan (sender_at_first (address_of site encoder) (record { tries = tries; turns = turns; reconnects = reconnects }))) s' (messages_first (texts_of input)) held held' fault (some_size window) ran)
+      (stopped_run opens closes remaining contents join (batch_size window)
+      (unconnected c loan (sender_at_first (address_of site encoder)
+      (record { tries = tries; turns = turns; reconnects = reconnects }))) s' (messages_first (texts_of input)) held
+      held' fault (some_size window) ran)
   stops_three job input fault sends = absurd sends
 
-  not_all : (told told' : Option (List ℕ)) → IsServer job → HasNotSentAll opens closes remaining contents job c c' unread unread' held held' told told' → AreNotAcknowledged job unread unread' held held' told told'
+  not_all : (told told' : Option (List ℕ)) → IsServer job
+      → HasNotSentAll opens closes remaining contents job c c' unread unread' held held' told told'
+      → AreNotAcknowledged job unread unread' held held' told told'
   not_all told told' serves (fault, begins, how) = by job serves how
     where
-      by : (job : Job) → IsServer job → (SendsNone unread unread' held held' fault × (c' ≡ c)) ⊎ ((input : List ℕ) × Sends opens closes remaining contents job input c c' unread unread' held held' (Err fault)) → AreNotAcknowledged job unread unread' held held' told told'
-      by (Server site encoder host port tries timeout turns reconnects window join) serves (inl (none, same)) = (fault, begins, inl none)
-      by (Server site encoder host port tries timeout turns reconnects window join) serves (inr (input, (one, is_input, (loan, s', ran, finishes)))) = (
-        fault,
-        begins,
-        inr (
-          input,
-          is_input,
-          stopped_run opens closes remaining contents join (batch_size window) (unconnected c loan (sender_at_first (address_of site encoder) (record { tries = tries; turns = turns; reconnects = reconnects }))) s' (messages_first (texts_of input)) held held' fault (some_size window) ran,
-        ),
-      )
+      by : (job : Job) → IsServer job → (SendsNone unread unread' held held' fault × (c' ≡ c))
+          ⊎ ((input : List ℕ) × Sends opens closes remaining contents job input c c' unread unread' held held'
+          (Err fault)) → AreNotAcknowledged job unread unread' held held' told told'
+      by (Server site encoder host port tries timeout turns reconnects window join) serves (inl (none, same)) =
+          (fault, begins, inl none)
+      by (Server site encoder host port tries timeout turns reconnects window join) serves
+          (inr (input, (one, is_input, (loan, s', ran, finishes)))) = (
+            fault,
+            begins,
+            inr (
+              input,
+              is_input,
+              stopped_run opens closes remaining contents join (batch_size window)
+                  (unconnected c loan (sender_at_first (address_of site encoder)
+                  (record { tries = tries; turns = turns; reconnects = reconnects }))) s'
+                  (messages_first (texts_of input))
+                  held held' fault (some_size window) ran,
+            ),
+          )
       by job serves how = absurd serves
 
   -- ---- by the status
 
-  module _ (told told' : Option (List ℕ)) (serves : IsServer job) (unmoved unwritten unopened : Type 0) (fault : RunFault) (begins : Begins told told' (error_lines fault))
-      (ran : (RefusesJob job fault × unmoved × unwritten × unopened) ⊎ ((SendsNone unread unread' held held' fault × (c' ≡ c)) ⊎ SendsUpTo opens closes remaining contents job c c' unread unread' held held' fault)) where
+  module _ (told told' : Option (List ℕ)) (serves : IsServer job) (unmoved unwritten unopened : Type 0)
+      (fault : RunFault) (begins : Begins told told' (error_lines fault))
+      (ran : (RefusesJob job fault × unmoved × unwritten × unopened)
+      ⊎ ((SendsNone unread unread' held held' fault × (c' ≡ c))
+      ⊎ SendsUpTo opens closes remaining contents job c c' unread unread' held held' fault)) where
     apart : (a b : ℕ) → status_of fault ≡ a → status_of fault ≡ b → a ≡ b
     apart a b is_a is_b = sym is_a ∙ is_b
 
-    pub sent_before : status_of fault ≡ 1 → HasSentBefore opens closes remaining contents job c c' unread unread' held held' told told' × AreAcknowledgedBefore job unread unread' held held' told told'
+    pub sent_before : status_of fault ≡ 1 → HasSentBefore opens closes remaining contents job c c' unread unread' held
+        held' told told' × AreAcknowledgedBefore job unread unread' held held' told told'
     sent_before is = elim ran [
       | inl refused ↦ absurd (let no = apart 2 1 (server_refuses job fault serves refused.0) is in omega (arith, no))
-      | inr (inl none) ↦ absurd (let no = apart 3 1 (none_status unread unread' held held' fault none.0) is in omega (arith, no))
-      | inr (inr (input, inl (sends, refused))) ↦ (let before : HasSentBefore opens closes remaining contents job c c' unread unread' held held' told told' = (input, fault, sends, refused, begins) in (before, acknowledged_up_to told told' before))
-      | inr (inr (input, inr sends)) ↦ absurd (let no = apart 3 1 (stops_three job input fault sends) is in omega (arith, no))
+      | inr (inl none) ↦ absurd (let no = apart 3 1 (none_status unread unread' held held' fault none.0) is in
+          omega (arith, no))
+      | inr (inr (input, inl (sends, refused))) ↦ (let before : HasSentBefore opens closes remaining contents job c c'
+          unread unread' held held' told told' = (input, fault, sends, refused, begins) in
+          (before, acknowledged_up_to told told' before))
+      | inr (inr (input, inr sends)) ↦ absurd (let no = apart 3 1 (stops_three job input fault sends) is in
+          omega (arith, no))
     ]
 
     pub undescribed : status_of fault ≡ 2 → RefusesJob job fault × unmoved × unwritten × unopened
     undescribed is = elim ran [
       | inl refused ↦ refused
-      | inr (inl none) ↦ absurd (let no = apart 3 2 (none_status unread unread' held held' fault none.0) is in omega (arith, no))
-      | inr (inr (input, inl (sends, refused))) ↦ absurd (let no = apart 1 2 (refused_status (texts_of input) fault refused) is in omega (arith, no))
-      | inr (inr (input, inr sends)) ↦ absurd (let no = apart 3 2 (stops_three job input fault sends) is in omega (arith, no))
+      | inr (inl none) ↦ absurd (let no = apart 3 2 (none_status unread unread' held held' fault none.0) is in
+          omega (arith, no))
+      | inr (inr (input, inl (sends, refused))) ↦ absurd
+          (let no = apart 1 2 (refused_status (texts_of input) fault refused) is in omega (arith, no))
+      | inr (inr (input, inr sends)) ↦ absurd (let no = apart 3 2 (stops_three job input fault sends) is in
+          omega (arith, no))
     ]
 
-    pub not_sent : status_of fault ≡ 3 → HasNotSentAll opens closes remaining contents job c c' unread unread' held held' told told' × AreNotAcknowledged job unread unread' held held' told told'
+    pub not_sent : status_of fault ≡ 3 → HasNotSentAll opens closes remaining contents job c c' unread unread' held
+        held' told told' × AreNotAcknowledged job unread unread' held held' told told'
     not_sent is = elim ran [
       | inl refused ↦ absurd (let no = apart 2 3 (server_refuses job fault serves refused.0) is in omega (arith, no))
-      | inr (inl none) ↦ (let all : HasNotSentAll opens closes remaining contents job c c' unread unread' held held' told told' = (fault, begins, inl none) in (all, not_all told told' serves all))
-      | inr (inr (input, inl (sends, refused))) ↦ absurd (let no = apart 1 3 (refused_status (texts_of input) fault refused) is in omega (arith, no))
-      | inr (inr (input, inr sends)) ↦ (let all : HasNotSentAll opens closes remaining contents job c c' unread unread' held held' told told' = (fault, begins, inr (input, sends)) in (all, not_all told told' serves all))
+      | inr (inl none) ↦ (let all : HasNotSentAll opens closes remaining contents job c c' unread unread' held held'
+          told told' = (fault, begins, inl none) in (all, not_all told told' serves all))
+      | inr (inr (input, inl (sends, refused))) ↦ absurd
+          (let no = apart 1 3 (refused_status (texts_of input) fault refused) is in omega (arith, no))
+      | inr (inr (input, inr sends)) ↦ (let all : HasNotSentAll opens closes remaining contents job c c' unread unread'
+          held held' told told' = (fault, begins, inr (input, sends)) in (all, not_all told told' serves all))
     ]

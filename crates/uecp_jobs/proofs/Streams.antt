@@ -17,14 +17,17 @@ use Rattle.uecp_jobs.proofs.Pieces.{fed_nothing, responses_to_nothing}
 
 shown_beyond : (o o' : OpenPart) (texts : List (ℕ × List ℕ)) (lines : List ℕ) → Runs Shows o texts lines None o' →
     (bytes : List ℕ) × Spell texts bytes × (lines ≡ flat_map finding_lines (found_beyond o bytes))
-shown_beyond o o' [] lines (lines_are, none, same) = ([], refl, lines_are ∙ sym (ap (flat_map finding_lines) (new_start_lem o []).nothing))
+shown_beyond o o' [] lines (lines_are, none, same) =
+    ([], refl, lines_are ∙ sym (ap (flat_map finding_lines) (new_start_lem o []).nothing))
 shown_beyond o o' ((number, text) ∷ texts) lines ran = elim ran [
   | inl (first, rest, next, (piece, spelled, first_is, next_is), lines_are, more) ↦
       let behind = shown_beyond next o' texts rest more in (
         piece ++ behind.0,
         (piece, behind.0, spelled, refl, behind.1),
-        lines_are ∙ ap (λ l. l ++ rest) first_is ∙ ap (λ l. flat_map finding_lines (found_beyond o piece) ++ l) (behind.2 ∙ ap (λ p. flat_map finding_lines (found_beyond p behind.0)) next_is)
-            ∙ sym (ap (flat_map finding_lines) (in_pieces_lem o piece behind.0).found ∙ flat_map-append finding_lines (found_beyond o piece) (found_beyond (open_beyond o piece) behind.0)),
+        lines_are ∙ ap (λ l. l ++ rest) first_is ∙ ap (λ l. flat_map finding_lines (found_beyond o piece) ++ l)
+            (behind.2 ∙ ap (λ p. flat_map finding_lines (found_beyond p behind.0)) next_is)
+            ∙ sym (ap (flat_map finding_lines) (in_pieces_lem o piece behind.0).found
+            ∙ flat_map-append finding_lines (found_beyond o piece) (found_beyond (open_beyond o piece) behind.0)),
       )
   | inr (inl refused) ↦ absurd (let none : None ≡ Some (Text number refused.0) = refused.3 in cc)
   | inr (inr ended) ↦ absurd ended.0
@@ -45,8 +48,11 @@ answers_one_stream_lem e e' ((number, text) ∷ texts) lines ran = elim ran [
         piece ++ behind.0,
         (piece, behind.0, spelled, refl, behind.1),
         lines_are ∙ ap (λ l. l ++ rest) first_is
-            ∙ ap (λ l. flat_map response_line (responses_to step e piece) ++ l) (behind.2 ∙ ap (λ d. flat_map response_line (responses_to step d behind.0)) next_is)
-            ∙ sym (ap (flat_map response_line) pieces.responses ∙ flat_map-append response_line (responses_to step e piece) (responses_to step (fed step e piece) behind.0)),
+            ∙ ap (λ l. flat_map response_line (responses_to step e piece) ++ l)
+            (behind.2 ∙ ap (λ d. flat_map response_line (responses_to step d behind.0)) next_is)
+            ∙ sym (ap (flat_map response_line) pieces.responses
+            ∙ flat_map-append response_line (responses_to step e piece)
+            (responses_to step (fed step e piece) behind.0)),
         behind.3 ∙ ap (λ d. fed step d behind.0) next_is ∙ sym pieces.state,
       )
   | inr (inl refused) ↦ absurd (let none : None ≡ Some (Text number refused.0) = refused.3 in cc)

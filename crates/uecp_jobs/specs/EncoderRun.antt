@@ -1,5 +1,6 @@
 -- What the job `encoder` does, and how it ends (profile).
-use Rattle.std.specs.Prelude.{◌≡◌, ◌⊎◌, ℕ, ◌+◌, ◌<◌, ◌≤◌, List, [], ◌∷◌, ◌++◌, codes, length, Option, None, Result, Ok, Err, MatchResult}
+use Rattle.std.specs.Prelude.{◌≡◌, ◌⊎◌, ℕ, ◌+◌, ◌<◌, ◌≤◌, List, [], ◌∷◌, ◌++◌, codes, length, Option, None, Result, Ok}
+use Rattle.std.specs.Prelude.{Err, MatchResult}
 use Rattle.std.specs.Io.KnownBytes.{Appends}
 use Rattle.rds_store.specs.Value.{Store}
 use Rattle.rds_store.specs.Step.{step}
@@ -42,63 +43,84 @@ connection_lines number (outcome ∷ outcomes) = connection_line number outcome 
 -- ---- What was served.
 -- The options describe an encoder. It served as many connections as it should, one after another, each from the state
 -- that the one before left, and the writer got the line of each.
-abbrev pub ServedAll : {C I O : Type 0} → (opens : C → Option (I × O) → C → Type 0) → (closes : C → I → O → C → Type 0) → (remaining : I → Option (List ℕ)) → (contents : O → Option (List ℕ)) → Job → C → C → (held held' : Option (List ℕ)) → Type 0
+abbrev pub ServedAll : {C I O : Type 0} → (opens : C → Option (I × O) → C → Type 0) → (closes : C → I → O → C → Type 0)
+    → (remaining : I → Option (List ℕ)) → (contents : O → Option (List ℕ)) → Job → C → C
+    → (held held' : Option (List ℕ)) → Type 0
 ServedAll opens closes remaining contents (Encoder site encoder sets services port connections turns) c c' held held' =
     IsSetup (options site encoder sets services.items)
     × ((outcomes : List Outcome) × (e' : EncoderState Store) × (length outcomes ≡ connections)
-    × Sessions step opens closes remaining contents turns (encoder_at_first (options site encoder sets services.items)) c outcomes e' c'
+    × Sessions step opens closes remaining contents turns (encoder_at_first (options site encoder sets services.items))
+    c outcomes e' c'
     × Appends held held' (connection_lines 1 outcomes))
 ServedAll opens closes remaining contents job c c' held held' = ⊥
 
 -- The options describe an encoder. It served fewer connections, the writer got the line of each, and then there was no
 -- connection to be had.
-abbrev pub ServedFewer : {C I O : Type 0} → (opens : C → Option (I × O) → C → Type 0) → (closes : C → I → O → C → Type 0) → (remaining : I → Option (List ℕ)) → (contents : O → Option (List ℕ)) → Job → C → C → (held held' : Option (List ℕ)) → Type 0
-ServedFewer {C} opens closes remaining contents (Encoder site encoder sets services port connections turns) c c' held held' =
+abbrev pub ServedFewer : {C I O : Type 0} → (opens : C → Option (I × O) → C → Type 0)
+    → (closes : C → I → O → C → Type 0) → (remaining : I → Option (List ℕ)) → (contents : O → Option (List ℕ)) → Job → C
+    → C → (held held' : Option (List ℕ)) → Type 0
+ServedFewer {C} opens closes remaining contents (Encoder site encoder sets services port connections turns) c c' held
+    held' =
     IsSetup (options site encoder sets services.items)
     × ((outcomes : List Outcome) × (e' : EncoderState Store) × (last : C) × (length outcomes < connections)
-    × Sessions step opens closes remaining contents turns (encoder_at_first (options site encoder sets services.items)) c outcomes e' last × opens last None c'
+    × Sessions step opens closes remaining contents turns (encoder_at_first (options site encoder sets services.items))
+    c outcomes e' last × opens last None c'
     × Appends held held' (connection_lines 1 outcomes))
 ServedFewer opens closes remaining contents job c c' held held' = ⊥
 
 -- An encoder served as many connections as it should, or fewer, one after another, and the writer got a beginning of
 -- their lines.
-abbrev pub ServedSome : {C I O : Type 0} → (opens : C → Option (I × O) → C → Type 0) → (closes : C → I → O → C → Type 0) → (remaining : I → Option (List ℕ)) → (contents : O → Option (List ℕ)) → Job → C → C → (held held' : Option (List ℕ)) → Type 0
+abbrev pub ServedSome : {C I O : Type 0} → (opens : C → Option (I × O) → C → Type 0) → (closes : C → I → O → C → Type 0)
+    → (remaining : I → Option (List ℕ)) → (contents : O → Option (List ℕ)) → Job → C → C
+    → (held held' : Option (List ℕ)) → Type 0
 ServedSome opens closes remaining contents (Encoder site encoder sets services port connections turns) c c' held held' =
     (outcomes : List Outcome) × (e' : EncoderState Store) × (length outcomes ≤ connections)
-    × Sessions step opens closes remaining contents turns (encoder_at_first (options site encoder sets services.items)) c outcomes e' c'
+    × Sessions step opens closes remaining contents turns (encoder_at_first (options site encoder sets services.items))
+    c outcomes e' c'
     × Begins held held' (connection_lines 1 outcomes)
 ServedSome opens closes remaining contents job c c' held held' = ⊥
 
 -- What was served, by the result: all connections; or fewer, where there was none to be had; or some, where memory or
 -- writing failed.
-abbrev pub Serves : {C I O : Type 0} → (opens : C → Option (I × O) → C → Type 0) → (closes : C → I → O → C → Type 0) → (remaining : I → Option (List ℕ)) → (contents : O → Option (List ℕ)) → Job → C → C → (held held' : Option (List ℕ)) → Result (Unit {0}) RunFault → Type 0
+abbrev pub Serves : {C I O : Type 0} → (opens : C → Option (I × O) → C → Type 0) → (closes : C → I → O → C → Type 0)
+    → (remaining : I → Option (List ℕ)) → (contents : O → Option (List ℕ)) → Job → C → C
+    → (held held' : Option (List ℕ)) → Result (Unit {0}) RunFault → Type 0
 Serves opens closes remaining contents job c c' held held' result =
     MatchResult result
     (λ _. ServedAll opens closes remaining contents job c c' held held')
-    (λ fault. ((fault ≡ run.Listening) × ServedFewer opens closes remaining contents job c c' held held') ⊎ (Fails fault × ServedSome opens closes remaining contents job c c' held held'))
+    (λ fault. ((fault ≡ run.Listening) × ServedFewer opens closes remaining contents job c c' held held')
+    ⊎ (Fails fault × ServedSome opens closes remaining contents job c c' held held'))
 
 -- There was no connection to be had: fewer were served than should be, and that was said, or begun to be said.
-abbrev pub HasNotListened : {C I O : Type 0} → (opens : C → Option (I × O) → C → Type 0) → (closes : C → I → O → C → Type 0) → (remaining : I → Option (List ℕ)) → (contents : O → Option (List ℕ)) → Job → C → C → (held held' told told' : Option (List ℕ)) → Type 0
+abbrev pub HasNotListened : {C I O : Type 0} → (opens : C → Option (I × O) → C → Type 0)
+    → (closes : C → I → O → C → Type 0) → (remaining : I → Option (List ℕ)) → (contents : O → Option (List ℕ)) → Job → C
+    → C → (held held' told told' : Option (List ℕ)) → Type 0
 HasNotListened opens closes remaining contents job c c' held held' told told' =
     ServedFewer opens closes remaining contents job c c' held held' × Begins told told' (error_lines run.Listening)
 
 -- Memory or writing failed where connections were served, and that was said, or begun to be said. The writer got a
 -- beginning of the lines of those that were served.
-abbrev pub HasBroken : {C I O : Type 0} → (opens : C → Option (I × O) → C → Type 0) → (closes : C → I → O → C → Type 0) → (remaining : I → Option (List ℕ)) → (contents : O → Option (List ℕ)) → Job → C → C → (held held' told told' : Option (List ℕ)) → Type 0
+abbrev pub HasBroken : {C I O : Type 0} → (opens : C → Option (I × O) → C → Type 0) → (closes : C → I → O → C → Type 0)
+    → (remaining : I → Option (List ℕ)) → (contents : O → Option (List ℕ)) → Job → C → C
+    → (held held' told told' : Option (List ℕ)) → Type 0
 HasBroken opens closes remaining contents job c c' held held' told told' =
-    (fault : RunFault) × Fails fault × ServedSome opens closes remaining contents job c c' held held' × Begins told told' (error_lines fault)
+    (fault : RunFault) × Fails fault × ServedSome opens closes remaining contents job c c' held held'
+    × Begins told told' (error_lines fault)
 
 -- What is left to say of connections of which nothing is known, where not all could be served or not all be told: the
 -- writer got a beginning of the lines of as many connections as should be served, or fewer, and why it stopped was
 -- said, or begun to be said.
 abbrev pub HasStopped : Job → (held held' told told' : Option (List ℕ)) → Type 0
 HasStopped (Encoder site encoder sets services port connections turns) held held' told told' =
-    (fault : RunFault) × (status_of fault ≡ 3) × ((outcomes : List Outcome) × (length outcomes ≤ connections) × Begins held held' (connection_lines 1 outcomes)) × Begins told told' (error_lines fault)
+    (fault : RunFault) × (status_of fault ≡ 3) × ((outcomes : List Outcome) × (length outcomes ≤ connections)
+    × Begins held held' (connection_lines 1 outcomes)) × Begins told told' (error_lines fault)
 HasStopped job held held' told told' = ⊥
 
 -- What is left to say of connections of which nothing is known: the options describe an encoder, and the writer got the
 -- lines of as many connections as it should serve.
 abbrev pub HasServed : Job → (held held' : Option (List ℕ)) → Type 0
 HasServed (Encoder site encoder sets services port connections turns) held held' =
-    IsSetup (options site encoder sets services.items) × ((outcomes : List Outcome) × (length outcomes ≡ connections) × Appends held held' (connection_lines 1 outcomes))
+    IsSetup (options site encoder sets services.items)
+    × ((outcomes : List Outcome) × (length outcomes ≡ connections)
+    × Appends held held' (connection_lines 1 outcomes))
 HasServed job held held' = ⊥

@@ -21,8 +21,10 @@ extended f bytes = record { address = f.address; counter = f.counter; message = 
 -- What a line does to the frame that was begun, if any, with the lines that it writes: a new frame has no message yet,
 -- and the one before it is written; a message has at most 255 bytes.
 abbrev pub Does : (before : Option Frame) → Line → (lines : List ℕ) → (after : Option Frame) → Type 0
-Does before (Begins address counter) lines after = (lines ≡ spelled_line before) × (after ≡ Some (record { address = address; counter = counter; message = [] }))
-Does before (Extends bytes) lines after = (f : Frame) × (before ≡ Some f) × (length f.message + length bytes ≤ 255) × (lines ≡ []) × (after ≡ Some (extended f bytes))
+Does before (Begins address counter) lines after =
+    (lines ≡ spelled_line before) × (after ≡ Some (record { address = address; counter = counter; message = [] }))
+Does before (Extends bytes) lines after = (f : Frame) × (before ≡ Some f) × (length f.message + length bytes ≤ 255)
+    × (lines ≡ []) × (after ≡ Some (extended f bytes))
 
 -- Why a line that says so is refused: there is no frame to add to, or the message would have more than 255 bytes.
 abbrev pub IsUndone : (before : Option Frame) → Line → TextFault → Type 0
@@ -36,4 +38,5 @@ abbrev pub Makes : Meaning (Option Frame)
 Makes before text (Brings lines) after = (line : Line) × Says (words_in text) line × Does before line lines after
 Makes before text (Ends lines) after = ⊥
 Makes before text (Refuses why) after =
-    (after ≡ before) × (((why ≡ NotACommand) × SaysNothing (words_in text)) ⊎ ((line : Line) × Says (words_in text) line × IsUndone before line why))
+    (after ≡ before) × (((why ≡ NotACommand) × SaysNothing (words_in text))
+    ⊎ ((line : Line) × Says (words_in text) line × IsUndone before line why))

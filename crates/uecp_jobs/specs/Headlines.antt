@@ -24,7 +24,8 @@ NameEach ((number, text) ∷ texts) stop (event ∷ events) = Names (words text)
 
 -- The texts name events, each of which was a step of the line; and with the history that these steps tell the headline
 -- holds of the line that is left.
-pub record KeepsHeadline (address : ℕ) (value : Store) (old : LineState Store) (texts : List (ℕ × List ℕ)) (stop : Option RunFault) (line : LineState Store) : Type 0 where
+pub record KeepsHeadline (address : ℕ) (value : Store) (old : LineState Store) (texts : List (ℕ × List ℕ))
+    (stop : Option RunFault) (line : LineState Store) : Type 0 where
   pub events : List Event
   pub outcomes : List Outcome
   pub last : Once Store
@@ -35,7 +36,8 @@ pub record KeepsHeadline (address : ℕ) (value : Store) (old : LineState Store)
 -- Of the texts one starts the server again, and none behind it does. Those before it were played to their end, by a run
 -- of which the same holds as of this one; the encoder joined, and kept its store; and from there, with that store as
 -- the opening one, the texts behind keep the headline.
-pub record KeepsHeadlineSince (start : LineState Store) (texts : List (ℕ × List ℕ)) (stop : Option RunFault) (line : LineState Store) : Type 0 where
+pub record KeepsHeadlineSince (start : LineState Store) (texts : List (ℕ × List ℕ)) (stop : Option RunFault)
+    (line : LineState Store) : Type 0 where
   pub before : List (ℕ × List ℕ)
   pub restart : ℕ × List ℕ
   pub behind : List (ℕ × List ℕ)
@@ -56,4 +58,5 @@ abbrev pub ScriptsKeepHeadline : Type 0
 ScriptsKeepHeadline =
     (o : Options) (texts : List (ℕ × List ℕ)) (lines : List ℕ) (stop : Option RunFault) (line : LineState Store) →
     Runs Plays (line_at_first o) texts lines stop line →
-    KeepsHeadline (address_of o.site o.encoder) (opening o.sets o.services) (line_at_first o) texts stop line ⊎ KeepsHeadlineSince (line_at_first o) texts stop line
+    KeepsHeadline (address_of o.site o.encoder) (opening o.sets o.services) (line_at_first o) texts stop line
+    ⊎ KeepsHeadlineSince (line_at_first o) texts stop line

@@ -8,7 +8,8 @@ use Rattle.uecp_text.specs.declared.run_fault.RunFault.{RunFault}
 use Rattle.uecp_text.specs.Faults.{status_of, error_lines}
 use Rattle.uecp_text.specs.Written.{Begins}
 use Rattle.uecp_text.specs.Run.{Meaning, IsInput, Prints, Breaks}
-use Rattle.uecp_jobs.specs.Setups.{Options, IsOneEncoder, IsSetup, RefusesSetup, RefusesAddress, encoder_at_first, line_at_first}
+use Rattle.uecp_jobs.specs.Setups.{Options, IsOneEncoder, IsSetup, RefusesSetup, RefusesAddress, encoder_at_first}
+use Rattle.uecp_jobs.specs.Setups.{line_at_first}
 use Rattle.uecp_lines.specs.StoreLines.{last_lines}
 use Rattle.uecp_jobs.specs.Commands.{Shows, Answers}
 use Rattle.uecp_jobs.specs.FrameScript.{Makes, spelled_line}
@@ -43,20 +44,24 @@ IsLocal job = Unit {0}
 abbrev pub ByCommand : Job → ((V : Type 0) → Meaning V → (start : V) → (closing : V → List ℕ) → Type 0) → Type 0
 ByCommand Show tells = tells _ Shows Closed (λ part. [])
 ByCommand Make tells = tells _ Makes None spelled_line
-ByCommand (Answer site encoder sets services store) tells = tells _ Answers (encoder_at_first (options site encoder sets services.items)) (λ e. last_lines store e.value)
-ByCommand (Line site encoder sets services store) tells = tells _ Plays (line_at_first (options site encoder sets services.items)) (closing_lines store)
+ByCommand (Answer site encoder sets services store) tells =
+    tells _ Answers (encoder_at_first (options site encoder sets services.items)) (λ e. last_lines store e.value)
+ByCommand (Line site encoder sets services store) tells =
+    tells _ Plays (line_at_first (options site encoder sets services.items)) (closing_lines store)
 ByCommand (Server site encoder host port tries timeout turns reconnects window join) tells = ⊥
 ByCommand (Encoder site encoder sets services port connections turns) tells = ⊥
 
 -- What the job writes of an input: the lines of the texts, and the closing ones where no line is refused; the result
 -- names the refused line.
 abbrev pub JobPrints : Job → (input : List ℕ) → Result (Unit {0}) RunFault → (written : List ℕ) → Type 0
-JobPrints job input result written = ByCommand job (λ V meaning start closing. Prints meaning start closing input result written)
+JobPrints job input result written = ByCommand job
+    (λ V meaning start closing. Prints meaning start closing input result written)
 
 -- The job failed for this: its input was not read to its end, and nothing was written; or it was, and what was written
 -- is a beginning of what the job writes of it.
 abbrev pub JobBreaks : Job → (unread unread' : Option (List ℕ)) → (held held' : Option (List ℕ)) → RunFault → Type 0
-JobBreaks job unread unread' held held' fault = ByCommand job (λ V meaning start closing. Breaks meaning start closing unread unread' held held' fault)
+JobBreaks job unread unread' held held' fault = ByCommand job
+    (λ V meaning start closing. Breaks meaning start closing unread unread' held held' fault)
 
 -- The options of a job describe an encoder, or where it is a server the address of one.
 abbrev pub IsDescribed : Job → Type 0
@@ -64,26 +69,34 @@ IsDescribed Show = Unit {0}
 IsDescribed Make = Unit {0}
 IsDescribed (Answer site encoder sets services store) = IsSetup (options site encoder sets services.items)
 IsDescribed (Line site encoder sets services store) = IsSetup (options site encoder sets services.items)
-IsDescribed (Encoder site encoder sets services port connections turns) = IsSetup (options site encoder sets services.items)
+IsDescribed (Encoder site encoder sets services port connections turns) =
+    IsSetup (options site encoder sets services.items)
 IsDescribed (Server site encoder host port tries timeout turns reconnects window join) = IsOneEncoder site encoder
 
 -- The options of the job describe no encoder, and this is said.
 abbrev pub RefusesJob : Job → RunFault → Type 0
 RefusesJob Show fault = ⊥
 RefusesJob Make fault = ⊥
-RefusesJob (Answer site encoder sets services store) fault = RefusesSetup (options site encoder sets services.items) fault
+RefusesJob (Answer site encoder sets services store) fault =
+    RefusesSetup (options site encoder sets services.items) fault
 RefusesJob (Line site encoder sets services store) fault = RefusesSetup (options site encoder sets services.items) fault
-RefusesJob (Encoder site encoder sets services port connections turns) fault = RefusesSetup (options site encoder sets services.items) fault
-RefusesJob (Server site encoder host port tries timeout turns reconnects window join) fault = RefusesAddress site encoder fault
+RefusesJob (Encoder site encoder sets services port connections turns) fault =
+    RefusesSetup (options site encoder sets services.items) fault
+RefusesJob (Server site encoder host port tries timeout turns reconnects window join) fault =
+    RefusesAddress site encoder fault
 
 -- The writer got what the job writes of all that the reader had left, as far as both tell.
-abbrev pub Wrote : Job → (unread unread' : Option (List ℕ)) → Result (Unit {0}) RunFault → (held held' : Option (List ℕ)) → Type 0
+abbrev pub Wrote : Job → (unread unread' : Option (List ℕ)) → Result (Unit {0}) RunFault
+    → (held held' : Option (List ℕ)) → Type 0
 Wrote job unread unread' result held held' =
-    (input : List ℕ) × (written : List ℕ) × IsInput unread unread' input × JobPrints job input result written × Appends held held' written
+    (input : List ℕ) × (written : List ℕ) × IsInput unread unread' input × JobPrints job input result written
+    × Appends held held' written
 
 -- The job was done, up to the line that was refused if there is one. Or it failed.
-abbrev pub DoesJob : Job → (unread unread' : Option (List ℕ)) → (held held' : Option (List ℕ)) → Result (Unit {0}) RunFault → Type 0
-DoesJob job unread unread' held held' result = ((fault : RunFault) × (result ≡ Err fault) × JobBreaks job unread unread' held held' fault) ⊎ Wrote job unread unread' result held held'
+abbrev pub DoesJob : Job → (unread unread' : Option (List ℕ)) → (held held' : Option (List ℕ))
+    → Result (Unit {0}) RunFault → Type 0
+DoesJob job unread unread' held held' result = ((fault : RunFault) × (result ≡ Err fault)
+    × JobBreaks job unread unread' held held' fault) ⊎ Wrote job unread unread' result held held'
 
 -- ---- how a job ends
 -- All of it was done.
@@ -94,7 +107,8 @@ IsDone job unread unread' held held' = IsDescribed job × Wrote job unread unrea
 -- or begun to be said.
 abbrev pub IsRefused : Job → (unread unread' held held' told told' : Option (List ℕ)) → Type 0
 IsRefused job unread unread' held held' told told' =
-    (fault : RunFault) × (status_of fault ≡ 1) × Wrote job unread unread' (Err fault) held held' × Begins told told' (error_lines fault)
+    (fault : RunFault) × (status_of fault ≡ 1) × Wrote job unread unread' (Err fault) held held'
+    × Begins told told' (error_lines fault)
 
 -- The options of the job describe no encoder, and that was said, or begun to be said.
 abbrev pub IsUndescribed : Job → (told told' : Option (List ℕ)) → Type 0
@@ -103,4 +117,5 @@ IsUndescribed job told told' = (fault : RunFault) × RefusesJob job fault × Beg
 -- Memory, reading or writing failed, and that was said, or begun to be said. What was written is a beginning of what
 -- the job writes of its input, and nothing where that was not read to its end.
 abbrev pub HasFailed : Job → (unread unread' held held' told told' : Option (List ℕ)) → Type 0
-HasFailed job unread unread' held held' told told' = (fault : RunFault) × JobBreaks job unread unread' held held' fault × Begins told told' (error_lines fault)
+HasFailed job unread unread' held held' told told' =
+    (fault : RunFault) × JobBreaks job unread unread' held held' fault × Begins told told' (error_lines fault)

@@ -31,7 +31,9 @@ joining_end (Err reason) = Err (fault_of reason)
 
 -- What a sender did that was to join its encoder, by how that went: what connection it had was let go, and then passes
 -- were made over new ones. It may send as often as before, and holds no message.
-pub record Joins {C I O : Type 0} (opens : C → Option (I × O) → C → Type 0) (closes : C → I → O → C → Type 0) (remaining : I → Option (List ℕ)) (contents : O → Option (List ℕ)) (s s' : SenderOver C I O) (result : Result (Unit {0}) Outstanding) : Type 0 where
+pub record Joins {C I O : Type 0} (opens : C → Option (I × O) → C → Type 0) (closes : C → I → O → C → Type 0)
+    (remaining : I → Option (List ℕ)) (contents : O → Option (List ℕ)) (s s' : SenderOver C I O)
+    (result : Result (Unit {0}) Outstanding) : Type 0 where
   pub first : SenderOver C I O
   pub ended : ℕ
   pub hangs_up : HangsUp closes s first
@@ -42,11 +44,14 @@ pub record Joins {C I O : Type 0} (opens : C → Option (I × O) → C → Type 
 -- Before its first message a server does nothing; or where that is asked for it joins its encoder, and then the writer
 -- gets the line of that. Where the encoder could not be joined, or the line not be written whole, the run ends for
 -- this.
-abbrev pub JoinsFirst : {C I O : Type 0} → (opens : C → Option (I × O) → C → Type 0) → (closes : C → I → O → C → Type 0) → (remaining : I → Option (List ℕ)) → (contents : O → Option (List ℕ)) → (join : Bool) → (s : SenderOver C I O) → (held held' : Option (List ℕ)) → Result (Unit {0}) RunFault → (s' : SenderOver C I O) → Type 0
+abbrev pub JoinsFirst : {C I O : Type 0} → (opens : C → Option (I × O) → C → Type 0) → (closes : C → I → O → C → Type 0)
+    → (remaining : I → Option (List ℕ)) → (contents : O → Option (List ℕ)) → (join : Bool) → (s : SenderOver C I O)
+    → (held held' : Option (List ℕ)) → Result (Unit {0}) RunFault → (s' : SenderOver C I O) → Type 0
 JoinsFirst opens closes remaining contents false s held held' result s' = (s' ≡ s) × (held' ≡ held) × (result ≡ Ok tt)
 JoinsFirst opens closes remaining contents true s held held' result s' =
     (Joins opens closes remaining contents s s' (Ok tt) × Tells (joined_line true) (Ok tt) held held' result)
-    ⊎ ((reason : Outstanding) × Joins opens closes remaining contents s s' (Err reason) × Tells not_joined_line (Err (fault_of reason)) held held' result)
+    ⊎ ((reason : Outstanding) × Joins opens closes remaining contents s s' (Err reason)
+    × Tells not_joined_line (Err (fault_of reason)) held held' result)
 
 -- ---- What is left to say of that where nothing is known of connections.
 

@@ -1,6 +1,7 @@
 -- What the lines of an input say to a server: one message each (profile).
 use lib.Pointwise.{pointwise}
-use Rattle.std.specs.Prelude.{ℕ, nat_le, ◌==◌, List, [], ◌∷◌, length, codes, Option, Some, None, Result, Ok, Err, if◌then◌else◌}
+use Rattle.std.specs.Prelude.{ℕ, nat_le, ◌==◌, List, [], ◌∷◌, length, codes, Option, Some, None, Result, Ok, Err}
+use Rattle.std.specs.Prelude.{if◌then◌else◌}
 use Rattle.uecp_text.specs.declared.text_fault.TextFault.{TextFault}
 use Rattle.uecp_text.specs.declared.text_fault.TextFault.TheVariants.{NotHex, MessageTooLong}
 use Rattle.uecp_text.specs.declared.run_fault.RunFault.{RunFault}

@@ -52,8 +52,10 @@ pub record PlaysRestart (old : LineState Store) (text lines : List ℕ) (new : L
 abbrev pub Plays : Meaning (LineState Store)
 Plays line text (Brings lines) line' = PlaysNamed line text lines line' ⊎ PlaysRestart line text lines line'
 Plays line text (Ends lines) line' = ⊥
-Plays line text (Declines why) line' = (why ≢ OutOfMemory) × (words text ≢ restart_words) × IsFaultOf (words text) why × (line' ≡ line)
+Plays line text (Declines why) line' = (why ≢ OutOfMemory) × (words text ≢ restart_words) × IsFaultOf (words text) why
+    × (line' ≡ line)
 
 -- The last lines: the totals, and the store where it is asked for.
 abbrev pub closing_lines : (asked : Bool) → LineState Store → List ℕ
-closing_lines asked line = totals_line (length line.sent) (length line.codes) (least_missing (is_acknowledged line) (length line.sent)) ++ last_lines asked line.encoder.value
+closing_lines asked line = totals_line (length line.sent) (length line.codes)
+    (least_missing (is_acknowledged line) (length line.sent)) ++ last_lines asked line.encoder.value

@@ -27,4 +27,5 @@ spelled_lines frames = flat_map (λ f. spelled_line (Some f)) frames
 abbrev pub IsRemade : Type 0
 IsRemade =
     (frames : List Frame) (result : Result (Unit {0}) RunFault) (written : List ℕ) → AllByRecursion IsWhole frames →
-    Prints Makes None spelled_line (flat_map frame_lines frames) result written → (result ≡ Ok tt) × (written ≡ spelled_lines frames)
+    Prints Makes None spelled_line (flat_map frame_lines frames) result written
+    → (result ≡ Ok tt) × (written ≡ spelled_lines frames)

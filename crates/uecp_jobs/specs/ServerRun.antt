@@ -1,5 +1,6 @@
 -- What the job `server` does, and how it ends (profile).
-use Rattle.std.specs.Prelude.{◌≡◌, ◌⊎◌, ◌<◌, ◌*◌, ◌++◌, ℕ, Bool, true, List, codes, length, Option, Some, None, Result, Ok, Err}
+use Rattle.std.specs.Prelude.{◌≡◌, ◌⊎◌, ◌<◌, ◌*◌, ◌++◌, ℕ, Bool, true, List, codes, length, Option, Some, None, Result}
+use Rattle.std.specs.Prelude.{Ok, Err}
 use Rattle.std.specs.Io.KnownBytes.{Appends}
 use Rattle.uecp_elements.specs.declared.code.Code.{Code}
 use Rattle.uecp_link.specs.Server.{idle_at}
@@ -25,7 +26,12 @@ IsServer job = ⊥
 
 -- a server of this address at first, with so many tries and turns on each connection, and so many reconnects in all
 abbrev pub sender_at_first : (address : ℕ) → Limits → SenderState
-sender_at_first address limits = record { server = idle_at address; tries = limits.tries; turns = limits.turns; left = limits.reconnects }
+sender_at_first address limits = record {
+  server = idle_at address;
+  tries = limits.tries;
+  turns = limits.turns;
+  left = limits.reconnects;
+}
 
 -- a sender that has no connection yet
 abbrev pub unconnected : {C I O : Type 0} → C → (loan : ℕ) → SenderState → SenderOver C I O
@@ -36,57 +42,87 @@ abbrev pub Finishes : {C I O : Type 0} → (closes : C → I → O → C → Typ
 Finishes {C} {I} {O} closes c' s = (end : SenderOver C I O) × HangsUp closes s end × (c' ≡ end.connect)
 
 -- A sender began as it was asked to, and sent these messages batch by batch; or it could not begin, and sent none.
-abbrev pub RunsSender : {C I O : Type 0} → (opens : C → Option (I × O) → C → Type 0) → (closes : C → I → O → C → Type 0) → (remaining : I → Option (List ℕ)) → (contents : O → Option (List ℕ)) → (join : Bool) → (size : ℕ) → (s : SenderOver C I O) → (messages : List (List ℕ)) → (held held' : Option (List ℕ)) → Result (Unit {0}) RunFault → (s' : SenderOver C I O) → Type 0
+abbrev pub RunsSender : {C I O : Type 0} → (opens : C → Option (I × O) → C → Type 0) → (closes : C → I → O → C → Type 0)
+    → (remaining : I → Option (List ℕ)) → (contents : O → Option (List ℕ)) → (join : Bool) → (size : ℕ)
+    → (s : SenderOver C I O) → (messages : List (List ℕ)) → (held held' : Option (List ℕ)) → Result (Unit {0}) RunFault
+    → (s' : SenderOver C I O) → Type 0
 RunsSender {C} {I} {O} opens closes remaining contents join size s messages held held' result s' =
-    ((begun : SenderOver C I O) × (between : Option (List ℕ)) × (batches : ℕ) × JoinsFirst opens closes remaining contents join s held between (Ok tt) begun × SendsOut opens closes remaining contents size batches begun messages between held' result s')
-    ⊎ ((fault : RunFault) × JoinsFirst opens closes remaining contents join s held held' (Err fault) s' × (result ≡ Err fault))
+    ((begun : SenderOver C I O) × (between : Option (List ℕ)) × (batches : ℕ)
+    × JoinsFirst opens closes remaining contents join s held between (Ok tt) begun
+    × SendsOut opens closes remaining contents size batches begun messages between held' result s')
+    ⊎ ((fault : RunFault) × JoinsFirst opens closes remaining contents join s held held' (Err fault) s'
+    × (result ≡ Err fault))
 
 -- These messages were sent by one sender, new, to a server's encoder at this address, over connections that came from
 -- there, and this is left of that: no connection was opened but to join the encoder, where that was asked for, and for
 -- these batches, and nothing else was done on one.
-abbrev pub SendsMessages : {C I O : Type 0} → (opens : C → Option (I × O) → C → Type 0) → (closes : C → I → O → C → Type 0) → (remaining : I → Option (List ℕ)) → (contents : O → Option (List ℕ)) → (address : ℕ) → Limits → (join : Bool) → (size : ℕ) → (messages : List (List ℕ)) → C → C → (held held' : Option (List ℕ)) → Result (Unit {0}) RunFault → Type 0
+abbrev pub SendsMessages : {C I O : Type 0} → (opens : C → Option (I × O) → C → Type 0)
+    → (closes : C → I → O → C → Type 0) → (remaining : I → Option (List ℕ)) → (contents : O → Option (List ℕ))
+    → (address : ℕ) → Limits → (join : Bool) → (size : ℕ) → (messages : List (List ℕ)) → C → C
+    → (held held' : Option (List ℕ)) → Result (Unit {0}) RunFault → Type 0
 SendsMessages {C} {I} {O} opens closes remaining contents address limits join size messages c c' held held' result =
     (loan : ℕ) × (s' : SenderOver C I O)
-    × RunsSender opens closes remaining contents join size (unconnected c loan (sender_at_first address limits)) messages held held' result s' × Finishes closes c' s'
+    × RunsSender opens closes remaining contents join size (unconnected c loan (sender_at_first address limits))
+    messages held held' result s' × Finishes closes c' s'
 
 -- The options of the job describe one encoder. The input was read to its end; the messages of its lines, or of those
 -- before the first that is refused, were sent to that encoder, as far as the result says.
-abbrev pub Sends : {C I O : Type 0} → (opens : C → Option (I × O) → C → Type 0) → (closes : C → I → O → C → Type 0) → (remaining : I → Option (List ℕ)) → (contents : O → Option (List ℕ)) → Job → (input : List ℕ) → C → C → (unread unread' held held' : Option (List ℕ)) → Result (Unit {0}) RunFault → Type 0
-Sends opens closes remaining contents (Server site encoder host port tries timeout turns reconnects window join) input c c' unread unread' held held' result =
+abbrev pub Sends : {C I O : Type 0} → (opens : C → Option (I × O) → C → Type 0) → (closes : C → I → O → C → Type 0)
+    → (remaining : I → Option (List ℕ)) → (contents : O → Option (List ℕ)) → Job → (input : List ℕ) → C → C
+    → (unread unread' held held' : Option (List ℕ)) → Result (Unit {0}) RunFault → Type 0
+Sends opens closes remaining contents (Server site encoder host port tries timeout turns reconnects window join) input c
+    c' unread unread' held held' result =
     IsOneEncoder site encoder × IsInput unread unread' input
-    × SendsMessages opens closes remaining contents (address_of site encoder) (record { tries = tries; turns = turns; reconnects = reconnects }) join (batch_size window) (messages_first (texts_of input)) c c' held held' result
+    × SendsMessages opens closes remaining contents (address_of site encoder)
+    (record { tries = tries; turns = turns; reconnects = reconnects }) join (batch_size window)
+    (messages_first (texts_of input)) c c' held held' result
 Sends opens closes remaining contents job input c c' unread unread' held held' result = ⊥
 
 -- Nothing was sent or written: the input was not read to its end, or there was no memory for its messages.
 abbrev pub SendsNone : (unread unread' held held' : Option (List ℕ)) → RunFault → Type 0
-SendsNone unread unread' held held' fault = (IsUnread unread unread' fault ⊎ ((input : List ℕ) × IsInput unread unread' input × (fault ≡ run.OutOfMemory))) × (held' ≡ held)
+SendsNone unread unread' held held' fault = (IsUnread unread unread' fault
+    ⊎ ((input : List ℕ) × IsInput unread unread' input × (fault ≡ run.OutOfMemory))) × (held' ≡ held)
 
 -- The messages were sent up to this fault: that of the first line that is refused, before which all are acknowledged;
 -- or that of a batch (private).
-abbrev pub SendsUpTo : {C I O : Type 0} → (opens : C → Option (I × O) → C → Type 0) → (closes : C → I → O → C → Type 0) → (remaining : I → Option (List ℕ)) → (contents : O → Option (List ℕ)) → Job → C → C → (unread unread' held held' : Option (List ℕ)) → RunFault → Type 0
+abbrev pub SendsUpTo : {C I O : Type 0} → (opens : C → Option (I × O) → C → Type 0) → (closes : C → I → O → C → Type 0)
+    → (remaining : I → Option (List ℕ)) → (contents : O → Option (List ℕ)) → Job → C → C
+    → (unread unread' held held' : Option (List ℕ)) → RunFault → Type 0
 SendsUpTo opens closes remaining contents job c c' unread unread' held held' fault =
     (input : List ℕ)
-    × ((Sends opens closes remaining contents job input c c' unread unread' held held' (Ok tt) × (refusal_in (texts_of input) ≡ Some fault)) ⊎ Sends opens closes remaining contents job input c c' unread unread' held held' (Err fault))
+    × ((Sends opens closes remaining contents job input c c' unread unread' held held' (Ok tt)
+    × (refusal_in (texts_of input) ≡ Some fault)) ⊎ Sends opens closes remaining contents job input c c' unread
+    unread' held held' (Err fault))
 
 -- ---- how it ends
 -- All messages of the input were sent and acknowledged, and no line is refused.
-abbrev pub HasSentAll : {C I O : Type 0} → (opens : C → Option (I × O) → C → Type 0) → (closes : C → I → O → C → Type 0) → (remaining : I → Option (List ℕ)) → (contents : O → Option (List ℕ)) → Job → C → C → (unread unread' held held' : Option (List ℕ)) → Type 0
+abbrev pub HasSentAll : {C I O : Type 0} → (opens : C → Option (I × O) → C → Type 0) → (closes : C → I → O → C → Type 0)
+    → (remaining : I → Option (List ℕ)) → (contents : O → Option (List ℕ)) → Job → C → C
+    → (unread unread' held held' : Option (List ℕ)) → Type 0
 HasSentAll opens closes remaining contents job c c' unread unread' held held' =
-    (input : List ℕ) × Sends opens closes remaining contents job input c c' unread unread' held held' (Ok tt) × (refusal_in (texts_of input) ≡ None)
+    (input : List ℕ) × Sends opens closes remaining contents job input c c' unread unread' held held' (Ok tt)
+    × (refusal_in (texts_of input) ≡ None)
 
 -- The messages before the first line that is refused were sent and acknowledged; and that line's number and fault were
 -- said, or begun to be said.
-abbrev pub HasSentBefore : {C I O : Type 0} → (opens : C → Option (I × O) → C → Type 0) → (closes : C → I → O → C → Type 0) → (remaining : I → Option (List ℕ)) → (contents : O → Option (List ℕ)) → Job → C → C → (unread unread' held held' told told' : Option (List ℕ)) → Type 0
+abbrev pub HasSentBefore : {C I O : Type 0} → (opens : C → Option (I × O) → C → Type 0)
+    → (closes : C → I → O → C → Type 0) → (remaining : I → Option (List ℕ)) → (contents : O → Option (List ℕ)) → Job → C
+    → C → (unread unread' held held' told told' : Option (List ℕ)) → Type 0
 HasSentBefore opens closes remaining contents job c c' unread unread' held held' told told' =
-    (input : List ℕ) × (fault : RunFault) × Sends opens closes remaining contents job input c c' unread unread' held held' (Ok tt) × (refusal_in (texts_of input) ≡ Some fault)
+    (input : List ℕ) × (fault : RunFault) × Sends opens closes remaining contents job input c c' unread unread' held
+    held' (Ok tt) × (refusal_in (texts_of input) ≡ Some fault)
     × Begins told told' (error_lines fault)
 
 -- A batch is outstanding, or its lines could not be written whole; or the encoder could not be joined; or nothing was
 -- sent, and no connection opened. That was said, or begun to be said; where the tries are spent nothing is said.
-abbrev pub HasNotSentAll : {C I O : Type 0} → (opens : C → Option (I × O) → C → Type 0) → (closes : C → I → O → C → Type 0) → (remaining : I → Option (List ℕ)) → (contents : O → Option (List ℕ)) → Job → C → C → (unread unread' held held' told told' : Option (List ℕ)) → Type 0
+abbrev pub HasNotSentAll : {C I O : Type 0} → (opens : C → Option (I × O) → C → Type 0)
+    → (closes : C → I → O → C → Type 0) → (remaining : I → Option (List ℕ)) → (contents : O → Option (List ℕ)) → Job → C
+    → C → (unread unread' held held' told told' : Option (List ℕ)) → Type 0
 HasNotSentAll opens closes remaining contents job c c' unread unread' held held' told told' =
     (fault : RunFault) × Begins told told' (error_lines fault)
-    × ((SendsNone unread unread' held held' fault × (c' ≡ c)) ⊎ ((input : List ℕ) × Sends opens closes remaining contents job input c c' unread unread' held held' (Err fault)))
+    × ((SendsNone unread unread' held held' fault × (c' ≡ c))
+    ⊎ ((input : List ℕ) × Sends opens closes remaining contents job input c c' unread unread' held held'
+    (Err fault)))
 
 -- ---- how it ends, where nothing is known of connections
 -- All messages of the input were acknowledged, and the writer got the lines of that, one for each message, in order,
@@ -94,26 +130,33 @@ HasNotSentAll opens closes remaining contents job c c' unread unread' held held'
 abbrev pub AreAcknowledged : Job → (unread unread' held held' : Option (List ℕ)) → Type 0
 AreAcknowledged (Server site encoder host port tries timeout turns reconnects window join) unread unread' held held' =
     IsOneEncoder site encoder
-    × ((input : List ℕ) × (batches : List (List Code × ℕ)) × IsInput unread unread' input × (refusal_in (texts_of input) ≡ None) × AreBatches (batch_size window) tries (length (texts_of input)) batches
+    × ((input : List ℕ) × (batches : List (List Code × ℕ)) × IsInput unread unread' input
+    × (refusal_in (texts_of input) ≡ None) × AreBatches (batch_size window) tries (length (texts_of input)) batches
     × Appends held held' (joined_line join ++ lines_of_batches batches))
 AreAcknowledged job unread unread' held held' = ⊥
 
 -- The messages before the first line that is refused were acknowledged, the writer got the lines of that and no other
 -- line, and what is wrong with that line was said, or begun to be said.
 abbrev pub AreAcknowledgedBefore : Job → (unread unread' held held' told told' : Option (List ℕ)) → Type 0
-AreAcknowledgedBefore (Server site encoder host port tries timeout turns reconnects window join) unread unread' held held' told told' =
+AreAcknowledgedBefore (Server site encoder host port tries timeout turns reconnects window join) unread unread' held
+    held' told told' =
     IsOneEncoder site encoder
-    × ((input : List ℕ) × (batches : List (List Code × ℕ)) × (fault : RunFault) × IsInput unread unread' input × (refusal_in (texts_of input) ≡ Some fault)
-    × AreBatches (batch_size window) tries (length (messages_first (texts_of input))) batches × Appends held held' (joined_line join ++ lines_of_batches batches) × Begins told told' (error_lines fault))
+    × ((input : List ℕ) × (batches : List (List Code × ℕ)) × (fault : RunFault) × IsInput unread unread' input
+    × (refusal_in (texts_of input) ≡ Some fault)
+    × AreBatches (batch_size window) tries (length (messages_first (texts_of input))) batches
+    × Appends held held' (joined_line join ++ lines_of_batches batches) × Begins told told' (error_lines fault))
 AreAcknowledgedBefore job unread unread' held held' told told' = ⊥
 
 -- Some first of so many messages were acknowledged, in whole batches, and there are more.
 abbrev pub AreFirstBatches : (size tries messages : ℕ) → List (List Code × ℕ) → Type 0
-AreFirstBatches size tries messages batches = AreBatches size tries (size * length batches) batches × (size * length batches < messages)
+AreFirstBatches size tries messages batches = AreBatches size tries (size * length batches) batches
+    × (size * length batches < messages)
 
 -- A batch is outstanding: the writer got the lines of the batches before it, and the line `outstanding`.
 abbrev pub IsOutstanding : (size tries messages : ℕ) → (held held' : Option (List ℕ)) → Type 0
-IsOutstanding size tries messages held held' = (batches : List (List Code × ℕ)) × AreFirstBatches size tries messages batches × Appends held held' (lines_of_batches batches ++ codes "outstanding\n")
+IsOutstanding size tries messages held held' = (batches : List (List Code × ℕ))
+    × AreFirstBatches size tries messages batches × Appends held held'
+    (lines_of_batches batches ++ codes "outstanding\n")
 
 -- Writing or memory failed: the writer got a beginning of the lines of all batches, or of some first ones and the line
 -- `outstanding`.
@@ -121,7 +164,8 @@ abbrev pub IsBegun : (size tries messages : ℕ) → (held held' : Option (List 
 IsBegun size tries messages held held' =
     (batches : List (List Code × ℕ))
     × ((AreBatches size tries messages batches × Begins held held' (lines_of_batches batches))
-    ⊎ (AreFirstBatches size tries messages batches × Begins held held' (lines_of_batches batches ++ codes "outstanding\n")))
+    ⊎ (AreFirstBatches size tries messages batches × Begins held held'
+    (lines_of_batches batches ++ codes "outstanding\n")))
 
 -- What the writer got of so many messages where sending them ended for this.
 abbrev pub BreaksOff : (size tries messages : ℕ) → (held held' : Option (List ℕ)) → RunFault → Type 0
@@ -136,11 +180,14 @@ BreaksOff size tries messages held held' fault = ⊥
 -- could not be joined, and then no message was sent.
 abbrev pub BreaksRun : (join : Bool) (size tries messages : ℕ) → (held held' : Option (List ℕ)) → RunFault → Type 0
 BreaksRun join size tries messages held held' fault =
-    ((between : Option (List ℕ)) × Appends held between (joined_line join) × BreaksOff size tries messages between held' fault) ⊎ ((join ≡ true) × StopsJoining held held' fault)
+    ((between : Option (List ℕ)) × Appends held between (joined_line join)
+    × BreaksOff size tries messages between held' fault) ⊎ ((join ≡ true) × StopsJoining held held' fault)
 
 -- Not all was sent or told, and that was said, or begun to be said.
 abbrev pub AreNotAcknowledged : Job → (unread unread' held held' told told' : Option (List ℕ)) → Type 0
-AreNotAcknowledged (Server site encoder host port tries timeout turns reconnects window join) unread unread' held held' told told' =
+AreNotAcknowledged (Server site encoder host port tries timeout turns reconnects window join) unread unread' held held'
+    told told' =
     (fault : RunFault) × Begins told told' (error_lines fault)
-    × (SendsNone unread unread' held held' fault ⊎ ((input : List ℕ) × IsInput unread unread' input × BreaksRun join (batch_size window) tries (length (messages_first (texts_of input))) held held' fault))
+    × (SendsNone unread unread' held held' fault ⊎ ((input : List ℕ) × IsInput unread unread' input
+    × BreaksRun join (batch_size window) tries (length (messages_first (texts_of input))) held held' fault))
 AreNotAcknowledged job unread unread' held held' told told' = ⊥

@@ -14,7 +14,8 @@ use Rattle.uecp_jobs.specs.Commands.{Shows, Answers}
 -- The pieces that these texts spell, joined, are these bytes.
 abbrev pub Spell : List (ℕ × List ℕ) → List ℕ → Type 0
 Spell [] bytes = bytes ≡ []
-Spell ((number, text) ∷ texts) bytes = (piece : List ℕ) × (rest : List ℕ) × (bytes_in text ≡ Ok piece) × (bytes ≡ piece ++ rest) × Spell texts rest
+Spell ((number, text) ∷ texts) bytes = (piece : List ℕ) × (rest : List ℕ) × (bytes_in text ≡ Ok piece)
+    × (bytes ≡ piece ++ rest) × Spell texts rest
 
 -- Where no text is refused, `show` writes the lines of what stands in the bytes that its pieces spell, joined: frames
 -- and faults, found in one stream.
@@ -28,4 +29,5 @@ ShowsOneStream =
 abbrev pub AnswersOneStream : Type 0
 AnswersOneStream =
     (e e' : EncoderState Store) (texts : List (ℕ × List ℕ)) (lines : List ℕ) → Runs Answers e texts lines None e' →
-    (bytes : List ℕ) × Spell texts bytes × (lines ≡ flat_map response_line (responses_to step e bytes)) × (e' ≡ fed step e bytes)
+    (bytes : List ℕ) × Spell texts bytes × (lines ≡ flat_map response_line (responses_to step e bytes))
+    × (e' ≡ fed step e bytes)

@@ -82,7 +82,8 @@ fn answer_first(encoder: &mut Encoder<RdsStore>, piece: &[u8], output: &mut Outp
     requires { 0 < length piece.now }
     ensures used { result ≤ length piece.now }
     ensures moves { 0 < result }
-    ensures lines { Adds output.old output.new (flat_map response_line (responses_to step encoder.old (take result piece.now))) }
+    ensures lines { Adds output.old output.new (flat_map response_line
+        (responses_to step encoder.old (take result piece.now))) }
     ensures left { encoder.new ≡ fed step encoder.old (take result piece.now) }
 {
     let answer = encoder.feed(piece);

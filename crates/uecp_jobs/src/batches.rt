@@ -3,7 +3,8 @@
 ghost use Rattle.std.specs.Prelude.{◌≡◌, ◌≢◌, ℕ, ◌+◌, ◌≤◌, [], length, IfOk};
 ghost use Rattle.uecp_text.specs.Written.{Adds};
 ghost use Rattle.uecp_net.specs.Sending.{submitted_all};
-ghost use Rattle.uecp_jobs.specs.Batches.{acknowledged_line, batch_lines, fault_of, settled_lines, ended_by, SendsBatch, SendsOut};
+ghost use Rattle.uecp_jobs.specs.Batches.{acknowledged_line, batch_lines, fault_of, settled_lines, ended_by};
+ghost use Rattle.uecp_jobs.specs.Batches.{SendsBatch, SendsOut};
 ghost use Rattle.uecp_jobs.specs.JoiningFirst.{joining_line, joining_end, JoinsFirst};
 
 use std::alloc::Global;
@@ -21,7 +22,8 @@ pub(crate) fn join_first<W: Write, C: Connect>(
     writer: &mut W,
 ) -> Result<(), RunFault>
     requires idle { sender.old.sender.server.held ≡ [] }
-    ensures joins { JoinsFirst C.opens C.closes C.Input.remaining C.Output.contents join sender.old (W.contents writer.old) (W.contents writer.new) result sender.new }
+    ensures joins { JoinsFirst C.opens C.closes C.Input.remaining C.Output.contents join sender.old
+        (W.contents writer.old) (W.contents writer.new) result sender.new }
     ensures idle { sender.new.sender.server.held ≡ [] }
     ensures loan { sender.new.loan ≡ sender.old.loan }
 {
@@ -77,7 +79,8 @@ pub(crate) fn send_batches<W: Write, C: Connect>(
     requires some { 1 ≤ size }
     requires most { size ≤ 8 }
     requires idle { sender.old.sender.server.held ≡ [] }
-    ensures sends { (batches : ℕ) × SendsOut C.opens C.closes C.Input.remaining C.Output.contents size batches sender.old messages.now (W.contents writer.old) (W.contents writer.new) result sender.new }
+    ensures sends { (batches : ℕ) × SendsOut C.opens C.closes C.Input.remaining C.Output.contents size batches
+        sender.old messages.now (W.contents writer.old) (W.contents writer.new) result sender.new }
     ensures loan { sender.new.loan ≡ sender.old.loan }
 {
     let mut rest = messages;
@@ -99,7 +102,8 @@ fn send_batch<W: Write, C: Connect>(
     requires some { batch.now ≢ [] }
     requires most { length batch.now ≤ 8 }
     requires idle { sender.old.sender.server.held ≡ [] }
-    ensures sends { SendsBatch C.opens C.closes C.Input.remaining C.Output.contents sender.old batch.now (W.contents writer.old) (W.contents writer.new) result sender.new }
+    ensures sends { SendsBatch C.opens C.closes C.Input.remaining C.Output.contents sender.old batch.now
+        (W.contents writer.old) (W.contents writer.new) result sender.new }
     ensures idle { IfOk result (λ _. sender.new.sender.server.held ≡ []) }
     ensures loan { sender.new.loan ≡ sender.old.loan }
 {

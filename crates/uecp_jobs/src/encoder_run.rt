@@ -7,7 +7,8 @@ ghost use Rattle.uecp_text.specs.Faults.{Fails};
 ghost use Rattle.uecp_text.specs.Written.{Adds, Begins};
 ghost use Rattle.uecp_net.specs.Sessions.{Outcome, Sessions};
 ghost use Rattle.uecp_jobs.specs.Jobs.{RefusesJob, IsUndescribed};
-ghost use Rattle.uecp_jobs.specs.EncoderRun.{IsEncoder, ServedAll, Serves, HasNotListened, HasBroken, connection_line, connection_lines};
+ghost use Rattle.uecp_jobs.specs.EncoderRun.{IsEncoder, ServedAll, Serves, HasNotListened, HasBroken, connection_line};
+ghost use Rattle.uecp_jobs.specs.EncoderRun.{connection_lines};
 
 use crate::job::Job;
 use crate::run::fail;
@@ -30,12 +31,17 @@ pub fn run_encoder<W: Write, E: Write, C: Connect>(
     requires { IsEncoder job.now }
     ensures status { (result ≤ 3) × (result ≢ 1) }
     // 0: all connections were served, and each has its line. Nothing was said on `errors`.
-    ensures done { result ≡ 0 → ServedAll C.opens C.closes C.Input.remaining C.Output.contents job.now connect.old connect.new (W.contents writer.old) (W.contents writer.new) × (errors.new ≡ errors.old) }
+    ensures done { result ≡ 0 → ServedAll C.opens C.closes C.Input.remaining C.Output.contents job.now connect.old
+        connect.new (W.contents writer.old) (W.contents writer.new) × (errors.new ≡ errors.old) }
     // 2: the options describe no encoder. No connection was opened, and nothing was written.
-    ensures undescribed { result ≡ 2 → IsUndescribed job.now (E.contents errors.old) (E.contents errors.new) × (writer.new ≡ writer.old) × (connect.new ≡ connect.old) }
+    ensures undescribed { result ≡ 2 → IsUndescribed job.now (E.contents errors.old) (E.contents errors.new)
+        × (writer.new ≡ writer.old) × (connect.new ≡ connect.old) }
     // 3: there was no connection to be had, and each that was served has its line; or memory or writing failed, and a
     // beginning of the lines of those that were served was written.
-    ensures failed { result ≡ 3 → HasNotListened C.opens C.closes C.Input.remaining C.Output.contents job.now connect.old connect.new (W.contents writer.old) (W.contents writer.new) (E.contents errors.old) (E.contents errors.new) ⊎ HasBroken C.opens C.closes C.Input.remaining C.Output.contents job.now connect.old connect.new (W.contents writer.old) (W.contents writer.new) (E.contents errors.old) (E.contents errors.new) }
+    ensures failed { result ≡ 3 → HasNotListened C.opens C.closes C.Input.remaining C.Output.contents job.now
+        connect.old connect.new (W.contents writer.old) (W.contents writer.new) (E.contents errors.old)
+        (E.contents errors.new) ⊎ HasBroken C.opens C.closes C.Input.remaining C.Output.contents job.now connect.old
+        connect.new (W.contents writer.old) (W.contents writer.new) (E.contents errors.old) (E.contents errors.new) }
 {
     match serve_all(alloc, job, writer, connect) {
         Ok(()) => 0,
@@ -51,7 +57,9 @@ fn serve_all<W: Write, C: Connect>(
     connect: &mut C,
 ) -> Result<(), RunFault>
     requires { IsEncoder job.now }
-    ensures { ((fault : RunFault) × (result ≡ Err fault) × RefusesJob job.now fault × (writer.new ≡ writer.old) × (connect.new ≡ connect.old)) ⊎ Serves C.opens C.closes C.Input.remaining C.Output.contents job.now connect.old connect.new (W.contents writer.old) (W.contents writer.new) result }
+    ensures { ((fault : RunFault) × (result ≡ Err fault) × RefusesJob job.now fault × (writer.new ≡ writer.old)
+        × (connect.new ≡ connect.old)) ⊎ Serves C.opens C.closes C.Input.remaining C.Output.contents job.now connect.old
+        connect.new (W.contents writer.old) (W.contents writer.new) result }
 {
     match job {
         Job::Encoder {
@@ -81,17 +89,21 @@ fn serve_connections<T: Target, C: Connect, W: Write>(
 ) -> Result<(), RunFault>
     // All were served, one after another, and each has its line.
     ensures served { OnOk result ((outcomes : List Outcome) × (length outcomes ≡ connections)
-        × Sessions T.step C.opens C.closes C.Input.remaining C.Output.contents turns encoder.old connect.old outcomes encoder.new connect.new
+        × Sessions T.step C.opens C.closes C.Input.remaining C.Output.contents turns encoder.old connect.old outcomes
+        encoder.new connect.new
         × Appends (W.contents writer.old) (W.contents writer.new) (connection_lines 1 outcomes)) }
     // Fewer were served, each of which has its line, and then there was no connection to be had.
     ensures refused { result ≡ Err Listening → (outcomes : List Outcome) × (last : C) × (length outcomes < connections)
-        × Sessions T.step C.opens C.closes C.Input.remaining C.Output.contents turns encoder.old connect.old outcomes encoder.new last
+        × Sessions T.step C.opens C.closes C.Input.remaining C.Output.contents turns encoder.old connect.old outcomes
+        encoder.new last
         × C.opens last None connect.new
         × Appends (W.contents writer.old) (W.contents writer.new) (connection_lines 1 outcomes) }
     // There was no memory for the line of the last one that was served, or writing failed: the writer got a beginning
     // of the lines.
-    ensures broken { IfErr result (λ fault. fault ≢ Listening → (outcomes : List Outcome) × (length outcomes ≤ connections)
-        × Sessions T.step C.opens C.closes C.Input.remaining C.Output.contents turns encoder.old connect.old outcomes encoder.new connect.new
+    ensures broken { IfErr result (λ fault. fault ≢ Listening
+        → (outcomes : List Outcome) × (length outcomes ≤ connections)
+        × Sessions T.step C.opens C.closes C.Input.remaining C.Output.contents turns encoder.old connect.old outcomes
+        encoder.new connect.new
         × Begins (W.contents writer.old) (W.contents writer.new) (connection_lines 1 outcomes)) }
     ensures faults { IfErr result (λ fault. (fault ≡ Listening) ⊎ ((fault ≢ Listening) × Fails fault)) }
 {

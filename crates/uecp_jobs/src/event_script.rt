@@ -77,7 +77,8 @@ fn put_closing(line: &Line<RdsStore>, store: bool, output: &mut Output)
 
 /// Plays one event, and says what came of it.
 fn play_event(line: &mut Line<RdsStore>, event: &EventLine, output: &mut Output)
-    ensures { (lines : List ℕ) × PlaysEvent line.old (event_seen event.now) lines line.new × Adds output.old output.new lines }
+    ensures { (lines : List ℕ) × PlaysEvent line.old (event_seen event.now) lines line.new
+        × Adds output.old output.new lines }
 {
     let event = line_event(event);
     let number = named_message(&event);
@@ -86,7 +87,8 @@ fn play_event(line: &mut Line<RdsStore>, event: &EventLine, output: &mut Output)
 
 /// Starts the server again, and says how many messages were given up.
 fn restart(line: &mut Line<RdsStore>, output: &mut Output)
-    ensures { (given_up : ℕ) × Restarts step line.old given_up line.new × Adds output.old output.new (given_up_line given_up) }
+    ensures { (given_up : ℕ) × Restarts step line.old given_up line.new
+        × Adds output.old output.new (given_up_line given_up) }
 {
     empty_message_changes_nothing();
     put_given_up(line.restart_server(), output);

@@ -51,7 +51,8 @@ fn do_line(
     frame: &mut Option<Frame>,
     output: &mut Output,
 ) -> Result<(), TextFault>
-    ensures done { OnOk result ((lines : List ℕ) × Does frame.old (line_of line) lines frame.new × Adds output.old output.new lines) }
+    ensures done { OnOk result ((lines : List ℕ) × Does frame.old (line_of line) lines frame.new
+        × Adds output.old output.new lines) }
     ensures undone { IfErr result (λ e. IsUndone frame.old (line_of line) e × (frame.new ≡ frame.old)) }
     ensures unwritten { OnErr result (output.new ≡ output.old) }
 {

@@ -3,7 +3,8 @@ ghost use Rattle.std.specs.Prelude.{◌≡◌, ◌⊎◌, ◌≤◌, Err, IfOk};
 ghost use Rattle.uecp_text.specs.Faults.{status_of, error_lines};
 ghost use Rattle.uecp_text.specs.Written.{Begins};
 ghost use Rattle.uecp_text.specs.declared.run_fault.RunFault.{RunFault};
-ghost use Rattle.uecp_jobs.specs.Jobs.{IsLocal, IsDescribed, RefusesJob, DoesJob, IsDone, IsRefused, IsUndescribed, HasFailed};
+ghost use Rattle.uecp_jobs.specs.Jobs.{IsLocal, IsDescribed, RefusesJob, DoesJob, IsDone, IsRefused, IsUndescribed};
+ghost use Rattle.uecp_jobs.specs.Jobs.{HasFailed};
 
 use crate::answering::Answering;
 use crate::event_script::Playing;
@@ -30,15 +31,19 @@ pub fn run_job<R: Read, W: Write, E: Write>(
     ensures status { result ≤ 3 }
     // 0: the options describe an encoder, and what the job writes of the whole input was written. Nothing was said on
     // `errors`.
-    ensures done { result ≡ 0 → IsDone job.now (R.remaining reader.old) (R.remaining reader.new) (W.contents writer.old) (W.contents writer.new) × (errors.new ≡ errors.old) }
+    ensures done { result ≡ 0 → IsDone job.now (R.remaining reader.old) (R.remaining reader.new) (W.contents writer.old)
+        (W.contents writer.new) × (errors.new ≡ errors.old) }
     // 1: a line was refused, what the job writes of the lines before it was written, and the line's number and fault
     // were said.
-    ensures refused { result ≡ 1 → IsRefused job.now (R.remaining reader.old) (R.remaining reader.new) (W.contents writer.old) (W.contents writer.new) (E.contents errors.old) (E.contents errors.new) }
+    ensures refused { result ≡ 1 → IsRefused job.now (R.remaining reader.old) (R.remaining reader.new)
+        (W.contents writer.old) (W.contents writer.new) (E.contents errors.old) (E.contents errors.new) }
     // 2: the options describe no encoder. Nothing was read or written.
-    ensures undescribed { result ≡ 2 → IsUndescribed job.now (E.contents errors.old) (E.contents errors.new) × (reader.new ≡ reader.old) × (writer.new ≡ writer.old) }
+    ensures undescribed { result ≡ 2 → IsUndescribed job.now (E.contents errors.old) (E.contents errors.new)
+        × (reader.new ≡ reader.old) × (writer.new ≡ writer.old) }
     // 3: memory, reading or writing failed, that was said, and what was written is a beginning of what the job writes
     // of its input.
-    ensures failed { result ≡ 3 → HasFailed job.now (R.remaining reader.old) (R.remaining reader.new) (W.contents writer.old) (W.contents writer.new) (E.contents errors.old) (E.contents errors.new) }
+    ensures failed { result ≡ 3 → HasFailed job.now (R.remaining reader.old) (R.remaining reader.new)
+        (W.contents writer.old) (W.contents writer.new) (E.contents errors.old) (E.contents errors.new) }
 {
     match do_job(alloc, job, reader, writer) {
         Ok(()) => 0,
@@ -55,7 +60,9 @@ fn do_job<R: Read, W: Write>(
 ) -> Result<(), RunFault>
     requires { IsLocal job.now }
     ensures described { IfOk result (λ _. IsDescribed job.now) }
-    ensures does { ((fault : RunFault) × (result ≡ Err fault) × RefusesJob job.now fault × (reader.new ≡ reader.old) × (writer.new ≡ writer.old)) ⊎ DoesJob job.now (R.remaining reader.old) (R.remaining reader.new) (W.contents writer.old) (W.contents writer.new) result }
+    ensures does { ((fault : RunFault) × (result ≡ Err fault) × RefusesJob job.now fault × (reader.new ≡ reader.old)
+        × (writer.new ≡ writer.old)) ⊎ DoesJob job.now (R.remaining reader.old) (R.remaining reader.new)
+        (W.contents writer.old) (W.contents writer.new) result }
 {
     match job {
         Job::Show => run(alloc, reader, &mut Showing::new(alloc), writer),

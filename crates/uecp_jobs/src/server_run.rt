@@ -1,9 +1,12 @@
 //! The job `server`, from its input to its exit status (profile).
-ghost use Rattle.std.specs.Prelude.{◌≡◌, ◌≢◌, ◌⊎◌, ℕ, ◌+◌, ◌≤◌, List, [], length, Result, Some, None, Ok, Err, IfOk, IfErr, IsTrue};
+ghost use Rattle.std.specs.Prelude.{◌≡◌, ◌≢◌, ◌⊎◌, ℕ, ◌+◌, ◌≤◌, List, [], length, Result, Some, None, Ok, Err, IfOk};
+ghost use Rattle.std.specs.Prelude.{IfErr, IsTrue};
 ghost use Rattle.uecp_frame.specs.Address.{is_exact};
 ghost use Rattle.uecp_jobs.specs.Jobs.{RefusesJob, IsUndescribed};
 ghost use Rattle.uecp_jobs.specs.Batches.{batch_size};
-ghost use Rattle.uecp_jobs.specs.ServerRun.{IsServer, RunsSender, SendsMessages, SendsNone, SendsUpTo, HasSentAll, HasSentBefore, HasNotSentAll, AreAcknowledged, AreAcknowledgedBefore, AreNotAcknowledged};
+ghost use Rattle.uecp_jobs.specs.ServerRun.{IsServer, RunsSender, SendsMessages, SendsNone, SendsUpTo, HasSentAll};
+ghost use Rattle.uecp_jobs.specs.ServerRun.{HasSentBefore, HasNotSentAll, AreAcknowledged, AreAcknowledgedBefore};
+ghost use Rattle.uecp_jobs.specs.ServerRun.{AreNotAcknowledged};
 
 use crate::batches::{join_first, send_batches};
 use crate::job::Job;
@@ -35,21 +38,32 @@ pub fn run_server<R: Read, W: Write, E: Write, C: Connect>(
     ensures status { result ≤ 3 }
     // 0: all messages of the input were sent, each once, and acknowledged, and no line was refused. Nothing was said on
     // `errors`.
-    ensures sent { result ≡ 0 → HasSentAll C.opens C.closes C.Input.remaining C.Output.contents job.now connect.old connect.new (R.remaining reader.old) (R.remaining reader.new) (W.contents writer.old) (W.contents writer.new) × (errors.new ≡ errors.old) }
+    ensures sent { result ≡ 0 → HasSentAll C.opens C.closes C.Input.remaining C.Output.contents job.now connect.old
+        connect.new (R.remaining reader.old) (R.remaining reader.new) (W.contents writer.old) (W.contents writer.new)
+        × (errors.new ≡ errors.old) }
     // 0: so there is one line for each message, in order.
-    ensures acknowledged { result ≡ 0 → AreAcknowledged job.now (R.remaining reader.old) (R.remaining reader.new) (W.contents writer.old) (W.contents writer.new) }
+    ensures acknowledged { result ≡ 0 → AreAcknowledged job.now (R.remaining reader.old) (R.remaining reader.new)
+        (W.contents writer.old) (W.contents writer.new) }
     // 1: a line was refused, the messages before it were sent, each once, and acknowledged, and the line's number and
     // fault were said.
-    ensures sent_before { result ≡ 1 → HasSentBefore C.opens C.closes C.Input.remaining C.Output.contents job.now connect.old connect.new (R.remaining reader.old) (R.remaining reader.new) (W.contents writer.old) (W.contents writer.new) (E.contents errors.old) (E.contents errors.new) }
+    ensures sent_before { result ≡ 1 → HasSentBefore C.opens C.closes C.Input.remaining C.Output.contents job.now
+        connect.old connect.new (R.remaining reader.old) (R.remaining reader.new) (W.contents writer.old)
+        (W.contents writer.new) (E.contents errors.old) (E.contents errors.new) }
     // 1: so there is one line for each of those messages, in order.
-    ensures acknowledged_before { result ≡ 1 → AreAcknowledgedBefore job.now (R.remaining reader.old) (R.remaining reader.new) (W.contents writer.old) (W.contents writer.new) (E.contents errors.old) (E.contents errors.new) }
+    ensures acknowledged_before { result ≡ 1 → AreAcknowledgedBefore job.now (R.remaining reader.old)
+        (R.remaining reader.new) (W.contents writer.old) (W.contents writer.new) (E.contents errors.old)
+        (E.contents errors.new) }
     // 2: the address is not that of one encoder. No connection was opened, and nothing was read or written.
-    ensures undescribed { result ≡ 2 → IsUndescribed job.now (E.contents errors.old) (E.contents errors.new) × (reader.new ≡ reader.old) × (writer.new ≡ writer.old) × (connect.new ≡ connect.old) }
+    ensures undescribed { result ≡ 2 → IsUndescribed job.now (E.contents errors.old) (E.contents errors.new)
+        × (reader.new ≡ reader.old) × (writer.new ≡ writer.old) × (connect.new ≡ connect.old) }
     // 3: a batch is outstanding, and not before its tries and its connections are spent; or memory or writing failed
     // behind a batch; or nothing was sent.
-    ensures not_sent { result ≡ 3 → HasNotSentAll C.opens C.closes C.Input.remaining C.Output.contents job.now connect.old connect.new (R.remaining reader.old) (R.remaining reader.new) (W.contents writer.old) (W.contents writer.new) (E.contents errors.old) (E.contents errors.new) }
+    ensures not_sent { result ≡ 3 → HasNotSentAll C.opens C.closes C.Input.remaining C.Output.contents job.now
+        connect.old connect.new (R.remaining reader.old) (R.remaining reader.new) (W.contents writer.old)
+        (W.contents writer.new) (E.contents errors.old) (E.contents errors.new) }
     // 3: so the lines of the batches before that were written, and then that it is outstanding; or a beginning of that.
-    ensures not_acknowledged { result ≡ 3 → AreNotAcknowledged job.now (R.remaining reader.old) (R.remaining reader.new) (W.contents writer.old) (W.contents writer.new) (E.contents errors.old) (E.contents errors.new) }
+    ensures not_acknowledged { result ≡ 3 → AreNotAcknowledged job.now (R.remaining reader.old) (R.remaining reader.new)
+        (W.contents writer.old) (W.contents writer.new) (E.contents errors.old) (E.contents errors.new) }
 {
     match send_all(alloc, job, reader, writer, connect) {
         Ok(()) => 0,
@@ -66,10 +80,14 @@ fn send_all<R: Read, W: Write, C: Connect>(
     connect: &mut C,
 ) -> Result<(), RunFault>
     requires { IsServer job.now }
-    ensures all { IfOk result (λ _. HasSentAll C.opens C.closes C.Input.remaining C.Output.contents job.now connect.old connect.new (R.remaining reader.old) (R.remaining reader.new) (W.contents writer.old) (W.contents writer.new)) }
-    ensures some { IfErr result (λ fault. (RefusesJob job.now fault × (reader.new ≡ reader.old) × (writer.new ≡ writer.old) × (connect.new ≡ connect.old))
-        ⊎ (SendsNone (R.remaining reader.old) (R.remaining reader.new) (W.contents writer.old) (W.contents writer.new) fault × (connect.new ≡ connect.old))
-        ⊎ SendsUpTo C.opens C.closes C.Input.remaining C.Output.contents job.now connect.old connect.new (R.remaining reader.old) (R.remaining reader.new) (W.contents writer.old) (W.contents writer.new) fault) }
+    ensures all { IfOk result (λ _. HasSentAll C.opens C.closes C.Input.remaining C.Output.contents job.now connect.old
+        connect.new (R.remaining reader.old) (R.remaining reader.new) (W.contents writer.old) (W.contents writer.new)) }
+    ensures some { IfErr result (λ fault. (RefusesJob job.now fault × (reader.new ≡ reader.old)
+        × (writer.new ≡ writer.old) × (connect.new ≡ connect.old))
+        ⊎ (SendsNone (R.remaining reader.old) (R.remaining reader.new) (W.contents writer.old) (W.contents writer.new)
+        fault × (connect.new ≡ connect.old))
+        ⊎ SendsUpTo C.opens C.closes C.Input.remaining C.Output.contents job.now connect.old connect.new
+        (R.remaining reader.old) (R.remaining reader.new) (W.contents writer.old) (W.contents writer.new) fault) }
 {
     match job {
         Job::Server {
@@ -142,7 +160,8 @@ fn send_messages<W: Write, C: Connect>(
     requires some { 1 ≤ size }
     requires most { size ≤ 8 }
     requires exact { IsTrue (is_exact address) }
-    ensures { SendsMessages C.opens C.closes C.Input.remaining C.Output.contents address limits join size messages.now connect.old connect.new (W.contents writer.old) (W.contents writer.new) result }
+    ensures { SendsMessages C.opens C.closes C.Input.remaining C.Output.contents address limits join size messages.now
+        connect.old connect.new (W.contents writer.old) (W.contents writer.new) result }
 {
     let mut sender = Sender::new(connect, Server::new(address), limits);
     let sent = run_sender(alloc, messages, size, join, &mut sender, writer);
@@ -162,7 +181,8 @@ fn run_sender<W: Write, C: Connect>(
     requires some { 1 ≤ size }
     requires most { size ≤ 8 }
     requires idle { sender.old.sender.server.held ≡ [] }
-    ensures runs { RunsSender C.opens C.closes C.Input.remaining C.Output.contents join size sender.old messages.now (W.contents writer.old) (W.contents writer.new) result sender.new }
+    ensures runs { RunsSender C.opens C.closes C.Input.remaining C.Output.contents join size sender.old messages.now
+        (W.contents writer.old) (W.contents writer.new) result sender.new }
     ensures loan { sender.new.loan ≡ sender.old.loan }
 {
     join_first(alloc, join, sender, writer)?;

@@ -2,7 +2,8 @@
 ghost use Rattle.std.specs.Prelude.{◌≡◌, ◌⊎◌, None, IfSome, IfNone, IfOk, IfErr, IsTrue};
 ghost use Rattle.uecp_frame.specs.Address.{is_exact};
 ghost use Rattle.uecp_jobs.specs.Jobs.{HasEncoder, Describes};
-ghost use Rattle.uecp_jobs.specs.Setups.{IsOneEncoder, address_of, options_of, IsSetup, encoder_at_first, line_at_first, RefusesSetup};
+ghost use Rattle.uecp_jobs.specs.Setups.{IsOneEncoder, address_of, options_of, IsSetup, encoder_at_first};
+ghost use Rattle.uecp_jobs.specs.Setups.{line_at_first, RefusesSetup};
 ghost use Rattle.rds_store.specs.Opening.{fault_of, opening};
 ghost use Rattle.uecp_text.specs.declared.run_fault.RunFault.TheVariants.{OutOfMemory};
 
@@ -104,7 +105,8 @@ pub fn new_line(alloc: Global, setup: &Setup<'_>) -> Result<Line<RdsStore>, RunF
 
 /// An opening store, or the first fault of data sets and services.
 fn new_store(alloc: Global, setup: &Setup<'_>) -> Result<RdsStore, RunFault>
-    ensures made { IfOk result (λ store. (fault_of setup.now.sets setup.now.services.now ≡ None) × (store ≡ opening setup.now.sets setup.now.services.now)) }
+    ensures made { IfOk result (λ store. (fault_of setup.now.sets setup.now.services.now ≡ None)
+        × (store ≡ opening setup.now.sets setup.now.services.now)) }
     ensures refused { IfErr result (λ fault. (fault ≡ OutOfMemory) ⊎ RefusesSetup (options_of setup.now) fault) }
 {
     match RdsStore::new(alloc, setup.sets, setup.services) {

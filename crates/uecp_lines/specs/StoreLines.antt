@@ -55,7 +55,8 @@ set_lines v set = flat_map (lines_at v set) v.services
 -- first.
 abbrev pub store_lines : Store → List ℕ
 store_lines v =
-    counted (codes "current") v.current ++ codes "\n" ++ flat_map (set_lines v) (set_numbers v.sets) ++ flat_map group_line v.groups
+    counted (codes "current") v.current ++ codes "\n" ++ flat_map (set_lines v) (set_numbers v.sets)
+    ++ flat_map group_line v.groups
 
 -- The lines of the store come last where they are asked for.
 abbrev pub last_lines : (asked : Bool) → Store → List ℕ

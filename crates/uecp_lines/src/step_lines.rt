@@ -84,7 +84,8 @@ pub fn put_given_up(given_up: usize, output: &mut Output)
 
 /// The line of totals.
 pub fn put_totals(line: &Line<RdsStore>, output: &mut Output)
-    ensures { Adds output.old output.new (totals_line (length line.now.sent) (length line.now.codes) (least_missing (is_acknowledged line.now) (length line.now.sent))) }
+    ensures { Adds output.old output.new (totals_line (length line.now.sent) (length line.now.codes)
+        (least_missing (is_acknowledged line.now) (length line.now.sent))) }
 {
     put_counts(
         line.sent().len(),

@@ -2,7 +2,9 @@
 ghost use Rattle.std.specs.Prelude.{◌++◌, codes, length, flat_map, take};
 ghost use Rattle.rds_store.specs.Refusals.{set_numbers};
 ghost use Rattle.uecp_text.specs.Digits.{flagged};
-ghost use Rattle.uecp_lines.specs.StoreLines.{place_words, name_words, flag_words, value_words, text_line, texts_lines, group_words, group_line, service_lines, lines_at, set_lines, store_lines, last_lines};
+ghost use Rattle.uecp_lines.specs.StoreLines.{place_words, name_words, flag_words, value_words, text_line, texts_lines};
+ghost use Rattle.uecp_lines.specs.StoreLines.{group_words, group_line, service_lines, lines_at, set_lines, store_lines};
+ghost use Rattle.uecp_lines.specs.StoreLines.{last_lines};
 ghost use Rattle.uecp_text.specs.Written.{Adds};
 
 use crate::step_lines::put_count;

@@ -52,9 +52,17 @@ pub second_empty : {A : Type 0} (x y : List A) → x ++ y ≡ [] → y ≡ []
 second_empty [] y h = h
 second_empty (n ∷ x) y h = absurd (cc)
 
-broken_off : (x z : List ℕ) (f : Frame) → length f.message ≤ 255 → z ≢ [] → spelling f ≡ x ++ z → found_beyond Closed x ≡ []
+broken_off : (x z : List ℕ) (f : Frame) → length f.message ≤ 255 → z ≢ [] → spelling f ≡ x ++ z
+    → found_beyond Closed x ≡ []
 broken_off [] z f small some is = (new_start_lem Closed []).nothing
-broken_off (n ∷ x) z f small some is = (passed_over_lem Closed (n ∷ x) f (record { frame = f; rest = z; joined = sym is; begun = λ e. cc; unfinished = some }) small).none
+broken_off (n ∷ x) z f small some is =
+    (passed_over_lem Closed (n ∷ x) f (record {
+      frame = f;
+      rest = z;
+      joined = sym is;
+      begun = λ e. cc;
+      unfinished = some;
+    }) small).none
 
 pub begins : (fs : List Frame) (x y : List ℕ) → Small fs → x ++ y ≡ concat (spelled fs) → Begins fs x y
 begins [] x y small h =
@@ -69,7 +77,8 @@ begins [] x y small h =
     }
 begins (f ∷ fs) x y small h = go (cut x y (spelling f) (concat (spelled fs)) h) (λ z rest. begins fs z y small.1 rest)
   where
-    go : Cut x y (spelling f) (concat (spelled fs)) → ((z : List ℕ) → z ++ y ≡ concat (spelled fs) → Begins fs z y) → Begins (f ∷ fs) x y
+    go : Cut x y (spelling f) (concat (spelled fs)) → ((z : List ℕ) → z ++ y ≡ concat (spelled fs) → Begins fs z y)
+        → Begins (f ∷ fs) x y
     go (Before z some is) on = record {
       come = [];
       to_come = f ∷ fs;
@@ -87,7 +96,8 @@ begins (f ∷ fs) x y small h = go (cut x y (spelling f) (concat (spelled fs)) h
           to_come = later.to_come;
           all = ap (λ l. f ∷ l) later.all;
           finds =
-              ap (found_beyond Closed) is ∙ pieces.found ∙ ap (λ fs. fs ++ found_beyond (open_beyond Closed (spelling f)) z) here.found
+              ap (found_beyond Closed) is ∙ pieces.found ∙ ap (λ fs. fs
+              ++ found_beyond (open_beyond Closed (spelling f)) z) here.found
               ∙ ap (λ o. Ok f ∷ found_beyond o z) here.left ∙ ap (λ fs. Ok f ∷ fs) later.finds;
           none_left = later.none_left;
           closed = λ e. ap (open_beyond Closed) is ∙ pieces.left ∙ ap (λ o. open_beyond o z) here.left ∙ later.closed e;

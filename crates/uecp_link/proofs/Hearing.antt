@@ -1,8 +1,10 @@
 -- What findings do to the two ends.
-use Rattle.std.proofs.Common.{◌≡◌, ℕ, ◌%◌, ◌≤◌, ◌==◌, ◌&&◌, ◌/◌, ◌||◌, Bool, true, false, cond, List, [], ◌∷◌, ◌++◌, Option, Some, None, refl, ap, ◌∙◌, eq-eqb, length, Ok, Err, not}
+use Rattle.std.proofs.Common.{◌≡◌, ℕ, ◌%◌, ◌≤◌, ◌==◌, ◌&&◌, ◌/◌, ◌||◌, Bool, true, false, cond, List, [], ◌∷◌, ◌++◌}
+use Rattle.std.proofs.Common.{Option, Some, None, refl, ap, ◌∙◌, eq-eqb, length, Ok, Err, not}
 use Rattle.std.proofs.lemmas.Bool.{ne_eqb}
 use Rattle.uecp_elements.specs.declared.code.Code.{Code}
-use Rattle.uecp_elements.specs.declared.code.Code.TheVariants.{Applied, UnknownElement, DataSet, Service, OutOfRange, ElementLength, NotHere, BufferFull}
+use Rattle.uecp_elements.specs.declared.code.Code.TheVariants.{Applied, UnknownElement, DataSet, Service, OutOfRange}
+use Rattle.uecp_elements.specs.declared.code.Code.TheVariants.{ElementLength, NotHere, BufferFull}
 use Rattle.uecp_frame.specs.declared.frame.Frame.{Frame}
 use Rattle.uecp_frame.specs.Findings.{Finding, has_frame, is_quiet, OpenPart, found, open_part}
 use Rattle.uecp_frame.specs.Beyond.{found_beyond, open_beyond}
@@ -16,14 +18,16 @@ use Rattle.uecp_elements.specs.Codes.{byte_of, code_of_byte}
 use Rattle.reply_ring.specs.Ring.{kept_code, keep}
 use Rattle.uecp_encoder.specs.State.{EncoderState, is_next, after_finding, after_findings, fed, numbered}
 use Rattle.uecp_encoder.specs.Answering.{reply_of}
-use Rattle.uecp_link.specs.Server.{ServerState, Held, waiting_among, waits_for, marked_at, freed_of, heard_finding, heard_findings, heard, acknowledges, freed}
+use Rattle.uecp_link.specs.Server.{ServerState, Held, waiting_among, waits_for, marked_at, freed_of, heard_finding}
+use Rattle.uecp_link.specs.Server.{heard_findings, heard, acknowledges, freed}
 
 pub has_frame-append : (xs ys : List Finding) → has_frame (xs ++ ys) ≡ false → has_frame ys ≡ false
 has_frame-append [] ys h = h
 has_frame-append (Err n ∷ xs) ys h = has_frame-append xs ys h
 has_frame-append (Ok f ∷ xs) ys h = cc
 
-pub has_frame-append_from : (xs ys : List Finding) → has_frame xs ≡ false → has_frame ys ≡ false → has_frame (xs ++ ys) ≡ false
+pub has_frame-append_from : (xs ys : List Finding) → has_frame xs ≡ false → has_frame ys ≡ false
+    → has_frame (xs ++ ys) ≡ false
 has_frame-append_from [] ys h k = k
 has_frame-append_from (Err n ∷ xs) ys h k = has_frame-append_from xs ys h k
 has_frame-append_from (Ok f ∷ xs) ys h k = cc
@@ -35,21 +39,26 @@ no_frame z h = go (has_frame (found z)) h
     go true h = cc
     go false h = refl
 
-pub heard_findings-append : (s : ServerState) (xs ys : List Finding) → heard_findings s (xs ++ ys) ≡ heard_findings (heard_findings s xs) ys
+pub heard_findings-append : (s : ServerState) (xs ys : List Finding)
+    → heard_findings s (xs ++ ys) ≡ heard_findings (heard_findings s xs) ys
 heard_findings-append s [] ys = refl
 heard_findings-append s (x ∷ xs) ys = heard_findings-append (heard_finding s x) xs ys
 
 -- faults change the counts alone
-pub after_faults : {V : Type 0} (step : Step V) (e : EncoderState V) (a : ℕ) (v : V) (r : List (ℕ × Code)) (fs : List Finding)
+pub after_faults : {V : Type 0} (step : Step V) (e : EncoderState V) (a : ℕ) (v : V) (r : List (ℕ × Code))
+    (fs : List Finding)
     → has_frame fs ≡ false → EncoderIs e a v r → EncoderIs (after_findings step e fs) a v r
 after_faults step e a v r [] h is = is
 after_faults step e a v r (Err n ∷ fs) h is =
-    after_faults step (after_finding step e (Err n)) a v r fs h (record { address = is.address; value = is.value; ring = is.ring })
+    after_faults step (after_finding step e (Err n)) a v r fs h
+    (record { address = is.address; value = is.value; ring = is.ring })
 after_faults step e a v r (Ok f ∷ fs) h is = cc
 
-pub heard_faults : (s : ServerState) (a l : ℕ) (hs : List Held) (fs : List Finding) → has_frame fs ≡ false → ServerIs s a l hs → ServerIs (heard_findings s fs) a l hs
+pub heard_faults : (s : ServerState) (a l : ℕ) (hs : List Held) (fs : List Finding) → has_frame fs ≡ false
+    → ServerIs s a l hs → ServerIs (heard_findings s fs) a l hs
 heard_faults s a l hs [] h is = is
-heard_faults s a l hs (Err n ∷ fs) h is = heard_faults (heard_finding s (Err n)) a l hs fs h (record { address = is.address; last = is.last; held = is.held })
+heard_faults s a l hs (Err n ∷ fs) h is = heard_faults (heard_finding s (Err n)) a l hs fs h
+    (record { address = is.address; last = is.last; held = is.held })
 heard_faults s a l hs (Ok f ∷ fs) h is = cc
 
 pub reaches_self : (a : ℕ) → reaches a a ≡ true
@@ -62,17 +71,21 @@ reaches_self a = rw (eq-eqb (a / 64) (a / 64) refl, eq-eqb (a % 64) (a % 64) ref
     go false false = refl
 
 -- a numbered frame for the encoder, at what the ring has for its counter
-pub after_whole : {V : Type 0} (step : Step V) (e : EncoderState V) (f : Frame) → reaches f.address e.address ≡ true → (f.counter ≡ 0 → ⊥)
+pub after_whole : {V : Type 0} (step : Step V) (e : EncoderState V) (f : Frame) → reaches f.address e.address ≡ true
+    → (f.counter ≡ 0 → ⊥)
     → after_finding step e (Ok f) ≡ numbered step e f (kept_code e.ring f.counter)
 after_whole step e f r ne = rw (r, ne_eqb f.counter 0 ne)
 
-pub numbered_kept : {V : Type 0} (step : Step V) (e : EncoderState V) (a : ℕ) (v : V) (r : List (ℕ × Code)) (f : Frame) (o : Option Code) (code : Code)
+pub numbered_kept : {V : Type 0} (step : Step V) (e : EncoderState V) (a : ℕ) (v : V) (r : List (ℕ × Code)) (f : Frame)
+    (o : Option Code) (code : Code)
     → o ≡ Some code → EncoderIs e a v r → EncoderIs (numbered step e f o) a v r
 numbered_kept step e a v r f (Some c) code is_o is = record { address = is.address; value = is.value; ring = is.ring }
 numbered_kept step e a v r f None code is_o is = cc
 
-pub numbered_fresh : {V : Type 0} (step : Step V) (e : EncoderState V) (a : ℕ) (v : V) (r : List (ℕ × Code)) (f : Frame) (o : Option Code)
-    → o ≡ None → is_next r f.counter ≡ true → EncoderIs e a v r → EncoderIs (numbered step e f o) a (step v f.message).0 (keep r f.counter (step v f.message).1)
+pub numbered_fresh : {V : Type 0} (step : Step V) (e : EncoderState V) (a : ℕ) (v : V) (r : List (ℕ × Code)) (f : Frame)
+    (o : Option Code)
+    → o ≡ None → is_next r f.counter ≡ true → EncoderIs e a v r
+    → EncoderIs (numbered step e f o) a (step v f.message).0 (keep r f.counter (step v f.message).1)
 numbered_fresh step e a v r f (Some c) is_o next is = cc
 numbered_fresh step e a v r f None is_o next is = rw (ap (λ ring. is_next ring f.counter) is.ring ∙ next) (record {
   address = is.address;
@@ -98,14 +111,16 @@ pub acknowledges_reply : (s : ServerState) (a l : ℕ) (hs : List Held) (counter
 acknowledges_reply s a l hs counter code is = rw (is.held, is.address, eq-eqb a a refl, code_of_byte-byte_of code) refl
 
 -- a reply to a message that waits marks it, and lets go what may go
-pub heard_match : (s : ServerState) (a l : ℕ) (hs : List Held) (counter : ℕ) (code : Code) → waits_for (waiting_among hs) counter ≡ true → ServerIs s a l hs
+pub heard_match : (s : ServerState) (a l : ℕ) (hs : List Held) (counter : ℕ) (code : Code)
+    → waits_for (waiting_among hs) counter ≡ true → ServerIs s a l hs
     → ServerIs (heard_finding s (Ok (reply_of a counter code))) a l (freed_of (marked_at counter hs))
 heard_match s a l hs counter code waits is =
     rw (acknowledges_reply s a l hs counter code is, waits)
     (record { address = is.address; last = is.last; held = ap (λ x. freed_of (marked_at counter x)) is.held })
 
 -- a reply to another counter is stray
-pub heard_other : (s : ServerState) (a l : ℕ) (hs : List Held) (counter : ℕ) (code : Code) → waits_for (waiting_among hs) counter ≡ false → ServerIs s a l hs
+pub heard_other : (s : ServerState) (a l : ℕ) (hs : List Held) (counter : ℕ) (code : Code)
+    → waits_for (waiting_among hs) counter ≡ false → ServerIs s a l hs
     → ServerIs (heard_finding s (Ok (reply_of a counter code))) a l hs
 heard_other s a l hs counter code waits is =
     rw (acknowledges_reply s a l hs counter code is, waits)
@@ -164,6 +179,7 @@ pub heard-part : (s : ServerState) (x : List ℕ) → (heard s x).part ≡ open_
 heard-part s x = heard_findings-part (record s { part = open_beyond s.part x }) (found_beyond s.part x)
 
 -- noise that goes on quietly finds no frame
-pub quiet_rest : (o : OpenPart) (z x : List ℕ) → o ≡ open_part z → is_quiet (z ++ x) ≡ true → has_frame (found_beyond o x) ≡ false
+pub quiet_rest : (o : OpenPart) (z x : List ℕ) → o ≡ open_part z → is_quiet (z ++ x) ≡ true
+    → has_frame (found_beyond o x) ≡ false
 quiet_rest o z x is quiet =
     rw is (has_frame-append (found z) (found_beyond (open_part z) x) (rw found_more at (no_frame (z ++ x) quiet)))

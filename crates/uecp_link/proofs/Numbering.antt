@@ -1,5 +1,6 @@
 -- Small facts on numbers, sets and lists of messages.
-use Rattle.std.proofs.Common.{◌≡◌, ℕ, zero, suc, ◌+◌, ◌<◌, Bool, true, false, List, [], ◌∷◌, ◌++◌, length, Option, Some, None, nat_lt, refl, ap, sym, ◌∙◌, arith, inl, inr, eq-eqb}
+use Rattle.std.proofs.Common.{◌≡◌, ℕ, zero, suc, ◌+◌, ◌<◌, Bool, true, false, List, [], ◌∷◌, ◌++◌, length, Option, Some}
+use Rattle.std.proofs.Common.{None, nat_lt, refl, ap, sym, ◌∙◌, arith, inl, inr, eq-eqb}
 use Rattle.std.specs.Prelude.{is_some, unwrap_or}
 use Rattle.std.proofs.lemmas.Bool.{cases_eq, ne_eqb, lt-ltb, le-ltb, cases_lt}
 use Rattle.std.proofs.lemmas.List.{get_or_push, get_or_append_left}
@@ -36,7 +37,8 @@ is_none-of o e = ap is_some e
 pub with_code-same : (codes : ℕ → Option Code) (k : ℕ) (c : Code) → with_code codes k c k ≡ Some c
 with_code-same codes k c = rw (eq-eqb k k refl)
 
-pub with_code-other : (codes : ℕ → Option Code) (k : ℕ) (c : Code) (j : ℕ) → (j ≡ k → ⊥) → with_code codes k c j ≡ codes j
+pub with_code-other : (codes : ℕ → Option Code) (k : ℕ) (c : Code) (j : ℕ) → (j ≡ k → ⊥)
+    → with_code codes k c j ≡ codes j
 with_code-other codes k c j ne = rw (ne_eqb j k ne)
 
 -- one more number below p
@@ -70,7 +72,8 @@ with_member-true set k j h =
     ]
 
 -- a map that has the numbers below p, with p
-pub with_code-next : (codes : ℕ → Option Code) (p : ℕ) (c : Code) → ((k : ℕ) → is_some (codes k) ≡ nat_lt k p) → (j : ℕ) → is_some (with_code codes p c j) ≡ nat_lt j (p + 1)
+pub with_code-next : (codes : ℕ → Option Code) (p : ℕ) (c : Code) → ((k : ℕ) → is_some (codes k) ≡ nat_lt k p) → (j : ℕ)
+    → is_some (with_code codes p c j) ≡ nat_lt j (p + 1)
 with_code-next codes p c is j =
     elim (cases_eq j p) [
       | inl e ↦ rw (eq-eqb j p e, lt-ltb j (p + 1) (omega arith))
@@ -82,10 +85,12 @@ with_code-next codes p c is j =
 pub message_at-push : (sent : List (List ℕ)) (m : List ℕ) (k : ℕ) → k ≡ length sent → message_at (sent ++ m ∷ []) k ≡ m
 message_at-push sent m k e = get_or_push sent m [] k (sym e)
 
-pub message_at-before : (sent : List (List ℕ)) (m : List ℕ) (k : ℕ) → k < length sent → message_at (sent ++ m ∷ []) k ≡ message_at sent k
+pub message_at-before : (sent : List (List ℕ)) (m : List ℕ) (k : ℕ) → k < length sent
+    → message_at (sent ++ m ∷ []) k ≡ message_at sent k
 message_at-before sent m k l = get_or_append_left sent (m ∷ []) [] k l
 
-pub fits_push : (sent : List (List ℕ)) (m : List ℕ) → IsMessage m → ((k : ℕ) → IsMessage (message_at sent k)) → (k : ℕ) → IsMessage (message_at (sent ++ m ∷ []) k)
+pub fits_push : (sent : List (List ℕ)) (m : List ℕ) → IsMessage m → ((k : ℕ) → IsMessage (message_at sent k)) → (k : ℕ)
+    → IsMessage (message_at (sent ++ m ∷ []) k)
 fits_push [] m fit all zero = fit
 fits_push [] m fit all (suc k) = omega arith
 fits_push (x ∷ xs) m fit all zero = all 0

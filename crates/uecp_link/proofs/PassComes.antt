@@ -1,5 +1,6 @@
 -- The frames of a pass as they come, and the replies to them as they are read.
-use Rattle.std.proofs.Common.{◌≡◌, ◌≢◌, ℕ, zero, suc, ◌+◌, ◌≤◌, true, List, [], ◌∷◌, ◌++◌, map, refl, ◌∙◌, ap, sym, subst, arith, eq-eqb}
+use Rattle.std.proofs.Common.{◌≡◌, ◌≢◌, ℕ, zero, suc, ◌+◌, ◌≤◌, true, List, [], ◌∷◌, ◌++◌, map, refl, ◌∙◌, ap, sym}
+use Rattle.std.proofs.Common.{subst, arith, eq-eqb}
 use Rattle.std.specs.Prelude.{filter_map}
 use Rattle.std.specs.List.{concat}
 use Rattle.std.proofs.lemmas.Bool.{ne_eqb}
@@ -39,22 +40,41 @@ pub record Passing (V : Type 0) (address first least : ℕ) (come to_come : List
   pub rise : Rises first 255 (map (λ f. f.counter) come)
   pub fewer : to_come ≢ [] → Rises first 254 (map (λ f. f.counter) come)
 
-pub passing : (V : Type 0) (address first many least : ℕ) (come to_come : List Frame) → first + many ≡ 256 → 1 ≤ first → least ≤ first → empties address (rising first many) ≡ come ++ to_come → Passing V address first least come to_come
+pub passing : (V : Type 0) (address first many least : ℕ) (come to_come : List Frame) → first + many ≡ 256 → 1 ≤ first
+    → least ≤ first → empties address (rising first many) ≡ come ++ to_come → Passing V address first least come to_come
 passing V address first many least [] to_come whole some le is = record { pass = tt; rise = tt; fewer = λ _. tt }
 passing V address first zero least (f ∷ come) to_come whole some le is = absurd (cc)
 passing V address first (suc many) least (f ∷ come) to_come whole some le is =
     let this : f ≡ frame_under address (first, []) = cc in
-    let rest : Passing V address (first + 1) first come to_come = passing V address (first + 1) many first come to_come (omega arith) (omega arith) (omega arith) (let tail : empties address (rising (first + 1) many) ≡ come ++ to_come = cc in tail) in
+    let rest : Passing V address (first + 1) first come to_come =
+    passing V address (first + 1) many first come to_come (omega arith) (omega arith) (omega arith)
+    (let tail : empties address (rising (first + 1) many) ≡ come ++ to_come = cc in tail) in
     let counter : f.counter ≡ first = ap (λ (f : Frame). f.counter) this in
     let message : f.message ≡ [] = ap (λ (f : Frame). f.message) this in
     let to : is_message_to address f ≡ true = ap (is_message_to address) this ∙ is_message address first some in
     record {
-      pass = rw to (message, omega arith, subst (λ n. IsPass n (messages_to address (taken {V = V} come))) (sym counter) rest.pass);
-      rise = (omega arith, omega arith, subst (λ n. Rises (n + 1) 255 (map (λ f. f.counter) come)) (sym counter) rest.rise);
-      fewer = λ more. (omega arith, last many whole counter more (let tail : empties address (rising (first + 1) many) ≡ come ++ to_come = cc in tail), subst (λ n. Rises (n + 1) 254 (map (λ f. f.counter) come)) (sym counter) (rest.fewer more));
+      pass = rw to (
+        message,
+        omega arith,
+        subst (λ n. IsPass n (messages_to address (taken {V = V} come))) (sym counter)
+            rest.pass,
+      );
+      rise = (
+        omega arith,
+        omega arith,
+        subst (λ n. Rises (n + 1) 255 (map (λ f. f.counter) come)) (sym counter)
+            rest.rise,
+      );
+      fewer = λ more. (
+        omega arith,
+        last many whole counter more
+            (let tail : empties address (rising (first + 1) many) ≡ come ++ to_come = cc in tail),
+        subst (λ n. Rises (n + 1) 254 (map (λ f. f.counter) come)) (sym counter) (rest.fewer more),
+      );
     }
   where
-    last : (many : ℕ) → first + suc many ≡ 256 → f.counter ≡ first → to_come ≢ [] → empties address (rising (first + 1) many) ≡ come ++ to_come → f.counter ≤ 254
+    last : (many : ℕ) → first + suc many ≡ 256 → f.counter ≡ first → to_come ≢ []
+        → empties address (rising (first + 1) many) ≡ come ++ to_come → f.counter ≤ 254
     last zero whole counter more is = absurd (more (second_empty come to_come (sym is)))
     last (suc many) whole counter more is = omega arith
 
@@ -65,9 +85,11 @@ replies_small address [] = tt
 replies_small address (r ∷ rs) = (omega arith, replies_small address rs)
 
 -- a reply is heard as the reply to its counter
-pub counters_of : (address : ℕ) (rs : List (ℕ × Code)) → filter_map (reply_counter address) (found_as (map (reply_as address) rs)) ≡ firsts rs
+pub counters_of : (address : ℕ) (rs : List (ℕ × Code))
+    → filter_map (reply_counter address) (found_as (map (reply_as address) rs)) ≡ firsts rs
 counters_of address [] = refl
-counters_of address (r ∷ rs) = rw (eq-eqb address address refl, code_of_byte-byte_of r.1) (ap (λ cs. r.0 ∷ cs) (counters_of address rs))
+counters_of address (r ∷ rs) = rw (eq-eqb address address refl, code_of_byte-byte_of r.1)
+    (ap (λ cs. r.0 ∷ cs) (counters_of address rs))
 
 -- A list of which the images were cut in two.
 pub record IsCut {A B : Type 0} (g : A → B) (xs : List A) (front back : List B) : Type 0 where
@@ -77,7 +99,8 @@ pub record IsCut {A B : Type 0} (g : A → B) (xs : List A) (front back : List B
   pub front_is : front ≡ map g first
   pub back_is : back ≡ map g second
 
-pub cut_map : {A B : Type 0} (g : A → B) (xs : List A) (front back : List B) → map g xs ≡ front ++ back → IsCut g xs front back
+pub cut_map : {A B : Type 0} (g : A → B) (xs : List A) (front back : List B) → map g xs ≡ front ++ back
+    → IsCut g xs front back
 cut_map g xs [] back h = record { first = []; second = xs; all = refl; front_is = refl; back_is = sym h }
 cut_map g [] (b ∷ front) back h = absurd (cc)
 cut_map g (x ∷ xs) (b ∷ front) back h =

@@ -1,5 +1,7 @@
 -- A pass: its frames, and the reads that end with both replies.
-use Rattle.std.proofs.Common.{◌≡◌, ◌≢◌, ℕ, zero, suc, ◌+◌, ◌-◌, ◌<◌, ◌≤◌, false, List, [], ◌∷◌, ◌++◌, length, map, take, drop, Option, Some, None, Result, Ok, Err, refl, ◌∙◌, ap, sym, subst, arith, length-append, append-nil, take-append-drop}
+use Rattle.std.proofs.Common.{◌≡◌, ◌≢◌, ℕ, zero, suc, ◌+◌, ◌-◌, ◌<◌, ◌≤◌, false, List, [], ◌∷◌, ◌++◌, length, map, take}
+use Rattle.std.proofs.Common.{drop, Option, Some, None, Result, Ok, Err, refl, ◌∙◌, ap, sym, subst, arith}
+use Rattle.std.proofs.Common.{length-append, append-nil, take-append-drop}
 use Rattle.std.specs.Prelude.{slice_get}
 use Rattle.std.proofs.lemmas.List.{take-append-le, take_all}
 use Rattle.std.specs.Io.KnownBytes.{Appends}
@@ -19,7 +21,8 @@ use Rattle.uecp_link.specs.declared.joining.Seen.TheVariants.{Neither, Both}
 use Rattle.uecp_link.specs.Frames.{frame_under}
 use Rattle.uecp_link.specs.Server.{ServerState, waiting_among, freed, heard_finding, heard_findings, heard}
 use Rattle.uecp_link.specs.Reading.{Reads, is_closed, write_failures}
-use Rattle.uecp_link.specs.Joining.{frames_of_pass, pass_sent, reply_counters, IsJoinedBy, BringsBoth, anew, IsStillNew, RepliesEnd, PassEnds, MakesPass, seen_after, ReadsReplies, ReadSoFar}
+use Rattle.uecp_link.specs.Joining.{frames_of_pass, pass_sent, reply_counters, IsJoinedBy, BringsBoth, anew, IsStillNew}
+use Rattle.uecp_link.specs.Joining.{RepliesEnd, PassEnds, MakesPass, seen_after, ReadsReplies, ReadSoFar}
 use Rattle.uecp_link.proofs.Answered.{idle_hears}
 use Rattle.uecp_link.proofs.FeedingLemmas.{heard_none, heard_on}
 use Rattle.uecp_link.proofs.Reading.{no_read, reads_on, reads_end}
@@ -36,12 +39,15 @@ length-map_of : {A B : Type 0} (g : A → B) (xs : List A) → length (map g xs)
 length-map_of g [] = refl
 length-map_of g (x ∷ xs) = ap (λ n. suc n) (length-map_of g xs)
 
-risen : {A : Type 0} (g : ℕ → A) (first many place : ℕ) → place < many → slice_get (map g (rising first many)) place ≡ Some (g (first + place))
+risen : {A : Type 0} (g : ℕ → A) (first many place : ℕ) → place < many
+    → slice_get (map g (rising first many)) place ≡ Some (g (first + place))
 risen g first zero place below = absurd (omega arith)
 risen g first (suc many) zero below = ap (λ n. Some (g n)) (let e : first ≡ first + 0 = omega arith in e)
-risen g first (suc many) (suc place) below = risen g (first + 1) many place (omega arith) ∙ ap (λ n. Some (g n)) (let e : first + 1 + place ≡ first + suc place = omega arith in e)
+risen g first (suc many) (suc place) below = risen g (first + 1) many place (omega arith)
+    ∙ ap (λ n. Some (g n)) (let e : first + 1 + place ≡ first + suc place = omega arith in e)
 
-pub frame_there : (address place : ℕ) → place < 255 → slice_get (frames_of_pass address) place ≡ Some (spelling (frame_under address (place + 1, [])))
+pub frame_there : (address place : ℕ) → place < 255
+    → slice_get (frames_of_pass address) place ≡ Some (spelling (frame_under address (place + 1, [])))
 unfolding frames_of_pass
 frame_there address place below =
     risen (λ counter. spelling (frame_under address (counter, []))) 1 255 place below
@@ -58,7 +64,8 @@ frame_is_short address counter = length-spelling-le (frame_under address (counte
 
 -- ---- reads
 
-pub read_none : {R : Type 0} (remaining : R → Option (List ℕ)) (s : ServerState) (reader : Metered R) → s.held ≡ [] → ReadSoFar remaining s s reader reader Neither 0
+pub read_none : {R : Type 0} (remaining : R → Option (List ℕ)) (s : ServerState) (reader : Metered R) → s.held ≡ []
+    → ReadSoFar remaining s s reader reader Neither 0
 read_none remaining s reader idle = record {
   read = [];
   reading = no_read remaining reader;
@@ -68,8 +75,10 @@ read_none remaining s reader idle = record {
   waits = λ h. cc;
 }
 
-module _ {R : Type 0} (remaining : R → Option (List ℕ)) (s0 s1 : ServerState) (r0 r1 : Metered R) (seen : Seen) (reads : ℕ) (so_far : ReadSoFar remaining s0 s1 r0 r1 seen reads) where
-  more_seen : (piece : List ℕ) (seen' : Seen) → seen' ≡ seen_after seen (reply_counters s1.address s1.part piece) → seen' ≡ seen_after Neither (reply_counters s0.address s0.part (so_far.read ++ piece))
+module _ {R : Type 0} (remaining : R → Option (List ℕ)) (s0 s1 : ServerState) (r0 r1 : Metered R) (seen : Seen)
+    (reads : ℕ) (so_far : ReadSoFar remaining s0 s1 r0 r1 seen reads) where
+  more_seen : (piece : List ℕ) (seen' : Seen) → seen' ≡ seen_after seen (reply_counters s1.address s1.part piece)
+      → seen' ≡ seen_after Neither (reply_counters s0.address s0.part (so_far.read ++ piece))
   more_seen piece seen' is = is ∙ seen_on s0 s1 so_far.read piece Neither seen so_far.state so_far.seen_is
 
   -- one read more, after which not both were read
@@ -89,8 +98,11 @@ module _ {R : Type 0} (remaining : R → Option (List ℕ)) (s0 s1 : ServerState
   -- what was read before the last 64 bytes, or all where no more was read, does not bring both
   not_yet : (x y : List ℕ) → s0.part ≡ NothingOpen → x ++ y ≡ so_far.read → BringsBoth s0.address x → ⊥
   not_yet x y closed whole brought =
-      let there : IsJoinedBy (reply_counters s0.address s0.part x) = subst (λ (o : OpenPart). IsJoinedBy (reply_counters s0.address o x)) (sym closed) brought in
-      let all : IsJoinedBy (reply_counters s0.address s0.part so_far.read) = subst (λ bs. IsJoinedBy (reply_counters s0.address s0.part bs)) whole (brought_later s0.address s0.part x y there) in
+      let there : IsJoinedBy (reply_counters s0.address s0.part x) =
+      subst (λ (o : OpenPart). IsJoinedBy (reply_counters s0.address o x)) (sym closed) brought in
+      let all : IsJoinedBy (reply_counters s0.address s0.part so_far.read) =
+      subst (λ bs. IsJoinedBy (reply_counters s0.address s0.part bs)) whole
+      (brought_later s0.address s0.part x y there) in
       so_far.waits (so_far.seen_is ∙ joined_seen Neither (reply_counters s0.address s0.part so_far.read) all)
 
   pub not_brought : s0.part ≡ NothingOpen → BringsBoth s0.address so_far.read → ⊥
@@ -117,7 +129,8 @@ module _ {R : Type 0} (remaining : R → Option (List ℕ)) (s0 s1 : ServerState
         state = heard_on s0 s1 s2 so_far.read piece so_far.state state;
         ends = (
           subst (λ (o : OpenPart). IsJoinedBy (reply_counters s0.address o (so_far.read ++ piece))) closed joined,
-          λ early. not_yet (take n so_far.read) (drop n so_far.read) closed (take-append-drop n so_far.read) (subst (BringsBoth s0.address) front early),
+          λ early. not_yet (take n so_far.read) (drop n so_far.read) closed (take-append-drop n so_far.read)
+              (subst (BringsBoth s0.address) front early),
           refl,
           omega arith,
         );
@@ -178,9 +191,12 @@ pass_read remaining contents s0 s1 s2 r0 r1 w0 w1 turns result begins wrote fail
 }
   where
     ends : RepliesEnd s0.address reads.read (remaining r1.device) turns reads.reads reads.failed result
-    ends = subst (λ (s : ServerState). RepliesEnd s.address reads.read (remaining r1.device) turns reads.reads reads.failed result) begins reads.ends
+    ends = subst (λ (s : ServerState). RepliesEnd s.address reads.read (remaining r1.device) turns reads.reads
+        reads.failed result) begins reads.ends
 
-    go : (result : Result Joining DriveFault) → RepliesEnd s0.address reads.read (remaining r1.device) turns reads.reads reads.failed result → PassEnds s0.address reads.read (pass_sent s0.address) (remaining r1.device) turns reads.reads reads.failed result
+    go : (result : Result Joining DriveFault) → RepliesEnd s0.address reads.read (remaining r1.device) turns reads.reads
+        reads.failed result → PassEnds s0.address reads.read (pass_sent s0.address) (remaining r1.device) turns
+        reads.reads reads.failed result
     go (Ok joining) ends = (refl, ends)
     go (Err Closed) ends = (refl, ends)
     go (Err (WriteFailed w)) ends = absurd ends
@@ -196,11 +212,26 @@ pass_read remaining contents s0 s1 s2 r0 r1 w0 w1 turns result begins wrote fail
 
 -- what a pass leaves of the server
 pub still_new : (old new : ServerState) (x : List ℕ) → new ≡ heard (anew old) x → IsStillNew old new
-still_new old new x state = subst (IsStillNew old) (sym state) (go (record (anew old) { part = open_beyond NothingOpen x }) (found_beyond NothingOpen x) refl)
+still_new old new x state = subst (IsStillNew old) (sym state)
+    (go (record (anew old) { part = open_beyond NothingOpen x }) (found_beyond NothingOpen x) refl)
   where
-    go : (s : ServerState) (fs : List Finding) → s.held ≡ [] → heard_findings s fs ≡ record s { counts = record (heard_findings s fs).counts { acknowledged = s.counts.acknowledged }; part = (heard_findings s fs).part }
+    go : (s : ServerState) (fs : List Finding) → s.held ≡ []
+        → heard_findings s fs ≡ record s {
+          counts = record (heard_findings s fs).counts {
+            acknowledged =
+                s.counts.acknowledged;
+          };
+          part = (heard_findings s fs).part;
+        }
     go s [] idle = refl
     go s (Err fault ∷ fs) idle = go (heard_finding s (Err fault)) fs idle
     go s (Ok f ∷ fs) idle =
-        subst (λ (k : Option (ℕ × Code)). heard_findings (freed s k) fs ≡ record s { counts = record (heard_findings (freed s k) fs).counts { acknowledged = s.counts.acknowledged }; part = (heard_findings (freed s k) fs).part })
+        subst (λ (k : Option (ℕ × Code)). heard_findings (freed s k) fs
+        ≡ record s {
+          counts = record (heard_findings (freed s k) fs).counts {
+            acknowledged =
+                s.counts.acknowledged;
+          };
+          part = (heard_findings (freed s k) fs).part;
+        })
         (sym (none_acknowledged s f (ap waiting_among idle))) (go (freed s None) fs idle)

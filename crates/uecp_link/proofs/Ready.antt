@@ -1,5 +1,6 @@
 -- An encoder that is ready for a new server: what it keeps, and what it keeps after some numbers.
-use Rattle.std.proofs.Common.{◌≡◌, ℕ, zero, suc, ◌+◌, ◌-◌, ◌%◌, ◌≤◌, List, [], ◌∷◌, length, take, refl, ap, sym, ◌∙◌, arith, inl, inr}
+use Rattle.std.proofs.Common.{◌≡◌, ℕ, zero, suc, ◌+◌, ◌-◌, ◌%◌, ◌≤◌, List, [], ◌∷◌, length, take, refl, ap, sym, ◌∙◌}
+use Rattle.std.proofs.Common.{arith, inl, inr}
 use Rattle.std.proofs.lemmas.List.{take-map}
 use Rattle.uecp_elements.specs.declared.code.Code.{Code}
 use Rattle.uecp_encoder.specs.Joining.{falling}
@@ -48,16 +49,24 @@ none_back : (p : ℕ) → back p 0 ≡ []
 none_back zero = refl
 none_back (suc p) = refl
 
-all_before : (base : List (ℕ × Code)) (c : ℕ → Code) (w p now : ℕ) → counters base ≡ falling 0xFF 127 → w ≤ 127 → now ≡ p + 255 → counters (take w (pairs base c p)) ≡ back now w
+all_before : (base : List (ℕ × Code)) (c : ℕ → Code) (w p now : ℕ) → counters base ≡ falling 0xFF 127 → w ≤ 127
+    → now ≡ p + 255 → counters (take w (pairs base c p)) ≡ back now w
 all_before base c w zero now is le all =
-    sym (take-map (λ (pair : ℕ × Code). pair.0) w base) ∙ ap (take w) is ∙ shorter 255 127 w le ∙ ap (λ n. back n w) (let a : 255 ≡ now = omega (arith, all) in a)
+    sym (take-map (λ (pair : ℕ × Code). pair.0) w base) ∙ ap (take w) is ∙ shorter 255 127 w le
+    ∙ ap (λ n. back n w) (let a : 255 ≡ now = omega (arith, all) in a)
 all_before base c zero (suc p) now is le all = sym (none_back now)
 all_before base c (suc w) (suc p) zero is le all = absurd (omega arith)
 all_before base c (suc w) (suc p) (suc now) is le all =
     let head : counter_of p ≡ 1 + now % 255 = omega arith in
-    ap (λ n. n ∷ counters (take w (pairs base c p))) head ∙ ap (λ later. (1 + now % 255) ∷ later) (all_before base c w p now is (omega arith) (omega arith))
+    ap (λ n. n ∷ counters (take w (pairs base c p))) head
+    ∙ ap (λ later. (1 + now % 255) ∷ later) (all_before base c w p now is (omega arith) (omega arith))
 
 -- whichever it kept at first
-pub some_messages : (base : List (ℕ × Code)) (c : ℕ → Code) (p : ℕ) → IsReady base → (now : ℕ) × (counters (take 127 (pairs base c p)) ≡ back now 127)
-some_messages base c p (inl none) = (p, ap (λ (b : List (ℕ × Code)). counters (take 127 (pairs b c p))) none ∙ none_before c 127 p)
+pub some_messages : (base : List (ℕ × Code)) (c : ℕ → Code) (p : ℕ) → IsReady base
+    → (now : ℕ) × (counters (take 127 (pairs base c p)) ≡ back now 127)
+some_messages base c p (inl none) = (
+  p,
+  ap (λ (b : List (ℕ × Code)). counters (take 127 (pairs b c p))) none
+      ∙ none_before c 127 p,
+)
 some_messages base c p (inr is) = (p + 255, all_before base c 127 p (p + 255) is (omega arith) refl)

@@ -1,5 +1,6 @@
 -- Frames of which the counters rise, and the replies to them.
-use Rattle.std.proofs.Common.{◌≡◌, ℕ, ◌+◌, ◌≤◌, ◌==◌, Bool, true, false, List, [], ◌∷◌, ◌++◌, map, Option, Some, None, Ok, Err, refl, ◌∙◌, ap, sym, subst, arith, inl, inr, ◌⊎◌, append-nil}
+use Rattle.std.proofs.Common.{◌≡◌, ℕ, ◌+◌, ◌≤◌, ◌==◌, Bool, true, false, List, [], ◌∷◌, ◌++◌, map, Option, Some, None}
+use Rattle.std.proofs.Common.{Ok, Err, refl, ◌∙◌, ap, sym, subst, arith, inl, inr, ◌⊎◌, append-nil}
 use Rattle.std.specs.Prelude.{flat_map}
 use Rattle.std.specs.List.{concat}
 use Rattle.std.proofs.lemmas.List.{map-append}
@@ -54,9 +55,16 @@ module _ {V : Type 0} (step : Step V) where
   pub one_reply : (e : EncoderState V) (f : Frame) → OneReply e f
   one_reply e f = go (reaches f.address e.address) (f.counter == 0) (kept_code e.ring f.counter) refl refl refl
     where
-      go : (r z : Bool) (k : Option Code) → reaches f.address e.address ≡ r → (f.counter == 0) ≡ z → kept_code e.ring f.counter ≡ k → OneReply e f
+      go : (r z : Bool) (k : Option Code) → reaches f.address e.address ≡ r → (f.counter == 0) ≡ z
+          → kept_code e.ring f.counter ≡ k → OneReply e f
       go false z k a b c = record { made = []; sent = rw a; counters = rw a; one = inl refl; address = rw a }
-      go true true k a b c = record { made = []; sent = rw (a, b); counters = rw (a, b); one = inl refl; address = rw (a, b) }
+      go true true k a b c = record {
+        made = [];
+        sent = rw (a, b);
+        counters = rw (a, b);
+        one = inl refl;
+        address = rw (a, b);
+      }
       go true false (Some code) a b c = record {
         made = (f.counter, code) ∷ [];
         sent = rw (a, b, c) (sym (append-nil (spelling (reply_of e.address f.counter code))));
@@ -69,12 +77,19 @@ module _ {V : Type 0} (step : Step V) where
           by : (n : Bool) → is_next e.ring f.counter ≡ n → OneReply e f
           by true n = record {
             made = (f.counter, (step e.value f.message).1) ∷ [];
-            sent = rw (a, b, c, n) (sym (append-nil (spelling (reply_of e.address f.counter (step e.value f.message).1))));
+            sent = rw (a, b, c, n) (sym (append-nil (spelling
+                (reply_of e.address f.counter (step e.value f.message).1))));
             counters = rw (a, b, c, n);
             one = inr refl;
             address = rw (a, b, c, n);
           }
-          by false n = record { made = []; sent = rw (a, b, c, n); counters = rw (a, b, c, n); one = inl refl; address = rw (a, b, c, n) }
+          by false n = record {
+            made = [];
+            sent = rw (a, b, c, n);
+            counters = rw (a, b, c, n);
+            one = inl refl;
+            address = rw (a, b, c, n);
+          }
 
   -- what frames are answered, one after another
   pub record Replies (e : EncoderState V) (fs : List Frame) : Type 0 where
@@ -87,12 +102,15 @@ module _ {V : Type 0} (step : Step V) where
   less low least most [] le r = r
   less low least most (c ∷ cs) le r = let a = r.0 in (omega arith, r.1, r.2)
 
-  rise_on : (f : Frame) (least most : ℕ) (now later : List (ℕ × Code)) → (now ≡ []) ⊎ (firsts now ≡ f.counter ∷ []) → least ≤ f.counter → f.counter ≤ most → Rises (f.counter + 1) most (firsts later)
+  rise_on : (f : Frame) (least most : ℕ) (now later : List (ℕ × Code)) → (now ≡ []) ⊎ (firsts now ≡ f.counter ∷ [])
+      → least ≤ f.counter → f.counter ≤ most → Rises (f.counter + 1) most (firsts later)
       → Rises least most (firsts (now ++ later))
   rise_on f least most now later (inl none) low high rest =
-      subst (λ (rs : List (ℕ × Code)). Rises least most (firsts (rs ++ later))) (sym none) (less least (f.counter + 1) most (firsts later) (omega arith) rest)
+      subst (λ (rs : List (ℕ × Code)). Rises least most (firsts (rs ++ later))) (sym none)
+      (less least (f.counter + 1) most (firsts later) (omega arith) rest)
   rise_on f least most now later (inr one) low high rest =
-      subst (Rises least most) (sym (map-append (λ (r : ℕ × Code). r.0) now later ∙ ap (λ cs. cs ++ firsts later) one)) (low, high, rest)
+      subst (Rises least most) (sym (map-append (λ (r : ℕ × Code). r.0) now later ∙ ap (λ cs. cs ++ firsts later) one))
+      (low, high, rest)
 
   pub replies : (e : EncoderState V) (fs : List Frame) → Replies e fs
   replies e [] = record { made = []; sent = refl; counters = refl; rise = λ least most r. r }
@@ -104,19 +122,25 @@ module _ {V : Type 0} (step : Step V) where
         made = here.made ++ rest.made;
         sent =
             ap (λ bs. bs ++ flat_map bytes_sent (responses step e1 (found_as fs))) here.sent
-            ∙ ap (λ bs. concat (spelled (map (reply_as e.address) here.made)) ++ bs) (rest.sent ∙ ap (λ (a : ℕ). concat (spelled (map (reply_as a) rest.made))) here.address)
-            ∙ sym (concat-append (spelled (map (reply_as e.address) here.made)) (spelled (map (reply_as e.address) rest.made)))
-            ∙ ap concat (sym (map-append (λ (f : Frame). spelling f) (map (reply_as e.address) here.made) (map (reply_as e.address) rest.made)))
+            ∙ ap (λ bs. concat (spelled (map (reply_as e.address) here.made)) ++ bs)
+            (rest.sent ∙ ap (λ (a : ℕ). concat (spelled (map (reply_as a) rest.made))) here.address)
+            ∙ sym (concat-append (spelled (map (reply_as e.address) here.made))
+            (spelled (map (reply_as e.address) rest.made)))
+            ∙ ap concat (sym (map-append (λ (f : Frame). spelling f) (map (reply_as e.address) here.made)
+            (map (reply_as e.address) rest.made)))
             ∙ ap (λ l. concat (spelled l)) (sym (map-append (reply_as e.address) here.made rest.made));
         counters =
-            ap (λ cs. cs ++ counters_replied step e1 (taken fs)) here.counters ∙ ap (λ cs. firsts here.made ++ cs) rest.counters
+            ap (λ cs. cs ++ counters_replied step e1 (taken fs)) here.counters
+            ∙ ap (λ cs. firsts here.made ++ cs) rest.counters
             ∙ sym (map-append (λ (r : ℕ × Code). r.0) here.made rest.made);
-        rise = λ least most r. rise_on f least most here.made rest.made here.one r.0 r.1 (rest.rise (f.counter + 1) most r.2);
+        rise = λ least most r. rise_on f least most here.made rest.made here.one r.0 r.1
+            (rest.rise (f.counter + 1) most r.2);
       }
 
   -- ---- an encoder that takes frames
 
-  pub after_taken : (e : EncoderState V) (fs : List Frame) → after_happenings step e (taken fs) ≡ after_findings step e (found_as fs)
+  pub after_taken : (e : EncoderState V) (fs : List Frame)
+      → after_happenings step e (taken fs) ≡ after_findings step e (found_as fs)
   after_taken e [] = refl
   after_taken e (f ∷ fs) = after_taken (after_finding step e (Ok f)) fs
 
@@ -128,4 +152,5 @@ module _ {V : Type 0} (step : Step V) where
   address_is e [] = refl
   address_is e (Finds (Err fault) ∷ hs) = address_is (after_finding step e (Err fault)) hs
   address_is e (Becomes value counts part ∷ hs) = address_is (after_happening step e (Becomes value counts part)) hs
-  address_is e (Finds (Ok f) ∷ hs) = let here : OneReply e f = one_reply e f in address_is (after_finding step e (Ok f)) hs ∙ here.address
+  address_is e (Finds (Ok f) ∷ hs) = let here : OneReply e f = one_reply e f in
+      address_is (after_finding step e (Ok f)) hs ∙ here.address

@@ -18,13 +18,15 @@ use Rattle.uecp_link.proofs.WholePass.{brings_both, joined_whole, address_after}
 
 -- What a whole pass to the encoder of a line comes to, where nothing was open.
 pub record Restarted {V : Type 0} (step : Step V) (line : LineState V) (e : EncoderState V) : Type 0 where
-  pub replied : BringsBoth line.encoder.address (answers step (with_nothing_open line.encoder) (pass_sent line.encoder.address))
+  pub replied : BringsBoth line.encoder.address (answers step (with_nothing_open line.encoder)
+      (pass_sent line.encoder.address))
   pub joined : HasJoinedWith e line.encoder.value
   pub address : e.address ≡ line.encoder.address
   pub is_line : IsLine (line_from e)
   pub holds : Holds (line_from e) (at_first e.value)
 
-pub restarted : {V : Type 0} (step : Step V) → EmptyChangesNothing step → (line : LineState V) → IsLine line → Restarted step line (fed step (with_nothing_open line.encoder) (pass_sent line.encoder.address))
+pub restarted : {V : Type 0} (step : Step V) → EmptyChangesNothing step → (line : LineState V) → IsLine line
+    → Restarted step line (fed step (with_nothing_open line.encoder) (pass_sent line.encoder.address))
 restarted {V} step same line is =
     let old : EncoderState V = with_nothing_open line.encoder in
     let e : EncoderState V = fed step old (pass_sent line.encoder.address) in
@@ -40,15 +42,27 @@ restarted {V} step same line is =
     }
 
 -- the line that is left, by what each of its parts is
-pub left_is : {V : Type 0} (step : Step V) (old : LineState V) → IsLine old → (address : ℕ) (closed given : EncoderState V) (server : ServerState) (sent : List (List ℕ)) (codes : List Code) →
-    old.encoder.address ≡ address → closed ≡ with_nothing_open old.encoder → given ≡ fed step closed (pass_sent address) → server ≡ idle_at old.server.address → sent ≡ [] → codes ≡ [] →
+pub left_is : {V : Type 0} (step : Step V) (old : LineState V) → IsLine old
+    → (address : ℕ) (closed given : EncoderState V) (server : ServerState) (sent : List (List ℕ)) (codes : List Code) →
+    old.encoder.address ≡ address → closed ≡ with_nothing_open old.encoder → given ≡ fed step closed (pass_sent address)
+    → server ≡ idle_at old.server.address → sent ≡ [] → codes ≡ [] →
     (fed step (with_nothing_open old.encoder) (pass_sent old.encoder.address)).address ≡ old.encoder.address →
-    record { encoder = given; server = server; sent = sent; codes = codes } ≡ line_from (fed step (with_nothing_open old.encoder) (pass_sent old.encoder.address))
+    record { encoder = given; server = server; sent = sent; codes = codes }
+    ≡ line_from (fed step (with_nothing_open old.encoder) (pass_sent old.encoder.address))
 left_is {V} step old is address closed given server sent codes own closed_is given_is server_is sent_is codes_is stays =
     let e : EncoderState V = fed step (with_nothing_open old.encoder) (pass_sent old.encoder.address) in
-    let given_e : given ≡ e = given_is ∙ ap (λ (d : EncoderState V). fed step d (pass_sent address)) closed_is ∙ ap (λ a. fed step (with_nothing_open old.encoder) (pass_sent a)) (sym own) in
+    let given_e : given ≡ e = given_is ∙ ap (λ (d : EncoderState V). fed step d (pass_sent address)) closed_is
+    ∙ ap (λ a. fed step (with_nothing_open old.encoder) (pass_sent a)) (sym own) in
     let server_e : server ≡ idle_at e.address = server_is ∙ ap idle_at (is.server.address ∙ sym stays) in
-    ap (λ (d : EncoderState V). let l : LineState V = record { encoder = d; server = server; sent = sent; codes = codes } in l) given_e
-    ∙ ap (λ (s : ServerState). let l : LineState V = record { encoder = e; server = s; sent = sent; codes = codes } in l) server_e
-    ∙ ap (λ (m : List (List ℕ)). let l : LineState V = record { encoder = e; server = idle_at e.address; sent = m; codes = codes } in l) sent_is
-    ∙ ap (λ (k : List Code). let l : LineState V = record { encoder = e; server = idle_at e.address; sent = []; codes = k } in l) codes_is
+    ap (λ (d : EncoderState V). let l : LineState V =
+    record { encoder = d; server = server; sent = sent; codes = codes } in l) given_e
+    ∙ ap (λ (s : ServerState). let l : LineState V = record { encoder = e; server = s; sent = sent; codes = codes } in
+    l) server_e
+    ∙ ap (λ (m : List (List ℕ)). let l : LineState V =
+    record { encoder = e; server = idle_at e.address; sent = m; codes = codes } in l) sent_is
+    ∙ ap (λ (k : List Code). let l : LineState V = record {
+      encoder = e;
+      server = idle_at e.address;
+      sent = [];
+      codes = k;
+    } in l) codes_is

@@ -1,5 +1,6 @@
 -- Which of the two replies of a pass were seen, piece by piece.
-use Rattle.std.proofs.Common.{◌≡◌, ℕ, ◌==◌, Bool, true, false, List, [], ◌∷◌, ◌++◌, take, drop, Option, Some, None, Ok, Err, refl, ◌∙◌, ap, sym, subst, inl, inr, ◌⊎◌, append_assoc, take-append-drop}
+use Rattle.std.proofs.Common.{◌≡◌, ℕ, ◌==◌, Bool, true, false, List, [], ◌∷◌, ◌++◌, take, drop, Option, Some, None, Ok}
+use Rattle.std.proofs.Common.{Err, refl, ◌∙◌, ap, sym, subst, inl, inr, ◌⊎◌, append_assoc, take-append-drop}
 use Rattle.std.specs.Prelude.{filter_map}
 use Rattle.std.proofs.lemmas.Bool.{cases_Bool, eqb-true}
 use Rattle.std.proofs.lemmas.List.Elements.{filter_map-append}
@@ -47,10 +48,20 @@ neither_finds (c ∷ cs) h =
     elim (cases_Bool (c == 0x81)) [
       | inl same ↦
           (let rest = first_finds cs (let k : seen_after First cs ≡ Both = rw same at h in k) in
-          record { before = []; between = rest.between; after = rest.after; are = ap (λ n. n ∷ cs) (eqb-true c 0x81 same) ∙ ap (λ l. 0x81 ∷ l) rest.are })
+          record {
+            before = [];
+            between = rest.between;
+            after = rest.after;
+            are = ap (λ n. n ∷ cs) (eqb-true c 0x81 same) ∙ ap (λ l. 0x81 ∷ l) rest.are;
+          })
       | inr other ↦
           (let rest = neither_finds cs (let k : seen_after Neither cs ≡ Both = rw other at h in k) in
-          record { before = c ∷ rest.before; between = rest.between; after = rest.after; are = ap (λ l. c ∷ l) rest.are })
+          record {
+            before = c ∷ rest.before;
+            between = rest.between;
+            after = rest.after;
+            are = ap (λ l. c ∷ l) rest.are;
+          })
     ]
 
 abbrev Begun : Seen → Type 0
@@ -85,16 +96,20 @@ pub joined_seen : (s : Seen) (cs : List ℕ) → IsJoinedBy cs → seen_after s 
 joined_seen s cs j =
     let s1 : Seen = seen_with (seen_after s j.before) 0x81 in
     let s2 : Seen = seen_after s1 j.between in
-    ap (seen_after s) j.are ∙ seen-append s j.before (0x81 ∷ (j.between ++ 0xFF ∷ j.after)) ∙ seen-append s1 j.between (0xFF ∷ j.after)
-    ∙ ap (λ t. seen_after t j.after) (ended_with s2 (begun_after s1 j.between (begun (seen_after s j.before)))) ∙ still_both j.after
+    ap (seen_after s) j.are ∙ seen-append s j.before (0x81 ∷ (j.between ++ 0xFF ∷ j.after))
+    ∙ seen-append s1 j.between (0xFF ∷ j.after)
+    ∙ ap (λ t. seen_after t j.after) (ended_with s2 (begun_after s1 j.between (begun (seen_after s j.before))))
+    ∙ still_both j.after
 
 -- ---- among bytes
 
 pub counters_none : (address : ℕ) (o : OpenPart) → reply_counters address o [] ≡ []
 counters_none address o = ap (filter_map (reply_counter address)) (new_start_lem o []).nothing
 
-pub counters-append : (address : ℕ) (o : OpenPart) (x y : List ℕ) → reply_counters address o (x ++ y) ≡ reply_counters address o x ++ reply_counters address (open_beyond o x) y
-counters-append address o x y = ap (filter_map (reply_counter address)) (in_pieces_lem o x y).found ∙ filter_map-append (reply_counter address) (found_beyond o x) (found_beyond (open_beyond o x) y)
+pub counters-append : (address : ℕ) (o : OpenPart) (x y : List ℕ)
+    → reply_counters address o (x ++ y) ≡ reply_counters address o x ++ reply_counters address (open_beyond o x) y
+counters-append address o x y = ap (filter_map (reply_counter address)) (in_pieces_lem o x y).found
+    ∙ filter_map-append (reply_counter address) (found_beyond o x) (found_beyond (open_beyond o x) y)
 
 pub heard-address : (s : ServerState) (x : List ℕ) → (heard s x).address ≡ s.address
 heard-address s x = go (record s { part = open_beyond s.part x }) (found_beyond s.part x)
@@ -113,32 +128,40 @@ joined_more xs ys j = record {
   before = j.before;
   between = j.between;
   after = j.after ++ ys;
-  are = ap (λ l. l ++ ys) j.are ∙ append_assoc j.before (0x81 ∷ (j.between ++ 0xFF ∷ j.after)) ys ∙ ap (λ l. j.before ++ 0x81 ∷ l) (append_assoc j.between (0xFF ∷ j.after) ys);
+  are = ap (λ l. l ++ ys) j.are ∙ append_assoc j.before (0x81 ∷ (j.between ++ 0xFF ∷ j.after)) ys
+      ∙ ap (λ l. j.before ++ 0x81 ∷ l) (append_assoc j.between (0xFF ∷ j.after) ys);
 }
 
-pub brought_later : (address : ℕ) (o : OpenPart) (x y : List ℕ) → IsJoinedBy (reply_counters address o x) → IsJoinedBy (reply_counters address o (x ++ y))
-brought_later address o x y j = subst IsJoinedBy (sym (counters-append address o x y)) (joined_more (reply_counters address o x) (reply_counters address (open_beyond o x) y) j)
+pub brought_later : (address : ℕ) (o : OpenPart) (x y : List ℕ) → IsJoinedBy (reply_counters address o x)
+    → IsJoinedBy (reply_counters address o (x ++ y))
+brought_later address o x y j = subst IsJoinedBy (sym (counters-append address o x y))
+    (joined_more (reply_counters address o x) (reply_counters address (open_beyond o x) y) j)
 
 -- what a server after some bytes sees in more is what it sees in both
-pub seen_on : (s0 s : ServerState) (x y : List ℕ) (seen0 seen : Seen) → s ≡ heard s0 x → seen ≡ seen_after seen0 (reply_counters s0.address s0.part x)
-    → seen_after seen (reply_counters s.address s.part y) ≡ seen_after seen0 (reply_counters s0.address s0.part (x ++ y))
+pub seen_on : (s0 s : ServerState) (x y : List ℕ) (seen0 seen : Seen) → s ≡ heard s0 x
+    → seen ≡ seen_after seen0 (reply_counters s0.address s0.part x)
+    → seen_after seen (reply_counters s.address s.part y)
+    ≡ seen_after seen0 (reply_counters s0.address s0.part (x ++ y))
 seen_on s0 s x y seen0 seen state is =
     ap (λ (t : ServerState). seen_after seen (reply_counters t.address t.part y)) state
     ∙ ap (λ a. seen_after seen (reply_counters a (heard s0 x).part y)) (heard-address s0 x)
     ∙ ap (λ o. seen_after seen (reply_counters s0.address o y)) (heard-part s0 x)
     ∙ ap (λ t. seen_after t (reply_counters s0.address (open_beyond s0.part x) y)) is
-    ∙ sym (seen-append seen0 (reply_counters s0.address s0.part x) (reply_counters s0.address (open_beyond s0.part x) y))
+    ∙ sym (seen-append seen0 (reply_counters s0.address s0.part x)
+    (reply_counters s0.address (open_beyond s0.part x) y))
     ∙ ap (seen_after seen0) (sym (counters-append s0.address s0.part x y))
 
 -- one call of `hear_reply` more
-pub hears_more : (s0 s s' : ServerState) (n : ℕ) (piece rest rest' : List ℕ) (seen0 seen seen' : Seen) → HearsOn s0 s piece rest seen0 seen → s' ≡ heard s (take n rest) → rest' ≡ drop n rest
+pub hears_more : (s0 s s' : ServerState) (n : ℕ) (piece rest rest' : List ℕ) (seen0 seen seen' : Seen)
+    → HearsOn s0 s piece rest seen0 seen → s' ≡ heard s (take n rest) → rest' ≡ drop n rest
     → seen' ≡ seen_after seen (reply_counters s.address s.part (take n rest)) → HearsOn s0 s' piece rest' seen0 seen'
 hears_more s0 s s' n piece rest rest' seen0 seen seen' so_far state left is =
     let x : List ℕ = take n rest in
     let y : List ℕ = drop n rest in
     let whole : x ++ y ≡ rest = take-append-drop n rest in
     record {
-      state = ap (λ (t : ServerState). heard t rest') state ∙ ap (heard (heard s x)) left ∙ sym (server_in_pieces s x y).state ∙ ap (heard s) whole ∙ so_far.state;
+      state = ap (λ (t : ServerState). heard t rest') state ∙ ap (heard (heard s x)) left
+          ∙ sym (server_in_pieces s x y).state ∙ ap (heard s) whole ∙ so_far.state;
       idle = ap (λ (t : ServerState). t.held) state ∙ idle_hears s x so_far.idle;
       seen_is =
           ap (λ bs. seen_after seen' (reply_counters s'.address s'.part bs)) left ∙ seen_on s s' x y seen seen' state is

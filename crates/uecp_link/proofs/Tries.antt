@@ -1,5 +1,7 @@
 -- Reads and tries, one after another, that bring no acknowledgement, and how they end.
-use Rattle.std.proofs.Common.{◌≡◌, ℕ, ◌+◌, ◌-◌, ◌*◌, ◌<◌, ◌≤◌, ◌⊎◌, zero, suc, true, false, List, [], ◌++◌, length, take, Option, Some, None, Result, Ok, Err, refl, ◌∙◌, ap, sym, subst, arith, inl, inr, add-zero, add-one, length-append, append_assoc, append-nil}
+use Rattle.std.proofs.Common.{◌≡◌, ℕ, ◌+◌, ◌-◌, ◌*◌, ◌<◌, ◌≤◌, ◌⊎◌, zero, suc, true, false, List, [], ◌++◌, length}
+use Rattle.std.proofs.Common.{take, Option, Some, None, Result, Ok, Err, refl, ◌∙◌, ap, sym, subst, arith, inl, inr}
+use Rattle.std.proofs.Common.{add-zero, add-one, length-append, append_assoc, append-nil}
 use Rattle.std.proofs.Math.Nat.{add-suc, add-mul, mul-le-mul_right}
 use Rattle.std.proofs.Math.Seq.{take-append-add}
 use Rattle.std.proofs.lemmas.List.{take-append-le}
@@ -16,13 +18,15 @@ use Rattle.uecp_link.specs.Driving.{copies, frame_sent, acknowledged_in, IsAckno
 use Rattle.uecp_link.specs.Listening.{Waits, Listens, Tried, met_end}
 use Rattle.uecp_link.specs.Reading.{Reads, is_closed, write_failures}
 use Rattle.uecp_link.specs.declared.driving.Listened.TheVariants as listened
-use Rattle.uecp_link.proofs.Answered.{nothing_acknowledged, acknowledged_last, acknowledged_after, acknowledged_on, same_frame}
+use Rattle.uecp_link.proofs.Answered.{nothing_acknowledged, acknowledged_last, acknowledged_after, acknowledged_on}
+use Rattle.uecp_link.proofs.Answered.{same_frame}
 use Rattle.uecp_link.proofs.FeedingLemmas.{heard_none, heard_on}
 use Rattle.uecp_link.proofs.Reading.{no_read, reads_on, reads_end}
 
 -- ---- reads
 
-pub waits_none : {R : Type 0} (remaining : R → Option (List ℕ)) (s : ServerState) (reader : Metered R) → Waits remaining s s reader reader 0
+pub waits_none : {R : Type 0} (remaining : R → Option (List ℕ)) (s : ServerState) (reader : Metered R)
+    → Waits remaining s s reader reader 0
 waits_none remaining s reader = record {
   read = [];
   reading = no_read remaining reader;
@@ -110,29 +114,35 @@ module _ {R : Type 0} (remaining : R → Option (List ℕ)) (s0 s1 : ServerState
 
 copies-add : (f : List ℕ) (n k : ℕ) → copies f (n + k) ≡ copies f n ++ copies f k
 copies-add f n zero = ap (copies f) (add-zero n) ∙ sym (append-nil (copies f n))
-copies-add f n (suc k) = ap (copies f) (add-suc n k) ∙ ap (λ l. l ++ f) (copies-add f n k) ∙ append_assoc (copies f n) (copies f k) f
+copies-add f n (suc k) = ap (copies f) (add-suc n k) ∙ ap (λ l. l ++ f) (copies-add f n k)
+    ∙ append_assoc (copies f n) (copies f k) f
 
 pub copies_more : (f : List ℕ) (n : ℕ) → copies f (n + 1) ≡ copies f n ++ f
 copies_more f n = ap (copies f) (add-one n)
 
 -- so many whole copies and a part of one are the front of more copies
-copies_in_part : (f : List ℕ) (tries t w : ℕ) → t < tries → w ≤ length f → take (length (copies f t) + w) (copies f tries) ≡ copies f t ++ take w f
+copies_in_part : (f : List ℕ) (tries t w : ℕ) → t < tries → w ≤ length f
+    → take (length (copies f t) + w) (copies f tries) ≡ copies f t ++ take w f
 copies_in_part f tries t w below part =
     let k : ℕ = tries - t - 1 in
     let all : tries ≡ t + (1 + k) = omega (arith, below) in
     let later : copies f (1 + k) ≡ f ++ copies f k = copies-add f 1 k in
-    ap (λ n. take (length (copies f t) + w) (copies f n)) all ∙ ap (take (length (copies f t) + w)) (copies-add f t (1 + k) ∙ ap (λ l. copies f t ++ l) later)
-    ∙ take-append-add (copies f t) (f ++ copies f k) w ∙ ap (λ l. copies f t ++ l) (take-append-le w f (copies f k) part)
+    ap (λ n. take (length (copies f t) + w) (copies f n)) all
+    ∙ ap (take (length (copies f t) + w)) (copies-add f t (1 + k) ∙ ap (λ l. copies f t ++ l) later)
+    ∙ take-append-add (copies f t) (f ++ copies f k) w
+    ∙ ap (λ l. copies f t ++ l) (take-append-le w f (copies f k) part)
 
 -- ---- tries
 
 -- a try that brings nothing makes all its turns, or ends at a failed read
-pub reads_from : (failed t turns reads k : ℕ) → t ≡ failed + k → failed + t * turns ≤ reads + failed * turns → failed + k * turns ≤ reads
+pub reads_from : (failed t turns reads k : ℕ) → t ≡ failed + k → failed + t * turns ≤ reads + failed * turns
+    → failed + k * turns ≤ reads
 reads_from failed t turns reads k t_is made =
     let products : t * turns ≡ failed * turns + k * turns = ap (λ n. n * turns) t_is ∙ add-mul failed k turns in
     omega (arith, products, made)
 
-pub tried_none : {R W : Type 0} (remaining : R → Option (List ℕ)) (contents : W → Option (List ℕ)) (s : ServerState) (reader : Metered R) (writer : Metered W) (turns : ℕ) →
+pub tried_none : {R W : Type 0} (remaining : R → Option (List ℕ)) (contents : W → Option (List ℕ)) (s : ServerState)
+    (reader : Metered R) (writer : Metered W) (turns : ℕ) →
     Tried remaining contents s s reader reader writer writer turns 0 0
 tried_none remaining contents s reader writer turns = record {
   read = [];
@@ -151,20 +161,26 @@ tried_none remaining contents s reader writer turns = record {
 }
 
 -- what a frame more makes of the copies
-pub one_more : {W : Type 0} (contents : W → Option (List ℕ)) (s0 s1 : ServerState) (w0 w1 w2 : Metered W) (read : List ℕ) (t : ℕ) → acknowledged_in s0 read ≡ None → s1 ≡ heard s0 read →
-    Appends (contents w0.device) (contents w1.device) (copies (frame_sent s0) t) → Appends (contents w1.device) (contents w2.device) (frame_sent s1) →
+pub one_more : {W : Type 0} (contents : W → Option (List ℕ)) (s0 s1 : ServerState) (w0 w1 w2 : Metered W)
+    (read : List ℕ) (t : ℕ) → acknowledged_in s0 read ≡ None → s1 ≡ heard s0 read →
+    Appends (contents w0.device) (contents w1.device) (copies (frame_sent s0) t)
+    → Appends (contents w1.device) (contents w2.device) (frame_sent s1) →
     Appends (contents w0.device) (contents w2.device) (copies (frame_sent s0) (t + 1))
 one_more contents s0 s1 w0 w1 w2 read t silent state before now =
     let same : frame_sent s1 ≡ frame_sent s0 = ap frame_sent state ∙ same_frame s0 read silent in
-    subst (Appends (contents w0.device) (contents w2.device)) (ap (λ l. copies (frame_sent s0) t ++ l) same ∙ sym (copies_more (frame_sent s0) t)) (Appends-trans _ _ _ _ _ before now)
+    subst (Appends (contents w0.device) (contents w2.device))
+    (ap (λ l. copies (frame_sent s0) t ++ l) same ∙ sym (copies_more (frame_sent s0) t))
+    (Appends-trans _ _ _ _ _ before now)
 
 pub more_bytes : (s0 s1 : ServerState) (read : List ℕ) (t : ℕ) → acknowledged_in s0 read ≡ None → s1 ≡ heard s0 read →
     length (copies (frame_sent s0) (t + 1)) ≡ length (copies (frame_sent s0) t) + length (frame_sent s1)
 more_bytes s0 s1 read t silent state =
     let same : frame_sent s1 ≡ frame_sent s0 = ap frame_sent state ∙ same_frame s0 read silent in
-    ap length (copies_more (frame_sent s0) t) ∙ length-append (copies (frame_sent s0) t) (frame_sent s0) ∙ ap (λ l. length (copies (frame_sent s0) t) + length l) (sym same)
+    ap length (copies_more (frame_sent s0) t) ∙ length-append (copies (frame_sent s0) t) (frame_sent s0)
+    ∙ ap (λ l. length (copies (frame_sent s0) t) + length l) (sym same)
 
-module _ {R W : Type 0} (remaining : R → Option (List ℕ)) (contents : W → Option (List ℕ)) (s0 s1 : ServerState) (r0 r1 : Metered R) (w0 w1 : Metered W) (turns t bytes : ℕ)
+module _ {R W : Type 0} (remaining : R → Option (List ℕ)) (contents : W → Option (List ℕ)) (s0 s1 : ServerState)
+    (r0 r1 : Metered R) (w0 w1 : Metered W) (turns t bytes : ℕ)
     (so_far : Tried remaining contents s0 s1 r0 r1 w0 w1 turns t bytes) where
   more_tried : (piece : List ℕ) → acknowledged_in s0 (so_far.read ++ piece) ≡ acknowledged_in s1 piece
   more_tried piece = acknowledged_on s0 s1 so_far.read piece so_far.state so_far.silent
@@ -198,10 +214,12 @@ module _ {R W : Type 0} (remaining : R → Option (List ℕ)) (contents : W → 
           × (so_far.failed + try.failed + (t + 1) * turns ≤ so_far.reads + try.reads + (so_far.failed + try.failed) *
           turns)
       by_end (inl (one, some)) =
-          let products : (so_far.failed + try.failed) * turns ≡ so_far.failed * turns + turns = ap (λ n. (so_far.failed + n) * turns) one ∙ (omega arith) in
+          let products : (so_far.failed + try.failed) * turns ≡ so_far.failed * turns + turns =
+          ap (λ n. (so_far.failed + n) * turns) one ∙ (omega arith) in
           (omega (arith, so_far.few_failed, one), omega (arith, so_far.made, one, some, products))
       by_end (inr (none, all)) =
-          let products : (so_far.failed + try.failed) * turns ≡ so_far.failed * turns = ap (λ n. (so_far.failed + n) * turns) none ∙ (omega arith) in
+          let products : (so_far.failed + try.failed) * turns ≡ so_far.failed * turns =
+          ap (λ n. (so_far.failed + n) * turns) none ∙ (omega arith) in
           (omega (arith, so_far.few_failed, none), omega (arith, so_far.made, none, all, products))
 
   -- ---- how tries end
@@ -235,8 +253,14 @@ module _ {R W : Type 0} (remaining : R → Option (List ℕ)) (contents : W → 
         ends = (
           omega arith,
           omega (arith, below),
-          ap (λ l. copies f t ++ take part l) same ∙ sym (copies_in_part f tries t part below short) ∙ ap (λ n. take (n + part) (copies f tries)) (sym so_far.bytes_are),
-          omega (arith, so_far.bytes_are, ap (λ n. length (copies f n)) (let last : t + 1 - 1 ≡ t = omega arith in last)),
+          ap (λ l. copies f t ++ take part l) same ∙ sym (copies_in_part f tries t part below short)
+              ∙ ap (λ n. take (n + part) (copies f tries)) (sym so_far.bytes_are),
+          omega (
+            arith,
+            so_far.bytes_are,
+            ap (λ n. length (copies f n))
+                (let last : t + 1 - 1 ≡ t = omega arith in last),
+          ),
           omega (arith, so_far.bytes_are, within, more_bytes s0 s1 so_far.read t so_far.silent so_far.state),
           so_far.silent,
         );
@@ -303,7 +327,8 @@ module _ {R W : Type 0} (remaining : R → Option (List ℕ)) (contents : W → 
         omega arith,
         omega (arith, below),
         refl,
-        acknowledged_after s0 so_far.read try.read code so_far.silent (subst (λ d. IsAcknowledged d try.read code) so_far.state try.hears.0),
+        acknowledged_after s0 so_far.read try.read code so_far.silent
+            (subst (λ d. IsAcknowledged d try.read code) so_far.state try.hears.0),
       )
 
   -- the input ended
@@ -329,7 +354,11 @@ module _ {R W : Type 0} (remaining : R → Option (List ℕ)) (contents : W → 
     appended = so_far.appended;
     state = so_far.state;
     ends = (all, ap (copies (frame_sent s0)) all, so_far.silent);
-    made = (so_far.few_failed, reads_from so_far.failed t turns so_far.reads (t - so_far.failed) (omega (arith, so_far.few_failed)) so_far.made);
+    made = (
+      so_far.few_failed,
+      reads_from so_far.failed t turns so_far.reads (t - so_far.failed)
+          (omega (arith, so_far.few_failed)) so_far.made,
+    );
     few_reads = so_far.few_reads;
     at_most = omega (arith, so_far.reading.few_bytes, so_far.few_reads, ap (λ n. n * turns) all);
     write_failures_are = so_far.write_failures;

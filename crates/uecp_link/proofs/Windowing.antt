@@ -1,5 +1,7 @@
 -- A try for all messages that wait: what is written, what is read, and the marks that this brings.
-use Rattle.std.proofs.Common.{◌≡◌, ◌≢◌, ℕ, ◌+◌, ◌-◌, ◌<◌, ◌≤◌, false, List, [], ◌∷◌, ◌++◌, length, take, drop, get_or, Option, Some, None, Result, Ok, Err, refl, ◌∙◌, ap, sym, subst, arith, length-append, append_assoc, append-nil, take-append-drop}
+use Rattle.std.proofs.Common.{◌≡◌, ◌≢◌, ℕ, ◌+◌, ◌-◌, ◌<◌, ◌≤◌, false, List, [], ◌∷◌, ◌++◌, length, take, drop, get_or}
+use Rattle.std.proofs.Common.{Option, Some, None, Result, Ok, Err, refl, ◌∙◌, ap, sym, subst, arith, length-append}
+use Rattle.std.proofs.Common.{append_assoc, append-nil, take-append-drop}
 use Rattle.std.specs.Prelude.{filter_map, slice_get, option_to_list}
 use Rattle.std.specs.List.{concat}
 use Rattle.std.proofs.Math.Seq.{take-append-add}
@@ -18,7 +20,8 @@ use Rattle.uecp_link.specs.declared.heard.HeardWhat.TheVariants as what
 use Rattle.uecp_link.specs.declared.window.Windowed.{Windowed}
 use Rattle.uecp_link.specs.Server.{ServerState, waiting, heard, all_heard_as, whats_of}
 use Rattle.uecp_link.specs.Reading.{Reads, is_closed, write_failures}
-use Rattle.uecp_link.specs.Window.{mark_in, marks_in, window_sent, ReadsEnd, WindowEnds, Windows, Gathers, Gathered, Hearing}
+use Rattle.uecp_link.specs.Window.{mark_in, marks_in, window_sent, ReadsEnd, WindowEnds, Windows, Gathers, Gathered}
+use Rattle.uecp_link.specs.Window.{Hearing}
 use Rattle.uecp_link.proofs.Answered.{idle_hears}
 use Rattle.uecp_link.proofs.FeedingLemmas.{heard_none, heard_on, said-append, server_in_pieces}
 use Rattle.uecp_link.proofs.Reading.{no_read, reads_on, reads_end}
@@ -46,7 +49,8 @@ module _ (fs : List (List ℕ)) (place : ℕ) (f : List ℕ) (here : slice_get f
       ∙ ap (λ l. concat (take place fs) ++ (l ++ concat (drop (place + 1) fs))) at
 
   -- so many whole frames and a part of one are the front of all
-  pub part_sent : (part : ℕ) → part ≤ length f → take (length (concat (take place fs)) + part) (concat fs) ≡ concat (take place fs) ++ take part f
+  pub part_sent : (part : ℕ) → part ≤ length f → take (length (concat (take place fs)) + part) (concat fs)
+      ≡ concat (take place fs) ++ take part f
   part_sent part within =
       ap (take (length (concat (take place fs)) + part)) frames_split
       ∙ take-append-add (concat (take place fs)) (f ++ concat (drop (place + 1) fs)) part
@@ -54,14 +58,23 @@ module _ (fs : List (List ℕ)) (place : ℕ) (f : List ℕ) (here : slice_get f
 
   pub part_below : (part : ℕ) → part < length f → length (concat (take place fs)) + part < length (concat fs)
   part_below part within =
-      omega (arith, within, ap length frames_split, length-append (concat (take place fs)) (f ++ concat (drop (place + 1) fs)), length-append f (concat (drop (place + 1) fs)))
+      omega (
+        arith,
+        within,
+        ap length frames_split,
+        length-append (concat (take place fs))
+            (f ++ concat (drop (place + 1) fs)),
+        length-append f (concat (drop (place + 1) fs)),
+      )
 
   -- so many bytes of all frames, the whole ones before and a part of this one
-  pub part_appended : (before after : Option (List ℕ)) (written part : ℕ) → part < length f → written ≡ length (concat (take place fs)) + part → Appends before after (concat (take place fs) ++ take part f)
+  pub part_appended : (before after : Option (List ℕ)) (written part : ℕ) → part < length f
+      → written ≡ length (concat (take place fs)) + part → Appends before after (concat (take place fs) ++ take part f)
       → (written < length (concat fs)) × Appends before after (take written (concat fs))
   part_appended before after written part within count wrote = (
     omega (arith, count, part_below part within),
-    subst (Appends before after) (sym (ap (λ n. take n (concat fs)) count ∙ part_sent part (omega (arith, within)))) wrote,
+    subst (Appends before after) (sym (ap (λ n. take n (concat fs)) count ∙ part_sent part (omega (arith, within))))
+        wrote,
   )
 
 -- ---- marks
@@ -73,7 +86,8 @@ pub marks-append : (s : ServerState) (x y : List ℕ) → marks_in s (x ++ y) �
 marks-append s x y = said-append mark_in s x y
 
 -- the mark in what one call of `hear` says
-pub said_marks : (s : ServerState) (x : List ℕ) (w : HeardWhat) → all_heard_as s (found_beyond s.part x) ≡ whats_of w → marks_in s x ≡ option_to_list (mark_in w)
+pub said_marks : (s : ServerState) (x : List ℕ) (w : HeardWhat) → all_heard_as s (found_beyond s.part x) ≡ whats_of w
+    → marks_in s x ≡ option_to_list (mark_in w)
 said_marks s x w said = ap (filter_map mark_in) said ∙ go w
   where
     go : (w : HeardWhat) → filter_map mark_in (whats_of w) ≡ option_to_list (mark_in w)
@@ -82,7 +96,8 @@ said_marks s x w said = ap (filter_map mark_in) said ∙ go w
     go what.Stray = refl
     go (what.Dropped fault) = refl
 
-pub no_mark : (w : HeardWhat) → ((counter : ℕ) (code : Code) → w ≡ what.Acknowledged counter code → ⊥) → mark_in w ≡ None
+pub no_mark : (w : HeardWhat) → ((counter : ℕ) (code : Code) → w ≡ what.Acknowledged counter code → ⊥)
+    → mark_in w ≡ None
 no_mark what.Nothing other = refl
 no_mark (what.Acknowledged counter code) other = absurd (other counter code refl)
 no_mark what.Stray other = refl
@@ -92,25 +107,32 @@ pub with_added : (m' m said marks : List (ℕ × Code)) → said ≡ marks → m
 with_added m' m said marks is added = added ∙ ap (λ ms. m ++ ms) is
 
 -- one call of `hear` more
-pub hears_on : (s0 s s' : ServerState) (n : ℕ) (piece rest rest' : List ℕ) (w : HeardWhat) (m0 m m' : List (ℕ × Code)) → Hearing s0 s piece rest m0 m → s' ≡ heard s (take n rest) → rest' ≡ drop n rest
-    → all_heard_as s (found_beyond s.part (take n rest)) ≡ whats_of w → length (option_to_list (mark_in w)) + length (waiting s') ≡ length (waiting s) → m' ≡ m ++ option_to_list (mark_in w) → Hearing s0 s' piece rest' m0 m'
+pub hears_on : (s0 s s' : ServerState) (n : ℕ) (piece rest rest' : List ℕ) (w : HeardWhat) (m0 m m' : List (ℕ × Code))
+    → Hearing s0 s piece rest m0 m → s' ≡ heard s (take n rest) → rest' ≡ drop n rest
+    → all_heard_as s (found_beyond s.part (take n rest)) ≡ whats_of w
+    → length (option_to_list (mark_in w)) + length (waiting s') ≡ length (waiting s)
+    → m' ≡ m ++ option_to_list (mark_in w) → Hearing s0 s' piece rest' m0 m'
 hears_on s0 s s' n piece rest rest' w m0 m m' so_far state left said fewer added =
     let x : List ℕ = take n rest in
     let y : List ℕ = drop n rest in
     let whole : x ++ y ≡ rest = take-append-drop n rest in
     let marked : m' ≡ m ++ marks_in s x = added ∙ ap (λ ms. m ++ ms) (sym (said_marks s x w said)) in
     record {
-      state = ap (λ (t : ServerState). heard t rest') state ∙ ap (heard (heard s x)) left ∙ sym (server_in_pieces s x y).state ∙ ap (heard s) whole ∙ so_far.state;
+      state = ap (λ (t : ServerState). heard t rest') state ∙ ap (heard (heard s x)) left
+          ∙ sym (server_in_pieces s x y).state ∙ ap (heard s) whole ∙ so_far.state;
       marked =
-          ap (λ ms. ms ++ marks_in s' rest') marked ∙ ap (λ (t : ServerState). (m ++ marks_in s x) ++ marks_in t rest') state
-          ∙ ap (λ (bs : List ℕ). (m ++ marks_in s x) ++ marks_in (heard s x) bs) left ∙ append_assoc m (marks_in s x) (marks_in (heard s x) y)
+          ap (λ ms. ms ++ marks_in s' rest') marked ∙ ap (λ (t : ServerState). (m ++ marks_in s x) ++ marks_in t rest')
+          state
+          ∙ ap (λ (bs : List ℕ). (m ++ marks_in s x) ++ marks_in (heard s x) bs) left
+          ∙ append_assoc m (marks_in s x) (marks_in (heard s x) y)
           ∙ ap (λ ms. m ++ ms) (sym (marks-append s x y) ∙ ap (marks_in s) whole) ∙ so_far.marked;
       room = omega (arith, fewer, ap length added, length-append m (option_to_list (mark_in w)), so_far.room);
     }
 
 -- ---- reads
 
-pub gathered_none : {R : Type 0} (remaining : R → Option (List ℕ)) (s : ServerState) (reader : Metered R) (marks : List (ℕ × Code)) → s.held ≢ [] → Gathered remaining s s reader reader marks marks 0
+pub gathered_none : {R : Type 0} (remaining : R → Option (List ℕ)) (s : ServerState) (reader : Metered R)
+    (marks : List (ℕ × Code)) → s.held ≢ [] → Gathered remaining s s reader reader marks marks 0
 gathered_none remaining s reader marks busy = record {
   read = [];
   reading = no_read remaining reader;
@@ -120,11 +142,15 @@ gathered_none remaining s reader marks busy = record {
   room = refl;
 }
 
-module _ {R : Type 0} (remaining : R → Option (List ℕ)) (s0 s1 : ServerState) (r0 r1 : Metered R) (m0 m1 : List (ℕ × Code)) (reads : ℕ) (so_far : Gathered remaining s0 s1 r0 r1 m0 m1 reads) where
-  more_marks : (piece : List ℕ) (m2 : List (ℕ × Code)) → m2 ≡ m1 ++ marks_in s1 piece → m2 ≡ m0 ++ marks_in s0 (so_far.read ++ piece)
+module _ {R : Type 0} (remaining : R → Option (List ℕ)) (s0 s1 : ServerState) (r0 r1 : Metered R)
+    (m0 m1 : List (ℕ × Code)) (reads : ℕ) (so_far : Gathered remaining s0 s1 r0 r1 m0 m1 reads) where
+  more_marks : (piece : List ℕ) (m2 : List (ℕ × Code)) → m2 ≡ m1 ++ marks_in s1 piece
+      → m2 ≡ m0 ++ marks_in s0 (so_far.read ++ piece)
   more_marks piece m2 marked =
-      marked ∙ ap (λ ms. ms ++ marks_in s1 piece) so_far.marked ∙ ap (λ (d : ServerState). (m0 ++ marks_in s0 so_far.read) ++ marks_in d piece) so_far.state
-      ∙ append_assoc m0 (marks_in s0 so_far.read) (marks_in (heard s0 so_far.read) piece) ∙ ap (λ ms. m0 ++ ms) (sym (marks-append s0 so_far.read piece))
+      marked ∙ ap (λ ms. ms ++ marks_in s1 piece) so_far.marked
+      ∙ ap (λ (d : ServerState). (m0 ++ marks_in s0 so_far.read) ++ marks_in d piece) so_far.state
+      ∙ append_assoc m0 (marks_in s0 so_far.read) (marks_in (heard s0 so_far.read) piece)
+      ∙ ap (λ ms. m0 ++ ms) (sym (marks-append s0 so_far.read piece))
 
   -- one read more, after which messages wait
   pub gathered_on : (s2 : ServerState) (r2 : Metered R) (m2 : List (ℕ × Code)) (piece : List ℕ)
@@ -166,8 +192,11 @@ module _ {R : Type 0} (remaining : R → Option (List ℕ)) (s0 s1 : ServerState
           let x : List ℕ = take (length (so_far.read ++ piece) - 64) so_far.read in
           let y : List ℕ = drop (length (so_far.read ++ piece) - 64) so_far.read in
           let early : (heard s0 x).held ≡ [] = ap (λ (bs : List ℕ). (heard s0 bs).held) (sym front) ∙ before in
-          let later : (heard s0 (x ++ y)).held ≡ [] = ap (λ (t : ServerState). t.held) (server_in_pieces s0 x y).state ∙ idle_hears (heard s0 x) y early in
-          so_far.busy (ap (λ (t : ServerState). t.held) so_far.state ∙ ap (λ (bs : List ℕ). (heard s0 bs).held) (sym (take-append-drop (length (so_far.read ++ piece) - 64) so_far.read)) ∙ later)
+          let later : (heard s0 (x ++ y)).held ≡ [] = ap (λ (t : ServerState). t.held) (server_in_pieces s0 x y).state
+          ∙ idle_hears (heard s0 x) y early in
+          so_far.busy (ap (λ (t : ServerState). t.held) so_far.state
+          ∙ ap (λ (bs : List ℕ). (heard s0 bs).held)
+          (sym (take-append-drop (length (so_far.read ++ piece) - 64) so_far.read)) ∙ later)
 
   -- they end with no more, or with one more that brought none
   pub gathers_quiet : (s2 : ServerState) (r2 : Metered R) (m2 : List (ℕ × Code)) (turns more failed : ℕ)
@@ -182,7 +211,8 @@ module _ {R : Type 0} (remaining : R → Option (List ℕ)) (s0 s1 : ServerState
     reading = reads_end remaining r0 r1 r2 so_far.read reads so_far.reading more failed (is_closed result) quiet;
     state = stays ∙ so_far.state;
     marked = same ∙ so_far.marked;
-    ends = subst (λ (s : ServerState). ReadsEnd s0 s so_far.read (remaining r2.device) turns (reads + more) failed result) (sym stays) ends;
+    ends = subst (λ (s : ServerState). ReadsEnd s0 s so_far.read (remaining r2.device) turns (reads + more) failed
+        result) (sym stays) ends;
     few_reads = below;
   }
 
@@ -228,7 +258,9 @@ windows_read remaining contents s0 s1 r0 r1 w0 w1 m0 m1 turns result wrote failu
   write_failures = kept result reads.ends;
 }
   where
-    go : (result : Result Windowed DriveFault) → ReadsEnd s0 s1 reads.read (remaining r1.device) turns reads.reads reads.failed result → WindowEnds s0 s1 reads.read (window_sent s0) (remaining r1.device) turns reads.reads reads.failed result
+    go : (result : Result Windowed DriveFault) → ReadsEnd s0 s1 reads.read (remaining r1.device) turns reads.reads
+        reads.failed result → WindowEnds s0 s1 reads.read (window_sent s0) (remaining r1.device) turns reads.reads
+        reads.failed result
     go (Ok windowed) ends = (refl, ends)
     go (Err Closed) ends = (refl, ends)
     go (Err (WriteFailed w)) ends = absurd ends

@@ -7,10 +7,15 @@ use Rattle.uecp_link.specs.Server.{ServerState, heard}
 -- Some bytes leave a server its address, its last counter, the messages that it holds and its counts but that of the
 -- dropped segments, which rises by one for each of their findings.
 pub record IsUnmoved (s : ServerState) (bytes : List ℕ) : Type 0 where
-  pub state : heard s bytes ≡ record s { counts = record s.counts { dropped = (heard s bytes).counts.dropped }; part = open_beyond s.part bytes }
-  pub dropped : s.counts.dropped < 2 ^ 64 → (heard s bytes).counts.dropped ≡ min (s.counts.dropped + length (found_beyond s.part bytes)) (2 ^ 64 - 1)
+  pub state : heard s bytes ≡ record s {
+    counts = record s.counts { dropped = (heard s bytes).counts.dropped };
+    part = open_beyond s.part bytes;
+  }
+  pub dropped : s.counts.dropped < 2 ^ 64 → (heard s bytes).counts.dropped
+      ≡ min (s.counts.dropped + length (found_beyond s.part bytes)) (2 ^ 64 - 1)
 
 -- ---- Law.
 -- Whatever is open, bytes in which no frame is found do so.
 abbrev pub DamageChangesNothing : Type 0
-DamageChangesNothing = (s : ServerState) (bytes : List ℕ) → has_frame (found_beyond s.part bytes) ≡ false → IsUnmoved s bytes
+DamageChangesNothing = (s : ServerState) (bytes : List ℕ) → has_frame (found_beyond s.part bytes) ≡ false
+    → IsUnmoved s bytes

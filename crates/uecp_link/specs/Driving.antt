@@ -1,5 +1,6 @@
 -- What `drive` and `resend` do over a reader and a writer; a reader has to believe it. Source: profile.
-use Rattle.std.specs.Prelude.{◌≡◌, ℕ, ◌+◌, ◌-◌, ◌*◌, ◌<◌, ◌≤◌, zero, suc, List, [], ◌∷◌, ◌++◌, length, take, Option, Some, None, Result, Ok, Err}
+use Rattle.std.specs.Prelude.{◌≡◌, ℕ, ◌+◌, ◌-◌, ◌*◌, ◌<◌, ◌≤◌, zero, suc, List, [], ◌∷◌, ◌++◌, length, take, Option}
+use Rattle.std.specs.Prelude.{Some, None, Result, Ok, Err}
 use Rattle.std.specs.Option.{option_or, option_map}
 use Rattle.std.specs.Io.KnownBytes.{Appends, IsAtEnd}
 use Rattle.uecp_frame.specs.Findings.{Finding}
@@ -51,40 +52,56 @@ pub record IsAcknowledged (s : ServerState) (bytes : List ℕ) (code : Code) : T
 -- The message is acknowledged: nothing is held, and one acknowledgement more is counted. Of the rest only the other
 -- counts and the open part may have changed.
 abbrev pub IsFreed : ServerState → ServerState → Type 0
-IsFreed old new = new ≡ record old { held = []; counts = record new.counts { acknowledged = raised old.counts.acknowledged }; part = new.part }
+IsFreed old new = new ≡ record old {
+  held = [];
+  counts =
+      record new.counts { acknowledged = raised old.counts.acknowledged };
+  part = new.part;
+}
 
 -- The message is outstanding under its counter as before, and no acknowledgement is counted. Of the rest only the other
 -- counts and the open part may have changed.
 abbrev pub StillWaits : ServerState → ServerState → Type 0
-StillWaits old new = new ≡ record old { counts = record new.counts { acknowledged = old.counts.acknowledged }; part = new.part }
+StillWaits old new = new ≡ record old {
+  counts = record new.counts { acknowledged = old.counts.acknowledged };
+  part = new.part;
+}
 
 -- ---- How a call ends.
 
 -- From this state, with this read and this sent, in so many tries of those that were allowed. Acknowledged: the frame
 -- was sent once a try. A failed write: the copies were sent up to the byte w, which lies in the copy of the last try.
 -- The end of input: the frame was sent once a try. Tries spent: all were made.
-abbrev pub Ends : ServerState → (read sent : List ℕ) → (unread : Option (List ℕ)) → (tries begun : ℕ) → Result Driven DriveFault → Type 0
+abbrev pub Ends : ServerState → (read sent : List ℕ) → (unread : Option (List ℕ)) → (tries begun : ℕ)
+    → Result Driven DriveFault → Type 0
 Ends s read sent unread tries begun (Ok driven) =
-    (begun ≡ driven.tries) × (1 ≤ begun) × (begun ≤ tries) × (sent ≡ copies (frame_sent s) begun) × IsAcknowledged s read driven.code
+    (begun ≡ driven.tries) × (1 ≤ begun) × (begun ≤ tries) × (sent ≡ copies (frame_sent s) begun)
+    × IsAcknowledged s read driven.code
 Ends s read sent unread tries begun (Err (WriteFailed w)) =
-    (1 ≤ begun) × (begun ≤ tries) × (sent ≡ take w (copies (frame_sent s) tries)) × (length (copies (frame_sent s) (begun - 1)) ≤ w) × (w < length (copies (frame_sent s) begun))
+    (1 ≤ begun) × (begun ≤ tries) × (sent ≡ take w (copies (frame_sent s) tries))
+    × (length (copies (frame_sent s) (begun - 1)) ≤ w) × (w < length (copies (frame_sent s) begun))
     × (acknowledged_in s read ≡ None)
 Ends s read sent unread tries begun (Err Closed) =
-    (1 ≤ begun) × (begun ≤ tries) × (sent ≡ copies (frame_sent s) begun) × (acknowledged_in s read ≡ None) × IsAtEnd unread
-Ends s read sent unread tries begun (Err TriesSpent) = (begun ≡ tries) × (sent ≡ copies (frame_sent s) tries) × (acknowledged_in s read ≡ None)
+    (1 ≤ begun) × (begun ≤ tries) × (sent ≡ copies (frame_sent s) begun) × (acknowledged_in s read ≡ None)
+    × IsAtEnd unread
+Ends s read sent unread tries begun (Err TriesSpent) =
+    (begun ≡ tries) × (sent ≡ copies (frame_sent s) tries) × (acknowledged_in s read ≡ None)
 
 -- How many reads were made in so many tries, and how many of them failed. A try that brings nothing makes all its
 -- turns, or ends at a failed read; the try that is acknowledged or meets the end of input makes one read at least, and
 -- none of them fails; the try whose write fails makes none.
 abbrev pub ReadsMade : Result Driven DriveFault → (turns begun reads failed : ℕ) → Type 0
 ReadsMade (Ok driven) turns begun reads failed = (failed < begun) × (failed + (begun - 1 - failed) * turns + 1 ≤ reads)
-ReadsMade (Err (WriteFailed w)) turns begun reads failed = (failed < begun) × (failed + (begun - 1 - failed) * turns ≤ reads)
+ReadsMade (Err (WriteFailed w)) turns begun reads failed =
+    (failed < begun) × (failed + (begun - 1 - failed) * turns ≤ reads)
 ReadsMade (Err Closed) turns begun reads failed = (failed < begun) × (failed + (begun - 1 - failed) * turns + 1 ≤ reads)
 ReadsMade (Err TriesSpent) turns begun reads failed = (failed ≤ begun) × (failed + (begun - failed) * turns ≤ reads)
 
 -- A call from one state of the server to another, over a reader and a writer before and after it: what was read and
 -- sent, in how many tries and reads, and how it ended. But for `Closed`, no read brought nothing; there one did.
-pub record Drives {R W : Type 0} (remaining : R → Option (List ℕ)) (contents : W → Option (List ℕ)) (old new : ServerState) (reader reader' : Metered R) (writer writer' : Metered W) (tries turns : ℕ) (result : Result Driven DriveFault) : Type 0 where
+pub record Drives {R W : Type 0} (remaining : R → Option (List ℕ)) (contents : W → Option (List ℕ))
+    (old new : ServerState) (reader reader' : Metered R) (writer writer' : Metered W) (tries turns : ℕ)
+    (result : Result Driven DriveFault) : Type 0 where
   pub read : List ℕ
   pub sent : List ℕ
   pub begun : ℕ

@@ -8,7 +8,9 @@ use Rattle.uecp_link.specs.declared.event.Side.TheVariants as side
 use Rattle.uecp_link.specs.declared.event.LineEvent.TheVariants as event
 use Rattle.uecp_link.specs.declared.stepped.Stepped.TheVariants as stepped
 use Rattle.uecp_link.specs.declared.refusal.LineRefusal.TheVariants as line
-use Rattle.uecp_link.specs.Once.{Event, Submit, FrameComes, ReplyComes, NoiseToEncoder, NoiseToServer, EncoderLost, ServerLost, Take, Answer, Numbered, Delivered, NotNext, Acknowledged, Stray, Noise, Lost, Took, Busy, NotSent, TooLate, HoldsAFrame, Once, refusal_of}
+use Rattle.uecp_link.specs.Once.{Event, Submit, FrameComes, ReplyComes, NoiseToEncoder, NoiseToServer, EncoderLost}
+use Rattle.uecp_link.specs.Once.{ServerLost, Take, Answer, Numbered, Delivered, NotNext, Acknowledged, Stray, Noise}
+use Rattle.uecp_link.specs.Once.{Lost, Took, Busy, NotSent, TooLate, HoldsAFrame, Once, refusal_of}
 
 -- The loss of the line at one end.
 abbrev pub lost_of : Side → Event

@@ -16,5 +16,6 @@ value_after step taken sent v (Taking ∷ acts) = value_after step taken sent (t
 -- The code of each message of a history, in order.
 abbrev pub codes_after : {V : Type 0} → Step V → Taken V → (sent : List (List ℕ)) → V → List Act → List Code
 codes_after step taken sent v [] = []
-codes_after step taken sent v (Message k ∷ acts) = (step v (message_at sent k)).1 ∷ codes_after step taken sent (step v (message_at sent k)).0 acts
+codes_after step taken sent v (Message k ∷ acts) =
+    (step v (message_at sent k)).1 ∷ codes_after step taken sent (step v (message_at sent k)).0 acts
 codes_after step taken sent v (Taking ∷ acts) = codes_after step taken sent (taken v).0 acts

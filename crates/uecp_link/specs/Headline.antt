@@ -13,7 +13,8 @@ use Rattle.uecp_link.specs.Holds.{LineState, is_acknowledged}
 -- The encoder's store is what a prefix of the sent messages with the takes between makes, each applied once and in
 -- order; every acknowledged message is in it with its one reply, and every missing one is still outstanding. `acts` is
 -- the history of the line: the messages that were applied and the takes.
-pub record IsHeadline {V : Type 0} (step : Step V) (taken : Taken V) (address : ℕ) (opening : V) (acts : List Act) (line : LineState V) : Type 0 where
+pub record IsHeadline {V : Type 0} (step : Step V) (taken : Taken V) (address : ℕ) (opening : V) (acts : List Act)
+    (line : LineState V) : Type 0 where
   -- the messages of the history are the first of those that were sent, each once and in order; they are the applied
   -- ones
   pub order : messages_in acts ≡ numbers_below (length line.codes)
@@ -27,4 +28,6 @@ pub record IsHeadline {V : Type 0} (step : Step V) (taken : Taken V) (address : 
   pub acknowledged : (k : ℕ) → is_acknowledged line k ≡ true → k < length line.codes
   -- and every message that is not acknowledged, so every missing one too, is still outstanding: their frames are the
   -- ones that the server lends, in order
-  pub outstanding : frames_waiting line.server ≡ map (λ k. spelling (frame_under address (counter_of k, message_at line.sent k))) (missing (is_acknowledged line) (length line.sent))
+  pub outstanding : frames_waiting line.server ≡ map
+      (λ k. spelling (frame_under address (counter_of k, message_at line.sent k)))
+      (missing (is_acknowledged line) (length line.sent))

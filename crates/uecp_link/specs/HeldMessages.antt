@@ -36,7 +36,8 @@ oldest_marked (h ∷ hs) = h.marked
 -- Each frame is the spelling of its message under its counter.
 abbrev pub AreSpelled : ℕ → List HeldMessage → Type 0
 AreSpelled address [] = Unit {0}
-AreSpelled address (h ∷ hs) = (h.frame.items ≡ spelling (frame_under address (h.counter, h.message))) × AreSpelled address hs
+AreSpelled address (h ∷ hs) = (h.frame.items ≡ spelling (frame_under address (h.counter, h.message)))
+    × AreSpelled address hs
 
 -- The counters go up by one, from FF to 01, and the newest message has the last.
 abbrev pub AreInTurn : ℕ → List HeldMessage → Type 0

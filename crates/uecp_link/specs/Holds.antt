@@ -1,6 +1,7 @@
 -- A line as its contracts see it, and when it holds what the once-machine holds; a reader has to believe it, but for
 -- `once_of` and `IsLine`. Source: profile.
-use Rattle.std.specs.Prelude.{ℕ, ◌-◌, ◌||◌, Bool, ◌≡◌, nat_lt, List, [], ◌∷◌, ◌++◌, length, None, slice_get, Result, Ok, Err}
+use Rattle.std.specs.Prelude.{ℕ, ◌-◌, ◌||◌, Bool, ◌≡◌, nat_lt, List, [], ◌∷◌, ◌++◌, length, None, slice_get, Result, Ok}
+use Rattle.std.specs.Prelude.{Err}
 use Rattle.std.specs.List.{count_by}
 use Rattle.std.specs.Result.{is_err}
 use Rattle.uecp_elements.specs.declared.code.Code.{Code}
@@ -60,7 +61,8 @@ pub record Holds {V : Type 0} (line : LineState V) (o : Once V) : Type 0 where
 
 -- One event: the line goes from what the once-machine held to its next state, and answers what that answers; the two
 -- ends are fed the event's bytes, and nothing else.
-pub record StepsAs {V : Type 0} (step : Step V) (taken : Taken V) (old : LineState V) (o : Once V) (event : Event) (stepped : Stepped) (new : LineState V) : Type 0 where
+pub record StepsAs {V : Type 0} (step : Step V) (taken : Taken V) (old : LineState V) (o : Once V) (event : Event)
+    (stepped : Stepped) (new : LineState V) : Type 0 where
   pub accepted : refusal_of o event ≡ None
   pub answer : answer_seen stepped ≡ answer_of step taken o event
   pub encoder : new.encoder ≡ encoder_after step taken old.encoder.address o old.encoder event
@@ -84,12 +86,14 @@ once_after step taken o event (Err refusal) = o
 
 -- Events in turn, each a step of the line with its own outcome: they lead the line, and the once-machine beside it, to
 -- these.
-abbrev pub Plays : {V : Type 0} → Step V → Taken V → LineState V → Once V → List Event → List Outcome → LineState V → Once V → Type 0
+abbrev pub Plays : {V : Type 0} → Step V → Taken V → LineState V → Once V → List Event → List Outcome → LineState V
+    → Once V → Type 0
 Plays step taken line o [] [] line' o' = (line' ≡ line) × (o' ≡ o)
 Plays step taken line o [] (outcome ∷ outcomes) line' o' = ⊥
 Plays step taken line o (event ∷ events) [] line' o' = ⊥
 Plays {V} step taken line o (event ∷ events) (outcome ∷ outcomes) line' o' =
-    (next : LineState V) × StepsTo step taken line o event outcome next × Plays step taken next (once_after step taken o event outcome) events outcomes line' o'
+    (next : LineState V) × StepsTo step taken line o event outcome next
+    × Plays step taken next (once_after step taken o event outcome) events outcomes line' o'
 
 -- What an event brings to the history of the line, by its outcome.
 abbrev pub act_by : Event → Outcome → List Act
@@ -103,7 +107,8 @@ history_by _ _ = []
 
 -- A list of events, with how many of them were refused: in turn each was a step, and the line holds what the
 -- once-machine holds at the end.
-pub record RunsAs {V : Type 0} (step : Step V) (taken : Taken V) (old : LineState V) (o : Once V) (events : List Event) (refused : ℕ) (new : LineState V) : Type 0 where
+pub record RunsAs {V : Type 0} (step : Step V) (taken : Taken V) (old : LineState V) (o : Once V) (events : List Event)
+    (refused : ℕ) (new : LineState V) : Type 0 where
   pub outcomes : List Outcome
   pub last : Once V
   pub plays : Plays step taken old o events outcomes new last

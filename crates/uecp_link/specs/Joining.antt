@@ -1,6 +1,7 @@
 -- How a server that knows nothing of an encoder joins it: by a pass of empty messages, and the replies to two of them;
 -- a reader has to believe it, but for what is marked private. Source: profile.
-use Rattle.std.specs.Prelude.{◌≡◌, ◌≢◌, ℕ, ◌-◌, ◌<◌, ◌≤◌, ◌==◌, ◌⊎◌, List, [], ◌∷◌, ◌++◌, length, map, take, filter_map, false, Option, None, Result, Ok, Err, if◌then◌else◌}
+use Rattle.std.specs.Prelude.{◌≡◌, ◌≢◌, ℕ, ◌-◌, ◌<◌, ◌≤◌, ◌==◌, ◌⊎◌, List, [], ◌∷◌, ◌++◌, length, map, take, filter_map}
+use Rattle.std.specs.Prelude.{false, Option, None, Result, Ok, Err, if◌then◌else◌}
 use Rattle.std.specs.List.{concat}
 use Rattle.std.specs.Option.{option_map}
 use Rattle.std.specs.Io.KnownBytes.{Appends, IsAtEnd}
@@ -67,29 +68,42 @@ anew s = record s { last = 0; held = []; part = NothingOpen }
 -- A server that began anew and heard some bytes is still so, but for its open part and its counts of stray frames and
 -- dropped segments.
 abbrev pub IsStillNew : (old new : ServerState) → Type 0
-IsStillNew old new = new ≡ record (anew old) { counts = record new.counts { acknowledged = old.counts.acknowledged }; part = new.part }
+IsStillNew old new = new ≡ record (anew old) {
+  counts = record new.counts { acknowledged = old.counts.acknowledged };
+  part = new.part;
+}
 
 -- How the reads of a pass ended. Joined: both replies were read, and not so 64 bytes before. Spent: they were not, and
 -- one read failed, or none and all turns were made. Closed: they were not, and the input is at its end.
-abbrev pub RepliesEnd : (address : ℕ) → (read : List ℕ) → (unread : Option (List ℕ)) → (turns reads failed : ℕ) → Result Joining DriveFault → Type 0
-RepliesEnd address read unread turns reads failed (Ok Joined) = BringsBoth address read × (BringsBoth address (take (length read - 64) read) → ⊥) × (failed ≡ 0) × (1 ≤ reads)
-RepliesEnd address read unread turns reads failed (Ok Spent) = (BringsBoth address read → ⊥) × (((failed ≡ 1) × (1 ≤ reads)) ⊎ ((failed ≡ 0) × (reads ≡ turns)))
-RepliesEnd address read unread turns reads failed (Err Closed) = (BringsBoth address read → ⊥) × (failed ≡ 0) × (1 ≤ reads) × IsAtEnd unread
+abbrev pub RepliesEnd : (address : ℕ) → (read : List ℕ) → (unread : Option (List ℕ)) → (turns reads failed : ℕ)
+    → Result Joining DriveFault → Type 0
+RepliesEnd address read unread turns reads failed (Ok Joined) =
+    BringsBoth address read × (BringsBoth address (take (length read - 64) read) → ⊥) × (failed ≡ 0) × (1 ≤ reads)
+RepliesEnd address read unread turns reads failed (Ok Spent) =
+    (BringsBoth address read → ⊥) × (((failed ≡ 1) × (1 ≤ reads)) ⊎ ((failed ≡ 0) × (reads ≡ turns)))
+RepliesEnd address read unread turns reads failed (Err Closed) =
+    (BringsBoth address read → ⊥) × (failed ≡ 0) × (1 ≤ reads) × IsAtEnd unread
 RepliesEnd address read unread turns reads failed (Err (WriteFailed w)) = ⊥
 RepliesEnd address read unread turns reads failed (Err TriesSpent) = ⊥
 
 -- How a pass ended. A write failed: the first w bytes of the pass were sent, not all, and no read was made. Else the
 -- pass was sent whole, and the reads ended.
-abbrev pub PassEnds : (address : ℕ) → (read sent : List ℕ) → (unread : Option (List ℕ)) → (turns reads failed : ℕ) → Result Joining DriveFault → Type 0
-PassEnds address read sent unread turns reads failed (Err (WriteFailed w)) = (sent ≡ take w (pass_sent address)) × (w < length (pass_sent address)) × (read ≡ []) × (reads ≡ 0) × (failed ≡ 0)
-PassEnds address read sent unread turns reads failed (Err Closed) = (sent ≡ pass_sent address) × RepliesEnd address read unread turns reads failed (Err Closed)
+abbrev pub PassEnds : (address : ℕ) → (read sent : List ℕ) → (unread : Option (List ℕ)) → (turns reads failed : ℕ)
+    → Result Joining DriveFault → Type 0
+PassEnds address read sent unread turns reads failed (Err (WriteFailed w)) =
+    (sent ≡ take w (pass_sent address)) × (w < length (pass_sent address)) × (read ≡ []) × (reads ≡ 0) × (failed ≡ 0)
+PassEnds address read sent unread turns reads failed (Err Closed) =
+    (sent ≡ pass_sent address) × RepliesEnd address read unread turns reads failed (Err Closed)
 PassEnds address read sent unread turns reads failed (Err TriesSpent) = ⊥
-PassEnds address read sent unread turns reads failed (Ok joining) = (sent ≡ pass_sent address) × RepliesEnd address read unread turns reads failed (Ok joining)
+PassEnds address read sent unread turns reads failed (Ok joining) =
+    (sent ≡ pass_sent address) × RepliesEnd address read unread turns reads failed (Ok joining)
 
 -- A pass from one state of the server to another, over a reader and a writer before and after it: what was sent and
 -- read, by how many reads, and how it ended. The server begins anew and hears all that was read; as it holds nothing,
 -- each reply counts as stray. But for `Closed`, no read brought nothing; there one did.
-pub record MakesPass {R W : Type 0} (remaining : R → Option (List ℕ)) (contents : W → Option (List ℕ)) (old new : ServerState) (reader reader' : Metered R) (writer writer' : Metered W) (turns : ℕ) (result : Result Joining DriveFault) : Type 0 where
+pub record MakesPass {R W : Type 0} (remaining : R → Option (List ℕ)) (contents : W → Option (List ℕ))
+    (old new : ServerState) (reader reader' : Metered R) (writer writer' : Metered W) (turns : ℕ)
+    (result : Result Joining DriveFault) : Type 0 where
   pub read : List ℕ
   pub sent : List ℕ
   pub reads : ℕ
@@ -157,7 +171,8 @@ seen_after seen [] = seen
 seen_after seen (counter ∷ counters) = seen_after (seen_with seen counter) counters
 
 -- The reads of a pass from a server with nothing open and nothing held (private).
-pub record ReadsReplies {R : Type 0} (remaining : R → Option (List ℕ)) (old new : ServerState) (reader reader' : Metered R) (turns : ℕ) (result : Result Joining DriveFault) : Type 0 where
+pub record ReadsReplies {R : Type 0} (remaining : R → Option (List ℕ)) (old new : ServerState)
+    (reader reader' : Metered R) (turns : ℕ) (result : Result Joining DriveFault) : Type 0 where
   pub read : List ℕ
   pub reads : ℕ
   pub failed : ℕ
@@ -167,7 +182,8 @@ pub record ReadsReplies {R : Type 0} (remaining : R → Option (List ℕ)) (old 
   pub few_reads : reads ≤ turns
 
 -- So many reads, none of which failed or brought nothing, after which the two replies were not both read (private).
-pub record ReadSoFar {R : Type 0} (remaining : R → Option (List ℕ)) (old new : ServerState) (reader reader' : Metered R) (seen : Seen) (reads : ℕ) : Type 0 where
+pub record ReadSoFar {R : Type 0} (remaining : R → Option (List ℕ)) (old new : ServerState) (reader reader' : Metered R)
+    (seen : Seen) (reads : ℕ) : Type 0 where
   pub read : List ℕ
   pub reading : Reads remaining reader reader' read reads 0 false
   pub state : new ≡ heard old read
@@ -179,4 +195,5 @@ pub record ReadSoFar {R : Type 0} (remaining : R → Option (List ℕ)) (old new
 pub record HearsOn (old new : ServerState) (piece rest : List ℕ) (seen seen' : Seen) : Type 0 where
   pub state : heard new rest ≡ heard old piece
   pub idle : new.held ≡ []
-  pub seen_is : seen_after seen' (reply_counters new.address new.part rest) ≡ seen_after seen (reply_counters old.address old.part piece)
+  pub seen_is : seen_after seen' (reply_counters new.address new.part rest)
+      ≡ seen_after seen (reply_counters old.address old.part piece)

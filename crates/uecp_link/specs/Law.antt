@@ -1,6 +1,7 @@
 -- The two ends, fed an event's bytes, beside the once-machine, and the law that ties them; a reader has to believe it.
 -- Source: profile; RDS Forum SPB 490, sequence counter, for the range of counters.
-use Rattle.std.specs.Prelude.{ℕ, ◌≡◌, ◌+◌, ◌<◌, ◌≤◌, nat_lt, true, ◌==◌, List, [], ◌∷◌, length, map, slice_get, Option, Some, None, is_some, is_none, if◌then◌else◌}
+use Rattle.std.specs.Prelude.{ℕ, ◌≡◌, ◌+◌, ◌<◌, ◌≤◌, nat_lt, true, ◌==◌, List, [], ◌∷◌, length, map, slice_get, Option}
+use Rattle.std.specs.Prelude.{Some, None, is_some, is_none, if◌then◌else◌}
 use Rattle.uecp_elements.specs.declared.code.Code.{Code}
 use Rattle.uecp_frame.specs.declared.frame.Frame.{Frame}
 use Rattle.uecp_frame.specs.Frame.{spelling}
@@ -13,7 +14,8 @@ use Rattle.uecp_encoder.specs.Laws.{fresh_in}
 use Rattle.uecp_link.specs.Counters.{counter_of, is_recent}
 use Rattle.uecp_link.specs.Frames.{frame_under}
 use Rattle.uecp_link.specs.Server.{ServerState, idle_at, submitted, waiting, heard}
-use Rattle.uecp_link.specs.Once.{Event, Submit, FrameComes, ReplyComes, NoiseToEncoder, NoiseToServer, EncoderLost, ServerLost, Take, Once, message_at, missing, refusal_of, after, at_first}
+use Rattle.uecp_link.specs.Once.{Event, Submit, FrameComes, ReplyComes, NoiseToEncoder, NoiseToServer, EncoderLost}
+use Rattle.uecp_link.specs.Once.{ServerLost, Take, Once, message_at, missing, refusal_of, after, at_first}
 use Rattle.uecp_link.specs.History.{Act, messages_in, numbers_below, history}
 use Rattle.uecp_link.specs.Fold.{value_after, codes_after}
 
@@ -98,18 +100,21 @@ pub record Numbers {V : Type 0} (step : Step V) (address : ℕ) (w : World V) (p
   pub all_but_eight : (p ≤ length w.once.sent) × (length w.once.sent ≤ p + 8)
   pub acknowledged : (k : ℕ) → w.once.acknowledged k ≡ true → k < p
   -- what waits at the server is what was sent and is not acknowledged, under its counters
-  pub outstanding : waiting w.server ≡ map (λ k. (counter_of k, message_at w.once.sent k)) (missing w.once.acknowledged (length w.once.sent))
+  pub outstanding : waiting w.server ≡ map (λ k. (counter_of k, message_at w.once.sent k))
+      (missing w.once.acknowledged (length w.once.sent))
   -- fed the frame of a recent number, the encoder applies one message where that number is the next, the least not
   -- applied, and none else
   pub fresh : (k : ℕ) → k < length w.once.sent → is_recent (length w.once.sent) k ≡ true →
       fresh_among (responses_to step w.encoder (spelling (frame_of address w.once k))) ≡ (if k == p then 1 else 0)
   -- and what it keeps for the counter of a recent number is that number's code, or nothing where it was not applied
-  pub replies : (k : ℕ) → k < length w.once.sent → is_recent (length w.once.sent) k ≡ true → kept_code w.encoder.ring (counter_of k) ≡ w.once.codes k
+  pub replies : (k : ℕ) → k < length w.once.sent → is_recent (length w.once.sent) k ≡ true
+      → kept_code w.encoder.ring (counter_of k) ≡ w.once.codes k
 
 -- The law of values, resting on that of numbers. The messages of the history are the first p, each once and in order;
 -- the encoder's target holds what the history makes, and so does the once-machine, and the codes of its messages are
 -- the codes that the numbers have.
-pub record Values {V : Type 0} (step : Step V) (taken : Taken V) (opening : V) (w : World V) (p : ℕ) (acts : List Act) : Type 0 where
+pub record Values {V : Type 0} (step : Step V) (taken : Taken V) (opening : V) (w : World V) (p : ℕ)
+    (acts : List Act) : Type 0 where
   pub order : messages_in acts ≡ numbers_below p
   pub target : w.encoder.value ≡ value_after step taken w.once.sent opening acts
   pub value : w.once.value ≡ value_after step taken w.once.sent opening acts
@@ -133,4 +138,5 @@ all_kept code v m = (m ∷ v, code v m)
 
 -- The law of numbers alone: over every list of events, whatever the codes are, and whatever a take does.
 abbrev pub NumbersLaw : (List (List ℕ) → List ℕ → Code) → Taken (List (List ℕ)) → ℕ → List Event → Type 0
-NumbersLaw code taken address events = (p : ℕ) × Numbers (all_kept code) address (run (all_kept code) taken address (start address []) events) p
+NumbersLaw code taken address events = (p : ℕ) × Numbers (all_kept code) address
+    (run (all_kept code) taken address (start address []) events) p

@@ -10,10 +10,14 @@ use Rattle.uecp_link.specs.Server.{ServerState, heard}
 use Rattle.uecp_link.specs.Driving.{copies, frame_sent, acknowledged_in, IsAcknowledged}
 
 -- How a try ended that read these bytes by so many reads, of which so many failed.
-abbrev pub Hears : ServerState → (read : List ℕ) → (unread : Option (List ℕ)) → (turns reads failed : ℕ) → Listened → Type 0
-Hears s read unread turns reads failed (listened.Acknowledged code) = IsAcknowledged s read code × (failed ≡ 0) × (1 ≤ reads)
-Hears s read unread turns reads failed listened.Nothing = (acknowledged_in s read ≡ None) × (((failed ≡ 1) × (1 ≤ reads)) ⊎ ((failed ≡ 0) × (reads ≡ turns)))
-Hears s read unread turns reads failed listened.Ended = (acknowledged_in s read ≡ None) × (failed ≡ 0) × (1 ≤ reads) × IsAtEnd unread
+abbrev pub Hears : ServerState → (read : List ℕ) → (unread : Option (List ℕ)) → (turns reads failed : ℕ) → Listened
+    → Type 0
+Hears s read unread turns reads failed (listened.Acknowledged code) =
+    IsAcknowledged s read code × (failed ≡ 0) × (1 ≤ reads)
+Hears s read unread turns reads failed listened.Nothing =
+    (acknowledged_in s read ≡ None) × (((failed ≡ 1) × (1 ≤ reads)) ⊎ ((failed ≡ 0) × (reads ≡ turns)))
+Hears s read unread turns reads failed listened.Ended =
+    (acknowledged_in s read ≡ None) × (failed ≡ 0) × (1 ≤ reads) × IsAtEnd unread
 
 -- Whether a try met the end of input.
 abbrev pub met_end : Listened → Bool
@@ -22,7 +26,8 @@ met_end listened.Nothing = false
 met_end listened.Ended = true
 
 -- A try from one state of the server to another. But for `Ended`, no read brought nothing; there one did.
-pub record Listens {R : Type 0} (remaining : R → Option (List ℕ)) (old new : ServerState) (reader reader' : Metered R) (turns : ℕ) (result : Listened) : Type 0 where
+pub record Listens {R : Type 0} (remaining : R → Option (List ℕ)) (old new : ServerState) (reader reader' : Metered R)
+    (turns : ℕ) (result : Listened) : Type 0 where
   pub read : List ℕ
   pub reads : ℕ
   pub failed : ℕ
@@ -32,7 +37,8 @@ pub record Listens {R : Type 0} (remaining : R → Option (List ℕ)) (old new :
   pub few_reads : reads ≤ turns
 
 -- So many reads, none of which failed, brought nothing, or brought the acknowledgement.
-pub record Waits {R : Type 0} (remaining : R → Option (List ℕ)) (old new : ServerState) (reader reader' : Metered R) (reads : ℕ) : Type 0 where
+pub record Waits {R : Type 0} (remaining : R → Option (List ℕ)) (old new : ServerState) (reader reader' : Metered R)
+    (reads : ℕ) : Type 0 where
   pub read : List ℕ
   pub reading : Reads remaining reader reader' read reads 0 false
   pub state : new ≡ heard old read
@@ -40,7 +46,9 @@ pub record Waits {R : Type 0} (remaining : R → Option (List ℕ)) (old new : S
 
 -- So many tries, none of which brought the acknowledgement, and no read in them brought nothing; this many bytes were
 -- sent in them.
-pub record Tried {R W : Type 0} (remaining : R → Option (List ℕ)) (contents : W → Option (List ℕ)) (old new : ServerState) (reader reader' : Metered R) (writer writer' : Metered W) (turns begun bytes : ℕ) : Type 0 where
+pub record Tried {R W : Type 0} (remaining : R → Option (List ℕ)) (contents : W → Option (List ℕ))
+    (old new : ServerState) (reader reader' : Metered R) (writer writer' : Metered W) (turns begun bytes : ℕ) : Type
+    0 where
   pub read : List ℕ
   pub reads : ℕ
   pub failed : ℕ

@@ -1,5 +1,6 @@
 -- The line after an event by its own fields; for proofs alone, as the contracts of private functions. Source: profile.
-use Rattle.std.specs.Prelude.{ℕ, ◌≡◌, Bool, true, false, is_none, List, [], ◌∷◌, ◌++◌, Option, Some, None, slice_get, length, if◌then◌else◌}
+use Rattle.std.specs.Prelude.{ℕ, ◌≡◌, Bool, true, false, is_none, List, [], ◌∷◌, ◌++◌, Option, Some, None, slice_get}
+use Rattle.std.specs.Prelude.{length, if◌then◌else◌}
 use Rattle.uecp_elements.specs.declared.code.Code.{Code}
 use Rattle.uecp_frame.specs.Findings.{has_frame}
 use Rattle.uecp_frame.specs.Beyond.{found_beyond}
@@ -8,7 +9,8 @@ use Rattle.uecp_link.specs.declared.stepped.Stepped.{Stepped}
 use Rattle.uecp_link.specs.declared.stepped.Stepped.TheVariants as stepped
 use Rattle.uecp_link.specs.declared.refusal.LineRefusal.{LineRefusal}
 use Rattle.uecp_link.specs.declared.refusal.LineRefusal.TheVariants as line_refusal
-use Rattle.uecp_link.specs.Once.{Event, Submit, FrameComes, NoiseToEncoder, NoiseToServer, message_at, is_next, refusal_of, Answer, Noise, answer_of}
+use Rattle.uecp_link.specs.Once.{Event, Submit, FrameComes, NoiseToEncoder, NoiseToServer, message_at, is_next}
+use Rattle.uecp_link.specs.Once.{refusal_of, Answer, Noise, answer_of}
 use Rattle.uecp_link.specs.Events.{answer_seen, Refuses}
 use Rattle.uecp_link.specs.Law.{encoder_after, server_after}
 use Rattle.uecp_link.specs.Holds.{LineState, once_of, IsLine}
@@ -26,7 +28,8 @@ codes_with codes (Some _) next code = codes
 -- The codes after an event.
 abbrev pub codes_next : {V : Type 0} → Step V → LineState V → Event → List Code
 codes_next step line (FrameComes k) =
-    codes_with line.codes (slice_get line.codes k) (is_next (slice_get line.codes) (length line.sent) k) (step line.encoder.value (message_at line.sent k)).1
+    codes_with line.codes (slice_get line.codes k) (is_next (slice_get line.codes) (length line.sent) k)
+    (step line.encoder.value (message_at line.sent k)).1
 codes_next step line _ = line.codes
 
 -- The line after an event that is not refused.
@@ -52,8 +55,10 @@ line_answer step taken line event = answer_of step taken (once_of line) event
 
 -- Why the line refuses, by its own fields.
 abbrev pub LineRefuses : {V : Type 0} → LineState V → Event → LineRefusal → Type 0
-LineRefuses line (NoiseToEncoder x) refusal = (refusal ≡ line_refusal.HoldsAFrame) × (has_frame (found_beyond line.encoder.part x) ≡ true)
-LineRefuses line (NoiseToServer x) refusal = (refusal ≡ line_refusal.HoldsAFrame) × (has_frame (found_beyond line.server.part x) ≡ true)
+LineRefuses line (NoiseToEncoder x) refusal = (refusal ≡ line_refusal.HoldsAFrame)
+    × (has_frame (found_beyond line.encoder.part x) ≡ true)
+LineRefuses line (NoiseToServer x) refusal = (refusal ≡ line_refusal.HoldsAFrame)
+    × (has_frame (found_beyond line.server.part x) ≡ true)
 LineRefuses line event refusal = Refuses (once_of line) event refusal
 
 -- The codes after a frame, by the reply to it: one more where that is fresh.
@@ -72,13 +77,15 @@ stepped_by None = stepped.Stray
 stepped_by (Some code) = stepped.Acknowledged code
 
 -- What a call for one event owes where that goes through.
-pub record Goes {V : Type 0} (step : Step V) (taken : Taken V) (old : LineState V) (event : Event) (stepped : Stepped) (new : LineState V) : Type 0 where
+pub record Goes {V : Type 0} (step : Step V) (taken : Taken V) (old : LineState V) (event : Event) (stepped : Stepped)
+    (new : LineState V) : Type 0 where
   pub line : IsLine old
   pub passes : Passes old event
   pub answer : answer_seen stepped ≡ line_answer step taken old event
   pub next : new ≡ line_next step taken old event
 
 -- What it owes where the event is refused.
-pub record Stops {V : Type 0} (old : LineState V) (event : Event) (refusal : LineRefusal) (new : LineState V) : Type 0 where
+pub record Stops {V : Type 0} (old : LineState V) (event : Event) (refusal : LineRefusal) (new : LineState V) : Type
+    0 where
   pub refuses : LineRefuses old event refusal
   pub unchanged : new ≡ old

@@ -1,6 +1,7 @@
 -- The once-machine, which says what a line is to do; a reader has to believe it. It has numbers of messages and sets of
 -- numbers, and knows no counter, no kept reply and no frame. Source: profile.
-use Rattle.std.specs.Prelude.{ℕ, zero, suc, ◌+◌, ◌-◌, ◌==◌, nat_lt, Bool, true, false, List, [], ◌∷◌, ◌++◌, length, get_or, Option, Some, None, is_some, if◌then◌else◌}
+use Rattle.std.specs.Prelude.{ℕ, zero, suc, ◌+◌, ◌-◌, ◌==◌, nat_lt, Bool, true, false, List, [], ◌∷◌, ◌++◌, length}
+use Rattle.std.specs.Prelude.{get_or, Option, Some, None, is_some, if◌then◌else◌}
 use Rattle.uecp_elements.specs.declared.code.Code.{Code}
 use Rattle.rds_store.specs.declared.group.Group.{Group}
 use Rattle.uecp_frame.specs.Findings.{found, is_quiet}
@@ -113,7 +114,8 @@ applied_once step o k =
 -- applied; else nothing is done but that the noise before the frame is over.
 abbrev pub delivered : {V : Type 0} → Step V → Once V → ℕ → Option Code → Once V
 delivered step o k (Some code) = record o { to_encoder = [] }
-delivered step o k None = if is_next o.codes (length o.sent) k then applied_once step o k else record o { to_encoder = [] }
+delivered step o k None = if is_next o.codes (length o.sent) k then applied_once step o
+    k else record o { to_encoder = [] }
 
 -- The state after an event that is not refused: a submission adds a message, a frame is delivered, a reply makes its
 -- number an acknowledged one, noise is added to the noise of its direction, a loss forgets the noise towards that end,
@@ -131,7 +133,8 @@ after step taken o Take = record o { value = (taken o.value).0 }
 -- What is answered to the frame of a number, by the code that it has.
 abbrev pub delivery : {V : Type 0} → Step V → Once V → ℕ → Option Code → Answer
 delivery step o k (Some code) = Delivered false code
-delivery step o k None = if is_next o.codes (length o.sent) k then Delivered true (step o.value (message_at o.sent k)).1 else NotNext
+delivery step o k None = if is_next o.codes (length o.sent) k then Delivered true
+    (step o.value (message_at o.sent k)).1 else NotNext
 
 -- What is answered to a reply: the first time it acknowledges with the number's code, then it is stray.
 abbrev pub acknowledgement : Bool → Option Code → Answer

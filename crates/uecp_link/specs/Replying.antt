@@ -17,6 +17,7 @@ abbrev pub acknowledgements : ServerState → List ℕ → List Code
 acknowledgements s bytes = filter_map code_heard (all_heard_as s (found_beyond s.part bytes))
 
 -- For an end of the line, by what it is after some bytes and what it says of them, two pieces are as good as one.
-pub record IsInPieces {E S : Type 0} (after : E → List ℕ → E) (says : E → List ℕ → List S) (e : E) (x y : List ℕ) : Type 0 where
+pub record IsInPieces {E S : Type 0} (after : E → List ℕ → E) (says : E → List ℕ → List S) (e : E) (x y : List ℕ) : Type
+    0 where
   pub state : after e (x ++ y) ≡ after (after e x) y
   pub said : says e (x ++ y) ≡ says e x ++ says (after e x) y

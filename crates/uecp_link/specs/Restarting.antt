@@ -24,6 +24,7 @@ with_nothing_open e = record e { part = Closed }
 pub record Restarts {V : Type 0} (step : Step V) (old : LineState V) (given_up : ℕ) (new : LineState V) : Type 0 where
   pub given_up_is : given_up ≡ length (waiting old.server)
   pub begins : new ≡ line_from (fed step (with_nothing_open old.encoder) (pass_sent old.encoder.address))
-  pub replied : BringsBoth old.encoder.address (answers step (with_nothing_open old.encoder) (pass_sent old.encoder.address))
+  pub replied : BringsBoth old.encoder.address (answers step (with_nothing_open old.encoder)
+      (pass_sent old.encoder.address))
   pub joined : HasJoinedWith new.encoder old.encoder.value
   pub address : new.encoder.address ≡ old.encoder.address

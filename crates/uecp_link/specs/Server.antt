@@ -1,6 +1,7 @@
 -- The server's end as one value, and what findings do to it; a reader has to believe it. Source: RDS Forum SPB 490,
 -- two-way mode; profile for what is marked so.
-use Rattle.std.specs.Prelude.{◌≡◌, ℕ, zero, suc, ◌<◌, ◌==◌, ◌&&◌, ◌||◌, Bool, false, List, [], ◌∷◌, ◌++◌, length, map, take, slice_get, Option, Some, None, Ok, Err, if◌then◌else◌}
+use Rattle.std.specs.Prelude.{◌≡◌, ℕ, zero, suc, ◌<◌, ◌==◌, ◌&&◌, ◌||◌, Bool, false, List, [], ◌∷◌, ◌++◌, length, map}
+use Rattle.std.specs.Prelude.{take, slice_get, Option, Some, None, Ok, Err, if◌then◌else◌}
 use Rattle.std.specs.List.{list_any}
 use Rattle.std.specs.Option.{option_map_or, option_map}
 use Rattle.uecp_frame.specs.Frame.{spelling}
@@ -46,7 +47,10 @@ idle_at address = record { address = address; last = 0; held = []; counts = noth
 
 -- A message that is submitted is held, the newest, under the next counter and not marked. (profile)
 abbrev pub submitted : ServerState → List ℕ → ServerState
-submitted s m = record s { last = next_counter s.last; held = s.held ++ record { counter = next_counter s.last; message = m; marked = false } ∷ [] }
+submitted s m = record s {
+  last = next_counter s.last;
+  held = s.held ++ record { counter = next_counter s.last; message = m; marked = false } ∷ [];
+}
 
 -- Of the messages that are held, those that are not marked, in the same order, each with its counter.
 abbrev pub waiting_among : List Held → List (ℕ × List ℕ)
@@ -106,7 +110,10 @@ acknowledges s f = reply_to_one (waiting s) (reply_from s.address f)
 -- counted as stray and changes nothing else. (profile)
 abbrev pub freed : ServerState → Option (ℕ × Code) → ServerState
 freed s None = record s { counts = record s.counts { stray = raised s.counts.stray } }
-freed s (Some reply) = record s { held = freed_of (marked_at reply.0 s.held); counts = record s.counts { acknowledged = raised s.counts.acknowledged } }
+freed s (Some reply) = record s {
+  held = freed_of (marked_at reply.0 s.held);
+  counts = record s.counts { acknowledged = raised s.counts.acknowledged };
+}
 
 -- Counted so many times: `raised` so many times.
 abbrev pub raised_by : ℕ → ℕ → ℕ

@@ -1,6 +1,7 @@
 -- What `send_window` does over a reader and a writer; a reader has to believe it, but for `Gathers` and `Gathered`.
 -- Source: profile.
-use Rattle.std.specs.Prelude.{◌≡◌, ◌≢◌, ℕ, ◌+◌, ◌-◌, ◌<◌, ◌≤◌, ◌==◌, ◌⊎◌, List, [], ◌++◌, length, take, filter_map, false, Option, Some, None, Result, Ok, Err}
+use Rattle.std.specs.Prelude.{◌≡◌, ◌≢◌, ℕ, ◌+◌, ◌-◌, ◌<◌, ◌≤◌, ◌==◌, ◌⊎◌, List, [], ◌++◌, length, take, filter_map}
+use Rattle.std.specs.Prelude.{false, Option, Some, None, Result, Ok, Err}
 use Rattle.std.specs.List.{concat}
 use Rattle.std.specs.Map.{lookup}
 use Rattle.std.specs.Io.KnownBytes.{Appends, IsAtEnd}
@@ -36,25 +37,35 @@ code_under counter marks = lookup (λ k. k == counter) marks
 -- How the reads of a try ended, from one state of the server to another. No message waits: so it is, and it was not so
 -- 64 bytes before. Spent: messages wait, and one read failed, or none and all turns were made. Closed: messages wait,
 -- and the input is at its end.
-abbrev pub ReadsEnd : (old new : ServerState) → (read : List ℕ) → (unread : Option (List ℕ)) → (turns reads failed : ℕ) → Result Windowed DriveFault → Type 0
-ReadsEnd old new read unread turns reads failed (Ok Idle) = (new.held ≡ []) × ((heard old (take (length read - 64) read)).held ≢ []) × (failed ≡ 0) × (1 ≤ reads)
-ReadsEnd old new read unread turns reads failed (Ok Spent) = (new.held ≢ []) × (((failed ≡ 1) × (1 ≤ reads)) ⊎ ((failed ≡ 0) × (reads ≡ turns)))
-ReadsEnd old new read unread turns reads failed (Err Closed) = (new.held ≢ []) × (failed ≡ 0) × (1 ≤ reads) × IsAtEnd unread
+abbrev pub ReadsEnd : (old new : ServerState) → (read : List ℕ) → (unread : Option (List ℕ)) → (turns reads failed : ℕ)
+    → Result Windowed DriveFault → Type 0
+ReadsEnd old new read unread turns reads failed (Ok Idle) =
+    (new.held ≡ []) × ((heard old (take (length read - 64) read)).held ≢ []) × (failed ≡ 0) × (1 ≤ reads)
+ReadsEnd old new read unread turns reads failed (Ok Spent) =
+    (new.held ≢ []) × (((failed ≡ 1) × (1 ≤ reads)) ⊎ ((failed ≡ 0) × (reads ≡ turns)))
+ReadsEnd old new read unread turns reads failed (Err Closed) =
+    (new.held ≢ []) × (failed ≡ 0) × (1 ≤ reads) × IsAtEnd unread
 ReadsEnd old new read unread turns reads failed (Err (WriteFailed w)) = ⊥
 ReadsEnd old new read unread turns reads failed (Err TriesSpent) = ⊥
 
 -- How a try ended. A write failed: of the frames that waited the first w bytes were sent, not all, and no read was
 -- made. Else they were sent whole, and the reads ended.
-abbrev pub WindowEnds : (old new : ServerState) → (read sent : List ℕ) → (unread : Option (List ℕ)) → (turns reads failed : ℕ) → Result Windowed DriveFault → Type 0
-WindowEnds old new read sent unread turns reads failed (Err (WriteFailed w)) = (sent ≡ take w (window_sent old)) × (w < length (window_sent old)) × (read ≡ []) × (reads ≡ 0) × (failed ≡ 0)
-WindowEnds old new read sent unread turns reads failed (Err Closed) = (sent ≡ window_sent old) × ReadsEnd old new read unread turns reads failed (Err Closed)
+abbrev pub WindowEnds : (old new : ServerState) → (read sent : List ℕ) → (unread : Option (List ℕ))
+    → (turns reads failed : ℕ) → Result Windowed DriveFault → Type 0
+WindowEnds old new read sent unread turns reads failed (Err (WriteFailed w)) =
+    (sent ≡ take w (window_sent old)) × (w < length (window_sent old)) × (read ≡ []) × (reads ≡ 0) × (failed ≡ 0)
+WindowEnds old new read sent unread turns reads failed (Err Closed) =
+    (sent ≡ window_sent old) × ReadsEnd old new read unread turns reads failed (Err Closed)
 WindowEnds old new read sent unread turns reads failed (Err TriesSpent) = ⊥
-WindowEnds old new read sent unread turns reads failed (Ok windowed) = (sent ≡ window_sent old) × ReadsEnd old new read unread turns reads failed (Ok windowed)
+WindowEnds old new read sent unread turns reads failed (Ok windowed) =
+    (sent ≡ window_sent old) × ReadsEnd old new read unread turns reads failed (Ok windowed)
 
 -- A try from one state of the server to another, over a reader and a writer before and after it: what was sent and
 -- read, by how many reads, how it ended, and that to the marks those were added which the read bytes bring. But for
 -- `Closed`, no read brought nothing; there one did.
-pub record Windows {R W : Type 0} (remaining : R → Option (List ℕ)) (contents : W → Option (List ℕ)) (old new : ServerState) (reader reader' : Metered R) (writer writer' : Metered W) (marks marks' : List (ℕ × Code)) (turns : ℕ) (result : Result Windowed DriveFault) : Type 0 where
+pub record Windows {R W : Type 0} (remaining : R → Option (List ℕ)) (contents : W → Option (List ℕ))
+    (old new : ServerState) (reader reader' : Metered R) (writer writer' : Metered W) (marks marks' : List (ℕ × Code))
+    (turns : ℕ) (result : Result Windowed DriveFault) : Type 0 where
   pub read : List ℕ
   pub sent : List ℕ
   pub reads : ℕ
@@ -68,7 +79,8 @@ pub record Windows {R W : Type 0} (remaining : R → Option (List ℕ)) (content
   pub write_failures : writer'.failures ≡ write_failures result writer.failures
 
 -- The reads of a try (private).
-pub record Gathers {R : Type 0} (remaining : R → Option (List ℕ)) (old new : ServerState) (reader reader' : Metered R) (marks marks' : List (ℕ × Code)) (turns : ℕ) (result : Result Windowed DriveFault) : Type 0 where
+pub record Gathers {R : Type 0} (remaining : R → Option (List ℕ)) (old new : ServerState) (reader reader' : Metered R)
+    (marks marks' : List (ℕ × Code)) (turns : ℕ) (result : Result Windowed DriveFault) : Type 0 where
   pub read : List ℕ
   pub reads : ℕ
   pub failed : ℕ
@@ -79,7 +91,8 @@ pub record Gathers {R : Type 0} (remaining : R → Option (List ℕ)) (old new :
   pub few_reads : reads ≤ turns
 
 -- So many reads, none of which failed or brought nothing, after which messages wait (private).
-pub record Gathered {R : Type 0} (remaining : R → Option (List ℕ)) (old new : ServerState) (reader reader' : Metered R) (marks marks' : List (ℕ × Code)) (reads : ℕ) : Type 0 where
+pub record Gathered {R : Type 0} (remaining : R → Option (List ℕ)) (old new : ServerState) (reader reader' : Metered R)
+    (marks marks' : List (ℕ × Code)) (reads : ℕ) : Type 0 where
   pub read : List ℕ
   pub reading : Reads remaining reader reader' read reads 0 false
   pub state : new ≡ heard old read

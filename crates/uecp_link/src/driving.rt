@@ -65,7 +65,8 @@ pub fn drive<R: Read, W: Write>(
     turns: u32,
 ) -> Result<Driven, DriveFault>
     requires { server.old.held ≡ [] }
-    ensures drives { Drives R.remaining W.contents (submitted server.old message.now) server.new reader.old reader.new writer.old writer.new tries turns result }
+    ensures drives { Drives R.remaining W.contents (submitted server.old message.now) server.new reader.old reader.new
+        writer.old writer.new tries turns result }
     ensures idle { IfOk result (λ _. IsFreed (submitted server.old message.now) server.new) }
     ensures outstanding { IfErr result (λ _. StillWaits (submitted server.old message.now) server.new) }
 {
@@ -90,7 +91,8 @@ pub fn resend<R: Read, W: Write>(
     turns: u32,
 ) -> Result<Driven, DriveFault>
     requires { length (waiting server.old) ≡ 1 }
-    ensures drives { Drives R.remaining W.contents server.old server.new reader.old reader.new writer.old writer.new tries turns result }
+    ensures drives { Drives R.remaining W.contents server.old server.new reader.old reader.new writer.old writer.new
+        tries turns result }
     ensures idle { IfOk result (λ _. IsFreed server.old server.new) }
     ensures outstanding { IfErr result (λ _. StillWaits server.old server.new) }
 {

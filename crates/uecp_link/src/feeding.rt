@@ -1,5 +1,6 @@
 //! The ends are given the stream in pieces.
-ghost use Rattle.std.specs.Prelude.{◌≡◌, ◌≤◌, ◌<◌, ℕ, IsNone, ◌↔◌, IfSome, None, Some, List, [], length, take, drop, true, option_to_list};
+ghost use Rattle.std.specs.Prelude.{◌≡◌, ◌≤◌, ◌<◌, ℕ, IsNone, ◌↔◌, IfSome, None, Some, List, [], length, take, drop};
+ghost use Rattle.std.specs.Prelude.{true, option_to_list};
 ghost use Rattle.std.specs.List.{last_or};
 ghost use Rattle.uecp_frame.specs.Findings.{has_frame};
 ghost use Rattle.uecp_frame.specs.Beyond.{found_beyond};

@@ -5,7 +5,8 @@ ghost use Rattle.std.specs.Io.KnownBytes.{Appends};
 ghost use Rattle.uecp_frame.specs.Findings.{Closed};
 ghost use Rattle.uecp_encoder.specs.Metered.{failures_after};
 ghost use Rattle.uecp_link.specs.Server.{heard};
-ghost use Rattle.uecp_link.specs.Joining.{pass_sent, reply_counters, IsStillNew, MakesPass, ReadsReplies, seen_with, seen_after};
+ghost use Rattle.uecp_link.specs.Joining.{pass_sent, reply_counters, IsStillNew, MakesPass, ReadsReplies, seen_with};
+ghost use Rattle.uecp_link.specs.Joining.{seen_after};
 
 use crate::counters::COUNTER_MAX;
 use crate::driving::{DriveFault, READ_MAX};
@@ -65,7 +66,8 @@ pub fn join<R: Read, W: Write>(
     turns: u32,
 ) -> Result<Joining, DriveFault>
     requires idle { server.old.held ≡ [] }
-    ensures passes { MakesPass R.remaining W.contents server.old server.new reader.old reader.new writer.old writer.new turns result }
+    ensures passes { MakesPass R.remaining W.contents server.old server.new reader.old reader.new writer.old writer.new
+        turns result }
     ensures still_new { IsStillNew server.old server.new }
     ensures idle { server.new.held ≡ [] }
 {
@@ -78,7 +80,8 @@ pub fn join<R: Read, W: Write>(
 
 /// Writes a pass to the encoder at this address, or says how many of its bytes were written.
 fn write_pass<W: Write>(address: Address, writer: &mut Meter<W>) -> Result<(), u64>
-    ensures ok { OnOk result (Appends (W.contents writer.old.device) (W.contents writer.new.device) (pass_sent address)) }
+    ensures ok { OnOk result (Appends (W.contents writer.old.device) (W.contents writer.new.device)
+        (pass_sent address)) }
     ensures err { IfErr result (λ w. (w < length (pass_sent address))
         × Appends (W.contents writer.old.device) (W.contents writer.new.device) (take w (pass_sent address))) }
     ensures failures { writer.new.failures ≡ failures_after result writer.old.failures }

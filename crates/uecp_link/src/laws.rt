@@ -19,29 +19,37 @@ use uecp_encoder::Target;
 /// The law of numbers: over every list of line events, whatever the codes of the messages are and whatever a take does,
 /// counters and kept replies never confuse two messages.
 pub fn numbers()
-    ensures { (address : ℕ) (code : List (List ℕ) → List ℕ → Code) (taken : Taken (List (List ℕ))) (events : List Event) → AllByRecursion Fits events → NumbersLaw code taken address events }
+    ensures { (address : ℕ) (code : List (List ℕ) → List ℕ → Code) (taken : Taken (List (List ℕ))) (events : List Event)
+        → AllByRecursion Fits events → NumbersLaw code taken address events }
 {}
 
 /// The law of numbers and values: over every list of line events the two ends do what the once-machine does.
 pub fn once_and_in_order<T: Target>()
-    ensures { (address : ℕ) (opening : _) (events : List Event) → AllByRecursion Fits events → Law T.step T.taken address opening events }
+    ensures { (address : ℕ) (opening : _) (events : List Event) → AllByRecursion Fits events
+        → Law T.step T.taken address opening events }
 {}
 
 /// Any list of steps from a new line keeps the headline, whatever the steps answered, with the history that their
 /// answers tell.
 pub fn steps_keep_the_headline<T: Target>()
-    ensures { (address : ℕ) (opening : _) (events : List Event) (outcomes : List Outcome) (line : LineState T) (o : Once T) → Plays T.step T.taken (new_line address opening) (at_first opening) events outcomes line o → IsHeadline T.step T.taken address opening (history_by events outcomes) line }
+    ensures { (address : ℕ) (opening : _) (events : List Event) (outcomes : List Outcome) (line : LineState T)
+        (o : Once T) → Plays T.step T.taken (new_line address opening) (at_first opening) events outcomes line o
+        → IsHeadline T.step T.taken address opening (history_by events outcomes) line }
 {}
 
 /// And so does any list of steps from a line of a new server and an encoder that is there, where that has nothing open
 /// and keeps nothing, or the replies to FF .. 81 alone, as one that has joined does.
 pub fn steps_keep_the_headline_from<T: Target>()
-    ensures { (e : EncoderState T) → IsReady e.ring → e.part ≡ Closed → (events : List Event) (outcomes : List Outcome) (line : LineState T) (o : Once T) → Plays T.step T.taken (line_from e) (at_first e.value) events outcomes line o → IsHeadline T.step T.taken e.address e.value (history_by events outcomes) line }
+    ensures { (e : EncoderState T) → IsReady e.ring → e.part ≡ Closed
+        → (events : List Event) (outcomes : List Outcome) (line : LineState T) (o : Once T)
+        → Plays T.step T.taken (line_from e) (at_first e.value) events outcomes line o
+        → IsHeadline T.step T.taken e.address e.value (history_by events outcomes) line }
 {}
 
 /// The law of numbers and values from such an encoder.
 pub fn once_and_in_order_from<T: Target>()
-    ensures { (e : EncoderState T) → IsReady e.ring → e.part ≡ Closed → (events : List Event) → AllByRecursion Fits events → LawFrom T.step T.taken e events }
+    ensures { (e : EncoderState T) → IsReady e.ring → e.part ≡ Closed → (events : List Event)
+        → AllByRecursion Fits events → LawFrom T.step T.taken e events }
 {}
 
 /// Both directions of one connection, each of which keeps its order and loses nothing but its end. A pass comes to an
@@ -62,7 +70,8 @@ pub fn whole_pass_brings_both<T: Target>()
 /// outstanding has come, the oldest first, and the reply to each, every message that was sent is acknowledged, and the
 /// server is idle.
 pub fn acknowledged_where_nothing_is_lost<T: Target>()
-    ensures { (address : ℕ) (opening : _) (events : List Event) → AllByRecursion Fits events → IsDone (after_all_come T.step T.taken address opening events) }
+    ensures { (address : ℕ) (opening : _) (events : List Event) → AllByRecursion Fits events
+        → IsDone (after_all_come T.step T.taken address opening events) }
 {}
 
 /// Bytes in which no frame is found, whatever part is open before them, leave a server its outstanding messages, its

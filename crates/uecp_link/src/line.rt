@@ -7,7 +7,8 @@ ghost use Rattle.uecp_link.specs.Kept.{IsReady};
 ghost use Rattle.uecp_link.specs.Once.{Once, at_first, least_missing};
 ghost use Rattle.uecp_link.specs.Law.{Law, Numbers, Fits};
 ghost use Rattle.uecp_link.specs.Events.{event_of, Refuses};
-ghost use Rattle.uecp_link.specs.Holds.{new_line, line_from, is_acknowledged, Holds, StepsAs, RunsAs, history_by, world_of};
+ghost use Rattle.uecp_link.specs.Holds.{new_line, line_from, is_acknowledged, Holds, StepsAs, RunsAs, history_by};
+ghost use Rattle.uecp_link.specs.Holds.{world_of};
 ghost use Rattle.uecp_link.specs.Headline.{IsHeadline};
 
 use crate::event::LineEvent;
@@ -46,7 +47,12 @@ impl<T: Target> Model for Line<T> {
 
     ghost view = { λ l. record { encoder = l.encoder; server = l.server; sent = l.sent.items; codes = l.codes.items } };
 
-    ghost invariant = { λ l. IsWhole l.address (record { encoder = l.encoder; server = l.server; sent = l.sent.items; codes = l.codes.items }) (vec_capacity l.codes) };
+    ghost invariant = { λ l. IsWhole l.address (record {
+      encoder = l.encoder;
+      server = l.server;
+      sent = l.sent.items;
+      codes = l.codes.items;
+    }) (vec_capacity l.codes) };
 }
 
 impl<T: Target> Line<T> {
@@ -96,14 +102,18 @@ impl<T: Target> Line<T> {
         requires { IsTrue (is_exact address) }
         // From a new line each event in turn is a step, as `step` promises it for one, and the number counts those that
         // were refused.
-        ensures plays { IfOk result (λ played. RunsAs T.step T.taken (new_line address target) (at_first target) (map event_of events.now) played.1 played.0) }
+        ensures plays { IfOk result (λ played. RunsAs T.step T.taken (new_line address target) (at_first target)
+            (map event_of events.now) played.1 played.0) }
         // The encoder's store is what a prefix of the sent messages with the takes between makes, each applied once and
         // in order; every message that is acknowledged is in it with its one reply, and every message that is missing
         // is still outstanding. The history is that of these events.
-        ensures headline { IfOk result (λ played. (runs : RunsAs T.step T.taken (new_line address target) (at_first target) (map event_of events.now) played.1 played.0)
+        ensures headline { IfOk result
+            (λ played. (runs : RunsAs T.step T.taken (new_line address target) (at_first target)
+            (map event_of events.now) played.1 played.0)
             × IsHeadline T.step T.taken address target (history_by (map event_of events.now) runs.outcomes) played.0) }
         // Between the two ends that are left counters and kept replies never confuse two messages.
-        ensures numbers { IfOk result (λ played. (o : Once T) → Holds played.0 o → Numbers T.step address (world_of played.0 o) (length played.0.codes)) }
+        ensures numbers { IfOk result (λ played. (o : Once T) → Holds played.0 o
+            → Numbers T.step address (world_of played.0 o) (length played.0.codes)) }
         // Of the definitions alone, and not of the line that is answered: two ends that are fed the bytes of these
         // events do what the once-machine does, in numbers and in values.
         ensures law { IfOk result (λ played. Law T.step T.taken address target (map event_of events.now)) }
@@ -118,7 +128,8 @@ impl<T: Target> Line<T> {
     /// for which there was no memory is one of them.
     pub fn run(&mut self, events: &[LineEvent<'_>]) -> usize
         // Each event in turn is a step, as `step` promises it for one, and the answer counts those that were refused.
-        ensures plays { (o : Once T) → Holds self.old o → RunsAs T.step T.taken self.old o (map event_of events.now) result self.new }
+        ensures plays { (o : Once T) → Holds self.old o → RunsAs T.step T.taken self.old o (map event_of events.now)
+            result self.new }
         // Every message of an event fits a frame.
         ensures fits { AllByRecursion Fits (map event_of events.now) }
         ensures address { self.new.encoder.address ≡ self.old.encoder.address }
@@ -137,9 +148,11 @@ impl<T: Target> Line<T> {
     /// changed. Only a submission takes memory: room for the message and for its code, both before anything changes.
     pub fn step(&mut self, event: &LineEvent<'_>) -> Result<Stepped, LineRefusal>
         // The line goes on as the once-machine does.
-        ensures steps { IfOk result (λ stepped. (o : Once T) → Holds self.old o → StepsAs T.step T.taken self.old o (event_of event.now) stepped self.new) }
+        ensures steps { IfOk result (λ stepped. (o : Once T) → Holds self.old o
+            → StepsAs T.step T.taken self.old o (event_of event.now) stepped self.new) }
         // It refuses where the once-machine does, for its reason, or a submission for want of memory.
-        ensures refused { IfErr result (λ refusal. (o : Once T) → Holds self.old o → Refuses o (event_of event.now) refusal) }
+        ensures refused { IfErr result (λ refusal. (o : Once T) → Holds self.old o
+            → Refuses o (event_of event.now) refusal) }
         ensures unchanged { IfErr result (λ refusal. self.new ≡ self.old) }
         // A message fits a frame.
         ensures fits { Fits (event_of event.now) }

@@ -1,5 +1,6 @@
 //! What a line does at each kind of event. Source: profile.
-ghost use Rattle.std.specs.Prelude.{◌≡◌, ◌+◌, ◌%◌, ◌≤◌, ◌<◌, ◌++◌, ◌∷◌, [], ℕ, Bool, true, Some, None, if◌then◌else◌, slice_get, IfOk, IfErr, length, vec_len, vec_capacity};
+ghost use Rattle.std.specs.Prelude.{◌≡◌, ◌+◌, ◌%◌, ◌≤◌, ◌<◌, ◌++◌, ◌∷◌, [], ℕ, Bool, true, Some, None, if◌then◌else◌};
+ghost use Rattle.std.specs.Prelude.{slice_get, IfOk, IfErr, length, vec_len, vec_capacity};
 ghost use Rattle.std.specs.List.{last_or};
 ghost use Rattle.uecp_elements.specs.declared.code.Code.{Code as CodeValue};
 ghost use Rattle.uecp_encoder.specs.State.{fed};
@@ -56,7 +57,8 @@ fn take_in<T: Target>(
     bytes: &[u8],
     cut: &[u16],
 ) -> Option<(bool, Code)>
-    requires { (code : CodeValue) → last_or None (replies T.step encoder.old bytes.now) ≡ Some (true, code) → vec_len codes.old < vec_capacity codes.old }
+    requires { (code : CodeValue) → last_or None (replies T.step encoder.old bytes.now) ≡ Some (true, code)
+        → vec_len codes.old < vec_capacity codes.old }
     ensures state { encoder.new ≡ fed T.step encoder.old bytes.now }
     ensures reply { result ≡ last_or None (replies T.step encoder.old bytes.now) }
     ensures codes { codes.new.items ≡ codes_by codes.old.items result }
@@ -166,7 +168,8 @@ impl<T: Target> Line<T> {
 
     /// Noise comes to the encoder.
     pub(crate) fn disturb_encoder(&mut self, noise: &[u8]) -> Result<Stepped, LineRefusal>
-        ensures goes { IfOk result (λ stepped. Goes T.step T.taken self.old (NoiseToEncoder noise.now) stepped self.new) }
+        ensures goes { IfOk result (λ stepped. Goes T.step T.taken self.old (NoiseToEncoder noise.now) stepped
+            self.new) }
         ensures stops { IfErr result (λ refusal. Stops self.old (NoiseToEncoder noise.now) refusal self.new) }
     {
         let Some(dropped) = dropped_by(self.encoder.deframer(), noise) else {
@@ -178,7 +181,8 @@ impl<T: Target> Line<T> {
 
     /// Noise comes to the server.
     pub(crate) fn disturb_server(&mut self, noise: &[u8]) -> Result<Stepped, LineRefusal>
-        ensures goes { IfOk result (λ stepped. Goes T.step T.taken self.old (NoiseToServer noise.now) stepped self.new) }
+        ensures goes { IfOk result (λ stepped. Goes T.step T.taken self.old (NoiseToServer noise.now) stepped
+            self.new) }
         ensures stops { IfErr result (λ refusal. Stops self.old (NoiseToServer noise.now) refusal self.new) }
     {
         let Some(dropped) = dropped_by(self.server.deframer(), noise) else {

@@ -1,11 +1,13 @@
 //! The server's end of the line. Source: RDS Forum SPB 490, two-way mode; profile for the order of counters and for
 //! what acknowledges.
-ghost use Rattle.std.specs.Prelude.{◌≡◌, ◌+◌, ◌<◌, ◌≤◌, ◌==◌, ◌↔◌, [], IsNone, IfSome, IsTrue, length, take, slice_get, nat_lt, option_to_list};
+ghost use Rattle.std.specs.Prelude.{◌≡◌, ◌+◌, ◌<◌, ◌≤◌, ◌==◌, ◌↔◌, [], IsNone, IfSome, IsTrue, length, take, slice_get};
+ghost use Rattle.std.specs.Prelude.{nat_lt, option_to_list};
 ghost use Rattle.std.specs.List.{IsDistinct};
 ghost use Rattle.std.specs.Option.{option_copied};
 ghost use Rattle.uecp_frame.specs.Address.{is_exact};
 ghost use Rattle.uecp_frame.specs.Findings.{Closed};
-ghost use Rattle.uecp_link.specs.Server.{idle_at, submitted, waiting, is_marked, heard, HearsPiece, frames_waiting, counters_waiting, outgoing_bytes};
+ghost use Rattle.uecp_link.specs.Server.{idle_at, submitted, waiting, is_marked, heard, HearsPiece, frames_waiting};
+ghost use Rattle.uecp_link.specs.Server.{counters_waiting, outgoing_bytes};
 ghost use Rattle.uecp_link.specs.Window.{mark_in};
 
 mod passing;
@@ -49,7 +51,13 @@ impl Model for Server {
 
     ghost Value = { ServerState };
 
-    ghost view = { λ s. record { address = s.address; last = s.last; held = held_in s.held.items; counts = s.counts; part = s.deframer } };
+    ghost view = { λ s. record {
+      address = s.address;
+      last = s.last;
+      held = held_in s.held.items;
+      counts = s.counts;
+      part = s.deframer;
+    } };
 
     ghost invariant = { λ s. IsHolding s.address s.last s.held.items };
 }
@@ -171,7 +179,8 @@ impl Server {
         ensures moves { 0 < length piece.now → 0 < result.used }
         ensures hears { HearsPiece self.old piece.now result }
         ensures state { self.new ≡ heard self.old (take result.used piece.now) }
-        ensures one_fewer { length (option_to_list (mark_in result.what)) + length (waiting self.new) ≡ length (waiting self.old) }
+        ensures one_fewer { length (option_to_list (mark_in result.what)) + length (waiting self.new)
+            ≡ length (waiting self.old) }
     {
         let fed = self.deframer.feed_ref(piece);
         let used = fed.used;

@@ -43,8 +43,10 @@ pub fn send_window<R: Read, W: Write>(
 ) -> Result<Windowed, DriveFault>
     requires busy { server.old.held ≢ [] }
     requires room { length marks.old.items + length (waiting server.old) ≤ 8 }
-    ensures windows { Windows R.remaining W.contents server.old server.new reader.old reader.new writer.old writer.new marks.old.items marks.new.items turns result }
-    ensures room { length marks.new.items + length (waiting server.new) ≡ length marks.old.items + length (waiting server.old) }
+    ensures windows { Windows R.remaining W.contents server.old server.new reader.old reader.new writer.old writer.new
+        marks.old.items marks.new.items turns result }
+    ensures room { length marks.new.items + length (waiting server.new) ≡ length marks.old.items
+        + length (waiting server.old) }
 {
     if let Err(written) = write_window(server, writer) {
         return Err(DriveFault::WriteFailed { written });
@@ -54,7 +56,8 @@ pub fn send_window<R: Read, W: Write>(
 
 /// Writes the frames of all messages that wait, the oldest first, or says how many of their bytes were written.
 fn write_window<W: Write>(server: &Server, writer: &mut Meter<W>) -> Result<(), u64>
-    ensures ok { OnOk result (Appends (W.contents writer.old.device) (W.contents writer.new.device) (window_sent server.now)) }
+    ensures ok { OnOk result (Appends (W.contents writer.old.device) (W.contents writer.new.device)
+        (window_sent server.now)) }
     ensures err { IfErr result (λ w. (w < length (window_sent server.now))
         × Appends (W.contents writer.old.device) (W.contents writer.new.device) (take w (window_sent server.now))) }
     ensures failures { writer.new.failures ≡ failures_after result writer.old.failures }
@@ -81,8 +84,10 @@ fn gather<R: Read>(
 ) -> Result<Windowed, DriveFault>
     requires busy { server.old.held ≢ [] }
     requires room { length marks.old.items + length (waiting server.old) ≤ 8 }
-    ensures gathers { Gathers R.remaining server.old server.new reader.old reader.new marks.old.items marks.new.items turns result }
-    ensures room { length marks.new.items + length (waiting server.new) ≡ length marks.old.items + length (waiting server.old) }
+    ensures gathers { Gathers R.remaining server.old server.new reader.old reader.new marks.old.items marks.new.items
+        turns result }
+    ensures room { length marks.new.items + length (waiting server.new) ≡ length marks.old.items
+        + length (waiting server.old) }
 {
     let mut buffer = [0u8; READ_MAX];
     for _turn in 0..turns {
@@ -105,7 +110,8 @@ fn hear_marks(server: &mut Server, piece: &[u8], marks: &mut ArrayVec<(u8, Code)
     requires { length marks.old.items + length (waiting server.old) ≤ 8 }
     ensures state { server.new ≡ heard server.old piece.now }
     ensures marks { marks.new.items ≡ marks.old.items ++ marks_in server.old piece.now }
-    ensures room { length marks.new.items + length (waiting server.new) ≡ length marks.old.items + length (waiting server.old) }
+    ensures room { length marks.new.items + length (waiting server.new) ≡ length marks.old.items
+        + length (waiting server.old) }
 {
     let mut rest = piece;
     while !rest.is_empty() {

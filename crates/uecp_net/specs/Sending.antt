@@ -1,6 +1,7 @@
 -- A server with its connection as one value, and how it goes on connections; a reader has to believe it. Source:
 -- profile.
-use Rattle.std.specs.Prelude.{◌≡◌, ◌≢◌, ◌⊎◌, ℕ, ◌+◌, ◌-◌, ◌<◌, ◌≤◌, zero, suc, true, false, List, [], ◌∷◌, ◌++◌, length, map, Option, Some, None, IsSome, Result, Ok, Err}
+use Rattle.std.specs.Prelude.{◌≡◌, ◌≢◌, ◌⊎◌, ℕ, ◌+◌, ◌-◌, ◌<◌, ◌≤◌, zero, suc, true, false, List, [], ◌∷◌, ◌++◌, length}
+use Rattle.std.specs.Prelude.{map, Option, Some, None, IsSome, Result, Ok, Err}
 use Rattle.uecp_frame.specs.Findings.{Closed}
 use Rattle.uecp_encoder.specs.Metered.{Metered}
 use Rattle.uecp_link.specs.declared.driving.DriveFault.{DriveFault}
@@ -41,17 +42,24 @@ unused device = record { device = device; calls = 0; failures = 0; empty = 0 }
 
 -- A connection was opened: the sender has its two ends, which are unused, and what the connection before left open is
 -- forgotten.
-abbrev pub Opens : {C I O : Type 0} → (opens : C → Option (I × O) → C → Type 0) → SenderOver C I O → SenderOver C I O → Type 0
+abbrev pub Opens : {C I O : Type 0} → (opens : C → Option (I × O) → C → Type 0) → SenderOver C I O → SenderOver C I O
+    → Type 0
 Opens {C} {I} {O} opens s s' =
     (input : I) × (output : O) × opens s.connect (Some (input, output)) s'.connect
-    × (s' ≡ record s { sender = record s.sender { server = record s.sender.server { part = Closed } }; connect = s'.connect; ends = Some (record { input = unused input; output = unused output }) })
+    × (s' ≡ record s {
+      sender = record s.sender { server = record s.sender.server { part = Closed } };
+      connect = s'.connect;
+      ends = Some (record { input = unused input; output = unused output });
+    })
 
 -- The sender had no connection, and there was none to be had.
-abbrev pub OpensNone : {C I O : Type 0} → (opens : C → Option (I × O) → C → Type 0) → SenderOver C I O → SenderOver C I O → Type 0
+abbrev pub OpensNone : {C I O : Type 0} → (opens : C → Option (I × O) → C → Type 0) → SenderOver C I O
+    → SenderOver C I O → Type 0
 OpensNone opens s s' = (s.ends ≡ None) × opens s.connect None s'.connect × (s' ≡ record s { connect = s'.connect })
 
 -- The sender goes on over the connection that it has, and over a new one only where it has none.
-abbrev pub GoesOn : {C I O : Type 0} → (opens : C → Option (I × O) → C → Type 0) → SenderOver C I O → SenderOver C I O → Type 0
+abbrev pub GoesOn : {C I O : Type 0} → (opens : C → Option (I × O) → C → Type 0) → SenderOver C I O → SenderOver C I O
+    → Type 0
 GoesOn opens s s' = (IsSome s.ends × (s' ≡ s)) ⊎ ((s.ends ≡ None) × Opens opens s s')
 
 -- A server with the two ends of a connection, and the marks so far.
@@ -95,7 +103,9 @@ underway s ends marks = record { server = s.sender.server; input = ends.input; o
 
 -- On one connection, that which the sender has or a new one: the calls of `send_window` did this over its two ends,
 -- which the sender still has, as the calls left them.
-pub record Attempts {C I O : Type 0} (opens : C → Option (I × O) → C → Type 0) (remaining : I → Option (List ℕ)) (contents : O → Option (List ℕ)) (old new : SenderOver C I O) (marks marks' : Marks) (result : Result ℕ DriveFault) : Type 0 where
+pub record Attempts {C I O : Type 0} (opens : C → Option (I × O) → C → Type 0) (remaining : I → Option (List ℕ))
+    (contents : O → Option (List ℕ)) (old new : SenderOver C I O) (marks marks' : Marks)
+    (result : Result ℕ DriveFault) : Type 0 where
   pub start : SenderOver C I O
   pub ends : TwoEnds I O
   pub ends' : TwoEnds I O
@@ -116,7 +126,8 @@ reason_of drive.TriesSpent = out.TriesSpent
 abbrev pub HangsUp : {C I O : Type 0} → (closes : C → I → O → C → Type 0) → SenderOver C I O → SenderOver C I O → Type 0
 HangsUp {C} {I} {O} closes s s' =
     ((s.ends ≡ None) × (s' ≡ s))
-    ⊎ ((ends : TwoEnds I O) × (s.ends ≡ Some ends) × closes s.connect ends.input.device ends.output.device s'.connect × (s' ≡ record s { connect = s'.connect; ends = None }))
+    ⊎ ((ends : TwoEnds I O) × (s.ends ≡ Some ends) × closes s.connect ends.input.device ends.output.device s'.connect
+    × (s' ≡ record s { connect = s'.connect; ends = None }))
 
 -- the sender with one reconnect fewer left
 abbrev pub reconnecting : {C I O : Type 0} → SenderOver C I O → SenderOver C I O
@@ -131,17 +142,26 @@ without_ends s = record s { ends = None }
 -- were spent, was hung up, and cost a reconnect. Then came the last acknowledgement, after so many calls on this
 -- connection; or there was no connection to be had, and the reason is that of the one before, or of this where there
 -- was none; or one more ended so where no reconnect was left.
-abbrev pub Delivers : {C I O : Type 0} → (opens : C → Option (I × O) → C → Type 0) → (closes : C → I → O → C → Type 0) → (remaining : I → Option (List ℕ)) → (contents : O → Option (List ℕ)) → (ended : ℕ) → (before : Outstanding) → (old new : SenderOver C I O) → (marks marks' : Marks) → Result ℕ Outstanding → Type 0
+abbrev pub Delivers : {C I O : Type 0} → (opens : C → Option (I × O) → C → Type 0) → (closes : C → I → O → C → Type 0)
+    → (remaining : I → Option (List ℕ)) → (contents : O → Option (List ℕ)) → (ended : ℕ) → (before : Outstanding)
+    → (old new : SenderOver C I O) → (marks marks' : Marks) → Result ℕ Outstanding → Type 0
 Delivers {C} {I} {O} opens closes remaining contents (suc n) before s s' marks marks' result =
-    (fault : DriveFault) × (last : SenderOver C I O) × (next : SenderOver C I O) × (some : Marks) × Attempts opens remaining contents s last marks some (Err fault) × HangsUp closes last next × (0 < next.sender.left)
+    (fault : DriveFault) × (last : SenderOver C I O) × (next : SenderOver C I O) × (some : Marks)
+    × Attempts opens remaining contents s last marks some (Err fault) × HangsUp closes last next
+    × (0 < next.sender.left)
     × Delivers opens closes remaining contents n (reason_of fault) (reconnecting next) s' some marks' result
-Delivers opens closes remaining contents zero before s s' marks marks' (Ok calls) = Attempts opens remaining contents s s' marks marks' (Ok calls)
+Delivers opens closes remaining contents zero before s s' marks marks' (Ok calls) =
+    Attempts opens remaining contents s s' marks marks' (Ok calls)
 Delivers {C} {I} {O} opens closes remaining contents zero before s s' marks marks' (Err reason) =
     (OpensNone opens s s' × (marks' ≡ marks) × (reason ≡ before))
-    ⊎ ((fault : DriveFault) × (last : SenderOver C I O) × Attempts opens remaining contents s last marks marks' (Err fault) × HangsUp closes last s' × (s'.sender.left ≡ 0) × (reason ≡ reason_of fault))
+    ⊎ ((fault : DriveFault) × (last : SenderOver C I O)
+    × Attempts opens remaining contents s last marks marks' (Err fault) × HangsUp closes last s'
+    × (s'.sender.left ≡ 0) × (reason ≡ reason_of fault))
 
 -- How it went on one connection, or there was none to be had (private).
-abbrev pub Goes : {C I O : Type 0} → (opens : C → Option (I × O) → C → Type 0) → (remaining : I → Option (List ℕ)) → (contents : O → Option (List ℕ)) → (old new : SenderOver C I O) → (marks marks' : Marks) → Option (Result ℕ DriveFault) → Type 0
+abbrev pub Goes : {C I O : Type 0} → (opens : C → Option (I × O) → C → Type 0) → (remaining : I → Option (List ℕ))
+    → (contents : O → Option (List ℕ)) → (old new : SenderOver C I O) → (marks marks' : Marks)
+    → Option (Result ℕ DriveFault) → Type 0
 Goes opens remaining contents s s' marks marks' (Some went) = Attempts opens remaining contents s s' marks marks' went
 Goes opens remaining contents s s' marks marks' None = OpensNone opens s s' × (marks' ≡ marks)
 
@@ -154,7 +174,12 @@ AreTold s marks told = map Some told ≡ map (λ counter. code_under counter mar
 -- The messages that waited are all acknowledged: nothing is held, and so many acknowledgements more are counted. Of the
 -- rest only the other counts and the open part may have changed.
 abbrev pub AreFreed : ServerState → ServerState → Type 0
-AreFreed old new = new ≡ record old { held = []; counts = record new.counts { acknowledged = raised_by (length (waiting old)) old.counts.acknowledged }; part = new.part }
+AreFreed old new = new ≡ record old {
+  held = [];
+  counts = record new.counts { acknowledged = raised_by (length (waiting old)) old.counts.acknowledged };
+  part =
+      new.part;
+}
 
 -- Messages are outstanding: some message waits, and the address and the last counter are as before.
 abbrev pub StillWait : ServerState → ServerState → Type 0
@@ -169,7 +194,8 @@ pub record Follows (old new : ServerState) (marks marks' : Marks) : Type 0 where
   pub last : new.last ≡ old.last
   pub counted : new.counts.acknowledged ≡ raised_by (length more) old.counts.acknowledged
   pub number : length more + length (waiting new) ≡ length (waiting old)
-  pub complete : (counter : ℕ) → waits_for (waiting old) counter ≡ true → waits_for (waiting new) counter ≡ false → IsSome (code_under counter more)
+  pub complete : (counter : ℕ) → waits_for (waiting old) counter ≡ true → waits_for (waiting new) counter ≡ false
+      → IsSome (code_under counter more)
 
 -- ---- What is submitted.
 

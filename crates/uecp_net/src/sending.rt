@@ -2,7 +2,8 @@
 ghost use Rattle.std.specs.Prelude.{◌≡◌, ◌≢◌, ℕ, ◌<◌, ◌≤◌, ◌↔◌, [], length, Some, None, Ok, Err, IfOk, IfErr, IsTrue};
 ghost use Rattle.uecp_link.specs.Server.{waiting};
 ghost use Rattle.uecp_net.specs.declared.sending.Outstanding.TheVariants.{ConnectionFailed};
-ghost use Rattle.uecp_net.specs.Sending.{SenderOver, Marks, Follows, Delivers, HangsUp, reason_of, submitted_to, AreTold, AreFreed, StillWait};
+ghost use Rattle.uecp_net.specs.Sending.{SenderOver, Marks, Follows, Delivers, HangsUp, reason_of, submitted_to};
+ghost use Rattle.uecp_net.specs.Sending.{AreTold, AreFreed, StillWait};
 
 mod connections;
 mod joining;
@@ -71,13 +72,33 @@ impl<'a, C: Connect> Model for Sender<'a, C> {
 
     ghost Value = { SenderOver C C.Input C.Output };
 
-    ghost view = { λ s. record { sender = record { server = s.server; tries = s.limits.tries; turns = s.limits.turns; left = s.limits.reconnects }; connect = s.connect.now; loan = s.connect.ghost_name; ends = s.ends } };
+    ghost view = { λ s. record {
+      sender = record {
+        server = s.server;
+        tries = s.limits.tries;
+        turns = s.limits.turns;
+        left = s.limits.reconnects;
+      };
+      connect = s.connect.now;
+      loan = s.connect.ghost_name;
+      ends = s.ends;
+    } };
 }
 
 impl<'a, C: Connect> Sender<'a, C> {
     /// This server, with no connection yet.
     pub fn new(connect: &'a mut C, server: Server, limits: Limits) -> Sender<'a, C>
-        ensures { result ≡ record { sender = record { server = server; tries = limits.tries; turns = limits.turns; left = limits.reconnects }; connect = connect.old; loan = connect.entry.ghost_name; ends = None } }
+        ensures { result ≡ record {
+          sender = record {
+            server = server;
+            tries = limits.tries;
+            turns = limits.turns;
+            left = limits.reconnects;
+          };
+          connect = connect.old;
+          loan = connect.entry.ghost_name;
+          ends = None;
+        } }
     {
         Sender {
             connect,
@@ -90,7 +111,8 @@ impl<'a, C: Connect> Sender<'a, C> {
     /// Lets the connection go, and gives back where connections come from.
     pub fn finish(mut self) -> &'a mut C
         ensures same { result.ghost_name ≡ self.entry.loan }
-        ensures value { (end : SenderOver C C.Input C.Output) × HangsUp C.closes self.entry end × (result.now ≡ end.connect) }
+        ensures value { (end : SenderOver C C.Input C.Output) × HangsUp C.closes self.entry end
+            × (result.now ≡ end.connect) }
     {
         self.hang_up();
         let Sender {
@@ -129,15 +151,18 @@ impl<'a, C: Connect> Sender<'a, C> {
         ensures all { IfOk result (λ settled. length settled.codes.items ≡ length (waiting self.old.sender.server)) }
         ensures tries { IfOk result (λ settled. (1 ≤ settled.tries) × (settled.tries ≤ self.old.sender.tries)) }
         ensures outstanding { IfErr result (λ _. StillWait self.old.sender.server self.new.sender.server) }
-        ensures stays { record self.new.sender { server = self.old.sender.server; left = self.old.sender.left } ≡ self.old.sender }
+        ensures stays { record self.new.sender { server = self.old.sender.server; left = self.old.sender.left }
+            ≡ self.old.sender }
         ensures loan { self.new.loan ≡ self.old.loan }
         // What each connection did, and nothing else: no batch is given up before its tries and its connections are
         // spent. Each message is told the code of its own reply.
         ensures delivers { IfOk result (λ settled. (ended : ℕ) × (marks : Marks)
-            × Delivers C.opens C.closes C.Input.remaining C.Output.contents ended ConnectionFailed self.old self.new [] marks (Ok settled.tries)
+            × Delivers C.opens C.closes C.Input.remaining C.Output.contents ended ConnectionFailed self.old self.new []
+            marks (Ok settled.tries)
             × AreTold self.old.sender.server marks settled.codes.items) }
         ensures gives_up { IfErr result (λ reason. (ended : ℕ) × (marks : Marks)
-            × Delivers C.opens C.closes C.Input.remaining C.Output.contents ended ConnectionFailed self.old self.new [] marks (Err reason)) }
+            × Delivers C.opens C.closes C.Input.remaining C.Output.contents ended ConnectionFailed self.old self.new []
+            marks (Err reason)) }
     {
         let counters = counters_of(&self.server);
         let mut marks = ArrayVec::new();
@@ -161,8 +186,10 @@ impl<'a, C: Connect> Sender<'a, C> {
         ensures tries { IfOk result (λ tries. (1 ≤ tries) × (tries ≤ self.old.sender.tries)) }
         ensures outstanding { IfErr result (λ _. self.new.sender.server.held ≢ []) }
         ensures follows { Follows self.old.sender.server self.new.sender.server [] marks.new.items }
-        ensures stays { record self.new.sender { server = self.old.sender.server; left = self.old.sender.left } ≡ self.old.sender }
-        ensures delivers { (ended : ℕ) × Delivers C.opens C.closes C.Input.remaining C.Output.contents ended ConnectionFailed self.old self.new [] marks.new.items result }
+        ensures stays { record self.new.sender { server = self.old.sender.server; left = self.old.sender.left }
+            ≡ self.old.sender }
+        ensures delivers { (ended : ℕ) × Delivers C.opens C.closes C.Input.remaining C.Output.contents ended
+            ConnectionFailed self.old self.new [] marks.new.items result }
     {
         let mut reason = Outstanding::ConnectionFailed;
         'connections: loop {

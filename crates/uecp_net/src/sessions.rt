@@ -18,7 +18,8 @@ pub fn serve_connection<T: Target, C: Connect>(
     turns: u32,
     connect: &mut C,
 ) -> Option<Result<Served, ServeFault>>
-    ensures served { IfSome result (λ outcome. Serving T.step C.opens C.closes C.Input.remaining C.Output.contents turns encoder.old connect.old outcome encoder.new connect.new) }
+    ensures served { IfSome result (λ outcome. Serving T.step C.opens C.closes C.Input.remaining C.Output.contents turns
+        encoder.old connect.old outcome encoder.new connect.new) }
     ensures none { IfNone result (C.opens connect.old None connect.new × (encoder.new ≡ encoder.old)) }
 {
     let (input, output) = connect.open()?;

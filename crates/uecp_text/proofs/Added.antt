@@ -12,7 +12,8 @@ first_then a b c x y p q = by_whole b.is_whole refl
     by_whole true w = record {
       part = p.part ++ q.part;
       rest = q.rest;
-      split = ap (λ l. l ++ y) (p.split ∙ ap (λ l. p.part ++ l) (p.whole w).1 ∙ append-nil p.part) ∙ ap (λ l. p.part ++ l) q.split ∙ sym (append_assoc p.part q.part q.rest);
+      split = ap (λ l. l ++ y) (p.split ∙ ap (λ l. p.part ++ l) (p.whole w).1 ∙ append-nil p.part)
+          ∙ ap (λ l. p.part ++ l) q.split ∙ sym (append_assoc p.part q.part q.rest);
       added = q.added ∙ ap (λ l. l ++ q.part) p.added ∙ append_assoc a.bytes p.part q.part;
       whole = λ t. ((p.whole w).0, (q.whole t).1);
       broken = λ f. absurd (false≢true (sym f ∙ (p.whole w).0));
@@ -28,8 +29,11 @@ first_then a b c x y p q = by_whole b.is_whole refl
 
 -- where the output is whole, all was added
 pub first_all : (a b : Kept) (x : List ℕ) → AddsFirst a b x → Adds a b x
-first_all a b x p = λ t.
-    ((p.whole t).0, p.added ∙ ap (λ l. a.bytes ++ l) (sym (append-nil p.part) ∙ ap (λ l. p.part ++ l) (sym (p.whole t).1) ∙ sym p.split))
+first_all a b x p = λ t. (
+  (p.whole t).0,
+  p.added ∙ ap (λ l. a.bytes ++ l)
+      (sym (append-nil p.part) ∙ ap (λ l. p.part ++ l) (sym (p.whole t).1) ∙ sym p.split),
+)
 
 -- all of it was added
 pub first_whole : (a b : Kept) (x : List ℕ) → IsTrue a.is_whole → b.bytes ≡ a.bytes ++ x → AddsFirst a b x
@@ -54,7 +58,8 @@ first_none a b x broken same = record {
 }
 
 -- either, by whether the output is whole afterwards
-pub first_by : (a b : Kept) (x : List ℕ) → IsTrue a.is_whole → (IsTrue b.is_whole → b.bytes ≡ a.bytes ++ x) → (b.is_whole ≡ false → b.bytes ≡ a.bytes) → AddsFirst a b x
+pub first_by : (a b : Kept) (x : List ℕ) → IsTrue a.is_whole → (IsTrue b.is_whole → b.bytes ≡ a.bytes ++ x)
+    → (b.is_whole ≡ false → b.bytes ≡ a.bytes) → AddsFirst a b x
 first_by a b x whole all none = by_whole b.is_whole refl
   where
     by_whole : (w : Bool) → b.is_whole ≡ w → AddsFirst a b x

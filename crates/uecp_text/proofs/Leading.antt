@@ -4,13 +4,18 @@ use Rattle.uecp_text.specs.Written.{Kept, Adds}
 
 -- Where the output is whole, what is left leads to the whole that is to be added.
 abbrev pub Leads : (before after : Kept) (left whole : List ℕ) → Type 0
-Leads before after left whole = IsTrue after.is_whole → IsTrue before.is_whole × (after.bytes ++ left ≡ before.bytes ++ whole)
+Leads before after left whole = IsTrue after.is_whole
+    → IsTrue before.is_whole × (after.bytes ++ left ≡ before.bytes ++ whole)
 
-pub leads_on : (a b c : Kept) (x left rest whole : List ℕ) → Leads a b left whole → left ≡ x ++ rest → Adds b c x → Leads a c rest whole
+pub leads_on : (a b c : Kept) (x left rest whole : List ℕ) → Leads a b left whole → left ≡ x ++ rest → Adds b c x
+    → Leads a c rest whole
 leads_on a b c x left rest whole leads left_is adds = λ w.
     let more = adds w in
-    let so_far = leads more.0 in
-    (so_far.0, ap (λ bytes. bytes ++ rest) more.1 ∙ append_assoc b.bytes x rest ∙ ap (λ l. b.bytes ++ l) (sym left_is) ∙ so_far.1)
+    let so_far = leads more.0 in (
+      so_far.0,
+      ap (λ bytes. bytes ++ rest) more.1 ∙ append_assoc b.bytes x rest ∙ ap (λ l. b.bytes ++ l) (sym left_is)
+          ∙ so_far.1,
+    )
 
 pub leads_end : (a b : Kept) (left whole : List ℕ) → Leads a b left whole → left ≡ [] → Adds a b whole
 leads_end a b left whole leads left_is = λ w.

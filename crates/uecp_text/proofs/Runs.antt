@@ -1,5 +1,6 @@
 -- Runs over texts, part by part.
-use Rattle.std.proofs.Common.{◌≡◌, ℕ, ◌+◌, List, [], ◌∷◌, ◌++◌, Option, Some, None, Err, refl, sym, ap, ◌∙◌, append_assoc, append-nil, inl, inr, subst, true, Result, Ok, ◌⊎◌}
+use Rattle.std.proofs.Common.{◌≡◌, ℕ, ◌+◌, List, [], ◌∷◌, ◌++◌, Option, Some, None, Err, refl, sym, ap, ◌∙◌}
+use Rattle.std.proofs.Common.{append_assoc, append-nil, inl, inr, subst, true, Result, Ok, ◌⊎◌}
 use Rattle.uecp_text.specs.declared.text_fault.TextFault.{TextFault}
 use Rattle.uecp_text.specs.declared.text_fault.TextFault.TheVariants as flaw
 use Rattle.uecp_text.specs.declared.run_fault.RunFault.{RunFault}
@@ -20,7 +21,9 @@ pub writes_nothing : (a : Kept) → Writes a a []
 writes_nothing a = λ whole. (whole, sym (append-nil a.bytes))
 
 -- lines that were taken into an empty output, and then added
-pub writes_added : (empty taken before after : Kept) (lines : List ℕ) → empty.bytes ≡ [] → empty.is_whole ≡ true → Writes empty taken lines → after.bytes ≡ before.bytes ++ taken.bytes → after.is_whole ≡ before.is_whole → Writes before after lines
+pub writes_added : (empty taken before after : Kept) (lines : List ℕ) → empty.bytes ≡ [] → empty.is_whole ≡ true
+    → Writes empty taken lines → after.bytes ≡ before.bytes ++ taken.bytes → after.is_whole ≡ before.is_whole
+    → Writes before after lines
 writes_added empty taken before after lines none whole writes added same = λ w.
     (same ∙ w, added ∙ ap (λ bytes. before.bytes ++ bytes) ((writes whole).1 ∙ ap (λ bytes. bytes ++ lines) none))
 
@@ -28,18 +31,23 @@ writes_added empty taken before after lines none whole writes added same = λ w.
 pub first_none : {V : Type 0} (meaning : Meaning V) (v : V) (texts : List (ℕ × List ℕ)) → RunsFirst meaning v texts []
 first_none meaning v texts = ([], texts, v, refl, (refl, refl, refl))
 
-pub first_all : {V : Type 0} (meaning : Meaning V) (v v' : V) (texts : List (ℕ × List ℕ)) (lines : List ℕ) → Runs meaning v texts lines None v' → RunsFirst meaning v texts lines
+pub first_all : {V : Type 0} (meaning : Meaning V) (v v' : V) (texts : List (ℕ × List ℕ)) (lines : List ℕ)
+    → Runs meaning v texts lines None v' → RunsFirst meaning v texts lines
 first_all meaning v v' texts lines ran = (texts, [], v', sym (append-nil texts), ran)
 
 -- memory was wanting before anything was added
-pub wanting : {V : Type 0} (meaning : Meaning V) (v v' : V) (texts : List (ℕ × List ℕ)) (out : Kept) → RunsOn meaning v texts out (Err run.OutOfMemory) v' out
+pub wanting : {V : Type 0} (meaning : Meaning V) (v v' : V) (texts : List (ℕ × List ℕ)) (out : Kept)
+    → RunsOn meaning v texts out (Err run.OutOfMemory) v' out
 wanting meaning v v' texts out = inl (refl, ([], first_none meaning v texts, writes_nothing out))
 
 -- after texts that were all taken, more texts
-pub runs_on : {V : Type 0} (meaning : Meaning V) (v m v' : V) (now later : List (ℕ × List ℕ)) (first rest : List ℕ) (stop : Option RunFault) →
-    Runs meaning v now first None m → Runs meaning m later rest stop v' → Runs meaning v (now ++ later) (first ++ rest) stop v'
+pub runs_on : {V : Type 0} (meaning : Meaning V) (v m v' : V) (now later : List (ℕ × List ℕ)) (first rest : List ℕ)
+    (stop : Option RunFault) →
+    Runs meaning v now first None m → Runs meaning m later rest stop v'
+    → Runs meaning v (now ++ later) (first ++ rest) stop v'
 runs_on meaning v m v' [] later first rest stop (first_is, none, same) more =
-    subst (λ w. Runs meaning w later (first ++ rest) stop v') same (subst (λ lines. Runs meaning m later (lines ++ rest) stop v') (sym first_is) more)
+    subst (λ w. Runs meaning w later (first ++ rest) stop v') same
+    (subst (λ lines. Runs meaning m later (lines ++ rest) stop v') (sym first_is) more)
 runs_on meaning v m v' ((number, text) ∷ now) later first rest stop ran more = elim ran [
   | inl taken ↦ inl (
     taken.0,
@@ -54,23 +62,34 @@ runs_on meaning v m v' ((number, text) ∷ now) later first rest stop ran more =
 ]
 
 -- texts up to one at which the run stops, and more behind it
-pub runs_up_to : {V : Type 0} (meaning : Meaning V) (v v' : V) (now later : List (ℕ × List ℕ)) (lines : List ℕ) (stop : RunFault) →
+pub runs_up_to : {V : Type 0} (meaning : Meaning V) (v v' : V) (now later : List (ℕ × List ℕ)) (lines : List ℕ)
+    (stop : RunFault) →
     Runs meaning v now lines (Some stop) v' → Runs meaning v (now ++ later) lines (Some stop) v'
 runs_up_to meaning v v' [] later lines stop (lines_are, some, same) = absurd (let none : Some stop ≡ None = some in cc)
 runs_up_to meaning v v' ((number, text) ∷ now) later lines stop ran = elim ran [
-  | inl taken ↦ inl (taken.0, taken.1, taken.2, taken.3, taken.4, runs_up_to meaning taken.2 v' now later taken.1 stop taken.5)
+  | inl taken ↦ inl (
+    taken.0,
+    taken.1,
+    taken.2,
+    taken.3,
+    taken.4,
+    runs_up_to meaning taken.2 v' now later taken.1 stop taken.5,
+  )
   | inr stopped ↦ inr stopped
 ]
 
-pub under-more : (number : ℕ) (text : Option (List ℕ)) (rest : List (ℕ × List ℕ)) → under number text [] ++ rest ≡ under number text rest
+pub under-more : (number : ℕ) (text : Option (List ℕ)) (rest : List (ℕ × List ℕ))
+    → under number text [] ++ rest ≡ under number text rest
 under-more number None rest = refl
 under-more number (Some text) rest = refl
 
 -- ---- one text
-pub takes_one : {V : Type 0} (meaning : Meaning V) (v v' : V) (number : ℕ) (text lines : List ℕ) → meaning v text (Brings lines) v' → Runs meaning v ((number, text) ∷ []) lines None v'
+pub takes_one : {V : Type 0} (meaning : Meaning V) (v v' : V) (number : ℕ) (text lines : List ℕ)
+    → meaning v text (Brings lines) v' → Runs meaning v ((number, text) ∷ []) lines None v'
 takes_one meaning v v' number text lines said = inl (lines, [], v', said, sym (append-nil lines), (refl, refl, refl))
 
-refuses_one : {V : Type 0} (meaning : Meaning V) (v v' : V) (number : ℕ) (text : List ℕ) (fault : TextFault) → meaning v text (Refuses fault) v' → Runs meaning v ((number, text) ∷ []) [] (Some (run.Text number fault)) v'
+refuses_one : {V : Type 0} (meaning : Meaning V) (v v' : V) (number : ℕ) (text : List ℕ) (fault : TextFault)
+    → meaning v text (Refuses fault) v' → Runs meaning v ((number, text) ∷ []) [] (Some (run.Text number fault)) v'
 refuses_one meaning v v' number text fault said = inr (inl (fault, said, refl, refl))
 
 -- what says how a run goes on after a text that was taken
@@ -79,60 +98,89 @@ gone_on taken.GoesOn = Ok tt
 gone_on taken.Ends = Err run.Outstanding
 
 -- a text that brought its lines into an empty output, which were then added
-pub taken_one : {V : Type 0} (meaning : Meaning V) (v v' : V) (number : ℕ) (text : Option (List ℕ)) (said : List ℕ) (turn : Taken) (empty took before after : Kept) →
-    text ≡ Some said → empty.bytes ≡ [] → empty.is_whole ≡ true → (lines : List ℕ) × meaning v said (outcome_of turn lines) v' × Writes empty took lines →
-    after.bytes ≡ before.bytes ++ took.bytes → after.is_whole ≡ before.is_whole → RunsOn meaning v (under number text []) before (gone_on turn) v' after
-taken_one meaning v v' number text said turn empty took before after text_is none whole (lines, came, writes) added same =
+pub taken_one : {V : Type 0} (meaning : Meaning V) (v v' : V) (number : ℕ) (text : Option (List ℕ)) (said : List ℕ)
+    (turn : Taken) (empty took before after : Kept) →
+    text ≡ Some said → empty.bytes ≡ [] → empty.is_whole ≡ true
+    → (lines : List ℕ) × meaning v said (outcome_of turn lines) v' × Writes empty took lines →
+    after.bytes ≡ before.bytes ++ took.bytes → after.is_whole ≡ before.is_whole
+    → RunsOn meaning v (under number text []) before (gone_on turn) v' after
+taken_one meaning v v' number text said turn empty took before after text_is none whole (lines, came, writes) added
+    same =
     subst (λ t. RunsOn meaning v (under number t []) before (gone_on turn) v' after) (sym text_is) (by_turn turn came)
   where
     wrote : Writes before after lines
     wrote = writes_added empty took before after lines none whole writes added same
 
-    by_turn : (turn : Taken) → meaning v said (outcome_of turn lines) v' → RunsOn meaning v ((number, said) ∷ []) before (gone_on turn) v' after
+    by_turn : (turn : Taken) → meaning v said (outcome_of turn lines) v'
+        → RunsOn meaning v ((number, said) ∷ []) before (gone_on turn) v' after
     by_turn taken.GoesOn came = (lines, takes_one meaning v v' number said lines came, wrote)
     by_turn taken.Ends came = inr (lines, inr (inr (came, refl)), wrote)
 
 -- a text whose taking failed with this fault, which the run reports under the line's number
-pub failed_one : {V : Type 0} (meaning : Meaning V) (v v' : V) (number : ℕ) (text : Option (List ℕ)) (said : List ℕ) (fault : TextFault) (reported : RunFault) (empty took out : Kept) →
-    text ≡ Some said → reported ≡ fault_at number fault → (fault ≡ flaw.OutOfMemory) ⊎ (meaning v said (Refuses fault) v' × Writes empty took []) →
+pub failed_one : {V : Type 0} (meaning : Meaning V) (v v' : V) (number : ℕ) (text : Option (List ℕ)) (said : List ℕ)
+    (fault : TextFault) (reported : RunFault) (empty took out : Kept) →
+    text ≡ Some said → reported ≡ fault_at number fault
+    → (fault ≡ flaw.OutOfMemory) ⊎ (meaning v said (Refuses fault) v' × Writes empty took []) →
     RunsOn meaning v (under number text []) out (Err reported) v' out
 failed_one meaning v v' number text said fault reported empty took out text_is reported_is failed =
     subst (λ t. RunsOn meaning v (under number t []) out (Err reported) v' out) (sym text_is)
     (subst (λ r. RunsOn meaning v ((number, said) ∷ []) out (Err r) v' out) (sym reported_is) (by_fault fault failed))
   where
-    named : (fault : TextFault) → meaning v said (Refuses fault) v' × Writes empty took [] → RunsOn meaning v ((number, said) ∷ []) out (Err (run.Text number fault)) v' out
+    named : (fault : TextFault) → meaning v said (Refuses fault) v' × Writes empty took []
+        → RunsOn meaning v ((number, said) ∷ []) out (Err (run.Text number fault)) v' out
     named fault (refused, writes) = inr ([], refuses_one meaning v v' number said fault refused, writes_nothing out)
 
-    by_fault : (fault : TextFault) → (fault ≡ flaw.OutOfMemory) ⊎ (meaning v said (Refuses fault) v' × Writes empty took []) → RunsOn meaning v ((number, said) ∷ []) out (Err (fault_at number fault)) v' out
+    by_fault : (fault : TextFault) → (fault ≡ flaw.OutOfMemory)
+        ⊎ (meaning v said (Refuses fault) v' × Writes empty took [])
+        → RunsOn meaning v ((number, said) ∷ []) out (Err (fault_at number fault)) v' out
     by_fault flaw.OutOfMemory h = wanting meaning v v' ((number, said) ∷ []) out
-    by_fault flaw.NotHex h = elim h [ inl e ↦ absurd (let n : flaw.NotHex ≡ flaw.OutOfMemory = e in cc) | inr s ↦ named flaw.NotHex s ]
-    by_fault flaw.NotACommand h = elim h [ inl e ↦ absurd (let n : flaw.NotACommand ≡ flaw.OutOfMemory = e in cc) | inr s ↦ named flaw.NotACommand s ]
-    by_fault flaw.NoFrame h = elim h [ inl e ↦ absurd (let n : flaw.NoFrame ≡ flaw.OutOfMemory = e in cc) | inr s ↦ named flaw.NoFrame s ]
-    by_fault flaw.MessageTooLong h = elim h [ inl e ↦ absurd (let n : flaw.MessageTooLong ≡ flaw.OutOfMemory = e in cc) | inr s ↦ named flaw.MessageTooLong s ]
+    by_fault flaw.NotHex h = elim h [
+      | inl e ↦ absurd (let n : flaw.NotHex ≡ flaw.OutOfMemory = e in cc)
+      | inr s ↦ named flaw.NotHex s
+    ]
+    by_fault flaw.NotACommand h = elim h [
+      | inl e ↦ absurd (let n : flaw.NotACommand ≡ flaw.OutOfMemory = e in cc)
+      | inr s ↦ named flaw.NotACommand s
+    ]
+    by_fault flaw.NoFrame h = elim h [
+      | inl e ↦ absurd (let n : flaw.NoFrame ≡ flaw.OutOfMemory = e in cc)
+      | inr s ↦ named flaw.NoFrame s
+    ]
+    by_fault flaw.MessageTooLong h = elim h [
+      | inl e ↦ absurd (let n : flaw.MessageTooLong ≡ flaw.OutOfMemory = e in cc)
+      | inr s ↦ named flaw.MessageTooLong s
+    ]
 
 -- ---- one line after another
 -- The texts before these were taken, and what they brought is written.
 abbrev pub Led : {V : Type 0} → Meaning V → V → List (ℕ × List ℕ) → Kept → V → List (ℕ × List ℕ) → Kept → Type 0
 Led {V} meaning start texts first v left now =
-    (so_far : List ℕ) × (done : List (ℕ × List ℕ)) × Writes first now so_far × (texts ≡ done ++ left) × Runs meaning start done so_far None v
+    (so_far : List ℕ) × (done : List (ℕ × List ℕ)) × Writes first now so_far × (texts ≡ done ++ left)
+    × Runs meaning start done so_far None v
 
-pub led_at_first : {V : Type 0} (meaning : Meaning V) (v : V) (texts : List (ℕ × List ℕ)) (out : Kept) → Led meaning v texts out v texts out
+pub led_at_first : {V : Type 0} (meaning : Meaning V) (v : V) (texts : List (ℕ × List ℕ)) (out : Kept)
+    → Led meaning v texts out v texts out
 led_at_first meaning v texts out = ([], [], writes_nothing out, refl, (refl, refl, refl))
 
 -- the texts of the rest, by its first line and what follows
-numbered-line : (number : ℕ) (line : List ℕ) (lines : List (List ℕ)) → numbered number (line ∷ lines) ≡ under number (said line) (numbered (number + 1) lines)
+numbered-line : (number : ℕ) (line : List ℕ) (lines : List (List ℕ))
+    → numbered number (line ∷ lines) ≡ under number (said line) (numbered (number + 1) lines)
 unfolding numbered
 numbered-line number line lines = refl
 
-pub texts_by_line : (number : ℕ) (rest line more : List ℕ) → lines_of rest ≡ line ∷ lines_of more → numbered number (lines_of rest) ≡ under number (said line) [] ++ numbered (number + 1) (lines_of more)
-texts_by_line number rest line more lines = ap (numbered number) lines ∙ numbered-line number line (lines_of more) ∙ sym (under-more number (said line) (numbered (number + 1) (lines_of more)))
+pub texts_by_line : (number : ℕ) (rest line more : List ℕ) → lines_of rest ≡ line ∷ lines_of more
+    → numbered number (lines_of rest) ≡ under number (said line) [] ++ numbered (number + 1) (lines_of more)
+texts_by_line number rest line more lines = ap (numbered number) lines ∙ numbered-line number line (lines_of more)
+    ∙ sym (under-more number (said line) (numbered (number + 1) (lines_of more)))
 
 no_texts : (number : ℕ) → numbered number (lines_of []) ≡ []
 unfolding lines_of numbered
 no_texts number = refl
 
-module _ {V : Type 0} (meaning : Meaning V) (start v : V) (texts : List (ℕ × List ℕ)) (first out out' : Kept) (number : ℕ) (rest line more : List ℕ)
-    (led : Led meaning start texts first v (numbered number (lines_of rest)) out) (lines_are : lines_of rest ≡ line ∷ lines_of more) where
+module _ {V : Type 0} (meaning : Meaning V) (start v : V) (texts : List (ℕ × List ℕ)) (first out out' : Kept)
+    (number : ℕ) (rest line more : List ℕ)
+    (led : Led meaning start texts first v (numbered number (lines_of rest)) out)
+    (lines_are : lines_of rest ≡ line ∷ lines_of more) where
   -- the texts by the line at hand
   abbrev now : List (ℕ × List ℕ)
   now = under number (said line) []
@@ -143,7 +191,8 @@ module _ {V : Type 0} (meaning : Meaning V) (start v : V) (texts : List (ℕ × 
   texts_are : texts ≡ led.1 ++ (now ++ later)
   texts_are = led.3 ∙ ap (λ left. led.1 ++ left) (texts_by_line number rest line more lines_are)
 
-  pub led_on : (m : V) → (lines : List ℕ) × Runs meaning v now lines None m × Writes out out' lines → Led meaning start texts first m later out'
+  pub led_on : (m : V) → (lines : List ℕ) × Runs meaning v now lines None m × Writes out out' lines
+      → Led meaning start texts first m later out'
   led_on m (lines, ran, wrote) = (
     led.0 ++ lines,
     led.1 ++ now,
@@ -157,25 +206,40 @@ module _ {V : Type 0} (meaning : Meaning V) (start v : V) (texts : List (ℕ × 
     led.1 ++ some,
     others ++ later,
     m,
-    texts_are ∙ ap (λ left. led.1 ++ left) (ap (λ n. n ++ later) now_is ∙ append_assoc some others later) ∙ sym (append_assoc led.1 some (others ++ later)),
+    texts_are ∙ ap (λ left. led.1 ++ left) (ap (λ n. n ++ later) now_is ∙ append_assoc some others later)
+        ∙ sym (append_assoc led.1 some (others ++ later)),
     runs_on meaning start v m led.1 some led.0 lines None led.4 ran,
   )
 
-  pub led_stop : (lines : List ℕ) (stop : RunFault) (v' : V) → Runs meaning v now lines (Some stop) v' → Runs meaning start texts (led.0 ++ lines) (Some stop) v'
+  pub led_stop : (lines : List ℕ) (stop : RunFault) (v' : V) → Runs meaning v now lines (Some stop) v'
+      → Runs meaning start texts (led.0 ++ lines) (Some stop) v'
   led_stop lines stop v' ran =
       subst (λ texts. Runs meaning start texts (led.0 ++ lines) (Some stop) v') (sym texts_are)
-      (runs_on meaning start v v' led.1 (now ++ later) led.0 lines (Some stop) led.4 (runs_up_to meaning v v' now later lines stop ran))
+      (runs_on meaning start v v' led.1 (now ++ later) led.0 lines (Some stop) led.4
+      (runs_up_to meaning v v' now later lines stop ran))
 
-  pub led_out : (v' : V) (fault : RunFault) → RunsOn meaning v now out (Err fault) v' out' → RunsOn meaning start texts first (Err fault) v' out'
+  pub led_out : (v' : V) (fault : RunFault) → RunsOn meaning v now out (Err fault) v' out'
+      → RunsOn meaning start texts first (Err fault) v' out'
   led_out v' fault failed = elim failed [
-    | inl (is, (lines, some, wrote)) ↦ inl (is, (led.0 ++ lines, led_first lines some, writes_then first out out' led.0 lines led.2 wrote))
-    | inr (lines, ran, wrote) ↦ inr (led.0 ++ lines, led_stop lines fault v' ran, writes_then first out out' led.0 lines led.2 wrote)
+    | inl (is, (lines, some, wrote)) ↦ inl
+        (is, (led.0 ++ lines, led_first lines some, writes_then first out out' led.0 lines led.2 wrote))
+    | inr (lines, ran, wrote) ↦ inr (
+      led.0 ++ lines,
+      led_stop lines fault v' ran,
+      writes_then first out out' led.0 lines led.2 wrote,
+    )
   ]
 
-pub led_end : {V : Type 0} (meaning : Meaning V) (start v : V) (texts : List (ℕ × List ℕ)) (first out : Kept) (number : ℕ) (rest : List ℕ) →
-    Led meaning start texts first v (numbered number (lines_of rest)) out → rest ≡ [] → (lines : List ℕ) × Runs meaning start texts lines None v × Writes first out lines
-led_end meaning start v texts first out number rest (so_far, done, wrote, texts_are, ran) rest_is =
-    (so_far, subst (λ all. Runs meaning start all so_far None v) (sym (texts_are ∙ ap (λ left. done ++ left) none_left ∙ append-nil done)) ran, wrote)
+pub led_end : {V : Type 0} (meaning : Meaning V) (start v : V) (texts : List (ℕ × List ℕ)) (first out : Kept)
+    (number : ℕ) (rest : List ℕ) →
+    Led meaning start texts first v (numbered number (lines_of rest)) out → rest ≡ []
+    → (lines : List ℕ) × Runs meaning start texts lines None v × Writes first out lines
+led_end meaning start v texts first out number rest (so_far, done, wrote, texts_are, ran) rest_is = (
+  so_far,
+  subst (λ all. Runs meaning start all so_far None v)
+      (sym (texts_are ∙ ap (λ left. done ++ left) none_left ∙ append-nil done)) ran,
+  wrote,
+)
   where
     none_left : numbered number (lines_of rest) ≡ []
     none_left = ap (λ r. numbered number (lines_of r)) rest_is ∙ no_texts number

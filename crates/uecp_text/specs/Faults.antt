@@ -4,7 +4,9 @@ use Rattle.rds_store.specs.Fault.{name_of}
 use Rattle.uecp_text.specs.declared.text_fault.TextFault.{TextFault}
 use Rattle.uecp_text.specs.declared.text_fault.TextFault.TheVariants as flaw
 use Rattle.uecp_text.specs.declared.run_fault.RunFault.{RunFault}
-use Rattle.uecp_text.specs.declared.run_fault.RunFault.TheVariants.{Text, Services, NotAList, Address, TooLong, Reading, Writing, OutOfMemory, Listening, Connection, Outstanding}
+use Rattle.uecp_text.specs.declared.run_fault.RunFault.TheVariants.{Text, Services, NotAList, Address, TooLong, Reading}
+use Rattle.uecp_text.specs.declared.run_fault.RunFault.TheVariants.{Writing, OutOfMemory, Listening, Connection}
+use Rattle.uecp_text.specs.declared.run_fault.RunFault.TheVariants.{Outstanding}
 
 -- 1 for a line of input, 2 for what the command line gave, 3 for the rest.
 abbrev pub status_of : RunFault → ℕ

@@ -1,6 +1,7 @@
 -- The words of a line, and what they spell (profile).
 use denote.Ref.{Bor}
-use Rattle.std.specs.Prelude.{◌≡◌, ◌⊎◌, ℕ, ◌+◌, ◌-◌, ◌*◌, nat_le, ◌==◌, not, ◌&&◌, if◌then◌else◌, List, [], ◌∷◌, length, codes, fold, filter, map, Option, Some, None, Result, Ok}
+use Rattle.std.specs.Prelude.{◌≡◌, ◌⊎◌, ℕ, ◌+◌, ◌-◌, ◌*◌, nat_le, ◌==◌, not, ◌&&◌, if◌then◌else◌, List, [], ◌∷◌, length}
+use Rattle.std.specs.Prelude.{codes, fold, filter, map, Option, Some, None, Result, Ok}
 use Rattle.std.specs.List.{slice_split, list_all}
 use Rattle.std.specs.Char.{is_ascii_digit}
 use Rattle.hex.specs.Hex.{decode_of, decode_sized}
@@ -25,7 +26,8 @@ decimal_value digits = fold (λ n d. n * 10 + (d - 48)) 0 digits
 
 -- The number that a word of one or more decimal digits spells, where it is at most this one.
 unfoldable pub decimal_in : (most : ℕ) → List ℕ → Option ℕ
-decimal_in most word = if not (length word == 0) && list_all is_ascii_digit word && nat_le (decimal_value word) most then Some (decimal_value word) else None
+decimal_in most word = if not (length word == 0) && list_all is_ascii_digit word
+    && nat_le (decimal_value word) most then Some (decimal_value word) else None
 
 -- Two hexadecimal digits spell a byte.
 abbrev pub IsByte : (word : List ℕ) → ℕ → Type 0

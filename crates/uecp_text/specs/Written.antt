@@ -25,7 +25,8 @@ pub record AddsFirst (before after : Kept) (bytes : List ℕ) : Type 0 where
 -- Law: what is added to an output one after another is added as one, so what it keeps is always a beginning of all that
 -- was said.
 abbrev pub IsBeginning : Type 0
-IsBeginning = (a b c : Kept) (first second : List ℕ) → AddsFirst a b first → AddsFirst b c second → AddsFirst a c (first ++ second)
+IsBeginning = (a b c : Kept) (first second : List ℕ) → AddsFirst a b first → AddsFirst b c second
+    → AddsFirst a c (first ++ second)
 
 -- Law: all of the bytes were added where the output is whole.
 abbrev pub IsAllWhereWhole : Type 0

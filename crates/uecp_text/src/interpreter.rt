@@ -50,7 +50,8 @@ pub fn run<R: Read, W: Write, I: Interpreter>(
     interpreter: &mut I,
     writer: &mut W,
 ) -> Result<(), RunFault>
-    ensures { RunsWhole I.meaning interpreter.old I.closing (R.remaining reader.old) (R.remaining reader.new) (W.contents writer.old) (W.contents writer.new) result }
+    ensures { RunsWhole I.meaning interpreter.old I.closing (R.remaining reader.old) (R.remaining reader.new)
+        (W.contents writer.old) (W.contents writer.new) result }
 {
     let input = read_all(alloc, reader)?;
     let mut output = Output::new(alloc);
@@ -107,7 +108,8 @@ fn take_line<I: Interpreter>(
     lines: &mut Output,
     output: &mut Output,
 ) -> Result<(), RunFault>
-    ensures { RunsOn I.meaning interpreter.old (under number (said line.now) []) output.old result interpreter.new output.new }
+    ensures { RunsOn I.meaning interpreter.old (under number (said line.now) []) output.old result interpreter.new
+        output.new }
 {
     let Some(text) = text_of(line) else {
         return Ok(());

@@ -1,5 +1,6 @@
 //! The lines that a run writes (profile).
-ghost use Rattle.std.specs.Prelude.{◌≡◌, ◌==◌, ◌*◌, ◌/◌, ◌%◌, ◌++◌, ◌↔◌, [], ◌∷◌, length, slice_index, true, IsOk, OnOk, OnErr, IfErr, IsTrue, codes, decimal, if◌then◌else◌};
+ghost use Rattle.std.specs.Prelude.{◌≡◌, ◌==◌, ◌*◌, ◌/◌, ◌%◌, ◌++◌, ◌↔◌, [], ◌∷◌, length, slice_index, true, IsOk};
+ghost use Rattle.std.specs.Prelude.{OnOk, OnErr, IfErr, IsTrue, codes, decimal, if◌then◌else◌};
 ghost use Rattle.std.specs.Io.KnownBytes.{Appends};
 ghost use Rattle.hex.specs.Hex.{encode_upper, upper_digits};
 ghost use Rattle.uecp_text.specs.Digits.{byte_word, number_word, row_word, decimal_word, flag_word};

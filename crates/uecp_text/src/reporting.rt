@@ -43,7 +43,8 @@ pub fn report<W: Write>(fault: &RunFault, writer: &mut W) -> Result<(), RunFault
 /// Writes the parts one after another, as far as the writer takes them, with no memory. Where the writer fails, it has
 /// got a beginning of them, and the answer is `Writing`.
 pub fn write_parts<W: Write>(parts: &[&[u8]], writer: &mut W) -> Result<(), RunFault>
-    ensures written { OnOk result (Appends (W.contents writer.old) (W.contents writer.new) (flat_map (λ part. part.now) parts.now)) }
+    ensures written { OnOk result (Appends (W.contents writer.old) (W.contents writer.new)
+        (flat_map (λ part. part.now) parts.now)) }
     ensures begun { Begins (W.contents writer.old) (W.contents writer.new) (flat_map (λ part. part.now) parts.now) }
     ensures failed { IfErr result (λ why. why ≡ Writing) }
 {

@@ -1,5 +1,6 @@
 //! Words of a line, and the numbers and bytes that they spell (profile).
-ghost use Rattle.std.specs.Prelude.{◌≡◌, ◌≤◌, ◌<◌, ◌⊎◌, ℕ, List, [], ◌∷◌, length, Ok, IfOk, IfErr, IfSome, IfNone, IsErr};
+ghost use Rattle.std.specs.Prelude.{◌≡◌, ◌≤◌, ◌<◌, ◌⊎◌, ℕ, List, [], ◌∷◌, length, Ok, IfOk, IfErr, IfSome, IfNone};
+ghost use Rattle.std.specs.Prelude.{IsErr};
 ghost use Rattle.hex.specs.Hex.{decode_of, decode_sized};
 ghost use Rattle.uecp_frame.specs.Frame.{high_first};
 ghost use Rattle.uecp_text.specs.declared.text_fault.TextFault.TheVariants.{NotACommand, OutOfMemory};
@@ -32,7 +33,8 @@ pub fn bytes_of(alloc: Global, word: &[u8], refusal: TextFault) -> Result<Vec<u8
 /// The same, and no bytes for a lone `-`.
 pub fn bytes_or_none(alloc: Global, word: &[u8]) -> Result<Vec<u8>, TextFault>
     ensures row { IfOk result (λ b. IsRow word.now b.items) }
-    ensures refused { IfErr result (λ e. (e ≡ OutOfMemory) ⊎ ((e ≡ NotACommand) × ((bytes : List ℕ) → IsRow word.now bytes → ⊥))) }
+    ensures refused { IfErr result (λ e. (e ≡ OutOfMemory)
+        ⊎ ((e ≡ NotACommand) × ((bytes : List ℕ) → IsRow word.now bytes → ⊥))) }
 {
     match word {
         b"-" => Ok(Vec::new(alloc)),

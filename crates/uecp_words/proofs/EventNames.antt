@@ -1,5 +1,6 @@
 -- Words that name an event, and words that name none.
-use Rattle.std.proofs.Common.{◌≡◌, ℕ, ◌⊎◌, inl, inr, List, [], ◌∷◌, ◌++◌, codes, refl, sym, ap, ◌∙◌, subst, length, get_or, take, drop, Some, ◌+◌, eqb, eq-eqb, false, Bor, ◌≤◌, ◌<◌, map, arith}
+use Rattle.std.proofs.Common.{◌≡◌, ℕ, ◌⊎◌, inl, inr, List, [], ◌∷◌, ◌++◌, codes, refl, sym, ap, ◌∙◌, subst, length}
+use Rattle.std.proofs.Common.{get_or, take, drop, Some, ◌+◌, eqb, eq-eqb, false, Bor, ◌≤◌, ◌<◌, map, arith}
 use Rattle.std.specs.List.{list_all}
 use Rattle.std.proofs.lemmas.List.{map_more, map-append, length-map}
 use Rattle.std.proofs.lemmas.Bool.{false≢true}
@@ -10,17 +11,20 @@ use Rattle.uecp_link.specs.declared.event.Side.TheVariants as side
 use Rattle.uecp_text.specs.declared.text_fault.TextFault.{TextFault}
 use Rattle.uecp_text.specs.declared.text_fault.TextFault.TheVariants.{NotACommand, OutOfMemory}
 use Rattle.uecp_text.specs.Words.{IsRow, decimal_in}
-use Rattle.uecp_words.specs.EventWords.{name_of, end_word, noise_to, is_cut, AreCuts, TellsMessage, TellsNoise, TellsRow, Names, Submits, IsFaultOf}
+use Rattle.uecp_words.specs.EventWords.{name_of, end_word, noise_to, is_cut, AreCuts, TellsMessage, TellsNoise}
+use Rattle.uecp_words.specs.EventWords.{TellsRow, Names, Submits, IsFaultOf}
 
 -- ---- Words that name an event.
 
 -- The name of noise and its bytes name the noise.
-pub noise_named : (end : Side) (words : List (List ℕ)) (bytes : List ℕ) → TellsNoise words bytes → Names (name_of (noise_to end []) ∷ words) (noise_to end bytes)
+pub noise_named : (end : Side) (words : List (List ℕ)) (bytes : List ℕ) → TellsNoise words bytes
+    → Names (name_of (noise_to end []) ∷ words) (noise_to end bytes)
 noise_named side.Encoder words bytes told = (words, refl, told)
 noise_named side.Server words bytes told = (words, refl, told)
 
 -- `line-lost` and an end name the loss at that end.
-pub loss_named : (end : Side) (words : List (List ℕ)) → words ≡ end_word end ∷ [] → Names (codes "line-lost" ∷ words) (lost_of end)
+pub loss_named : (end : Side) (words : List (List ℕ)) → words ≡ end_word end ∷ []
+    → Names (codes "line-lost" ∷ words) (lost_of end)
 loss_named side.Encoder words told = (words, refl, told)
 loss_named side.Server words told = (words, refl, told)
 
@@ -45,29 +49,34 @@ first_same : (a b : List ℕ) → a ∷ [] ≡ b ∷ [] → a ≡ b
 first_same a b same = cc
 
 -- Words with another name in front submit nothing.
-no_bytes : (name : List ℕ) (words : List (List ℕ)) → eqb (mark name) (mark (codes "submit")) ≡ false → (bytes : List ℕ) → Submits (name ∷ words) bytes → ⊥
+no_bytes : (name : List ℕ) (words : List (List ℕ)) → eqb (mark name) (mark (codes "submit")) ≡ false → (bytes : List ℕ)
+    → Submits (name ∷ words) bytes → ⊥
 no_bytes name words differ bytes row = apart name (codes "submit") words row.0 differ row.1
 
 -- Words after `frame` that tell no message name no event.
-no_frame : (words : List (List ℕ)) → ((number : ℕ) → TellsMessage words number → ⊥) → (event : Event) → Names (codes "frame" ∷ words) event → ⊥
+no_frame : (words : List (List ℕ)) → ((number : ℕ) → TellsMessage words number → ⊥) → (event : Event)
+    → Names (codes "frame" ∷ words) event → ⊥
 no_frame words none (FrameComes n) named =
     none n (subst (λ ws. TellsMessage ws n) (same_rest (codes "frame") (codes "frame") words named.0 named.1) named.2)
 no_frame words none event named = apart (codes "frame") (name_of event) words named.0 refl named.1
 
 -- Words after `reply` that tell no message name no event.
-no_reply : (words : List (List ℕ)) → ((number : ℕ) → TellsMessage words number → ⊥) → (event : Event) → Names (codes "reply" ∷ words) event → ⊥
+no_reply : (words : List (List ℕ)) → ((number : ℕ) → TellsMessage words number → ⊥) → (event : Event)
+    → Names (codes "reply" ∷ words) event → ⊥
 no_reply words none (ReplyComes n) named =
     none n (subst (λ ws. TellsMessage ws n) (same_rest (codes "reply") (codes "reply") words named.0 named.1) named.2)
 no_reply words none event named = apart (codes "reply") (name_of event) words named.0 refl named.1
 
 -- Words after `submit` that tell no row name no event.
-no_submission : (words : List (List ℕ)) → ((bytes : List ℕ) → TellsRow words bytes → ⊥) → (event : Event) → Names (codes "submit" ∷ words) event → ⊥
+no_submission : (words : List (List ℕ)) → ((bytes : List ℕ) → TellsRow words bytes → ⊥) → (event : Event)
+    → Names (codes "submit" ∷ words) event → ⊥
 no_submission words none (Submit m) named =
     none m (subst (λ ws. TellsRow ws m) (same_rest (codes "submit") (codes "submit") words named.0 named.1) named.2.0)
 no_submission words none event named = apart (codes "submit") (name_of event) words named.0 refl named.1
 
 -- Words after `line-lost` that are no end name no event.
-no_loss : (words : List (List ℕ)) → ((end : Side) → words ≡ end_word end ∷ [] → ⊥) → (event : Event) → Names (codes "line-lost" ∷ words) event → ⊥
+no_loss : (words : List (List ℕ)) → ((end : Side) → words ≡ end_word end ∷ [] → ⊥) → (event : Event)
+    → Names (codes "line-lost" ∷ words) event → ⊥
 no_loss words none EncoderLost named =
     none side.Encoder (sym (same_rest (codes "line-lost") (codes "line-lost") words named.0 named.1) ∙ named.2)
 no_loss words none ServerLost named =
@@ -80,10 +89,13 @@ FailsFor {A} fits e = (e ≡ OutOfMemory) ⊎ ((e ≡ NotACommand) × ((a : A) �
 
 -- Why the words after the name of a frame or a reply are refused.
 abbrev pub FailsFrom : List (List ℕ) → TextFault → Type 0
-FailsFrom words e = ((e ≡ OutOfMemory) × (1 < length words)) ⊎ ((e ≡ NotACommand) × ((number : ℕ) → TellsMessage words number → ⊥))
+FailsFrom words e = ((e ≡ OutOfMemory) × (1 < length words))
+    ⊎ ((e ≡ NotACommand) × ((number : ℕ) → TellsMessage words number → ⊥))
 
 -- The same of a slice of words.
-pub fails_from : (words : List (Bor (List ℕ))) (e : TextFault) → ((e ≡ OutOfMemory) × (1 < length words)) ⊎ ((e ≡ NotACommand) × ((number : ℕ) → TellsMessage (map (λ w. w.now) words) number → ⊥)) → FailsFrom (map (λ w. w.now) words) e
+pub fails_from : (words : List (Bor (List ℕ))) (e : TextFault)
+    → ((e ≡ OutOfMemory) × (1 < length words)) ⊎ ((e ≡ NotACommand)
+    × ((number : ℕ) → TellsMessage (map (λ w. w.now) words) number → ⊥)) → FailsFrom (map (λ w. w.now) words) e
 fails_from words e (inl out) = inl (out.0, let same = length-map words (λ (w : Bor (List ℕ)). w.now) in omega arith)
 fails_from words e (inr f) = inr f
 
@@ -94,33 +106,45 @@ one_long words at_least below = let same = length-map words (λ (w : Bor (List �
 -- What `frame` is refused for is the fault of the words.
 pub frame_refused : (words : List (List ℕ)) (e : TextFault) → FailsFrom words e → IsFaultOf (codes "frame" ∷ words) e
 frame_refused words e (inl out) = rw out.0 (FrameComes 0, words, refl, out.1)
-frame_refused words e (inr f) = rw f.0 (record { no_event = no_frame words f.1; no_bytes = no_bytes (codes "frame") words refl })
+frame_refused words e (inr f) =
+    rw f.0 (record { no_event = no_frame words f.1; no_bytes = no_bytes (codes "frame") words refl })
 
 -- What `reply` is refused for is the fault of the words.
 pub reply_refused : (words : List (List ℕ)) (e : TextFault) → FailsFrom words e → IsFaultOf (codes "reply" ∷ words) e
 reply_refused words e (inl out) = rw out.0 (ReplyComes 0, words, refl, out.1)
-reply_refused words e (inr f) = rw f.0 (record { no_event = no_reply words f.1; no_bytes = no_bytes (codes "reply") words refl })
+reply_refused words e (inr f) =
+    rw f.0 (record { no_event = no_reply words f.1; no_bytes = no_bytes (codes "reply") words refl })
 
 -- What the row of `submit` is refused for is the fault of the words.
-pub submission_refused : (words : List (List ℕ)) (e : TextFault) → length words ≡ 1 → FailsFor (TellsRow words) e → IsFaultOf (codes "submit" ∷ words) e
+pub submission_refused : (words : List (List ℕ)) (e : TextFault) → length words ≡ 1 → FailsFor (TellsRow words) e
+    → IsFaultOf (codes "submit" ∷ words) e
 submission_refused words e one (inl out) = rw out (Submit [], words, refl, one)
 submission_refused words e one (inr f) = rw f.0 (record {
   no_event = no_submission words f.1;
-  no_bytes = λ bytes row. f.1 bytes (subst (λ ws. TellsRow ws bytes) (same_rest (codes "submit") (codes "submit") words row.0 row.1) row.2);
+  no_bytes = λ bytes row. f.1 bytes (subst (λ ws. TellsRow ws bytes)
+      (same_rest (codes "submit") (codes "submit") words row.0 row.1) row.2);
 })
 
 -- What the end of `line-lost` is refused for is the fault of the words.
-pub loss_refused : (word : List ℕ) (words : List (List ℕ)) (e : TextFault) → words ≡ word ∷ [] → (e ≡ NotACommand) × ((end : Side) → word ≡ end_word end → ⊥) → IsFaultOf (codes "line-lost" ∷ words) e
+pub loss_refused : (word : List ℕ) (words : List (List ℕ)) (e : TextFault) → words ≡ word ∷ []
+    → (e ≡ NotACommand) × ((end : Side) → word ≡ end_word end → ⊥) → IsFaultOf (codes "line-lost" ∷ words) e
 loss_refused word words e is f =
-    rw f.0 (record { no_event = no_loss words (λ end same. f.1 end (let one : word ∷ [] ≡ end_word end ∷ [] = sym is ∙ same in first_same word (end_word end) one)); no_bytes = no_bytes (codes "line-lost") words refl })
+    rw f.0 (record {
+      no_event = no_loss words (λ end same.
+          f.1 end (let one : word ∷ [] ≡ end_word end ∷ [] = sym is ∙ same in first_same word (end_word end) one));
+      no_bytes = no_bytes (codes "line-lost") words refl;
+    })
 
 -- A lone word that fits nothing makes words that tell nothing.
-pub row_fails : (word : List ℕ) (words : List (List ℕ)) (e : TextFault) → words ≡ word ∷ [] → FailsFor (IsRow word) e → FailsFor (TellsRow words) e
+pub row_fails : (word : List ℕ) (words : List (List ℕ)) (e : TextFault) → words ≡ word ∷ [] → FailsFor (IsRow word) e
+    → FailsFor (TellsRow words) e
 row_fails word words e is (inl out) = inl out
-row_fails word words e is (inr f) = inr (f.0, λ bytes row. f.1 bytes (subst (λ w. IsRow w bytes) (sym (first_same word row.0 (sym is ∙ row.1))) row.2))
+row_fails word words e is (inr f) =
+    inr (f.0, λ bytes row. f.1 bytes (subst (λ w. IsRow w bytes) (sym (first_same word row.0 (sym is ∙ row.1))) row.2))
 
 -- A slice of one word.
-pub one_word : (words : List (Bor (List ℕ))) (default : Bor (List ℕ)) → 1 ≤ length words → length words < 2 → map (λ w. w.now) words ≡ (get_or words 0 default).now ∷ []
+pub one_word : (words : List (Bor (List ℕ))) (default : Bor (List ℕ)) → 1 ≤ length words → length words < 2
+    → map (λ w. w.now) words ≡ (get_or words 0 default).now ∷ []
 one_word [] default at_least below = absurd (omega arith)
 one_word (w ∷ []) default at_least below = refl
 one_word (w ∷ v ∷ ws) default at_least below = absurd (omega arith)
@@ -133,8 +157,10 @@ pub record CutSoFar (words : List (Bor (List ℕ))) (read : ℕ) (cut : List ℕ
   pub told : AreCuts (map (λ w. w.now) (take read words)) cut
 
 -- One more word is one more length.
-pub cut_more : (words : List (Bor (List ℕ))) (i : ℕ) (d : Bor (List ℕ)) (cut : List ℕ) (next : ℕ) → i < length words → AreCuts (map (λ w. w.now) (take i words)) cut →
-    decimal_in 65535 (get_or words i d).now ≡ Some next → AreCuts (map (λ w. w.now) (take (i + 1) words)) (cut ++ (next ∷ []))
+pub cut_more : (words : List (Bor (List ℕ))) (i : ℕ) (d : Bor (List ℕ)) (cut : List ℕ) (next : ℕ) → i < length words
+    → AreCuts (map (λ w. w.now) (take i words)) cut →
+    decimal_in 65535 (get_or words i d).now ≡ Some next
+    → AreCuts (map (λ w. w.now) (take (i + 1) words)) (cut ++ (next ∷ []))
 cut_more words i d cut next below told one =
     ap (map (decimal_in 65535)) (map_more (λ w. w.now) words i d below)
     ∙ map-append (decimal_in 65535) (map (λ w. w.now) (take i words)) ((get_or words i d).now ∷ [])

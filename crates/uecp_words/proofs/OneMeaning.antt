@@ -1,5 +1,6 @@
 -- Words of a frame script's line say one thing.
-use Rattle.std.proofs.Common.{◌≡◌, ℕ, ◌+◌, ◌/◌, ◌%◌, List, [], ◌∷◌, codes, Ok, refl, sym, ap, ◌∙◌, inl, inr, arith, eqb, eq-eqb, false}
+use Rattle.std.proofs.Common.{◌≡◌, ℕ, ◌+◌, ◌/◌, ◌%◌, List, [], ◌∷◌, codes, Ok, refl, sym, ap, ◌∙◌, inl, inr, arith, eqb}
+use Rattle.std.proofs.Common.{eq-eqb, false}
 use Rattle.std.proofs.lemmas.Bool.{false≢true}
 use Rattle.hex.specs.Hex.{decode_of, decode_sized}
 use Rattle.uecp_frame.specs.Frame.{high_first}
@@ -13,7 +14,8 @@ byte_one : (v w : List ℕ) (a b : ℕ) → v ≡ w → IsByte v a → IsByte w 
 byte_one v w a b same p q = let e : Ok (a ∷ []) ≡ Ok (b ∷ []) = sym p ∙ ap (λ x. decode_sized x 1) same ∙ q in cc
 
 number_one : (v w : List ℕ) (a b : ℕ) → v ≡ w → IsNumber v a → IsNumber w b → high_first a ≡ high_first b
-number_one v w a b same p q = let e : Ok (high_first a) ≡ Ok (high_first b) = sym p ∙ ap (λ x. decode_sized x 2) same ∙ q in cc
+number_one v w a b same p q = let e : Ok (high_first a) ≡ Ok (high_first b) =
+    sym p ∙ ap (λ x. decode_sized x 2) same ∙ q in cc
 
 name_one : (v w a b : List ℕ) → v ≡ w → decode_sized v 8 ≡ Ok a → decode_sized w 8 ≡ Ok b → a ≡ b
 name_one v w a b same p q = let e : Ok a ≡ Ok b = sym p ∙ ap (λ x. decode_sized x 8) same ∙ q in cc
@@ -40,7 +42,8 @@ abbrev mark : List ℕ → ℕ
 mark [] = 0
 mark (b ∷ w) = b + mark w
 
-apart : (a b : List ℕ) (words others ws : List (List ℕ)) → eqb (mark a) (mark b) ≡ false → ws ≡ a ∷ words → ws ≡ b ∷ others → ⊥
+apart : (a b : List ℕ) (words others ws : List (List ℕ)) → eqb (mark a) (mark b) ≡ false → ws ≡ a ∷ words
+    → ws ≡ b ∷ others → ⊥
 apart a b words others ws differ p q =
     let e : a ∷ words ≡ b ∷ others = sym p ∙ q in
     let first : a ≡ b = cc in
@@ -69,7 +72,8 @@ headed (Select dsn) ws (d, is, _) = (d ∷ [], is)
 headed (Group kind mode block3 block4) ws (k, m, b, c, is, _, _, _, _) = (k ∷ m ∷ b ∷ c ∷ [], is)
 headed (Ack code counter) ws (c, n, is, _, _) = (c ∷ n ∷ [], is)
 
-others_named : (d e : Element) (ws : List (List ℕ)) → eqb (mark (first_word d)) (mark (first_word e)) ≡ false → Names ws d → Names ws e → ⊥
+others_named : (d e : Element) (ws : List (List ℕ)) → eqb (mark (first_word d)) (mark (first_word e)) ≡ false
+    → Names ws d → Names ws e → ⊥
 others_named d e ws differ p q =
     let x = headed d ws p in
     let y = headed e ws q in
@@ -83,13 +87,17 @@ same_1 f a g b ws p q = let e : f ∷ a ∷ [] ≡ g ∷ b ∷ [] = sym p ∙ q 
 same_2 : (f a b g c d : List ℕ) (ws : List (List ℕ)) → ws ≡ f ∷ a ∷ b ∷ [] → ws ≡ g ∷ c ∷ d ∷ [] → (a ≡ c) × (b ≡ d)
 same_2 f a b g c d ws p q = let e : f ∷ a ∷ b ∷ [] ≡ g ∷ c ∷ d ∷ [] = sym p ∙ q in (cc, cc)
 
-same_3 : (f a b c g x y z : List ℕ) (ws : List (List ℕ)) → ws ≡ f ∷ a ∷ b ∷ c ∷ [] → ws ≡ g ∷ x ∷ y ∷ z ∷ [] → (a ≡ x) × (b ≡ y) × (c ≡ z)
+same_3 : (f a b c g x y z : List ℕ) (ws : List (List ℕ)) → ws ≡ f ∷ a ∷ b ∷ c ∷ [] → ws ≡ g ∷ x ∷ y ∷ z ∷ []
+    → (a ≡ x) × (b ≡ y) × (c ≡ z)
 same_3 f a b c g x y z ws p q = let e : f ∷ a ∷ b ∷ c ∷ [] ≡ g ∷ x ∷ y ∷ z ∷ [] = sym p ∙ q in (cc, cc, cc)
 
-same_4 : (f a b c d g w x y z : List ℕ) (ws : List (List ℕ)) → ws ≡ f ∷ a ∷ b ∷ c ∷ d ∷ [] → ws ≡ g ∷ w ∷ x ∷ y ∷ z ∷ [] → (a ≡ w) × (b ≡ x) × (c ≡ y) × (d ≡ z)
-same_4 f a b c d g w x y z ws p q = let e : f ∷ a ∷ b ∷ c ∷ d ∷ [] ≡ g ∷ w ∷ x ∷ y ∷ z ∷ [] = sym p ∙ q in (cc, cc, cc, cc)
+same_4 : (f a b c d g w x y z : List ℕ) (ws : List (List ℕ)) → ws ≡ f ∷ a ∷ b ∷ c ∷ d ∷ [] → ws ≡ g ∷ w ∷ x ∷ y ∷ z ∷ []
+    → (a ≡ w) × (b ≡ x) × (c ≡ y) × (d ≡ z)
+same_4 f a b c d g w x y z ws p q = let e : f ∷ a ∷ b ∷ c ∷ d ∷ [] ≡ g ∷ w ∷ x ∷ y ∷ z ∷ [] = sym p ∙ q in
+    (cc, cc, cc, cc)
 
-three_and_four : (f a b c g w x y z : List ℕ) (ws : List (List ℕ)) → ws ≡ f ∷ a ∷ b ∷ c ∷ [] → ws ≡ g ∷ w ∷ x ∷ y ∷ z ∷ [] → ⊥
+three_and_four : (f a b c g w x y z : List ℕ) (ws : List (List ℕ)) → ws ≡ f ∷ a ∷ b ∷ c ∷ []
+    → ws ≡ g ∷ w ∷ x ∷ y ∷ z ∷ [] → ⊥
 three_and_four f a b c g w x y z ws p q = let e : f ∷ a ∷ b ∷ c ∷ [] ≡ g ∷ w ∷ x ∷ y ∷ z ∷ [] = sym p ∙ q in cc
 
 -- ---- Words name one element.
@@ -134,14 +142,16 @@ one_spelling (Rt a b NoText) (Rt a' b' (Text h' t')) ws (x, y, is, p, q) (x', y'
     absurd (three_and_four _ x y (codes "empty") _ x' y' w' z' ws is is')
 one_spelling (Rt a b (Text h t)) (Rt a' b' NoText) ws (x, y, w, z, is, p, q, r, o, f) (x', y', is', p', q') =
     absurd (three_and_four _ x' y' (codes "empty") _ x y w z ws is' is)
-one_spelling (Rt a b (Text h t)) (Rt a' b' (Text h' t')) ws (x, y, w, z, is, p, q, r, o, f) (x', y', w', z', is', p', q', r', o', f') =
+one_spelling (Rt a b (Text h t)) (Rt a' b' (Text h' t')) ws (x, y, w, z, is, p, q, r, o, f)
+    (x', y', w', z', is', p', q', r', o', f') =
     let s = same_4 _ x y w z _ x' y' w' z' ws is is' in
     let u : a ≡ a' = byte_one x x' a a' s.0 p p' in
     let v : b ≡ b' = byte_one y y' b b' s.1 q q' in
     let g : h ≡ h' = byte_one w w' h h' s.2 r r' in
     let k : t ≡ t' = row_one z z' t t' s.3 o o' in
     cc
-one_spelling (Select a) (Select a') ws (x, is, p) (x', is', p') = let u : a ≡ a' = byte_one x x' a a' (same_1 _ x _ x' ws is is') p p' in cc
+one_spelling (Select a) (Select a') ws (x, is, p) (x', is', p') = let u : a ≡ a' =
+    byte_one x x' a a' (same_1 _ x _ x' ws is is') p p' in cc
 one_spelling (Group a b c d) (Group a' b' c' d') ws (x, y, w, z, is, p, q, r, o) (x', y', w', z', is', p', q', r', o') =
     let s = same_4 _ x y w z _ x' y' w' z' ws is is' in
     let u : a ≡ a' = byte_one x x' a a' s.0 p p' in
@@ -181,14 +191,17 @@ raw_is_no_name (Group kind mode block3 block4) = refl
 raw_is_no_name (Ack code counter) = refl
 
 frame_named : (e : Element) (ws others : List (List ℕ)) → ws ≡ codes "frame" ∷ others → Names ws e → ⊥
-frame_named e ws others is names = let h = headed e ws names in apart (codes "frame") (first_word e) others h.0 ws (frame_is_no_name e) is h.1
+frame_named e ws others is names = let h = headed e ws names in
+    apart (codes "frame") (first_word e) others h.0 ws (frame_is_no_name e) is h.1
 
 raw_named : (e : Element) (ws others : List (List ℕ)) → ws ≡ codes "raw" ∷ others → Names ws e → ⊥
-raw_named e ws others is names = let h = headed e ws names in apart (codes "raw") (first_word e) others h.0 ws (raw_is_no_name e) is h.1
+raw_named e ws others is names = let h = headed e ws names in
+    apart (codes "raw") (first_word e) others h.0 ws (raw_is_no_name e) is h.1
 
 begins_extends : (a c : ℕ) (bytes : List ℕ) (ws : List (List ℕ)) → Says ws (Begins a c) → Says ws (Extends bytes) → ⊥
 begins_extends a c bytes ws (x, y, is, p, q) (inl (e, names, spelled)) = frame_named e ws (x ∷ y ∷ []) is names
-begins_extends a c bytes ws (x, y, is, p, q) (inr (r, is', row)) = apart (codes "frame") (codes "raw") (x ∷ y ∷ []) (r ∷ []) ws refl is is'
+begins_extends a c bytes ws (x, y, is, p, q) (inr (r, is', row)) =
+    apart (codes "frame") (codes "raw") (x ∷ y ∷ []) (r ∷ []) ws refl is is'
 
 pub one_meaning : (ws : List (List ℕ)) (l m : Line) → Says ws l → Says ws m → l ≡ m
 one_meaning ws (Begins a c) (Begins a' c') (x, y, is, p, q) (x', y', is', p', q') =
@@ -198,7 +211,11 @@ one_meaning ws (Begins a c) (Begins a' c') (x, y, is, p, q) (x', y', is', p', q'
     cc
 one_meaning ws (Begins a c) (Extends bytes) p q = absurd (begins_extends a c bytes ws p q)
 one_meaning ws (Extends bytes) (Begins a c) p q = absurd (begins_extends a c bytes ws q p)
-one_meaning ws (Extends b) (Extends b') (inl (d, names, is)) (inl (e, names', is')) = ap Extends (is ∙ one_spelling d e ws names names' ∙ sym is')
-one_meaning ws (Extends b) (Extends b') (inl (e, names, is)) (inr (r, is', row)) = absurd (raw_named e ws (r ∷ []) is' names)
-one_meaning ws (Extends b) (Extends b') (inr (r, is, row)) (inl (e, names, is')) = absurd (raw_named e ws (r ∷ []) is names)
-one_meaning ws (Extends b) (Extends b') (inr (r, is, row)) (inr (r', is', row')) = ap Extends (row_one r r' b b' (same_1 _ r _ r' ws is is') row row')
+one_meaning ws (Extends b) (Extends b') (inl (d, names, is)) (inl (e, names', is')) =
+    ap Extends (is ∙ one_spelling d e ws names names' ∙ sym is')
+one_meaning ws (Extends b) (Extends b') (inl (e, names, is)) (inr (r, is', row)) =
+    absurd (raw_named e ws (r ∷ []) is' names)
+one_meaning ws (Extends b) (Extends b') (inr (r, is, row)) (inl (e, names, is')) =
+    absurd (raw_named e ws (r ∷ []) is names)
+one_meaning ws (Extends b) (Extends b') (inr (r, is, row)) (inr (r', is', row')) =
+    ap Extends (row_one r r' b b' (same_1 _ r _ r' ws is is') row row')

@@ -17,14 +17,17 @@ raw_is_no_name name.Select = λ h. search rules
 raw_is_no_name name.Group = λ h. search rules
 raw_is_no_name name.Ack = λ h. search rules
 
-nothing_raw_by : (ws : List (Bor (List ℕ))) (b : Bor (List ℕ)) → length ws ≡ 1 → ((bytes : List ℕ) → IsRow (get_or ws 0 b).now bytes → ⊥) → (line : Line) → Says (codes "raw" ∷ texts ws) line → ⊥
+nothing_raw_by : (ws : List (Bor (List ℕ))) (b : Bor (List ℕ)) → length ws ≡ 1
+    → ((bytes : List ℕ) → IsRow (get_or ws 0 b).now bytes → ⊥) → (line : Line) → Says (codes "raw" ∷ texts ws) line → ⊥
 nothing_raw_by ws b h none (Begins address counter) (a, c, is, _, _) = search rules
-nothing_raw_by ws b h none (Extends bytes) (inl (e, names, _)) = unknown_unnamed (codes "raw" ∷ texts ws) (codes "raw") (texts ws) refl raw_is_no_name e names
+nothing_raw_by ws b h none (Extends bytes) (inl (e, names, _)) =
+    unknown_unnamed (codes "raw" ∷ texts ws) (codes "raw") (texts ws) refl raw_is_no_name e names
 nothing_raw_by ws b h none (Extends bytes) (inr (r, is, row)) =
     let one = one_word ws b h in
     let same : (get_or ws 0 b).now ≡ r = cc in
     none bytes (subst (λ w. IsRow w bytes) (sym same) row)
 
 -- Where the one word after `raw` is no row, nothing is said.
-pub nothing_raw : (ws : List (Bor (List ℕ))) (b : Bor (List ℕ)) → length ws ≡ 1 → ((bytes : List ℕ) → IsRow (get_or ws 0 b).now bytes → ⊥) → SaysNothing (codes "raw" ∷ texts ws)
+pub nothing_raw : (ws : List (Bor (List ℕ))) (b : Bor (List ℕ)) → length ws ≡ 1
+    → ((bytes : List ℕ) → IsRow (get_or ws 0 b).now bytes → ⊥) → SaysNothing (codes "raw" ∷ texts ws)
 nothing_raw ws b h none = λ line says. nothing_raw_by ws b h none line says

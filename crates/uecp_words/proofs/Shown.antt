@@ -1,5 +1,7 @@
 -- What is shown of elements and frames, word by word.
-use Rattle.std.proofs.Common.{◌≡◌, ℕ, zero, suc, ◌/◌, ◌%◌, ◌<◌, ◌==◌, Bool, true, false, not, ◌&&◌, cond, List, [], ◌∷◌, ◌++◌, length, codes, filter, slice_index, Ok, refl, sym, ap, ◌∙◌, append_assoc, subst, inl, inr, arith, lit<, if◌then◌else◌}
+use Rattle.std.proofs.Common.{◌≡◌, ℕ, zero, suc, ◌/◌, ◌%◌, ◌<◌, ◌==◌, Bool, true, false, not, ◌&&◌, cond, List, [], ◌∷◌}
+use Rattle.std.proofs.Common.{◌++◌, length, codes, filter, slice_index, Ok, refl, sym, ap, ◌∙◌, append_assoc, subst}
+use Rattle.std.proofs.Common.{inl, inr, arith, lit<, if◌then◌else◌}
 use Rattle.std.specs.List.{All, slice_split}
 use Rattle.std.proofs.lemmas.Bool.{and_parts, ne_eqb}
 use Rattle.std.proofs.lemmas.List.Elements.{All-cons, All-nil}
@@ -7,7 +9,8 @@ use Rattle.std.proofs.lemmas.List.Splits.{slice_split_none, slice_split_at}
 use Rattle.hex.specs.Hex.{IsBytes, encode_upper, encode_with, upper_digits, decode_of, decode_sized}
 use Rattle.hex.proofs.HexLemmas.{decode_of-encode_upper, decode_sized-twice, length-encode_with}
 use Rattle.uecp_frame.specs.Frame.{high_first}
-use Rattle.uecp_elements.specs.Grammar.{NoText, Text, Element, Pi, Ps, TaTp, Ms, Pty, Rt, Select, Group, Ack, spelling, IsElement, AreBytes}
+use Rattle.uecp_elements.specs.Grammar.{NoText, Text, Element, Pi, Ps, TaTp, Ms, Pty, Rt, Select, Group, Ack, spelling}
+use Rattle.uecp_elements.specs.Grammar.{IsElement, AreBytes}
 use Rattle.uecp_text.specs.Words.{words, IsByte, IsNumber, IsRow}
 use Rattle.uecp_text.specs.Digits.{byte_word, number_word, row_word}
 use Rattle.uecp_lines.specs.Lines.{element_words}
@@ -51,7 +54,8 @@ unfolding words
 words_spaced w [] h hs = ap (filter is_some_word) (slice_split_none is_space w h.whole) ∙ keeps w [] h.some
 words_spaced w (v ∷ vs) h hs =
     ap (λ text. filter is_some_word (slice_split is_space text)) (spaced_front w v vs)
-    ∙ ap (filter is_some_word) (slice_split_at is_space w 32 (spaced v vs) h.whole refl) ∙ keeps w (slice_split is_space (spaced v vs)) h.some
+    ∙ ap (filter is_some_word) (slice_split_at is_space w 32 (spaced v vs) h.whole refl)
+    ∙ keeps w (slice_split is_space (spaced v vs)) h.some
     ∙ ap (λ ws. w ∷ ws) (words_spaced v vs hs.0 hs.1)
 
 -- ---- Which bytes are words.
@@ -80,8 +84,10 @@ pub all_digits : (xs : List ℕ) → All (λ b. is_space b ≡ false) (encode_up
 unfolding encode_with
 all_digits [] = All-nil (λ b. is_space b ≡ false)
 all_digits (x ∷ xs) =
-    All-cons (λ b. is_space b ≡ false) (slice_index upper_digits (x / 16)) (slice_index upper_digits (x % 16) ∷ encode_upper xs) (digit_at upper_digits (x / 16) refl)
-    (All-cons (λ b. is_space b ≡ false) (slice_index upper_digits (x % 16)) (encode_upper xs) (digit_at upper_digits (x % 16) refl) (all_digits xs))
+    All-cons (λ b. is_space b ≡ false) (slice_index upper_digits (x / 16))
+    (slice_index upper_digits (x % 16) ∷ encode_upper xs) (digit_at upper_digits (x / 16) refl)
+    (All-cons (λ b. is_space b ≡ false) (slice_index upper_digits (x % 16)) (encode_upper xs)
+    (digit_at upper_digits (x % 16) refl) (all_digits xs))
 
 pub digits_word : (xs : List ℕ) → 0 < length xs → IsWord (encode_upper xs)
 digits_word xs h = let two = length-encode_with upper_digits xs in record { some = omega arith; whole = all_digits xs }
@@ -129,7 +135,8 @@ row_is_word (x ∷ xs) = subst IsWord (sym (row_of_some (x ∷ xs) (omega arith)
 
 pub row_spelled : (xs : List ℕ) → AreBytes xs → IsRow (row_digits xs) xs
 row_spelled [] h = inl (refl, refl)
-row_spelled (x ∷ xs) h = inr (ap decode_of (row_of_some (x ∷ xs) (omega arith)) ∙ decode_of-encode_upper (x ∷ xs) (are_bytes (x ∷ xs) h))
+row_spelled (x ∷ xs) h = inr (ap decode_of (row_of_some (x ∷ xs) (omega arith))
+    ∙ decode_of-encode_upper (x ∷ xs) (are_bytes (x ∷ xs) h))
 
 name_spelled : (name : List ℕ) → length name ≡ 8 → AreBytes name → decode_sized (row_digits name) 8 ≡ Ok name
 name_spelled name eight h = ap (λ w. decode_sized w 8) (row_of_some name (omega arith)) ∙ digits_sized name 8 eight h
@@ -145,7 +152,8 @@ named_as_shown (Pi dsn psn pi) is h = (
   byte_digits dsn,
   byte_digits psn,
   number_digits pi,
-  words_spaced (codes "pi") (byte_digits dsn ∷ byte_digits psn ∷ number_digits pi ∷ []) (plain (codes "pi") (lit< tt) refl) (byte_is_word dsn, (byte_is_word psn, (number_is_word pi, tt))),
+  words_spaced (codes "pi") (byte_digits dsn ∷ byte_digits psn ∷ number_digits pi ∷ [])
+      (plain (codes "pi") (lit< tt) refl) (byte_is_word dsn, (byte_is_word psn, (number_is_word pi, tt))),
   byte_spelled dsn h.1.0,
   byte_spelled psn h.1.1.0,
   number_spelled pi h.1.1.1,
@@ -154,7 +162,8 @@ named_as_shown (Ps dsn psn name) is h = (
   byte_digits dsn,
   byte_digits psn,
   row_digits name,
-  words_spaced (codes "ps") (byte_digits dsn ∷ byte_digits psn ∷ row_digits name ∷ []) (plain (codes "ps") (lit< tt) refl) (byte_is_word dsn, (byte_is_word psn, (row_is_word name, tt))),
+  words_spaced (codes "ps") (byte_digits dsn ∷ byte_digits psn ∷ row_digits name ∷ [])
+      (plain (codes "ps") (lit< tt) refl) (byte_is_word dsn, (byte_is_word psn, (row_is_word name, tt))),
   byte_spelled dsn h.1.0,
   byte_spelled psn h.1.1.0,
   name_spelled name is h.1.1.1,
@@ -163,7 +172,8 @@ named_as_shown (TaTp dsn psn raw) is h = (
   byte_digits dsn,
   byte_digits psn,
   byte_digits raw,
-  words_spaced (codes "tatp") (byte_digits dsn ∷ byte_digits psn ∷ byte_digits raw ∷ []) (plain (codes "tatp") (lit< tt) refl) (byte_is_word dsn, (byte_is_word psn, (byte_is_word raw, tt))),
+  words_spaced (codes "tatp") (byte_digits dsn ∷ byte_digits psn ∷ byte_digits raw ∷ [])
+      (plain (codes "tatp") (lit< tt) refl) (byte_is_word dsn, (byte_is_word psn, (byte_is_word raw, tt))),
   byte_spelled dsn h.1.0,
   byte_spelled psn h.1.1.0,
   byte_spelled raw h.1.1.1.0,
@@ -172,7 +182,8 @@ named_as_shown (Ms dsn psn raw) is h = (
   byte_digits dsn,
   byte_digits psn,
   byte_digits raw,
-  words_spaced (codes "ms") (byte_digits dsn ∷ byte_digits psn ∷ byte_digits raw ∷ []) (plain (codes "ms") (lit< tt) refl) (byte_is_word dsn, (byte_is_word psn, (byte_is_word raw, tt))),
+  words_spaced (codes "ms") (byte_digits dsn ∷ byte_digits psn ∷ byte_digits raw ∷ [])
+      (plain (codes "ms") (lit< tt) refl) (byte_is_word dsn, (byte_is_word psn, (byte_is_word raw, tt))),
   byte_spelled dsn h.1.0,
   byte_spelled psn h.1.1.0,
   byte_spelled raw h.1.1.1.0,
@@ -181,7 +192,8 @@ named_as_shown (Pty dsn psn raw) is h = (
   byte_digits dsn,
   byte_digits psn,
   byte_digits raw,
-  words_spaced (codes "pty") (byte_digits dsn ∷ byte_digits psn ∷ byte_digits raw ∷ []) (plain (codes "pty") (lit< tt) refl) (byte_is_word dsn, (byte_is_word psn, (byte_is_word raw, tt))),
+  words_spaced (codes "pty") (byte_digits dsn ∷ byte_digits psn ∷ byte_digits raw ∷ [])
+      (plain (codes "pty") (lit< tt) refl) (byte_is_word dsn, (byte_is_word psn, (byte_is_word raw, tt))),
   byte_spelled dsn h.1.0,
   byte_spelled psn h.1.1.0,
   byte_spelled raw h.1.1.1.0,
@@ -189,7 +201,8 @@ named_as_shown (Pty dsn psn raw) is h = (
 named_as_shown (Rt dsn psn NoText) is h = (
   byte_digits dsn,
   byte_digits psn,
-  words_spaced (codes "rt") (byte_digits dsn ∷ byte_digits psn ∷ codes "empty" ∷ []) (plain (codes "rt") (lit< tt) refl) (byte_is_word dsn, (byte_is_word psn, (plain (codes "empty") (lit< tt) refl, tt))),
+  words_spaced (codes "rt") (byte_digits dsn ∷ byte_digits psn ∷ codes "empty" ∷ []) (plain (codes "rt") (lit< tt) refl)
+      (byte_is_word dsn, (byte_is_word psn, (plain (codes "empty") (lit< tt) refl, tt))),
   byte_spelled dsn h.1.0,
   byte_spelled psn h.1.1.0,
 )
@@ -198,8 +211,10 @@ named_as_shown (Rt dsn psn (Text head text)) is h = (
   byte_digits psn,
   byte_digits head,
   row_digits text,
-  ap words (sym (append_assoc (spaced (codes "rt") (byte_digits dsn ∷ byte_digits psn ∷ [])) (32 ∷ byte_digits head) (32 ∷ row_digits text)))
-      ∙ words_spaced (codes "rt") (byte_digits dsn ∷ byte_digits psn ∷ byte_digits head ∷ row_digits text ∷ []) (plain (codes "rt") (lit< tt) refl)
+  ap words (sym (append_assoc (spaced (codes "rt") (byte_digits dsn ∷ byte_digits psn ∷ [])) (32 ∷ byte_digits head)
+      (32 ∷ row_digits text)))
+      ∙ words_spaced (codes "rt") (byte_digits dsn ∷ byte_digits psn ∷ byte_digits head ∷ row_digits text ∷ [])
+      (plain (codes "rt") (lit< tt) refl)
       (byte_is_word dsn, (byte_is_word psn, (byte_is_word head, (row_is_word text, tt)))),
   byte_spelled dsn h.1.0,
   byte_spelled psn h.1.1.0,
@@ -207,14 +222,19 @@ named_as_shown (Rt dsn psn (Text head text)) is h = (
   row_spelled text h.1.1.1.1.1,
   is,
 )
-named_as_shown (Select dsn) is h =
-    (byte_digits dsn, words_spaced (codes "select") (byte_digits dsn ∷ []) (plain (codes "select") (lit< tt) refl) (byte_is_word dsn, tt), byte_spelled dsn h.1.0)
+named_as_shown (Select dsn) is h = (
+  byte_digits dsn,
+  words_spaced (codes "select") (byte_digits dsn ∷ []) (plain (codes "select") (lit< tt) refl)
+      (byte_is_word dsn, tt),
+  byte_spelled dsn h.1.0,
+)
 named_as_shown (Group kind mode block3 block4) is h = (
   byte_digits kind,
   byte_digits mode,
   number_digits block3,
   number_digits block4,
-  words_spaced (codes "group") (byte_digits kind ∷ byte_digits mode ∷ number_digits block3 ∷ number_digits block4 ∷ []) (plain (codes "group") (lit< tt) refl)
+  words_spaced (codes "group") (byte_digits kind ∷ byte_digits mode ∷ number_digits block3 ∷ number_digits block4 ∷ [])
+      (plain (codes "group") (lit< tt) refl)
       (byte_is_word kind, (byte_is_word mode, (number_is_word block3, (number_is_word block4, tt)))),
   byte_spelled kind h.1.0,
   byte_spelled mode h.1.1.0,
@@ -224,19 +244,22 @@ named_as_shown (Group kind mode block3 block4) is h = (
 named_as_shown (Ack code counter) is h = (
   byte_digits code,
   byte_digits counter,
-  words_spaced (codes "ack") (byte_digits code ∷ byte_digits counter ∷ []) (plain (codes "ack") (lit< tt) refl) (byte_is_word code, (byte_is_word counter, tt)),
+  words_spaced (codes "ack") (byte_digits code ∷ byte_digits counter ∷ []) (plain (codes "ack") (lit< tt) refl)
+      (byte_is_word code, (byte_is_word counter, tt)),
   byte_spelled code h.1.0,
   byte_spelled counter h.1.1.0,
 )
 
 -- ---- The first line of a frame.
 
-pub begun_as_shown : (address counter : ℕ) → address < 0x10000 → counter < 0x100 → Says (words (codes "frame" ++ number_word address ++ byte_word counter)) (Begins address counter)
+pub begun_as_shown : (address counter : ℕ) → address < 0x10000 → counter < 0x100
+    → Says (words (codes "frame" ++ number_word address ++ byte_word counter)) (Begins address counter)
 unfolding byte_word number_word
 begun_as_shown address counter high low = (
   number_digits address,
   byte_digits counter,
-  words_spaced (codes "frame") (number_digits address ∷ byte_digits counter ∷ []) (plain (codes "frame") (lit< tt) refl) (number_is_word address, (byte_is_word counter, tt)),
+  words_spaced (codes "frame") (number_digits address ∷ byte_digits counter ∷ []) (plain (codes "frame") (lit< tt) refl)
+      (number_is_word address, (byte_is_word counter, tt)),
   number_spelled address (omega arith, (omega arith, tt)),
   byte_spelled counter low,
 )

@@ -2,7 +2,8 @@
 use Rattle.std.specs.Prelude.{◌≡◌, ℕ, ◌≤◌, ◌<◌, Bool, true, List, [], ◌∷◌, length, drop, map, codes, Some, Ok, is_some}
 use Rattle.std.specs.List.{list_all}
 use Rattle.hex.specs.Hex.{decode_of}
-use Rattle.uecp_link.specs.Once.{Event, Submit, FrameComes, ReplyComes, NoiseToEncoder, NoiseToServer, EncoderLost, ServerLost, Take}
+use Rattle.uecp_link.specs.Once.{Event, Submit, FrameComes, ReplyComes, NoiseToEncoder, NoiseToServer, EncoderLost}
+use Rattle.uecp_link.specs.Once.{ServerLost, Take}
 use Rattle.uecp_link.specs.Events.{lost_of}
 use Rattle.uecp_link.specs.declared.event.Side.{Side}
 use Rattle.uecp_link.specs.declared.event.Side.TheVariants as side
@@ -42,7 +43,8 @@ AreCuts words cut = map (decimal_in 65535) words ≡ map Some cut
 
 -- The words are the number of a message and any cuts.
 abbrev pub TellsMessage : List (List ℕ) → (number : ℕ) → Type 0
-TellsMessage words number = (word : List ℕ) × (cuts : List (List ℕ)) × (words ≡ word ∷ cuts) × IsMessageNumber word number × (list_all is_cut cuts ≡ true)
+TellsMessage words number = (word : List ℕ) × (cuts : List (List ℕ)) × (words ≡ word ∷ cuts)
+    × IsMessageNumber word number × (list_all is_cut cuts ≡ true)
 
 -- The only word is a row of bytes.
 abbrev pub TellsRow : List (List ℕ) → List ℕ → Type 0
@@ -90,7 +92,8 @@ TakesMemory Take others = ⊥
 
 -- Memory may be wanting for the words: the first is the name of an event, and the others hold what takes some.
 abbrev pub MayWantMemory : List (List ℕ) → Type 0
-MayWantMemory words = (event : Event) × (others : List (List ℕ)) × (words ≡ name_of event ∷ others) × TakesMemory event others
+MayWantMemory words = (event : Event) × (others : List (List ℕ)) × (words ≡ name_of event ∷ others)
+    × TakesMemory event others
 
 -- What is wrong with the words: they name nothing; or they submit more than 255 bytes. Or memory was wanting for what
 -- they hold.

@@ -14,7 +14,8 @@ IsNamedAsShown = (e : Element) → IsElement e → AreBytes (spelling e) → Nam
 
 -- Law: what is shown of a frame's address and counter begins that frame.
 abbrev pub IsBegunAsShown : Type 0
-IsBegunAsShown = (address counter : ℕ) → address < 0x10000 → counter < 0x100 → Says (words (codes "frame" ++ number_word address ++ byte_word counter)) (Begins address counter)
+IsBegunAsShown = (address counter : ℕ) → address < 0x10000 → counter < 0x100
+    → Says (words (codes "frame" ++ number_word address ++ byte_word counter)) (Begins address counter)
 
 -- Law: words say one thing at most.
 abbrev pub IsOneMeaning : Type 0
@@ -22,10 +23,13 @@ IsOneMeaning = (words : List (List ℕ)) (l m : Line) → Says words l → Says 
 
 -- Law: the line of an element says what is shown of it, whatever comes behind that line.
 abbrev pub IsLineOfElement : Type 0
-IsLineOfElement = (e : Element) (number : ℕ) (rest : List ℕ) → numbered number (lines_of (element_words e ++ codes "\n" ++ rest)) ≡ (number, element_words e) ∷ numbered (number + 1) (lines_of rest)
+IsLineOfElement = (e : Element) (number : ℕ) (rest : List ℕ)
+    → numbered number (lines_of (element_words e ++ codes "\n" ++ rest)) ≡ (number, element_words e)
+    ∷ numbered (number + 1) (lines_of rest)
 
 -- Law: the first line of a frame says what is shown of its address and counter, whatever comes behind that line.
 abbrev pub IsLineOfFrame : Type 0
 IsLineOfFrame =
     (address counter number : ℕ) (rest : List ℕ) →
-    numbered number (lines_of (codes "frame" ++ number_word address ++ byte_word counter ++ codes "\n" ++ rest)) ≡ (number, codes "frame" ++ number_word address ++ byte_word counter) ∷ numbered (number + 1) (lines_of rest)
+    numbered number (lines_of (codes "frame" ++ number_word address ++ byte_word counter ++ codes "\n" ++ rest))
+    ≡ (number, codes "frame" ++ number_word address ++ byte_word counter) ∷ numbered (number + 1) (lines_of rest)

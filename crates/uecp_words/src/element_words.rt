@@ -56,7 +56,11 @@ fn of_ps(words: &[&[u8]]) -> Option<Message>
     let [dsn, psn, name] = words else {
         return None;
     };
-    let (dsn, psn, name) = (byte_of(dsn)?, byte_of(psn)?, digits_of::<NAME_LENGTH>(name)?);
+    let (dsn, psn, name) = (
+        byte_of(dsn)?,
+        byte_of(psn)?,
+        digits_of::<NAME_LENGTH>(name)?,
+    );
     Some(spelled(&Element::Ps {
         dsn,
         psn,

@@ -4,7 +4,8 @@ ghost use Rattle.std.specs.List.{list_all};
 ghost use Rattle.uecp_link.specs.declared.event.Side.{Side as End};
 ghost use Rattle.uecp_text.specs.declared.text_fault.TextFault.TheVariants.{NotACommand, OutOfMemory};
 ghost use Rattle.uecp_text.specs.Words.{texts};
-ghost use Rattle.uecp_words.specs.EventWords.{Names, IsCutAs, IsFaultOf, IsMessageNumber, AreCuts, is_cut, TellsMessage, end_word, noise_to, name_of, event_seen};
+ghost use Rattle.uecp_words.specs.EventWords.{Names, IsCutAs, IsFaultOf, IsMessageNumber, AreCuts, is_cut};
+ghost use Rattle.uecp_words.specs.EventWords.{TellsMessage, end_word, noise_to, name_of, event_seen};
 
 use crate::messages::message_of;
 use std::alloc::Global;
@@ -111,7 +112,8 @@ fn reply_of(alloc: Global, words: &[&[u8]]) -> Result<EventLine, TextFault>
 fn number_and_cut(alloc: Global, words: &[&[u8]]) -> Result<(usize, Vec<u16>), TextFault>
     ensures told { IfOk result (λ told. TellsMessage (texts words.now) told.0) }
     ensures pieces { IfOk result (λ told. AreCuts (drop 1 (texts words.now)) told.1.items) }
-    ensures refused { IfErr result (λ e. ((e ≡ OutOfMemory) × (1 < length words.now)) ⊎ ((e ≡ NotACommand) × ((number : ℕ) → TellsMessage (texts words.now) number → ⊥))) }
+    ensures refused { IfErr result (λ e. ((e ≡ OutOfMemory) × (1 < length words.now))
+        ⊎ ((e ≡ NotACommand) × ((number : ℕ) → TellsMessage (texts words.now) number → ⊥))) }
 {
     match words {
         [number, cut @ ..] => Ok((message_number_of(number)?, cut_of(alloc, cut)?)),
@@ -187,7 +189,8 @@ fn message_number_of(word: &[u8]) -> Result<usize, TextFault>
 fn cut_of(alloc: Global, words: &[&[u8]]) -> Result<Vec<u16>, TextFault>
     ensures cuts { IfOk result (λ cut. list_all is_cut (texts words.now) ≡ true) }
     ensures pieces { IfOk result (λ cut. AreCuts (texts words.now) cut.items) }
-    ensures refused { IfErr result (λ e. ((e ≡ OutOfMemory) × (0 < length words.now)) ⊎ ((e ≡ NotACommand) × (list_all is_cut (texts words.now) ≡ false))) }
+    ensures refused { IfErr result (λ e. ((e ≡ OutOfMemory) × (0 < length words.now))
+        ⊎ ((e ≡ NotACommand) × (list_all is_cut (texts words.now) ≡ false))) }
 {
     let mut cut = Vec::new(alloc);
     for word in words {

@@ -66,7 +66,8 @@ fn frame_line(words: &[&[u8]]) -> Option<ScriptLine>
 /// Reads the word after `raw`.
 fn raw_line(alloc: Global, words: &[&[u8]]) -> Result<ScriptLine, TextFault>
     ensures said { IfOk result (λ line. Says (codes "raw" ∷ texts words.now) (line_of line)) }
-    ensures refused { IfErr result (λ e. (e ≡ OutOfMemory) ⊎ ((e ≡ NotACommand) × SaysNothing (codes "raw" ∷ texts words.now))) }
+    ensures refused { IfErr result (λ e. (e ≡ OutOfMemory)
+        ⊎ ((e ≡ NotACommand) × SaysNothing (codes "raw" ∷ texts words.now))) }
 {
     let [digits] = words else {
         return Err(TextFault::NotACommand);

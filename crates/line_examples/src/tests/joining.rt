@@ -23,7 +23,13 @@ struct BytesTarget {
 }
 
 impl Target for BytesTarget {
-    ghost step = { λ v m. ((if length m == 0 then v else record { messages = (v.messages + 1) % 2 ^ 64; bytes = (v.bytes + length m) % 2 ^ 64 }), Applied) };
+    ghost step = { λ v m. (
+      (if length m == 0 then v else record {
+        messages = (v.messages + 1) % 2 ^ 64;
+        bytes = (v.bytes + length m) % 2 ^ 64;
+      }),
+      Applied,
+    ) };
 
     ghost taken = { λ v. (v, None) };
 

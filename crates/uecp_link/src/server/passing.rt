@@ -46,7 +46,8 @@ impl Server {
         ensures fits { result.0 ≤ length piece.now }
         ensures moves { 0 < length piece.now → 0 < result.0 }
         ensures state { self.new ≡ heard self.old (take result.0 piece.now) }
-        ensures counter { reply_counters self.old.address self.old.part (take result.0 piece.now) ≡ option_to_list result.1 }
+        ensures counter { reply_counters self.old.address self.old.part (take result.0 piece.now)
+            ≡ option_to_list result.1 }
     {
         let fed = self.deframer.feed_ref(piece);
         let used = fed.used;

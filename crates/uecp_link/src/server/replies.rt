@@ -31,7 +31,13 @@ pub(crate) fn acknowledging(
     held: &[HeldMessage],
     frame: &FrameRef<'_>,
 ) -> Option<(u8, Code)>
-    ensures { result ≡ acknowledges (record { address = address; last = 0; held = held_in held.now; counts = nothing_counted; part = Closed }) (frame_lent frame.now) }
+    ensures { result ≡ acknowledges (record {
+      address = address;
+      last = 0;
+      held = held_in held.now;
+      counts = nothing_counted;
+      part = Closed;
+    }) (frame_lent frame.now) }
 {
     let reply = reply_from(address, frame)?;
     if is_waiting(held, reply.0) {

@@ -1,7 +1,8 @@
 //! A sender's connections: the one that it has, a new one, and the batch over one of them. Source: profile.
 ghost use Rattle.std.specs.Prelude.{◌≡◌, ◌≢◌, ◌+◌, ◌≤◌, [], length, Some, None, IfOk, IfErr, IfSome, IfNone};
 ghost use Rattle.uecp_link.specs.Server.{waiting};
-ghost use Rattle.uecp_net.specs.Sending.{SenderOver, Goes, GoesOn, Opens, OpensNone, Tried, Follows, HangsUp, without_ends};
+ghost use Rattle.uecp_net.specs.Sending.{SenderOver, Goes, GoesOn, Opens, OpensNone, Tried, Follows, HangsUp};
+ghost use Rattle.uecp_net.specs.Sending.{without_ends};
 
 use super::{Limits, Sender, TwoEnds};
 use crate::connect::Connect;
@@ -20,8 +21,10 @@ impl<'a, C: Connect> Sender<'a, C> {
     ) -> Option<Result<u32, DriveFault>>
         requires busy { self.old.sender.server.held ≢ [] }
         requires room { length marks.old.items + length (waiting self.old.sender.server) ≤ 8 }
-        ensures goes { Goes C.opens C.Input.remaining C.Output.contents self.old self.new marks.old.items marks.new.items result }
-        ensures idle { IfSome result (λ went. IfOk went (λ tries. (self.new.sender.server.held ≡ []) × (1 ≤ tries) × (tries ≤ self.old.sender.tries))) }
+        ensures goes { Goes C.opens C.Input.remaining C.Output.contents self.old self.new marks.old.items
+            marks.new.items result }
+        ensures idle { IfSome result (λ went. IfOk went (λ tries. (self.new.sender.server.held ≡ []) × (1 ≤ tries)
+            × (tries ≤ self.old.sender.tries))) }
         ensures outstanding { IfSome result (λ went. IfErr went (λ _. self.new.sender.server.held ≢ [])) }
         ensures follows { Follows self.old.sender.server self.new.sender.server marks.old.items marks.new.items }
         ensures stays { record self.new.sender { server = self.old.sender.server } ≡ self.old.sender }
@@ -50,7 +53,8 @@ impl<'a, C: Connect> Sender<'a, C> {
 
     /// The connection that there is, or a new one, or None where there is none to be had.
     pub(super) fn ready(&mut self) -> Option<TwoEnds<C::Input, C::Output>>
-        ensures goes_on { IfSome result (λ ends. (start : SenderOver C C.Input C.Output) × GoesOn C.opens self.old start × (start.ends ≡ Some ends) × (self.new ≡ without_ends start)) }
+        ensures goes_on { IfSome result (λ ends. (start : SenderOver C C.Input C.Output) × GoesOn C.opens self.old start
+            × (start.ends ≡ Some ends) × (self.new ≡ without_ends start)) }
         ensures none { IfNone result (OpensNone C.opens self.old self.new) }
     {
         match self.ends.take() {
@@ -62,7 +66,8 @@ impl<'a, C: Connect> Sender<'a, C> {
     /// A new connection, or None where there is none to be had. What the one before left open is forgotten.
     pub(super) fn connected(&mut self) -> Option<TwoEnds<C::Input, C::Output>>
         requires { self.old.ends ≡ None }
-        ensures opens { IfSome result (λ ends. (start : SenderOver C C.Input C.Output) × Opens C.opens self.old start × (start.ends ≡ Some ends) × (self.new ≡ without_ends start)) }
+        ensures opens { IfSome result (λ ends. (start : SenderOver C C.Input C.Output) × Opens C.opens self.old start
+            × (start.ends ≡ Some ends) × (self.new ≡ without_ends start)) }
         ensures none { IfNone result (OpensNone C.opens self.old self.new) }
     {
         let (input, output) = self.connect.open()?;

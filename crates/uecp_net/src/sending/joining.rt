@@ -21,9 +21,11 @@ impl<'a, C: Connect> Sender<'a, C> {
         requires idle { self.old.sender.server.held ≡ [] }
         // What each connection did, and nothing else: a pass on each, and none where one was complete.
         ensures joins { (first : SenderOver C C.Input C.Output) × (ended : ℕ) × HangsUp C.closes self.old first
-            × JoinsOver C.opens C.closes C.Input.remaining C.Output.contents ended ConnectionFailed first self.new result }
+            × JoinsOver C.opens C.closes C.Input.remaining C.Output.contents ended ConnectionFailed first self.new
+            result }
         ensures idle { self.new.sender.server.held ≡ [] }
-        ensures stays { record self.new.sender { server = self.old.sender.server; left = self.old.sender.left } ≡ self.old.sender }
+        ensures stays { record self.new.sender { server = self.old.sender.server; left = self.old.sender.left }
+            ≡ self.old.sender }
         ensures loan { self.new.loan ≡ self.old.loan }
     {
         self.hang_up();

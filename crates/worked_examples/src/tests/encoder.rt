@@ -44,7 +44,10 @@ struct CountTarget {
 }
 
 impl Target for CountTarget {
-    ghost step = { λ v m. (record { messages = (v.messages + 1) % 2 ^ 64; bytes = (v.bytes + length m) % 2 ^ 64 }, Applied) };
+    ghost step = { λ v m. (
+      record { messages = (v.messages + 1) % 2 ^ 64; bytes = (v.bytes + length m) % 2 ^ 64 },
+      Applied,
+    ) };
 
     ghost taken = { λ v. (v, None) };
 

@@ -13,6 +13,7 @@ invariant-loop-service l =
     let change = taken (element_of l.element) in
     record {
       set : l.set ≡ l.service-index + 1;
-      sets : take l.service-index l.sets ++ changed_sets l.set test change (drop l.service-index l.sets) ≡ changed_sets 1 test change l.initial.sets;
+      sets : take l.service-index l.sets ++ changed_sets l.set test change (drop l.service-index l.sets)
+          ≡ changed_sets 1 test change l.initial.sets;
       room : IsTrue (adds_text (element_of l.element)) → any_set_full l.set test (drop l.service-index l.sets) ≡ false;
     }

@@ -10,9 +10,12 @@ pub returns-in-Some-clause-services : goal.returns-in-Some-clause-services
 returns-in-Some-clause-services c =
     (c.get_mut.follows.holds c.change.new.self).0
     ∙ ap (set_value (eqb c.args.number) c.args.services.now.entries) c.change.ensures
-    ∙ written_service (names_set c.args.named.dsn c.args.named.current) c.args.number (taken (element_of c.args.element.now)) c.args.services.now.entries c.in-Some.service.now c.in-Some.ensures.value
+    ∙ written_service (names_set c.args.named.dsn c.args.named.current) c.args.number
+    (taken (element_of c.args.element.now)) c.args.services.now.entries c.in-Some.service.now
+    c.in-Some.ensures.value
 
 pub returns-in-None-clause-services : goal.returns-in-None-clause-services
 returns-in-None-clause-services c =
     ap (λ m. m.entries) c.get_mut.follows.holds-at-none
-    ∙ sym (no_service (names_set c.args.named.dsn c.args.named.current) c.args.number (taken (element_of c.args.element.now)) c.args.services.now.entries c.in-None.ensures.value)
+    ∙ sym (no_service (names_set c.args.named.dsn c.args.named.current) c.args.number
+    (taken (element_of c.args.element.now)) c.args.services.now.entries c.in-None.ensures.value)

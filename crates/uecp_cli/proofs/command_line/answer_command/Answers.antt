@@ -5,5 +5,6 @@ use Rattle.uecp_cli.proofs.command_line.answer_command.Goals as goal
 pub returns : goal.returns
 returns c =
     let is_new : shape_of c.after_help.result ≡ new_shape (codes "answer") =
-    ap shape_of_fields c.after_help.ensures ∙ ap shape_of_fields c.about.ensures ∙ ap (λ (a : App). a.top) c.new.ensures.app in
+    ap shape_of_fields c.after_help.ensures ∙ ap shape_of_fields c.about.ensures
+    ∙ ap (λ (a : App). a.top) c.new.ensures.app in
     c.with_store.ensures (codes "answer") is_new

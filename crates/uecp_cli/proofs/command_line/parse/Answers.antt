@@ -4,7 +4,8 @@ use Rattle.std.proofs.lemmas.Result.{IfOk-weaker, IfErr-weaker}
 use Rattle.clap.specs.Words.{found_of, rows_of}
 use Rattle.uecp_jobs.specs.declared.job.Job.TheVariants.{Make, Show}
 use Rattle.uecp_cli.specs.CommandLine.{IsJobOf, RefusesWords}
-use Rattle.uecp_cli.proofs.Asked.{asks, no_other, faultless_of, faulty_of, gives_no_list, is_in_range, met_of, none_named, refuses_words}
+use Rattle.uecp_cli.proofs.Asked.{asks, no_other, faultless_of, faulty_of, gives_no_list, is_in_range, met_of}
+use Rattle.uecp_cli.proofs.Asked.{none_named, refuses_words}
 use Rattle.uecp_cli.proofs.command_line.parse.Goals as goal
 
 pub returns-in_err-matches-clause-refused : goal.returns-in_err-matches-clause-refused
@@ -12,7 +13,8 @@ returns-in_err-matches-clause-refused c =
     let words = map string_bytes c.args.words.now in
     let error = c.in_err-matches.field-0.0 in
     refuses_words words error c.from_residual-in_err-matches.result
-    (faulty_of _ words error c.in_ok-program.ensures c.in_err-matches.ensures.kinds) c.from_residual-in_err-matches.ensures.1
+    (faulty_of _ words error c.in_ok-program.ensures c.in_err-matches.ensures.kinds)
+    c.from_residual-in_err-matches.ensures.1
 
 pub returns-in-Some-answer-default-clause-range : goal.returns-in-Some-answer-default-clause-range
 returns-in-Some-answer-default-clause-range c =
@@ -30,7 +32,8 @@ returns-in-Some-answer-default-clause-asked c =
     let met = met_of _ words c.in_ok-matches.matches c.in_ok-program.ensures c.in_ok-matches.ensures.matches in
     let none = faultless_of _ words c.in_ok-program.ensures c.in_ok-matches.ensures.kinds in
     IfOk-weaker c.answer_of.result _ _
-    (λ job is. asks words c.in_ok-matches.matches now.field-0-0.now rows job now.ensures.name now.ensures.rows met none (subst (λ name. IsJobOf name rows job) (sym now.is-answer) is))
+    (λ job is. asks words c.in_ok-matches.matches now.field-0-0.now rows job now.ensures.name now.ensures.rows met none
+    (subst (λ name. IsJobOf name rows job) (sym now.is-answer) is))
     c.answer_of.ensures.job
 
 pub returns-in-Some-answer-default-clause-refused : goal.returns-in-Some-answer-default-clause-refused
@@ -40,7 +43,8 @@ returns-in-Some-answer-default-clause-refused c =
     let rows = rows_of (found_of now.found.now) in
     let met = met_of _ words c.in_ok-matches.matches c.in_ok-program.ensures c.in_ok-matches.ensures.matches in
     IfErr-weaker c.answer_of.result _ _
-    (λ why no. gives_no_list words c.in_ok-matches.matches now.field-0-0.now rows why now.ensures.name now.ensures.rows met (inl now.is-answer) no)
+    (λ why no. gives_no_list words c.in_ok-matches.matches now.field-0-0.now rows why now.ensures.name now.ensures.rows
+    met (inl now.is-answer) no)
     c.answer_of.ensures.refused
 
 pub returns-in-Some-line-default-clause-asked : goal.returns-in-Some-line-default-clause-asked
@@ -51,7 +55,8 @@ returns-in-Some-line-default-clause-asked c =
     let met = met_of _ words c.in_ok-matches.matches c.in_ok-program.ensures c.in_ok-matches.ensures.matches in
     let none = faultless_of _ words c.in_ok-program.ensures c.in_ok-matches.ensures.kinds in
     IfOk-weaker c.line_of.result _ _
-    (λ job is. asks words c.in_ok-matches.matches now.field-0-0.now rows job now.ensures.name now.ensures.rows met none (subst (λ name. IsJobOf name rows job) (sym now.is-line) is))
+    (λ job is. asks words c.in_ok-matches.matches now.field-0-0.now rows job now.ensures.name now.ensures.rows met none
+    (subst (λ name. IsJobOf name rows job) (sym now.is-line) is))
     c.line_of.ensures.job
 
 pub returns-in-Some-line-default-clause-refused : goal.returns-in-Some-line-default-clause-refused
@@ -61,7 +66,8 @@ returns-in-Some-line-default-clause-refused c =
     let rows = rows_of (found_of now.found.now) in
     let met = met_of _ words c.in_ok-matches.matches c.in_ok-program.ensures c.in_ok-matches.ensures.matches in
     IfErr-weaker c.line_of.result _ _
-    (λ why no. gives_no_list words c.in_ok-matches.matches now.field-0-0.now rows why now.ensures.name now.ensures.rows met (inr (inl now.is-line)) no)
+    (λ why no. gives_no_list words c.in_ok-matches.matches now.field-0-0.now rows why now.ensures.name now.ensures.rows
+    met (inr (inl now.is-line)) no)
     c.line_of.ensures.refused
 
 pub returns-in-Some-encoder-default-clause-range : goal.returns-in-Some-encoder-default-clause-range
@@ -76,7 +82,8 @@ returns-in-Some-encoder-default-clause-asked c =
     let met = met_of _ words c.in_ok-matches.matches c.in_ok-program.ensures c.in_ok-matches.ensures.matches in
     let none = faultless_of _ words c.in_ok-program.ensures c.in_ok-matches.ensures.kinds in
     IfOk-weaker c.encoder_of.result _ _
-    (λ job is. asks words c.in_ok-matches.matches now.field-0-0.now rows job now.ensures.name now.ensures.rows met none (subst (λ name. IsJobOf name rows job) (sym now.is-encoder) is))
+    (λ job is. asks words c.in_ok-matches.matches now.field-0-0.now rows job now.ensures.name now.ensures.rows met none
+    (subst (λ name. IsJobOf name rows job) (sym now.is-encoder) is))
     c.encoder_of.ensures.job
 
 pub returns-in-Some-encoder-default-clause-refused : goal.returns-in-Some-encoder-default-clause-refused
@@ -86,7 +93,8 @@ returns-in-Some-encoder-default-clause-refused c =
     let rows = rows_of (found_of now.found.now) in
     let met = met_of _ words c.in_ok-matches.matches c.in_ok-program.ensures c.in_ok-matches.ensures.matches in
     IfErr-weaker c.encoder_of.result _ _
-    (λ why no. gives_no_list words c.in_ok-matches.matches now.field-0-0.now rows why now.ensures.name now.ensures.rows met (inr (inr now.is-encoder)) no)
+    (λ why no. gives_no_list words c.in_ok-matches.matches now.field-0-0.now rows why now.ensures.name now.ensures.rows
+    met (inr (inr now.is-encoder)) no)
     c.encoder_of.ensures.refused
 
 pub returns-in-Some-server-default-clause-range : goal.returns-in-Some-server-default-clause-range
@@ -101,12 +109,14 @@ returns-in-Some-server-default-clause-asked c =
     let met = met_of _ words c.in_ok-matches.matches c.in_ok-program.ensures c.in_ok-matches.ensures.matches in
     let none = faultless_of _ words c.in_ok-program.ensures c.in_ok-matches.ensures.kinds in
     IfOk-weaker c.server_of.result _ _
-    (λ job is. asks words c.in_ok-matches.matches now.field-0-0.now rows job now.ensures.name now.ensures.rows met none (subst (λ name. IsJobOf name rows job) (sym now.is-server) is))
+    (λ job is. asks words c.in_ok-matches.matches now.field-0-0.now rows job now.ensures.name now.ensures.rows met none
+    (subst (λ name. IsJobOf name rows job) (sym now.is-server) is))
     c.server_of.ensures.job
 
 pub returns-in-Some-server-default-clause-refused : goal.returns-in-Some-server-default-clause-refused
 returns-in-Some-server-default-clause-refused c =
-    IfErr-weaker c.server_of.result _ _ (λ why is. subst (RefusesWords (map string_bytes c.args.words.now)) (sym is) tt) c.server_of.ensures.refused
+    IfErr-weaker c.server_of.result _ _ (λ why is. subst (RefusesWords (map string_bytes c.args.words.now)) (sym is) tt)
+    c.server_of.ensures.refused
 
 pub returns-in-Some-make-default-clause-asked : goal.returns-in-Some-make-default-clause-asked
 returns-in-Some-make-default-clause-asked c =
@@ -115,7 +125,8 @@ returns-in-Some-make-default-clause-asked c =
     let rows = rows_of (found_of now.field-0-1.now) in
     let met = met_of _ words c.in_ok-matches.matches c.in_ok-program.ensures c.in_ok-matches.ensures.matches in
     let none = faultless_of _ words c.in_ok-program.ensures c.in_ok-matches.ensures.kinds in
-    asks words c.in_ok-matches.matches now.field-0-0.now rows Make now.ensures.name now.ensures.rows met none now.is-make
+    asks words c.in_ok-matches.matches now.field-0-0.now rows Make now.ensures.name now.ensures.rows met none
+    now.is-make
 
 pub returns-in-Some-show-default-clause-asked : goal.returns-in-Some-show-default-clause-asked
 returns-in-Some-show-default-clause-asked c =
@@ -124,7 +135,8 @@ returns-in-Some-show-default-clause-asked c =
     let rows = rows_of (found_of now.field-0-1.now) in
     let met = met_of _ words c.in_ok-matches.matches c.in_ok-program.ensures c.in_ok-matches.ensures.matches in
     let none = faultless_of _ words c.in_ok-program.ensures c.in_ok-matches.ensures.kinds in
-    asks words c.in_ok-matches.matches now.field-0-0.now rows Show now.ensures.name now.ensures.rows met none now.is-show
+    asks words c.in_ok-matches.matches now.field-0-0.now rows Show now.ensures.name now.ensures.rows met none
+    now.is-show
 
 pub unreachable-requires : goal.unreachable-requires
 unreachable-requires c =
@@ -135,10 +147,14 @@ unreachable-requires c =
     elim c.in_default.branch [
       | goal.in_default-via-in-Some+in_default w ↦
           no_other words c.in_ok-matches.matches name c.subcommand.ensures.name met none
-          (λ e. search rules) (λ e. search rules) (λ e. search rules) (λ e. search rules) (λ e. search rules) (λ e. search rules)
+          (λ e. search rules) (λ e. search rules) (λ e. search rules) (λ e. search rules) (λ e. search rules)
+          (λ e. search rules)
       | goal.in_default-via-in_default w ↦
           no_other words c.in_ok-matches.matches name c.subcommand.ensures.name met none
-          (none_named _ c.subcommand.result (codes "answer") w.in_default.is) (none_named _ c.subcommand.result (codes "line") w.in_default.is)
-          (none_named _ c.subcommand.result (codes "make") w.in_default.is) (none_named _ c.subcommand.result (codes "show") w.in_default.is)
-          (none_named _ c.subcommand.result (codes "encoder") w.in_default.is) (none_named _ c.subcommand.result (codes "server") w.in_default.is)
+          (none_named _ c.subcommand.result (codes "answer") w.in_default.is)
+          (none_named _ c.subcommand.result (codes "line") w.in_default.is)
+          (none_named _ c.subcommand.result (codes "make") w.in_default.is)
+          (none_named _ c.subcommand.result (codes "show") w.in_default.is)
+          (none_named _ c.subcommand.result (codes "encoder") w.in_default.is)
+          (none_named _ c.subcommand.result (codes "server") w.in_default.is)
     ]

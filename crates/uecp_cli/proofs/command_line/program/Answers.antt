@@ -7,12 +7,15 @@ use Rattle.uecp_cli.proofs.command_line.program.Goals as goal
 pub returns : goal.returns
 returns c =
     let named = ap app_of_fields c.in_ok-bin_name.ensures.0 ∙ c.new.ensures.app in
-    let versioned = ap app_of_fields c.version.ensures ∙ ap (on_top (λ (s : Shape). record s { has_version = true })) named in
+    let versioned = ap app_of_fields c.version.ensures
+    ∙ ap (on_top (λ (s : Shape). record s { has_version = true })) named in
     let told = ap app_of_fields c.after_help.ensures ∙ ap app_of_fields c.about.ensures ∙ versioned in
-    let top = ap app_of_fields c.subcommand_required.ensures ∙ ap (on_top (λ (s : Shape). record s { subcommand_required = true })) told in
+    let top = ap app_of_fields c.subcommand_required.ensures
+    ∙ ap (on_top (λ (s : Shape). record s { subcommand_required = true })) told in
     let one = sub_added _ _ _ _ _ c.in_ok-subcommand.ensures refl top c.in_ok-answer_command.ensures in
     let two = sub_added _ _ _ _ _ c.in_ok-subcommand-2.ensures refl one c.show_command.ensures in
     let three = sub_added _ _ _ _ _ c.in_ok-subcommand-3.ensures refl two c.make_command.ensures in
     let four = sub_added _ _ _ _ _ c.in_ok-subcommand-4.ensures refl three c.in_ok-line_command.ensures in
     let five = sub_added _ _ _ _ _ c.in_ok-subcommand-5.ensures refl four c.in_ok-encoder_command.ensures in
-    IfOk-weaker c.subcommand-6.result _ _ (λ whole added. sub_added _ _ whole _ _ added refl five c.in_ok-server_command.ensures) c.subcommand-6.ensures
+    IfOk-weaker c.subcommand-6.result _ _ (λ whole added.
+    sub_added _ _ whole _ _ added refl five c.in_ok-server_command.ensures) c.subcommand-6.ensures

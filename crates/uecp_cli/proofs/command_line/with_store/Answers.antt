@@ -4,4 +4,5 @@ use Rattle.uecp_cli.proofs.command_line.with_store.Goals as goal
 
 pub returns : goal.returns
 returns c = λ name is_new.
-    IfOk-weaker c.arg.result _ _ (λ whole added. arg_added _ whole c.store.result _ _ added c.store.ensures.own (c.in_ok-with_encoder.ensures name is_new) c.store.ensures.rule) c.arg.ensures
+    IfOk-weaker c.arg.result _ _ (λ whole added. arg_added _ whole c.store.result _ _ added c.store.ensures.own
+    (c.in_ok-with_encoder.ensures name is_new) c.store.ensures.rule) c.arg.ensures

@@ -9,6 +9,10 @@ returns-in_err-list_of-clause-refused c =
 pub returns-clause-job : goal.returns-clause-job
 returns-clause-job c = (
   refl,
-  record { is_place = (c.short_of.ensures, c.small_of.ensures); is_sets = c.small_of-2.ensures; is_services = c.in_ok-list_of.ensures.list },
+  record {
+    is_place = (c.short_of.ensures, c.small_of.ensures);
+    is_sets = c.small_of-2.ensures;
+    is_services = c.in_ok-list_of.ensures.list;
+  },
   record { is_port = c.short_of-2.ensures; is_connections = c.number_of.ensures; is_turns = c.number_of-2.ensures },
 )

@@ -10,5 +10,6 @@ pub returns : goal.returns
 returns c =
     let found = found_of c.args.found.now in
     let text : c.unwrap_or.result.now ≡ host_text (rows_of found) =
-    ap (λ s. s.now) c.unwrap_or.ensures ∙ text_or c.get_str.result _ _ (c.get_str.ensures ∙ first_value-rows found (codes "host")) in
+    ap (λ s. s.now) c.unwrap_or.ensures ∙ text_or c.get_str.result _ _
+    (c.get_str.ensures ∙ first_value-rows found (codes "host")) in
     IfOk-weaker c.from_str.result _ _ (λ host is. is ∙ text) c.from_str.ensures.ok

@@ -12,7 +12,11 @@ pub returns-clause-job : goal.returns-clause-job
 returns-clause-job c =
     let flag = one_text-rows (found_of c.args.found.now) (codes "store") in (
       refl,
-      record { is_place = (c.short_of.ensures, c.small_of.ensures); is_sets = c.small_of-2.ensures; is_services = c.in_ok-list_of.ensures.list },
+      record {
+        is_place = (c.short_of.ensures, c.small_of.ensures);
+        is_sets = c.small_of-2.ensures;
+        is_services = c.in_ok-list_of.ensures.list;
+      },
       record {
         given = λ e. c.get_flag.ensures.value (flag ∙ e);
         denied = λ e. c.get_flag.ensures.other (flag ∙ e);

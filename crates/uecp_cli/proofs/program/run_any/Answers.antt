@@ -9,6 +9,19 @@ returns-in-Encoder-clause-failed g c = λ three.
     let is = c.in-Encoder.is in
     elim (rw is at (c.run_encoder.ensures.failed three)) [
       | inl ((is_setup, (outcomes, e', last, fewer, sessions, none, appends)), begins) ↦
-          inr (inr (rw is (Listening, refl, (outcomes, omega (arith, fewer), (connection_lines 1 outcomes, [], sym (append-nil (connection_lines 1 outcomes)), appends)), begins), refl))
-      | inr (fault, fails, (outcomes, e', few, sessions, begun), begins) ↦ inr (inr (rw is (fault, not_failed fault _ fails refl, (outcomes, few, begun), begins), refl))
+          inr (inr (
+            rw is (
+              Listening,
+              refl,
+              (
+                outcomes,
+                omega (arith, fewer),
+                (connection_lines 1 outcomes, [], sym (append-nil (connection_lines 1 outcomes)), appends),
+              ),
+              begins,
+            ),
+            refl,
+          ))
+      | inr (fault, fails, (outcomes, e', few, sessions, begun), begins) ↦ inr
+          (inr (rw is (fault, not_failed fault _ fails refl, (outcomes, few, begun), begins), refl))
     ]

@@ -10,6 +10,7 @@ returns-in-Err-clause-err g c =
       take c.in-Err.written (flat_map bytes_sent (responses_of answer.what)),
       answer.used - 1,
       err.1,
-      stops_first g.T.Target.step c.args.encoder.now _ c.args.piece.now answer c.in-Err.written c.feed-answer.ensures.answers
+      stops_first g.T.Target.step c.args.encoder.now _ c.args.piece.now answer c.in-Err.written
+          c.feed-answer.ensures.answers
           (c.feed-answer.ensures.moves c.requires) c.feed-answer.ensures.fits c.feed-answer.follows.holds-at-none err.0,
     )

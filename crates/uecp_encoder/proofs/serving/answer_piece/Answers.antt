@@ -22,8 +22,10 @@ returns-in-Err-clause-err g c =
       before ++ now,
       length (take at piece) + place,
       Appends-trans _ _ _ _ _ gave appended,
-      subst (λ w. StopsWriting step e e' piece (before ++ now) w (length (take at piece) + place)) (ap (λ n. n + c.in-Err.written) (sym sends.bytes_are))
-          (subst (λ s. StopsWriting step e e' s (before ++ now) (length before + c.in-Err.written) (length (take at piece) + place)) whole
+      subst (λ w. StopsWriting step e e' piece (before ++ now) w (length (take at piece) + place))
+          (ap (λ n. n + c.in-Err.written) (sym sends.bytes_are))
+          (subst (λ s. StopsWriting step e e' s (before ++ now) (length before + c.in-Err.written)
+          (length (take at piece) + place)) whole
           (stops_on step e c.loop-at.encoder e' (take at piece) before _ now c.in-Err.written place sends.all stops)),
     )
 
@@ -41,9 +43,12 @@ loop-at-preserved g c =
       before ++ now,
       search rules,
       Appends-trans _ _ _ _ _ gave appended,
-      subst (λ r. Sends step e e' (take (at + used) piece) (before ++ now) r c.both-sent.result.bytes) (sym c.both-sent.ensures.replies)
-          (subst (λ b. Sends step e e' (take (at + used) piece) (before ++ now) (c.loop-at.sent.replies + c.in-Ok.first.sent.replies) b) (sym c.both-sent.ensures.bytes)
-          (subst (λ s. Sends step e e' s (before ++ now) (c.loop-at.sent.replies + c.in-Ok.first.sent.replies) (c.loop-at.sent.bytes + c.in-Ok.first.sent.bytes)) joined
+      subst (λ r. Sends step e e' (take (at + used) piece) (before ++ now) r c.both-sent.result.bytes)
+          (sym c.both-sent.ensures.replies)
+          (subst (λ b. Sends step e e' (take (at + used) piece) (before ++ now)
+          (c.loop-at.sent.replies + c.in-Ok.first.sent.replies) b) (sym c.both-sent.ensures.bytes)
+          (subst (λ s. Sends step e e' s (before ++ now) (c.loop-at.sent.replies + c.in-Ok.first.sent.replies)
+          (c.loop-at.sent.bytes + c.in-Ok.first.sent.bytes)) joined
           (sends_on step e c.loop-at.encoder e' (take at piece) before _ now _ _ _ _ sends more))),
       search rules,
     )

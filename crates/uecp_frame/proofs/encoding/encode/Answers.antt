@@ -5,6 +5,15 @@ use Rattle.uecp_frame.proofs.encoding.encode.Goals as goal
 
 pub encode_ref-requires : goal.encode_ref-requires
 encode_ref-requires c =
-    let f : Frame = record { address = c.args.frame.now.address; counter = c.args.frame.now.counter; message = c.bytes.result.now } in
-    let fits = ap length c.bytes.ensures.value in
-    (search rules, (omega (arith, fits, c.bytes.ensures.fits), length-spelling-le f (omega (arith, fits, c.bytes.ensures.fits))))
+    let f : Frame = record {
+      address = c.args.frame.now.address;
+      counter = c.args.frame.now.counter;
+      message = c.bytes.result.now;
+    } in
+    let fits = ap length c.bytes.ensures.value in (
+      search rules,
+      (
+        omega (arith, fits, c.bytes.ensures.fits),
+        length-spelling-le f (omega (arith, fits, c.bytes.ensures.fits)),
+      ),
+    )

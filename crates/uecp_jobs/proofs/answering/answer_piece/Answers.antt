@@ -19,12 +19,15 @@ loop-rest-preserved c =
     let now : List Response = responses_to step e (take used rest) in
     let later : List Response = responses_to step e' rest' in
     record {
-      state = fed_on e e' used rest rest' c.answer_first-used.ensures.left c.rest_after-rest.ensures ∙ c.loop-rest.invariant.state;
+      state = fed_on e e' used rest rest' c.answer_first-used.ensures.left c.rest_after-rest.ensures
+          ∙ c.loop-rest.invariant.state;
       lines = leads_on c.args.output.now c.loop-rest.output c.answer_first-used.new.output
-          (flat_map response_line now) (flat_map response_line (responses_to step e rest)) (flat_map response_line later)
+          (flat_map response_line now) (flat_map response_line (responses_to step e rest))
+          (flat_map response_line later)
           (flat_map response_line (responses_to step c.args.encoder.now c.args.piece.now))
           c.loop-rest.invariant.lines
-          (ap (flat_map response_line) (responses_on e e' used rest rest' c.answer_first-used.ensures.left c.rest_after-rest.ensures) ∙ flat_map-append response_line now later)
+          (ap (flat_map response_line) (responses_on e e' used rest rest' c.answer_first-used.ensures.left
+          c.rest_after-rest.ensures) ∙ flat_map-append response_line now later)
           c.answer_first-used.ensures.lines;
     }
 

@@ -10,7 +10,8 @@ use Rattle.uecp_jobs.proofs.answering.answer_piece.Given as goal
 abbrev pub invariant-loop-rest : goal.invariant-loop-rest
 invariant-loop-rest l = record {
   state : fed step l.encoder l.rest ≡ fed step l.fn.encoder l.piece;
-  lines : Leads l.fn.output l.output (flat_map response_line (responses_to step l.encoder l.rest)) (flat_map response_line (responses_to step l.fn.encoder l.piece));
+  lines : Leads l.fn.output l.output (flat_map response_line (responses_to step l.encoder l.rest))
+      (flat_map response_line (responses_to step l.fn.encoder l.piece));
 }
 
 abbrev pub decreases-loop-rest : goal.decreases-loop-rest

@@ -9,9 +9,12 @@ abbrev pub invariant-loop-rest : goal.invariant-loop-rest
 invariant-loop-rest g l = record {
   idle : l.sender.sender.server.held ≡ [];
   loan : l.sender.loan ≡ l.fn.sender.loan;
-  on : (end : SenderOver g.row.C.Denot g.row.C-Input.Denot g.row.C-Output.Denot) (held' : Option (List ℕ)) (result : Result (Unit {0}) RunFault) (batches : ℕ) →
-      SendsOut g.C.Connect.opens g.C.Connect.closes g.C.Input.Read.remaining g.C.Output.Write.contents l.size batches l.sender l.rest (g.W.Write.contents l.writer) held' result end →
-      (all : ℕ) × SendsOut g.C.Connect.opens g.C.Connect.closes g.C.Input.Read.remaining g.C.Output.Write.contents l.size all l.fn.sender l.messages (g.W.Write.contents l.fn.writer) held' result end;
+  on : (end : SenderOver g.row.C.Denot g.row.C-Input.Denot g.row.C-Output.Denot) (held' : Option (List ℕ))
+      (result : Result (Unit {0}) RunFault) (batches : ℕ) →
+      SendsOut g.C.Connect.opens g.C.Connect.closes g.C.Input.Read.remaining g.C.Output.Write.contents l.size batches
+      l.sender l.rest (g.W.Write.contents l.writer) held' result end →
+      (all : ℕ) × SendsOut g.C.Connect.opens g.C.Connect.closes g.C.Input.Read.remaining g.C.Output.Write.contents
+      l.size all l.fn.sender l.messages (g.W.Write.contents l.fn.writer) held' result end;
 }
 
 abbrev pub decreases-loop-rest : goal.decreases-loop-rest

@@ -16,5 +16,6 @@ pub loop-message-preserved : goal.loop-message-preserved
 loop-message-preserved g c =
     let within : c.loop-message.message-index < length c.args.batch.now = omega (arith, c.loop-message-test.true) in
     c.submit.ensures.submits ∙ ap (λ s. submitted_to s c.message-item.result) c.loop-message.invariant
-    ∙ ap (submitted_to (submitted_all c.args.sender.now (take c.loop-message.message-index c.args.batch.now))) c.message-item.is
+    ∙ ap (submitted_to (submitted_all c.args.sender.now (take c.loop-message.message-index c.args.batch.now)))
+    c.message-item.is
     ∙ sym (submitted_on c.args.sender.now c.args.batch.now c.loop-message.message-index c.message-item.result within)

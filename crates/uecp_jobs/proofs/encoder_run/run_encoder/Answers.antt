@@ -9,8 +9,12 @@ returns-in-Err-clause-status g c =
     let now = c.serve_all.new in
     let fault = c.in-Err.fault in (
       few_statuses fault c.fail.result c.fail.ensures.status,
-      λ one. encoder_not_one g.C.Connect.opens g.C.Connect.closes g.C.Input.Read.remaining g.C.Output.Write.contents c.args.job.now c.requires c.args.connect.now now.connect (held c.args.writer.now) (held now.writer) (told c.args.errors.now) (told c.fail.new.errors)
-          (◌≡◌ {A = g.row.W.Denot} now.writer c.args.writer.now) (◌≡◌ {A = g.row.C.Denot} now.connect c.args.connect.now) fault c.in-Err.ensures (sym c.fail.ensures.status ∙ one),
+      λ one. encoder_not_one g.C.Connect.opens g.C.Connect.closes g.C.Input.Read.remaining g.C.Output.Write.contents
+          c.args.job.now c.requires c.args.connect.now now.connect (held c.args.writer.now) (held now.writer)
+          (told c.args.errors.now) (told c.fail.new.errors)
+          (◌≡◌ {A = g.row.W.Denot} now.writer c.args.writer.now)
+          (◌≡◌ {A = g.row.C.Denot} now.connect c.args.connect.now) fault c.in-Err.ensures
+          (sym c.fail.ensures.status ∙ one),
     )
 
 pub returns-in-Err-clause-undescribed : goal.returns-in-Err-clause-undescribed
@@ -19,8 +23,11 @@ returns-in-Err-clause-undescribed g c = λ two.
     let told = g.E.Write.contents in
     let now = c.serve_all.new in
     let fault = c.in-Err.fault in
-    let by = encoder_undescribed g.C.Connect.opens g.C.Connect.closes g.C.Input.Read.remaining g.C.Output.Write.contents c.args.job.now c.requires c.args.connect.now now.connect (held c.args.writer.now) (held now.writer) (told c.args.errors.now) (told c.fail.new.errors)
-    (◌≡◌ {A = g.row.W.Denot} now.writer c.args.writer.now) (◌≡◌ {A = g.row.C.Denot} now.connect c.args.connect.now) fault c.in-Err.ensures (sym c.fail.ensures.status ∙ two) in
+    let by = encoder_undescribed g.C.Connect.opens g.C.Connect.closes g.C.Input.Read.remaining g.C.Output.Write.contents
+    c.args.job.now c.requires c.args.connect.now now.connect (held c.args.writer.now) (held now.writer)
+    (told c.args.errors.now) (told c.fail.new.errors)
+    (◌≡◌ {A = g.row.W.Denot} now.writer c.args.writer.now) (◌≡◌ {A = g.row.C.Denot} now.connect c.args.connect.now)
+    fault c.in-Err.ensures (sym c.fail.ensures.status ∙ two) in
     ((fault, by.0, c.fail.ensures.said), by.1, by.2)
 
 pub returns-in-Err-clause-failed : goal.returns-in-Err-clause-failed
@@ -29,5 +36,8 @@ returns-in-Err-clause-failed g c = λ three.
     let told = g.E.Write.contents in
     let now = c.serve_all.new in
     let fault = c.in-Err.fault in
-    encoder_failed g.C.Connect.opens g.C.Connect.closes g.C.Input.Read.remaining g.C.Output.Write.contents c.args.job.now c.requires c.args.connect.now now.connect (held c.args.writer.now) (held now.writer) (told c.args.errors.now) (told c.fail.new.errors)
-    (◌≡◌ {A = g.row.W.Denot} now.writer c.args.writer.now) (◌≡◌ {A = g.row.C.Denot} now.connect c.args.connect.now) fault c.in-Err.ensures (λ same. same) (ap held) c.fail.ensures.said (sym c.fail.ensures.status ∙ three)
+    encoder_failed g.C.Connect.opens g.C.Connect.closes g.C.Input.Read.remaining g.C.Output.Write.contents
+    c.args.job.now c.requires c.args.connect.now now.connect (held c.args.writer.now) (held now.writer)
+    (told c.args.errors.now) (told c.fail.new.errors)
+    (◌≡◌ {A = g.row.W.Denot} now.writer c.args.writer.now) (◌≡◌ {A = g.row.C.Denot} now.connect c.args.connect.now)
+    fault c.in-Err.ensures (λ same. same) (ap held) c.fail.ensures.said (sym c.fail.ensures.status ∙ three)

@@ -18,8 +18,13 @@ returns-in_err-encoder-in-Encoder g c =
     let same : c.from_residual.result ≡ Err fault = search rules in
     elim c.in_err-encoder-in-Encoder.ensures.refused [
       | inl wanting ↦
-          inr (subst (λ result. Serves opens closes left sent c.args.job.now c.args.connect.now c.args.connect.now (held c.args.writer.now) (held c.args.writer.now) result) (sym same)
-          (inr (subst Fails (sym wanting) tt, served_none opens closes left sent c.args.job.now c.requires c.args.connect.now c.args.connect.now (held c.args.writer.now) (held c.args.writer.now) refl refl)))
+          inr (subst (λ result. Serves opens closes left sent c.args.job.now c.args.connect.now c.args.connect.now
+          (held c.args.writer.now) (held c.args.writer.now) result) (sym same)
+          (inr (
+            subst Fails (sym wanting) tt,
+            served_none opens closes left sent c.args.job.now c.requires
+                c.args.connect.now c.args.connect.now (held c.args.writer.now) (held c.args.writer.now) refl refl,
+          )))
       | inr refused ↦
           inl (
             fault,
@@ -39,12 +44,16 @@ returns-in-Ok g c =
     let held = g.W.Write.contents in
     let i = c.in-Encoder in
     let setup = options_of c.setup_of-setup.result in
-    let is_setup : setup ≡ options i.site i.encoder i.sets i.services.items = subst (λ job. Describes job setup) i.is c.setup_of-setup.ensures in
+    let is_setup : setup ≡ options i.site i.encoder i.sets i.services.items =
+    subst (λ job. Describes job setup) i.is c.setup_of-setup.ensures in
     let e = c.in_ok-encoder-in-Encoder in
     let now = c.serve_connections.new in
-    inr (subst (λ job. ServedAll opens closes left sent job c.args.connect.now now.connect (held c.args.writer.now) (held now.writer)) (sym i.is)
-    (subst (ServedBy opens closes left sent i.connections i.turns c.args.connect.now now.connect (held c.args.writer.now) (held now.writer)) is_setup
-    (served_by opens closes left sent i.connections i.turns c.args.connect.now now.connect (held c.args.writer.now) (held now.writer) setup e.encoder now.encoder
+    inr (subst (λ job. ServedAll opens closes left sent job c.args.connect.now now.connect (held c.args.writer.now)
+    (held now.writer)) (sym i.is)
+    (subst (ServedBy opens closes left sent i.connections i.turns c.args.connect.now now.connect
+    (held c.args.writer.now) (held now.writer)) is_setup
+    (served_by opens closes left sent i.connections i.turns c.args.connect.now now.connect (held c.args.writer.now)
+    (held now.writer) setup e.encoder now.encoder
     e.ensures.described e.ensures.made c.in-Ok.ensures.served)))
 
 pub returns-in-Encoder : goal.returns-in-Encoder
@@ -56,22 +65,29 @@ returns-in-Encoder g c =
     let held = g.W.Write.contents in
     let i = c.in-Encoder in
     let setup = options_of c.setup_of-setup.result in
-    let is_setup : setup ≡ options i.site i.encoder i.sets i.services.items = subst (λ job. Describes job setup) i.is c.setup_of-setup.ensures in
+    let is_setup : setup ≡ options i.site i.encoder i.sets i.services.items =
+    subst (λ job. Describes job setup) i.is c.setup_of-setup.ensures in
     let e = c.in_ok-encoder-in-Encoder in
     let now = c.serve_connections.new in
     inr (elim c.in-Err.ensures.faults [
       | inl is ↦ inl (
         is,
-        subst (λ job. ServedFewer opens closes left sent job c.args.connect.now now.connect (held c.args.writer.now) (held now.writer)) (sym i.is)
-            (subst (FewerBy opens closes left sent i.connections i.turns c.args.connect.now now.connect (held c.args.writer.now) (held now.writer)) is_setup
-            (fewer_by opens closes left sent i.connections i.turns c.args.connect.now now.connect (held c.args.writer.now) (held now.writer) setup e.encoder now.encoder
+        subst (λ job. ServedFewer opens closes left sent job c.args.connect.now now.connect (held c.args.writer.now)
+            (held now.writer)) (sym i.is)
+            (subst (FewerBy opens closes left sent i.connections i.turns c.args.connect.now now.connect
+            (held c.args.writer.now) (held now.writer)) is_setup
+            (fewer_by opens closes left sent i.connections i.turns c.args.connect.now now.connect
+            (held c.args.writer.now) (held now.writer) setup e.encoder now.encoder
             e.ensures.described e.ensures.made (c.in-Err.ensures.refused (ap stopped is)))),
       )
       | inr (other, fails) ↦ inr (
         fails,
-        subst (λ job. ServedSome opens closes left sent job c.args.connect.now now.connect (held c.args.writer.now) (held now.writer)) (sym i.is)
-            (subst (SomeBy opens closes left sent i.connections i.turns c.args.connect.now now.connect (held c.args.writer.now) (held now.writer)) is_setup
-            (some_by opens closes left sent i.connections i.turns c.args.connect.now now.connect (held c.args.writer.now) (held now.writer) setup e.encoder now.encoder
+        subst (λ job. ServedSome opens closes left sent job c.args.connect.now now.connect (held c.args.writer.now)
+            (held now.writer)) (sym i.is)
+            (subst (SomeBy opens closes left sent i.connections i.turns c.args.connect.now now.connect
+            (held c.args.writer.now) (held now.writer)) is_setup
+            (some_by opens closes left sent i.connections i.turns c.args.connect.now now.connect
+            (held c.args.writer.now) (held now.writer) setup e.encoder now.encoder
             e.ensures.described e.ensures.made (c.in-Err.ensures.broken other))),
       )
     ])

@@ -1,8 +1,10 @@
-use Rattle.std.proofs.Common.{rules, arith, ◌≡◌, ◌+◌, ◌++◌, ◌∷◌, [], None, Some, Ok, Err, refl, ap, sym, ◌∙◌, append_assoc, append-nil, inl, inr}
+use Rattle.std.proofs.Common.{rules, arith, ◌≡◌, ◌+◌, ◌++◌, ◌∷◌, [], None, Some, Ok, Err, refl, ap, sym, ◌∙◌}
+use Rattle.std.proofs.Common.{append_assoc, append-nil, inl, inr}
 use Rattle.uecp_text.specs.Input.{numbered, lines_of, said}
 use Rattle.uecp_text.proofs.Lines.{empty_is}
 use Rattle.uecp_jobs.specs.Messages.{spelled, messages_first, refusal_in}
-use Rattle.uecp_jobs.proofs.MessageTexts.{no_texts_left, no_text, one_message, none_refused_yet, no_message, refused_here}
+use Rattle.uecp_jobs.proofs.MessageTexts.{no_texts_left, no_text, one_message, none_refused_yet, no_message}
+use Rattle.uecp_jobs.proofs.MessageTexts.{refused_here}
 use Rattle.uecp_jobs.proofs.messages.messages_of.Goals.{in-Some+in-Ok+in_ok-push-in-Ok, in_default}
 use Rattle.uecp_jobs.proofs.messages.messages_of.Goals as goal
 
@@ -17,10 +19,17 @@ returns-in_default-fault c =
     let text = c.in-Some.text.now in
     let fault = c.in-Err.fault in
     let says : Some text ≡ said line = c.in-Some.ensures in
-    let is : spelled text ≡ Err fault = elim c.in-Err.ensures.refused [ inl wanting ↦ absurd (c.in_default-fault.not-OutOfMemory wanting) | inr refused ↦ refused ] in
+    let is : spelled text ≡ Err fault =
+    elim c.in-Err.ensures.refused [
+      | inl wanting ↦ absurd (c.in_default-fault.not-OutOfMemory wanting)
+      | inr refused ↦ refused
+    ] in
     record {
-      messages = sym (now.invariant.messages ∙ ap (λ l. now.list.items ++ l) (no_message now.number now.rest.now line more c.first_input_line.ensures.lines text says fault is) ∙ append-nil now.list.items);
-      refused_line = sym (now.invariant.refusal ∙ refused_here now.number now.rest.now line more c.first_input_line.ensures.lines text says fault is);
+      messages = sym (now.invariant.messages ∙ ap (λ l. now.list.items ++ l)
+          (no_message now.number now.rest.now line more c.first_input_line.ensures.lines text says fault is)
+          ∙ append-nil now.list.items);
+      refused_line = sym (now.invariant.refusal ∙ refused_here now.number now.rest.now line more
+          c.first_input_line.ensures.lines text says fault is);
       refused = tt;
     }
 
@@ -41,9 +50,12 @@ loop-rest-preserved c =
           record {
             count = omega (arith, shorter, so_far);
             messages =
-                now.invariant.messages ∙ ap (λ l. now.list.items ++ l) (one_message now.number now.rest.now line more c.first_input_line.ensures.lines w.in-Some.text.now says message is)
+                now.invariant.messages ∙ ap (λ l. now.list.items ++ l)
+                (one_message now.number now.rest.now line more c.first_input_line.ensures.lines w.in-Some.text.now
+                says message is)
                 ∙ sym (append_assoc now.list.items (message ∷ []) later) ∙ ap (λ l. l ++ later) (sym list_is);
-            refusal = now.invariant.refusal ∙ none_refused_yet now.number now.rest.now line more c.first_input_line.ensures.lines w.in-Some.text.now says message is;
+            refusal = now.invariant.refusal ∙ none_refused_yet now.number now.rest.now line more
+                c.first_input_line.ensures.lines w.in-Some.text.now says message is;
           }
       | in_default w ↦
           let says : None ≡ said line = search rules in
@@ -51,7 +63,8 @@ loop-rest-preserved c =
           let same = no_text now.number now.rest.now line more c.first_input_line.ensures.lines says in
           record {
             count = omega (arith, shorter, so_far);
-            messages = now.invariant.messages ∙ ap (λ l. now.list.items ++ messages_first l) same ∙ ap (λ l. l ++ messages_first (numbered (now.number + 1) (lines_of more))) (sym list_is);
+            messages = now.invariant.messages ∙ ap (λ l. now.list.items ++ messages_first l) same
+                ∙ ap (λ l. l ++ messages_first (numbered (now.number + 1) (lines_of more))) (sym list_is);
             refusal = now.invariant.refusal ∙ ap refusal_in same;
           }
     ]

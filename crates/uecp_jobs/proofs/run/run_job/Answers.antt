@@ -8,8 +8,14 @@ returns-in-Err-clause-refused g c = λ one.
     let held = g.W.Write.contents in
     let now = c.do_job in
     let fault = c.in-Err.fault in
-    let is = sym c.fail.ensures.status ∙ one in
-    (fault, is, refused_by c.args.job.now (left c.args.reader.now) (left now.new.reader) (held c.args.writer.now) (held now.new.writer) (◌≡◌ {A = g.row.R.Denot} now.new.reader c.args.reader.now) (◌≡◌ {A = g.row.W.Denot} now.new.writer c.args.writer.now) fault c.in-Err.ensures.does is, c.fail.ensures.said)
+    let is = sym c.fail.ensures.status ∙ one in (
+      fault,
+      is,
+      refused_by c.args.job.now (left c.args.reader.now) (left now.new.reader) (held c.args.writer.now)
+          (held now.new.writer) (◌≡◌ {A = g.row.R.Denot} now.new.reader c.args.reader.now)
+          (◌≡◌ {A = g.row.W.Denot} now.new.writer c.args.writer.now) fault c.in-Err.ensures.does is,
+      c.fail.ensures.said,
+    )
 
 pub returns-in-Err-clause-undescribed : goal.returns-in-Err-clause-undescribed
 returns-in-Err-clause-undescribed g c = λ two.
@@ -18,7 +24,9 @@ returns-in-Err-clause-undescribed g c = λ two.
     let now = c.do_job in
     let fault = c.in-Err.fault in
     let is = sym c.fail.ensures.status ∙ two in
-    let by = undescribed_by c.args.job.now (left c.args.reader.now) (left now.new.reader) (held c.args.writer.now) (held now.new.writer) (◌≡◌ {A = g.row.R.Denot} now.new.reader c.args.reader.now) (◌≡◌ {A = g.row.W.Denot} now.new.writer c.args.writer.now) fault c.in-Err.ensures.does is in
+    let by = undescribed_by c.args.job.now (left c.args.reader.now) (left now.new.reader) (held c.args.writer.now)
+    (held now.new.writer) (◌≡◌ {A = g.row.R.Denot} now.new.reader c.args.reader.now)
+    (◌≡◌ {A = g.row.W.Denot} now.new.writer c.args.writer.now) fault c.in-Err.ensures.does is in
     ((fault, by.0, c.fail.ensures.said), by.1, by.2)
 
 pub returns-in-Err-clause-failed : goal.returns-in-Err-clause-failed
@@ -28,6 +36,8 @@ returns-in-Err-clause-failed g c = λ three.
     let now = c.do_job in
     let fault = c.in-Err.fault in
     let is = sym c.fail.ensures.status ∙ three in
-    let by = failed_by c.args.job.now (left c.args.reader.now) (left now.new.reader) (held c.args.writer.now) (held now.new.writer) (◌≡◌ {A = g.row.R.Denot} now.new.reader c.args.reader.now) (◌≡◌ {A = g.row.W.Denot} now.new.writer c.args.writer.now) fault c.in-Err.ensures.does
+    let by = failed_by c.args.job.now (left c.args.reader.now) (left now.new.reader) (held c.args.writer.now)
+    (held now.new.writer) (◌≡◌ {A = g.row.R.Denot} now.new.reader c.args.reader.now)
+    (◌≡◌ {A = g.row.W.Denot} now.new.writer c.args.writer.now) fault c.in-Err.ensures.does
     c.requires (ap left) (ap held) is in
     (fault, by, c.fail.ensures.said)

@@ -7,7 +7,9 @@ returns-in-Ok-clause-acknowledged g c = λ is.
     let left = g.R.Read.remaining in
     let held = g.W.Write.contents in
     let now = c.send_all.new in
-    acknowledged_all g.C.Connect.opens g.C.Connect.closes g.C.Input.Read.remaining g.C.Output.Write.contents c.args.job.now c.args.connect.now now.connect (left c.args.reader.now) (left now.reader) (held c.args.writer.now) (held now.writer) c.in-Ok.ensures.all
+    acknowledged_all g.C.Connect.opens g.C.Connect.closes g.C.Input.Read.remaining g.C.Output.Write.contents
+    c.args.job.now c.args.connect.now now.connect (left c.args.reader.now) (left now.reader)
+    (held c.args.writer.now) (held now.writer) c.in-Ok.ensures.all
 
 pub returns-in-Err-clause-sent_before : goal.returns-in-Err-clause-sent_before
 returns-in-Err-clause-sent_before g c = λ is.
@@ -15,8 +17,12 @@ returns-in-Err-clause-sent_before g c = λ is.
     let held = g.W.Write.contents in
     let told = g.E.Write.contents in
     let now = c.send_all.new in
-    (sent_before g.C.Connect.opens g.C.Connect.closes g.C.Input.Read.remaining g.C.Output.Write.contents c.args.job.now c.args.connect.now now.connect (left c.args.reader.now) (left now.reader) (held c.args.writer.now) (held now.writer) (told c.args.errors.now) (told c.fail.new.errors) c.requires
-    (◌≡◌ {A = g.row.R.Denot} now.reader c.args.reader.now) (◌≡◌ {A = g.row.W.Denot} now.writer c.args.writer.now) (◌≡◌ {A = g.row.C.Denot} now.connect c.args.connect.now) c.in-Err.fault c.fail.ensures.said c.in-Err.ensures.some (sym c.fail.ensures.status ∙ is)).0
+    (sent_before g.C.Connect.opens g.C.Connect.closes g.C.Input.Read.remaining g.C.Output.Write.contents c.args.job.now
+    c.args.connect.now now.connect (left c.args.reader.now) (left now.reader) (held c.args.writer.now)
+    (held now.writer) (told c.args.errors.now) (told c.fail.new.errors) c.requires
+    (◌≡◌ {A = g.row.R.Denot} now.reader c.args.reader.now) (◌≡◌ {A = g.row.W.Denot} now.writer c.args.writer.now)
+    (◌≡◌ {A = g.row.C.Denot} now.connect c.args.connect.now) c.in-Err.fault c.fail.ensures.said
+    c.in-Err.ensures.some (sym c.fail.ensures.status ∙ is)).0
 
 pub returns-in-Err-clause-acknowledged_before : goal.returns-in-Err-clause-acknowledged_before
 returns-in-Err-clause-acknowledged_before g c = λ is.
@@ -24,8 +30,12 @@ returns-in-Err-clause-acknowledged_before g c = λ is.
     let held = g.W.Write.contents in
     let told = g.E.Write.contents in
     let now = c.send_all.new in
-    (sent_before g.C.Connect.opens g.C.Connect.closes g.C.Input.Read.remaining g.C.Output.Write.contents c.args.job.now c.args.connect.now now.connect (left c.args.reader.now) (left now.reader) (held c.args.writer.now) (held now.writer) (told c.args.errors.now) (told c.fail.new.errors) c.requires
-    (◌≡◌ {A = g.row.R.Denot} now.reader c.args.reader.now) (◌≡◌ {A = g.row.W.Denot} now.writer c.args.writer.now) (◌≡◌ {A = g.row.C.Denot} now.connect c.args.connect.now) c.in-Err.fault c.fail.ensures.said c.in-Err.ensures.some (sym c.fail.ensures.status ∙ is)).1
+    (sent_before g.C.Connect.opens g.C.Connect.closes g.C.Input.Read.remaining g.C.Output.Write.contents c.args.job.now
+    c.args.connect.now now.connect (left c.args.reader.now) (left now.reader) (held c.args.writer.now)
+    (held now.writer) (told c.args.errors.now) (told c.fail.new.errors) c.requires
+    (◌≡◌ {A = g.row.R.Denot} now.reader c.args.reader.now) (◌≡◌ {A = g.row.W.Denot} now.writer c.args.writer.now)
+    (◌≡◌ {A = g.row.C.Denot} now.connect c.args.connect.now) c.in-Err.fault c.fail.ensures.said
+    c.in-Err.ensures.some (sym c.fail.ensures.status ∙ is)).1
 
 pub returns-in-Err-clause-not_sent : goal.returns-in-Err-clause-not_sent
 returns-in-Err-clause-not_sent g c = λ is.
@@ -33,8 +43,12 @@ returns-in-Err-clause-not_sent g c = λ is.
     let held = g.W.Write.contents in
     let told = g.E.Write.contents in
     let now = c.send_all.new in
-    (not_sent g.C.Connect.opens g.C.Connect.closes g.C.Input.Read.remaining g.C.Output.Write.contents c.args.job.now c.args.connect.now now.connect (left c.args.reader.now) (left now.reader) (held c.args.writer.now) (held now.writer) (told c.args.errors.now) (told c.fail.new.errors) c.requires
-    (◌≡◌ {A = g.row.R.Denot} now.reader c.args.reader.now) (◌≡◌ {A = g.row.W.Denot} now.writer c.args.writer.now) (◌≡◌ {A = g.row.C.Denot} now.connect c.args.connect.now) c.in-Err.fault c.fail.ensures.said c.in-Err.ensures.some (sym c.fail.ensures.status ∙ is)).0
+    (not_sent g.C.Connect.opens g.C.Connect.closes g.C.Input.Read.remaining g.C.Output.Write.contents c.args.job.now
+    c.args.connect.now now.connect (left c.args.reader.now) (left now.reader) (held c.args.writer.now)
+    (held now.writer) (told c.args.errors.now) (told c.fail.new.errors) c.requires
+    (◌≡◌ {A = g.row.R.Denot} now.reader c.args.reader.now) (◌≡◌ {A = g.row.W.Denot} now.writer c.args.writer.now)
+    (◌≡◌ {A = g.row.C.Denot} now.connect c.args.connect.now) c.in-Err.fault c.fail.ensures.said
+    c.in-Err.ensures.some (sym c.fail.ensures.status ∙ is)).0
 
 pub returns-in-Err-clause-not_acknowledged : goal.returns-in-Err-clause-not_acknowledged
 returns-in-Err-clause-not_acknowledged g c = λ is.
@@ -42,8 +56,12 @@ returns-in-Err-clause-not_acknowledged g c = λ is.
     let held = g.W.Write.contents in
     let told = g.E.Write.contents in
     let now = c.send_all.new in
-    (not_sent g.C.Connect.opens g.C.Connect.closes g.C.Input.Read.remaining g.C.Output.Write.contents c.args.job.now c.args.connect.now now.connect (left c.args.reader.now) (left now.reader) (held c.args.writer.now) (held now.writer) (told c.args.errors.now) (told c.fail.new.errors) c.requires
-    (◌≡◌ {A = g.row.R.Denot} now.reader c.args.reader.now) (◌≡◌ {A = g.row.W.Denot} now.writer c.args.writer.now) (◌≡◌ {A = g.row.C.Denot} now.connect c.args.connect.now) c.in-Err.fault c.fail.ensures.said c.in-Err.ensures.some (sym c.fail.ensures.status ∙ is)).1
+    (not_sent g.C.Connect.opens g.C.Connect.closes g.C.Input.Read.remaining g.C.Output.Write.contents c.args.job.now
+    c.args.connect.now now.connect (left c.args.reader.now) (left now.reader) (held c.args.writer.now)
+    (held now.writer) (told c.args.errors.now) (told c.fail.new.errors) c.requires
+    (◌≡◌ {A = g.row.R.Denot} now.reader c.args.reader.now) (◌≡◌ {A = g.row.W.Denot} now.writer c.args.writer.now)
+    (◌≡◌ {A = g.row.C.Denot} now.connect c.args.connect.now) c.in-Err.fault c.fail.ensures.said
+    c.in-Err.ensures.some (sym c.fail.ensures.status ∙ is)).1
 
 pub returns-in-Err-clause-undescribed : goal.returns-in-Err-clause-undescribed
 returns-in-Err-clause-undescribed g c = λ is.
@@ -51,6 +69,10 @@ returns-in-Err-clause-undescribed g c = λ is.
     let held = g.W.Write.contents in
     let told = g.E.Write.contents in
     let now = c.send_all.new in
-    let by = undescribed g.C.Connect.opens g.C.Connect.closes g.C.Input.Read.remaining g.C.Output.Write.contents c.args.job.now c.args.connect.now now.connect (left c.args.reader.now) (left now.reader) (held c.args.writer.now) (held now.writer) (told c.args.errors.now) (told c.fail.new.errors) c.requires
-    (◌≡◌ {A = g.row.R.Denot} now.reader c.args.reader.now) (◌≡◌ {A = g.row.W.Denot} now.writer c.args.writer.now) (◌≡◌ {A = g.row.C.Denot} now.connect c.args.connect.now) c.in-Err.fault c.fail.ensures.said c.in-Err.ensures.some (sym c.fail.ensures.status ∙ is) in
+    let by = undescribed g.C.Connect.opens g.C.Connect.closes g.C.Input.Read.remaining g.C.Output.Write.contents
+    c.args.job.now c.args.connect.now now.connect (left c.args.reader.now) (left now.reader)
+    (held c.args.writer.now) (held now.writer) (told c.args.errors.now) (told c.fail.new.errors) c.requires
+    (◌≡◌ {A = g.row.R.Denot} now.reader c.args.reader.now) (◌≡◌ {A = g.row.W.Denot} now.writer c.args.writer.now)
+    (◌≡◌ {A = g.row.C.Denot} now.connect c.args.connect.now) c.in-Err.fault c.fail.ensures.said
+    c.in-Err.ensures.some (sym c.fail.ensures.status ∙ is) in
     ((c.in-Err.fault, by.0, c.fail.ensures.said), by.1, by.2, by.3)

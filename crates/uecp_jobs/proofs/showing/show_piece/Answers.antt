@@ -20,11 +20,13 @@ loop-rest-preserved c =
     let later : List Finding = found_beyond o' rest' in
     let found = found_on o o' c.feed-fed.result rest rest' c.feed-fed.ensures.feeds c.rest_after-rest.ensures in
     record {
-      part = open_on o o' c.feed-fed.result rest rest' c.feed-fed.ensures.feeds c.rest_after-rest.ensures ∙ c.loop-rest.invariant.part;
+      part = open_on o o' c.feed-fed.result rest rest' c.feed-fed.ensures.feeds c.rest_after-rest.ensures
+          ∙ c.loop-rest.invariant.part;
       lines = leads_on c.args.output.now c.loop-rest.output c.put_found.new.output
           (flat_map finding_lines now) (flat_map finding_lines (found_beyond o rest)) (flat_map finding_lines later)
           (flat_map finding_lines (found_beyond c.args.deframer.now c.args.piece.now))
-          c.loop-rest.invariant.lines (ap (flat_map finding_lines) found ∙ flat_map-append finding_lines now later) c.put_found.ensures;
+          c.loop-rest.invariant.lines (ap (flat_map finding_lines) found ∙ flat_map-append finding_lines now later)
+          c.put_found.ensures;
     }
 
 pub returns-clause-lines : goal.returns-clause-lines

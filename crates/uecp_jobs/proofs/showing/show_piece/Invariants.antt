@@ -8,7 +8,8 @@ use Rattle.uecp_jobs.proofs.showing.show_piece.Given as goal
 abbrev pub invariant-loop-rest : goal.invariant-loop-rest
 invariant-loop-rest l = record {
   part : open_beyond l.deframer l.rest ≡ open_beyond l.fn.deframer l.piece;
-  lines : Leads l.fn.output l.output (flat_map finding_lines (found_beyond l.deframer l.rest)) (flat_map finding_lines (found_beyond l.fn.deframer l.piece));
+  lines : Leads l.fn.output l.output (flat_map finding_lines (found_beyond l.deframer l.rest))
+      (flat_map finding_lines (found_beyond l.fn.deframer l.piece));
 }
 
 abbrev pub decreases-loop-rest : goal.decreases-loop-rest

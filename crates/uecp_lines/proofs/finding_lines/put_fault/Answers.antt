@@ -14,8 +14,10 @@ returns-in-BadStuffing c =
     let start = c.args.output.now in
     let name : List ℕ = codes "dropped 2 BadStuffing" in
     let place : List ℕ = decimal_word c.in-BadStuffing.place in
-    let two = adds_then start c.text-in-BadStuffing.new.self c.decimal.new.self name place c.text-in-BadStuffing.ensures.added c.decimal.ensures.added in
-    let three = adds_then start c.decimal.new.self c.end.new.self (name ++ place) (codes "\n") two c.end.ensures.added in
+    let two = adds_then start c.text-in-BadStuffing.new.self c.decimal.new.self name place
+    c.text-in-BadStuffing.ensures.added c.decimal.ensures.added in
+    let three = adds_then start c.decimal.new.self c.end.new.self (name ++ place) (codes "\n") two
+    c.end.ensures.added in
     rw (c.in-BadStuffing.is, decimal_digit 2 (lit< tt)) three
 
 pub returns-in-TooLong : goal.returns-in-TooLong

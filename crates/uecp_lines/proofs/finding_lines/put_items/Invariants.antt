@@ -6,4 +6,5 @@ use Rattle.uecp_lines.proofs.finding_lines.put_items.Given as goal
 
 -- what is left leads to the same
 abbrev pub invariant-loop-read : goal.invariant-loop-read
-invariant-loop-read l = Leads l.fn.output l.output (flat_map item_line l.read-iterator) (flat_map item_line (items l.message))
+invariant-loop-read l = Leads l.fn.output l.output (flat_map item_line l.read-iterator)
+    (flat_map item_line (items l.message))

@@ -9,6 +9,9 @@ returns c =
     let one : List ℕ = counted (codes "sent") c.args.sent in
     let two : List ℕ = counted (codes " applied") c.args.applied in
     let three : List ℕ = counted (codes " acknowledged") c.args.acknowledged in
-    let first_two = adds_then start c.put_count.new.output c.put_count-2.new.output one two c.put_count.ensures c.put_count-2.ensures in
-    let all_three = adds_then start c.put_count-2.new.output c.put_count-3.new.output (one ++ two) three first_two c.put_count-3.ensures in
-    adds_then start c.put_count-3.new.output c.end.new.self (one ++ two ++ three) (codes "\n") all_three c.end.ensures.added
+    let first_two = adds_then start c.put_count.new.output c.put_count-2.new.output one two c.put_count.ensures
+    c.put_count-2.ensures in
+    let all_three = adds_then start c.put_count-2.new.output c.put_count-3.new.output (one ++ two) three first_two
+    c.put_count-3.ensures in
+    adds_then start c.put_count-3.new.output c.end.new.self (one ++ two ++ three) (codes "\n") all_three
+    c.end.ensures.added

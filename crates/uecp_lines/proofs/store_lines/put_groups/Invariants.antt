@@ -5,4 +5,5 @@ use Rattle.uecp_lines.proofs.store_lines.put_groups.Given as goal
 
 -- what is left leads to the same
 abbrev pub invariant-loop-group : goal.invariant-loop-group
-invariant-loop-group l = Leads l.fn.output l.output (flat_map group_line (drop l.group-index l.groups)) (flat_map group_line l.groups)
+invariant-loop-group l = Leads l.fn.output l.output (flat_map group_line (drop l.group-index l.groups))
+    (flat_map group_line l.groups)

@@ -8,5 +8,7 @@ pub returns : goal.returns
 returns c =
     let services = c.args.store.now.services in
     let lines = lines_at c.args.store.now c.args.set in
-    leads_end c.args.output.now c.loop-number.output (flat_map lines (drop c.loop-number.place services)) (set_lines c.args.store.now c.args.set) c.loop-number.invariant
-    (ap (flat_map lines) (none_left services c.loop-number.place (sym c.service_number.ensures.value ∙ c.in_default.is)))
+    leads_end c.args.output.now c.loop-number.output (flat_map lines (drop c.loop-number.place services))
+    (set_lines c.args.store.now c.args.set) c.loop-number.invariant
+    (ap (flat_map lines) (none_left services c.loop-number.place
+    (sym c.service_number.ensures.value ∙ c.in_default.is)))

@@ -7,4 +7,5 @@ use Rattle.uecp_lines.proofs.store_lines.put_sets.Given as goal
 -- what is left leads to the same
 abbrev pub invariant-loop-set : goal.invariant-loop-set
 invariant-loop-set l =
-    Leads l.fn.output l.output (flat_map (set_lines l.store) (count_up (l.store.sets + 1 - l.set) l.set)) (flat_map (set_lines l.store) (set_numbers l.store.sets))
+    Leads l.fn.output l.output (flat_map (set_lines l.store) (count_up (l.store.sets + 1 - l.set) l.set))
+    (flat_map (set_lines l.store) (set_numbers l.store.sets))

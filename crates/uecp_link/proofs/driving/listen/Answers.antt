@@ -22,9 +22,10 @@ returns-in-Err g c =
 pub returns-in-Ok-eq0 : goal.returns-in-Ok-eq0
 returns-in-Ok-eq0 g c =
     let last = last_read g.R.Read.remaining c.loop-turn.reader c.read.new.self c.read.new.buffer _
-        c.in-Ok-eq0.field-0-test c.in-Ok-eq0.ensures.bytes.0 c.read.ensures.calls c.in-Ok-eq0.ensures.failures (search rules) in
+    c.in-Ok-eq0.field-0-test c.in-Ok-eq0.ensures.bytes.0 c.read.ensures.calls c.in-Ok-eq0.ensures.failures
+    (search rules) in
     input_ended g.R.Read.remaining _ _ _ c.loop-turn.reader c.loop-turn._turn c.loop-turn.invariant _ c.args.turns last
-        (search rules) (omega arith)
+    (search rules) (omega arith)
 
 pub returns-in-Some : goal.returns-in-Some
 returns-in-Some g c =

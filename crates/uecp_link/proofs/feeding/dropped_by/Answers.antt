@@ -8,7 +8,8 @@ use Rattle.uecp_link.proofs.feeding.dropped_by.Goals as goal
 
 pub loop-rest-preserved-in-Nothing : goal.loop-rest-preserved-in-Nothing
 loop-rest-preserved-in-Nothing c =
-    let on = noise_on c.loop-rest.copy c.feed-fed.new.self c.feed-fed.result c.loop-rest.rest.now c.rest_of-rest.result.now c.feed-fed.ensures.feeds c.rest_of-rest.ensures
+    let on = noise_on c.loop-rest.copy c.feed-fed.new.self c.feed-fed.result c.loop-rest.rest.now
+    c.rest_of-rest.result.now c.feed-fed.ensures.feeds c.rest_of-rest.ensures
     ∙ ap (λ x. findings_of x ++ found_beyond c.feed-fed.new.self c.rest_of-rest.result.now) c.in-Nothing.is in
     let len = ap length c.rest_of-rest.ensures ∙ length-drop c.feed-fed.result.used c.loop-rest.rest.now in
     record {
@@ -19,10 +20,12 @@ loop-rest-preserved-in-Nothing c =
 
 pub loop-rest-preserved : goal.loop-rest-preserved
 loop-rest-preserved c =
-    let on = noise_on c.loop-rest.copy c.feed-fed.new.self c.feed-fed.result c.loop-rest.rest.now c.rest_of-rest.result.now c.feed-fed.ensures.feeds c.rest_of-rest.ensures
+    let on = noise_on c.loop-rest.copy c.feed-fed.new.self c.feed-fed.result c.loop-rest.rest.now
+    c.rest_of-rest.result.now c.feed-fed.ensures.feeds c.rest_of-rest.ensures
     ∙ ap (λ x. findings_of x ++ found_beyond c.feed-fed.new.self c.rest_of-rest.result.now) c.in-Refused.is in
     let len = ap length c.rest_of-rest.ensures ∙ length-drop c.feed-fed.result.used c.loop-rest.rest.now in
-    let more : length (found_beyond c.loop-rest.copy c.loop-rest.rest.now) ≡ suc (length (found_beyond c.feed-fed.new.self c.rest_of-rest.result.now)) = ap length on in
+    let more : length (found_beyond c.loop-rest.copy c.loop-rest.rest.now)
+    ≡ suc (length (found_beyond c.feed-fed.new.self c.rest_of-rest.result.now)) = ap length on in
     let some = eqb-false (length c.loop-rest.rest.now) 0 (sym c.loop-rest-test.ensures) in
     let used : 0 < c.feed-fed.result.used = c.feed-fed.ensures.moves (omega arith) in
     record {
@@ -33,7 +36,8 @@ loop-rest-preserved c =
 
 pub returns-in-Frame-clause-holds : goal.returns-in-Frame-clause-holds
 returns-in-Frame-clause-holds c =
-    let on = noise_on c.loop-rest.copy c.feed-fed.new.self c.feed-fed.result c.loop-rest.rest.now c.rest_of-rest.result.now c.feed-fed.ensures.feeds c.rest_of-rest.ensures
+    let on = noise_on c.loop-rest.copy c.feed-fed.new.self c.feed-fed.result c.loop-rest.rest.now
+    c.rest_of-rest.result.now c.feed-fed.ensures.feeds c.rest_of-rest.ensures
     ∙ ap (λ x. findings_of x ++ found_beyond c.feed-fed.new.self c.rest_of-rest.result.now) c.in-Frame.is in
     ((λ h. sym c.loop-rest.invariant.frame ∙ ap has_frame on), (λ h. refl))
 

@@ -6,6 +6,7 @@ use Rattle.uecp_link.proofs.held_message.count_waiting.Given as goal
 -- what is counted, and what waits among the rest
 abbrev pub invariant-loop-message : goal.invariant-loop-message
 invariant-loop-message l = record {
-  all : l.count + length (waiting_among (held_in (drop l.message-index l.held))) ≡ length (waiting_among (held_in l.held));
+  all : l.count + length (waiting_among (held_in (drop l.message-index l.held)))
+      ≡ length (waiting_among (held_in l.held));
   within : l.count ≤ l.message-index;
 }

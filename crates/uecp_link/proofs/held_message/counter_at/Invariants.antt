@@ -6,4 +6,5 @@ use Rattle.uecp_link.proofs.held_message.counter_at.Given as goal
 
 -- the counter is that far among the rest
 abbrev pub invariant-loop-message : goal.invariant-loop-message
-invariant-loop-message l = slice_get (map (λ w. w.0) (waiting_among (held_in (drop l.message-index l.held)))) l.older ≡ slice_get (map (λ w. w.0) (waiting_among (held_in l.held))) l.place
+invariant-loop-message l = slice_get (map (λ w. w.0) (waiting_among (held_in (drop l.message-index l.held)))) l.older
+    ≡ slice_get (map (λ w. w.0) (waiting_among (held_in l.held))) l.place

@@ -4,4 +4,5 @@ use Rattle.uecp_link.proofs.held_message.mark.Given as goal
 
 -- what is done, and what is left to do
 abbrev pub invariant-loop-message : goal.invariant-loop-message
-invariant-loop-message l = take l.message-index l.held ++ map (with_mark l.counter) (drop l.message-index l.held) ≡ map (with_mark l.counter) l.initial.held
+invariant-loop-message l = take l.message-index l.held ++ map (with_mark l.counter) (drop l.message-index l.held)
+    ≡ map (with_mark l.counter) l.initial.held

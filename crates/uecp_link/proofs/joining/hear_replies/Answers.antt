@@ -21,16 +21,23 @@ returns-clause-state c =
 pub returns-clause-seen : goal.returns-clause-seen
 returns-clause-seen c =
     let empty = empty_is c.loop-rest.rest.now c.loop-rest-test.ensures in
-    sym (ap (λ (bs : List ℕ). seen_after c.loop-rest.seen (reply_counters c.loop-rest.server.address c.loop-rest.server.part bs)) empty ∙ ap (seen_after c.loop-rest.seen) (counters_none c.loop-rest.server.address c.loop-rest.server.part))
+    sym (ap (λ (bs : List ℕ). seen_after c.loop-rest.seen
+    (reply_counters c.loop-rest.server.address c.loop-rest.server.part bs)) empty
+    ∙ ap (seen_after c.loop-rest.seen) (counters_none c.loop-rest.server.address c.loop-rest.server.part))
     ∙ c.loop-rest.invariant.seen_is
 
 pub loop-rest-preserved-in-Some : goal.loop-rest-preserved-in-Some
 loop-rest-preserved-in-Some c =
-    let said = ap (λ cs. seen_after c.loop-rest.seen cs) (c.hear_reply-used.ensures.counter ∙ ap (λ (o : Option ℕ). option_to_list o) c.in-Some.is) in
-    hears_more _ c.loop-rest.server c.hear_reply-used.new.self c.hear_reply-used.result.0 _ c.loop-rest.rest.now c.rest_of-rest.result.now _ c.loop-rest.seen _ c.loop-rest.invariant (search rules) (search rules)
+    let said = ap (λ cs. seen_after c.loop-rest.seen cs)
+    (c.hear_reply-used.ensures.counter ∙ ap (λ (o : Option ℕ). option_to_list o) c.in-Some.is) in
+    hears_more _ c.loop-rest.server c.hear_reply-used.new.self c.hear_reply-used.result.0 _ c.loop-rest.rest.now
+    c.rest_of-rest.result.now _ c.loop-rest.seen _ c.loop-rest.invariant (search rules) (search rules)
     (c.seen_with-seen.ensures ∙ sym said)
 
 pub loop-rest-preserved : goal.loop-rest-preserved
 loop-rest-preserved c =
-    let said = ap (λ cs. seen_after c.loop-rest.seen cs) (c.hear_reply-used.ensures.counter ∙ ap (λ (o : Option ℕ). option_to_list o) (none_is c.hear_reply-used.result.1 c.in_default.not-Some)) in
-    hears_more _ c.loop-rest.server c.hear_reply-used.new.self c.hear_reply-used.result.0 _ c.loop-rest.rest.now c.rest_of-rest.result.now _ c.loop-rest.seen _ c.loop-rest.invariant (search rules) (search rules) (sym said)
+    let said = ap (λ cs. seen_after c.loop-rest.seen cs)
+    (c.hear_reply-used.ensures.counter ∙ ap (λ (o : Option ℕ). option_to_list o)
+    (none_is c.hear_reply-used.result.1 c.in_default.not-Some)) in
+    hears_more _ c.loop-rest.server c.hear_reply-used.new.self c.hear_reply-used.result.0 _ c.loop-rest.rest.now
+    c.rest_of-rest.result.now _ c.loop-rest.seen _ c.loop-rest.invariant (search rules) (search rules) (sym said)

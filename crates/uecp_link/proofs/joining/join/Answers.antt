@@ -9,22 +9,30 @@ use Rattle.uecp_link.proofs.joining.join.Goals as goal
 pub returns-in-Err-clause-passes : goal.returns-in-Err-clause-passes
 returns-in-Err-clause-passes g c =
     let (below, wrote) = c.in-Err.ensures.err in
-    pass_unread g.R.Read.remaining g.W.Write.contents c.args.server.now c.begin_anew.new.self c.args.reader.now c.args.writer.now c.write_pass.new.writer c.args.turns (take c.in-Err.written (pass_sent c.args.server.now.address)) _
+    pass_unread g.R.Read.remaining g.W.Write.contents c.args.server.now c.begin_anew.new.self c.args.reader.now
+    c.args.writer.now c.write_pass.new.writer c.args.turns
+    (take c.in-Err.written (pass_sent c.args.server.now.address)) _
     c.begin_anew.ensures (search rules) (search rules) (search rules) refl
 
 pub returns-clause-passes : goal.returns-clause-passes
 returns-clause-passes g c =
-    pass_read g.R.Read.remaining g.W.Write.contents c.args.server.now c.begin_anew.new.self c.read_replies.new.server c.args.reader.now c.read_replies.new.reader c.args.writer.now c.write_pass.new.writer c.args.turns
+    pass_read g.R.Read.remaining g.W.Write.contents c.args.server.now c.begin_anew.new.self c.read_replies.new.server
+    c.args.reader.now c.read_replies.new.reader c.args.writer.now c.write_pass.new.writer c.args.turns
     c.read_replies.result c.begin_anew.ensures (search rules) c.in_default.ensures.failures c.read_replies.ensures
 
 pub returns-clause-idle : goal.returns-clause-idle
 returns-clause-idle g c =
-    ap (λ (s : ServerState). s.held) c.read_replies.ensures.state ∙ idle_hears c.begin_anew.new.self c.read_replies.ensures.read (ap (λ (s : ServerState). s.held) c.begin_anew.ensures)
+    ap (λ (s : ServerState). s.held) c.read_replies.ensures.state
+    ∙ idle_hears c.begin_anew.new.self c.read_replies.ensures.read
+    (ap (λ (s : ServerState). s.held) c.begin_anew.ensures)
 
 pub returns-clause-still_new : goal.returns-clause-still_new
 returns-clause-still_new g c =
-    still_new c.args.server.now c.read_replies.new.server c.read_replies.ensures.read (c.read_replies.ensures.state ∙ ap (λ (s : ServerState). heard s c.read_replies.ensures.read) c.begin_anew.ensures)
+    still_new c.args.server.now c.read_replies.new.server c.read_replies.ensures.read
+    (c.read_replies.ensures.state ∙ ap (λ (s : ServerState). heard s c.read_replies.ensures.read)
+    c.begin_anew.ensures)
 
 pub returns-in-Err-clause-still_new : goal.returns-in-Err-clause-still_new
 returns-in-Err-clause-still_new g c =
-    still_new c.args.server.now c.begin_anew.new.self [] (c.begin_anew.ensures ∙ sym (heard_none (anew c.args.server.now)))
+    still_new c.args.server.now c.begin_anew.new.self []
+    (c.begin_anew.ensures ∙ sym (heard_none (anew c.args.server.now)))

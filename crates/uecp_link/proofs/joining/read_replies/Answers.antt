@@ -27,10 +27,15 @@ returns-in-Err g c =
 pub returns-in-Ok-eq0 : goal.returns-in-Ok-eq0
 returns-in-Ok-eq0 g c =
     let last = last_read g.R.Read.remaining c.loop-turn.reader c.read.new.self c.read.new.buffer _
-        c.in-Ok-eq0.field-0-test c.in-Ok-eq0.ensures.bytes.0 c.read.ensures.calls c.in-Ok-eq0.ensures.failures (search rules) in
+    c.in-Ok-eq0.field-0-test c.in-Ok-eq0.ensures.bytes.0 c.read.ensures.calls c.in-Ok-eq0.ensures.failures
+    (search rules) in
     replies_quiet g.R.Read.remaining _ _ _ _ _ c.loop-turn._turn c.loop-turn.invariant _ _ c.args.turns 1 0 _ last refl
-    (omega arith)
-    (not_brought g.R.Read.remaining _ _ _ _ _ _ c.loop-turn.invariant c.requires.closed, refl, omega arith, search rules)
+    (omega arith) (
+      not_brought g.R.Read.remaining _ _ _ _ _ _ c.loop-turn.invariant c.requires.closed,
+      refl,
+      omega arith,
+      search rules,
+    )
 
 pub returns-then-eq : goal.returns-then-eq
 returns-then-eq g c =

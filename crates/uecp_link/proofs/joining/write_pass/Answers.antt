@@ -1,4 +1,5 @@
-use Rattle.std.proofs.Common.{◌≡◌, ℕ, ◌+◌, ◌<◌, List, [], ◌++◌, length, take, Some, ◌∙◌, ap, sym, subst, arith, rules, length-append}
+use Rattle.std.proofs.Common.{◌≡◌, ℕ, ◌+◌, ◌<◌, List, [], ◌++◌, length, take, Some, ◌∙◌, ap, sym, subst, arith, rules}
+use Rattle.std.proofs.Common.{length-append}
 use Rattle.std.specs.Prelude.{slice_get}
 use Rattle.std.specs.List.{concat}
 use Rattle.std.specs.Io.KnownBytes.{Appends}
@@ -20,7 +21,9 @@ returns-in-Err-clause-err g c =
     let (within, wrote) = c.in-Err.ensures.err in
     let less : c.in-Err.part < length f = omega (arith, within, ap length sent) in
     part_appended fs place f here _ _ _ c.in-Err.part less (omega (arith, c.loop-before.invariant.written))
-    (Appends-trans _ _ _ _ _ c.loop-before.invariant.appended (subst (λ bs. Appends (g.W.Write.contents c.loop-before.writer.device) (g.W.Write.contents c.write_whole.new.self.device) (take c.in-Err.part bs)) sent wrote))
+    (Appends-trans _ _ _ _ _ c.loop-before.invariant.appended
+    (subst (λ bs. Appends (g.W.Write.contents c.loop-before.writer.device)
+    (g.W.Write.contents c.write_whole.new.self.device) (take c.in-Err.part bs)) sent wrote))
 
 pub loop-before-preserved : goal.loop-before-preserved
 loop-before-preserved g c =
@@ -32,9 +35,16 @@ loop-before-preserved g c =
     let count : c.len.result ≡ length f = search rules in
     let more : concat (take (place + 1) fs) ≡ concat (take place fs) ++ f = frames_more fs place f here in
     record {
-      written = omega (arith, c.loop-before.invariant.written, count, ap length more, length-append (concat (take place fs)) f);
+      written = omega (
+        arith,
+        c.loop-before.invariant.written,
+        count,
+        ap length more,
+        length-append (concat (take place fs)) f,
+      );
       few = omega (arith, c.loop-before.invariant.few, count, frame_is_short c.args.address (place + 1));
-      appended = subst (Appends (g.W.Write.contents c.args.writer.now.device) (g.W.Write.contents c.write_whole.new.self.device)) (ap (λ bs. concat (take place fs) ++ bs) sent ∙ sym more)
+      appended = subst (Appends (g.W.Write.contents c.args.writer.now.device)
+          (g.W.Write.contents c.write_whole.new.self.device)) (ap (λ bs. concat (take place fs) ++ bs) sent ∙ sym more)
           (Appends-trans _ _ _ _ _ c.loop-before.invariant.appended c.in_default.ensures.ok);
       failures = c.in_default.ensures.failures ∙ c.loop-before.invariant.failures;
     }
@@ -42,5 +52,6 @@ loop-before-preserved g c =
 pub returns-clause-ok : goal.returns-clause-ok
 returns-clause-ok g c =
     let all : c.loop-before.before ≡ 255 = omega arith in
-    subst (λ (fs : List (List ℕ)). Appends (g.W.Write.contents c.args.writer.now.device) (g.W.Write.contents c.loop-before.writer.device) (concat fs))
+    subst (λ (fs : List (List ℕ)). Appends (g.W.Write.contents c.args.writer.now.device)
+    (g.W.Write.contents c.loop-before.writer.device) (concat fs))
     (ap (λ n. take n (frames_of_pass c.args.address)) all ∙ frames_all c.args.address) c.loop-before.invariant.appended

@@ -9,6 +9,7 @@ abbrev pub invariant-loop-before : goal.invariant-loop-before
 invariant-loop-before g l = record {
   written : l.written ≡ length (concat (take l.before (frames_of_pass l.address)));
   few : l.written ≤ 524 * l.before;
-  appended : Appends (g.W.Write.contents l.fn.writer.device) (g.W.Write.contents l.writer.device) (concat (take l.before (frames_of_pass l.address)));
+  appended : Appends (g.W.Write.contents l.fn.writer.device) (g.W.Write.contents l.writer.device)
+      (concat (take l.before (frames_of_pass l.address)));
   failures : l.writer.failures ≡ l.fn.writer.failures;
 }

@@ -27,7 +27,8 @@ loop-before-preserved g c =
 pub returns : goal.returns
 returns g c =
     let all : c.loop-before.before ≡ 255 = omega arith in
-    c.loop-before.invariant ∙ ap (λ (fs : List (List ℕ)). fed g.T.Target.step c.args.encoder.now (concat fs)) (ap (λ n. take n (frames_of_pass c.args.address)) all ∙ frames_all c.args.address)
+    c.loop-before.invariant ∙ ap (λ (fs : List (List ℕ)). fed g.T.Target.step c.args.encoder.now (concat fs))
+    (ap (λ n. take n (frames_of_pass c.args.address)) all ∙ frames_all c.args.address)
 
 pub loop-before-init : goal.loop-before-init
 loop-before-init g c = sym (fed_none g.T.Target.step c.args.encoder.now)

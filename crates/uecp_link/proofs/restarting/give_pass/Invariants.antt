@@ -6,4 +6,5 @@ use Rattle.uecp_link.proofs.restarting.give_pass.Given as goal
 
 -- the frames up to this place were fed
 abbrev pub invariant-loop-before : goal.invariant-loop-before
-invariant-loop-before g l = l.encoder ≡ fed g.T.Target.step l.fn.encoder (concat (take l.before (frames_of_pass l.address)))
+invariant-loop-before g l = l.encoder ≡ fed g.T.Target.step l.fn.encoder
+    (concat (take l.before (frames_of_pass l.address)))

@@ -6,7 +6,8 @@ use Rattle.uecp_link.proofs.Windowing.{gathered_none, gathered_on, gathers_more,
 use Rattle.uecp_link.proofs.window.gather.Goals as goal
 
 pub loop-turn-init : goal.loop-turn-init
-loop-turn-init g c = gathered_none g.R.Read.remaining c.args.server.now c.args.reader.now c.args.marks.now.items c.requires.busy
+loop-turn-init g c = gathered_none g.R.Read.remaining c.args.server.now c.args.reader.now c.args.marks.now.items
+    c.requires.busy
 
 pub returns-clause-gathers : goal.returns-clause-gathers
 returns-clause-gathers g c =
@@ -24,7 +25,8 @@ returns-in-Err-clause-gathers g c =
 pub returns-in-Ok-eq0-clause-gathers : goal.returns-in-Ok-eq0-clause-gathers
 returns-in-Ok-eq0-clause-gathers g c =
     let last = last_read g.R.Read.remaining c.loop-turn.reader c.read.new.self c.read.new.buffer _
-        c.in-Ok-eq0.field-0-test c.in-Ok-eq0.ensures.bytes.0 c.read.ensures.calls c.in-Ok-eq0.ensures.failures (search rules) in
+    c.in-Ok-eq0.field-0-test c.in-Ok-eq0.ensures.bytes.0 c.read.ensures.calls c.in-Ok-eq0.ensures.failures
+    (search rules) in
     gathers_quiet g.R.Read.remaining _ _ _ _ _ _ c.loop-turn._turn c.loop-turn.invariant _ _ _ c.args.turns 1 0 _
     last (search rules) (search rules) (omega arith) (search rules)
 

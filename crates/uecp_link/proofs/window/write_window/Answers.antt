@@ -1,4 +1,5 @@
-use Rattle.std.proofs.Common.{◌≡◌, ℕ, ◌+◌, List, ◌++◌, length, take, Some, ◌∙◌, ap, sym, subst, arith, rules, length-append}
+use Rattle.std.proofs.Common.{◌≡◌, ℕ, ◌+◌, List, ◌++◌, length, take, Some, ◌∙◌, ap, sym, subst, arith, rules}
+use Rattle.std.proofs.Common.{length-append}
 use Rattle.std.specs.Prelude.{slice_get}
 use Rattle.std.specs.List.{concat}
 use Rattle.std.specs.Io.KnownBytes.{Appends}
@@ -13,7 +14,8 @@ returns-in-Err-clause-err g c =
     let f : List ℕ = c.in-Some.frame.now in
     let here : slice_get fs c.loop-place.place ≡ Some f = search rules in
     let (within, wrote) = c.in-Err.ensures.err in
-    part_appended fs c.loop-place.place f here _ _ _ c.in-Err.part within (omega (arith, c.loop-place.invariant.written)) (Appends-trans _ _ _ _ _ c.loop-place.invariant.appended wrote)
+    part_appended fs c.loop-place.place f here _ _ _ c.in-Err.part within
+    (omega (arith, c.loop-place.invariant.written)) (Appends-trans _ _ _ _ _ c.loop-place.invariant.appended wrote)
 
 pub loop-place-preserved : goal.loop-place-preserved
 loop-place-preserved g c =
@@ -25,6 +27,8 @@ loop-place-preserved g c =
     record {
       written = omega (arith, c.loop-place.invariant.written, ap length more, length-append (concat (take place fs)) f);
       few = omega (arith, c.loop-place.invariant.few, c.in-Some.ensures.few);
-      appended = subst (Appends (g.W.Write.contents c.args.writer.now.device) (g.W.Write.contents c.write_whole.new.self.device)) (sym more) (Appends-trans _ _ _ _ _ c.loop-place.invariant.appended c.in_default-write_whole.ensures.ok);
+      appended = subst (Appends (g.W.Write.contents c.args.writer.now.device)
+          (g.W.Write.contents c.write_whole.new.self.device)) (sym more)
+          (Appends-trans _ _ _ _ _ c.loop-place.invariant.appended c.in_default-write_whole.ensures.ok);
       failures = c.in_default-write_whole.ensures.failures ∙ c.loop-place.invariant.failures;
     }

@@ -9,6 +9,7 @@ abbrev pub invariant-loop-place : goal.invariant-loop-place
 invariant-loop-place g l = record {
   written : l.written ≡ length (concat (take l.place (frames_waiting l.server)));
   few : l.written ≤ 524 * l.place;
-  appended : Appends (g.W.Write.contents l.fn.writer.device) (g.W.Write.contents l.writer.device) (concat (take l.place (frames_waiting l.server)));
+  appended : Appends (g.W.Write.contents l.fn.writer.device) (g.W.Write.contents l.writer.device)
+      (concat (take l.place (frames_waiting l.server)));
   failures : l.writer.failures ≡ l.fn.writer.failures;
 }

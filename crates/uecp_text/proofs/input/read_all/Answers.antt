@@ -10,5 +10,9 @@ returns-in_err-extend_from_slice-in-Ok-clause-refused g c =
     let so_far = c.loop-buffer.all.items in
     let piece = take c.in-Ok.count c.read.new.buf in
     let wanting : c.from_residual.result ≡ Err OutOfMemory = search rules in
-    subst (λ result. IfErr result (IsUnread (left c.args.reader.now) (left c.read.new.self))) (sym wanting)
-    (so_far ++ piece, Consumes-trans (left c.args.reader.now) (left c.loop-buffer.reader) (left c.read.new.self) so_far piece c.loop-buffer.invariant.1 c.in-Ok.ensures.bytes.0, tt)
+    subst (λ result. IfErr result (IsUnread (left c.args.reader.now) (left c.read.new.self))) (sym wanting) (
+      so_far ++ piece,
+      Consumes-trans (left c.args.reader.now) (left c.loop-buffer.reader) (left c.read.new.self) so_far
+          piece c.loop-buffer.invariant.1 c.in-Ok.ensures.bytes.0,
+      tt,
+    )

@@ -11,5 +11,6 @@ returns c =
     let text = c.args.text.now in
     ap (λ n. take (length text - n) text)
     (count_from_yields_List c.take_while.result c.count-last.result c.count-last.ensures.ran
-    (YieldsList-from_take_while _ is_space (YieldsList-from_rev_slice text (cc)) c.take_while.ensures.closure c.take_while.ensures.done (λ x b q k. search (rules, tests)))
+    (YieldsList-from_take_while _ is_space (YieldsList-from_rev_slice text (cc)) c.take_while.ensures.closure
+    c.take_while.ensures.done (λ x b q k. search (rules, tests)))
     ∙ length-prefix_len is_space (reverse text))

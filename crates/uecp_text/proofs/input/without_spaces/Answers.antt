@@ -14,5 +14,6 @@ returns c =
     ∙ ap without_last_spaces (take_rest text c.count-first.result)
     ∙ ap (λ n. without_last_spaces (drop n text))
     (count_from_yields_List c.take_while.result c.count-first.result c.count-first.ensures.ran
-    (YieldsList-from_take_while _ is_space (YieldsList-from_slice text (cc)) c.take_while.ensures.closure c.take_while.ensures.done (λ x b q k. search (rules, tests)))
+    (YieldsList-from_take_while _ is_space (YieldsList-from_slice text (cc)) c.take_while.ensures.closure
+    c.take_while.ensures.done (λ x b q k. search (rules, tests)))
     ∙ length-prefix_len is_space text)

@@ -7,7 +7,8 @@ use Rattle.uecp_text.proofs.interpreter.run_lines.Given as goal
 abbrev pub invariant-loop-rest : goal.invariant-loop-rest
 invariant-loop-rest g l = record {
   count : l.number + length l.rest ≤ 1 + length l.input;
-  led : Led g.I.Interpreter.meaning l.fn.interpreter (texts_of l.input) l.fn.output l.interpreter (numbered l.number (lines_of l.rest)) l.output;
+  led : Led g.I.Interpreter.meaning l.fn.interpreter (texts_of l.input) l.fn.output l.interpreter
+      (numbered l.number (lines_of l.rest)) l.output;
 }
 
 abbrev pub decreases-loop-rest : goal.decreases-loop-rest

@@ -6,4 +6,5 @@ pub returns-in_err-write_whole-clause-begun : goal.returns-in_err-write_whole-cl
 returns-in_err-write_whole-clause-begun g c =
     let held = g.W.Write.contents in
     let now = c.loop-part in
-    begun_at (held c.args.writer.now) (held now.writer) (held c.write_whole.new.writer) c.args.parts.now now.part-index _ (omega arith) now.invariant c.write_whole.ensures.begun
+    begun_at (held c.args.writer.now) (held now.writer) (held c.write_whole.new.writer) c.args.parts.now now.part-index
+    _ (omega arith) now.invariant c.write_whole.ensures.begun

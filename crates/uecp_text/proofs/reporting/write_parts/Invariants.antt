@@ -4,4 +4,5 @@ use Rattle.uecp_text.proofs.reporting.write_parts.Given as goal
 
 -- the parts so far were written
 abbrev pub invariant-loop-part : goal.invariant-loop-part
-invariant-loop-part g l = Appends (g.W.Write.contents l.fn.writer) (g.W.Write.contents l.writer) (flat_map (λ part. part.now) (take l.part-index l.parts))
+invariant-loop-part g l = Appends (g.W.Write.contents l.fn.writer) (g.W.Write.contents l.writer)
+    (flat_map (λ part. part.now) (take l.part-index l.parts))

@@ -10,12 +10,14 @@ loop-turn-preserved g c =
     let now = c.loop-turn in
     elim c.match-write.branch [
       | in-Ok w ↦
-          let more = more_written (held c.args.writer.now) (held now.writer) (held c.write.new.self) c.args.bytes.now now.invariant.0 now.rest.now w.rest_after-rest.result.now w.in-Ok.count
+          let more = more_written (held c.args.writer.now) (held now.writer) (held c.write.new.self) c.args.bytes.now
+          now.invariant.0 now.rest.now w.rest_after-rest.result.now w.in-Ok.count
           now.invariant.1 now.invariant.2 w.in-Ok.ensures.bytes w.rest_after-rest.ensures in
           (more.0, more.1 ∙ ap (λ rest. more.0 ++ rest.now) (sym w.rest-is), more.2)
       | in-Err w ↦ (
         now.invariant.0,
         now.invariant.1 ∙ ap (λ rest. now.invariant.0 ++ rest.now) (sym w.rest-is),
-        Appends-kept (held c.args.writer.now) (held now.writer) (held c.write.new.self) now.invariant.0 now.invariant.2 w.in-Err.ensures.bytes,
+        Appends-kept (held c.args.writer.now) (held now.writer) (held c.write.new.self) now.invariant.0 now.invariant.2
+            w.in-Err.ensures.bytes,
       )
     ]

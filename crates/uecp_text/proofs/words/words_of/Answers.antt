@@ -8,4 +8,7 @@ pub returns : goal.returns
 unfolding words
 returns c =
     map_from_collect _ c.collect.ensures.ran
-    (YieldsList-from_filter _ (λ w. not (length w == 0)) (YieldsList-at c.filter.ensures.source (YieldsList-from_slice_split _ (λ b. b == 32) c.args.text.now (cc) c.split.ensures.done c.split.ensures.closure (λ x r q k. search (rules, tests)))) c.filter.ensures.closure (λ x r q k. search (rules, tests)))
+    (YieldsList-from_filter _ (λ w. not (length w == 0))
+    (YieldsList-at c.filter.ensures.source (YieldsList-from_slice_split _ (λ b. b == 32) c.args.text.now (cc)
+    c.split.ensures.done c.split.ensures.closure (λ x r q k. search (rules, tests)))) c.filter.ensures.closure
+    (λ x r q k. search (rules, tests)))

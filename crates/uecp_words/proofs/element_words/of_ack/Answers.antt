@@ -4,4 +4,5 @@ use Rattle.uecp_words.proofs.element_words.of_ack.Goals as goal
 
 pub returns-clause-named : goal.returns-clause-named
 returns-clause-named c =
-    ack_named c.args.words.now _ _ _ _ (omega arith) c.in_ok-code.ensures.byte c.in_ok-counter.ensures.byte c.spelled.ensures
+    ack_named c.args.words.now _ _ _ _ (omega arith) c.in_ok-code.ensures.byte c.in_ok-counter.ensures.byte
+    c.spelled.ensures

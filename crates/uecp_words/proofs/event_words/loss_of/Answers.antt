@@ -13,4 +13,5 @@ returns-in_err-end_of-in-len1-clause-refused c =
 pub returns-in_ok-end_of-in-len1-clause-named : goal.returns-in_ok-end_of-in-len1-clause-named
 returns-in_ok-end_of-in-len1-clause-named c =
     loss_named c.in_ok-end_of-in-len1.field-0 (map (λ w. w.now) c.args.words.now)
-    (one_word c.args.words.now _ c.in-len1.len_at_least c.in-len1.len_below ∙ ap (λ w. w ∷ []) c.in_ok-end_of-in-len1.ensures.named)
+    (one_word c.args.words.now _ c.in-len1.len_at_least c.in-len1.len_below
+    ∙ ap (λ w. w ∷ []) c.in_ok-end_of-in-len1.ensures.named)

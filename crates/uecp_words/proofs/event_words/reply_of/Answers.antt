@@ -6,4 +6,5 @@ use Rattle.uecp_words.proofs.event_words.reply_of.Goals as goal
 pub returns-in_err-number-clause-refused : goal.returns-in_err-number-clause-refused
 returns-in_err-number-clause-refused c =
     let exit = err_from_is_err_and c.from_residual.result c.from_residual.ensures.1 in
-    rw (exit.1, exit.2) (reply_refused (map (λ w. w.now) c.args.words.now) c.in_err-number.field-0.0 (fails_from c.args.words.now c.in_err-number.field-0.0 c.in_err-number.ensures.refused))
+    rw (exit.1, exit.2) (reply_refused (map (λ w. w.now) c.args.words.now) c.in_err-number.field-0.0
+    (fails_from c.args.words.now c.in_err-number.field-0.0 c.in_err-number.ensures.refused))

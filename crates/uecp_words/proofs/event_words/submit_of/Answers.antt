@@ -9,4 +9,6 @@ returns-in_err-bytes-in-len1-clause-refused c =
     let words = map (λ w. w.now) c.args.words.now in
     let fault = c.in_err-bytes-in-len1.field-0.0 in
     rw (exit.1, exit.2) (
-    submission_refused words fault (one_long c.args.words.now c.in-len1.len_at_least c.in-len1.len_below) (row_fails _ words fault (one_word c.args.words.now _ c.in-len1.len_at_least c.in-len1.len_below) c.in_err-bytes-in-len1.ensures.refused))
+    submission_refused words fault (one_long c.args.words.now c.in-len1.len_at_least c.in-len1.len_below)
+    (row_fails _ words fault (one_word c.args.words.now _ c.in-len1.len_at_least c.in-len1.len_below)
+    c.in_err-bytes-in-len1.ensures.refused))

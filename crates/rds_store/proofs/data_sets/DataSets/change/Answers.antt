@@ -14,20 +14,30 @@ use Rattle.rds_store.proofs.data_sets.DataSets.change.Goals as goal
 
 pub change_service-requires-clause-room : goal.change_service-requires-clause-room
 change_service-requires-clause-room c = λ adding.
-    not_full (names_set c.args.dsn c.self.inside.current) c.self.inside.sets c.args.number c.self.inside.services.entries c.self.invariant.all_sets
-    (ap (λ v. has_full_set v c.args.dsn c.args.number) c.self.view_is ∙ room (adds_text (element_of c.args.element.now)) _ c.requires.room adding)
+    not_full (names_set c.args.dsn c.self.inside.current) c.self.inside.sets c.args.number
+    c.self.inside.services.entries c.self.invariant.all_sets
+    (ap (λ v. has_full_set v c.args.dsn c.args.number) c.self.view_is
+    ∙ room (adds_text (element_of c.args.element.now)) _ c.requires.room adding)
 
 pub invariant_of-self : goal.invariant_of-self
 invariant_of-self c =
     rw c.change_service.ensures.services
-    (kept_changed c.self.inside.sets c.self.inside.current c.args.number (names_set c.args.dsn c.self.inside.current) (taken (element_of c.args.element.now)) c.self.inside.services.entries
+    (kept_changed c.self.inside.sets c.self.inside.current c.args.number (names_set c.args.dsn c.self.inside.current)
+    (taken (element_of c.args.element.now)) c.self.inside.services.entries
     c.self.inside.groups.items c.self.invariant)
 
 made : (sets current : ℕ) → List Group → List ℕ → Data → Store
-made sets current groups services places = record { sets = sets; services = services; current = current; places = places; groups = groups }
+made sets current groups services places = record {
+  sets = sets;
+  services = services;
+  current = current;
+  places = places;
+  groups = groups;
+}
 
 changed_store : (dsn number : ℕ) → (ServiceData → ServiceData) → Store → Store
-changed_store dsn number change v = record v { places = change_where (at_service (names_set dsn v.current) number) change v.places }
+changed_store dsn number change v =
+    record v { places = change_where (at_service (names_set dsn v.current) number) change v.places }
 
 pub returns : goal.returns
 unfolding made changed_store
@@ -36,7 +46,10 @@ returns c =
     let change = taken (element_of c.args.element.now) in
     let services = c.change_service.ensures.services in
     let keys = ap keys_of services ∙ keys-changed_service c.args.number test change c.self.inside.services.entries in
-    let places : from_entries {R = place_cmp} (all_places c.change_service.new.services.entries) ≡ change_where (at_service test c.args.number) change (from_entries (all_places c.self.inside.services.entries)) =
-    ap (λ r. from_entries {R = place_cmp} (all_places r)) services ∙ places_changed c.args.number test change c.self.inside.services.entries c.change_service.ensures.unique in
+    let places : from_entries {R = place_cmp} (all_places c.change_service.new.services.entries)
+    ≡ change_where (at_service test c.args.number) change
+    (from_entries (all_places c.self.inside.services.entries)) =
+    ap (λ r. from_entries {R = place_cmp} (all_places r)) services
+    ∙ places_changed c.args.number test change c.self.inside.services.entries c.change_service.ensures.unique in
     (λ i. made c.self.inside.sets c.self.inside.current c.self.inside.groups.items (keys i) (places i))
     ∙ ap (changed_store c.args.dsn c.args.number change) c.self.view_is

@@ -8,7 +8,8 @@ use Rattle.uecp_encoder.specs.Answering.{Response, Replied, reply_of, responses_
 use Rattle.uecp_encoder.specs.Holdings.{with_part, said_of}
 use Rattle.uecp_encoder.proofs.Feeding.{fed_is, answers_piece}
 use Rattle.uecp_encoder.proofs.encoder.Encoder.feed.Goals as goal
-use Rattle.uecp_encoder.proofs.encoder.Encoder.feed.Goals.{in-Nothing, in-Dropped, in-NotForMe, in-Unnumbered, in-NotNext, in-Reply}
+use Rattle.uecp_encoder.proofs.encoder.Encoder.feed.Goals.{in-Nothing, in-Dropped, in-NotForMe, in-Unnumbered}
+use Rattle.uecp_encoder.proofs.encoder.Encoder.feed.Goals.{in-NotNext, in-Reply}
 
 pub returns : goal.returns
 returns g c =
@@ -29,7 +30,8 @@ returns g c =
       | in-Reply w ↦
           ap responses_of w.what-is
           ∙ ap (λ (bytes : List ℕ). let r : List Response = Replied bytes w.in-Reply.fresh ∷ [] in r)
-          (w.spell_reply.ensures ∙ ap (λ (a : ℕ). spelling (reply_of a w.in-Reply.counter w.in-Reply.code)) c.take.ensures.address)
+          (w.spell_reply.ensures ∙ ap (λ (a : ℕ). spelling (reply_of a w.in-Reply.counter w.in-Reply.code))
+          c.take.ensures.address)
           ∙ sym (ap (said_of address) w.in-Reply.is)
     ] in
     let new_is : c.match-take.self.0 ≡ with_part c.take.new.self left =
@@ -44,14 +46,16 @@ returns g c =
     let state : c.match-take.self.0 ≡ fed step c.args.self.now (take c.feed_ref.result.used c.args.piece.now) =
     new_is ∙ c.take.ensures.holds left ∙ sym (fed_is step old c.args.piece.now lent left c.feed_ref.ensures.feeds)
     ∙ ap (λ e. fed step e (take c.feed_ref.result.used c.args.piece.now)) c.self.view_is in
-    let answers : AnswersPiece step old c.args.piece.now (record { used = c.feed_ref.result.used; what = c.match-take.what }) =
+    let answers : AnswersPiece step old c.args.piece.now
+    (record { used = c.feed_ref.result.used; what = c.match-take.what }) =
     answers_piece step old c.args.piece.now lent left c.match-take.what c.feed_ref.ensures.feeds
     (sym (c.take.ensures.says c.self.inside.deframer) ∙ sym says) in (
       (refl, (λ _. tt), state),
       record {
         fits = c.feed_ref.ensures.fits;
         moves = c.feed_ref.ensures.moves;
-        answers = subst (λ e. AnswersPiece step e c.args.piece.now (record { used = c.feed_ref.result.used; what = c.match-take.what })) c.self.view_is answers;
+        answers = subst (λ e. AnswersPiece step e c.args.piece.now
+            (record { used = c.feed_ref.result.used; what = c.match-take.what })) c.self.view_is answers;
         after = tt;
       },
     )

@@ -19,7 +19,10 @@ loop-at-preserved g c =
       subst (Appends _ _) joined (Appends-trans _ _ _ _ _ at_is c.in-Ok.ensures.bytes),
       search rules,
       search rules,
-      λ few. (let so_far = calls few in (omega (arith, few, below, so_far, made), omega (arith, few, below, so_far, made, some))),
+      λ few. (let so_far = calls few in (
+        omega (arith, few, below, so_far, made),
+        omega (arith, few, below, so_far, made, some),
+      )),
     )
 
 pub returns-in-Err-clause-calls : goal.returns-in-Err-clause-calls
@@ -27,4 +30,7 @@ returns-in-Err-clause-calls g c =
     let (within, at_is, failures, empty, calls) = c.loop-at.invariant in
     let made = c.write.ensures.calls in
     let below : c.loop-at.at < length c.args.bytes.now = search rules in
-    λ few. (let so_far = calls few in (omega (arith, few, below, so_far, made), omega (arith, few, below, so_far, made)))
+    λ few. (let so_far = calls few in (
+      omega (arith, few, below, so_far, made),
+      omega (arith, few, below, so_far, made),
+    ))

@@ -8,7 +8,8 @@ invariant-loop-at g l = (l.at ≤ length l.bytes)
     × Appends (g.D.Write.contents l.fn.self.device) (g.D.Write.contents l.self.device) (take l.at l.bytes)
     × (l.self.failures ≡ l.fn.self.failures)
     × (l.self.empty ≡ l.fn.self.empty)
-    × (l.fn.self.calls + length l.bytes < 2 ^ 128 → (l.fn.self.calls ≤ l.self.calls) × (l.self.calls ≤ l.fn.self.calls + l.at))
+    × (l.fn.self.calls + length l.bytes < 2 ^ 128 → (l.fn.self.calls ≤ l.self.calls)
+    × (l.self.calls ≤ l.fn.self.calls + l.at))
 
 abbrev pub decreases-loop-at : goal.decreases-loop-at
 decreases-loop-at g l = length l.bytes - l.at

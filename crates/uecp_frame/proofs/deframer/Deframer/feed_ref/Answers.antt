@@ -13,10 +13,18 @@ returns c =
     let used = advanced.result.used in
     let new = part_of advanced.new.self in
     let plain = advanced.new.self.plain.items in
-    let feeds = subst (λ o. Feeds o piece (fed_ended advanced.result plain) new) c.self.view_is advanced.ensures.feeds in
+    let feeds = subst (λ o. Feeds o piece (fed_ended advanced.result plain) new) c.self.view_is
+    advanced.ensures.feeds in
     let found : found_lent c.lent.result ≡ found_ended advanced.result.ended plain = c.lent.ensures.found in
-    let lent : Feeds c.args.self.now piece (record { used = used; found = found_lent c.lent.result }) (open_beyond c.args.self.now (take used piece)) =
-    record { used = feeds.used; answer = feeds.answer ∙ ap findings_of (sym found); first = feeds.first; all = λ e. feeds.all (sym found ∙ e); left = refl } in (
+    let lent : Feeds c.args.self.now piece (record { used = used; found = found_lent c.lent.result })
+    (open_beyond c.args.self.now (take used piece)) =
+    record {
+      used = feeds.used;
+      answer = feeds.answer ∙ ap findings_of (sym found);
+      first = feeds.first;
+      all = λ e. feeds.all (sym found ∙ e);
+      left = refl;
+    } in (
       (refl, (λ _. tt), sym feeds.left),
       record {
         fits = feeds.used;

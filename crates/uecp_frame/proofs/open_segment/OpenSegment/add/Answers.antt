@@ -8,7 +8,12 @@ use Rattle.uecp_frame.proofs.Steps.{step_run, step_overrun, length-stuffed-run, 
 use Rattle.uecp_frame.proofs.open_segment.OpenSegment.add.Goals as goal
 
 pub overflow_add-self : goal.overflow_add-self
-overflow_add-self c = omega (arith, c.in-Ok.ensures.variant.0 refl, c.requires.kept.counted c.requires.certain, length-stuffed-le c.args.self.now.plain.items)
+overflow_add-self c = omega (
+  arith,
+  c.in-Ok.ensures.variant.0 refl,
+  c.requires.kept.counted c.requires.certain,
+  length-stuffed-le c.args.self.now.plain.items,
+)
 
 pub returns-in-Ok-clause-part : goal.returns-in-Ok-clause-part
 returns-in-Ok-clause-part c =
@@ -23,7 +28,8 @@ returns-in-Ok-clause-kept c =
     let p = c.args.self.now.plain.items in
     let run = c.args.run.now in
     subst IsOpenSegment (sym c.check_more.ensures) (record {
-      counted = λ e. ap (λ (n : ℕ). n + length run) (c.requires.kept.counted c.requires.certain) ∙ sym (ap (λ q. length (stuffed q)) c.in-Ok.ensures.ok ∙ length-stuffed-run p run c.requires.below);
+      counted = λ e. ap (λ (n : ℕ). n + length run) (c.requires.kept.counted c.requires.certain)
+          ∙ sym (ap (λ q. length (stuffed q)) c.in-Ok.ensures.ok ∙ length-stuffed-run p run c.requires.below);
       register = λ e. refl;
       room = λ e. let k : false ≡ true = sym c.requires.plain ∙ e in absurd (cc);
     })

@@ -24,7 +24,8 @@ loop-used-preserved c =
     let fed = fed_ended taken.result plain in
     let takes = subst (λ r. Takes old r fed new) (take_rest c.args.piece.now c.loop-used.used) taken.ensures.takes in
     record {
-      quiet = quiet_on (part_of c.args.self.now) c.args.piece.now c.loop-used.used old new fed c.loop-used.invariant.quiet takes (ap (λ e. found_ended e plain) c.in-Nothing.is);
+      quiet = quiet_on (part_of c.args.self.now) c.args.piece.now c.loop-used.used old new fed
+          c.loop-used.invariant.quiet takes (ap (λ e. found_ended e plain) c.in-Nothing.is);
       kept = taken.ensures.kept;
     }
 
@@ -36,7 +37,8 @@ returns-in_default c =
     let new = part_of taken.new.self in
     let fed = fed_ended taken.result plain in
     let takes = subst (λ r. Takes old r fed new) (take_rest c.args.piece.now c.loop-used.used) taken.ensures.takes in
-    let feeds = feeds_on (part_of c.args.self.now) c.args.piece.now c.loop-used.used old new fed c.loop-used.invariant.quiet takes (ended_some taken.result.ended plain c.in_default.not-Nothing) in
+    let feeds = feeds_on (part_of c.args.self.now) c.args.piece.now c.loop-used.used old new fed
+    c.loop-used.invariant.quiet takes (ended_some taken.result.ended plain c.in_default.not-Nothing) in
     record {
       fits = feeds.used;
       moves = λ h. omega (arith, takes.some);
@@ -49,7 +51,8 @@ pub returns : goal.returns
 returns c = record {
   fits = c.loop-used.invariant.quiet.fits;
   moves = λ h. omega arith;
-  feeds = feeds_nothing (part_of c.args.self.now) c.args.piece.now c.loop-used.used (part_of c.loop-used.self) c.loop-used.invariant.quiet c.loop-used-test.false;
+  feeds = feeds_nothing (part_of c.args.self.now) c.args.piece.now c.loop-used.used (part_of c.loop-used.self)
+      c.loop-used.invariant.quiet c.loop-used-test.false;
   whole = λ e. absurd (cc);
   kept = c.loop-used.invariant.kept;
 }

@@ -10,28 +10,38 @@ use Rattle.uecp_frame.proofs.Steps.{close_escaping, close_whole, inside_escaping
 use Rattle.uecp_frame.proofs.open_segment.OpenSegment.judged.Goals as goal
 
 pub overflow_add-result : goal.overflow_add-result
-overflow_add-result c = omega (arith, c.requires.counted c.in-None.is, length-stuffed-le c.args.self.now.plain.items, c.requires.room c.if-self.true)
+overflow_add-result c = omega (
+  arith,
+  c.requires.counted c.in-None.is,
+  length-stuffed-le c.args.self.now.plain.items,
+  c.requires.room c.if-self.true,
+)
 
 pub returns-then-self-clause-findings : goal.returns-then-self-clause-findings
 returns-then-self-clause-findings c =
     let now = c.args.self.now in
     ap (λ o. closing o [] 255) (inside_escaping now.fault now.plain.items now.is_escaping c.in-None.is c.if-self.true)
-    ∙ ap (λ j. j ∷ []) (close_escaping now.plain.items (c.requires.room c.if-self.true) ∙ ap (λ (n : ℕ). let f : Finding = Err (BadStuffing (1 + n)) in f) (sym (c.requires.counted c.in-None.is)))
+    ∙ ap (λ j. j ∷ []) (close_escaping now.plain.items (c.requires.room c.if-self.true)
+    ∙ ap (λ (n : ℕ). let f : Finding = Err (BadStuffing (1 + n)) in f) (sym (c.requires.counted c.in-None.is)))
 
 pub judge-requires-clause-check : goal.judge-requires-clause-check
 unfolding check
-judge-requires-clause-check c = ap (λ (r : ℕ). 65535 - r) (c.requires.register c.in-None.is) ∙ ap (λ p. check (checked p)) (sym c.as_slice.ensures.value)
+judge-requires-clause-check c = ap (λ (r : ℕ). 65535 - r) (c.requires.register c.in-None.is)
+    ∙ ap (λ p. check (checked p)) (sym c.as_slice.ensures.value)
 
 pub returns-in-Ok-clause-findings : goal.returns-in-Ok-clause-findings
 returns-in-Ok-clause-findings c =
     let now = c.args.self.now in
     ap (λ o. closing o [] 255) (inside_plain now.fault now.plain.items now.is_escaping c.in-None.is c.if-self.false)
-    ∙ ap (λ j. j ∷ []) (close_whole now.plain.items (omega (arith, c.as_slice.ensures.fits, ap length c.as_slice.ensures.value))
-    ∙ ap content (sym c.as_slice.ensures.value) ∙ c.in-Ok.ensures.ok ∙ ap (λ x. let f : Finding = Ok (frame_of x) in f) c.as_slice.ensures.value)
+    ∙ ap (λ j. j ∷ []) (close_whole now.plain.items (omega
+    (arith, c.as_slice.ensures.fits, ap length c.as_slice.ensures.value))
+    ∙ ap content (sym c.as_slice.ensures.value) ∙ c.in-Ok.ensures.ok
+    ∙ ap (λ x. let f : Finding = Ok (frame_of x) in f) c.as_slice.ensures.value)
 
 pub returns-in-Err-clause-findings : goal.returns-in-Err-clause-findings
 returns-in-Err-clause-findings c =
     let now = c.args.self.now in
     ap (λ o. closing o [] 255) (inside_plain now.fault now.plain.items now.is_escaping c.in-None.is c.if-self.false)
-    ∙ ap (λ j. j ∷ []) (close_whole now.plain.items (omega (arith, c.as_slice.ensures.fits, ap length c.as_slice.ensures.value))
+    ∙ ap (λ j. j ∷ []) (close_whole now.plain.items (omega
+    (arith, c.as_slice.ensures.fits, ap length c.as_slice.ensures.value))
     ∙ ap content (sym c.as_slice.ensures.value) ∙ c.in-Err.ensures.err)

@@ -17,5 +17,7 @@ returns-then-rest-lt-STUFFED-clause-part c =
     let new = c.escape.new.self in
     ap (prolonged start) (two_bytes rest c.if-rest-gt1.true c.requires.escape)
     ∙ prolonged-append start (253 ∷ []) (slice_index rest 1 ∷ [])
-    ∙ ap (λ o. prolonged o (slice_index rest 1 ∷ [])) (c.escape.ensures.part ∙ inside_escaping new.fault new.plain.items new.is_escaping (c.escape.ensures.room c.if-self.true) c.if-self.true)
+    ∙ ap (λ o. prolonged o (slice_index rest 1 ∷ []))
+    (c.escape.ensures.part ∙ inside_escaping new.fault new.plain.items new.is_escaping
+    (c.escape.ensures.room c.if-self.true) c.if-self.true)
     ∙ c.unescape.ensures.part

@@ -9,21 +9,34 @@ use Rattle.uecp_frame.proofs.Steps.{step_escaped, step_bad, inside_plain}
 use Rattle.uecp_frame.proofs.open_segment.OpenSegment.unescape.Goals as goal
 
 pub overflow_add-self : goal.overflow_add-self
-overflow_add-self c = omega (arith, c.requires.kept.counted c.requires.certain, length-stuffed-le c.args.self.now.plain.items, c.requires.kept.room c.requires.escaping)
+overflow_add-self c = omega (
+  arith,
+  c.requires.kept.counted c.requires.certain,
+  length-stuffed-le c.args.self.now.plain.items,
+  c.requires.kept.room c.requires.escaping,
+)
 
 pub overflow_add-self-else-byte-lt-STUFFED : goal.overflow_add-self-else-byte-lt-STUFFED
-overflow_add-self-else-byte-lt-STUFFED c = omega (arith, c.requires.kept.counted c.requires.certain, length-stuffed-le c.args.self.now.plain.items, c.requires.kept.room c.requires.escaping)
+overflow_add-self-else-byte-lt-STUFFED c = omega (
+  arith,
+  c.requires.kept.counted c.requires.certain,
+  length-stuffed-le c.args.self.now.plain.items,
+  c.requires.kept.room c.requires.escaping,
+)
 
 pub returns-then-byte-lt-STUFFED-clause-part : goal.returns-then-byte-lt-STUFFED-clause-part
 returns-then-byte-lt-STUFFED-clause-part c =
     let now = c.args.self.now in
     step_escaped now.plain.items c.args.byte c.if-byte-lt-STUFFED.true (c.requires.kept.room c.requires.escaping)
     ∙ sym (ap (λ s. inside_of s.fault s.plain.items s.is_escaping) c.check_more.ensures
-    ∙ inside_plain now.fault c.push.new.self.items false c.requires.certain refl ∙ ap (λ q. Part (record { plain = q; rest = [] })) c.push.ensures.items)
+    ∙ inside_plain now.fault c.push.new.self.items false c.requires.certain refl
+    ∙ ap (λ q. Part (record { plain = q; rest = [] })) c.push.ensures.items)
 
 pub returns-then-byte-lt-STUFFED-clause-kept : goal.returns-then-byte-lt-STUFFED-clause-kept
 returns-then-byte-lt-STUFFED-clause-kept c = subst IsOpenSegment (sym c.check_more.ensures) (record {
-  counted = λ e. ap (λ (n : ℕ). n + 2) (c.requires.kept.counted c.requires.certain) ∙ sym (ap (λ q. length (stuffed q)) c.push.ensures.items ∙ length-stuffed-escaped c.args.self.now.plain.items c.args.byte c.if-byte-lt-STUFFED.true);
+  counted = λ e. ap (λ (n : ℕ). n + 2) (c.requires.kept.counted c.requires.certain)
+      ∙ sym (ap (λ q. length (stuffed q)) c.push.ensures.items
+      ∙ length-stuffed-escaped c.args.self.now.plain.items c.args.byte c.if-byte-lt-STUFFED.true);
   register = λ e. refl;
   room = λ e. let k : false ≡ true = e in absurd (cc);
 })

@@ -17,4 +17,5 @@ invariant_of-result g c =
 pub returns-clause-holds : goal.returns-clause-holds
 returns-clause-holds g c =
     let made : _ ≡ line_from c.args.encoder = search rules in
-    subst (λ (l : LineState _). Holds l (at_first c.args.encoder.value)) (sym made) (holds_from c.args.encoder c.requires.closed)
+    subst (λ (l : LineState _). Holds l (at_first c.args.encoder.value)) (sym made)
+    (holds_from c.args.encoder c.requires.closed)

@@ -9,13 +9,25 @@ use Rattle.uecp_link.proofs.line.Line.restart_server.Goals as goal
 
 pub invariant_of-self : goal.invariant_of-self
 invariant_of-self g c =
-    let old : LineState _ = record { encoder = c.self.inside.encoder; server = c.self.inside.server; sent = c.self.inside.sent.items; codes = c.self.inside.codes.items } in
-    let new : LineState _ = record { encoder = c.give_pass.new.encoder; server = c.begin_again.new.self; sent = c.clear.new.self.items; codes = c.clear-2.new.self.items } in
+    let old : LineState _ = record {
+      encoder = c.self.inside.encoder;
+      server = c.self.inside.server;
+      sent = c.self.inside.sent.items;
+      codes = c.self.inside.codes.items;
+    } in
+    let new : LineState _ = record {
+      encoder = c.give_pass.new.encoder;
+      server = c.begin_again.new.self;
+      sent = c.clear.new.self.items;
+      codes = c.clear-2.new.self.items;
+    } in
     let e : EncoderState _ = fed g.T.Target.step (with_nothing_open old.encoder) (pass_sent old.encoder.address) in
     let r : Restarted g.T.Target.step old e = restarted g.T.Target.step c.requires.empty old c.self.invariant.is_line in
     let begins : new ≡ line_from e =
-    left_is g.T.Target.step old c.self.invariant.is_line c.self.inside.address c.line_lost.new.self c.give_pass.new.encoder c.begin_again.new.self c.clear.new.self.items c.clear-2.new.self.items
-    c.self.invariant.address_is c.line_lost.ensures c.give_pass.ensures c.begin_again.ensures (search rules) (search rules) r.address in
+    left_is g.T.Target.step old c.self.invariant.is_line c.self.inside.address c.line_lost.new.self
+    c.give_pass.new.encoder c.begin_again.new.self c.clear.new.self.items c.clear-2.new.self.items
+    c.self.invariant.address_is c.line_lost.ensures c.give_pass.ensures c.begin_again.ensures (search rules)
+    (search rules) r.address in
     record {
       is_line = subst IsLine (sym begins) r.is_line;
       address_is = ap (λ (l : LineState _). l.encoder.address) begins ∙ r.address ∙ c.self.invariant.address_is;
@@ -24,13 +36,25 @@ invariant_of-self g c =
 
 pub returns-clause-restarts : goal.returns-clause-restarts
 returns-clause-restarts g c =
-    let old : LineState _ = record { encoder = c.self.inside.encoder; server = c.self.inside.server; sent = c.self.inside.sent.items; codes = c.self.inside.codes.items } in
-    let new : LineState _ = record { encoder = c.give_pass.new.encoder; server = c.begin_again.new.self; sent = c.clear.new.self.items; codes = c.clear-2.new.self.items } in
+    let old : LineState _ = record {
+      encoder = c.self.inside.encoder;
+      server = c.self.inside.server;
+      sent = c.self.inside.sent.items;
+      codes = c.self.inside.codes.items;
+    } in
+    let new : LineState _ = record {
+      encoder = c.give_pass.new.encoder;
+      server = c.begin_again.new.self;
+      sent = c.clear.new.self.items;
+      codes = c.clear-2.new.self.items;
+    } in
     let e : EncoderState _ = fed g.T.Target.step (with_nothing_open old.encoder) (pass_sent old.encoder.address) in
     let r : Restarted g.T.Target.step old e = restarted g.T.Target.step c.requires.empty old c.self.invariant.is_line in
     let begins : new ≡ line_from e =
-    left_is g.T.Target.step old c.self.invariant.is_line c.self.inside.address c.line_lost.new.self c.give_pass.new.encoder c.begin_again.new.self c.clear.new.self.items c.clear-2.new.self.items
-    c.self.invariant.address_is c.line_lost.ensures c.give_pass.ensures c.begin_again.ensures (search rules) (search rules) r.address in
+    left_is g.T.Target.step old c.self.invariant.is_line c.self.inside.address c.line_lost.new.self
+    c.give_pass.new.encoder c.begin_again.new.self c.clear.new.self.items c.clear-2.new.self.items
+    c.self.invariant.address_is c.line_lost.ensures c.give_pass.ensures c.begin_again.ensures (search rules)
+    (search rules) r.address in
     subst (λ (l : LineState _). Restarts g.T.Target.step l c.waiting-given_up.result new) c.self.view_is
     (record {
       given_up_is = c.waiting-given_up.ensures.value;
@@ -42,11 +66,23 @@ returns-clause-restarts g c =
 
 pub returns-clause-holds : goal.returns-clause-holds
 returns-clause-holds g c =
-    let old : LineState _ = record { encoder = c.self.inside.encoder; server = c.self.inside.server; sent = c.self.inside.sent.items; codes = c.self.inside.codes.items } in
-    let new : LineState _ = record { encoder = c.give_pass.new.encoder; server = c.begin_again.new.self; sent = c.clear.new.self.items; codes = c.clear-2.new.self.items } in
+    let old : LineState _ = record {
+      encoder = c.self.inside.encoder;
+      server = c.self.inside.server;
+      sent = c.self.inside.sent.items;
+      codes = c.self.inside.codes.items;
+    } in
+    let new : LineState _ = record {
+      encoder = c.give_pass.new.encoder;
+      server = c.begin_again.new.self;
+      sent = c.clear.new.self.items;
+      codes = c.clear-2.new.self.items;
+    } in
     let e : EncoderState _ = fed g.T.Target.step (with_nothing_open old.encoder) (pass_sent old.encoder.address) in
     let r : Restarted g.T.Target.step old e = restarted g.T.Target.step c.requires.empty old c.self.invariant.is_line in
     let begins : new ≡ line_from e =
-    left_is g.T.Target.step old c.self.invariant.is_line c.self.inside.address c.line_lost.new.self c.give_pass.new.encoder c.begin_again.new.self c.clear.new.self.items c.clear-2.new.self.items
-    c.self.invariant.address_is c.line_lost.ensures c.give_pass.ensures c.begin_again.ensures (search rules) (search rules) r.address in
+    left_is g.T.Target.step old c.self.invariant.is_line c.self.inside.address c.line_lost.new.self
+    c.give_pass.new.encoder c.begin_again.new.self c.clear.new.self.items c.clear-2.new.self.items
+    c.self.invariant.address_is c.line_lost.ensures c.give_pass.ensures c.begin_again.ensures (search rules)
+    (search rules) r.address in
     subst (λ (l : LineState _). Holds l (at_first l.encoder.value)) (sym begins) r.holds

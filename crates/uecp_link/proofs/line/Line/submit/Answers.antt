@@ -12,53 +12,147 @@ use Rattle.uecp_link.proofs.line.Line.submit.Goals as goal
 
 pub returns-then-not-has_room-clause-stops : goal.returns-then-not-has_room-clause-stops
 returns-then-not-has_room-clause-stops g c =
-    let line : LineState _ = record { encoder = c.self.inside.encoder; server = c.self.inside.server; sent = c.self.inside.sent.items; codes = c.self.inside.codes.items } in
+    let line : LineState _ = record {
+      encoder = c.self.inside.encoder;
+      server = c.self.inside.server;
+      sent = c.self.inside.sent.items;
+      codes = c.self.inside.codes.items;
+    } in
     subst (λ (l : LineState _). Stops l (Submit c.args.message.now) refusal.Busy l) c.self.view_is
-    (record { refuses = full_refuses line c.args.message.now c.self.invariant.is_line (λ room. false≢true (sym c.if-not-has_room.true ∙ c.has_room.ensures.1 room)); unchanged = refl })
+    (record {
+      refuses = full_refuses line c.args.message.now c.self.invariant.is_line
+          (λ room. false≢true (sym c.if-not-has_room.true ∙ c.has_room.ensures.1 room));
+      unchanged = refl;
+    })
 
 pub returns-then-is_err-clause-stops : goal.returns-then-is_err-clause-stops
 returns-then-is_err-clause-stops g c =
-    let line : LineState _ = record { encoder = c.self.inside.encoder; server = c.self.inside.server; sent = c.self.inside.sent.items; codes = c.self.inside.codes.items } in
-    let after : LineState _ = record { encoder = c.self.inside.encoder; server = c.self.inside.server; sent = c.reserve.new.self.items; codes = c.self.inside.codes.items } in
-    let same : after ≡ line = ap (λ (x : List (List ℕ)). let l : LineState _ = record { encoder = c.self.inside.encoder; server = c.self.inside.server; sent = x; codes = c.self.inside.codes.items } in l) c.reserve.ensures.items in
+    let line : LineState _ = record {
+      encoder = c.self.inside.encoder;
+      server = c.self.inside.server;
+      sent = c.self.inside.sent.items;
+      codes = c.self.inside.codes.items;
+    } in
+    let after : LineState _ = record {
+      encoder = c.self.inside.encoder;
+      server = c.self.inside.server;
+      sent = c.reserve.new.self.items;
+      codes = c.self.inside.codes.items;
+    } in
+    let same : after ≡ line = ap (λ (x : List (List ℕ)). let l : LineState _ =
+    record {
+      encoder = c.self.inside.encoder;
+      server = c.self.inside.server;
+      sent = x;
+      codes = c.self.inside.codes.items;
+    } in l) c.reserve.ensures.items in
     subst (λ (l : LineState _). Stops l (Submit c.args.message.now) refusal.OutOfMemory after) c.self.view_is
-    (lacks_memory line after c.args.message.now c.self.invariant.is_line (c.has_room.ensures.0 c.if-not-has_room.false) same)
+    (lacks_memory line after c.args.message.now c.self.invariant.is_line (c.has_room.ensures.0 c.if-not-has_room.false)
+    same)
 
 pub returns-then-is_err-2-clause-stops : goal.returns-then-is_err-2-clause-stops
 returns-then-is_err-2-clause-stops g c =
-    let line : LineState _ = record { encoder = c.self.inside.encoder; server = c.self.inside.server; sent = c.self.inside.sent.items; codes = c.self.inside.codes.items } in
-    let after : LineState _ = record { encoder = c.self.inside.encoder; server = c.self.inside.server; sent = c.reserve.new.self.items; codes = c.reserve-2.new.self.items } in
+    let line : LineState _ = record {
+      encoder = c.self.inside.encoder;
+      server = c.self.inside.server;
+      sent = c.self.inside.sent.items;
+      codes = c.self.inside.codes.items;
+    } in
+    let after : LineState _ = record {
+      encoder = c.self.inside.encoder;
+      server = c.self.inside.server;
+      sent = c.reserve.new.self.items;
+      codes = c.reserve-2.new.self.items;
+    } in
     let same : after ≡ line =
-    ap (λ (x : List (List ℕ)). let l : LineState _ = record { encoder = c.self.inside.encoder; server = c.self.inside.server; sent = x; codes = c.reserve-2.new.self.items } in l) c.reserve.ensures.items
-    ∙ ap (λ (x : List Code). let l : LineState _ = record { encoder = c.self.inside.encoder; server = c.self.inside.server; sent = c.self.inside.sent.items; codes = x } in l) c.reserve-2.ensures.items in
+    ap (λ (x : List (List ℕ)). let l : LineState _ =
+    record {
+      encoder = c.self.inside.encoder;
+      server = c.self.inside.server;
+      sent = x;
+      codes = c.reserve-2.new.self.items;
+    } in l) c.reserve.ensures.items
+    ∙ ap (λ (x : List Code). let l : LineState _ = record {
+      encoder = c.self.inside.encoder;
+      server = c.self.inside.server;
+      sent = c.self.inside.sent.items;
+      codes = x;
+    } in l) c.reserve-2.ensures.items in
     subst (λ (l : LineState _). Stops l (Submit c.args.message.now) refusal.OutOfMemory after) c.self.view_is
-    (lacks_memory line after c.args.message.now c.self.invariant.is_line (c.has_room.ensures.0 c.if-not-has_room.false) same)
+    (lacks_memory line after c.args.message.now c.self.invariant.is_line (c.has_room.ensures.0 c.if-not-has_room.false)
+    same)
 
 pub returns-clause-goes : goal.returns-clause-goes
 returns-clause-goes g c =
-    let line : LineState _ = record { encoder = c.self.inside.encoder; server = c.self.inside.server; sent = c.self.inside.sent.items; codes = c.self.inside.codes.items } in
+    let line : LineState _ = record {
+      encoder = c.self.inside.encoder;
+      server = c.self.inside.server;
+      sent = c.self.inside.sent.items;
+      codes = c.self.inside.codes.items;
+    } in
     let m : List ℕ = c.args.message.now in
     let number : c.len-number.result ≡ length line.sent = search rules in
     let sent : c.add.new.values.items ≡ line.sent ++ m ∷ [] =
-    c.add.ensures.items ∙ ap (λ (xs : List (List ℕ)). xs ++ c.copy-copy.result ∷ []) c.reserve.ensures.items ∙ ap (λ (x : List ℕ). line.sent ++ x ∷ []) c.copy-copy.ensures in
-    let goes = submits g.T.Target.step g.T.Target.taken line m c.len-number.result c.self.invariant.is_line (c.has_room.ensures.0 c.if-not-has_room.false) number c.submit.new.self c.add.new.values.items c.submit.ensures sent in
-    let here : Goes g.T.Target.step g.T.Target.taken line (Submit m) (stepped.Numbered c.len-number.result) (record { encoder = c.self.inside.encoder; server = c.submit.new.self; sent = c.add.new.values.items; codes = c.reserve-2.new.self.items }) =
-    subst (λ (cs : List Code). Goes g.T.Target.step g.T.Target.taken line (Submit m) (stepped.Numbered c.len-number.result) (record { encoder = c.self.inside.encoder; server = c.submit.new.self; sent = c.add.new.values.items; codes = cs }))
+    c.add.ensures.items ∙ ap (λ (xs : List (List ℕ)). xs ++ c.copy-copy.result ∷ []) c.reserve.ensures.items
+    ∙ ap (λ (x : List ℕ). line.sent ++ x ∷ []) c.copy-copy.ensures in
+    let goes = submits g.T.Target.step g.T.Target.taken line m c.len-number.result c.self.invariant.is_line
+    (c.has_room.ensures.0 c.if-not-has_room.false) number c.submit.new.self c.add.new.values.items c.submit.ensures
+    sent in
+    let here : Goes g.T.Target.step g.T.Target.taken line (Submit m) (stepped.Numbered c.len-number.result)
+    (record {
+      encoder = c.self.inside.encoder;
+      server = c.submit.new.self;
+      sent = c.add.new.values.items;
+      codes = c.reserve-2.new.self.items;
+    }) =
+    subst (λ (cs : List Code). Goes g.T.Target.step g.T.Target.taken line (Submit m)
+    (stepped.Numbered c.len-number.result) (record {
+      encoder = c.self.inside.encoder;
+      server = c.submit.new.self;
+      sent = c.add.new.values.items;
+      codes = cs;
+    }))
     (sym c.reserve-2.ensures.items) goes in
-    subst (λ (l : LineState _). Goes g.T.Target.step g.T.Target.taken l (Submit m) (stepped.Numbered c.len-number.result) (record { encoder = c.self.inside.encoder; server = c.submit.new.self; sent = c.add.new.values.items; codes = c.reserve-2.new.self.items })) c.self.view_is here
+    subst (λ (l : LineState _). Goes g.T.Target.step g.T.Target.taken l (Submit m)
+    (stepped.Numbered c.len-number.result) (record {
+      encoder = c.self.inside.encoder;
+      server = c.submit.new.self;
+      sent = c.add.new.values.items;
+      codes = c.reserve-2.new.self.items;
+    })) c.self.view_is here
 
 pub invariant_of-self-2 : goal.invariant_of-self-2
 invariant_of-self-2 g c =
-    let line : LineState _ = record { encoder = c.self.inside.encoder; server = c.self.inside.server; sent = c.self.inside.sent.items; codes = c.self.inside.codes.items } in
+    let line : LineState _ = record {
+      encoder = c.self.inside.encoder;
+      server = c.self.inside.server;
+      sent = c.self.inside.sent.items;
+      codes = c.self.inside.codes.items;
+    } in
     let m : List ℕ = c.args.message.now in
     let number : c.len-number.result ≡ length line.sent = search rules in
     let sent : c.add.new.values.items ≡ line.sent ++ m ∷ [] =
-    c.add.ensures.items ∙ ap (λ (xs : List (List ℕ)). xs ++ c.copy-copy.result ∷ []) c.reserve.ensures.items ∙ ap (λ (x : List ℕ). line.sent ++ x ∷ []) c.copy-copy.ensures in
-    let goes = submits g.T.Target.step g.T.Target.taken line m c.len-number.result c.self.invariant.is_line (c.has_room.ensures.0 c.if-not-has_room.false) number c.submit.new.self c.add.new.values.items c.submit.ensures sent in
-    let here : IsLine (record { encoder = c.self.inside.encoder; server = c.submit.new.self; sent = c.add.new.values.items; codes = c.self.inside.codes.items }) =
-    goes_stays g.T.Target.step g.T.Target.taken line _ (Submit m) (stepped.Numbered c.len-number.result) (search rules) goes in
+    c.add.ensures.items ∙ ap (λ (xs : List (List ℕ)). xs ++ c.copy-copy.result ∷ []) c.reserve.ensures.items
+    ∙ ap (λ (x : List ℕ). line.sent ++ x ∷ []) c.copy-copy.ensures in
+    let goes = submits g.T.Target.step g.T.Target.taken line m c.len-number.result c.self.invariant.is_line
+    (c.has_room.ensures.0 c.if-not-has_room.false) number c.submit.new.self c.add.new.values.items c.submit.ensures
+    sent in
+    let here : IsLine (record {
+      encoder = c.self.inside.encoder;
+      server = c.submit.new.self;
+      sent = c.add.new.values.items;
+      codes = c.self.inside.codes.items;
+    }) =
+    goes_stays g.T.Target.step g.T.Target.taken line _ (Submit m) (stepped.Numbered c.len-number.result) (search rules)
+    goes in
     record {
-      is_line = subst (λ (cs : List Code). IsLine (record { encoder = c.self.inside.encoder; server = c.submit.new.self; sent = c.add.new.values.items; codes = cs })) (sym c.reserve-2.ensures.items) here;
+      is_line = subst (λ (cs : List Code).
+          IsLine (record {
+            encoder = c.self.inside.encoder;
+            server = c.submit.new.self;
+            sent = c.add.new.values.items;
+            codes = cs;
+          })) (sym c.reserve-2.ensures.items) here;
       address_is = c.self.invariant.address_is;
       fits = search rules;
     }

@@ -8,7 +8,8 @@ use Rattle.uecp_link.proofs.server.Server.frame.Goals as goal
 pub returns-clause-value : goal.returns-clause-value
 returns-clause-value c =
     c.frame_at.ensures.value ∙ ap (λ hs. slice_get (frames_among hs) c.args.place) c.as_slice.ensures.value
-    ∙ ap (λ fs. slice_get fs c.args.place) (frames_are c.self.inside.address c.self.inside.held.items c.self.invariant.spelled)
+    ∙ ap (λ fs. slice_get fs c.args.place) (frames_are c.self.inside.address c.self.inside.held.items
+    c.self.invariant.spelled)
     ∙ ap (λ (s : ServerState). slice_get (frames_waiting s) c.args.place) c.self.view_is
 
 pub returns-clause-none : goal.returns-clause-none

@@ -6,4 +6,5 @@ use Rattle.uecp_link.proofs.server.Server.waiting.Goals as goal
 
 pub returns-clause-distinct : goal.returns-clause-distinct
 returns-clause-distinct c =
-    subst (λ (s : ServerState). IsDistinct ◌==◌ (counters_waiting s)) c.self.view_is (in_turn-distinct c.self.inside.last c.self.inside.held.items c.self.invariant.in_turn c.self.invariant.few)
+    subst (λ (s : ServerState). IsDistinct ◌==◌ (counters_waiting s)) c.self.view_is
+    (in_turn-distinct c.self.inside.last c.self.inside.held.items c.self.invariant.in_turn c.self.invariant.few)

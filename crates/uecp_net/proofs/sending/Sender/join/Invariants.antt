@@ -13,9 +13,13 @@ invariant-connections g l = record {
   none : l.self.ends ≡ None;
   loan : l.self.loan ≡ l.fn.self.loan;
   stays : record l.self.sender { server = l.fn.self.sender.server; left = l.fn.self.sender.left } ≡ l.fn.self.sender;
-  on : (end : SenderOver g.row.C.Denot g.row.C-Input.Denot g.row.C-Output.Denot) (result : Result (Unit {0}) Outstanding) (ended : ℕ) →
-      JoinsOver g.C.Connect.opens g.C.Connect.closes g.C.Input.Read.remaining g.C.Output.Write.contents ended l.reason l.self end result →
-      (first : SenderOver g.row.C.Denot g.row.C-Input.Denot g.row.C-Output.Denot) × (all : ℕ) × HangsUp g.C.Connect.closes l.fn.self first × JoinsOver g.C.Connect.opens g.C.Connect.closes g.C.Input.Read.remaining g.C.Output.Write.contents all ConnectionFailed first end result;
+  on : (end : SenderOver g.row.C.Denot g.row.C-Input.Denot g.row.C-Output.Denot)
+      (result : Result (Unit {0}) Outstanding) (ended : ℕ) →
+      JoinsOver g.C.Connect.opens g.C.Connect.closes g.C.Input.Read.remaining g.C.Output.Write.contents ended l.reason
+      l.self end result →
+      (first : SenderOver g.row.C.Denot g.row.C-Input.Denot g.row.C-Output.Denot) × (all : ℕ)
+      × HangsUp g.C.Connect.closes l.fn.self first × JoinsOver g.C.Connect.opens g.C.Connect.closes
+      g.C.Input.Read.remaining g.C.Output.Write.contents all ConnectionFailed first end result;
 }
 
 -- the reconnects that are left

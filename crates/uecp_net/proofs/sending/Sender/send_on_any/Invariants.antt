@@ -11,9 +11,12 @@ invariant-connections g l = record {
   busy : l.self.sender.server.held ≢ [];
   follows : Follows l.fn.self.sender.server l.self.sender.server [] l.marks.items;
   stays : record l.self.sender { server = l.fn.self.sender.server; left = l.fn.self.sender.left } ≡ l.fn.self.sender;
-  on : (end : SenderOver g.row.C.Denot g.row.C-Input.Denot g.row.C-Output.Denot) (marks : Marks) (result : Result ℕ Outstanding) (ended : ℕ) →
-      Delivers g.C.Connect.opens g.C.Connect.closes g.C.Input.Read.remaining g.C.Output.Write.contents ended l.reason l.self end l.marks.items marks result →
-      (all : ℕ) × Delivers g.C.Connect.opens g.C.Connect.closes g.C.Input.Read.remaining g.C.Output.Write.contents all ConnectionFailed l.fn.self end [] marks result;
+  on : (end : SenderOver g.row.C.Denot g.row.C-Input.Denot g.row.C-Output.Denot) (marks : Marks)
+      (result : Result ℕ Outstanding) (ended : ℕ) →
+      Delivers g.C.Connect.opens g.C.Connect.closes g.C.Input.Read.remaining g.C.Output.Write.contents ended l.reason
+      l.self end l.marks.items marks result →
+      (all : ℕ) × Delivers g.C.Connect.opens g.C.Connect.closes g.C.Input.Read.remaining g.C.Output.Write.contents all
+      ConnectionFailed l.fn.self end [] marks result;
 }
 
 -- the reconnects that are left

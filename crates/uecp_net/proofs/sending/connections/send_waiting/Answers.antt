@@ -32,7 +32,8 @@ pub returns-in-Err-clause-follows : goal.returns-in-Err-clause-follows
 returns-in-Err-clause-follows g c =
     let windows = c.in-Err.ensures.windows in
     follows_on _ c.loop-before.server _ _ c.loop-before.marks.items _ c.loop-before.invariant.follows
-    (follows_heard c.loop-before.server c.send_window.new.server c.loop-before.marks.items c.send_window.new.marks.items windows.read windows.state windows.marked c.send_window.ensures.room)
+    (follows_heard c.loop-before.server c.send_window.new.server c.loop-before.marks.items c.send_window.new.marks.items
+    windows.read windows.state windows.marked c.send_window.ensures.room)
 
 pub returns-in-Ok-Idle-clause-tried : goal.returns-in-Ok-Idle-clause-tried
 returns-in-Ok-Idle-clause-tried g c =
@@ -51,7 +52,8 @@ pub returns-in-Ok-Idle-clause-follows : goal.returns-in-Ok-Idle-clause-follows
 returns-in-Ok-Idle-clause-follows g c =
     let windows = rw c.in-Ok-Idle.field-0-is at c.in-Ok-Idle.ensures.windows in
     follows_on _ c.loop-before.server _ _ c.loop-before.marks.items _ c.loop-before.invariant.follows
-    (follows_heard c.loop-before.server c.send_window.new.server c.loop-before.marks.items c.send_window.new.marks.items windows.read windows.state windows.marked c.send_window.ensures.room)
+    (follows_heard c.loop-before.server c.send_window.new.server c.loop-before.marks.items c.send_window.new.marks.items
+    windows.read windows.state windows.marked c.send_window.ensures.room)
 
 pub loop-before-preserved : goal.loop-before-preserved
 loop-before-preserved g c =
@@ -69,5 +71,6 @@ loop-before-preserved g c =
           c.loop-before.invariant.spent windows;
       follows =
           follows_on _ c.loop-before.server _ _ c.loop-before.marks.items _ c.loop-before.invariant.follows
-          (follows_heard c.loop-before.server c.send_window.new.server c.loop-before.marks.items c.send_window.new.marks.items windows.read windows.state windows.marked c.send_window.ensures.room);
+          (follows_heard c.loop-before.server c.send_window.new.server c.loop-before.marks.items
+          c.send_window.new.marks.items windows.read windows.state windows.marked c.send_window.ensures.room);
     }
