@@ -1,8 +1,5 @@
 //! Frames that are known from outside, and their bytes with one altered.
-use arrayvec::ArrayVec;
-
-/// Room for the bytes of a frame.
-pub type FrameBytes = ArrayVec<u8, 524>;
+use uecp_frame::FrameBytes;
 
 /// A line for each frame: address and counter, message, spelling. First those to an encoder, then replies.
 pub const KNOWN_FRAMES: &str = "\

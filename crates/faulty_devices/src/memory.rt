@@ -1,4 +1,5 @@
 //! Memory that runs out.
+use arrayvec::ArrayVec;
 use std::alloc::Global;
 
 /// The largest block that is asked for at first; half of it where there is none, and so on.
@@ -12,6 +13,9 @@ const PART: usize = 4096;
 /// How much is given back at a time: by so much the C library tells sizes of blocks apart, and the least block takes
 /// twice as much.
 const STEP: usize = 16;
+/// So far the stack is grown before memory is taken, since it can't grow when there is none: the system ends a process
+/// whose stack wants more. A run that is tried stands far below this.
+const STACK: usize = 1 << 19;
 /// Why memory could not be taken.
 const NONE: &str = "no memory to begin with";
 /// Why it can't be taken to its end.
@@ -35,6 +39,7 @@ impl ScarceMemory {
     /// Takes all memory, with so many bytes to be given back. It fails where there is no memory for these, and where
     /// memory does not end, as under `rt try`, which puts a store of its own in the place of the C library's.
     pub fn take_all(alloc: Global, room: usize) -> Result<ScarceMemory, &'static str> {
+        grow_stack(alloc)?;
         let mut taken = Vec::with_capacity(alloc, BLOCKS).or(Err(NONE))?;
         let mut reserved = Vec::with_capacity(alloc, room / PART + 1).or(Err(NONE))?;
         for _ in 0..room / PART + 1 {
@@ -64,6 +69,17 @@ impl ScarceMemory {
         self.room = Vec::with_capacity(self.alloc, size).ok();
         true
     }
+}
+
+/// Writes so much of the stack, which the process keeps from then on. The copy is there so that no compiler does without.
+#[inline(never)]
+fn grow_stack(alloc: Global) -> Result<(), &'static str> {
+    let mut room = ArrayVec::<u8, STACK>::new();
+    for place in 0..STACK {
+        room.try_push((place % 251) as u8).or(Err(NONE))?;
+    }
+    Vec::from_slice(alloc, &room).or(Err(NONE))?;
+    Ok(())
 }
 
 /// Takes what there is, in blocks of at most this size.

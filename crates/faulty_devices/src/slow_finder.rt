@@ -1,29 +1,15 @@
 //! Which segments end in some bytes, and what each is, told as the protocol's page tells it: it cuts the segments
-//! first, unstuffs them then, and judges what is left. No crate of the product knows it.
+//! first, unstuffs them then, and judges what is left. No crate of the product knows it, and of their code it uses only
+//! the names of the faults.
 use arrayvec::ArrayVec;
 use std::alloc::{AllocError, Global};
+use uecp_frame::FrameFault;
 
 /// The plain bytes of a segment, from its address to its check.
 pub type Plain = ArrayVec<u8, 261>;
 
-/// What a segment is.
-#[derive(Debug, Drop)]
-pub enum SlowFinding {
-    /// A frame, of these plain bytes.
-    Frame(Plain),
-    /// A new FE came before an FF.
-    Unended,
-    /// The FD at this place is not followed by 00, 01 or 02.
-    BadStuffing(usize),
-    /// More than 261 plain bytes.
-    TooLong,
-    /// Fewer than 6 plain bytes.
-    TooShort,
-    /// The length is not the number of plain bytes less 6.
-    WrongLength,
-    /// The check is another.
-    WrongCheck,
-}
+/// What a segment is: a frame, of these plain bytes, or one with a fault.
+pub type SlowFinding = Result<Plain, FrameFault>;
 
 /// The segments that end in these bytes, in order. What comes before the first FE is none, and a last one that has not
 /// ended is not judged.
@@ -40,35 +26,37 @@ pub fn slow_findings(alloc: Global, bytes: &[u8]) -> Result<Vec<SlowFinding>, Al
     Ok(findings)
 }
 
+/// Whether no segment of these bytes is a frame.
+pub fn holds_no_frame(alloc: Global, bytes: &[u8]) -> Result<bool, AllocError> {
+    Ok(slow_findings(alloc, bytes)?.iter().all(Result::is_err))
+}
+
 /// What the segment is whose FE these bytes follow, up to the next FE.
 fn judged(piece: &[u8]) -> SlowFinding {
     let mut parts = piece.split(|byte| *byte == 0xff);
     match (parts.next(), parts.next()) {
-        (Some(stuffed), Some(_)) => match unstuffed(stuffed) {
-            Ok(plain) => judged_plain(plain),
-            Err(fault) => fault,
-        },
-        _ => SlowFinding::Unended,
+        (Some(stuffed), Some(_)) => judged_plain(unstuffed(stuffed)?),
+        _ => Err(FrameFault::Unended),
     }
 }
 
 /// The plain bytes for which these stand, from the byte after the FE to the one before the FF.
-fn unstuffed(stuffed: &[u8]) -> Result<Plain, SlowFinding> {
+fn unstuffed(stuffed: &[u8]) -> SlowFinding {
     let mut plain = Plain::new();
     let mut rest = stuffed;
     let mut place = 1;
     for _ in stuffed {
         let (byte, behind) = match rest {
             [] => break,
-            _ if plain.is_full() => return Err(SlowFinding::TooLong),
+            _ if plain.is_full() => return Err(FrameFault::TooLong),
             [0xfd, 0x00, behind @ ..] => (0xfd, behind),
             [0xfd, 0x01, behind @ ..] => (0xfe, behind),
             [0xfd, 0x02, behind @ ..] => (0xff, behind),
-            [0xfd, ..] => return Err(SlowFinding::BadStuffing(place)),
+            [0xfd, ..] => return Err(FrameFault::BadStuffing(place)),
             [byte, behind @ ..] => (*byte, behind),
         };
         if plain.try_push(byte).is_err() {
-            return Err(SlowFinding::TooLong);
+            return Err(FrameFault::TooLong);
         }
         place = place.saturating_add(rest.len() - behind.len());
         rest = behind;
@@ -79,17 +67,17 @@ fn unstuffed(stuffed: &[u8]) -> Result<Plain, SlowFinding> {
 /// What the segment of these plain bytes is.
 fn judged_plain(plain: Plain) -> SlowFinding {
     let [_, _, _, length, message @ .., high, low] = plain.as_slice() else {
-        return SlowFinding::TooShort;
+        return Err(FrameFault::TooShort);
     };
     if message.len() != usize::from(*length) {
-        return SlowFinding::WrongLength;
+        return Err(FrameFault::WrongLength);
     }
     let sent = u16::from_be_bytes([*high, *low]);
     let (checked, _) = plain.as_slice().split_at(4 + message.len());
     if check_by_bits(checked) != sent {
-        return SlowFinding::WrongCheck;
+        return Err(FrameFault::WrongCheck);
     }
-    SlowFinding::Frame(plain)
+    Ok(plain)
 }
 
 /// The check of these bytes, bit by bit.

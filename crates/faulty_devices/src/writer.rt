@@ -21,6 +21,10 @@ pub struct FaultyWriter<'a> {
     failing: &'a [u32],
     /// The writes that take no byte, counted from 1.
     empty: &'a [u32],
+    /// Whether each flush fails.
+    fails_flushed: bool,
+    /// How much was taken when it was flushed last.
+    flushed: usize,
 }
 
 impl<'a> FaultyWriter<'a> {
@@ -33,6 +37,8 @@ impl<'a> FaultyWriter<'a> {
             flushes: 0,
             failing: &[],
             empty: &[],
+            fails_flushed: false,
+            flushed: 0,
         }
     }
 
@@ -57,6 +63,14 @@ impl<'a> FaultyWriter<'a> {
         }
     }
 
+    /// The same with each flush failing, as of a buffer before a device that is full.
+    pub fn failing_flushed(self) -> FaultyWriter<'a> {
+        FaultyWriter {
+            fails_flushed: true,
+            ..self
+        }
+    }
+
     /// What was taken.
     pub fn taken(&self) -> &[u8] {
         self.taken.as_slice()
@@ -68,9 +82,14 @@ impl<'a> FaultyWriter<'a> {
         self.writes
     }
 
-    /// How many flushes were made. At its greatest value it stays.
+    /// How many flushes were made, those that failed among them. At its greatest value it stays.
     pub fn flushes(&self) -> u32 {
         self.flushes
+    }
+
+    /// How many bytes had been taken when it was flushed last; 0 where it was never flushed.
+    pub fn flushed(&self) -> usize {
+        self.flushed
     }
 }
 
@@ -96,6 +115,10 @@ impl Write for FaultyWriter<'_> {
 
     fn flush(&mut self) -> io::Result<()> {
         self.flushes = self.flushes.saturating_add(1);
+        self.flushed = self.taken.len();
+        if self.fails_flushed {
+            return Err(ErrorKind::Other.into());
+        }
         Ok(())
     }
 }

@@ -9,13 +9,13 @@ use Rattle.uecp_encoder.specs.State.{EncoderState}
 use Rattle.uecp_net.specs.Sessions.{Outcome, Sessions}
 use Rattle.uecp_text.specs.declared.run_fault.RunFault.{RunFault}
 use Rattle.uecp_text.specs.declared.run_fault.RunFault.TheVariants as run
-use Rattle.uecp_text.specs.Faults.{status_of, error_lines}
+use Rattle.uecp_text.specs.Faults.{Fails, status_of, error_lines}
 use Rattle.uecp_text.specs.Written.{Begins}
 use Rattle.uecp_jobs.specs.declared.job.Job.{Job}
 use Rattle.uecp_jobs.specs.declared.job.Job.TheVariants.{Encoder}
 use Rattle.uecp_jobs.specs.Setups.{Options, IsSetup, encoder_at_first}
 use Rattle.uecp_jobs.specs.Jobs.{options, RefusesJob}
-use Rattle.uecp_jobs.specs.EncoderRun.{IsEncoder, ServedSome, Serves, HasNotListened, HasBroken, connection_lines}
+use Rattle.uecp_jobs.specs.EncoderRun.{IsEncoder, ServedSome, Serves, HasNotServedAll, connection_lines}
 use Rattle.uecp_jobs.proofs.Doing.{not_failed, setup_wants, job_status, stopped, same_fault}
 
 -- a refusal of status 3 is want of memory
@@ -70,24 +70,23 @@ module _ {C I O : Type 0} (opens : C → Option (I × O) → C → Type 0) (clos
   ]
 
   pub encoder_failed : (unopened → c' ≡ c) → (unwritten → held' ≡ held) → Begins told told' (error_lines fault)
-      → status_of fault ≡ 3 →
-      HasNotListened opens closes remaining contents job c c' held held' told told'
-      ⊎ HasBroken opens closes remaining contents job c c' held held' told told'
-  encoder_failed stays kept begins is = elim serves [
-    | inl (f, same, refused, writer, connect) ↦
-        (let same_as = same_fault fault f same in
-        let wanting : fault ≡ run.OutOfMemory = same_as ∙ encoder_wants job f encodes refused
-        (sym (ap status_of same_as) ∙ is) in
-        inr (
-          run.OutOfMemory,
-          tt,
-          served_none opens closes remaining contents job encodes c c' held held'
-              (stays connect) (kept writer),
-          subst (λ f. Begins told told' (error_lines f)) wanting begins,
-        ))
-    | inr (inl (listening, fewer)) ↦ inl (fewer, subst (λ f. Begins told told' (error_lines f)) listening begins)
-    | inr (inr (fails, some)) ↦ inr (fault, fails, some, begins)
-  ]
+      → status_of fault ≡ 3 → HasNotServedAll opens closes remaining contents job c c' held held' told told'
+  encoder_failed stays kept begins is = record {
+    fault = fault;
+    serves = elim serves [
+      | inl (f, same, refused, writer, connect) ↦
+          (let same_as = same_fault fault f same in
+          let wanting : fault ≡ run.OutOfMemory = same_as ∙ encoder_wants job f encodes refused
+          (sym (ap status_of same_as) ∙ is) in
+          inr (
+            subst Fails (sym wanting) tt,
+            served_none opens closes remaining contents job encodes c c' held held'
+                (stays connect) (kept writer),
+          ))
+      | inr served ↦ served
+    ];
+    said = begins;
+  }
 
 -- ---- a run of connections
 -- What was served of an encoder with these options: all connections; or fewer.

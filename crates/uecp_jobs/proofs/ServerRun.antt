@@ -124,8 +124,11 @@ module _ {C I O : Type 0} (opens : C → Option (I × O) → C → Type 0) (clos
     (unread unread' held held' : Option (List ℕ)) where
   pub acknowledged_all : HasSentAll opens closes remaining contents job c c' unread unread' held held'
       → AreAcknowledged job unread unread' held held'
-  acknowledged_all (input, sends, none) = by job sends
+  acknowledged_all all = by job all.sends
     where
+      input : List ℕ
+      input = all.input
+
       by : (job : Job) → Sends opens closes remaining contents job input c c' unread unread' held held' (Ok tt)
           → AreAcknowledged job unread unread' held held'
       by (Server site encoder host port tries timeout turns reconnects window join)
@@ -139,9 +142,9 @@ module _ {C I O : Type 0} (opens : C → Option (I × O) → C → Type 0) (clos
               input,
               batches,
               is_input,
-              none,
+              all.none_refused,
               subst (λ k. AreBatches (batch_size window) tries k batches)
-                  (all_bring (texts_of input) none) are,
+                  (all_bring (texts_of input) all.none_refused) are,
               appends,
             ),
           )
@@ -150,8 +153,11 @@ module _ {C I O : Type 0} (opens : C → Option (I × O) → C → Type 0) (clos
   acknowledged_up_to : (told told' : Option (List ℕ))
       → HasSentBefore opens closes remaining contents job c c' unread unread' held held' told told'
       → AreAcknowledgedBefore job unread unread' held held' told told'
-  acknowledged_up_to told told' (input, fault, sends, refused, begins) = by job sends
+  acknowledged_up_to told told' before = by job before.sends
     where
+      input : List ℕ
+      input = before.input
+
       by : (job : Job) → Sends opens closes remaining contents job input c c' unread unread' held held' (Ok tt)
           → AreAcknowledgedBefore job unread unread' held held' told told'
       by (Server site encoder host port tries timeout turns reconnects window join)
@@ -160,7 +166,7 @@ module _ {C I O : Type 0} (opens : C → Option (I × O) → C → Type 0) (clos
           (unconnected c loan (sender_at_first (address_of site encoder)
           (record { tries = tries; turns = turns; reconnects = reconnects }))) s' (messages_first (texts_of input))
           held held' (some_size window) ran in
-          (one, (input, batches, fault, is_input, refused, are, appends, begins))
+          (one, (input, batches, before.fault, is_input, before.refused, are, appends, before.said))
       by job sends = absurd sends
 
   stops_three : (job : Job) (input : List ℕ) (fault : RunFault)
@@ -177,17 +183,20 @@ module _ {C I O : Type 0} (opens : C → Option (I × O) → C → Type 0) (clos
   not_all : (told told' : Option (List ℕ)) → IsServer job
       → HasNotSentAll opens closes remaining contents job c c' unread unread' held held' told told'
       → AreNotAcknowledged job unread unread' held held' told told'
-  not_all told told' serves (fault, begins, how) = by job serves how
+  not_all told told' serves ended = by job serves ended.sends
     where
+      fault : RunFault
+      fault = ended.fault
+
       by : (job : Job) → IsServer job → (SendsNone unread unread' held held' fault × (c' ≡ c))
           ⊎ ((input : List ℕ) × Sends opens closes remaining contents job input c c' unread unread' held held'
           (Err fault)) → AreNotAcknowledged job unread unread' held held' told told'
       by (Server site encoder host port tries timeout turns reconnects window join) serves (inl (none, same)) =
-          (fault, begins, inl none)
+          (fault, ended.said, inl none)
       by (Server site encoder host port tries timeout turns reconnects window join) serves
           (inr (input, (one, is_input, (loan, s', ran, finishes)))) = (
             fault,
-            begins,
+            ended.said,
             inr (
               input,
               is_input,
@@ -217,7 +226,8 @@ module _ {C I O : Type 0} (opens : C → Option (I × O) → C → Type 0) (clos
       | inr (inl none) ↦ absurd (let no = apart 3 1 (none_status unread unread' held held' fault none.0) is in
           omega (arith, no))
       | inr (inr (input, inl (sends, refused))) ↦ (let before : HasSentBefore opens closes remaining contents job c c'
-          unread unread' held held' told told' = (input, fault, sends, refused, begins) in
+          unread unread' held held' told told' =
+          record { input = input; sends = sends; fault = fault; refused = refused; said = begins } in
           (before, acknowledged_up_to told told' before))
       | inr (inr (input, inr sends)) ↦ absurd (let no = apart 3 1 (stops_three job input fault sends) is in
           omega (arith, no))
@@ -239,9 +249,13 @@ module _ {C I O : Type 0} (opens : C → Option (I × O) → C → Type 0) (clos
     not_sent is = elim ran [
       | inl refused ↦ absurd (let no = apart 2 3 (server_refuses job fault serves refused.0) is in omega (arith, no))
       | inr (inl none) ↦ (let all : HasNotSentAll opens closes remaining contents job c c' unread unread' held held'
-          told told' = (fault, begins, inl none) in (all, not_all told told' serves all))
+          told told' =
+          record { fault = fault; sends = inl none; said = begins } in
+          (all, not_all told told' serves all))
       | inr (inr (input, inl (sends, refused))) ↦ absurd
           (let no = apart 1 3 (refused_status (texts_of input) fault refused) is in omega (arith, no))
       | inr (inr (input, inr sends)) ↦ (let all : HasNotSentAll opens closes remaining contents job c c' unread unread'
-          held held' told told' = (fault, begins, inr (input, sends)) in (all, not_all told told' serves all))
+          held held' told told' =
+          record { fault = fault; sends = inr (input, sends); said = begins } in
+          (all, not_all told told' serves all))
     ]

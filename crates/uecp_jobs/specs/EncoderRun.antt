@@ -91,21 +91,17 @@ Serves opens closes remaining contents job c c' held held' result =
     (λ fault. ((fault ≡ run.Listening) × ServedFewer opens closes remaining contents job c c' held held')
     ⊎ (Fails fault × ServedSome opens closes remaining contents job c c' held held'))
 
--- There was no connection to be had: fewer were served than should be, and that was said, or begun to be said.
-abbrev pub HasNotListened : {C I O : Type 0} → (opens : C → Option (I × O) → C → Type 0)
-    → (closes : C → I → O → C → Type 0) → (remaining : I → Option (List ℕ)) → (contents : O → Option (List ℕ)) → Job → C
-    → C → (held held' told told' : Option (List ℕ)) → Type 0
-HasNotListened opens closes remaining contents job c c' held held' told told' =
-    ServedFewer opens closes remaining contents job c c' held held' × Begins told told' (error_lines run.Listening)
-
--- Memory or writing failed where connections were served, and that was said, or begun to be said. The writer got a
--- beginning of the lines of those that were served.
-abbrev pub HasBroken : {C I O : Type 0} → (opens : C → Option (I × O) → C → Type 0) → (closes : C → I → O → C → Type 0)
-    → (remaining : I → Option (List ℕ)) → (contents : O → Option (List ℕ)) → Job → C → C
-    → (held held' told told' : Option (List ℕ)) → Type 0
-HasBroken opens closes remaining contents job c c' held held' told told' =
-    (fault : RunFault) × Fails fault × ServedSome opens closes remaining contents job c c' held held'
-    × Begins told told' (error_lines fault)
+-- Not all connections were served, or not all could be told.
+pub record HasNotServedAll {C I O : Type 0} (opens : C → Option (I × O) → C → Type 0) (closes : C → I → O → C → Type 0)
+    (remaining : I → Option (List ℕ)) (contents : O → Option (List ℕ)) (job : Job) (c c' : C)
+    (held held' told told' : Option (List ℕ)) : Type 0 where
+  -- why: there was no connection to be had, or memory or writing failed
+  pub fault : RunFault
+  -- so fewer were served than should be, and each of them has its line; or some were, and the writer got a beginning of
+  -- their lines
+  pub serves : Serves opens closes remaining contents job c c' held held' (Err fault)
+  -- and the fault was said, or begun to be said
+  pub said : Begins told told' (error_lines fault)
 
 -- What is left to say of connections of which nothing is known, where not all could be served or not all be told: the
 -- writer got a beginning of the lines of as many connections as should be served, or fewer, and why it stopped was

@@ -95,34 +95,41 @@ SendsUpTo opens closes remaining contents job c c' unread unread' held held' fau
     unread' held held' (Err fault))
 
 -- ---- how it ends
--- All messages of the input were sent and acknowledged, and no line is refused.
-abbrev pub HasSentAll : {C I O : Type 0} → (opens : C → Option (I × O) → C → Type 0) → (closes : C → I → O → C → Type 0)
-    → (remaining : I → Option (List ℕ)) → (contents : O → Option (List ℕ)) → Job → C → C
-    → (unread unread' held held' : Option (List ℕ)) → Type 0
-HasSentAll opens closes remaining contents job c c' unread unread' held held' =
-    (input : List ℕ) × Sends opens closes remaining contents job input c c' unread unread' held held' (Ok tt)
-    × (refusal_in (texts_of input) ≡ None)
+-- All messages of the input were sent and acknowledged.
+pub record HasSentAll {C I O : Type 0} (opens : C → Option (I × O) → C → Type 0) (closes : C → I → O → C → Type 0)
+    (remaining : I → Option (List ℕ)) (contents : O → Option (List ℕ)) (job : Job) (c c' : C)
+    (unread unread' held held' : Option (List ℕ)) : Type 0 where
+  pub input : List ℕ
+  -- its messages were sent, each once, and acknowledged, and the writer got the lines of that
+  pub sends : Sends opens closes remaining contents job input c c' unread unread' held held' (Ok tt)
+  -- no line of it is refused
+  pub none_refused : refusal_in (texts_of input) ≡ None
 
--- The messages before the first line that is refused were sent and acknowledged; and that line's number and fault were
--- said, or begun to be said.
-abbrev pub HasSentBefore : {C I O : Type 0} → (opens : C → Option (I × O) → C → Type 0)
-    → (closes : C → I → O → C → Type 0) → (remaining : I → Option (List ℕ)) → (contents : O → Option (List ℕ)) → Job → C
-    → C → (unread unread' held held' told told' : Option (List ℕ)) → Type 0
-HasSentBefore opens closes remaining contents job c c' unread unread' held held' told told' =
-    (input : List ℕ) × (fault : RunFault) × Sends opens closes remaining contents job input c c' unread unread' held
-    held' (Ok tt) × (refusal_in (texts_of input) ≡ Some fault)
-    × Begins told told' (error_lines fault)
+-- The messages before the first line that is refused were sent and acknowledged.
+pub record HasSentBefore {C I O : Type 0} (opens : C → Option (I × O) → C → Type 0) (closes : C → I → O → C → Type 0)
+    (remaining : I → Option (List ℕ)) (contents : O → Option (List ℕ)) (job : Job) (c c' : C)
+    (unread unread' held held' told told' : Option (List ℕ)) : Type 0 where
+  pub input : List ℕ
+  -- those messages were sent, each once, and acknowledged, and the writer got the lines of that
+  pub sends : Sends opens closes remaining contents job input c c' unread unread' held held' (Ok tt)
+  -- what is wrong with the line behind them
+  pub fault : RunFault
+  pub refused : refusal_in (texts_of input) ≡ Some fault
+  -- its number and fault were said, or begun to be said
+  pub said : Begins told told' (error_lines fault)
 
--- A batch is outstanding, or its lines could not be written whole; or the encoder could not be joined; or nothing was
--- sent, and no connection opened. That was said, or begun to be said; where the tries are spent nothing is said.
-abbrev pub HasNotSentAll : {C I O : Type 0} → (opens : C → Option (I × O) → C → Type 0)
-    → (closes : C → I → O → C → Type 0) → (remaining : I → Option (List ℕ)) → (contents : O → Option (List ℕ)) → Job → C
-    → C → (unread unread' held held' told told' : Option (List ℕ)) → Type 0
-HasNotSentAll opens closes remaining contents job c c' unread unread' held held' told told' =
-    (fault : RunFault) × Begins told told' (error_lines fault)
-    × ((SendsNone unread unread' held held' fault × (c' ≡ c))
-    ⊎ ((input : List ℕ) × Sends opens closes remaining contents job input c c' unread unread' held held'
-    (Err fault)))
+-- Not all was sent, or not all could be told.
+pub record HasNotSentAll {C I O : Type 0} (opens : C → Option (I × O) → C → Type 0) (closes : C → I → O → C → Type 0)
+    (remaining : I → Option (List ℕ)) (contents : O → Option (List ℕ)) (job : Job) (c c' : C)
+    (unread unread' held held' told told' : Option (List ℕ)) : Type 0 where
+  -- why
+  pub fault : RunFault
+  -- so nothing was sent, and no connection opened; or a batch is outstanding, or its lines could not be written whole,
+  -- or the encoder could not be joined
+  pub sends : (SendsNone unread unread' held held' fault × (c' ≡ c))
+      ⊎ ((input : List ℕ) × Sends opens closes remaining contents job input c c' unread unread' held held' (Err fault))
+  -- and the fault was said, or begun to be said; where the tries are spent nothing is said
+  pub said : Begins told told' (error_lines fault)
 
 -- ---- how it ends, where nothing is known of connections
 -- All messages of the input were acknowledged, and the writer got the lines of that, one for each message, in order,

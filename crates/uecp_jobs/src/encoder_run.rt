@@ -7,7 +7,7 @@ ghost use Rattle.uecp_text.specs.Faults.{Fails};
 ghost use Rattle.uecp_text.specs.Written.{Adds, Begins};
 ghost use Rattle.uecp_net.specs.Sessions.{Outcome, Sessions};
 ghost use Rattle.uecp_jobs.specs.Jobs.{RefusesJob, IsUndescribed};
-ghost use Rattle.uecp_jobs.specs.EncoderRun.{IsEncoder, ServedAll, Serves, HasNotListened, HasBroken, connection_line};
+ghost use Rattle.uecp_jobs.specs.EncoderRun.{IsEncoder, ServedAll, Serves, HasNotServedAll, connection_line};
 ghost use Rattle.uecp_jobs.specs.EncoderRun.{connection_lines};
 
 use crate::job::Job;
@@ -38,10 +38,9 @@ pub fn run_encoder<W: Write, E: Write, C: Connect>(
         × (writer.new ≡ writer.old) × (connect.new ≡ connect.old) }
     // 3: there was no connection to be had, and each that was served has its line; or memory or writing failed, and a
     // beginning of the lines of those that were served was written.
-    ensures failed { result ≡ 3 → HasNotListened C.opens C.closes C.Input.remaining C.Output.contents job.now
+    ensures failed { result ≡ 3 → HasNotServedAll C.opens C.closes C.Input.remaining C.Output.contents job.now
         connect.old connect.new (W.contents writer.old) (W.contents writer.new) (E.contents errors.old)
-        (E.contents errors.new) ⊎ HasBroken C.opens C.closes C.Input.remaining C.Output.contents job.now connect.old
-        connect.new (W.contents writer.old) (W.contents writer.new) (E.contents errors.old) (E.contents errors.new) }
+        (E.contents errors.new) }
 {
     match serve_all(alloc, job, writer, connect) {
         Ok(()) => 0,

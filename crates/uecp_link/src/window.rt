@@ -15,6 +15,9 @@ use std::io::{Read, Write};
 use uecp_elements::Code;
 use uecp_encoder::{Failed, Meter};
 
+/// The most bytes that the frames of all messages which wait have together: each has at most 524.
+const FRAMES_MAX: usize = 524 * WINDOW_MAX;
+
 /// How a try for all messages that wait ended, where no fault ended it.
 #[derive(Clone, Copy, Debug, PartialEq, Eq)]
 pub enum Windowed {
@@ -62,17 +65,28 @@ fn write_window<W: Write>(server: &Server, writer: &mut Meter<W>) -> Result<(), 
         × Appends (W.contents writer.old.device) (W.contents writer.new.device) (take w (window_sent server.now))) }
     ensures failures { writer.new.failures ≡ failures_after result writer.old.failures }
 {
-    let mut written = 0u64;
+    let frames = frames_of(server);
+    match writer.write_whole(frames.as_slice()) {
+        Ok(()) => Ok(()),
+        Err(written) => Err(written as u64),
+    }
+}
+
+/// The frames of all messages that wait, one after another, the oldest first.
+fn frames_of(server: &Server) -> ArrayVec<u8, FRAMES_MAX>
+    ensures { result.items ≡ window_sent server.now }
+{
+    let mut bytes = ArrayVec::new();
     for place in 0..server.waiting() {
         let Some(frame) = server.frame(place) else {
             unreachable!();
         };
-        if let Err(part) = writer.write_whole(frame) {
-            return Err(written + part as u64);
+        match bytes.try_extend_from_slice(frame) {
+            Ok(()) => {}
+            Err(_) => unreachable!(),
         }
-        written += frame.len() as u64;
     }
-    Ok(())
+    bytes
 }
 
 /// Makes at most `turns` reads, until no message waits.

@@ -3,17 +3,17 @@ ghost use Rattle.std.specs.Prelude.{◌+◌, ◌%◌, ◌^◌, ◌==◌, None, l
 ghost use Rattle.uecp_elements.specs.declared.code.Code.TheVariants.{Applied};
 
 use super::line::{
-    acknowledged, delivered, frame, goes_over, is_taken, message, own_address, replies, reply,
-    reply_made, steps, with_target,
+    acknowledged, delivered, frame, goes_over, heard_applied, is_taken, message, new_line, reply,
+    steps,
 };
-use faulty_devices::{FaultyReader, FaultyWriter};
+use faulty_devices::{FaultyReader, FaultyWriter, new_encoder, own_address, replies, reply_made};
 use rds_store::Group;
 use std::ops::Range;
 use std::process::Abort;
 use std::test::Fail;
 use uecp_elements::Code;
 use uecp_encoder::{Encoder, Meter, Target, serve};
-use uecp_link::{HeardWhat, Joining, Line, Server, join};
+use uecp_link::{Joining, Line, Server, join};
 
 /// Counts the messages that have a byte, and their bytes. An empty message leaves it as it is.
 #[derive(Clone, Copy, Debug, Default, PartialEq, Eq)]
@@ -71,16 +71,14 @@ fn act_once(
     let mut counter = 0;
     for number in numbers {
         counter = counter % 255 + 1;
-        let reply = reply_made(rt, 0x00, counter);
+        let reply = reply_made(0x00, counter);
         assert!(rt; server.has_room());
         server.submit(&message(rt, bytes_of(number)));
         for fresh in [true, false] {
             let frame = server.outgoing().expect(rt, "outstanding");
-            replies(rt, encoder, frame, fresh, reply.as_slice());
+            assert!(rt; replies(encoder, frame, reply.as_slice(), fresh));
         }
-        let code = Code::Applied;
-        let what = HeardWhat::Acknowledged { counter, code };
-        assert_eq!(rt; server.hear(reply.as_slice()).what, what);
+        assert_eq!(rt; server.hear(reply.as_slice()).what, heard_applied(counter));
     }
 }
 
@@ -114,11 +112,11 @@ fn joins(rt: &impl Abort, server: &mut Server, pass: &[u8], replies: &[u8]) {
 
 /// After so many messages of one server another joins, and two messages of this one follow.
 fn is_joined(rt: &impl Abort, encoder: &mut Encoder<BytesTarget>, pass: &[u8], count: u16) {
-    let mut server = Server::new(own_address(rt));
+    let mut server = Server::new(own_address());
     act_once(rt, &mut server, encoder, 0..count);
     let mut writer = Meter::new(FaultyWriter::new());
     answers(rt, encoder, pass, &mut writer, count);
-    let mut server = Server::new(own_address(rt));
+    let mut server = Server::new(own_address());
     joins(rt, &mut server, pass, writer.into_inner().taken());
     let after = count.saturating_add(2);
     act_once(rt, &mut server, encoder, count..after);
@@ -127,7 +125,7 @@ fn is_joined(rt: &impl Abort, encoder: &mut Encoder<BytesTarget>, pass: &[u8], c
 
 /// A server writes its pass, and makes no read.
 fn write_pass(rt: &impl Abort, writer: &mut Meter<FaultyWriter<'_>>) {
-    let mut server = Server::new(own_address(rt));
+    let mut server = Server::new(own_address());
     let mut reader = Meter::new(FaultyReader::new(b""));
     let joined = join(&mut server, &mut reader, writer, 0);
     assert_eq!(rt; joined, Ok(Joining::Spent));
@@ -139,8 +137,7 @@ fn a_server_joins_from_every_state(rt: HostRuntime) -> Result<(), Fail> {
     write_pass(&rt, &mut writer);
     let pass = writer.into_inner();
     for count in (0..256).chain([256, 300, 510, 1000]) {
-        let encoder = Encoder::new(rt.alloc(), own_address(&rt), BytesTarget::default());
-        let mut encoder = encoder.ok().ok_or("no memory")?;
+        let mut encoder = new_encoder(rt.alloc(), BytesTarget::default())?;
         is_joined(&rt, &mut encoder, pass.taken(), count);
     }
     Ok(())
@@ -180,12 +177,12 @@ fn starts_again(rt: &impl Abort, line: &mut Line<BytesTarget>, count: u16, waiti
 #[test]
 fn a_server_is_started_again_in_every_state(rt: HostRuntime) -> Result<(), Fail> {
     for count in (0..256).chain([256, 300, 510, 1000]) {
-        let mut line = with_target(&rt, rt.alloc(), BytesTarget::default())?;
+        let mut line = new_line(rt.alloc(), BytesTarget::default())?;
         go_over(&rt, &mut line, 0..count);
         starts_again(&rt, &mut line, count, 0);
     }
     for count in [0, 1, 124, 125, 252, 253, 254, 255, 300, 510, 1000] {
-        let mut line = with_target(&rt, rt.alloc(), BytesTarget::default())?;
+        let mut line = new_line(rt.alloc(), BytesTarget::default())?;
         go_over(&rt, &mut line, 0..count);
         three_more(&rt, &mut line, count);
         starts_again(&rt, &mut line, count.saturating_add(3), 2);
@@ -195,7 +192,7 @@ fn a_server_is_started_again_in_every_state(rt: HostRuntime) -> Result<(), Fail>
 
 #[test]
 fn a_line_of_a_new_encoder_is_as_a_new_line(rt: HostRuntime) -> Result<(), Fail> {
-    let address = own_address(&rt);
+    let address = own_address();
     let encoder = Encoder::new(rt.alloc(), address, BytesTarget::default());
     let mut line = Line::of_encoder(rt.alloc(), address, encoder.ok().ok_or("no memory")?);
     go_over(&rt, &mut line, 0..1);

@@ -1,7 +1,4 @@
-ghost use Rattle.std.specs.Prelude.{◌≡◌, ◌+◌, ◌%◌, ◌^◌, None, IsTrue, length};
-ghost use Rattle.uecp_frame.specs.Address.{is_exact};
-ghost use Rattle.uecp_elements.specs.declared.code.Code.TheVariants.{Applied};
-
+//! Both ends on a line: what the tests of it share, and its first steps.
 mod counts;
 mod driving;
 mod failing;
@@ -12,85 +9,38 @@ mod noise;
 mod outstanding;
 mod server;
 mod takes;
+mod turns;
 mod window;
 
-use rds_store::{Group, RdsStore};
+use faulty_devices::{ADD, CountTarget, EMPTY_1, own_address, texts_of};
+use rds_store::RdsStore;
 use std::alloc::Global;
 use std::process::Abort;
 use std::test::Fail;
 use uecp_elements::Code;
-use uecp_encoder::{Encoder, Target, What};
-use uecp_frame::{Address, Frame, FrameBytes, Message, encode};
-use uecp_link::{Line, LineEvent, LineRefusal, Side, Stepped};
+use uecp_encoder::Target;
+use uecp_frame::Message;
+use uecp_link::{DriveFault, Driven, HeardWhat, Line, LineEvent, LineRefusal, Side, Stepped};
 
-/// Adds the text "HI".
-const ADD: [u8; 7] = *b"\x0A\x00\x00\x03\x40\x48\x49";
-/// No element, counter 01.
-const EMPTY_1: [u8; 8] = *b"\xFE\x00\x41\x01\x00\x62\x93\xFF";
-/// Code 00 to counter 01.
-const APPLIED_1: [u8; 11] = *b"\xFE\x00\x41\x00\x03\x18\x00\x01\x40\xBE\xFF";
+/// No element, counter FF.
+const EMPTY_254: [u8; 9] = *b"\xFE\x00\x41\xFD\x02\x00\x52\x5D\xFF";
 
-/// Counts the messages that it is given, and their bytes.
-#[derive(Clone, Copy, Debug, Default, PartialEq, Eq)]
-struct CountTarget {
-    messages: u64,
-    bytes: u64,
-}
-
-impl Target for CountTarget {
-    ghost step = { λ v m. (
-      record { messages = (v.messages + 1) % 2 ^ 64; bytes = (v.bytes + length m) % 2 ^ 64 },
-      Applied,
-    ) };
-
-    ghost taken = { λ v. (v, None) };
-
-    fn apply(&mut self, message: &[u8]) -> Code {
-        self.messages = self.messages.wrapping_add(1);
-        self.bytes = self.bytes.wrapping_add(message.len() as u64);
-        Code::Applied
-    }
-
-    fn take(&mut self) -> Option<Group> {
-        None
-    }
-}
-
-/// The address of site 1, encoder 1.
-pub(crate) fn own_address(rt: &impl Abort) -> Address
-    ensures { IsTrue (is_exact result) }
-{
-    let address = Address::new(1, 1).expect(rt, "in range");
-    assert!(rt; address.is_exact());
-    address
-}
-
+/// The message of these bytes, at most 255.
 pub(crate) fn message(rt: &impl Abort, bytes: &[u8]) -> Message {
     Message::from_bytes(bytes).expect(rt, "short")
 }
 
 /// A new line of site 1, encoder 1.
-pub(crate) fn with_target<T: Target + Drop>(
-    rt: &impl Abort,
+pub(crate) fn new_line<T: Target + Drop>(
     alloc: Global,
     target: T,
-) -> Result<Line<T>, Fail> {
-    match Line::new(alloc, own_address(rt), target) {
-        Ok(line) => Ok(line),
-        Err(_) => Err("no memory".into()),
-    }
+) -> Result<Line<T>, &'static str> {
+    Line::new(alloc, own_address(), target).or(Err("no memory"))
 }
 
 /// A new line whose store has one data set and service 01.
-fn with_store(rt: &impl Abort, alloc: Global) -> Result<Line<RdsStore>, Fail> {
-    with_target(rt, alloc, RdsStore::new(alloc, 1, &[0x01])?)
-}
-
-/// How many texts the service has; 99 where it is not there.
-fn texts_of(store: &RdsStore) -> usize {
-    store
-        .service(1, 0x01)
-        .map_or(99, |service| service.texts().len())
+fn new_store_line(alloc: Global) -> Result<Line<RdsStore>, Fail> {
+    Ok(new_line(alloc, RdsStore::new(alloc, 1, &[0x01])?)?)
 }
 
 /// The whole frame of a number.
@@ -113,6 +63,22 @@ pub(crate) fn acknowledged(code: Code) -> Result<Stepped, LineRefusal> {
     Ok(Stepped::Acknowledged(code))
 }
 
+/// A server hears a reply with code 00 to this counter, for which it waits.
+pub(crate) fn heard_applied(counter: u8) -> HeardWhat {
+    HeardWhat::Acknowledged {
+        counter,
+        code: Code::Applied,
+    }
+}
+
+/// A message is acknowledged with code 00 in this try.
+pub(crate) fn driven_in(tries: u32) -> Result<Driven, DriveFault> {
+    Ok(Driven {
+        code: Code::Applied,
+        tries,
+    })
+}
+
 /// A step of the line comes to this.
 pub(crate) fn steps<T: Target>(
     rt: &impl Abort,
@@ -125,15 +91,11 @@ pub(crate) fn steps<T: Target>(
 
 /// A new line of site 1, encoder 1, after these events, and how many it refused.
 fn played<T: Target + Drop>(
-    rt: &impl Abort,
     alloc: Global,
     target: T,
     events: &[LineEvent<'_>],
-) -> Result<(Line<T>, usize), Fail> {
-    match Line::play(alloc, own_address(rt), target, events) {
-        Ok(played) => Ok(played),
-        Err(_) => Err("no memory".into()),
-    }
+) -> Result<(Line<T>, usize), &'static str> {
+    Line::play(alloc, own_address(), target, events).or(Err("no memory"))
 }
 
 /// This end loses the line.
@@ -166,46 +128,9 @@ fn lent<'a, T: Target>(rt: &impl Abort, line: &'a Line<T>) -> &'a [u8] {
     line.server().outgoing().expect(rt, "outstanding")
 }
 
-/// The reply of site 1, encoder 1, with this code to this counter.
-pub(crate) fn reply_made(rt: &impl Abort, code: u8, counter: u8) -> FrameBytes {
-    let frame = Frame {
-        address: own_address(rt),
-        counter: 0,
-        message: message(rt, &[0x18, code, counter]),
-    };
-    let mut bytes = FrameBytes::new();
-    encode(&frame, &mut bytes);
-    bytes
-}
-
-/// A bare encoder, beside the line, answers a frame with this reply.
-pub(crate) fn replies<T: Target>(
-    rt: &impl Abort,
-    encoder: &mut Encoder<T>,
-    frame: &[u8],
-    fresh: bool,
-    reply: &[u8],
-) {
-    match encoder.feed(frame).what {
-        What::Reply(bytes, is_fresh) => {
-            assert!(rt; bytes.as_slice() == reply && is_fresh == fresh);
-        }
-        _ => assert!(rt; false, "no reply"),
-    }
-}
-
-/// A bare encoder of site 1, encoder 1, with one data set and service 01.
-fn bare(rt: &impl Abort, alloc: Global) -> Result<Encoder<RdsStore>, Fail> {
-    let store = RdsStore::new(alloc, 1, &[0x01])?;
-    match Encoder::new(alloc, own_address(rt), store) {
-        Ok(encoder) => Ok(encoder),
-        Err(_) => Err("no memory".into()),
-    }
-}
-
 #[test]
 fn with_memory_a_new_line_takes_its_first_message(rt: HostRuntime) -> Result<(), Fail> {
-    let mut line = with_store(&rt, rt.alloc())?;
+    let mut line = new_store_line(rt.alloc())?;
     is_taken(&rt, &mut line, &[]);
     assert!(rt; lent(&rt, &line) == EMPTY_1.as_slice());
     Ok(())
@@ -216,7 +141,7 @@ fn with_memory_a_line_is_played(rt: HostRuntime) -> Result<(), Fail> {
     let empty = Message::new();
     let submit = [LineEvent::Submit(&empty)];
     let store = RdsStore::new(rt.alloc(), 1, &[0x01])?;
-    let (line, refused) = played(&rt, rt.alloc(), store, &submit)?;
+    let (line, refused) = played(rt.alloc(), store, &submit)?;
     assert_eq!(rt; (line.sent().len(), refused), (1, 0));
     Ok(())
 }
@@ -225,125 +150,10 @@ fn with_memory_a_line_is_played(rt: HostRuntime) -> Result<(), Fail> {
 fn with_memory_a_line_runs(rt: HostRuntime) -> Result<(), Fail> {
     let empty = Message::new();
     let submit = [LineEvent::Submit(&empty)];
-    let mut line = with_store(&rt, rt.alloc())?;
+    let mut line = new_store_line(rt.alloc())?;
     assert_eq!(rt; line.run(&submit), 0);
     let numbers = (line.sent().len(), line.applied(), line.acknowledged());
     assert_eq!(rt; numbers, (1, 0, 0));
-    Ok(())
-}
-
-/// Nine texts, for the last of which there is no room until it is too late. The bare encoder is given the same frames.
-fn refuses_the_ninth_text(
-    rt: &impl Abort,
-    line: &mut Line<RdsStore>,
-    encoder: &mut Encoder<RdsStore>,
-) {
-    let add_8 = b"\xFE\x00\x41\x09\x07\x0A\x00\x00\x03\x40\x48\x49\x1B\xDC\xFF";
-    let full_8 = b"\xFE\x00\x41\x00\x03\x18\x0B\x09\x1D\x4C\xFF";
-    let applied_9 = b"\xFE\x00\x41\x00\x03\x18\x00\x0A\xF1\xD5\xFF";
-    for counter in 1..9 {
-        is_taken(rt, line, &ADD);
-        let reply = reply_made(rt, 0x00, counter);
-        replies(rt, encoder, lent(rt, line), true, reply.as_slice());
-        goes_over(rt, line, Code::Applied);
-    }
-    is_taken(rt, line, &ADD);
-    assert!(rt; lent(rt, line) == add_8.as_slice());
-    replies(rt, encoder, add_8, true, full_8);
-    goes_over(rt, line, Code::BufferFull);
-    is_taken(rt, line, &[0x0a, 0x00, 0x00, 0x00]);
-    replies(rt, encoder, lent(rt, line), true, applied_9);
-    goes_over(rt, line, Code::Applied);
-    assert_eq!(rt; texts_of(line.encoder().target()), 0);
-    steps(rt, line, &frame(8), delivered(false, Code::BufferFull));
-    assert_eq!(rt; texts_of(line.encoder().target()), 0);
-    let mut codes = [Code::Applied; 10];
-    codes[8] = Code::BufferFull;
-    assert!(rt; line.codes() == codes.as_slice());
-    assert_eq!(rt; (line.applied(), line.acknowledged()), (10, 10));
-}
-
-#[test]
-fn a_refused_message_is_acknowledged_and_never_applied_late(rt: HostRuntime) -> Result<(), Fail> {
-    let mut line = with_store(&rt, rt.alloc())?;
-    let mut encoder = bare(&rt, rt.alloc())?;
-    refuses_the_ninth_text(&rt, &mut line, &mut encoder);
-    Ok(())
-}
-
-/// A text and 127 empty messages, after 126 of which the frame of the text comes again. The bare encoder is given the
-/// same frames.
-fn comes_again_for_so_long(
-    rt: &impl Abort,
-    line: &mut Line<RdsStore>,
-    encoder: &mut Encoder<RdsStore>,
-) {
-    let add_0 = b"\xFE\x00\x41\x01\x07\x0A\x00\x00\x03\x40\x48\x49\x32\x23\xFF";
-    is_taken(rt, line, &ADD);
-    assert!(rt; lent(rt, line) == add_0.as_slice());
-    replies(rt, encoder, add_0, true, &APPLIED_1);
-    goes_over(rt, line, Code::Applied);
-    for counter in 0x02..0x80 {
-        is_taken(rt, line, &[]);
-        let reply = reply_made(rt, 0x00, counter);
-        replies(rt, encoder, lent(rt, line), true, reply.as_slice());
-        goes_over(rt, line, Code::Applied);
-    }
-    assert_eq!(rt; line.sent().len(), 127);
-    replies(rt, encoder, add_0, false, &APPLIED_1);
-    steps(rt, line, &frame(0), delivered(false, Code::Applied));
-    steps(rt, line, &reply(0), Ok(Stepped::Stray));
-    is_taken(rt, line, &[]);
-    steps(rt, line, &frame(0), Err(LineRefusal::TooLate));
-    steps(rt, line, &reply(0), Err(LineRefusal::TooLate));
-    assert_eq!(rt; texts_of(line.encoder().target()), 1);
-    // A bare encoder knows no numbers: after one more message it has no reply to the frame, which is not the next
-    // either.
-    let reply = reply_made(rt, 0x00, 0x80);
-    replies(rt, encoder, lent(rt, line), true, reply.as_slice());
-    assert!(rt; matches!(encoder.feed(add_0).what, What::NotNext));
-    assert_eq!(rt; texts_of(encoder.target()), 1);
-}
-
-#[test]
-fn a_frame_comes_again_after_126_messages_and_no_later(rt: HostRuntime) -> Result<(), Fail> {
-    let mut line = with_store(&rt, rt.alloc())?;
-    let mut encoder = bare(&rt, rt.alloc())?;
-    comes_again_for_so_long(&rt, &mut line, &mut encoder);
-    Ok(())
-}
-
-/// Messages for each counter and one more. The bare encoder is given the same frames.
-fn goes_once_round(rt: &impl Abort, line: &mut Line<CountTarget>, encoder: &mut Encoder<RdsStore>) {
-    let empty_254 = b"\xFE\x00\x41\xFD\x02\x00\x52\x5D\xFF";
-    let applied_254 = b"\xFE\x00\x41\x00\x03\x18\x00\xFD\x02\x4E\x6F\xFF";
-    for number in 0..256 {
-        is_taken(rt, line, &[]);
-        match number {
-            0 | 255 => {
-                assert!(rt; lent(rt, line) == EMPTY_1.as_slice());
-                replies(rt, encoder, &EMPTY_1, true, &APPLIED_1);
-            }
-            254 => {
-                assert!(rt; lent(rt, line) == empty_254.as_slice());
-                replies(rt, encoder, empty_254, true, applied_254);
-            }
-            _ => assert_eq!(rt; encoder.feed(lent(rt, line)).used, lent(rt, line).len()),
-        }
-        goes_over(rt, line, Code::Applied);
-    }
-    steps(rt, line, &frame(0), Err(LineRefusal::TooLate));
-    steps(rt, line, &reply(0), Err(LineRefusal::TooLate));
-    assert_eq!(rt; line.encoder().counts(), encoder.counts());
-    let target = line.encoder().target();
-    assert_eq!(rt; (target.messages, target.bytes), (256, 0));
-}
-
-#[test]
-fn the_256th_message_is_spelled_as_the_first_and_is_fresh(rt: HostRuntime) -> Result<(), Fail> {
-    let mut line = with_target(&rt, rt.alloc(), CountTarget::default())?;
-    let mut encoder = bare(&rt, rt.alloc())?;
-    goes_once_round(&rt, &mut line, &mut encoder);
     Ok(())
 }
 
@@ -357,7 +167,7 @@ fn comes_in_pieces(rt: &impl Abort, line: &mut Line<RdsStore>) {
         steps(rt, line, &event, delivered(fresh, Code::Applied));
         fresh = false;
     }
-    assert_eq!(rt; texts_of(line.encoder().target()), 1);
+    assert_eq!(rt; texts_of(line.encoder().target(), 1), Some(1));
     let mut stepped = Stepped::Acknowledged(Code::Applied);
     for cut in cuts {
         let event = LineEvent::Reply { number: 0, cut };
@@ -369,7 +179,7 @@ fn comes_in_pieces(rt: &impl Abort, line: &mut Line<RdsStore>) {
 
 #[test]
 fn however_it_is_cut_a_frame_is_the_same(rt: HostRuntime) -> Result<(), Fail> {
-    let mut line = with_store(&rt, rt.alloc())?;
+    let mut line = new_store_line(rt.alloc())?;
     comes_in_pieces(&rt, &mut line);
     Ok(())
 }
@@ -398,7 +208,7 @@ fn a_run_passes_over_the_refused_events(rt: HostRuntime) -> Result<(), Fail> {
     let add = message(&rt, &ADD);
     let events = script(&add);
     let target = CountTarget::default();
-    let (line, refused) = played(&rt, rt.alloc(), target, &events)?;
+    let (line, refused) = played(rt.alloc(), target, &events)?;
     let sent = (line.sent().len(), line.applied(), line.acknowledged());
     assert_eq!(rt; (sent, refused), ((2, 1, 1), 2));
     let target = line.encoder().target();

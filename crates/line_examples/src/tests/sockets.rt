@@ -1,22 +1,16 @@
 //! Both ends over real sockets, in one process and one thread: what is written waits in the socket until the other end
 //! reads it.
-ghost use Rattle.std.specs.Prelude.{IsTrue};
-ghost use Rattle.uecp_frame.specs.Address.{is_exact};
-
+use super::line::{driven_in, message};
+use faulty_devices::{ADD, new_store_encoder, own_address};
 use rds_store::RdsStore;
-use std::alloc::Global;
 use std::net::{TcpListener, TcpStream};
 use std::process::Abort;
 use std::test::Fail;
 use std::time::Duration;
-use uecp_elements::Code;
 use uecp_encoder::{Encoder, Meter, ServeFault, serve};
-use uecp_frame::{Address, Message};
-use uecp_link::{DriveFault, Driven, Server, drive, resend};
+use uecp_link::{DriveFault, Server, drive, resend};
 use uecp_net::{Connect, Dialing, Limits, Listening, Outstanding, Sender, serve_connection};
 
-/// Adds the text "HI".
-const ADD: [u8; 7] = *b"\x0A\x00\x00\x03\x40\x48\x49";
 /// A read that brings nothing for so many milliseconds fails.
 const TIMEOUT: u64 = 100;
 
@@ -35,24 +29,6 @@ fn open(connect: &mut impl Connect<Input = TcpStream, Output = TcpStream>) -> Re
         input: Meter::new(input),
         output: Meter::new(output),
     })
-}
-
-/// The address of site 1, encoder 1.
-fn own_address(rt: &impl Abort) -> Address
-    ensures { IsTrue (is_exact result) }
-{
-    let address = Address::new(1, 1).expect(rt, "in range");
-    assert!(rt; address.is_exact());
-    address
-}
-
-/// A new encoder of site 1, encoder 1, with one data set and service 01.
-fn new_encoder(rt: &impl Abort, alloc: Global) -> Result<Encoder<RdsStore>, Fail> {
-    let store = RdsStore::new(alloc, 1, &[0x01])?;
-    match Encoder::new(alloc, own_address(rt), store) {
-        Ok(encoder) => Ok(encoder),
-        Err(_) => Err("no memory".into()),
-    }
 }
 
 /// Serves a turn at a time, at most 100, until so many messages were fresh and so many were repeats.
@@ -75,7 +51,7 @@ fn serve_until(
 /// Sends the text "HI" once, and hears nothing.
 fn sends_first(rt: &impl Abort, server: &mut Server, end: &mut End) {
     assert!(rt; server.is_idle());
-    let message = Message::from_bytes(&ADD).expect(rt, "short");
+    let message = message(rt, &ADD);
     let driven = drive(server, &mut end.input, &mut end.output, &message, 1, 1);
     assert_eq!(rt; driven, Err(DriveFault::TriesSpent));
 }
@@ -84,17 +60,13 @@ fn sends_first(rt: &impl Abort, server: &mut Server, end: &mut End) {
 fn sends_again(rt: &impl Abort, server: &mut Server, end: &mut End) {
     assert_eq!(rt; server.waiting(), 1);
     let driven = resend(server, &mut end.input, &mut end.output, 1, 16);
-    let applied = Driven {
-        code: Code::Applied,
-        tries: 1,
-    };
-    assert_eq!(rt; driven, Ok(applied));
+    assert_eq!(rt; driven, driven_in(1));
 }
 
 /// Sends the text "HI" on a connection on which nothing is answered.
 fn is_outstanding<C: Connect>(rt: &impl Abort, sender: &mut Sender<'_, C>) {
     assert!(rt; sender.has_room());
-    let message = Message::from_bytes(&ADD).expect(rt, "short");
+    let message = message(rt, &ADD);
     sender.submit(&message);
     let Err(reason) = sender.settle() else {
         assert!(rt; false, "acknowledged");
@@ -119,7 +91,7 @@ fn acts_once(
     accepted: &mut End,
     encoder: &mut Encoder<RdsStore>,
 ) {
-    let mut server = Server::new(own_address(rt));
+    let mut server = Server::new(own_address());
     sends_first(rt, &mut server, client);
     serve_until(rt, encoder, accepted, (1, 0));
     sends_again(rt, &mut server, client);
@@ -140,7 +112,7 @@ fn a_message_sent_twice_over_sockets_acts_once(rt: HostRuntime) -> Result<(), Fa
     let port = listener.local_addr()?.port();
     let mut client = open(&mut Dialing::new(&rt, "127.0.0.1", port, TIMEOUT))?;
     let mut accepted = open(&mut Listening::new(listener))?;
-    let mut encoder = new_encoder(&rt, rt.alloc())?;
+    let mut encoder = new_store_encoder(rt.alloc(), 1)?;
     acts_once(&rt, &mut client, &mut accepted, &mut encoder);
     Ok(())
 }
@@ -156,9 +128,9 @@ fn a_sender_and_an_encoder_over_one_connection(rt: HostRuntime) -> Result<(), Fa
         turns: 1,
         reconnects: 0,
     };
-    let mut sender = Sender::new(&mut dialing, Server::new(own_address(&rt)), limits);
+    let mut sender = Sender::new(&mut dialing, Server::new(own_address()), limits);
     is_outstanding(&rt, &mut sender);
-    let mut encoder = new_encoder(&rt, alloc)?;
+    let mut encoder = new_store_encoder(rt.alloc(), 1)?;
     serves_one_turn(&rt, &mut encoder, &mut Listening::new(listener));
     Ok(())
 }

@@ -2,36 +2,18 @@
 ghost use Rattle.std.specs.Prelude.{IfOk};
 ghost use Rattle.uecp_jobs.specs.Jobs.{IsLocal};
 
-use super::answer;
-use faulty_devices::FaultyWriter;
+use super::{Ends, answer, comes_to};
 use std::alloc::Global;
 use std::process::Abort;
 use std::test::Fail;
-use uecp_jobs::{Job, run_job};
-
-/// What a job comes to: its status, its output and its text of errors.
-type Comes<'a> = (u8, &'a str, &'a str);
-
-/// The job comes to this on this input.
-fn comes_to(rt: &impl Abort, alloc: Global, job: &Job, input: &[u8], comes: Comes<'_>)
-    requires { IsLocal job.now }
-{
-    let (status, written, said) = comes;
-    let mut reader = input;
-    let mut writer = FaultyWriter::new();
-    let mut errors = FaultyWriter::new();
-    let came = run_job(alloc, job, &mut reader, &mut writer, &mut errors);
-    assert_eq!(rt; came, status);
-    assert_eq!(rt; writer.taken(), written.as_bytes());
-    assert_eq!(rt; errors.taken(), said.as_bytes());
-}
+use uecp_jobs::Job;
 
 /// The job writes nothing of this input, and comes to this status and this text of errors.
 fn writes_nothing(rt: &impl Abort, alloc: Global, job: &Job, input: &[u8], comes: (u8, &str))
     requires { IsLocal job.now }
 {
     let (status, said) = comes;
-    comes_to(rt, alloc, job, input, (status, "", said));
+    comes_to(rt, alloc, job, &mut Ends::new(input), (status, "", said));
 }
 
 /// A line to the encoder of site 1, encoder 1, with one data set and the service 01.
@@ -55,7 +37,7 @@ fn an_empty_input_ends_with_0(rt: HostRuntime) -> Result<(), Fail> {
     writes_nothing(&rt, alloc, &Job::Show, b"", (0, ""));
     writes_nothing(&rt, alloc, &Job::Make, b"", (0, ""));
     let totals = (0, "sent 0 applied 0 acknowledged 0\n", "");
-    comes_to(&rt, alloc, &line(alloc)?, b"", totals);
+    comes_to(&rt, alloc, &line(alloc)?, &mut Ends::new(b""), totals);
     Ok(())
 }
 
@@ -66,7 +48,8 @@ fn as_long_a_submission_as_there_may_be(rt: HostRuntime) -> Result<(), Fail> {
     let mut script = Vec::from_slice(alloc, b"submit ")?;
     script.resize(7 + 510, b'0')?;
     let numbered = "numbered 0\nsent 1 applied 0 acknowledged 0\n";
-    comes_to(&rt, alloc, &job, script.as_slice(), (0, numbered, ""));
+    let mut ends = Ends::new(script.as_slice());
+    comes_to(&rt, alloc, &job, &mut ends, (0, numbered, ""));
     script.extend_from_slice(b"00")?;
     let too_long = (1, "uecp: line 1: message too long\n");
     writes_nothing(&rt, alloc, &job, script.as_slice(), too_long);

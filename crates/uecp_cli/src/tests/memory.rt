@@ -1,19 +1,19 @@
 //! The program where memory is wanting: each request is refused in turn, until a run has all that it asks for.
 ghost use Rattle.uecp_jobs.specs.Jobs.{IsLocal};
 
-use super::{REPLY, answer};
+use super::{Ends, REPLY, answer};
 use crate::command_line::parse;
 use crate::usage::Usage;
-use faulty_devices::{FaultyWriter, ScarceMemory};
+use faulty_devices::ScarceMemory;
 use std::alloc::Global;
 use std::process::Abort;
 use std::test::Fail;
-use uecp_jobs::{Job, run_job};
+use uecp_jobs::Job;
 
 /// How often memory is given back at most.
-const TIMES: usize = 1 << 15;
+pub(crate) const TIMES: usize = 1 << 15;
 /// All that is given back then.
-const ROOM: usize = TIMES * 16;
+pub(crate) const ROOM: usize = TIMES * 16;
 
 /// The frame that sets PI C201.
 const PIECE: &str = "FE 00 41 01 05 01 00 00 C2 01 67 A8 FF\n";
@@ -64,18 +64,17 @@ fn the_words_of_a_command_line(rt: HostRuntime) -> Result<(), Fail> {
     Err("always refused".into())
 }
 
-/// One run of the job: its status, and whether that is 3 with its text and a beginning of an output, or 0 with an
-/// output and no text.
-fn runs(rt: &impl Abort, alloc: Global, job: &Job, input: &str, outputs: &[&str]) -> Option<usize>
-    requires { IsLocal job.now }
-{
-    let mut reader = input.as_bytes();
-    let mut writer = FaultyWriter::new();
-    let mut errors = FaultyWriter::new();
-    let status = run_job(alloc, job, &mut reader, &mut writer, &mut errors);
-    let written = writer.taken();
+/// Which of these outputs a run wrote that had its memory, and said nothing; or none where it was refused memory, and
+/// wrote its text and the beginning of an output.
+pub(crate) fn wrote(
+    rt: &impl Abort,
+    ends: &Ends<'_>,
+    status: u8,
+    outputs: &[&str],
+) -> Option<usize> {
+    let written = ends.writer.taken();
     if status == 3 {
-        assert!(rt; errors.taken() == b"uecp: out of memory\n".as_slice());
+        assert!(rt; ends.errors.taken() == b"uecp: out of memory\n".as_slice());
         assert!(rt;
             outputs
                 .iter()
@@ -83,12 +82,21 @@ fn runs(rt: &impl Abort, alloc: Global, job: &Job, input: &str, outputs: &[&str]
         );
         return None;
     }
-    assert!(rt; status == 0 && errors.taken().is_empty());
+    assert!(rt; status == 0 && ends.errors.taken().is_empty());
     let place = outputs
         .iter()
         .position(|output| output.as_bytes() == written);
     assert!(rt; place.is_some());
     place
+}
+
+/// Which of these outputs one run of the job wrote.
+fn runs(rt: &impl Abort, alloc: Global, job: &Job, input: &str, outputs: &[&str]) -> Option<usize>
+    requires { IsLocal job.now }
+{
+    let mut ends = Ends::new(input.as_bytes());
+    let status = ends.run(alloc, job);
+    wrote(rt, &ends, status, outputs)
 }
 
 /// The job is run until it comes to the first output.

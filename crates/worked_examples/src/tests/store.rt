@@ -1,6 +1,7 @@
 mod memory;
 
-use rds_store::{Group, RdsStore, Service, StoreFault};
+use faulty_devices::{ADD, pi_of, texts_of};
+use rds_store::{Group, RdsStore, StoreFault};
 use std::process::Abort;
 use std::test::Fail;
 use uecp_elements::{Code, Element};
@@ -8,24 +9,11 @@ use uecp_elements::{Code, Element};
 /// A message, and the code with which it is answered.
 type Exchange<'a> = (&'a [u8], Code);
 
-/// Adds the text "HI" for the main service of the current set.
-const ADD: [u8; 7] = [0x0a, 0x00, 0x00, 0x03, 0x40, 0x48, 0x49];
-
+/// The store answers each message with its code.
 fn answers(rt: &impl Abort, store: &mut RdsStore, exchanges: &[Exchange<'_>]) {
     for (message, code) in exchanges {
         assert_eq!(rt; store.apply(message), *code);
     }
-}
-
-/// How many texts service 01 has in a set; 99 where the set is not there.
-fn texts_of(store: &RdsStore, set: u8) -> usize {
-    store
-        .service(set, 0x01)
-        .map_or(99, |service| service.texts().len())
-}
-
-fn pi_of(store: &RdsStore, set: u8) -> Option<u16> {
-    store.service(set, 0x01).map(Service::pi)
 }
 
 #[test]
@@ -35,11 +23,11 @@ fn one_full_set_refuses_a_text_for_all_sets(rt: HostRuntime) -> Result<(), Fail>
     for _ in 0..8 {
         answers(&rt, &mut store, &[(&to_set_2, Code::Applied)]);
     }
-    assert_eq!(rt; texts_of(&store, 2), 8);
+    assert_eq!(rt; texts_of(&store, 2), Some(8));
     let to_all = [0x0a, 0xff, 0x00, 0x03, 0x40, 0x48, 0x49];
     answers(&rt, &mut store, &[(&to_all, Code::BufferFull)]);
-    assert_eq!(rt; texts_of(&store, 1), 0);
-    assert_eq!(rt; texts_of(&store, 2), 8);
+    assert_eq!(rt; texts_of(&store, 1), Some(0));
+    assert_eq!(rt; texts_of(&store, 2), Some(8));
     Ok(())
 }
 
@@ -87,14 +75,14 @@ fn texts_of_one_message_are_added_all_or_none(rt: HostRuntime) -> Result<(), Fai
     let nine = [ADD; 9];
     let eight = [ADD; 8];
     answers(&rt, &mut store, &[(nine.as_flattened(), Code::BufferFull)]);
-    assert_eq!(rt; texts_of(&store, 1), 0);
+    assert_eq!(rt; texts_of(&store, 1), Some(0));
     answers(&rt, &mut store, &[(eight.as_flattened(), Code::Applied)]);
-    assert_eq!(rt; texts_of(&store, 1), 8);
+    assert_eq!(rt; texts_of(&store, 1), Some(8));
     let empty_and_add = [
         0x0a, 0x00, 0x00, 0x00, 0x0a, 0x00, 0x00, 0x03, 0x40, 0x48, 0x49,
     ];
     answers(&rt, &mut store, &[(&empty_and_add, Code::Applied)]);
-    assert_eq!(rt; texts_of(&store, 1), 1);
+    assert_eq!(rt; texts_of(&store, 1), Some(1));
     Ok(())
 }
 
@@ -136,7 +124,7 @@ fn takes_and_refuses_texts(rt: &impl Abort, store: &mut RdsStore) {
     ];
     for (exchange, texts) in exchanges {
         answers(rt, store, &[exchange]);
-        assert_eq!(rt; texts_of(store, 1), texts);
+        assert_eq!(rt; texts_of(store, 1), Some(texts));
     }
 }
 

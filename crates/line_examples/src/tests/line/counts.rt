@@ -1,5 +1,5 @@
 //! What a server counts.
-use super::{APPLIED_1, EMPTY_1, own_address, reply_made};
+use faulty_devices::{APPLIED_1, EMPTY_1, own_address, reply_made};
 use std::process::Abort;
 use uecp_frame::Message;
 use uecp_link::{Server, ServerCounts};
@@ -19,9 +19,9 @@ fn counts(rt: &impl Abort, server: &mut Server, bytes: &[u8], counts: (u64, u64,
 #[test]
 fn each_segment_raises_one_count(rt: HostRuntime) {
     let by_another = b"\xFE\x00\x42\x00\x03\x18\x00\x01\x8E\x5E\xFF";
-    let unknown = reply_made(&rt, 0x08, 0x01);
-    let earlier = reply_made(&rt, 0x00, 0xff);
-    let mut server = Server::new(own_address(&rt));
+    let unknown = reply_made(0x08, 0x01);
+    let earlier = reply_made(0x00, 0xff);
+    let mut server = Server::new(own_address());
     assert_eq!(rt; server.counts(), ServerCounts::default());
     counts(&rt, &mut server, &APPLIED_1, (0, 1, 0));
     assert!(rt; server.is_idle());

@@ -1,16 +1,15 @@
 //! A message that is driven where no read succeeds and writes end somewhere, and then sent again over good ends.
-use super::{APPLIED_1, own_address};
-use faulty_devices::{FaultyReader, FaultyWriter};
+use super::driven_in;
+use faulty_devices::{APPLIED_1, FaultyReader, FaultyWriter, own_address};
 use std::process::Abort;
-use uecp_elements::Code;
 use uecp_encoder::Meter;
 use uecp_frame::Message;
-use uecp_link::{DriveFault, Driven, Server, drive, resend};
+use uecp_link::{DriveFault, Server, drive, resend};
 
 /// Two tries of four reads, all of which fail, over a writer that takes one byte a call and fails at these calls. Then
 /// the message is sent again, over good ends.
 fn drives(rt: &impl Abort, failing: &[u32], fault: DriveFault) {
-    let mut server = Server::new(own_address(rt));
+    let mut server = Server::new(own_address());
     let mut silent = Meter::new(FaultyReader::new(&APPLIED_1).failing_at(&[
         1, 2, 3, 4, 5, 6, 7, 8,
     ]));
@@ -20,12 +19,8 @@ fn drives(rt: &impl Abort, failing: &[u32], fault: DriveFault) {
     assert_eq!(rt; server.waiting(), 1);
     let mut reader = Meter::new(FaultyReader::new(&APPLIED_1));
     let mut writer = Meter::new(FaultyWriter::new());
-    let once = Driven {
-        code: Code::Applied,
-        tries: 1,
-    };
     let driven = resend(&mut server, &mut reader, &mut writer, 2, 4);
-    assert_eq!(rt; driven, Ok(once));
+    assert_eq!(rt; driven, driven_in(1));
     assert!(rt; server.is_idle());
 }
 

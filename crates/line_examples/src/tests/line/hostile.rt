@@ -1,22 +1,13 @@
 //! Bytes in which no frame stands.
-use super::{APPLIED_1, EMPTY_1, own_address};
-use faulty_devices::{KNOWN_FRAMES, SlowFinding, altered, slow_findings, spelling_of};
+use super::heard_applied;
+use faulty_devices::{
+    APPLIED_1, EMPTY_1, KNOWN_FRAMES, altered, holds_no_frame, own_address, spelling_of,
+};
 use std::alloc::Global;
 use std::process::Abort;
 use std::test::Fail;
-use uecp_elements::Code;
 use uecp_frame::Message;
-use uecp_link::{HeardWhat, Server};
-
-/// Whether the slow finder finds no frame in these bytes.
-fn holds_no_frame(alloc: Global, bytes: &[u8]) -> Result<bool, Fail> {
-    let findings = slow_findings(alloc, bytes)?;
-    Ok(
-        !findings
-            .iter()
-            .any(|finding| matches!(finding, SlowFinding::Frame(_))),
-    )
-}
+use uecp_link::Server;
 
 /// Hears one place of the bytes with each value, where that leaves no frame, and then loses the line. The message stays
 /// outstanding.
@@ -47,7 +38,7 @@ fn hears_altered(
 
 #[test]
 fn bytes_without_a_frame_leave_the_message_outstanding(rt: HostRuntime) -> Result<(), Fail> {
-    let mut server = Server::new(own_address(&rt));
+    let mut server = Server::new(own_address());
     server.submit(&Message::new());
     for line in KNOWN_FRAMES.lines() {
         let bytes = spelling_of(line).ok_or("no spelling")?;
@@ -55,11 +46,6 @@ fn bytes_without_a_frame_leave_the_message_outstanding(rt: HostRuntime) -> Resul
             hears_altered(&rt, rt.alloc(), &mut server, bytes.as_slice(), place)?;
         }
     }
-    let heard = server.hear(&APPLIED_1).what;
-    let acknowledged = HeardWhat::Acknowledged {
-        counter: 0x01,
-        code: Code::Applied,
-    };
-    assert_eq!(rt; heard, acknowledged);
+    assert_eq!(rt; server.hear(&APPLIED_1).what, heard_applied(0x01));
     Ok(())
 }

@@ -1,5 +1,6 @@
 //! The edge of lateness: the frame of a number comes again while at most 126 messages were numbered after it.
-use super::{CountTarget, delivered, frame, goes_over, is_taken, reply, steps, with_target};
+use super::{delivered, frame, goes_over, is_taken, new_line, reply, steps};
+use faulty_devices::CountTarget;
 use std::alloc::Global;
 use std::process::Abort;
 use std::test::Fail;
@@ -8,7 +9,7 @@ use uecp_link::{Line, LineRefusal, ServerCounts, Stepped};
 
 /// A line on which 127 empty messages were sent, applied and acknowledged.
 fn all_acknowledged(rt: &impl Abort, alloc: Global) -> Result<Line<CountTarget>, Fail> {
-    let mut line = with_target(rt, alloc, CountTarget::default())?;
+    let mut line = new_line(alloc, CountTarget::default())?;
     for _ in 0..127 {
         is_taken(rt, &mut line, &[]);
         goes_over(rt, &mut line, Code::Applied);

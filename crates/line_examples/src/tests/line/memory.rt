@@ -1,15 +1,16 @@
 //! A line and a server where memory is wanting.
 use super::{
-    ADD, APPLIED_1, CountTarget, EMPTY_1, delivered, frame, goes_over, is_lost, is_taken, message,
-    own_address, reply, steps, with_target,
+    delivered, driven_in, frame, goes_over, is_lost, is_taken, message, new_line, reply, steps,
 };
-use faulty_devices::{FaultyReader, FaultyWriter, ScarceMemory};
+use faulty_devices::{
+    ADD, APPLIED_1, CountTarget, EMPTY_1, FaultyReader, FaultyWriter, ScarceMemory, own_address,
+};
 use std::process::Abort;
 use std::test::Fail;
 use uecp_elements::Code;
 use uecp_encoder::Meter;
 use uecp_frame::Message;
-use uecp_link::{Driven, HeardWhat, Line, LineEvent, LineRefusal, Server, Side, Stepped, drive};
+use uecp_link::{HeardWhat, Line, LineEvent, LineRefusal, Server, Side, Stepped, drive};
 
 /// A target that was given messages before.
 const TARGET: CountTarget = CountTarget {
@@ -21,7 +22,7 @@ const TARGET: CountTarget = CountTarget {
 fn a_new_line_hands_the_target_back_where_memory_is_wanting(rt: HostRuntime) -> Result<(), Fail> {
     let mut memory = ScarceMemory::take_all(rt.alloc(), 4096)?;
     for refused in 0..128 {
-        match Line::new(rt.alloc(), own_address(&rt), TARGET) {
+        match Line::new(rt.alloc(), own_address(), TARGET) {
             Ok(line) => {
                 assert_eq!(rt; *line.encoder().target(), TARGET);
                 assert!(rt; refused > 0, "never refused");
@@ -40,7 +41,7 @@ fn a_line_to_be_played_hands_the_target_back_where_memory_is_wanting(
 ) -> Result<(), Fail> {
     let mut memory = ScarceMemory::take_all(rt.alloc(), 4096)?;
     for refused in 0..128 {
-        match Line::play(rt.alloc(), own_address(&rt), TARGET, &[]) {
+        match Line::play(rt.alloc(), own_address(), TARGET, &[]) {
             Ok((line, passed_over)) => {
                 assert_eq!(rt; (*line.encoder().target(), passed_over), (TARGET, 0));
                 assert!(rt; refused > 0, "never refused");
@@ -59,8 +60,8 @@ fn a_submission_is_refused_where_memory_is_wanting_and_taken_later(
 ) -> Result<(), Fail> {
     let add = message(&rt, &ADD);
     let submit = LineEvent::Submit(&add);
-    let mut line = with_target(&rt, rt.alloc(), TARGET)?;
-    let mut waiting = with_target(&rt, rt.alloc(), TARGET)?;
+    let mut line = new_line(rt.alloc(), TARGET)?;
+    let mut waiting = new_line(rt.alloc(), TARGET)?;
     for number in 0..8 {
         steps(&rt, &mut waiting, &submit, Ok(Stepped::Numbered(number)));
     }
@@ -96,7 +97,7 @@ fn comes_again(rt: &impl Abort, line: &mut Line<CountTarget>) {
 
 #[test]
 fn a_line_takes_no_memory_for_what_goes_over_it(rt: HostRuntime) -> Result<(), Fail> {
-    let mut line = with_target(&rt, rt.alloc(), TARGET)?;
+    let mut line = new_line(rt.alloc(), TARGET)?;
     is_taken(&rt, &mut line, &ADD);
     let _memory = ScarceMemory::take_all(rt.alloc(), 0)?;
     comes_again(&rt, &mut line);
@@ -106,16 +107,12 @@ fn a_line_takes_no_memory_for_what_goes_over_it(rt: HostRuntime) -> Result<(), F
 #[test]
 fn a_server_takes_no_memory(rt: HostRuntime) -> Result<(), Fail> {
     let empty = Message::new();
-    let mut server = Server::new(own_address(&rt));
+    let mut server = Server::new(own_address());
     let mut reader = Meter::new(FaultyReader::new(&APPLIED_1).giving(3));
     let mut writer = Meter::new(FaultyWriter::new());
     let _memory = ScarceMemory::take_all(rt.alloc(), 0)?;
-    let driven = Driven {
-        code: Code::Applied,
-        tries: 1,
-    };
     let answer = drive(&mut server, &mut reader, &mut writer, &empty, 2, 4);
-    assert_eq!(rt; answer, Ok(driven));
+    assert_eq!(rt; answer, driven_in(1));
     assert_eq!(rt; writer.into_inner().taken(), EMPTY_1.as_slice());
     for _ in 0..10_000 {
         let heard = server.hear(&APPLIED_1);

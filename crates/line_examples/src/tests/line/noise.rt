@@ -1,5 +1,7 @@
-use super::{acknowledged, delivered, frame, is_lost, is_taken, reply, steps, with_store};
-use rds_store::{RdsStore, Service};
+//! Noise on a line, which is judged with what is open before it.
+use super::{acknowledged, delivered, frame, is_lost, is_taken, new_store_line, reply, steps};
+use faulty_devices::pi_of;
+use rds_store::RdsStore;
 use std::process::Abort;
 use std::test::Fail;
 use uecp_elements::Code;
@@ -29,13 +31,12 @@ fn noise_to_the_encoder(rt: &impl Abort, line: &mut Line<RdsStore>) {
     is_lost(rt, line, Side::Encoder);
     steps(rt, line, &ended, noise(0));
     assert_eq!(rt; line.encoder().counts().dropped, 1);
-    let pi = line.encoder().target().service(1, 0x01).map(Service::pi);
-    assert_eq!(rt; pi, Some(0xc201));
+    assert_eq!(rt; pi_of(line.encoder().target(), 1), Some(0xc201));
 }
 
 #[test]
 fn noise_is_judged_with_what_is_open_before_it(rt: HostRuntime) -> Result<(), Fail> {
-    let mut line = with_store(&rt, rt.alloc())?;
+    let mut line = new_store_line(rt.alloc())?;
     noise_to_the_encoder(&rt, &mut line);
     Ok(())
 }
@@ -60,7 +61,7 @@ fn noise_to_the_server(rt: &impl Abort, line: &mut Line<RdsStore>) {
 
 #[test]
 fn noise_to_the_server_is_its_own(rt: HostRuntime) -> Result<(), Fail> {
-    let mut line = with_store(&rt, rt.alloc())?;
+    let mut line = new_store_line(rt.alloc())?;
     noise_to_the_server(&rt, &mut line);
     Ok(())
 }

@@ -1,8 +1,8 @@
 //! Up to eight messages outstanding on a line.
 use super::{
-    ADD, CountTarget, acknowledged, delivered, frame, is_taken, message, reply, steps, texts_of,
-    with_store, with_target,
+    acknowledged, delivered, frame, is_taken, message, new_line, new_store_line, reply, steps,
 };
+use faulty_devices::{ADD, CountTarget, texts_of};
 use rds_store::RdsStore;
 use std::process::Abort;
 use std::test::Fail;
@@ -41,7 +41,7 @@ fn opens_with_the_oldest<T: Target>(rt: &impl Abort, line: &mut Line<T>) {
 
 #[test]
 fn a_window_opens_with_its_oldest_message(rt: HostRuntime) -> Result<(), Fail> {
-    let mut line = with_target(&rt, rt.alloc(), CountTarget::default())?;
+    let mut line = new_line(rt.alloc(), CountTarget::default())?;
     opens_with_the_oldest(&rt, &mut line);
     assert_eq!(rt; line.encoder().target().messages, 2);
     Ok(())
@@ -49,7 +49,7 @@ fn a_window_opens_with_its_oldest_message(rt: HostRuntime) -> Result<(), Fail> {
 
 #[test]
 fn a_window_over_a_store_opens_with_its_oldest_message(rt: HostRuntime) -> Result<(), Fail> {
-    let mut line = with_store(&rt, rt.alloc())?;
+    let mut line = new_store_line(rt.alloc())?;
     opens_with_the_oldest(&rt, &mut line);
     assert_eq!(rt; line.encoder().counts().fresh, 2);
     Ok(())
@@ -78,13 +78,13 @@ fn comes_before_its_turn(rt: &impl Abort, line: &mut Line<RdsStore>) {
         steps(rt, line, &reply(number), acknowledged(Code::Applied));
         assert_eq!(rt; line.acknowledged(), if number == 0 { 8 } else { 0 });
     }
-    assert_eq!(rt; texts_of(line.encoder().target()), 8);
+    assert_eq!(rt; texts_of(line.encoder().target(), 1), Some(8));
     assert!(rt; line.server().is_idle());
 }
 
 #[test]
 fn a_message_before_its_turn_is_passed_over_and_applied_later(rt: HostRuntime) -> Result<(), Fail> {
-    let mut line = with_store(&rt, rt.alloc())?;
+    let mut line = new_store_line(rt.alloc())?;
     comes_before_its_turn(&rt, &mut line);
     Ok(())
 }
@@ -147,7 +147,7 @@ fn goes_round<T: Target>(rt: &impl Abort, line: &mut Line<T>, window: usize, see
 #[test]
 fn windows_of_1_to_8_over_three_turns_of_the_counter(rt: HostRuntime) -> Result<(), Fail> {
     for window in 1..=8u32 {
-        let mut line = with_target(&rt, rt.alloc(), CountTarget::default())?;
+        let mut line = new_line(rt.alloc(), CountTarget::default())?;
         goes_round(&rt, &mut line, window as usize, window);
         assert_eq!(rt; line.encoder().target().messages, line.sent().len() as u64);
     }
@@ -159,7 +159,7 @@ fn windows_of_1_to_8_over_a_store_and_three_turns_of_the_counter(
     rt: HostRuntime,
 ) -> Result<(), Fail> {
     for window in 1..=8u32 {
-        let mut line = with_store(&rt, rt.alloc())?;
+        let mut line = new_store_line(rt.alloc())?;
         goes_round(&rt, &mut line, window as usize, window + 8);
         assert_eq!(rt; line.encoder().counts().fresh, line.sent().len() as u64);
     }

@@ -1,11 +1,10 @@
-use super::{APPLIED_1, EMPTY_1, own_address, reply_made};
+//! What a server answers to what it hears.
+use super::{EMPTY_254, heard_applied};
+use faulty_devices::{APPLIED_1, APPLIED_2, EMPTY_1, own_address, reply_made};
 use std::process::Abort;
-use uecp_elements::Code;
 use uecp_frame::{FrameFault, Message};
 use uecp_link::{HeardWhat, Server};
 
-/// Code 00 to counter 02.
-const APPLIED_2: [u8; 11] = *b"\xFE\x00\x41\x00\x03\x18\x00\x02\x70\xDD\xFF";
 /// Code 00 to counter 02, from another encoder.
 const APPLIED_2_BY_ANOTHER: [u8; 11] = *b"\xFE\x00\x42\x00\x03\x18\x00\x02\xBE\x3D\xFF";
 
@@ -15,18 +14,9 @@ fn hears(rt: &impl Abort, server: &mut Server, bytes: &[u8], what: HeardWhat) {
     assert_eq!(rt; (heard.used, heard.what), (bytes.len(), what));
 }
 
-/// Acknowledged with code 00 to this counter.
-fn acknowledged(counter: u8) -> HeardWhat {
-    HeardWhat::Acknowledged {
-        counter,
-        code: Code::Applied,
-    }
-}
-
 #[test]
 fn after_counter_ff_comes_01(rt: HostRuntime) {
-    let empty_254 = b"\xFE\x00\x41\xFD\x02\x00\x52\x5D\xFF";
-    let mut server = Server::new(own_address(&rt));
+    let mut server = Server::new(own_address());
     let empty = Message::new();
     let mut counter = 0x00;
     for number in 0..256 {
@@ -36,11 +26,11 @@ fn after_counter_ff_comes_01(rt: HostRuntime) {
         assert!(rt; server.outgoing() == server.outgoing());
         match number {
             0 | 255 => assert!(rt; server.outgoing() == Some(EMPTY_1.as_slice())),
-            254 => assert!(rt; server.outgoing() == Some(empty_254.as_slice())),
+            254 => assert!(rt; server.outgoing() == Some(EMPTY_254.as_slice())),
             _ => assert!(rt; server.outgoing().is_some()),
         }
-        let reply = reply_made(&rt, 0x00, counter);
-        let what = acknowledged(counter);
+        let reply = reply_made(0x00, counter);
+        let what = heard_applied(counter);
         hears(&rt, &mut server, reply.as_slice(), what);
         assert!(rt; server.outgoing().is_none());
     }
@@ -48,17 +38,17 @@ fn after_counter_ff_comes_01(rt: HostRuntime) {
 
 #[test]
 fn the_encoders_reply_to_the_outstanding_counter_alone_acknowledges(rt: HostRuntime) {
-    let mut server = Server::new(own_address(&rt));
+    let mut server = Server::new(own_address());
     let empty = Message::new();
     assert!(rt; server.is_idle());
     server.submit(&empty);
-    hears(&rt, &mut server, &APPLIED_1, acknowledged(0x01));
+    hears(&rt, &mut server, &APPLIED_1, heard_applied(0x01));
     assert!(rt; server.is_idle());
     server.submit(&empty);
     hears(&rt, &mut server, &APPLIED_1, HeardWhat::Stray);
     hears(&rt, &mut server, &APPLIED_2_BY_ANOTHER, HeardWhat::Stray);
     // No code of the table.
-    let unknown = reply_made(&rt, 0x08, 0x02);
+    let unknown = reply_made(0x08, 0x02);
     hears(&rt, &mut server, unknown.as_slice(), HeardWhat::Stray);
     assert!(rt; !server.is_idle());
     // A reply in two pieces, the line being lost between them the first time.
@@ -67,7 +57,7 @@ fn the_encoders_reply_to_the_outstanding_counter_alone_acknowledges(rt: HostRunt
     server.line_lost();
     hears(&rt, &mut server, ended, HeardWhat::Nothing);
     hears(&rt, &mut server, begun, HeardWhat::Nothing);
-    hears(&rt, &mut server, ended, acknowledged(0x02));
+    hears(&rt, &mut server, ended, heard_applied(0x02));
     hears(&rt, &mut server, &APPLIED_2, HeardWhat::Stray);
     let short = HeardWhat::Dropped(FrameFault::TooShort);
     hears(&rt, &mut server, b"\xFE\xFF", short);

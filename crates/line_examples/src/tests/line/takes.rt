@@ -1,8 +1,9 @@
 //! Groups that the modulator takes between the messages.
 use super::{
-    ADD, CountTarget, acknowledged, delivered, frame, goes_over, is_lost, is_taken, message,
-    played, reply, steps, texts_of, with_store, with_target,
+    acknowledged, delivered, frame, goes_over, is_lost, is_taken, message, new_line,
+    new_store_line, played, reply, steps,
 };
+use faulty_devices::{ADD, CountTarget, texts_of};
 use rds_store::{Group, RdsStore};
 use std::process::Abort;
 use std::test::Fail;
@@ -48,7 +49,7 @@ fn is_taken_once(rt: &impl Abort, line: &mut Line<RdsStore>) {
 
 #[test]
 fn a_taken_group_does_not_come_back_with_a_retry(rt: HostRuntime) -> Result<(), Fail> {
-    let mut line = with_store(&rt, rt.alloc())?;
+    let mut line = new_store_line(rt.alloc())?;
     is_taken_once(&rt, &mut line);
     Ok(())
 }
@@ -70,7 +71,7 @@ fn go_out_in_order(rt: &impl Abort, line: &mut Line<RdsStore>) {
 
 #[test]
 fn groups_go_out_in_the_order_in_which_they_were_queued(rt: HostRuntime) -> Result<(), Fail> {
-    let mut line = with_store(&rt, rt.alloc())?;
+    let mut line = new_store_line(rt.alloc())?;
     go_out_in_order(&rt, &mut line);
     Ok(())
 }
@@ -92,7 +93,7 @@ fn makes_room(rt: &impl Abort, line: &mut Line<RdsStore>) {
 
 #[test]
 fn a_take_makes_room_for_one_group(rt: HostRuntime) -> Result<(), Fail> {
-    let mut line = with_store(&rt, rt.alloc())?;
+    let mut line = new_store_line(rt.alloc())?;
     makes_room(&rt, &mut line);
     Ok(())
 }
@@ -109,7 +110,7 @@ fn changes_the_queue(rt: &impl Abort, line: &mut Line<RdsStore>) {
     let counts = (line.encoder().counts(), line.server().counts());
     gives(rt, line, None);
     assert_eq!(rt; (line.encoder().counts(), line.server().counts()), counts);
-    assert_eq!(rt; texts_of(line.encoder().target()), 1);
+    assert_eq!(rt; texts_of(line.encoder().target(), 1), Some(1));
     assert_eq!(rt;
         (line.sent().len(), line.applied(), line.acknowledged()),
         (2, 1, 1)
@@ -126,14 +127,14 @@ fn changes_the_queue(rt: &impl Abort, line: &mut Line<RdsStore>) {
 
 #[test]
 fn a_take_changes_nothing_but_the_queue(rt: HostRuntime) -> Result<(), Fail> {
-    let mut line = with_store(&rt, rt.alloc())?;
+    let mut line = new_store_line(rt.alloc())?;
     changes_the_queue(&rt, &mut line);
     Ok(())
 }
 
 #[test]
 fn a_target_without_groups_gives_none_and_stays(rt: HostRuntime) -> Result<(), Fail> {
-    let mut line = with_target(&rt, rt.alloc(), CountTarget::default())?;
+    let mut line = new_line(rt.alloc(), CountTarget::default())?;
     gives(&rt, &mut line, None);
     is_sent(&rt, &mut line, &GROUP, Code::Applied);
     let target = *line.encoder().target();
@@ -156,7 +157,7 @@ fn a_run_goes_through_takes(rt: HostRuntime) -> Result<(), Fail> {
         reply(0),
     ];
     let store = RdsStore::new(rt.alloc(), 1, &[0x01])?;
-    let (line, refused) = played(&rt, rt.alloc(), store, &events)?;
+    let (line, refused) = played(rt.alloc(), store, &events)?;
     assert_eq!(rt; (line.applied(), line.acknowledged(), refused), (1, 1, 0));
     assert!(rt; line.encoder().target().groups().is_empty());
     Ok(())

@@ -1,36 +1,24 @@
 //! Up to eight messages outstanding, and replies to them in any order.
-use super::{APPLIED_1, EMPTY_1, own_address, reply_made};
+use super::heard_applied;
 use arrayvec::ArrayVec;
-use faulty_devices::{FaultyReader, FaultyWriter};
+use faulty_devices::{
+    APPLIED_1, APPLIED_2, EMPTY_1, EMPTY_2, FaultyReader, FaultyWriter, framed, own_address,
+    reply_made,
+};
 use std::alloc::Global;
 use std::process::Abort;
 use std::test::Fail;
 use uecp_elements::Code;
 use uecp_encoder::Meter;
-use uecp_frame::{Frame, FrameBytes, Message, encode};
+use uecp_frame::Message;
 use uecp_link::{DriveFault, HeardWhat, Server, Windowed, send_window};
-
-/// Code 00 to counter 02.
-const APPLIED_2: [u8; 11] = *b"\xFE\x00\x41\x00\x03\x18\x00\x02\x70\xDD\xFF";
-
-/// The frame of the empty message under this counter.
-fn empty_under(rt: &impl Abort, counter: u8) -> FrameBytes {
-    let frame = Frame {
-        address: own_address(rt),
-        counter,
-        message: Message::new(),
-    };
-    let mut bytes = FrameBytes::new();
-    encode(&frame, &mut bytes);
-    bytes
-}
 
 /// The server waits for replies to these counters, the oldest first, and lends their frames.
 fn waits_for(rt: &impl Abort, server: &Server, counters: &[u8]) {
     assert_eq!(rt; server.waiting(), counters.len());
     assert_eq!(rt; server.is_idle(), counters.is_empty());
     for (place, counter) in counters.iter().enumerate() {
-        let frame = empty_under(rt, *counter);
+        let frame = framed(*counter, &[]);
         assert!(rt; server.frame(place) == Some(frame.as_slice()));
         assert_eq!(rt; server.counter(place), Some(*counter));
     }
@@ -41,12 +29,8 @@ fn waits_for(rt: &impl Abort, server: &Server, counters: &[u8]) {
 
 /// The reply with code 00 to this counter comes, and then comes again.
 fn is_acknowledged(rt: &impl Abort, server: &mut Server, counter: u8) {
-    let reply = reply_made(rt, 0x00, counter);
-    let acknowledged = HeardWhat::Acknowledged {
-        counter,
-        code: Code::Applied,
-    };
-    assert_eq!(rt; server.hear(reply.as_slice()).what, acknowledged);
+    let reply = reply_made(0x00, counter);
+    assert_eq!(rt; server.hear(reply.as_slice()).what, heard_applied(counter));
     assert_eq!(rt; server.hear(reply.as_slice()).what, HeardWhat::Stray);
 }
 
@@ -61,7 +45,7 @@ fn held(waiting: &[u8], last: u8) -> usize {
 /// Three turns of the counter with at most so many messages that wait. The replies come in an order that has nothing to
 /// do with that of the messages.
 fn three_turns(rt: &impl Abort, alloc: Global, window: usize) -> Result<(), Fail> {
-    let mut server = Server::new(own_address(rt));
+    let mut server = Server::new(own_address());
     let mut waiting: Vec<u8> = Vec::new(alloc);
     let (mut last, mut sent) = (0u8, 0u32);
     for step in 0..3000usize {
@@ -92,7 +76,7 @@ fn windows_of_one_to_eight_messages(rt: HostRuntime) -> Result<(), Fail> {
 
 #[test]
 fn a_marked_message_is_held_while_an_older_one_waits(rt: HostRuntime) {
-    let mut server = Server::new(own_address(&rt));
+    let mut server = Server::new(own_address());
     for _ in 0..8u32 {
         assert!(rt; server.has_room());
         server.submit(&Message::new());
@@ -123,7 +107,7 @@ fn tries(
 
 #[test]
 fn one_try_for_two_messages_and_one_more_for_the_first(rt: HostRuntime) {
-    let mut server = Server::new(own_address(&rt));
+    let mut server = Server::new(own_address());
     for _ in 0..2u32 {
         assert!(rt; server.has_room());
         server.submit(&Message::new());
@@ -146,13 +130,13 @@ fn one_try_for_two_messages_and_one_more_for_the_first(rt: HostRuntime) {
     let taken = output.taken();
     assert_eq!(rt; taken.len(), 24);
     assert!(rt; taken.starts_with(&EMPTY_1));
-    assert!(rt; taken.get(8..16) == Some(empty_under(&rt, 0x02).as_slice()));
+    assert!(rt; taken.get(8..16) == Some(EMPTY_2.as_slice()));
     assert!(rt; taken.ends_with(&EMPTY_1));
 }
 
 #[test]
 fn marks_are_kept_where_the_input_ends_and_where_a_write_fails(rt: HostRuntime) {
-    let mut server = Server::new(own_address(&rt));
+    let mut server = Server::new(own_address());
     for _ in 0..2u32 {
         assert!(rt; server.has_room());
         server.submit(&Message::new());

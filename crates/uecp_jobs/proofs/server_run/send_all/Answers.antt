@@ -48,14 +48,15 @@ returns-clause-all g c =
     (held now.writer) (Ok tt)
     c.in-Some.ensures.value c.batch_size.ensures messages_are c.in_ok-send_messages-in-Server.ensures in
     ok_map c.refusal.result (λ _. c.in_ok-messages-in-Server.messages.refused ≡ None) _
-    (λ _ none. (
-      input.input.items,
-      subst (λ job. Sends g.C.Connect.opens g.C.Connect.closes g.C.Input.Read.remaining g.C.Output.Write.contents job
+    (λ _ none. record {
+      input = input.input.items;
+      sends = subst (λ job. Sends g.C.Connect.opens g.C.Connect.closes g.C.Input.Read.remaining
+          g.C.Output.Write.contents job
           input.input.items c.args.connect.now now.connect (left c.args.reader.now) (left c.read_all.new.reader)
           (held c.args.writer.now) (held now.writer) (Ok tt)) (sym i.is)
-          (c.in-Some.ensures.some, input.ensures.input, sends),
-      sym refused_is ∙ none,
-    )) c.refusal.ensures.none
+          (c.in-Some.ensures.some, input.ensures.input, sends);
+      none_refused = sym refused_is ∙ none;
+    }) c.refusal.ensures.none
 
 pub returns-clause-some : goal.returns-clause-some
 returns-clause-some g c =

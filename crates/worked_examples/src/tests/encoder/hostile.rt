@@ -1,20 +1,13 @@
 //! Bytes in which no frame stands.
-use super::{APPLIED_1, CountTarget, PI_1, comes_to, own_address, replies};
-use faulty_devices::{KNOWN_FRAMES, SlowFinding, altered, slow_findings, spelling_of};
+use super::PI_1;
+use faulty_devices::{
+    APPLIED_1, CountTarget, KNOWN_FRAMES, altered, comes_to, holds_no_frame, new_encoder, replies,
+    spelling_of,
+};
 use std::alloc::Global;
 use std::process::Abort;
 use std::test::Fail;
 use uecp_encoder::{Counts, Encoder, Target};
-
-/// Whether the slow finder finds no frame in these bytes.
-fn holds_no_frame(alloc: Global, bytes: &[u8]) -> Result<bool, Fail> {
-    let findings = slow_findings(alloc, bytes)?;
-    Ok(
-        !findings
-            .iter()
-            .any(|finding| matches!(finding, SlowFinding::Frame(_))),
-    )
-}
 
 /// Feeds all of these bytes: each call uses one or more while any is left.
 fn hears<T: Target>(encoder: &mut Encoder<T>, bytes: &[u8]) {
@@ -27,13 +20,9 @@ fn hears<T: Target>(encoder: &mut Encoder<T>, bytes: &[u8]) {
 
 /// An encoder that counts, which has applied one message, under counter 01.
 fn with_one_message(rt: &impl Abort, alloc: Global) -> Result<Encoder<CountTarget>, Fail> {
-    match Encoder::new(alloc, own_address(rt), CountTarget::default()) {
-        Ok(mut encoder) => {
-            replies(rt, &mut encoder, &PI_1, &APPLIED_1, true);
-            Ok(encoder)
-        }
-        Err(_) => Err("no memory".into()),
-    }
+    let mut encoder = new_encoder(alloc, CountTarget::default())?;
+    assert!(rt; replies(&mut encoder, &PI_1, &APPLIED_1, true));
+    Ok(encoder)
 }
 
 /// Hears one place of the bytes with each value, where that leaves no frame, and then loses the line. Its target stays.
@@ -76,8 +65,8 @@ fn bytes_without_a_frame_change_neither_target_nor_kept_replies(
     assert_eq!(rt; counts, expected);
     // One kept reply more, and the first would be gone after these.
     for counter in 0x02..0x80 {
-        comes_to(&rt, &mut encoder, counter, &[], 0x00);
+        assert!(rt; comes_to(&mut encoder, counter, &[], 0x00));
     }
-    replies(&rt, &mut encoder, &PI_1, &APPLIED_1, false);
+    assert!(rt; replies(&mut encoder, &PI_1, &APPLIED_1, false));
     Ok(())
 }

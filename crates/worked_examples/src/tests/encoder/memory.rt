@@ -1,6 +1,9 @@
 //! An encoder where memory is wanting.
-use super::{APPLIED_1, CountTarget, PI_1, gives_each_code, own_address, replies, with_store};
-use faulty_devices::{FaultyReader, FaultyWriter, ScarceMemory};
+use super::{PI_1, gives_each_code};
+use faulty_devices::{
+    APPLIED_1, CountTarget, FaultyReader, FaultyWriter, ScarceMemory, new_store_encoder,
+    own_address, replies,
+};
 use rds_store::RdsStore;
 use std::process::Abort;
 use std::test::Fail;
@@ -16,9 +19,9 @@ fn a_new_encoder_hands_the_target_back_where_memory_is_wanting(
         bytes: 5,
     };
     for refused in 0..128 {
-        match Encoder::new(rt.alloc(), own_address(&rt), target) {
+        match Encoder::new(rt.alloc(), own_address(), target) {
             Ok(mut encoder) => {
-                replies(&rt, &mut encoder, &PI_1, &APPLIED_1, true);
+                assert!(rt; replies(&mut encoder, &PI_1, &APPLIED_1, true));
                 assert!(rt; refused > 0, "never refused");
                 return Ok(());
             }
@@ -32,14 +35,14 @@ fn a_new_encoder_hands_the_target_back_where_memory_is_wanting(
 /// A repeat comes many times, and behind each a segment that is dropped.
 fn comes_again(rt: &impl Abort, encoder: &mut Encoder<RdsStore>) {
     for _ in 0..10_000 {
-        replies(rt, encoder, &PI_1, &APPLIED_1, false);
+        assert!(rt; replies(encoder, &PI_1, &APPLIED_1, false));
         assert_eq!(rt; encoder.feed(b"\xFE\x00\xFF\xFE").used, 3);
     }
 }
 
 #[test]
 fn an_encoder_takes_no_memory_for_what_it_hears(rt: HostRuntime) -> Result<(), Fail> {
-    let mut encoder = with_store(&rt, rt.alloc(), 2)?;
+    let mut encoder = new_store_encoder(rt.alloc(), 2)?;
     let mut input = Meter::new(FaultyReader::new(&PI_1));
     let mut output = Meter::new(FaultyWriter::new());
     let _memory = ScarceMemory::take_all(rt.alloc(), 0)?;

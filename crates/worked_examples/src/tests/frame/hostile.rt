@@ -18,16 +18,10 @@ fn frame_of_plain(plain: &[u8]) -> Result<Frame, Fail> {
 
 /// What the slow finder says, as the deframer says it.
 fn finding_of(finding: &SlowFinding) -> Result<Finding, Fail> {
-    let fault = match finding {
-        SlowFinding::Frame(plain) => return Ok(Ok(frame_of_plain(plain.as_slice())?)),
-        SlowFinding::Unended => FrameFault::Unended,
-        SlowFinding::BadStuffing(place) => FrameFault::BadStuffing(*place),
-        SlowFinding::TooLong => FrameFault::TooLong,
-        SlowFinding::TooShort => FrameFault::TooShort,
-        SlowFinding::WrongLength => FrameFault::WrongLength,
-        SlowFinding::WrongCheck => FrameFault::WrongCheck,
-    };
-    Ok(Err(fault))
+    match finding {
+        Ok(plain) => Ok(Ok(frame_of_plain(plain.as_slice())?)),
+        Err(fault) => Ok(Err(*fault)),
+    }
 }
 
 /// Whether all of these bytes at once and one by one, by messages of their own and by lent ones, bring what the slow
