@@ -1,6 +1,6 @@
 -- The basic character set of RDS: which character each byte of a name or of a RadioText stands for. Characters are
 -- their Unicode numbers. Source: IEC 62106, basic character set.
-use Rattle.std.specs.Prelude.{◌≡◌, ℕ, ◌-◌, ◌==◌, ◌&&◌, nat_le, List, [], ◌∷◌, ◌++◌, Option, Some, None}
+use Rattle.std.specs.Prelude.{◌≡◌, ◌<◌, ℕ, ◌-◌, ◌==◌, ◌&&◌, nat_le, List, [], ◌∷◌, ◌++◌, Option, Some, None}
 use Rattle.std.specs.Prelude.{if◌then◌else◌, slice_get}
 
 -- 80 to 8F: á à é è í ì ó ò ú ù Ñ Ç Ş ß ¡ Ĳ
@@ -70,3 +70,7 @@ character_of byte =
 -- Law: no character stands in the set twice.
 abbrev pub IsOnce : Type 0
 IsOnce = (a b character : ℕ) → character_of a ≡ Some character → character_of b ≡ Some character → a ≡ b
+
+-- Law: each character of the set is below Unicode's surrogates.
+abbrev pub IsBelowSurrogates : Type 0
+IsBelowSurrogates = (byte character : ℕ) → character_of byte ≡ Some character → character < 0xD800

@@ -1,11 +1,16 @@
 //! The laws of characters and names, each as the contract of a function that does nothing. Source: IEC 62106.
-ghost use Rattle.rds_text.specs.BasicSet.{IsOnce};
+ghost use Rattle.rds_text.specs.BasicSet.{IsOnce, IsBelowSurrogates};
 ghost use Rattle.rds_text.specs.ProgrammeTypes.{IsNamedOnce};
 ghost use Rattle.rds_text.specs.Quoted.{IsReadBack, IsOneByte};
 
 /// No character stands in the set twice.
 pub fn one_byte()
     ensures { IsOnce }
+{}
+
+/// Each character of the set is below Unicode's surrogates.
+pub fn below_surrogates()
+    ensures { IsBelowSurrogates }
 {}
 
 /// No name is that of two programme types of a region, whatever the case of its letters.

@@ -117,9 +117,9 @@ fn north_american(number: u8) -> Option<&'static str>
 /// The programme type of that name, whatever the case of its letters, or None.
 ///
 /// ```
-/// number_of(Region::Europe, "pop music"); // Some(10)
+/// number_of(Region::Europe, b"pop music"); // Some(10)
 /// ```
-pub fn number_of(region: Region, name: &str) -> Option<u8>
+pub fn number_of(region: Region, name: &[u8]) -> Option<u8>
     ensures some { IfSome result (λ number. HasName region number name.now) }
     ensures none { IfNone result ((number : ℕ) → HasName region number name.now → ⊥) }
 {
@@ -132,11 +132,11 @@ pub fn number_of(region: Region, name: &str) -> Option<u8>
 }
 
 /// Whether a number has this name.
-fn has_name(region: Region, number: u8, name: &str) -> bool
+fn has_name(region: Region, number: u8, name: &[u8]) -> bool
     ensures { IsTrue result ↔ HasName region number name.now }
 {
     match name_of(region, number) {
-        Some(own) => own.eq_ignore_ascii_case(name),
+        Some(own) => own.as_bytes().eq_ignore_ascii_case(name),
         None => false,
     }
 }

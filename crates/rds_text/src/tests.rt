@@ -93,9 +93,9 @@ fn names_of_programme_types(rt: HostRuntime) -> Result<(), Fail> {
         "Country"
     );
     assert!(rt; name_of(Region::NorthAmerica, 27).is_none());
-    assert_eq!(rt; number_of(Region::Europe, "pop MUSIC"), Some(10));
-    assert_eq!(rt; number_of(Region::NorthAmerica, "Pop Music"), None);
-    assert_eq!(rt; number_of(Region::Europe, ""), None);
+    assert_eq!(rt; number_of(Region::Europe, b"pop MUSIC"), Some(10));
+    assert_eq!(rt; number_of(Region::NorthAmerica, b"Pop Music"), None);
+    assert_eq!(rt; number_of(Region::Europe, b""), None);
     Ok(())
 }
 

@@ -1,0 +1,10 @@
+pub mod Characters
+pub mod Inner
+pub mod OneReading
+pub mod ReadBack
+pub mod Unicode
+pub mod LaysOn
+pub mod Words
+pub mod Told
+pub mod Written
+pub mod Passed

@@ -1,0 +1,14 @@
+pub mod Alone
+pub mod Stepping
+pub mod SaidBytes
+pub mod Said
+pub mod SaidTokens
+pub mod WritingNames
+pub mod RawWords
+pub mod Telling
+pub mod Phrasing
+pub mod CalledGroups
+pub mod OneMeaning
+pub mod Cutting
+pub mod SaidMessages
+pub mod WritingLines

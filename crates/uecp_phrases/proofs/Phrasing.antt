@@ -1,0 +1,296 @@
+-- A phrase from its parts, and no phrase from none of them.
+use Rattle.std.proofs.Common.{◌≡◌, ◌≢◌, ℕ, ◌+◌, ◌||◌, Bool, false, is_some, List, [], ◌∷◌, ◌++◌, codes, Some, None}
+use Rattle.std.proofs.Common.{Option}
+use Rattle.std.proofs.Common.{refl, sym, ◌∙◌, ap, subst, inl, inr, eqb, if◌then◌else◌}
+use Rattle.std.proofs.lemmas.Bool.{false≢true}
+use Rattle.uecp_text.specs.Words.{IsByte, decimal_in}
+use Rattle.rds_text.specs.declared.programme_type.Region.{Region}
+use Rattle.phrase_tokens.specs.Tokens.{Token, Word}
+use Rattle.uecp_phrases.specs.declared.head.Head.{Head}
+use Rattle.uecp_phrases.specs.declared.head.Head.TheVariants as head
+use Rattle.uecp_phrases.specs.Phrases.{IsSet, set_said, service_said, IsInSet, IsForService, head_word, Tells, IsPhrase}
+use Rattle.uecp_phrases.specs.Reading.{BeginWith, IsBefore, IsNoneBefore, or_zero}
+use Rattle.uecp_phrases.proofs.RawWords.{same_byte}
+
+-- ---- Heads are told apart by the sum of their letters.
+
+abbrev mark : List ℕ → ℕ
+mark [] = 0
+mark (b ∷ w) = b + mark w
+
+abbrev marked : ℕ → Head
+marked n =
+    if eqb n 217 then head.Pi
+    else if eqb n 227 then head.Ps
+    else if eqb n 230 then head.Rt
+    else if eqb n 735 then head.Traffic
+    else if eqb n 545 then head.Music
+    else if eqb n 632 then head.Speech
+    else if eqb n 224 then head.Ms
+    else if eqb n 349 then head.Pty
+    else if eqb n 332 then head.Set
+    else if eqb n 557 then head.Group
+    else if eqb n 303 then head.Ack
+    else head.Raw
+
+by_mark : (h : Head) → marked (mark (head_word h)) ≡ h
+by_mark head.Pi = refl
+by_mark head.Ps = refl
+by_mark head.Rt = refl
+by_mark head.Traffic = refl
+by_mark head.Music = refl
+by_mark head.Speech = refl
+by_mark head.Ms = refl
+by_mark head.Pty = refl
+by_mark head.Set = refl
+by_mark head.Group = refl
+by_mark head.Ack = refl
+by_mark head.Raw = refl
+
+pub one_head : (a b : Head) → head_word a ≡ head_word b → a ≡ b
+one_head a b same = sym (by_mark a) ∙ ap (λ w. marked (mark w)) same ∙ by_mark b
+
+-- no head is one of the words that name a place
+other_mark : (h : Head) → (eqb (mark (head_word h)) 215 ≡ false) × (eqb (mark (head_word h)) 327 ≡ false)
+other_mark head.Pi = (refl, refl)
+other_mark head.Ps = (refl, refl)
+other_mark head.Rt = (refl, refl)
+other_mark head.Traffic = (refl, refl)
+other_mark head.Music = (refl, refl)
+other_mark head.Speech = (refl, refl)
+other_mark head.Ms = (refl, refl)
+other_mark head.Pty = (refl, refl)
+other_mark head.Set = (refl, refl)
+other_mark head.Group = (refl, refl)
+other_mark head.Ack = (refl, refl)
+other_mark head.Raw = (refl, refl)
+
+pub no_in : (h : Head) → head_word h ≡ codes "in" → ⊥
+no_in h is = false≢true (sym (other_mark h).0 ∙ ap (λ w. eqb (mark w) 215) is)
+
+pub no_for : (h : Head) → head_word h ≡ codes "for" → ⊥
+no_for h is = false≢true (sym (other_mark h).1 ∙ ap (λ w. eqb (mark w) 327) is)
+
+-- ---- A word names one set.
+
+all_no_number : decimal_in 0xFD (codes "all") ≡ None
+unfolding decimal_in
+all_no_number = refl
+
+others_no_number : decimal_in 0xFD (codes "others") ≡ None
+unfolding decimal_in
+others_no_number = refl
+
+all_is_none : (word : List ℕ) (n : ℕ) → word ≡ codes "all" → decimal_in 0xFD word ≡ Some n → ⊥
+all_is_none word n is number =
+    let e : None ≡ Some n = sym all_no_number ∙ ap (λ w. decimal_in 0xFD w) (sym is) ∙ number in cc e
+
+others_is_none : (word : List ℕ) (n : ℕ) → word ≡ codes "others" → decimal_in 0xFD word ≡ Some n → ⊥
+others_is_none word n is number =
+    let e : None ≡ Some n = sym others_no_number ∙ ap (λ w. decimal_in 0xFD w) (sym is) ∙ number in cc e
+
+pub same_set : (word : List ℕ) (a b : ℕ) → IsSet word a → IsSet word b → a ≡ b
+same_set word a b (inl (p, x)) (inl (q, y)) = x ∙ sym y
+same_set word a b (inl (p, x)) (inr (inl (q, y))) =
+    let e : codes "all" ≡ codes "others" = sym p ∙ q in absurd (cc e)
+same_set word a b (inl (p, x)) (inr (inr q)) = absurd (all_is_none word b p q)
+same_set word a b (inr (inl (p, x))) (inl (q, y)) =
+    let e : codes "others" ≡ codes "all" = sym p ∙ q in absurd (cc e)
+same_set word a b (inr (inl (p, x))) (inr (inl (q, y))) = x ∙ sym y
+same_set word a b (inr (inl (p, x))) (inr (inr q)) = absurd (others_is_none word b p q)
+same_set word a b (inr (inr p)) (inl (q, y)) = absurd (all_is_none word a q p)
+same_set word a b (inr (inr p)) (inr (inl (q, y))) = absurd (others_is_none word a q p)
+same_set word a b (inr (inr p)) (inr (inr q)) = let e : Some a ≡ Some b = sym p ∙ q in cc
+
+-- ---- Where a phrase acts.
+
+-- what stands behind the set
+abbrev pub behind_set : Option (List ℕ) → Head → List Token → List Token
+behind_set service h rest = service_said service ++ (Word (head_word h) ∷ rest)
+
+pub no_set_behind : (service : Option (List ℕ)) (h : Head) (rest : List Token)
+    → BeginWith (codes "in") (behind_set service h rest) → ⊥
+no_set_behind None h rest (more, e) =
+    let w : head_word h ≡ codes "in" = cc in no_in h w
+no_set_behind (Some s) h rest (more, e) = cc e
+
+pub no_service_behind : (h : Head) (rest : List Token) → BeginWith (codes "for") (Word (head_word h) ∷ rest) → ⊥
+no_service_behind h rest (more, e) = let w : head_word h ≡ codes "for" = cc in no_for h w
+
+-- The set that was read is that of the phrase.
+pub record SameSet (set : Option ℕ) (word : Option (List ℕ)) (dsn : ℕ) (left own : List Token) : Type 0 where
+  pub left_is : left ≡ own
+  pub said : is_some word ≡ is_some set
+  pub number : dsn ≡ or_zero set
+
+pub set_read : (tokens left : List Token) (set : Option ℕ) (word service : Option (List ℕ)) (dsn : ℕ) (h : Head)
+    (rest : List Token) → IsBefore (codes "in") IsSet tokens set left
+    → tokens ≡ set_said word ++ behind_set service h rest → IsInSet word dsn
+    → SameSet set word dsn left (behind_set service h rest)
+set_read tokens left None None service dsn h rest (is, none) whole zero =
+    record { left_is = is ∙ whole; said = refl; number = zero }
+set_read tokens left None (Some w) service dsn h rest (is, none) whole named =
+    absurd (none (Word w ∷ behind_set service h rest, whole))
+set_read tokens left (Some n) None service dsn h rest (name, is, named) whole zero =
+    absurd (no_set_behind service h rest (Word name ∷ left, sym whole ∙ is))
+set_read tokens left (Some n) (Some w) service dsn h rest (name, is, named) whole own =
+    let e : Word (codes "in") ∷ Word name ∷ left ≡ Word (codes "in") ∷ Word w ∷ behind_set service h rest =
+    sym is ∙ whole in
+    let word : name ≡ w = cc in
+    record { left_is = cc; said = refl; number = same_set w dsn n own (subst (λ x. IsSet x n) word named) }
+
+pub service_read : (tokens left : List Token) (service : Option ℕ) (word : Option (List ℕ)) (psn : ℕ) (h : Head)
+    (rest : List Token) → IsBefore (codes "for") IsByte tokens service left → tokens ≡ behind_set word h rest
+    → IsForService word psn → SameSet service word psn left (Word (head_word h) ∷ rest)
+service_read tokens left None None psn h rest (is, none) whole zero =
+    record { left_is = is ∙ whole; said = refl; number = zero }
+service_read tokens left None (Some w) psn h rest (is, none) whole named =
+    absurd (none (Word w ∷ Word (head_word h) ∷ rest, whole))
+service_read tokens left (Some n) None psn h rest (name, is, named) whole zero =
+    absurd (no_service_behind h rest (Word name ∷ left, sym whole ∙ is))
+service_read tokens left (Some n) (Some w) psn h rest (name, is, named) whole own =
+    let e : Word (codes "for") ∷ Word name ∷ left ≡ Word (codes "for") ∷ Word w ∷ Word (head_word h) ∷ rest =
+    sym is ∙ whole in
+    let word : name ≡ w = cc in
+    record { left_is = cc; said = refl; number = same_byte w name psn n (sym word) own named }
+
+-- ---- A phrase that was read.
+
+pub phrase_read : (region : Region) (tokens mid left rest : List Token) (set service : Option ℕ) (h : Head)
+    (bytes : List ℕ) → IsBefore (codes "in") IsSet tokens set mid → IsBefore (codes "for") IsByte mid service left
+    → left ≡ Word (head_word h) ∷ rest
+    → Tells region h (is_some set || is_some service) (or_zero set) (or_zero service) rest bytes
+    → IsPhrase region tokens bytes
+phrase_read region tokens mid left rest None None h bytes (p, _) (q, _) is told = record {
+  set = None;
+  service = None;
+  head = h;
+  rest = rest;
+  dsn = 0;
+  psn = 0;
+  whole = sym p ∙ sym q ∙ is;
+  in_set = refl;
+  for_service = refl;
+  told = told;
+}
+phrase_read region tokens mid left rest None (Some n) h bytes (p, _) (name, q, named) is told = record {
+  set = None;
+  service = Some name;
+  head = h;
+  rest = rest;
+  dsn = 0;
+  psn = n;
+  whole = sym p ∙ q ∙ ap (λ l. Word (codes "for") ∷ Word name ∷ l) is;
+  in_set = refl;
+  for_service = named;
+  told = told;
+}
+phrase_read region tokens mid left rest (Some n) None h bytes (name, p, named) (q, _) is told = record {
+  set = Some name;
+  service = None;
+  head = h;
+  rest = rest;
+  dsn = n;
+  psn = 0;
+  whole = p ∙ ap (λ l. Word (codes "in") ∷ Word name ∷ l) (sym q ∙ is);
+  in_set = named;
+  for_service = refl;
+  told = told;
+}
+phrase_read region tokens mid left rest (Some n) (Some m) h bytes (name, p, named) (other, q, numbered) is told =
+    record {
+      set = Some name;
+      service = Some other;
+      head = h;
+      rest = rest;
+      dsn = n;
+      psn = m;
+      whole = p ∙ ap (λ l. Word (codes "in") ∷ Word name ∷ l) (q ∙ ap (λ l. Word (codes "for") ∷ Word other ∷ l) is);
+      in_set = named;
+      for_service = numbered;
+      told = told;
+    }
+
+-- ---- No phrase.
+
+pub no_set_read : (region : Region) (tokens : List Token) → IsNoneBefore (codes "in") IsSet tokens → (bytes : List ℕ)
+    → IsPhrase region tokens bytes → ⊥
+no_set_read region tokens (begins, none) bytes phrase =
+    by_set phrase.set phrase.whole phrase.in_set
+  where
+    by_set : (word : Option (List ℕ)) → tokens ≡ set_said word ++ behind_set phrase.service phrase.head phrase.rest
+        → IsInSet word phrase.dsn → ⊥
+    by_set None whole zero =
+        no_set_behind phrase.service phrase.head phrase.rest (begins.0, sym whole ∙ begins.1)
+    by_set (Some w) whole named =
+        none w phrase.dsn (behind_set phrase.service phrase.head phrase.rest) whole named
+
+-- What is left behind the place is the phrase's head and what stands behind it.
+pub left_is : (region : Region) (tokens mid left : List Token) (set service : Option ℕ) (bytes : List ℕ)
+    → IsBefore (codes "in") IsSet tokens set mid → IsBefore (codes "for") IsByte mid service left
+    → (phrase : IsPhrase region tokens bytes) → left ≡ Word (head_word phrase.head) ∷ phrase.rest
+left_is region tokens mid left set service bytes set_is service_is phrase =
+    let one = set_read tokens mid set phrase.set phrase.service phrase.dsn phrase.head phrase.rest set_is phrase.whole
+    phrase.in_set in
+    (service_read mid left service phrase.service phrase.psn phrase.head phrase.rest service_is one.left_is
+    phrase.for_service).left_is
+
+pub no_head_read : (region : Region) (tokens mid left rest : List Token) (set service : Option ℕ) (first : Token)
+    → IsBefore (codes "in") IsSet tokens set mid → IsBefore (codes "for") IsByte mid service left
+    → left ≡ first ∷ rest → ((h : Head) → first ≡ Word (head_word h) → ⊥) → (bytes : List ℕ)
+    → IsPhrase region tokens bytes → ⊥
+no_head_read region tokens mid left rest set service first set_is service_is is none bytes phrase =
+    let own = left_is region tokens mid left set service bytes set_is service_is phrase in
+    let e : first ∷ rest ≡ Word (head_word phrase.head) ∷ phrase.rest = sym is ∙ own in
+    let f : first ≡ Word (head_word phrase.head) = cc in none phrase.head f
+
+pub not_told_read : (region : Region) (tokens mid left rest : List Token) (set service : Option ℕ) (h : Head)
+    → IsBefore (codes "in") IsSet tokens set mid → IsBefore (codes "for") IsByte mid service left
+    → left ≡ Word (head_word h) ∷ rest → (bytes : List ℕ)
+    → (Tells region h (is_some set || is_some service) (or_zero set) (or_zero service) rest bytes → ⊥)
+    → IsPhrase region tokens bytes → ⊥
+not_told_read region tokens mid left rest set service h set_is service_is is bytes none phrase =
+    let one = set_read tokens mid set phrase.set phrase.service phrase.dsn phrase.head phrase.rest set_is phrase.whole
+    phrase.in_set in
+    let two = service_read mid left service phrase.service phrase.psn phrase.head phrase.rest service_is one.left_is
+    phrase.for_service in
+    let e : Word (head_word h) ∷ rest ≡ Word (head_word phrase.head) ∷ phrase.rest = sym is ∙ two.left_is in
+    let words : head_word phrase.head ≡ head_word h = cc in
+    let heads = one_head phrase.head h words in
+    let rests : phrase.rest ≡ rest = cc in
+    let told : Tells region h (is_some phrase.set || is_some phrase.service) phrase.dsn phrase.psn rest bytes =
+    subst (λ l. Tells region h (is_some phrase.set || is_some phrase.service) phrase.dsn phrase.psn l bytes) rests
+    (subst (λ k. Tells region k (is_some phrase.set || is_some phrase.service) phrase.dsn phrase.psn phrase.rest bytes)
+    heads phrase.told) in
+    let placed : Tells region h (is_some set || is_some service) phrase.dsn phrase.psn rest bytes =
+    subst (λ b. Tells region h b phrase.dsn phrase.psn rest bytes)
+    (ap (λ b. b || is_some phrase.service) one.said ∙ ap (λ b. is_some set || b) two.said) told in
+    none (subst (λ n. Tells region h (is_some set || is_some service) (or_zero set) n rest bytes) two.number
+    (subst (λ n. Tells region h (is_some set || is_some service) n phrase.psn rest bytes) one.number placed))
+
+-- What is told at a place, by the parts of the place.
+pub told_at : (region : Region) (h : Head) (placed : Bool) (dsn psn : ℕ) (set service : Option ℕ) (rest : List Token)
+    (bytes : List ℕ) → dsn ≡ or_zero set → psn ≡ or_zero service → placed ≡ (is_some set || is_some service)
+    → Tells region h placed dsn psn rest bytes
+    → Tells region h (is_some set || is_some service) (or_zero set) (or_zero service) rest bytes
+told_at region h placed dsn psn set service rest bytes d p s told =
+    subst (λ b. Tells region h b (or_zero set) (or_zero service) rest bytes) s
+    (subst (λ n. Tells region h placed n (or_zero service) rest bytes) d
+    (subst (λ n. Tells region h placed dsn n rest bytes) p told))
+
+-- A word that is no head.
+pub no_head_word : (first : Token) (own : List ℕ) → first ≡ Word own → ((h : Head) → own ≢ head_word h) → (h : Head)
+    → first ≡ Word (head_word h) → ⊥
+no_head_word first own is none h same =
+    let e : Word own ≡ Word (head_word h) = sym is ∙ same in
+    let one : own ≡ head_word h = cc in none h one
+
+-- And back.
+pub told_from : (region : Region) (h : Head) (placed : Bool) (dsn psn : ℕ) (set service : Option ℕ) (rest : List Token)
+    (bytes : List ℕ) → dsn ≡ or_zero set → psn ≡ or_zero service → placed ≡ (is_some set || is_some service)
+    → Tells region h (is_some set || is_some service) (or_zero set) (or_zero service) rest bytes
+    → Tells region h placed dsn psn rest bytes
+told_from region h placed dsn psn set service rest bytes d p s told =
+    subst (λ n. Tells region h placed dsn n rest bytes) (sym p)
+    (subst (λ n. Tells region h placed n (or_zero service) rest bytes) (sym d)
+    (subst (λ b. Tells region h b (or_zero set) (or_zero service) rest bytes) (sym s) told))

@@ -1,0 +1,14 @@
+use Rattle.std.proofs.Common.{◌+◌, length}
+use Rattle.std.specs.Option.{option_map, option_map_or}
+use Rattle.phrase_tokens.specs.View.{tokens_of}
+use Rattle.uecp_phrases.specs.Lines.{phrases_in, phrases_left}
+use Rattle.uecp_phrases.proofs.Cutting.{SaidSoFar}
+use Rattle.uecp_phrases.proofs.line.message_in.Given as goal
+
+abbrev pub invariant-loop-left : goal.invariant-loop-left
+invariant-loop-left l =
+    SaidSoFar l.region (phrases_in (tokens_of l.tokens)) l.message
+    (phrases_left (option_map (λ more. tokens_of more.now) l.left))
+
+abbrev pub decreases-loop-left : goal.decreases-loop-left
+decreases-loop-left l = option_map_or (λ more. length more.now + 1) l.left 0

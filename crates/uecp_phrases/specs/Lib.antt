@@ -1,0 +1,6 @@
+-- The definitions that the contracts of phrases cite.
+pub mod Phrases
+pub mod Lines
+pub mod Reading
+pub mod Written
+pub mod Laws

@@ -1,0 +1,85 @@
+-- What the code's values hold, and what parts of a phrase say. No public clause cites this.
+use Rattle.std.specs.Prelude.{◌≡◌, ◌⊎◌, ◌≤◌, ◌+◌, if◌then◌else◌, ℕ, Bool, List, [], ◌∷◌, ◌++◌, codes, Option, Some}
+use Rattle.std.specs.Prelude.{None}
+use Rattle.phrase_tokens.specs.Tokens.{Token, Word, Quoted}
+use Rattle.uecp_text.specs.Words.{IsByte, IsNumber}
+use Rattle.uecp_phrases.specs.declared.choices.Made.{Made}
+use Rattle.uecp_phrases.specs.declared.choices.ChoiceName.{ChoiceName}
+use Rattle.uecp_phrases.specs.declared.choices.ChoiceName.TheVariants as name
+use Rattle.uecp_phrases.specs.declared.traffic_name.TrafficName.{TrafficName}
+use Rattle.uecp_phrases.specs.declared.traffic_name.TrafficName.TheVariants as traffic
+use Rattle.uecp_phrases.specs.Phrases.{Make, no_choice, head_of, added_tokens, IsGroupType}
+use Rattle.uecp_phrases.specs.Phrases.{Choice, Choices, choice_tokens, AreMade}
+
+-- The choices that were made.
+abbrev pub choices_of : Made → Choices
+choices_of made = record { adds = made.adds; toggles = made.toggles; times = made.times }
+
+-- The word of a choice.
+abbrev pub choice_word : ChoiceName → List ℕ
+choice_word name.Add = codes "add"
+choice_word name.Toggle = codes "toggle"
+choice_word name.Times = codes "times"
+
+-- The first tokens make one choice, behind those that were made before, and the others are left.
+pub record IsStep (before : Choices) (tokens : List Token) (made : Choices) (rest : List Token) : Type 0 where
+  pub choice : Choice
+  pub whole : tokens ≡ choice_tokens choice ++ rest
+  pub one : AreMade before (choice ∷ []) made
+
+-- A text and its choices.
+abbrev pub IsChosenText : List Token → (head : ℕ) → (text : List ℕ) → Type 0
+IsChosenText tokens head text =
+    (choices : List Token) × (made : Choices) × (tokens ≡ Quoted text ∷ choices) × Make no_choice choices made
+    × (head ≡ head_of made)
+
+-- A text and the byte of its head.
+abbrev pub IsTextOfBits : List Token → (head : ℕ) → (text : List ℕ) → Type 0
+IsTextOfBits tokens head text =
+    (word : List ℕ) × (tokens ≡ Word (codes "bits") ∷ Word word ∷ Quoted text ∷ []) × IsByte word head
+
+-- The name of traffic flags.
+abbrev pub traffic_word : TrafficName → List ℕ
+traffic_word traffic.None = codes "none"
+traffic_word traffic.Eon = codes "eon"
+traffic_word traffic.Programme = codes "programme"
+traffic_word traffic.Announcement = codes "announcement"
+
+-- The tokens begin with this word.
+abbrev pub BeginWith : List ℕ → List Token → Type 0
+BeginWith word tokens = (rest : List Token) × (tokens ≡ Word word ∷ rest)
+
+-- The tokens say a number behind this word, or don't begin with it.
+abbrev pub IsBefore : (word : List ℕ) → (Named : List ℕ → ℕ → Type 0) → (tokens : List Token) → (number : Option ℕ)
+    → (rest : List Token) → Type 0
+IsBefore word Named tokens None rest = (rest ≡ tokens) × (BeginWith word tokens → ⊥)
+IsBefore word Named tokens (Some number) rest =
+    (name : List ℕ) × (tokens ≡ Word word ∷ Word name ∷ rest) × Named name number
+
+-- They begin with it and say none behind it.
+abbrev pub IsNoneBefore : (word : List ℕ) → (Named : List ℕ → ℕ → Type 0) → (tokens : List Token) → Type 0
+IsNoneBefore word Named tokens =
+    BeginWith word tokens
+    × ((name : List ℕ) (number : ℕ) (rest : List Token) → tokens ≡ Word word ∷ Word name ∷ rest → Named name number → ⊥)
+
+-- A group by the name of its type.
+abbrev pub IsCalledGroup : List Token → (kind mode block3 block4 : ℕ) → Type 0
+IsCalledGroup tokens kind mode block3 block4 =
+    (t m b c : List ℕ) × (bits : ℕ) × (adds : Bool)
+    × (tokens ≡ Word t ∷ Word m ∷ Word b ∷ Word c ∷ added_tokens adds) × IsGroupType t kind × IsByte m bits
+    × (bits ≤ 0x1F) × (mode ≡ bits + (if adds then 0x40 else 0x00)) × IsNumber b block3 × IsNumber c block4
+
+-- A group by its bytes.
+abbrev pub IsGroupOfBits : List Token → (kind mode block3 block4 : ℕ) → Type 0
+IsGroupOfBits tokens kind mode block3 block4 =
+    (t m b c : List ℕ) × (tokens ≡ Word (codes "bits") ∷ Word t ∷ Word m ∷ Word b ∷ Word c ∷ []) × IsByte t kind
+    × IsByte m mode × IsNumber b block3 × IsNumber c block4
+
+-- A number, or 00 where none is said.
+abbrev pub or_zero : Option ℕ → ℕ
+or_zero None = 0x00
+or_zero (Some number) = number
+
+-- The letter of a version: A is 0 and B is 1.
+abbrev pub IsVersion : (letter version : ℕ) → Type 0
+IsVersion letter version = ((letter ≡ 0x41) × (version ≡ 0)) ⊎ ((letter ≡ 0x42) × (version ≡ 1))

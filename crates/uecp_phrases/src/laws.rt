@@ -1,0 +1,30 @@
+//! The laws of phrases, each as the contract of a function that does nothing (profile).
+ghost use Rattle.uecp_phrases.specs.Laws.{IsSaidAsWritten, IsWritable, IsOneMeaning, IsRawSaid, IsMessageSaid};
+
+/// What is written of an element is a phrase, and adds that element's spelling.
+#[tactic(auto, using(crate::proofs::Said::said_as_written))]
+pub fn said_as_written()
+    ensures { IsSaidAsWritten }
+{}
+
+/// Its tokens are such as can be written.
+#[tactic(auto, using(crate::proofs::SaidTokens::writable))]
+pub fn writable()
+    ensures { IsWritable }
+{}
+
+/// A phrase adds one row of bytes.
+pub fn one_meaning()
+    ensures { IsOneMeaning }
+{}
+
+/// Bytes that are written as they are, are said.
+#[tactic(auto, using(crate::proofs::Said::raw_said))]
+pub fn raw_said()
+    ensures { IsRawSaid }
+{}
+
+/// The line of a message of bytes says that message.
+pub fn message_said()
+    ensures { IsMessageSaid }
+{}
