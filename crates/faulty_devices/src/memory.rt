@@ -71,7 +71,8 @@ impl ScarceMemory {
     }
 }
 
-/// Writes so much of the stack, which the process keeps from then on. The copy is there so that no compiler does without.
+/// Writes so much of the stack, which the process keeps from then on. The copy is there so that no compiler leaves it
+/// out.
 #[inline(never)]
 fn grow_stack(alloc: Global) -> Result<(), &'static str> {
     let mut room = ArrayVec::<u8, STACK>::new();
