@@ -7,7 +7,7 @@ use Rattle.std.proofs.lemmas.Bool.Decides.{nat_tests}
 use Rattle.std.specs.Cmp.Derive.{both_true}
 use Rattle.std.specs.List.{AllByRecursion, list_all}
 use Rattle.std.specs.Option.{option_map_or}
-use Rattle.std.specs.Str.{chars, encode_utf8_all}
+use Rattle.std.specs.Str.{chars, encode_utf8_all, IsUtf8}
 use Rattle.rds_text.specs.BasicSet.{character_of}
 use Rattle.rds_text.specs.Quoted.{written, hex_digit}
 use Rattle.rds_text.proofs.Inverse.{small}
@@ -89,5 +89,7 @@ tokens_scalars (t ∷ ts) all =
     scalars_then (written_token t) (written_behind ts) (token_scalars t all.0) (behind_scalars ts all.1)
 
 pub through_utf8 : (ts : List Token) → AllByRecursion IsToken ts
-    → chars (encode_utf8_all (written_tokens ts)) ≡ written_tokens ts
-through_utf8 ts all = chars-encodes (written_tokens ts) (tokens_scalars ts all)
+    → IsUtf8 (encode_utf8_all (written_tokens ts)) × (chars (encode_utf8_all (written_tokens ts)) ≡ written_tokens ts)
+through_utf8 ts all =
+    let scalar = tokens_scalars ts all in
+    ((written_tokens ts, (scalar, refl)), chars-encodes (written_tokens ts) scalar)

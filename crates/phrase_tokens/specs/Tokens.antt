@@ -1,7 +1,7 @@
 -- The tokens of a line of phrases, how they stand in it, and how they are written. Characters are their Unicode numbers
 -- (profile).
 use Rattle.std.specs.Prelude.{◌≡◌, ℕ, ◌≤◌, ◌==◌, ◌&&◌, nat_le, not, Bool, true, false, List, [], ◌∷◌, ◌++◌, length}
-use Rattle.std.specs.Prelude.{flat_map, replicate, chars, encode_utf8_all}
+use Rattle.std.specs.Prelude.{flat_map, replicate, chars, encode_utf8_all, IsUtf8}
 use Rattle.std.specs.List.{list_all, AllByRecursion}
 use Rattle.rds_text.specs.Quoted.{Spells, written}
 
@@ -95,7 +95,8 @@ IsOneReading = (text : List ℕ) (ts us : List Token) → Lays ts text → Lays 
 abbrev pub IsReadBack : Type 0
 IsReadBack = (ts : List Token) → AllByRecursion IsToken ts → Lays ts (written_tokens ts)
 
--- Law: what is written of tokens are characters that UTF-8 gives back.
+-- Law: what is written of tokens are characters that UTF-8 takes and gives back.
 abbrev pub IsThroughUtf8 : Type 0
 IsThroughUtf8 = (ts : List Token) → AllByRecursion IsToken ts
-    → chars (encode_utf8_all (written_tokens ts)) ≡ written_tokens ts
+    → IsUtf8 (encode_utf8_all (written_tokens ts))
+    × (chars (encode_utf8_all (written_tokens ts)) ≡ written_tokens ts)

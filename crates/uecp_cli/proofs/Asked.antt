@@ -13,7 +13,8 @@ use Rattle.clap.specs.declared.parser.matches.ArgMatches.TheViews.{out-ArgMatche
 use Rattle.clap.specs.declared.parser.matches.SubCommand.{SubCommand}
 use Rattle.clap.proofs.OnLiterals.{clap_on_literals}
 use Rattle.uecp_jobs.specs.declared.job.Job.{Job}
-use Rattle.uecp_jobs.specs.declared.job.Job.TheVariants.{Answer, Show, Make, Line, Encoder, Server}
+use Rattle.uecp_jobs.specs.declared.job.Job.TheVariants.{Answer, AnswerAs, Show, ShowAs, Make, MakeWords}
+use Rattle.uecp_jobs.specs.declared.job.Job.TheVariants.{Line, LineAs, Encoder, Server}
 use Rattle.uecp_cli.specs.declared.usage.Usage.{Usage}
 use Rattle.uecp_cli.specs.Ranges.{IsInRange, IsPlaceInRange, IsSetupInRange, Lies}
 use Rattle.uecp_cli.specs.Usages.{SaysError}
@@ -135,6 +136,10 @@ is_in_range name rows (Answer site encoder sets services store) h =
     setup_in_range rows site encoder sets services.items h.1
 is_in_range name rows (Line site encoder sets services store) h =
     setup_in_range rows site encoder sets services.items h.1
+is_in_range name rows (AnswerAs site encoder sets services store form) h =
+    setup_in_range rows site encoder sets services.items h.1
+is_in_range name rows (LineAs site encoder sets services store form) h =
+    setup_in_range rows site encoder sets services.items h.1
 is_in_range name rows (Encoder site encoder sets services port connections turns) h =
     let o = h.2 in (
       setup_in_range rows site encoder sets services.items h.1,
@@ -153,4 +158,6 @@ is_in_range name rows (Server site encoder host port tries timeout turns reconne
       in_range _ _ _ _ o.is_window,
     )
 is_in_range name rows Show h = tt
+is_in_range name rows (ShowAs form) h = tt
 is_in_range name rows Make h = tt
+is_in_range name rows (MakeWords region) h = tt

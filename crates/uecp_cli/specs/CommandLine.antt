@@ -1,6 +1,6 @@
 -- The command line that the program takes, and what it asks for (profile).
 use Rattle.std.specs.Prelude.{◌≡◌, ◌⊎◌, ℕ, ◌≤◌, ◌==◌, Bool, true, false, List, [], ◌∷◌, ◌++◌, codes, map, Option, Some}
-use Rattle.std.specs.Prelude.{None, Ok, is_none, option_map, unwrap_or, pos}
+use Rattle.std.specs.Prelude.{None, Ok, is_none, option_map, unwrap_or, pos, if◌then◌else◌}
 use Rattle.std.specs.List.{slice_split}
 use Rattle.std.specs.String.{string_bytes}
 use Rattle.std.specs.Str.Parse.{IsNumeral, without_leading_plus, digits_value}
@@ -13,7 +13,11 @@ use Rattle.clap.specs.Values.{kind_of}
 use Rattle.clap.specs.declared.builder.action.ArgAction.TheVariants.{Set, SetTrue}
 use Rattle.clap.specs.declared.builder.value_parser.ValueParser.TheVariants.{Signed}
 use Rattle.uecp_jobs.specs.declared.job.Job.{Job}
-use Rattle.uecp_jobs.specs.declared.job.Job.TheVariants.{Answer, Show, Make, Line, Encoder, Server}
+use Rattle.uecp_jobs.specs.declared.job.Job.TheVariants.{Answer, AnswerAs, Show, ShowAs, Make, MakeWords}
+use Rattle.uecp_jobs.specs.declared.job.Job.TheVariants.{Line, LineAs, Encoder, Server}
+use Rattle.output_forms.specs.declared.form.Form.{Form}
+use Rattle.output_forms.specs.declared.form.Form.TheVariants.{Lines, Words, Json}
+use Rattle.rds_text.specs.declared.programme_type.Region.TheVariants.{Europe, NorthAmerica}
 use Rattle.uecp_cli.specs.declared.numbers.NumberOption.{NumberOption}
 use Rattle.uecp_cli.specs.declared.usage.Usage.{Usage}
 use Rattle.uecp_cli.specs.declared.usage.Usage.TheVariants.{Refused, NotAList, OutOfMemory}
@@ -71,6 +75,26 @@ pub record AreOptions (rows : List Row) (site encoder sets : ℕ) (services : Li
 abbrev pub IsStore : (rows : List Row) → (store : Bool) → Type 0
 IsStore rows store = IsFlag (one_of (codes "store") rows) store
 
+-- In words where a flag asks for them, with the names of North America where one asks for those.
+abbrev pub worded : (words rbds : Bool) → Form
+worded words rbds = if rbds then Words NorthAmerica else if words then Words Europe else Lines
+
+-- The form is lines or words, as the flags of a command's matches have it.
+pub record IsWording (rows : List Row) (form : Form) : Type 0 where
+  pub words : Bool
+  pub rbds : Bool
+  pub is_words : IsFlag (one_of (codes "words") rows) words
+  pub is_rbds : IsFlag (one_of (codes "rbds") rows) rbds
+  pub is : form ≡ worded words rbds
+
+-- The form is the one for which the flags of a command's matches ask: JSON goes before words.
+pub record IsForm (rows : List Row) (form : Form) : Type 0 where
+  pub json : Bool
+  pub plain : Form
+  pub is_json : IsFlag (one_of (codes "json") rows) json
+  pub is_plain : IsWording rows plain
+  pub is : form ≡ (if json then Json else plain)
+
 -- The port is that which the matches of a command have.
 abbrev pub IsPort : (rows : List Row) → (port : ℕ) → Type 0
 IsPort rows port = IsOption (one_of (codes "port") rows) 1 65535 port
@@ -97,17 +121,23 @@ pub record AreSending (rows : List Row) (host : List ℕ) (port tries timeout tu
 -- The job is that of the command of this name, with the options that its matches have.
 abbrev pub IsJobOf : (name : List ℕ) → List Row → Job → Type 0
 IsJobOf name rows (Answer site encoder sets services store) =
-    (name ≡ codes "answer") × AreOptions rows site encoder sets services.items × IsStore rows store
+    (name ≡ codes "answer") × AreOptions rows site encoder sets services.items × IsStore rows store × IsForm rows Lines
+IsJobOf name rows (AnswerAs site encoder sets services store form) =
+    (name ≡ codes "answer") × AreOptions rows site encoder sets services.items × IsStore rows store × IsForm rows form
 IsJobOf name rows (Line site encoder sets services store) =
-    (name ≡ codes "line") × AreOptions rows site encoder sets services.items × IsStore rows store
+    (name ≡ codes "line") × AreOptions rows site encoder sets services.items × IsStore rows store × IsForm rows Lines
+IsJobOf name rows (LineAs site encoder sets services store form) =
+    (name ≡ codes "line") × AreOptions rows site encoder sets services.items × IsStore rows store × IsForm rows form
 IsJobOf name rows (Encoder site encoder sets services port connections turns) =
     (name ≡ codes "encoder") × AreOptions rows site encoder sets services.items
     × AreListening rows port connections turns
 IsJobOf name rows (Server site encoder host port tries timeout turns reconnects window join) =
     (name ≡ codes "server") × IsPlace rows site encoder
     × AreSending rows (string_bytes host) port tries timeout turns reconnects window join
-IsJobOf name rows Make = name ≡ codes "make"
-IsJobOf name rows Show = name ≡ codes "show"
+IsJobOf name rows Make = (name ≡ codes "make") × IsWording rows Lines
+IsJobOf name rows (MakeWords region) = (name ≡ codes "make") × IsWording rows (Words region)
+IsJobOf name rows Show = (name ≡ codes "show") × IsForm rows Lines
+IsJobOf name rows (ShowAs form) = (name ≡ codes "show") × IsForm rows form
 
 -- ---- the command line that the program takes
 
@@ -140,13 +170,17 @@ rule_for option = number_option option.name.now option.least option.most (option
 abbrev pub services_option : Rule
 services_option = word_option (codes "services") (Some (codes "01"))
 
--- The flag that asks for the store.
-abbrev pub store_flag : Rule
-store_flag = record (new_rule (codes "store")) { long = Some (codes "store"); action = Some SetTrue }
+-- A flag.
+abbrev pub flag : (name : List ℕ) → Rule
+flag name = record (new_rule name) { long = Some name; action = Some SetTrue }
 
--- The flag that asks to join the encoder first.
-abbrev pub join_flag : Rule
-join_flag = record (new_rule (codes "join")) { long = Some (codes "join"); action = Some SetTrue }
+-- The flags that ask for words, and for those of North America.
+abbrev pub word_flags : List Rule
+word_flags = flag (codes "words") ∷ flag (codes "rbds") ∷ []
+
+-- The flags that ask for a form.
+abbrev pub form_flags : List Rule
+form_flags = word_flags ++ flag (codes "json") ∷ []
 
 -- The options of an encoder's place: its site and its number there, both 1 where they are not given.
 abbrev pub place_options : List Rule
@@ -165,9 +199,17 @@ port_option = number_option (codes "port") 1 65535 None
 abbrev pub command_with : (name : List ℕ) → List Rule → Shape
 command_with name options = record (new_shape name) { rules = options }
 
--- A command with the options of an encoder and the flag for its store.
+-- A command with the options of an encoder, the flag for its store and those for a form.
 abbrev pub store_command : (name : List ℕ) → Shape
-store_command name = command_with name (encoder_options ++ store_flag ∷ [])
+store_command name = command_with name (encoder_options ++ flag (codes "store") ∷ form_flags)
+
+-- The command `show`.
+abbrev pub showing_command : Shape
+showing_command = command_with (codes "show") form_flags
+
+-- The command `make`.
+abbrev pub making_command : Shape
+making_command = command_with (codes "make") word_flags
 
 -- The command `encoder`.
 abbrev pub listening_command : Shape
@@ -188,13 +230,13 @@ bound_options =
 -- The command `server`.
 abbrev pub sending_command : Shape
 sending_command = command_with (codes "server") (place_options ++ word_option (codes "host") (Some (codes "127.0.0.1"))
-    ∷ port_option ∷ bound_options ++ join_flag ∷ [])
+    ∷ port_option ∷ bound_options ++ flag (codes "join") ∷ [])
 
 -- The program: it has a version, and one of six commands has to be named.
 abbrev pub uecp_app : App
 uecp_app = record {
   top = record (new_shape (codes "uecp")) { is_leaf = false; has_version = true; subcommand_required = true };
-  subs = store_command (codes "answer") ∷ new_shape (codes "show") ∷ new_shape (codes "make")
+  subs = store_command (codes "answer") ∷ showing_command ∷ making_command
       ∷ store_command (codes "line") ∷ listening_command ∷ sending_command ∷ [];
 }
 

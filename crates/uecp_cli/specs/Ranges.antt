@@ -1,7 +1,8 @@
 -- The ranges of the numbers on the command line (profile).
 use Rattle.std.specs.Prelude.{ℕ, ◌≤◌}
 use Rattle.uecp_jobs.specs.declared.job.Job.{Job}
-use Rattle.uecp_jobs.specs.declared.job.Job.TheVariants.{Answer, Show, Make, Line, Encoder, Server}
+use Rattle.uecp_jobs.specs.declared.job.Job.TheVariants.{Answer, AnswerAs, Show, ShowAs, Make, MakeWords}
+use Rattle.uecp_jobs.specs.declared.job.Job.TheVariants.{Line, LineAs, Encoder, Server}
 
 -- A number lies from the least to the greatest.
 abbrev pub Lies : (least greatest number : ℕ) → Type 0
@@ -19,10 +20,14 @@ IsSetupInRange site encoder sets = IsPlaceInRange site encoder × Lies 1 8 sets
 abbrev pub IsInRange : Job → Type 0
 IsInRange (Answer site encoder sets services store) = IsSetupInRange site encoder sets
 IsInRange (Line site encoder sets services store) = IsSetupInRange site encoder sets
+IsInRange (AnswerAs site encoder sets services store form) = IsSetupInRange site encoder sets
+IsInRange (LineAs site encoder sets services store form) = IsSetupInRange site encoder sets
 IsInRange (Encoder site encoder sets services port connections turns) =
     IsSetupInRange site encoder sets × Lies 1 65535 port × Lies 1 1000 connections × Lies 1 1000000 turns
 IsInRange (Server site encoder host port tries timeout turns reconnects window join) =
     IsPlaceInRange site encoder × Lies 1 65535 port × Lies 1 100 tries × Lies 1 60000 timeout × Lies 1 1000 turns
     × Lies 0 100 reconnects × Lies 1 8 window
 IsInRange Show = Unit {0}
+IsInRange (ShowAs form) = Unit {0}
 IsInRange Make = Unit {0}
+IsInRange (MakeWords region) = Unit {0}

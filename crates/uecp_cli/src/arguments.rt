@@ -1,7 +1,7 @@
 //! The options of the program's commands, with their defaults and helpful texts (profile).
 ghost use Rattle.std.specs.Prelude.{◌≡◌, false, codes, Some};
 ghost use Rattle.clap.specs.Words.{rule_of};
-ghost use Rattle.uecp_cli.specs.CommandLine.{rule_for, word_option, services_option, store_flag, join_flag};
+ghost use Rattle.uecp_cli.specs.CommandLine.{rule_for, word_option, services_option, flag};
 
 use crate::numbers::NumberOption;
 use clap::{Arg, ArgAction, value_parser};
@@ -40,25 +40,14 @@ pub fn services<'a>(alloc: Global) -> Arg<'a>
         .default_value("01")
 }
 
-/// The flag `store`.
-pub fn store<'a>(alloc: Global) -> Arg<'a>
-    ensures rule { rule_of result ≡ store_flag }
+/// A flag.
+pub fn flag<'a>(alloc: Global, name: &'a str, help: &'a str) -> Arg<'a>
+    ensures rule { rule_of result ≡ flag name.now }
     ensures own { result.global ≡ false }
 {
-    Arg::new(alloc, "store")
-        .long("store")
-        .help("Write the encoder's store at the end")
-        .action(ArgAction::SetTrue)
-}
-
-/// The flag `join`.
-pub fn join<'a>(alloc: Global) -> Arg<'a>
-    ensures rule { rule_of result ≡ join_flag }
-    ensures own { result.global ≡ false }
-{
-    Arg::new(alloc, "join")
-        .long("join")
-        .help("Begin whatever the encoder has kept: always, but with one that was just started")
+    Arg::new(alloc, name)
+        .long(name)
+        .help(help)
         .action(ArgAction::SetTrue)
 }
 

@@ -1,20 +1,21 @@
 //! The words of the command line (profile).
-ghost use Rattle.std.specs.Prelude.{◌≡◌, ℕ, List, codes, map, IfOk, IfErr};
+ghost use Rattle.std.specs.Prelude.{◌≡◌, ◌++◌, ◌∷◌, [], ℕ, List, codes, map, false, IfOk, IfErr};
 ghost use Rattle.std.specs.String.{string_bytes};
-ghost use Rattle.clap.specs.Words.{app_of, shape_of};
-ghost use Rattle.clap.specs.Simple.{new_shape};
+ghost use Rattle.clap.specs.Words.{app_of, rule_of, shape_of};
+ghost use Rattle.clap.specs.Simple.{Shape, new_shape};
 ghost use Rattle.uecp_cli.specs.Ranges.{IsInRange};
 ghost use Rattle.uecp_cli.specs.CommandLine.{Asks, RefusesWords, command_with, place_options, encoder_options};
-ghost use Rattle.uecp_cli.specs.CommandLine.{store_command, listening_command, sending_command, uecp_app};
+ghost use Rattle.uecp_cli.specs.CommandLine.{store_command, showing_command, making_command, listening_command};
+ghost use Rattle.uecp_cli.specs.CommandLine.{sending_command, flag, uecp_app};
 
-use crate::arguments::{host, join, number, services, store};
-use crate::matched::{answer_of, encoder_of, line_of, server_of};
+use crate::arguments::{flag, host, number, services};
+use crate::matched::{answer_of, encoder_of, line_of, make_of, server_of, show_of};
 use crate::numbers::{
     CONNECTIONS, ENCODER, PORT, RECONNECTS, SERVE_TURNS, SETS, SITE, TIMEOUT, TRIES, TRY_TURNS,
     WINDOW,
 };
 use crate::usage::Usage;
-use clap::Command;
+use clap::{Arg, Command};
 use std::alloc::{AllocError, Global};
 use uecp_jobs::Job;
 
@@ -38,8 +39,8 @@ pub fn parse(alloc: Global, words: &[String]) -> Result<Job, Usage>
         Some(("line", found)) => line_of(alloc, found),
         Some(("encoder", found)) => encoder_of(alloc, found),
         Some(("server", found)) => server_of(alloc, found),
-        Some(("make", _)) => Ok(Job::Make),
-        Some(("show", _)) => Ok(Job::Show),
+        Some(("make", found)) => Ok(make_of(found)),
+        Some(("show", found)) => Ok(show_of(found)),
         _ => unreachable!(),
     }
 }
@@ -55,8 +56,8 @@ pub fn program<'a>(alloc: Global) -> Result<Command<'a>, AllocError>
         .after_help(STATUSES)
         .subcommand_required(true)
         .subcommand(answer_command(alloc)?)?
-        .subcommand(show_command(alloc))?
-        .subcommand(make_command(alloc))?
+        .subcommand(show_command(alloc)?)?
+        .subcommand(make_command(alloc)?)?
         .subcommand(line_command(alloc)?)?
         .subcommand(encoder_command(alloc)?)?
         .subcommand(server_command(alloc)?)
@@ -73,22 +74,24 @@ fn answer_command<'a>(alloc: Global) -> Result<Command<'a>, AllocError>
     )
 }
 
-fn show_command<'a>(alloc: Global) -> Command<'a>
-    ensures { shape_of result ≡ new_shape (codes "show") }
+fn show_command<'a>(alloc: Global) -> Result<Command<'a>, AllocError>
+    ensures { IfOk result (λ command. shape_of command ≡ showing_command) }
 {
-    Command::new(alloc, "show")
+    let command = Command::new(alloc, "show")
         .about("Show the frames and elements in hexadecimal pieces, one a line")
-        .after_help("Example: echo FE00410105010000C20167A8FF | uecp show")
+        .after_help("Example: echo FE00410105010000C20167A8FF | uecp show --words");
+    with_words(alloc, command)?.arg(json(alloc))
 }
 
-fn make_command<'a>(alloc: Global) -> Command<'a>
-    ensures { shape_of result ≡ new_shape (codes "make") }
+fn make_command<'a>(alloc: Global) -> Result<Command<'a>, AllocError>
+    ensures { IfOk result (λ command. shape_of command ≡ making_command) }
 {
-    Command::new(alloc, "make")
+    let command = Command::new(alloc, "make")
         .about("Write the frames of a frame script in hexadecimal, one a line")
         .after_help(
-            "Lines: frame AAAA CC, then its elements: pi, ps, tatp, ms, pty, rt, select, group, ack, raw\nExample: printf 'frame 0041 01\\npi 00 00 C201\\n' | uecp make",
-        )
+            "Lines: frame AAAA CC, then its elements: pi, ps, tatp, ms, pty, rt, select, group, ack, raw\nWith --words a line is a message: phrases between semicolons; frame AAAA CC names its address and counter\nExample: printf 'frame 0041 01\\npi 00 00 C201\\n' | uecp make",
+        );
+    with_words(alloc, command)
 }
 
 fn line_command<'a>(alloc: Global) -> Result<Command<'a>, AllocError>
@@ -136,15 +139,46 @@ fn server_command<'a>(alloc: Global) -> Result<Command<'a>, AllocError>
         .arg(number(alloc, &TRY_TURNS))?
         .arg(number(alloc, &RECONNECTS))?
         .arg(number(alloc, &WINDOW))?
-        .arg(join(alloc))
+        .arg(flag(
+            alloc,
+            "join",
+            "Begin whatever the encoder has kept: always, but with one that was just started",
+        ))
 }
 
-/// The command with the options of an encoder and the flag for its store.
+/// The command with the options of an encoder, the flag for its store and those for a form.
 fn with_store<'a>(alloc: Global, command: Command<'a>) -> Result<Command<'a>, AllocError>
     ensures { (name : List ℕ) → shape_of command.entry ≡ new_shape name
         → IfOk result (λ whole. shape_of whole ≡ store_command name) }
 {
-    with_encoder(alloc, command)?.arg(store(alloc))
+    let command = with_encoder(alloc, command)?.arg(flag(
+        alloc,
+        "store",
+        "Write the encoder's store at the end",
+    ))?;
+    with_words(alloc, command)?.arg(json(alloc))
+}
+
+/// The command with the flags that ask for words.
+fn with_words<'a>(alloc: Global, command: Command<'a>) -> Result<Command<'a>, AllocError>
+    ensures { (shape : Shape) → shape_of command.entry ≡ shape → IfOk result (λ whole. shape_of whole
+        ≡ record shape { rules = (shape.rules ++ flag (codes "words") ∷ []) ++ flag (codes "rbds") ∷ [] }) }
+{
+    command
+        .arg(flag(alloc, "words", "Elements in words, such as ps \"RADIO 1\""))?
+        .arg(flag(
+            alloc,
+            "rbds",
+            "In words, with North America's names of programme types",
+        ))
+}
+
+/// The flag that asks for JSON.
+fn json<'a>(alloc: Global) -> Arg<'a>
+    ensures rule { rule_of result ≡ flag (codes "json") }
+    ensures own { result.global ≡ false }
+{
+    flag(alloc, "json", "Lines of JSON, one object each")
 }
 
 /// The command with the options of an encoder.

@@ -12,6 +12,7 @@
 
 mod arguments;
 mod command_line;
+mod forms;
 mod matched;
 mod numbers;
 mod program;

@@ -5,6 +5,7 @@ ghost use Rattle.clap.specs.Words.{found_of, one_of, rows_of};
 ghost use Rattle.uecp_cli.specs.CommandLine.{IsOption, IsList, IsJobOf, RefusesList, services_text, host_text};
 ghost use Rattle.uecp_cli.specs.declared.usage.Usage.TheVariants.{OutOfMemory};
 
+use crate::forms::{flag_of, form_of, wording_of};
 use crate::numbers::{
     CONNECTIONS, ENCODER, NumberOption, PORT, RECONNECTS, SERVE_TURNS, SETS, SITE, TIMEOUT, TRIES,
     TRY_TURNS, WINDOW,
@@ -13,7 +14,7 @@ use crate::services::services_of;
 use crate::usage::Usage;
 use clap::ArgMatches;
 use std::alloc::{AllocError, Global};
-use uecp_jobs::Job;
+use uecp_jobs::{Form, Job};
 
 /// The number of an option.
 fn number_of(found: &ArgMatches<'_>, option: &NumberOption) -> u32
@@ -67,13 +68,28 @@ pub fn answer_of(alloc: Global, found: &ArgMatches<'_>) -> Result<Job, Usage>
     ensures job { IfOk result (IsJobOf (codes "answer") (rows_of (found_of found.now))) }
     ensures refused { IfErr result (RefusesList (services_text (rows_of (found_of found.now)))) }
 {
-    Ok(Job::Answer {
-        site: short_of(found, &SITE),
-        encoder: small_of(found, &ENCODER),
-        sets: small_of(found, &SETS),
-        services: list_of(alloc, found)?,
-        store: found.get_flag("store"),
-    })
+    let site = short_of(found, &SITE);
+    let encoder = small_of(found, &ENCODER);
+    let sets = small_of(found, &SETS);
+    let services = list_of(alloc, found)?;
+    let store = flag_of(found, "store");
+    match form_of(found) {
+        Form::Lines => Ok(Job::Answer {
+            site,
+            encoder,
+            sets,
+            services,
+            store,
+        }),
+        form => Ok(Job::AnswerAs {
+            site,
+            encoder,
+            sets,
+            services,
+            store,
+            form,
+        }),
+    }
 }
 
 /// The job of the command `line`.
@@ -81,13 +97,48 @@ pub fn line_of(alloc: Global, found: &ArgMatches<'_>) -> Result<Job, Usage>
     ensures job { IfOk result (IsJobOf (codes "line") (rows_of (found_of found.now))) }
     ensures refused { IfErr result (RefusesList (services_text (rows_of (found_of found.now)))) }
 {
-    Ok(Job::Line {
-        site: short_of(found, &SITE),
-        encoder: small_of(found, &ENCODER),
-        sets: small_of(found, &SETS),
-        services: list_of(alloc, found)?,
-        store: found.get_flag("store"),
-    })
+    let site = short_of(found, &SITE);
+    let encoder = small_of(found, &ENCODER);
+    let sets = small_of(found, &SETS);
+    let services = list_of(alloc, found)?;
+    let store = flag_of(found, "store");
+    match form_of(found) {
+        Form::Lines => Ok(Job::Line {
+            site,
+            encoder,
+            sets,
+            services,
+            store,
+        }),
+        form => Ok(Job::LineAs {
+            site,
+            encoder,
+            sets,
+            services,
+            store,
+            form,
+        }),
+    }
+}
+
+/// The job of the command `show`.
+pub fn show_of(found: &ArgMatches<'_>) -> Job
+    ensures { IsJobOf (codes "show") (rows_of (found_of found.now)) result }
+{
+    match form_of(found) {
+        Form::Lines => Job::Show,
+        form => Job::ShowAs { form },
+    }
+}
+
+/// The job of the command `make`.
+pub fn make_of(found: &ArgMatches<'_>) -> Job
+    ensures { IsJobOf (codes "make") (rows_of (found_of found.now)) result }
+{
+    match wording_of(found) {
+        Form::Words(region) => Job::MakeWords { region },
+        _ => Job::Make,
+    }
 }
 
 /// The job of the command `encoder`.
@@ -121,6 +172,6 @@ pub fn server_of(alloc: Global, found: &ArgMatches<'_>) -> Result<Job, Usage>
         turns: number_of(found, &TRY_TURNS),
         reconnects: number_of(found, &RECONNECTS),
         window: small_of(found, &WINDOW),
-        join: found.get_flag("join"),
+        join: flag_of(found, "join"),
     })
 }

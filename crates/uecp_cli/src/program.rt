@@ -89,9 +89,7 @@ fn run_any<R: Read, W: Write, E: Write, N: Net<Listener = TcpListener, Stream = 
             }
             status
         }
-        Job::Answer { .. } | Job::Show | Job::Make | Job::Line { .. } => {
-            run_job(alloc, job, reader, writer, errors)
-        }
+        _ => run_job(alloc, job, reader, writer, errors),
     }
 }
 

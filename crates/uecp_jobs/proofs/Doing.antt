@@ -5,21 +5,27 @@ use Rattle.std.specs.Io.KnownBytes.{Consumes}
 use Rattle.std.proofs.KnownBytes.{Consumes-nil}
 use Rattle.rds_store.specs.declared.fault.StoreFault.TheVariants as store
 use Rattle.uecp_frame.specs.Findings.{Closed}
-use Rattle.uecp_lines.specs.StoreLines.{last_lines}
 use Rattle.uecp_text.specs.declared.run_fault.RunFault.{RunFault}
 use Rattle.uecp_text.specs.declared.run_fault.RunFault.TheVariants as run
 use Rattle.uecp_text.specs.Faults.{Fails, status_of}
 use Rattle.uecp_text.specs.Input.{texts_of}
 use Rattle.uecp_text.specs.Run.{Meaning, Ends, Runs, Prints, Breaks, RunsWhole}
+use Rattle.rds_text.specs.declared.programme_type.Region.{Region}
 use Rattle.uecp_jobs.specs.declared.answering.Answering.{Answering}
+use Rattle.uecp_jobs.specs.declared.asked.Asked.{Asked}
+use Rattle.uecp_jobs.specs.declared.phrase_script.MakingWords.{MakingWords}
 use Rattle.uecp_jobs.specs.declared.event_script.Playing.{Playing}
 use Rattle.uecp_jobs.specs.declared.frame_script.Making.{Making}
 use Rattle.uecp_jobs.specs.declared.showing.Showing.{Showing}
 use Rattle.uecp_jobs.specs.declared.job.Job.{Job}
-use Rattle.uecp_jobs.specs.declared.job.Job.TheVariants.{Answer, Show, Make, Line, Encoder, Server}
-use Rattle.uecp_jobs.specs.Commands.{Shows, Answers}
+use Rattle.uecp_jobs.specs.declared.job.Job.TheVariants.{Answer, AnswerAs, Show, ShowAs, Make, MakeWords, Line}
+use Rattle.uecp_jobs.specs.declared.job.Job.TheVariants.{LineAs, Encoder, Server}
+use Rattle.output_forms.specs.declared.form.Form.{Form}
+use Rattle.uecp_jobs.specs.Commands.{ShowsIn, Shows, AnswersIn, Answers}
+use Rattle.output_forms.specs.Forms.{found_lines, answer_lines, store_lines}
+use Rattle.uecp_jobs.specs.PhraseScript.{MakesWords, first_heading, left_line}
 use Rattle.uecp_jobs.specs.FrameScript.{Makes, spelled_line}
-use Rattle.uecp_jobs.specs.Playing.{Plays, closing_lines}
+use Rattle.uecp_jobs.specs.Playing.{PlaysIn, Plays, closing_lines}
 use Rattle.uecp_jobs.specs.Setups.{Options, RefusesSetup, encoder_at_first, line_at_first}
 use Rattle.uecp_jobs.specs.Jobs.{options, Describes, IsLocal, ByCommand, JobPrints, JobBreaks, RefusesJob, DoesJob}
 use Rattle.uecp_jobs.specs.Jobs.{Wrote}
@@ -52,27 +58,34 @@ does_by job meaning v closing unread unread' held held' result ran by = elim ran
 pub setup_refused : (job : Job) (o : Options) (fault : RunFault) → Describes job o → RefusesSetup o fault
     → RefusesJob job fault
 setup_refused Show o fault is refused = absurd is
+setup_refused (ShowAs form) o fault is refused = absurd is
 setup_refused Make o fault is refused = absurd is
+setup_refused (MakeWords region) o fault is refused = absurd is
+setup_refused (AnswerAs site encoder sets services store form) o fault is refused =
+    subst (λ o. RefusesSetup o fault) is refused
 setup_refused (Answer site encoder sets services store) o fault is refused =
     subst (λ o. RefusesSetup o fault) is refused
 setup_refused (Line site encoder sets services store) o fault is refused = subst (λ o. RefusesSetup o fault) is refused
+setup_refused (LineAs site encoder sets services store form) o fault is refused =
+    subst (λ o. RefusesSetup o fault) is refused
 setup_refused (Encoder site encoder sets services port connections turns) o fault is refused =
     subst (λ o. RefusesSetup o fault) is refused
 setup_refused (Server site encoder host port tries timeout turns reconnects window join) o fault is refused = absurd is
 
 -- ---- each command
-pub showed : (s : Showing) (unread unread' held held' : Option (List ℕ)) (result : Result (Unit {0}) RunFault)
-    → s.deframer ≡ Closed →
-    RunsWhole (λ (s : Showing) text outcome (s' : Showing). Shows s.deframer text outcome s'.deframer) s (λ _. [])
-    unread unread' held held' result →
-    DoesJob Show unread unread' held held' result
-showed s unread unread' held held' result closed ran =
-    does_by Show Shows Closed (λ part. []) unread unread' held held' result
-    (subst (λ part. RunsWhole Shows part (λ part. []) unread unread' held held' result) closed
-    (whole_part {F = ℕ} (λ (s : Showing) text outcome (s' : Showing). Shows s.deframer text outcome s'.deframer) Shows
-    (λ (s : Showing). s.deframer) (λ _. 0) (λ v text outcome v' m. (m, refl))
+pub showed_in : (form : Form) (s : Showing) (unread unread' held held' : Option (List ℕ))
+    (result : Result (Unit {0}) RunFault) → (s.deframer ≡ Closed) × (s.form ≡ form) →
+    RunsWhole (λ (s : Showing) text outcome (s' : Showing).
+    ShowsIn (found_lines s.form) s.deframer text outcome s'.deframer
+    × (s'.form ≡ s.form)) s (λ _. []) unread unread' held held' result →
+    RunsWhole (ShowsIn (found_lines form)) Closed (λ part. []) unread unread' held held' result
+showed_in form s unread unread' held held' result (closed, in_form) ran =
+    subst (λ f. RunsWhole (ShowsIn (found_lines f)) Closed (λ part. []) unread unread' held held' result) in_form
+    (subst (λ part. RunsWhole (ShowsIn (found_lines s.form)) part (λ part. []) unread unread' held held' result) closed
+    (whole_part (λ (s : Showing) text outcome (s' : Showing). ShowsIn (found_lines s.form) s.deframer text outcome
+    s'.deframer × (s'.form ≡ s.form)) (λ f. ShowsIn (found_lines f))
+    (λ (s : Showing). s.deframer) (λ (s : Showing). s.form) (λ v text outcome v' m. m)
     s (λ _. []) (λ _ part. []) unread unread' held held' result (λ v'. refl) ran))
-    (λ tells told. told)
 
 pub made : (m : Making) (unread unread' held held' : Option (List ℕ)) (result : Result (Unit {0}) RunFault)
     → m.frame ≡ None →
@@ -82,42 +95,64 @@ pub made : (m : Making) (unread unread' held held' : Option (List ℕ)) (result 
 made m unread unread' held held' result none ran =
     does_by Make Makes None spelled_line unread unread' held held' result
     (subst (λ frame. RunsWhole Makes frame spelled_line unread unread' held held' result) none
-    (whole_part {F = ℕ} (λ (m : Making) text outcome (m' : Making). Makes m.frame text outcome m'.frame) Makes
+    (whole_part {F = ℕ} (λ (m : Making) text outcome (m' : Making). Makes m.frame text outcome m'.frame) (λ _. Makes)
     (λ (m : Making). m.frame) (λ _. 0) (λ v text outcome v' m. (m, refl))
     m (λ (m : Making). spelled_line m.frame) (λ _ frame. spelled_line frame) unread unread' held held' result
     (λ v'. refl) ran))
     (λ tells told. told)
 
-pub answered : (o : Options) (asked : Bool) (a : Answering) (unread unread' held held' : Option (List ℕ))
+pub made_of_words : (region : Region) (m : MakingWords) (unread unread' held held' : Option (List ℕ))
+    (result : Result (Unit {0}) RunFault) → (m.region ≡ region) × (m.heading ≡ first_heading) →
+    RunsWhole (λ (m : MakingWords) text outcome (m' : MakingWords).
+    MakesWords m.region m.heading text outcome m'.heading
+    × (m'.region ≡ m.region)) m (λ (m : MakingWords). left_line m.heading) unread unread' held held' result →
+    RunsWhole (MakesWords region) first_heading left_line unread unread' held held' result
+made_of_words region m unread unread' held held' result (in_region, at_first) ran =
+    subst (λ r. RunsWhole (MakesWords r) first_heading left_line unread unread' held held' result) in_region
+    (subst (λ h. RunsWhole (MakesWords m.region) h left_line unread unread' held held' result) at_first
+    (whole_part (λ (m : MakingWords) text outcome (m' : MakingWords). MakesWords m.region m.heading text outcome
+    m'.heading × (m'.region ≡ m.region)) MakesWords (λ (m : MakingWords). m.heading)
+    (λ (m : MakingWords). m.region) (λ v text outcome v' m. m) m (λ (m : MakingWords). left_line m.heading)
+    (λ _ h. left_line h) unread unread' held held' result (λ v'. refl) ran))
+
+pub answered : (o : Options) (asked : Asked) (a : Answering) (unread unread' held held' : Option (List ℕ))
     (result : Result (Unit {0}) RunFault) →
-    (a.encoder ≡ encoder_at_first o) × (a.store ≡ asked) →
-    RunsWhole (λ (a : Answering) text outcome (a' : Answering). Answers a.encoder text outcome a'.encoder
-    × (a'.store ≡ a.store)) a (λ (a : Answering). last_lines a.store a.encoder.value)
+    (a.encoder ≡ encoder_at_first o) × (a.asked ≡ asked) →
+    RunsWhole (λ (a : Answering) text outcome (a' : Answering). AnswersIn (answer_lines a.asked.form) a.encoder text
+    outcome a'.encoder × (a'.asked ≡ a.asked)) a
+    (λ (a : Answering). store_lines a.asked.form a.asked.store a.encoder.value)
     unread unread' held held' result →
-    RunsWhole Answers (encoder_at_first o) (λ e. last_lines asked e.value) unread unread' held held' result
-answered o asked a unread unread' held held' result (encoder, store) ran =
-    subst (λ s. RunsWhole Answers (encoder_at_first o) (λ e. last_lines s e.value) unread unread' held held' result)
-    store
-    (subst (λ e. RunsWhole Answers e (λ e. last_lines a.store e.value) unread unread' held held' result) encoder
-    (whole_part (λ (a : Answering) text outcome (a' : Answering). Answers a.encoder text outcome a'.encoder
-    × (a'.store ≡ a.store)) Answers (λ (a : Answering). a.encoder) (λ (a : Answering). a.store)
-    (λ v text outcome v' m. m) a (λ (a : Answering). last_lines a.store a.encoder.value) (λ s e. last_lines s e.value)
+    RunsWhole (AnswersIn (answer_lines asked.form)) (encoder_at_first o)
+    (λ e. store_lines asked.form asked.store e.value) unread unread' held held' result
+answered o asked a unread unread' held held' result (encoder, as_asked) ran =
+    subst (λ k. RunsWhole (AnswersIn (answer_lines k.form)) (encoder_at_first o)
+    (λ e. store_lines k.form k.store e.value) unread unread' held held' result) as_asked
+    (subst (λ e. RunsWhole (AnswersIn (answer_lines a.asked.form)) e
+    (λ e. store_lines a.asked.form a.asked.store e.value) unread unread' held held' result) encoder
+    (whole_part (λ (a : Answering) text outcome (a' : Answering). AnswersIn (answer_lines a.asked.form) a.encoder text
+    outcome a'.encoder × (a'.asked ≡ a.asked)) (λ (k : Asked). AnswersIn (answer_lines k.form))
+    (λ (a : Answering). a.encoder) (λ (a : Answering). a.asked) (λ v text outcome v' m. m) a
+    (λ (a : Answering). store_lines a.asked.form a.asked.store a.encoder.value)
+    (λ (k : Asked) e. store_lines k.form k.store e.value)
     unread unread' held held' result (λ v'. refl) ran))
 
-pub played : (o : Options) (asked : Bool) (p : Playing) (unread unread' held held' : Option (List ℕ))
+pub played : (o : Options) (asked : Asked) (p : Playing) (unread unread' held held' : Option (List ℕ))
     (result : Result (Unit {0}) RunFault) →
-    (p.line ≡ line_at_first o) × (p.store ≡ asked) →
-    RunsWhole (λ (p : Playing) text outcome (p' : Playing). Plays p.line text outcome p'.line × (p'.store ≡ p.store)) p
-    (λ (p : Playing). closing_lines p.store p.line)
+    (p.line ≡ line_at_first o) × (p.asked ≡ asked) →
+    RunsWhole (λ (p : Playing) text outcome (p' : Playing). PlaysIn p.asked.form p.line text outcome p'.line
+    × (p'.asked ≡ p.asked)) p (λ (p : Playing). closing_lines p.asked.form p.asked.store p.line)
     unread unread' held held' result →
-    RunsWhole Plays (line_at_first o) (closing_lines asked) unread unread' held held' result
-played o asked p unread unread' held held' result (line, store) ran =
-    subst (λ s. RunsWhole Plays (line_at_first o) (closing_lines s) unread unread' held held' result) store
-    (subst (λ l. RunsWhole Plays l (closing_lines p.store) unread unread' held held' result) line
-    (whole_part (λ (p : Playing) text outcome (p' : Playing). Plays p.line text outcome p'.line × (p'.store ≡ p.store))
-    Plays (λ (p : Playing). p.line) (λ (p : Playing). p.store)
-    (λ v text outcome v' m. m) p (λ (p : Playing). closing_lines p.store p.line) closing_lines unread unread' held held'
-    result (λ v'. refl) ran))
+    RunsWhole (PlaysIn asked.form) (line_at_first o) (closing_lines asked.form asked.store)
+    unread unread' held held' result
+played o asked p unread unread' held held' result (line, as_asked) ran =
+    subst (λ (k : Asked). RunsWhole (PlaysIn k.form) (line_at_first o) (closing_lines k.form k.store)
+    unread unread' held held' result) as_asked
+    (subst (λ l. RunsWhole (PlaysIn p.asked.form) l (closing_lines p.asked.form p.asked.store)
+    unread unread' held held' result) line
+    (whole_part (λ (p : Playing) text outcome (p' : Playing). PlaysIn p.asked.form p.line text outcome p'.line
+    × (p'.asked ≡ p.asked)) (λ (k : Asked). PlaysIn k.form) (λ (p : Playing). p.line) (λ (p : Playing). p.asked)
+    (λ v text outcome v' m. m) p (λ (p : Playing). closing_lines p.asked.form p.asked.store p.line)
+    (λ (k : Asked). closing_lines k.form k.store) unread unread' held held' result (λ v'. refl) ran))
 
 -- ---- by the status of what stopped a job
 pub not_failed : (fault : RunFault) (status : ℕ) → Fails fault → status_of fault ≡ status → status ≡ 3
@@ -149,9 +184,13 @@ from_command : (job : Job) (tells : Tells) (P : Type 0)
     → ((V : Type 0) (meaning : Meaning V) (start : V) (closing : V → List ℕ) → tells V meaning start closing → P)
     → ByCommand job tells → P
 from_command Show tells P follows told = follows _ _ _ _ told
+from_command (ShowAs form) tells P follows told = follows _ _ _ _ told
 from_command Make tells P follows told = follows _ _ _ _ told
+from_command (MakeWords region) tells P follows told = follows _ _ _ _ told
+from_command (AnswerAs site encoder sets services store form) tells P follows told = follows _ _ _ _ told
 from_command (Answer site encoder sets services store) tells P follows told = follows _ _ _ _ told
 from_command (Line site encoder sets services store) tells P follows told = follows _ _ _ _ told
+from_command (LineAs site encoder sets services store form) tells P follows told = follows _ _ _ _ told
 from_command (Server site encoder host port tries timeout turns reconnects window join) tells P follows told =
     absurd told
 from_command (Encoder site encoder sets services port connections turns) tells P follows told = absurd told
@@ -168,9 +207,13 @@ of_local : (job : Job) → IsLocal job → (tells : Tells)
     → ((V : Type 0) (meaning : Meaning V) (start : V) (closing : V → List ℕ) → tells V meaning start closing)
     → ByCommand job tells
 of_local Show local tells told = told _ _ _ _
+of_local (ShowAs form) local tells told = told _ _ _ _
 of_local Make local tells told = told _ _ _ _
+of_local (MakeWords region) local tells told = told _ _ _ _
+of_local (AnswerAs site encoder sets services store form) local tells told = told _ _ _ _
 of_local (Answer site encoder sets services store) local tells told = told _ _ _ _
 of_local (Line site encoder sets services store) local tells told = told _ _ _ _
+of_local (LineAs site encoder sets services store form) local tells told = told _ _ _ _
 of_local (Server site encoder host port tries timeout turns reconnects window join) local tells told = absurd local
 of_local (Encoder site encoder sets services port connections turns) local tells told = absurd local
 
@@ -191,11 +234,19 @@ stop_status meaning v v' ((number, text) ∷ texts) lines fault ran is = elim ra
 prints_status : (job : Job) (input written : List ℕ) (fault : RunFault) → JobPrints job input (Err fault) written
     → status_of fault ≡ 2 → ⊥
 prints_status Show input written fault (v', ran) is = stop_status Shows _ v' (texts_of input) written fault ran is
+prints_status (ShowAs form) input written fault (v', ran) is =
+    stop_status (ShowsIn (found_lines form)) _ v' (texts_of input) written fault ran is
 prints_status Make input written fault (v', ran) is = stop_status Makes _ v' (texts_of input) written fault ran is
+prints_status (MakeWords region) input written fault (v', ran) is =
+    stop_status (MakesWords region) _ v' (texts_of input) written fault ran is
+prints_status (AnswerAs site encoder sets services store form) input written fault (v', ran) is =
+    stop_status (AnswersIn (answer_lines form)) _ v' (texts_of input) written fault ran is
 prints_status (Answer site encoder sets services store) input written fault (v', ran) is =
     stop_status Answers _ v' (texts_of input) written fault ran is
 prints_status (Line site encoder sets services store) input written fault (v', ran) is =
     stop_status Plays _ v' (texts_of input) written fault ran is
+prints_status (LineAs site encoder sets services store form) input written fault (v', ran) is =
+    stop_status (PlaysIn form) _ v' (texts_of input) written fault ran is
 prints_status (Server site encoder host port tries timeout turns reconnects window join) input written fault prints is =
     absurd prints
 prints_status (Encoder site encoder sets services port connections turns) input written fault prints is = absurd prints
@@ -217,12 +268,20 @@ local_status : (job : Job) → IsLocal job → (input written : List ℕ) (fault
     → JobPrints job input (Err fault) written → status_of fault ≡ 3 → ⊥
 local_status Show local input written fault (v', ran) is =
     no_end Shows (λ v text lines v' ended. ended) _ v' (texts_of input) written fault ran is
+local_status (ShowAs form) local input written fault (v', ran) is =
+    no_end (ShowsIn (found_lines form)) (λ v text lines v' ended. ended) _ v' (texts_of input) written fault ran is
 local_status Make local input written fault (v', ran) is =
     no_end Makes (λ v text lines v' ended. ended) _ v' (texts_of input) written fault ran is
+local_status (MakeWords region) local input written fault (v', ran) is =
+    no_end (MakesWords region) (λ v text lines v' ended. ended) _ v' (texts_of input) written fault ran is
+local_status (AnswerAs site encoder sets services store form) local input written fault (v', ran) is =
+    no_end (AnswersIn (answer_lines form)) (λ v text lines v' ended. ended) _ v' (texts_of input) written fault ran is
 local_status (Answer site encoder sets services store) local input written fault (v', ran) is =
     no_end Answers (λ v text lines v' ended. ended) _ v' (texts_of input) written fault ran is
 local_status (Line site encoder sets services store) local input written fault (v', ran) is =
     no_end Plays (λ v text lines v' ended. ended) _ v' (texts_of input) written fault ran is
+local_status (LineAs site encoder sets services store form) local input written fault (v', ran) is =
+    no_end (PlaysIn form) (λ v text lines v' ended. ended) _ v' (texts_of input) written fault ran is
 local_status (Server site encoder host port tries timeout turns reconnects window join) local input written fault prints
     is = local
 local_status (Encoder site encoder sets services port connections turns) local input written fault prints is = local
@@ -245,10 +304,16 @@ setup_wants o fault (inr (address, none, apart)) is =
 job_wants : (job : Job) → IsLocal job → (fault : RunFault) → RefusesJob job fault → status_of fault ≡ 3
     → fault ≡ run.OutOfMemory
 job_wants Show local fault refused is = absurd refused
+job_wants (ShowAs form) local fault refused is = absurd refused
 job_wants Make local fault refused is = absurd refused
+job_wants (MakeWords region) local fault refused is = absurd refused
+job_wants (AnswerAs site encoder sets services store form) local fault refused is =
+    setup_wants (options site encoder sets services.items) fault refused is
 job_wants (Answer site encoder sets services store) local fault refused is =
     setup_wants (options site encoder sets services.items) fault refused is
 job_wants (Line site encoder sets services store) local fault refused is =
+    setup_wants (options site encoder sets services.items) fault refused is
+job_wants (LineAs site encoder sets services store form) local fault refused is =
     setup_wants (options site encoder sets services.items) fault refused is
 job_wants (Server site encoder host port tries timeout turns reconnects window join) local fault refused is =
     absurd local
@@ -279,10 +344,16 @@ says_status o fault (inr (address, none, apart)) is = let two : 2 ≡ 1 = sym (a
 
 pub job_status : (job : Job) (fault : RunFault) → RefusesJob job fault → status_of fault ≡ 1 → ⊥
 job_status Show fault refused is = refused
+job_status (ShowAs form) fault refused is = refused
 job_status Make fault refused is = refused
+job_status (MakeWords region) fault refused is = refused
+job_status (AnswerAs site encoder sets services store form) fault refused is =
+    says_status (options site encoder sets services.items) fault refused is
 job_status (Answer site encoder sets services store) fault refused is =
     says_status (options site encoder sets services.items) fault refused is
 job_status (Line site encoder sets services store) fault refused is =
+    says_status (options site encoder sets services.items) fault refused is
+job_status (LineAs site encoder sets services store form) fault refused is =
     says_status (options site encoder sets services.items) fault refused is
 job_status (Encoder site encoder sets services port connections turns) fault refused is =
     says_status (options site encoder sets services.items) fault refused is

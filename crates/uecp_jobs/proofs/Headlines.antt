@@ -20,7 +20,8 @@ use Rattle.uecp_text.specs.Words.{words}
 use Rattle.uecp_text.specs.Run.{Brings, Runs}
 use Rattle.uecp_words.specs.EventWords.{Names}
 use Rattle.uecp_jobs.specs.Setups.{address_of}
-use Rattle.uecp_jobs.specs.Playing.{Plays}
+use Rattle.output_forms.specs.declared.form.Form.{Form}
+use Rattle.uecp_jobs.specs.Playing.{PlaysIn}
 use Rattle.uecp_jobs.specs.Headlines.{NameEach, KeepsHeadlineSince, ScriptsKeepHeadline}
 
 -- a message that words submit fits a frame
@@ -73,10 +74,11 @@ pub record Played (line : LineState Store) (o : Once Store) (texts : List (ℕ �
   pub plays : PlaysSteps step group_taken line o events outcomes line' last
 
 -- a text more before those since which the headline is kept
-one_before : (line next line' : LineState Store) (number : ℕ) (text first : List ℕ) (texts : List (ℕ × List ℕ))
-    (stop : Option RunFault) → Plays line text (Brings first) next →
-    KeepsHeadlineSince next texts stop line' → KeepsHeadlineSince line ((number, text) ∷ texts) stop line'
-one_before line next line' number text first texts stop plays since = record {
+one_before : (form : Form) (line next line' : LineState Store) (number : ℕ) (text first : List ℕ)
+    (texts : List (ℕ × List ℕ))
+    (stop : Option RunFault) → PlaysIn form line text (Brings first) next →
+    KeepsHeadlineSince form next texts stop line' → KeepsHeadlineSince form line ((number, text) ∷ texts) stop line'
+one_before form line next line' number text first texts stop plays since = record {
   before = (number, text) ∷ since.before;
   restart = since.restart;
   behind = since.behind;
@@ -92,16 +94,17 @@ one_before line next line' number text first texts stop plays since = record {
 }
 
 -- the texts before the first that starts the server again, or all, and those since the last
-script_played : (line line' : LineState Store) (o : Once Store) (texts : List (ℕ × List ℕ)) (lines : List ℕ)
-    (stop : Option RunFault) → Holds line o → Runs Plays line texts lines stop line' →
-    Played line o texts stop line' ⊎ KeepsHeadlineSince line texts stop line'
-script_played line line' o [] lines stop holds ran =
+script_played : (form : Form) (line line' : LineState Store) (o : Once Store) (texts : List (ℕ × List ℕ))
+    (lines : List ℕ)
+    (stop : Option RunFault) → Holds line o → Runs (PlaysIn form) line texts lines stop line' →
+    Played line o texts stop line' ⊎ KeepsHeadlineSince form line texts stop line'
+script_played form line line' o [] lines stop holds ran =
     inl (record { events = []; outcomes = []; last = o; named = (ran.1, refl); plays = (ran.2, refl) })
-script_played line line' o ((number, text) ∷ texts) lines stop holds ran = elim ran [
+script_played form line line' o ((number, text) ∷ texts) lines stop holds ran = elim ran [
   | inl (first, rest, next, plays, lines_are, more) ↦ elim plays [
     | inl (event, names, what) ↦ elim what [
       | inl takes ↦ (let steps = takes.steps o holds in
-          elim (script_played next line' (after step group_taken o event) texts rest stop steps.holds more) [
+          elim (script_played form next line' (after step group_taken o event) texts rest stop steps.holds more) [
             | inl p ↦ inl (record {
               events = event ∷ p.events;
               outcomes = Ok takes.answer ∷ p.outcomes;
@@ -109,11 +112,12 @@ script_played line line' o ((number, text) ∷ texts) lines stop holds ran = eli
               named = (names, p.named);
               plays = (next, (named_fits (words text) event names, steps), p.plays);
             })
-            | inr since ↦ inr (one_before line next line' number text first texts stop (inl (event, names, inl takes))
+            | inr since ↦ inr (one_before form line next line' number text first texts stop
+                (inl (event, names, inl takes))
                 since)
           ])
       | inr refused ↦
-          elim (script_played next line' o texts rest stop
+          elim (script_played form next line' o texts rest stop
           (subst (λ (l : LineState Store). Holds l o) (sym refused.unchanged) holds) more) [
             | inl p ↦ inl (record {
               events = event ∷ p.events;
@@ -123,12 +127,13 @@ script_played line line' o ((number, text) ∷ texts) lines stop holds ran = eli
               plays =
                   (next, (refused.refuses o holds, refused.unchanged), p.plays);
             })
-            | inr since ↦ inr (one_before line next line' number text first texts stop (inl (event, names, inr refused))
+            | inr since ↦ inr (one_before form line next line' number text first texts stop
+                (inl (event, names, inr refused))
                 since)
           ]
     ]
     | inr again ↦
-        elim (script_played next line' (at_first line.encoder.value) texts rest stop
+        elim (script_played form next line' (at_first line.encoder.value) texts rest stop
         (joined_holds line next again.given_up again.restarts) more) [
           | inl p ↦ inr (record {
             before = [];
@@ -151,7 +156,7 @@ script_played line line' o ((number, text) ∷ texts) lines stop holds ran = eli
               headline = since_joined line next again.given_up again.restarts p.events p.outcomes line' p.last p.plays;
             };
           })
-          | inr since ↦ inr (one_before line next line' number text first texts stop (inr again) since)
+          | inr since ↦ inr (one_before form line next line' number text first texts stop (inr again) since)
         ]
   ]
   | inr (inl refused) ↦ inl (record {
@@ -166,10 +171,11 @@ script_played line line' o ((number, text) ∷ texts) lines stop holds ran = eli
 ]
 
 pub scripts_keep_headline_lem : ScriptsKeepHeadline
-scripts_keep_headline_lem o texts lines stop line ran =
+scripts_keep_headline_lem form o texts lines stop line ran =
     let address : ℕ = address_of o.site o.encoder in
     let value : Store = opening o.sets o.services in
-    elim (script_played (new_line address value) line (at_first value) texts lines stop (new_holds address value) ran) [
+    elim (script_played form (new_line address value) line (at_first value) texts lines stop (new_holds address value)
+    ran) [
       | inl p ↦ inl (record {
         events = p.events;
         outcomes = p.outcomes;

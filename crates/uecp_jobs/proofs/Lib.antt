@@ -13,3 +13,8 @@ pub mod Streams
 pub mod Headlines
 pub mod Examples
 pub mod Remade
+pub mod SaidOnce
+pub mod WrittenTokens
+pub mod WrittenLines
+pub mod ScriptTexts
+pub mod RemadeInWords

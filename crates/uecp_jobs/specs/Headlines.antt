@@ -14,7 +14,8 @@ use Rattle.uecp_text.specs.Words.{words}
 use Rattle.uecp_words.specs.EventWords.{Names}
 use Rattle.uecp_words.specs.RestartWords.{restart_words}
 use Rattle.uecp_jobs.specs.Setups.{Options, address_of, line_at_first}
-use Rattle.uecp_jobs.specs.Playing.{Plays}
+use Rattle.output_forms.specs.declared.form.Form.{Form}
+use Rattle.uecp_jobs.specs.Playing.{PlaysIn}
 
 -- The texts name these events, one by one, up to the text that is refused, if one is.
 abbrev pub NameEach : List (ℕ × List ℕ) → Option RunFault → List Event → Type 0
@@ -36,7 +37,8 @@ pub record KeepsHeadline (address : ℕ) (value : Store) (old : LineState Store)
 -- Of the texts one starts the server again, and none behind it does. Those before it were played to their end, by a run
 -- of which the same holds as of this one; the encoder joined, and kept its store; and from there, with that store as
 -- the opening one, the texts behind keep the headline.
-pub record KeepsHeadlineSince (start : LineState Store) (texts : List (ℕ × List ℕ)) (stop : Option RunFault)
+pub record KeepsHeadlineSince (form : Form) (start : LineState Store) (texts : List (ℕ × List ℕ))
+    (stop : Option RunFault)
     (line : LineState Store) : Type 0 where
   pub before : List (ℕ × List ℕ)
   pub restart : ℕ × List ℕ
@@ -45,18 +47,18 @@ pub record KeepsHeadlineSince (start : LineState Store) (texts : List (ℕ × Li
   pub named : words restart.1 ≡ restart_words
   pub lines : List ℕ
   pub left : LineState Store
-  pub ran : Runs Plays start before lines None left
+  pub ran : Runs (PlaysIn form) start before lines None left
   pub given_up : ℕ
   pub joined : LineState Store
   pub restarts : Restarts step left given_up joined
   pub keeps : KeepsHeadline left.encoder.address left.encoder.value joined behind stop line
 
--- So it is after any script of `line`, taken whole or up to a refused text: with the line whose totals and store are
--- printed where no text is refused. Either it is one line from first to last, or it is a new one since the server was
--- last started again.
+-- So it is after any script of `line`, in whatever form its output is, taken whole or up to a refused text: with the
+-- line whose totals and store are printed where no text is refused. Either it is one line from first to last, or it is
+-- a new one since the server was last started again.
 abbrev pub ScriptsKeepHeadline : Type 0
 ScriptsKeepHeadline =
-    (o : Options) (texts : List (ℕ × List ℕ)) (lines : List ℕ) (stop : Option RunFault) (line : LineState Store) →
-    Runs Plays (line_at_first o) texts lines stop line →
+    (form : Form) (o : Options) (texts : List (ℕ × List ℕ)) (lines : List ℕ) (stop : Option RunFault)
+    (line : LineState Store) → Runs (PlaysIn form) (line_at_first o) texts lines stop line →
     KeepsHeadline (address_of o.site o.encoder) (opening o.sets o.services) (line_at_first o) texts stop line
-    ⊎ KeepsHeadlineSince (line_at_first o) texts stop line
+    ⊎ KeepsHeadlineSince form (line_at_first o) texts stop line

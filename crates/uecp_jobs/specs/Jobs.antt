@@ -3,17 +3,20 @@ use Rattle.std.specs.Prelude.{◌≡◌, ℕ, ◌⊎◌, List, [], Option, None,
 use Rattle.std.specs.Io.KnownBytes.{Appends}
 use Rattle.uecp_frame.specs.Findings.{Closed}
 use Rattle.uecp_jobs.specs.declared.job.Job.{Job}
-use Rattle.uecp_jobs.specs.declared.job.Job.TheVariants.{Answer, Show, Make, Line, Encoder, Server}
+use Rattle.uecp_jobs.specs.declared.job.Job.TheVariants.{Answer, AnswerAs, Show, ShowAs, Make, MakeWords}
+use Rattle.uecp_jobs.specs.declared.job.Job.TheVariants.{Line, LineAs, Encoder, Server}
 use Rattle.uecp_text.specs.declared.run_fault.RunFault.{RunFault}
 use Rattle.uecp_text.specs.Faults.{status_of, error_lines}
 use Rattle.uecp_text.specs.Written.{Begins}
 use Rattle.uecp_text.specs.Run.{Meaning, IsInput, Prints, Breaks}
 use Rattle.uecp_jobs.specs.Setups.{Options, IsOneEncoder, IsSetup, RefusesSetup, RefusesAddress, encoder_at_first}
 use Rattle.uecp_jobs.specs.Setups.{line_at_first}
-use Rattle.uecp_lines.specs.StoreLines.{last_lines}
-use Rattle.uecp_jobs.specs.Commands.{Shows, Answers}
+use Rattle.output_forms.specs.declared.form.Form.TheVariants.{Lines}
+use Rattle.uecp_jobs.specs.Commands.{ShowsIn, Shows, AnswersIn, Answers}
+use Rattle.output_forms.specs.Forms.{found_lines, answer_lines, store_lines}
 use Rattle.uecp_jobs.specs.FrameScript.{Makes, spelled_line}
-use Rattle.uecp_jobs.specs.Playing.{Plays, closing_lines}
+use Rattle.uecp_jobs.specs.PhraseScript.{MakesWords, first_heading, left_line}
+use Rattle.uecp_jobs.specs.Playing.{PlaysIn, Plays, closing_lines}
 
 -- The options of a job that has an encoder.
 abbrev pub options : (site encoder sets : ℕ) (services : List ℕ) → Options
@@ -22,14 +25,18 @@ options site encoder sets services = record { site = site; encoder = encoder; se
 -- The job has an encoder of its own.
 abbrev pub HasEncoder : Job → Type 0
 HasEncoder Show = ⊥
+HasEncoder (ShowAs form) = ⊥
 HasEncoder Make = ⊥
+HasEncoder (MakeWords region) = ⊥
 HasEncoder (Server site encoder host port tries timeout turns reconnects window join) = ⊥
 HasEncoder job = Unit {0}
 
 -- These are the options of that encoder.
 abbrev pub Describes : Job → Options → Type 0
 Describes (Answer site encoder sets services store) o = o ≡ options site encoder sets services.items
+Describes (AnswerAs site encoder sets services store form) o = o ≡ options site encoder sets services.items
 Describes (Line site encoder sets services store) o = o ≡ options site encoder sets services.items
+Describes (LineAs site encoder sets services store form) o = o ≡ options site encoder sets services.items
 Describes (Encoder site encoder sets services port connections turns) o = o ≡ options site encoder sets services.items
 Describes job o = ⊥
 
@@ -43,11 +50,19 @@ IsLocal job = Unit {0}
 -- The jobs with connections are told of apart.
 abbrev pub ByCommand : Job → ((V : Type 0) → Meaning V → (start : V) → (closing : V → List ℕ) → Type 0) → Type 0
 ByCommand Show tells = tells _ Shows Closed (λ part. [])
+ByCommand (ShowAs form) tells = tells _ (ShowsIn (found_lines form)) Closed (λ part. [])
 ByCommand Make tells = tells _ Makes None spelled_line
+ByCommand (MakeWords region) tells = tells _ (MakesWords region) first_heading left_line
 ByCommand (Answer site encoder sets services store) tells =
-    tells _ Answers (encoder_at_first (options site encoder sets services.items)) (λ e. last_lines store e.value)
+    tells _ Answers (encoder_at_first (options site encoder sets services.items))
+    (λ e. store_lines Lines store e.value)
+ByCommand (AnswerAs site encoder sets services store form) tells =
+    tells _ (AnswersIn (answer_lines form)) (encoder_at_first (options site encoder sets services.items))
+    (λ e. store_lines form store e.value)
 ByCommand (Line site encoder sets services store) tells =
-    tells _ Plays (line_at_first (options site encoder sets services.items)) (closing_lines store)
+    tells _ Plays (line_at_first (options site encoder sets services.items)) (closing_lines Lines store)
+ByCommand (LineAs site encoder sets services store form) tells =
+    tells _ (PlaysIn form) (line_at_first (options site encoder sets services.items)) (closing_lines form store)
 ByCommand (Server site encoder host port tries timeout turns reconnects window join) tells = ⊥
 ByCommand (Encoder site encoder sets services port connections turns) tells = ⊥
 
@@ -66,9 +81,13 @@ JobBreaks job unread unread' held held' fault = ByCommand job
 -- The options of a job describe an encoder, or where it is a server the address of one.
 abbrev pub IsDescribed : Job → Type 0
 IsDescribed Show = Unit {0}
+IsDescribed (ShowAs form) = Unit {0}
 IsDescribed Make = Unit {0}
+IsDescribed (MakeWords region) = Unit {0}
 IsDescribed (Answer site encoder sets services store) = IsSetup (options site encoder sets services.items)
+IsDescribed (AnswerAs site encoder sets services store form) = IsSetup (options site encoder sets services.items)
 IsDescribed (Line site encoder sets services store) = IsSetup (options site encoder sets services.items)
+IsDescribed (LineAs site encoder sets services store form) = IsSetup (options site encoder sets services.items)
 IsDescribed (Encoder site encoder sets services port connections turns) =
     IsSetup (options site encoder sets services.items)
 IsDescribed (Server site encoder host port tries timeout turns reconnects window join) = IsOneEncoder site encoder
@@ -76,10 +95,16 @@ IsDescribed (Server site encoder host port tries timeout turns reconnects window
 -- The options of the job describe no encoder, and this is said.
 abbrev pub RefusesJob : Job → RunFault → Type 0
 RefusesJob Show fault = ⊥
+RefusesJob (ShowAs form) fault = ⊥
 RefusesJob Make fault = ⊥
+RefusesJob (MakeWords region) fault = ⊥
 RefusesJob (Answer site encoder sets services store) fault =
     RefusesSetup (options site encoder sets services.items) fault
+RefusesJob (AnswerAs site encoder sets services store form) fault =
+    RefusesSetup (options site encoder sets services.items) fault
 RefusesJob (Line site encoder sets services store) fault = RefusesSetup (options site encoder sets services.items) fault
+RefusesJob (LineAs site encoder sets services store form) fault =
+    RefusesSetup (options site encoder sets services.items) fault
 RefusesJob (Encoder site encoder sets services port connections turns) fault =
     RefusesSetup (options site encoder sets services.items) fault
 RefusesJob (Server site encoder host port tries timeout turns reconnects window join) fault =

@@ -3,6 +3,7 @@ pub mod Setups
 pub mod Commands
 pub mod Streams
 pub mod FrameScript
+pub mod PhraseScript
 pub mod Playing
 pub mod Headlines
 pub mod Jobs
@@ -12,3 +13,4 @@ pub mod Batches
 pub mod JoiningFirst
 pub mod ServerRun
 pub mod Remade
+pub mod RemadeInWords

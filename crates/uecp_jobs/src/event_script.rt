@@ -4,18 +4,19 @@ ghost use Rattle.uecp_link.specs.Once.{FrameComes, ReplyComes};
 ghost use Rattle.rds_store.specs.Step.{step};
 ghost use Rattle.uecp_link.specs.Events.{event_of};
 ghost use Rattle.uecp_link.specs.Restarting.{Restarts};
-ghost use Rattle.uecp_lines.specs.Steps.{given_up_line};
+ghost use Rattle.output_forms.specs.Forms.{given_up_lines};
 ghost use Rattle.uecp_text.specs.Written.{Adds};
 ghost use Rattle.uecp_text.specs.declared.run_fault.RunFault.TheVariants.{OutOfMemory};
 ghost use Rattle.uecp_words.specs.EventWords.{event_seen, named_message};
-ghost use Rattle.uecp_jobs.specs.Playing.{PlaysEvent, Plays, closing_lines};
+ghost use Rattle.uecp_jobs.specs.Playing.{PlaysEvent, PlaysIn, closing_lines};
 ghost use Rattle.uecp_jobs.specs.Setups.{options_of, IsSetup, RefusesSetup, line_at_first};
 
+use crate::asked::Asked;
 use crate::setup::{Setup, new_line};
+use output_forms::{Form, put_given_up, put_step, put_store, put_totals};
 use rds_store::RdsStore;
 use rds_store::laws::empty_message_changes_nothing;
 use std::alloc::Global;
-use uecp_lines::{put_given_up, put_last, put_step, put_totals};
 use uecp_link::{Line, LineEvent, Side};
 use uecp_text::{Interpreter, Output, RunFault, Taken, TextFault, words_of};
 use uecp_words::{EventLine, event_of, is_restart};
@@ -24,26 +25,27 @@ use uecp_words::{EventLine, event_of, is_restart};
 #[derive(Drop)]
 pub struct Playing {
     line: Line<RdsStore>,
-    store: bool,
+    asked: Asked,
 }
 
 impl Playing {
     /// A new line to the encoder that the options describe, with an opening store. The services are judged before the
     /// address; `OutOfMemory` where there is no memory.
-    pub fn new(alloc: Global, setup: &Setup<'_>, store: bool) -> Result<Playing, RunFault>
+    pub fn new(alloc: Global, setup: &Setup<'_>, asked: Asked) -> Result<Playing, RunFault>
         ensures described { IfOk result (λ p. IsSetup (options_of setup.now)) }
-        ensures made { IfOk result (λ p. (p.line ≡ line_at_first (options_of setup.now)) × (p.store ≡ store)) }
+        ensures made { IfOk result (λ p. (p.line ≡ line_at_first (options_of setup.now)) × (p.asked ≡ asked)) }
         ensures refused { IfErr result (λ fault. (fault ≡ OutOfMemory) ⊎ RefusesSetup (options_of setup.now) fault) }
     {
         let line = new_line(alloc, setup)?;
-        Ok(Playing { line, store })
+        Ok(Playing { line, asked })
     }
 }
 
 impl Interpreter for Playing {
-    ghost meaning = { λ p text outcome p'. Plays p.line text outcome p'.line × (p'.store ≡ p.store) };
+    ghost meaning = { λ p text outcome p'. PlaysIn p.asked.form p.line text outcome p'.line
+        × (p'.asked ≡ p.asked) };
 
-    ghost closing = { λ p. closing_lines p.store p.line };
+    ghost closing = { λ p. closing_lines p.asked.form p.asked.store p.line };
 
     fn take(
         &mut self,
@@ -53,45 +55,45 @@ impl Interpreter for Playing {
     ) -> Result<Taken, TextFault> {
         let words = words_of(alloc, text)?;
         if is_restart(words.as_slice()) {
-            restart(&mut self.line, output);
+            restart(self.asked.form, &mut self.line, output);
         } else {
             let event = event_of(alloc, words.as_slice())?;
-            play_event(&mut self.line, &event, output);
+            play_event(self.asked.form, &mut self.line, &event, output);
         }
         output.check()?;
         Ok(Taken::GoesOn)
     }
 
     fn close(&self, output: &mut Output) {
-        put_closing(&self.line, self.store, output);
+        put_closing(self.asked, &self.line, output);
     }
 }
 
 /// The totals of a line, and its store where that is asked for.
-fn put_closing(line: &Line<RdsStore>, store: bool, output: &mut Output)
-    ensures { Adds output.old output.new (closing_lines store line.now) }
+fn put_closing(asked: Asked, line: &Line<RdsStore>, output: &mut Output)
+    ensures { Adds output.old output.new (closing_lines asked.form asked.store line.now) }
 {
-    put_totals(line, output);
-    put_last(line.encoder().target(), store, output);
+    put_totals(asked.form, line, output);
+    put_store(asked.form, line.encoder().target(), asked.store, output);
 }
 
 /// Plays one event, and says what came of it.
-fn play_event(line: &mut Line<RdsStore>, event: &EventLine, output: &mut Output)
-    ensures { (lines : List ℕ) × PlaysEvent line.old (event_seen event.now) lines line.new
+fn play_event(form: Form, line: &mut Line<RdsStore>, event: &EventLine, output: &mut Output)
+    ensures { (lines : List ℕ) × PlaysEvent form line.old (event_seen event.now) lines line.new
         × Adds output.old output.new lines }
 {
     let event = line_event(event);
     let number = named_message(&event);
-    put_step(line.step(&event), number, output);
+    put_step(form, line.step(&event), number, output);
 }
 
 /// Starts the server again, and says how many messages were given up.
-fn restart(line: &mut Line<RdsStore>, output: &mut Output)
+fn restart(form: Form, line: &mut Line<RdsStore>, output: &mut Output)
     ensures { (given_up : ℕ) × Restarts step line.old given_up line.new
-        × Adds output.old output.new (given_up_line given_up) }
+        × Adds output.old output.new (given_up_lines form given_up) }
 {
     empty_message_changes_nothing();
-    put_given_up(line.restart_server(), output);
+    put_given_up(form, line.restart_server(), output);
 }
 
 /// The event as it happens on the line.

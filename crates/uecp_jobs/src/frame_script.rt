@@ -86,7 +86,7 @@ fn add_bytes(frame: &mut Option<Frame>, bytes: &[u8]) -> Result<(), TextFault>
 }
 
 /// The line of a frame that is whole.
-fn put_spelled(frame: &Option<Frame>, output: &mut Output)
+pub(crate) fn put_spelled(frame: &Option<Frame>, output: &mut Output)
     ensures { Adds output.old output.new (spelled_line frame.now) }
 {
     if let Some(frame) = frame {

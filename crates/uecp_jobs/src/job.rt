@@ -1,5 +1,8 @@
 //! What is asked of the program (profile).
 
+use output_forms::Form;
+use rds_text::Region;
+
 /// One command with its options. `uecp_cli`'s `parse` answers no other numbers than the ranges named here.
 #[derive(Debug, Drop, PartialEq, Eq)]
 pub enum Job {
@@ -16,10 +19,35 @@ pub enum Job {
         /// Whether the store is written out at the end.
         store: bool,
     },
+    /// The same in another form.
+    AnswerAs {
+        /// The encoder's site, 1 to 1023.
+        site: u16,
+        /// The encoder's number at its site, 1 to 63.
+        encoder: u8,
+        /// How many data sets it has, 1 to 8.
+        sets: u8,
+        /// The numbers of its services, the main one first. The store judges them.
+        services: Vec<u8>,
+        /// Whether the store is written out at the end.
+        store: bool,
+        /// The form.
+        form: Form,
+    },
     /// The frames and elements that stand in the pieces on standard input.
     Show,
+    /// The same in another form.
+    ShowAs {
+        /// The form.
+        form: Form,
+    },
     /// The frames of the script on standard input.
     Make,
+    /// The frames of the phrase script on standard input.
+    MakeWords {
+        /// Whose names programme types have.
+        region: Region,
+    },
     /// What comes of the events on standard input; the options are those of `Answer`.
     Line {
         /// The site of both ends, 1 to 1023.
@@ -32,6 +60,21 @@ pub enum Job {
         services: Vec<u8>,
         /// Whether the store is written out at the end.
         store: bool,
+    },
+    /// The same in another form.
+    LineAs {
+        /// The site of both ends, 1 to 1023.
+        site: u16,
+        /// The encoder's number at its site, 1 to 63.
+        encoder: u8,
+        /// How many data sets it has, 1 to 8.
+        sets: u8,
+        /// The numbers of its services, the main one first. The store judges them.
+        services: Vec<u8>,
+        /// Whether the store is written out at the end.
+        store: bool,
+        /// The form.
+        form: Form,
     },
     /// An encoder that listens on 127.0.0.1 and serves one connection after another.
     Encoder {

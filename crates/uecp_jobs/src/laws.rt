@@ -2,6 +2,7 @@
 ghost use Rattle.uecp_jobs.specs.Streams.{ShowsOneStream, AnswersOneStream};
 ghost use Rattle.uecp_jobs.specs.Headlines.{ScriptsKeepHeadline};
 ghost use Rattle.uecp_jobs.specs.Remade.{IsRemade};
+ghost use Rattle.uecp_jobs.specs.RemadeInWords.{IsRemadeInWords};
 
 /// Where no text is refused, what `show` writes depends on the bytes alone that its pieces spell, joined: it is what
 /// stands in one stream.
@@ -27,4 +28,10 @@ pub fn scripts_keep_the_headline()
 #[tactic(auto, using(crate::proofs::Remade::is_remade))]
 pub fn shown_is_remade()
     ensures { IsRemade }
+{}
+
+/// What `show --words` writes of findings is a script: whatever `make --words` comes to on it, it refuses nothing and
+/// writes exactly their frames, also those of messages with a fault.
+pub fn worded_is_remade()
+    ensures { IsRemadeInWords }
 {}

@@ -6,6 +6,7 @@
 #![tactic(auto)]
 
 mod answering;
+mod asked;
 mod batches;
 mod encoder_run;
 mod event_script;
@@ -13,6 +14,7 @@ mod frame_script;
 mod job;
 pub mod laws;
 mod messages;
+mod phrase_script;
 mod run;
 mod server_run;
 mod setup;
@@ -20,5 +22,6 @@ mod showing;
 
 pub use encoder_run::run_encoder;
 pub use job::Job;
+pub use output_forms::Form;
 pub use run::{fail, run_job};
 pub use server_run::run_server;

@@ -7,11 +7,14 @@ ghost use Rattle.uecp_jobs.specs.Jobs.{IsLocal, IsDescribed, RefusesJob, DoesJob
 ghost use Rattle.uecp_jobs.specs.Jobs.{HasFailed};
 
 use crate::answering::Answering;
+use crate::asked::Asked;
 use crate::event_script::Playing;
 use crate::frame_script::Making;
 use crate::job::Job;
+use crate::phrase_script::MakingWords;
 use crate::setup::setup_of;
 use crate::showing::Showing;
+use output_forms::Form;
 use std::alloc::Global;
 use std::io::{Read, Write};
 use uecp_text::{RunFault, report, run};
@@ -65,16 +68,44 @@ fn do_job<R: Read, W: Write>(
         (W.contents writer.old) (W.contents writer.new) result }
 {
     match job {
-        Job::Show => run(alloc, reader, &mut Showing::new(alloc), writer),
+        Job::Show => run(alloc, reader, &mut Showing::new(alloc, Form::Lines), writer),
+        Job::ShowAs { form } => run(alloc, reader, &mut Showing::new(alloc, *form), writer),
         Job::Make => run(alloc, reader, &mut Making::new(), writer),
+        Job::MakeWords { region } => run(alloc, reader, &mut MakingWords::new(*region), writer),
         Job::Answer { store, .. } => {
             let setup = setup_of(job);
-            let mut answering = Answering::new(alloc, &setup, *store)?;
+            let asked = Asked {
+                store: *store,
+                form: Form::Lines,
+            };
+            let mut answering = Answering::new(alloc, &setup, asked)?;
+            run(alloc, reader, &mut answering, writer)
+        }
+        Job::AnswerAs { store, form, .. } => {
+            let setup = setup_of(job);
+            let asked = Asked {
+                store: *store,
+                form: *form,
+            };
+            let mut answering = Answering::new(alloc, &setup, asked)?;
             run(alloc, reader, &mut answering, writer)
         }
         Job::Line { store, .. } => {
             let setup = setup_of(job);
-            let mut playing = Playing::new(alloc, &setup, *store)?;
+            let asked = Asked {
+                store: *store,
+                form: Form::Lines,
+            };
+            let mut playing = Playing::new(alloc, &setup, asked)?;
+            run(alloc, reader, &mut playing, writer)
+        }
+        Job::LineAs { store, form, .. } => {
+            let setup = setup_of(job);
+            let asked = Asked {
+                store: *store,
+                form: *form,
+            };
+            let mut playing = Playing::new(alloc, &setup, asked)?;
             run(alloc, reader, &mut playing, writer)
         }
         Job::Encoder { .. } | Job::Server { .. } => unreachable!(),

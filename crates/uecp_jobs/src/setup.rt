@@ -41,7 +41,21 @@ pub(crate) fn setup_of(job: &Job) -> Setup<'_>
             services,
             ..
         }
+        | Job::AnswerAs {
+            site,
+            encoder,
+            sets,
+            services,
+            ..
+        }
         | Job::Line {
+            site,
+            encoder,
+            sets,
+            services,
+            ..
+        }
+        | Job::LineAs {
             site,
             encoder,
             sets,
@@ -60,7 +74,9 @@ pub(crate) fn setup_of(job: &Job) -> Setup<'_>
             sets: *sets,
             services: services.as_slice(),
         },
-        Job::Show | Job::Make | Job::Server { .. } => unreachable!(),
+        Job::Show | Job::ShowAs { .. } | Job::Make | Job::MakeWords { .. } | Job::Server { .. } => {
+            unreachable!()
+        }
     }
 }
 

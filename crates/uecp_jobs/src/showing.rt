@@ -2,37 +2,40 @@
 ghost use Rattle.std.specs.Prelude.{◌≡◌, [], flat_map};
 ghost use Rattle.uecp_frame.specs.Findings.{Closed};
 ghost use Rattle.uecp_frame.specs.Beyond.{found_beyond, open_beyond};
-ghost use Rattle.uecp_lines.specs.Lines.{finding_lines};
 ghost use Rattle.uecp_text.specs.Written.{Adds};
-ghost use Rattle.uecp_jobs.specs.Commands.{Shows};
+ghost use Rattle.uecp_jobs.specs.Commands.{ShowsIn};
+ghost use Rattle.output_forms.specs.Forms.{found_lines};
 
+use output_forms::{Form, put_found};
 use std::alloc::Global;
 use uecp_frame::Deframer;
-use uecp_lines::put_found;
 use uecp_text::{Interpreter, Output, PieceBuffer, Taken, TextFault, rest_after};
 
 /// Says what frames and elements stand in pieces, as one stream.
 #[derive(Drop)]
 pub struct Showing {
     deframer: Deframer,
+    form: Form,
     /// Room for one piece after another.
     room: PieceBuffer,
 }
 
 impl Showing {
     /// No piece came yet.
-    pub fn new(alloc: Global) -> Showing
-        ensures { result.deframer ≡ Closed }
+    pub fn new(alloc: Global, form: Form) -> Showing
+        ensures { (result.deframer ≡ Closed) × (result.form ≡ form) }
     {
         Showing {
             deframer: Deframer::new(),
+            form,
             room: PieceBuffer::new(alloc),
         }
     }
 }
 
 impl Interpreter for Showing {
-    ghost meaning = { λ s text outcome s'. Shows s.deframer text outcome s'.deframer };
+    ghost meaning = { λ s text outcome s'. ShowsIn (found_lines s.form) s.deframer text outcome s'.deframer
+        × (s'.form ≡ s.form) };
 
     ghost closing = { λ _. [] };
 
@@ -43,7 +46,7 @@ impl Interpreter for Showing {
         output: &mut Output,
     ) -> Result<Taken, TextFault> {
         let piece = self.room.read(text)?;
-        show_piece(&mut self.deframer, piece, output);
+        show_piece(self.form, &mut self.deframer, piece, output);
         output.check()?;
         Ok(Taken::GoesOn)
     }
@@ -52,14 +55,14 @@ impl Interpreter for Showing {
 }
 
 /// Shows what one piece ends.
-fn show_piece(deframer: &mut Deframer, piece: &[u8], output: &mut Output)
-    ensures lines { Adds output.old output.new (flat_map finding_lines (found_beyond deframer.old piece.now)) }
+fn show_piece(form: Form, deframer: &mut Deframer, piece: &[u8], output: &mut Output)
+    ensures lines { Adds output.old output.new (flat_map (found_lines form) (found_beyond deframer.old piece.now)) }
     ensures left { open_beyond deframer.old piece.now ≡ deframer.new }
 {
     let mut rest = piece;
     while !rest.is_empty() {
         let fed = deframer.feed(rest);
         rest = rest_after(rest, fed.used);
-        put_found(&fed.found, output);
+        put_found(form, &fed.found, output);
     }
 }

@@ -15,7 +15,7 @@ mod response_lines;
 mod step_lines;
 mod store_lines;
 
-pub use finding_lines::put_found;
+pub use finding_lines::{put_fault, put_found};
 pub use response_lines::put_answer;
 pub use step_lines::{put_given_up, put_step, put_totals};
 pub use store_lines::put_last;

@@ -74,6 +74,18 @@ shorter_here all rest more place first before is =
     let l = ap length before.whole ∙ length-append before.front rest in
     let m = ap length is in omega (arith, l, m)
 
+pub counted_here : (all rest more : List Held) (place : ℕ) (first : Held) → Before all place rest → rest ≡ first ∷ more
+    → length (take place all) + 1 + length more ≡ length all
+counted_here all rest more place first before is =
+    let l = ap length before.whole ∙ length-append before.front rest in
+    let m = ap length is in
+    let t = ap length (taken all rest place before) in omega (arith, l, m, t)
+
+pub within_here : (all rest : List Held) (place : ℕ) → Before all place rest → length (take place all) ≤ length all
+within_here all rest place before =
+    let l = ap length before.whole ∙ length-append before.front rest in
+    let t = ap length (taken all rest place before) in omega (arith, l, t)
+
 -- ---- Phrases one after another.
 
 empty_no_phrase : (region : Region) (bytes : List ℕ) → IsPhrase region [] bytes → ⊥

@@ -10,5 +10,7 @@ pub mod Phrasing
 pub mod CalledGroups
 pub mod OneMeaning
 pub mod Cutting
+pub mod Faulting
 pub mod SaidMessages
+pub mod LineTokens
 pub mod WritingLines

@@ -140,11 +140,11 @@ each_item region message (i ∷ list) = (of_item region message i, each_item reg
 
 -- ---- The phrases add the message.
 
-bytes_left : (x y : List ℕ) → AreBytes (x ++ y) → AreBytes x
+pub bytes_left : (x y : List ℕ) → AreBytes (x ++ y) → AreBytes x
 bytes_left [] y h = tt
 bytes_left (b ∷ x) y h = (h.0, bytes_left x y h.1)
 
-bytes_right : (x y : List ℕ) → AreBytes (x ++ y) → AreBytes y
+pub bytes_right : (x y : List ℕ) → AreBytes (x ++ y) → AreBytes y
 bytes_right [] y h = h
 bytes_right (b ∷ x) y h = bytes_right x y h.1
 

@@ -36,7 +36,7 @@ are_small (b ∷ bytes) h =
     let parts = and_parts (nat_le b 0xFF) (list_all (λ c. nat_le c 0xFF) bytes) h in
     (leb-true b 0xFF parts.0, are_small bytes parts.1)
 
-is_one : (t : Token) → is_token t ≡ true → IsToken t
+pub is_one : (t : Token) → is_token t ≡ true → IsToken t
 is_one (Word w) h =
     let parts = and_parts (nat_le 1 (length w)) (nat_le (length w) 16 && list_all is_word_character w) h in
     let others = and_parts (nat_le (length w) 16) (list_all is_word_character w) parts.1 in
@@ -52,7 +52,8 @@ are_tokens (t ∷ ts) h =
     let parts = and_parts (is_token t) (list_all is_token ts) h in
     (is_one t parts.0, are_tokens ts parts.1)
 
-both : (ts us : List Token) → AllByRecursion IsToken ts → AllByRecursion IsToken us → AllByRecursion IsToken (ts ++ us)
+pub both : (ts us : List Token) → AllByRecursion IsToken ts → AllByRecursion IsToken us
+    → AllByRecursion IsToken (ts ++ us)
 both [] us h i = i
 both (t ∷ ts) us h i = (h.0, both ts us h.1 i)
 
@@ -113,7 +114,7 @@ place : (dsn psn : ℕ) → dsn < 256 → psn < 256 → AllByRecursion IsToken (
 place dsn psn d p =
     both (set_tokens dsn) (service_tokens psn) (at_byte set_tokens sets dsn d) (at_byte service_tokens services psn p)
 
-byte_is : (byte : ℕ) → byte < 256 → IsToken (byte_token byte)
+pub byte_is : (byte : ℕ) → byte < 256 → IsToken (byte_token byte)
 byte_is byte h = (at_byte (alone byte_token) byte_alone byte h).0
 
 -- ---- What is written of names, texts and numbers.

@@ -32,3 +32,8 @@ IsRawSaid =
 -- Law: the line of a message of bytes says that message.
 abbrev pub IsMessageSaid : Type 0
 IsMessageSaid = (region : Region) (message : List ℕ) → AreBytes message → Say region (line_of region message) message
+
+-- Law: the tokens of that line are such as can be written.
+abbrev pub IsLineWritable : Type 0
+IsLineWritable =
+    (region : Region) (message : List ℕ) → AreBytes message → AllByRecursion IsToken (line_of region message)

@@ -1,5 +1,5 @@
 -- What a line of phrases says: the message that they make (profile).
-use Rattle.std.specs.Prelude.{◌≡◌, ◌⊎◌, ℕ, Bool, true, false, List, [], ◌∷◌, ◌++◌, Option, Some, None}
+use Rattle.std.specs.Prelude.{◌≡◌, ◌⊎◌, ◌≤◌, ℕ, Bool, true, false, List, [], ◌∷◌, ◌++◌, length, Option, Some, None}
 use Rattle.std.specs.List.{slice_split}
 use Rattle.rds_text.specs.declared.programme_type.Region.{Region}
 use Rattle.phrase_tokens.specs.Tokens.{Token, Word, Quoted, Semicolon}
@@ -28,6 +28,10 @@ AddEach region (phrase ∷ phrases) bytes =
 -- The tokens of a line say this message: its bytes are those that the phrases between semicolons add.
 abbrev pub Say : Region → List Token → (message : List ℕ) → Type 0
 Say region tokens message = AddEach region (phrases_in tokens) message
+
+-- They say nothing: no message of at most 255 bytes, which is what a frame carries.
+abbrev pub SayNothing : Region → List Token → Type 0
+SayNothing region tokens = (message : List ℕ) → Say region tokens message → length message ≤ 255 → ⊥
 
 -- The phrases that are left behind a semicolon, or none behind the last.
 abbrev pub phrases_left : (behind : Option (List Token)) → List (List Token)

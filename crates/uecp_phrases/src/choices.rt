@@ -10,7 +10,7 @@ use phrase_tokens::Token;
 use uecp_text::decimal_of;
 
 /// The most transmissions that a RadioText's head can ask for.
-const TIMES_MAX: u32 = 15;
+pub const TIMES_MAX: u32 = 15;
 
 /// Which choices were made, and how often the text is sent, if it is said.
 #[derive(Clone, Copy, Debug)]

@@ -19,10 +19,10 @@ use uecp_elements::RtPart;
 use uecp_text::{byte_of, decimal_of, number_of};
 
 /// The bytes of a programme service name.
-const NAME_LENGTH: usize = 8;
+pub const NAME_LENGTH: usize = 8;
 
 /// The last programme type.
-const PROGRAMME_TYPE_MAX: u32 = 31;
+pub const PROGRAMME_TYPE_MAX: u32 = 31;
 
 /// The only token, where it is a word.
 fn only_word(tokens: &[Token]) -> Option<&[u8]>

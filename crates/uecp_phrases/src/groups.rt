@@ -137,7 +137,7 @@ fn is_added(tokens: &[Token]) -> Option<bool>
 }
 
 /// The byte of two digits that is at most 1F.
-fn five_bits(word: &[u8]) -> Option<u8>
+pub fn five_bits(word: &[u8]) -> Option<u8>
     ensures some { IfSome result (λ bits. IsByte word.now bits × (bits ≤ 0x1F)) }
     ensures none { IfNone result ((bits : ℕ) → IsByte word.now bits → bits ≤ 0x1F → ⊥) }
 {
@@ -148,7 +148,7 @@ fn five_bits(word: &[u8]) -> Option<u8>
 }
 
 /// The number of a type by its name.
-fn type_of(word: &[u8]) -> Option<u8>
+pub fn type_of(word: &[u8]) -> Option<u8>
     ensures some { IfSome result (λ kind. IsGroupType word.now kind) }
     ensures none { IfNone result ((kind : ℕ) → IsGroupType word.now kind → ⊥) }
 {

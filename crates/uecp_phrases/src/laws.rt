@@ -1,5 +1,6 @@
 //! The laws of phrases, each as the contract of a function that does nothing (profile).
 ghost use Rattle.uecp_phrases.specs.Laws.{IsSaidAsWritten, IsWritable, IsOneMeaning, IsRawSaid, IsMessageSaid};
+ghost use Rattle.uecp_phrases.specs.Laws.{IsLineWritable};
 
 /// What is written of an element is a phrase, and adds that element's spelling.
 #[tactic(auto, using(crate::proofs::Said::said_as_written))]
@@ -27,4 +28,9 @@ pub fn raw_said()
 /// The line of a message of bytes says that message.
 pub fn message_said()
     ensures { IsMessageSaid }
+{}
+
+/// The tokens of that line are such as can be written, so that by the laws of `phrase_tokens` its text reads as them.
+pub fn line_writable()
+    ensures { IsLineWritable }
 {}

@@ -1,7 +1,8 @@
 //! Elements in words: what a station says, as phrases that a broadcast engineer reads and writes (profile).
 //!
 //! - [`message_in`], [`phrase_in`]: the message that a line says, and the bytes that one phrase adds, out of tokens.
-//! - [`put_message`], [`phrase_of`], [`raw_token`]: a message as a line, and an element as the tokens of a phrase.
+//! - [`expected_in`]: what was expected, and at which token, where a line says nothing.
+//! - [`put_message`], [`phrase_of`]: a message as a line, and an element as the tokens of a phrase.
 //!
 //! The crate knows no frame, keeps no state and gives no element a meaning. The law that its users rely on: a phrase
 //! means one thing, and the line that is written of a message says that message.
@@ -9,20 +10,29 @@
 
 mod choices;
 mod contents;
+mod expectation;
+mod expected;
+#[cfg(test)]
+mod expected_tests;
+mod fits;
 mod groups;
 mod head;
 pub mod laws;
 mod line;
 mod message_line;
+mod nearest;
 mod phrase;
 mod place;
 #[cfg(test)]
 mod tests;
 mod told;
 mod traffic_name;
+mod walk;
 mod writing;
 
+pub use expectation::Expectation;
+pub use expected::{Expected, expected_in};
 pub use line::message_in;
 pub use message_line::put_message;
 pub use phrase::phrase_in;
-pub use writing::{WRITTEN_MAX, phrase_of, raw_token};
+pub use writing::{WRITTEN_MAX, phrase_of};

@@ -1,8 +1,8 @@
 //! A line of phrases: one message (profile).
-ghost use Rattle.std.specs.Prelude.{◌≡◌, ◌≤◌, ◌<◌, ◌∷◌, ℕ, List, length, IfSome, IfNone};
+ghost use Rattle.std.specs.Prelude.{◌≡◌, ◌≤◌, ◌<◌, ◌+◌, ◌∷◌, ℕ, List, length, IfSome, IfNone};
 ghost use Rattle.std.specs.Option.{option_map};
 ghost use Rattle.phrase_tokens.specs.View.{tokens_of};
-ghost use Rattle.uecp_phrases.specs.Lines.{phrases_in, phrases_left, AddsBytes, Say};
+ghost use Rattle.uecp_phrases.specs.Lines.{phrases_in, phrases_left, AddsBytes, Say, SayNothing};
 
 use crate::phrase::phrase_in;
 use phrase_tokens::Token;
@@ -13,8 +13,7 @@ use uecp_frame::Message;
 /// two semicolons, or at either end. None where a phrase is none, or the message would have more than 255 bytes.
 pub fn message_in(region: Region, tokens: &[Token]) -> Option<Message>
     ensures some { IfSome result (λ m. Say region (tokens_of tokens.now) m) }
-    ensures none { IfNone result ((message : List ℕ) → Say region (tokens_of tokens.now) message
-        → length message ≤ 255 → ⊥) }
+    ensures none { IfNone result (SayNothing region (tokens_of tokens.now)) }
 {
     let mut message = Message::new();
     let mut left = Some(tokens);
@@ -28,7 +27,7 @@ pub fn message_in(region: Region, tokens: &[Token]) -> Option<Message>
 }
 
 /// What the tokens between two semicolons add.
-fn added_by(region: Region, tokens: &[Token]) -> Option<Message>
+pub(crate) fn added_by(region: Region, tokens: &[Token]) -> Option<Message>
     ensures some { IfSome result (λ m. AddsBytes region (tokens_of tokens.now) m) }
     ensures none { IfNone result ((bytes : List ℕ) → AddsBytes region (tokens_of tokens.now) bytes
         → length bytes ≤ 255 → ⊥) }
@@ -40,10 +39,12 @@ fn added_by(region: Region, tokens: &[Token]) -> Option<Message>
 }
 
 /// The tokens before the first semicolon, and those behind it, if there is one.
-fn phrase_before(tokens: &[Token]) -> (&[Token], Option<&[Token]>)
+pub(crate) fn phrase_before(tokens: &[Token]) -> (&[Token], Option<&[Token]>)
     ensures cut { phrases_in (tokens_of tokens.now) ≡ tokens_of result.0.now
         ∷ phrases_left (option_map (λ more. tokens_of more.now) result.1) }
     ensures shorter { IfSome result.1 (λ more. length more.now < length tokens.now) }
+    ensures within { length result.0.now ≤ length tokens.now }
+    ensures counted { IfSome result.1 (λ more. length result.0.now + 1 + length more.now ≡ length tokens.now) }
 {
     let mut place = 0;
     let mut rest = tokens;

@@ -67,7 +67,7 @@ pub fn service_before(tokens: &[Token]) -> Option<(Option<u8>, &[Token])>
 }
 
 /// Whether the tokens begin with this word.
-fn begins_with(tokens: &[Token], word: &[u8]) -> bool
+pub fn begins_with(tokens: &[Token], word: &[u8]) -> bool
     ensures { IsTrue result ↔ BeginWith word.now (tokens_of tokens.now) }
 {
     match tokens.split_first() {

@@ -88,7 +88,7 @@ pub fn phrase_of(region: Region, element: &Element<'_>) -> ArrayVec<Token, WRITT
 }
 
 /// The token of a byte in a phrase that begins with `raw`: two upper case digits.
-pub fn raw_token(byte: u8) -> Token
+pub(crate) fn raw_token(byte: u8) -> Token
     ensures { token_of result ≡ byte_token byte }
 {
     byte_token(byte)

@@ -6,3 +6,4 @@ pub mod Runs
 pub mod Wholes
 pub mod Decimals
 pub mod Pieces
+pub mod Parts

@@ -150,6 +150,10 @@ failed_one meaning v v' number text said fault reported empty took out text_is r
       | inl e ↦ absurd (let n : flaw.MessageTooLong ≡ flaw.OutOfMemory = e in cc)
       | inr s ↦ named flaw.MessageTooLong s
     ]
+    by_fault (flaw.Unsaid unsaid) h = elim h [
+      | inl e ↦ absurd (let n : flaw.Unsaid unsaid ≡ flaw.OutOfMemory = e in cc)
+      | inr s ↦ named (flaw.Unsaid unsaid) s
+    ]
 
 -- ---- one line after another
 -- The texts before these were taken, and what they brought is written.

@@ -29,5 +29,5 @@ pub use output::Output;
 pub use piece_buffer::PieceBuffer;
 pub use reporting::{report, write_parts};
 pub use run_fault::RunFault;
-pub use text_fault::TextFault;
+pub use text_fault::{TextFault, Unsaid};
 pub use words::{byte_of, bytes_of, bytes_or_none, decimal_of, digits_of, number_of, words_of};

@@ -1,6 +1,6 @@
 //! Why a line of input was refused (profile).
-ghost use Rattle.std.specs.Prelude.{◌≡◌, Some};
-ghost use Rattle.uecp_text.specs.Faults.{refusal_text};
+ghost use Rattle.std.specs.Prelude.{◌≡◌, None};
+ghost use Rattle.uecp_text.specs.Faults.{refusal_text, IsPlain};
 ghost use Rattle.uecp_text.specs.Run.{fault_at};
 ghost use Rattle.uecp_text.specs.declared.text_fault.TextFault.TheVariants.{OutOfMemory};
 
@@ -8,6 +8,21 @@ use crate::run_fault::RunFault;
 use std::alloc::{AllocError, AllocFailed};
 use std::error::Error;
 use std::fmt;
+
+/// At which character a line of phrases says nothing, and what was expected there.
+#[derive(Clone, Copy, Debug, PartialEq, Eq)]
+pub struct Unsaid {
+    /// The column of that character, counted in characters from 1, the first being the first of the line that is no
+    /// space; where the line is too short, the column behind its last.
+    pub column: usize,
+    /// The character, where it is one that nothing can begin with or that stands for no byte.
+    pub character: Option<char>,
+    /// What is said of the character, such as `is not in the RDS character set`; or, where there is none, what was
+    /// expected, such as `four hexadecimal digits`.
+    pub what: &'static str,
+    /// The nearest word that could stand there, where one is near.
+    pub nearest: Option<&'static str>,
+}
 
 /// What is wrong with one line, in the order in which it is looked for.
 #[derive(Clone, Copy, Debug, PartialEq, Eq)]
@@ -20,6 +35,8 @@ pub enum TextFault {
     NoFrame,
     /// The message would have more than 255 bytes.
     MessageTooLong,
+    /// A line of phrases says nothing.
+    Unsaid(Unsaid),
     /// There was no memory: the line itself is not at fault.
     OutOfMemory,
 }
@@ -35,22 +52,23 @@ impl TextFault {
         }
     }
 
-    /// What is said of it, such as `not hex`.
+    /// What is said of it, such as `not hex`; of a line of phrases what is said of the character.
     pub fn text(self) -> &'static str
-        ensures { result.now ≡ refusal_text self }
+        ensures { IsPlain self → result.now ≡ refusal_text self }
     {
         match self {
             TextFault::NotHex => "not hex",
             TextFault::NotACommand => "not a command",
             TextFault::NoFrame => "no frame",
             TextFault::MessageTooLong => "message too long",
+            TextFault::Unsaid(unsaid) => unsaid.what,
             TextFault::OutOfMemory => "out of memory",
         }
     }
 }
 
 impl fmt::Display for TextFault {
-    ghost output = { λ fault. Some (refusal_text fault) };
+    ghost output = { λ _. None };
 
     fn fmt<W: fmt::Write>(&self, f: &mut fmt::Formatter<W>) -> fmt::Result {
         f.write_str(self.text())

@@ -103,6 +103,7 @@ IsFaultOf words fault.MessageTooLong = (bytes : List ℕ) × Submits words bytes
 IsFaultOf words fault.OutOfMemory = MayWantMemory words
 IsFaultOf words fault.NotHex = ⊥
 IsFaultOf words fault.NoFrame = ⊥
+IsFaultOf words (fault.Unsaid unsaid) = ⊥
 
 -- Noise towards one end.
 abbrev pub noise_to : Side → List ℕ → Event

@@ -2,7 +2,6 @@ use Rattle.std.proofs.Common.{rules, option_map, map, codes, subst, sym, inl, in
 use Rattle.std.specs.String.{string_bytes}
 use Rattle.std.proofs.lemmas.Result.{IfOk-weaker, IfErr-weaker}
 use Rattle.clap.specs.Words.{found_of, rows_of}
-use Rattle.uecp_jobs.specs.declared.job.Job.TheVariants.{Make, Show}
 use Rattle.uecp_cli.specs.CommandLine.{IsJobOf, RefusesWords}
 use Rattle.uecp_cli.proofs.Asked.{asks, no_other, faultless_of, faulty_of, gives_no_list, is_in_range, met_of}
 use Rattle.uecp_cli.proofs.Asked.{none_named, refuses_words}
@@ -118,25 +117,33 @@ returns-in-Some-server-default-clause-refused c =
     IfErr-weaker c.server_of.result _ _ (λ why is. subst (RefusesWords (map string_bytes c.args.words.now)) (sym is) tt)
     c.server_of.ensures.refused
 
+pub returns-in-Some-make-default-clause-range : goal.returns-in-Some-make-default-clause-range
+returns-in-Some-make-default-clause-range c = is_in_range _ _ c.make_of.result c.make_of.ensures
+
 pub returns-in-Some-make-default-clause-asked : goal.returns-in-Some-make-default-clause-asked
 returns-in-Some-make-default-clause-asked c =
     let words = map string_bytes c.args.words.now in
     let now = c.in-Some-make-default in
-    let rows = rows_of (found_of now.field-0-1.now) in
+    let rows = rows_of (found_of now.found.now) in
     let met = met_of _ words c.in_ok-matches.matches c.in_ok-program.ensures c.in_ok-matches.ensures.matches in
     let none = faultless_of _ words c.in_ok-program.ensures c.in_ok-matches.ensures.kinds in
-    asks words c.in_ok-matches.matches now.field-0-0.now rows Make now.ensures.name now.ensures.rows met none
-    now.is-make
+    asks words c.in_ok-matches.matches now.field-0-0.now rows c.make_of.result now.ensures.name now.ensures.rows met
+    none
+    (subst (λ name. IsJobOf name rows c.make_of.result) (sym now.is-make) c.make_of.ensures)
+
+pub returns-in-Some-show-default-clause-range : goal.returns-in-Some-show-default-clause-range
+returns-in-Some-show-default-clause-range c = is_in_range _ _ c.show_of.result c.show_of.ensures
 
 pub returns-in-Some-show-default-clause-asked : goal.returns-in-Some-show-default-clause-asked
 returns-in-Some-show-default-clause-asked c =
     let words = map string_bytes c.args.words.now in
     let now = c.in-Some-show-default in
-    let rows = rows_of (found_of now.field-0-1.now) in
+    let rows = rows_of (found_of now.found.now) in
     let met = met_of _ words c.in_ok-matches.matches c.in_ok-program.ensures c.in_ok-matches.ensures.matches in
     let none = faultless_of _ words c.in_ok-program.ensures c.in_ok-matches.ensures.kinds in
-    asks words c.in_ok-matches.matches now.field-0-0.now rows Show now.ensures.name now.ensures.rows met none
-    now.is-show
+    asks words c.in_ok-matches.matches now.field-0-0.now rows c.show_of.result now.ensures.name now.ensures.rows met
+    none
+    (subst (λ name. IsJobOf name rows c.show_of.result) (sym now.is-show) c.show_of.ensures)
 
 pub unreachable-requires : goal.unreachable-requires
 unreachable-requires c =

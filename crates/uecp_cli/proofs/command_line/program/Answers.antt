@@ -13,8 +13,8 @@ returns c =
     let top = ap app_of_fields c.subcommand_required.ensures
     ∙ ap (on_top (λ (s : Shape). record s { subcommand_required = true })) told in
     let one = sub_added _ _ _ _ _ c.in_ok-subcommand.ensures refl top c.in_ok-answer_command.ensures in
-    let two = sub_added _ _ _ _ _ c.in_ok-subcommand-2.ensures refl one c.show_command.ensures in
-    let three = sub_added _ _ _ _ _ c.in_ok-subcommand-3.ensures refl two c.make_command.ensures in
+    let two = sub_added _ _ _ _ _ c.in_ok-subcommand-2.ensures refl one c.in_ok-show_command.ensures in
+    let three = sub_added _ _ _ _ _ c.in_ok-subcommand-3.ensures refl two c.in_ok-make_command.ensures in
     let four = sub_added _ _ _ _ _ c.in_ok-subcommand-4.ensures refl three c.in_ok-line_command.ensures in
     let five = sub_added _ _ _ _ _ c.in_ok-subcommand-5.ensures refl four c.in_ok-encoder_command.ensures in
     IfOk-weaker c.subcommand-6.result _ _ (λ whole added.

@@ -22,5 +22,5 @@ returns c =
     c.number-5.ensures.rule in
     let seven = arg_added _ _ c.number-6.result _ _ c.in_ok-arg-7.ensures c.number-6.ensures.own six
     c.number-6.ensures.rule in
-    IfOk-weaker c.arg-8.result _ _ (λ whole added. arg_added _ whole c.join.result _ _ added c.join.ensures.own seven
-    c.join.ensures.rule) c.arg-8.ensures
+    IfOk-weaker c.arg-8.result _ _ (λ whole added. arg_added _ whole c.flag.result _ _ added c.flag.ensures.own seven
+    c.flag.ensures.rule) c.arg-8.ensures

@@ -4,5 +4,8 @@ use Rattle.uecp_cli.proofs.command_line.with_store.Goals as goal
 
 pub returns : goal.returns
 returns c = λ name is_new.
-    IfOk-weaker c.arg.result _ _ (λ whole added. arg_added _ whole c.store.result _ _ added c.store.ensures.own
-    (c.in_ok-with_encoder.ensures name is_new) c.store.ensures.rule) c.arg.ensures
+    let stored = arg_added _ _ c.flag.result _ _ c.in_ok-command.ensures c.flag.ensures.own
+    (c.in_ok-with_encoder.ensures name is_new) c.flag.ensures.rule in
+    let worded = c.in_ok-with_words.ensures _ stored in
+    IfOk-weaker c.arg-2.result _ _ (λ whole added. arg_added _ whole c.json.result _ _ added c.json.ensures.own
+    worded c.json.ensures.rule) c.arg-2.ensures

@@ -1,25 +1,18 @@
-use Rattle.std.proofs.Common.{refl, codes, ◌∙◌}
-use Rattle.clap.specs.Words.{found_of}
-use Rattle.clap.proofs.WalkLemmas.{one_text-rows}
+use Rattle.std.proofs.Common.{refl}
 use Rattle.uecp_cli.proofs.matched.server_of.Goals as goal
 
 pub returns-clause-job : goal.returns-clause-job
-returns-clause-job c =
-    let flag = one_text-rows (found_of c.args.found.now) (codes "join") in (
-      refl,
-      (c.short_of.ensures, c.small_of.ensures),
-      record {
-        is_host = c.in_ok-host_of.ensures;
-        is_port = c.short_of-2.ensures;
-        is_tries = c.number_of.ensures;
-        is_timeout = c.number_of-2.ensures;
-        is_turns = c.number_of-3.ensures;
-        is_reconnects = c.number_of-4.ensures;
-        is_window = c.small_of-2.ensures;
-        is_join = record {
-          given = λ e. c.get_flag.ensures.value (flag ∙ e);
-          denied = λ e. c.get_flag.ensures.other (flag ∙ e);
-          absent = λ e. c.get_flag.ensures.none (flag ∙ e);
-        };
-      },
-    )
+returns-clause-job c = (
+  refl,
+  (c.short_of.ensures, c.small_of.ensures),
+  record {
+    is_host = c.in_ok-host_of.ensures;
+    is_port = c.short_of-2.ensures;
+    is_tries = c.number_of.ensures;
+    is_timeout = c.number_of-2.ensures;
+    is_turns = c.number_of-3.ensures;
+    is_reconnects = c.number_of-4.ensures;
+    is_window = c.small_of-2.ensures;
+    is_join = c.flag_of.ensures;
+  },
+)

@@ -3,7 +3,7 @@ use Rattle.std.proofs.lemmas.Grind.{flat_map-append}
 use Rattle.rds_store.specs.Step.{step}
 use Rattle.uecp_encoder.specs.State.{fed}
 use Rattle.uecp_encoder.specs.Answering.{Response, responses_to}
-use Rattle.uecp_lines.specs.Lines.{response_line}
+use Rattle.output_forms.specs.Forms.{answer_lines}
 use Rattle.uecp_text.proofs.Leading.{leads_on, leads_end}
 use Rattle.uecp_text.proofs.Lines.{empty_is}
 use Rattle.uecp_jobs.proofs.Pieces.{fed_nothing, responses_to_nothing, fed_on, responses_on}
@@ -22,12 +22,12 @@ loop-rest-preserved c =
       state = fed_on e e' used rest rest' c.answer_first-used.ensures.left c.rest_after-rest.ensures
           ∙ c.loop-rest.invariant.state;
       lines = leads_on c.args.output.now c.loop-rest.output c.answer_first-used.new.output
-          (flat_map response_line now) (flat_map response_line (responses_to step e rest))
-          (flat_map response_line later)
-          (flat_map response_line (responses_to step c.args.encoder.now c.args.piece.now))
+          (flat_map (answer_lines c.args.form) now) (flat_map (answer_lines c.args.form) (responses_to step e rest))
+          (flat_map (answer_lines c.args.form) later)
+          (flat_map (answer_lines c.args.form) (responses_to step c.args.encoder.now c.args.piece.now))
           c.loop-rest.invariant.lines
-          (ap (flat_map response_line) (responses_on e e' used rest rest' c.answer_first-used.ensures.left
-          c.rest_after-rest.ensures) ∙ flat_map-append response_line now later)
+          (ap (flat_map (answer_lines c.args.form)) (responses_on e e' used rest rest' c.answer_first-used.ensures.left
+          c.rest_after-rest.ensures) ∙ flat_map-append (answer_lines c.args.form) now later)
           c.answer_first-used.ensures.lines;
     }
 
@@ -35,9 +35,11 @@ pub returns-clause-lines : goal.returns-clause-lines
 returns-clause-lines c =
     let e = c.loop-rest.encoder in
     let empty = empty_is c.loop-rest.rest.now c.loop-rest-test.ensures in
-    leads_end c.args.output.now c.loop-rest.output (flat_map response_line (responses_to step e c.loop-rest.rest.now))
-    (flat_map response_line (responses_to step c.args.encoder.now c.args.piece.now)) c.loop-rest.invariant.lines
-    (ap (flat_map response_line) (ap (responses_to step e) empty ∙ responses_to_nothing e))
+    leads_end c.args.output.now c.loop-rest.output (flat_map (answer_lines c.args.form)
+    (responses_to step e c.loop-rest.rest.now))
+    (flat_map (answer_lines c.args.form) (responses_to step c.args.encoder.now c.args.piece.now))
+    c.loop-rest.invariant.lines
+    (ap (flat_map (answer_lines c.args.form)) (ap (responses_to step e) empty ∙ responses_to_nothing e))
 
 pub returns-clause-left : goal.returns-clause-left
 returns-clause-left c =

@@ -4,7 +4,7 @@ use Rattle.uecp_frame.specs.Findings.{Finding}
 use Rattle.uecp_frame.specs.Beyond.{found_beyond, open_beyond}
 use Rattle.uecp_frame.specs.Feeding.{findings_of}
 use Rattle.uecp_frame.proofs.Pieces.{new_start_lem}
-use Rattle.uecp_lines.specs.Lines.{finding_lines}
+use Rattle.output_forms.specs.Forms.{found_lines}
 use Rattle.uecp_text.proofs.Leading.{leads_on, leads_end}
 use Rattle.uecp_text.proofs.Lines.{empty_is}
 use Rattle.uecp_jobs.proofs.Pieces.{found_on, open_on}
@@ -23,9 +23,11 @@ loop-rest-preserved c =
       part = open_on o o' c.feed-fed.result rest rest' c.feed-fed.ensures.feeds c.rest_after-rest.ensures
           ∙ c.loop-rest.invariant.part;
       lines = leads_on c.args.output.now c.loop-rest.output c.put_found.new.output
-          (flat_map finding_lines now) (flat_map finding_lines (found_beyond o rest)) (flat_map finding_lines later)
-          (flat_map finding_lines (found_beyond c.args.deframer.now c.args.piece.now))
-          c.loop-rest.invariant.lines (ap (flat_map finding_lines) found ∙ flat_map-append finding_lines now later)
+          (flat_map (found_lines c.args.form) now) (flat_map (found_lines c.args.form) (found_beyond o rest))
+          (flat_map (found_lines c.args.form) later)
+          (flat_map (found_lines c.args.form) (found_beyond c.args.deframer.now c.args.piece.now))
+          c.loop-rest.invariant.lines (ap (flat_map (found_lines c.args.form)) found
+          ∙ flat_map-append (found_lines c.args.form) now later)
           c.put_found.ensures;
     }
 
@@ -33,9 +35,10 @@ pub returns-clause-lines : goal.returns-clause-lines
 returns-clause-lines c =
     let o = c.loop-rest.deframer in
     let empty = empty_is c.loop-rest.rest.now c.loop-rest-test.ensures in
-    leads_end c.args.output.now c.loop-rest.output (flat_map finding_lines (found_beyond o c.loop-rest.rest.now))
-    (flat_map finding_lines (found_beyond c.args.deframer.now c.args.piece.now)) c.loop-rest.invariant.lines
-    (ap (flat_map finding_lines) (ap (found_beyond o) empty ∙ (new_start_lem o []).nothing))
+    leads_end c.args.output.now c.loop-rest.output (flat_map (found_lines c.args.form)
+    (found_beyond o c.loop-rest.rest.now))
+    (flat_map (found_lines c.args.form) (found_beyond c.args.deframer.now c.args.piece.now)) c.loop-rest.invariant.lines
+    (ap (flat_map (found_lines c.args.form)) (ap (found_beyond o) empty ∙ (new_start_lem o []).nothing))
 
 pub returns-clause-left : goal.returns-clause-left
 returns-clause-left c =

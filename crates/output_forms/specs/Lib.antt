@@ -1,0 +1,2 @@
+-- The definitions that the contracts of output in its forms cite.
+pub mod Forms

@@ -1,0 +1,3 @@
+-- The definitions that the contracts of phrase scripts cite.
+pub mod Lines
+pub mod Laws

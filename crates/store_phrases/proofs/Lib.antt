@@ -1,0 +1,14 @@
+pub mod Placed
+pub mod Bits
+pub mod OneService
+pub mod Places
+pub mod Telling
+pub mod Elements
+pub mod Taken
+pub mod Waiting
+pub mod Opened
+pub mod Stations
+pub mod Lines
+pub mod Heard
+pub mod Messages
+pub mod Walks

@@ -1,0 +1,12 @@
+use Rattle.std.proofs.Common.{◌+◌, length}
+use Rattle.std.specs.Option.{option_map, option_map_or}
+use Rattle.phrase_tokens.specs.View.{tokens_of}
+use Rattle.uecp_phrases.proofs.Faulting.{ReadSoFar}
+use Rattle.uecp_phrases.proofs.expected.fault_in.Given as goal
+
+abbrev pub invariant-loop-left : goal.invariant-loop-left
+invariant-loop-left l =
+    ReadSoFar l.region (tokens_of l.tokens) (option_map (λ more. tokens_of more.now) l.left) l.message
+
+abbrev pub decreases-loop-left : goal.decreases-loop-left
+decreases-loop-left l = option_map_or (λ more. length more.now + 1) l.left 0

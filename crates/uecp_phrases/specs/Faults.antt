@@ -1,0 +1,59 @@
+-- At which token a line of phrases says nothing (profile).
+use Rattle.std.specs.Prelude.{◌≡◌, ◌≤◌, ◌<◌, ◌+◌, ℕ, List, [], ◌∷◌, ◌++◌, length, map, max, nat_eq, slice_get}
+use Rattle.std.specs.Prelude.{Option, Some, None}
+use Rattle.std.specs.Char.{to_ascii_lowercase}
+use Rattle.strsim.specs.Edits.{levenshtein_row}
+use Rattle.rds_text.specs.declared.programme_type.Region.{Region}
+use Rattle.phrase_tokens.specs.Tokens.{Token, Word, Quoted, Semicolon}
+use Rattle.uecp_phrases.specs.Lines.{phrases_in, AddsBytes, AddEach}
+
+-- How many tokens phrases have with a semicolon behind each, so at which index the next one begins.
+abbrev pub begins_behind : List (List Token) → ℕ
+begins_behind [] = 0
+begins_behind (phrase ∷ phrases) = length phrase + 1 + begins_behind phrases
+
+-- With this phrase the line says nothing: it is neither a phrase nor nothing, or the bytes of those before and its own
+-- would be more than 255.
+abbrev pub IsFault : Region → (said : List ℕ) → (phrase : List Token) → Type 0
+IsFault region said phrase =
+    (bytes : List ℕ) → AddsBytes region phrase bytes → length said + length bytes ≤ 255 → ⊥
+
+-- The token of this index lies in the first phrase with which the line says nothing, or right behind it: what stands
+-- before that phrase adds at most 255 bytes.
+pub record IsFaultAt (region : Region) (tokens : List Token) (index : ℕ) : Type 0 where
+  pub before : List (List Token)
+  pub phrase : List Token
+  pub others : List (List Token)
+  pub said : List ℕ
+  pub whole : phrases_in tokens ≡ before ++ (phrase ∷ others)
+  pub says : AddEach region before said
+  pub few : length said ≤ 255
+  pub fault : IsFault region said phrase
+  pub least : begins_behind before ≤ index
+  pub most : index ≤ begins_behind before + length phrase
+
+-- ---- The nearest word.
+
+-- The letters of a word, or of a text between quotes.
+abbrev pub letters_of : Token → List ℕ
+letters_of (Word w) = w
+letters_of (Quoted bytes) = bytes
+letters_of Semicolon = []
+
+-- Those of the token of an index, and none behind the last.
+abbrev pub letters_at : List Token → (index : ℕ) → List ℕ
+letters_at tokens index = letters_or_none (slice_get tokens index)
+  where
+    letters_or_none : Option Token → List ℕ
+    letters_or_none None = []
+    letters_or_none (Some token) = letters_of token
+
+-- How many letters are added, left out or changed to make the one of the other, whatever their case: the distance of
+-- Levenshtein.
+abbrev pub distance : (letters word : List ℕ) → ℕ
+distance letters word =
+    levenshtein_row nat_eq (map to_ascii_lowercase letters) (map to_ascii_lowercase word) (length word)
+
+-- At most two letters differ, and not all.
+abbrev pub IsNear : (letters word : List ℕ) → Type 0
+IsNear letters word = (distance letters word ≤ 2) × (distance letters word < max (length letters) (length word))
