@@ -16,6 +16,7 @@ use uecp_link::{Line, LineRefusal, Stepped};
 use uecp_text::Output;
 
 /// The lines of what a piece ended: none, a frame's, or that of a segment that is no frame.
+#[inline(always)]
 pub fn put_found(form: Form, found: &Found, output: &mut Output)
     ensures { Adds output.old output.new (flat_map (found_lines form) (findings_of found.now)) }
 {
@@ -27,6 +28,7 @@ pub fn put_found(form: Form, found: &Found, output: &mut Output)
 }
 
 /// The line of what an encoder answers, if it answers.
+#[inline(always)]
 pub fn put_answer(form: Form, what: What<'_>, output: &mut Output)
     ensures { Adds output.old output.new (flat_map (answer_lines form) (responses_of what.entry)) }
 {
