@@ -50,6 +50,7 @@ impl Interpreter for Answering {
 
     ghost closing = { λ a. store_lines a.asked.form a.asked.store a.encoder.value };
 
+    #[inline(always)]
     fn take(
         &mut self,
         _alloc: Global,

@@ -39,6 +39,7 @@ impl Interpreter for Showing {
 
     ghost closing = { λ _. [] };
 
+    #[inline(always)]
     fn take(
         &mut self,
         _alloc: Global,

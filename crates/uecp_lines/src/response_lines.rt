@@ -10,6 +10,7 @@ use uecp_text::Output;
 
 /// The line of what an encoder answers, if it answers: a reply, new or kept; not for it; not numbered; not the next; or
 /// no frame.
+#[inline(always)]
 pub fn put_answer(what: What<'_>, output: &mut Output)
     ensures { Adds output.old output.new (flat_map response_line (responses_of what.entry)) }
 {

@@ -100,6 +100,7 @@ fn run_lines<I: Interpreter>(
 
 /// Takes what the line of this number says, if it says anything. What it brings is kept in `lines` until it is whole,
 /// and then added to the output; so where memory is wanting the output stays.
+#[inline(always)]
 fn take_line<I: Interpreter>(
     alloc: Global,
     number: usize,

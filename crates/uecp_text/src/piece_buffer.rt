@@ -42,7 +42,7 @@ impl PieceBuffer {
     /// let mut room = PieceBuffer::new(alloc);
     /// let piece = room.read(b"fe 00 41")?; // FE, 00, 41
     /// ```
-    #[inline]
+    #[inline(always)]
     pub fn read(&mut self, text: &[u8]) -> Result<&[u8], TextFault>
         ensures piece { IfOk result (λ p. bytes_in text.now ≡ Ok p.now) }
         ensures refused { IfErr result (λ e. (e ≡ OutOfMemory) ⊎ ((e ≡ NotHex) × IsErr (bytes_in text.now))) }
