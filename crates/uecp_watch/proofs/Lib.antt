@@ -1,0 +1,4 @@
+pub mod Pieces
+pub mod Streams
+pub mod Timed
+pub mod Watched

@@ -1,0 +1,3 @@
+-- The definitions that the contracts of watching a control line cite.
+pub mod Stamps
+pub mod Watching
