@@ -14,7 +14,7 @@ use Rattle.clap.specs.declared.parser.matches.SubCommand.{SubCommand}
 use Rattle.clap.proofs.OnLiterals.{clap_on_literals}
 use Rattle.uecp_jobs.specs.declared.job.Job.{Job}
 use Rattle.uecp_jobs.specs.declared.job.Job.TheVariants.{Answer, AnswerAs, Show, ShowAs, Make, MakeWords}
-use Rattle.uecp_jobs.specs.declared.job.Job.TheVariants.{Line, LineAs, Encoder, Server}
+use Rattle.uecp_jobs.specs.declared.job.Job.TheVariants.{Line, LineAs, Encoder, Server, Watch}
 use Rattle.uecp_cli.specs.declared.usage.Usage.{Usage}
 use Rattle.uecp_cli.specs.Ranges.{IsInRange, IsPlaceInRange, IsSetupInRange, Lies}
 use Rattle.uecp_cli.specs.Usages.{SaysError}
@@ -72,12 +72,13 @@ asks words m name rows job e f met none is = record {
   is_job = is;
 }
 
--- the words with no fault name one of the six commands
+-- the words with no fault name one of the seven commands
 pub no_other : (words : List Text) (m : ArgMatches) (o : Option Text) → o ≡ subcommand_name_of m
     → subcommand_rows_of m ≡ subcommand_of uecp_app words → fault_of uecp_app words ≡ []
     → (o ≡ Some (codes "answer") → ⊥) → (o ≡ Some (codes "line") → ⊥) → (o ≡ Some (codes "make") → ⊥)
-    → (o ≡ Some (codes "show") → ⊥) → (o ≡ Some (codes "encoder") → ⊥) → (o ≡ Some (codes "server") → ⊥) → ⊥
-no_other words m o e met none no_answer no_line no_make no_show no_encoder no_server =
+    → (o ≡ Some (codes "show") → ⊥) → (o ≡ Some (codes "encoder") → ⊥) → (o ≡ Some (codes "server") → ⊥)
+    → (o ≡ Some (codes "watch") → ⊥) → ⊥
+no_other words m o e met none no_answer no_line no_make no_show no_encoder no_server no_watch =
     let n = one_named words none in
     let name : o ≡ Some n.0.0 = e ∙ name_met (out-ArgMatches m).subcommand ∙ ap (option_map (λ p. p.0)) (met ∙ n.1) in
     elim n.2 [
@@ -86,7 +87,8 @@ no_other words m o e met none no_answer no_line no_make no_show no_encoder no_se
       | inr (inr (inl is)) ↦ no_make (name ∙ ap Some is)
       | inr (inr (inr (inl is))) ↦ no_line (name ∙ ap Some is)
       | inr (inr (inr (inr (inl is)))) ↦ no_encoder (name ∙ ap Some is)
-      | inr (inr (inr (inr (inr is)))) ↦ no_server (name ∙ ap Some is)
+      | inr (inr (inr (inr (inr (inl is))))) ↦ no_server (name ∙ ap Some is)
+      | inr (inr (inr (inr (inr (inr is))))) ↦ no_watch (name ∙ ap Some is)
     ]
 
 pub gives_no_list : (words : List Text) (m : ArgMatches) (name : Text) (rows : List Row) (why : Usage)
@@ -159,5 +161,6 @@ is_in_range name rows (Server site encoder host port tries timeout turns reconne
     )
 is_in_range name rows Show h = tt
 is_in_range name rows (ShowAs form) h = tt
+is_in_range name rows (Watch form time) h = tt
 is_in_range name rows Make h = tt
 is_in_range name rows (MakeWords region) h = tt

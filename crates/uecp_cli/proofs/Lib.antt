@@ -4,3 +4,4 @@ pub mod Asked
 pub mod Ending
 pub mod Helps
 pub mod Examples
+pub mod Watched

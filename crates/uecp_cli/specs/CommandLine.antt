@@ -1,5 +1,5 @@
 -- The command line that the program takes, and what it asks for (profile).
-use Rattle.std.specs.Prelude.{◌≡◌, ◌⊎◌, ℕ, ◌≤◌, ◌==◌, Bool, true, false, List, [], ◌∷◌, ◌++◌, codes, map, Option, Some}
+use Rattle.std.specs.Prelude.{◌≡◌, ◌⊎◌, ℕ, ◌≤◌, ◌==◌, Bool, true, false, not, List, [], ◌∷◌, ◌++◌, codes, map, Option, Some}
 use Rattle.std.specs.Prelude.{None, Ok, is_none, option_map, unwrap_or, pos, if◌then◌else◌}
 use Rattle.std.specs.List.{slice_split}
 use Rattle.std.specs.String.{string_bytes}
@@ -14,7 +14,7 @@ use Rattle.clap.specs.declared.builder.action.ArgAction.TheVariants.{Set, SetTru
 use Rattle.clap.specs.declared.builder.value_parser.ValueParser.TheVariants.{Signed}
 use Rattle.uecp_jobs.specs.declared.job.Job.{Job}
 use Rattle.uecp_jobs.specs.declared.job.Job.TheVariants.{Answer, AnswerAs, Show, ShowAs, Make, MakeWords}
-use Rattle.uecp_jobs.specs.declared.job.Job.TheVariants.{Line, LineAs, Encoder, Server}
+use Rattle.uecp_jobs.specs.declared.job.Job.TheVariants.{Line, LineAs, Encoder, Server, Watch}
 use Rattle.output_forms.specs.declared.form.Form.{Form}
 use Rattle.output_forms.specs.declared.form.Form.TheVariants.{Lines, Words, Json}
 use Rattle.rds_text.specs.declared.programme_type.Region.TheVariants.{Europe, NorthAmerica}
@@ -95,6 +95,10 @@ pub record IsForm (rows : List Row) (form : Form) : Type 0 where
   pub is_plain : IsWording rows plain
   pub is : form ≡ (if json then Json else plain)
 
+-- The time stands before what a read brought, unless the flag against it is set.
+abbrev pub IsTimed : (rows : List Row) → (time : Bool) → Type 0
+IsTimed rows time = (left_out : Bool) × IsFlag (one_of (codes "no-time") rows) left_out × (time ≡ not left_out)
+
 -- The port is that which the matches of a command have.
 abbrev pub IsPort : (rows : List Row) → (port : ℕ) → Type 0
 IsPort rows port = IsOption (one_of (codes "port") rows) 1 65535 port
@@ -138,6 +142,7 @@ IsJobOf name rows Make = (name ≡ codes "make") × IsWording rows Lines
 IsJobOf name rows (MakeWords region) = (name ≡ codes "make") × IsWording rows (Words region)
 IsJobOf name rows Show = (name ≡ codes "show") × IsForm rows Lines
 IsJobOf name rows (ShowAs form) = (name ≡ codes "show") × IsForm rows form
+IsJobOf name rows (Watch form time) = (name ≡ codes "watch") × IsForm rows form × IsTimed rows time
 
 -- ---- the command line that the program takes
 
@@ -207,6 +212,10 @@ store_command name = command_with name (encoder_options ++ flag (codes "store") 
 abbrev pub showing_command : Shape
 showing_command = command_with (codes "show") form_flags
 
+-- The command `watch`.
+abbrev pub watching_command : Shape
+watching_command = command_with (codes "watch") (form_flags ++ flag (codes "no-time") ∷ [])
+
 -- The command `make`.
 abbrev pub making_command : Shape
 making_command = command_with (codes "make") word_flags
@@ -232,12 +241,12 @@ abbrev pub sending_command : Shape
 sending_command = command_with (codes "server") (place_options ++ word_option (codes "host") (Some (codes "127.0.0.1"))
     ∷ port_option ∷ bound_options ++ flag (codes "join") ∷ [])
 
--- The program: it has a version, and one of six commands has to be named.
+-- The program: it has a version, and one of seven commands has to be named.
 abbrev pub uecp_app : App
 uecp_app = record {
   top = record (new_shape (codes "uecp")) { is_leaf = false; has_version = true; subcommand_required = true };
   subs = store_command (codes "answer") ∷ showing_command ∷ making_command
-      ∷ store_command (codes "line") ∷ listening_command ∷ sending_command ∷ [];
+      ∷ store_command (codes "line") ∷ listening_command ∷ sending_command ∷ watching_command ∷ [];
 }
 
 -- The words have no fault, and ask for this job: they name its command, and give its options.

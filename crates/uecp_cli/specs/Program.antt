@@ -1,5 +1,5 @@
 -- How a run of the program ends (profile).
-use Rattle.std.specs.Prelude.{◌≡◌, ◌≢◌, ◌⊎◌, ℕ, List, Option, None, codes}
+use Rattle.std.specs.Prelude.{◌≡◌, ◌≢◌, ◌⊎◌, ℕ, List, Option, None, Ok, Err, codes}
 use Rattle.std.specs.String.{string_bytes}
 use Rattle.clap.specs.Faults.{fault_of}
 use Rattle.clap.specs.Kinds.{IsAmong}
@@ -11,11 +11,12 @@ use Rattle.uecp_text.specs.Faults.{Fails, error_lines}
 use Rattle.uecp_text.specs.Written.{Begins}
 use Rattle.uecp_net.specs.Tcp.{Dials}
 use Rattle.uecp_jobs.specs.declared.job.Job.{Job}
-use Rattle.uecp_jobs.specs.declared.job.Job.TheVariants.{Encoder, Server}
+use Rattle.uecp_jobs.specs.declared.job.Job.TheVariants.{Encoder, Server, Watch}
 use Rattle.uecp_cli.specs.declared.usage.Usage.{Usage}
 use Rattle.uecp_cli.specs.declared.usage.Usage.TheVariants.{Refused, NotAList, OutOfMemory}
 use Rattle.uecp_cli.specs.CommandLine.{uecp_app, Asks, GivesNoList}
 use Rattle.uecp_cli.specs.Unreached.{MaySayUnreached}
+use Rattle.uecp_watch.specs.Watching.{Watches}
 use Rattle.uecp_jobs.specs.Jobs.{IsDone, IsRefused, IsUndescribed, HasFailed}
 use Rattle.uecp_jobs.specs.EncoderRun.{HasServed, HasStopped}
 use Rattle.uecp_jobs.specs.ServerRun.{AreAcknowledged, AreAcknowledgedBefore, AreNotAcknowledged}
@@ -46,11 +47,24 @@ AreMistaken words = (kind : ErrorKind) × IsAmong kind (fault_of uecp_app words)
 abbrev pub no_list_line : List ℕ
 no_list_line = codes "uecp: services: NotAList\n"
 
+-- What came was told as it came, up to its end.
+abbrev pub HasWatched : Job → (unread unread' held held' : Option (List ℕ)) → Type 0
+HasWatched (Watch form time) unread unread' held held' = Watches form time unread unread' held held' (Ok tt)
+HasWatched job unread unread' held held' = ⊥
+
+-- What came was told as it came, until memory, reading or writing failed, and that was said, or begun to be said.
+abbrev pub HasStoppedWatching : Job → (unread unread' held held' told told' : Option (List ℕ)) → Type 0
+HasStoppedWatching (Watch form time) unread unread' held held' told told' =
+    (fault : RunFault) × Fails fault × Watches form time unread unread' held held' (Err fault)
+    × Begins told told' (error_lines fault)
+HasStoppedWatching job unread unread' held held' told told' = ⊥
+
 -- All of the job was done: of its input; or its connections were served, and then no input was read; or its messages
--- were acknowledged.
+-- were acknowledged; or what came was told as it came.
 abbrev pub IsAllDone : Job → (unread unread' held held' : Option (List ℕ)) → Type 0
 IsAllDone job unread unread' held held' = IsDone job unread unread' held held'
-    ⊎ ((HasServed job held held' × (unread' ≡ unread)) ⊎ AreAcknowledged job unread unread' held held')
+    ⊎ ((HasServed job held held' × (unread' ≡ unread))
+    ⊎ (AreAcknowledged job unread unread' held held' ⊎ HasWatched job unread unread' held held'))
 
 -- The words ask for a job, and it was done.
 abbrev pub HasDone : (words : List (List ℕ)) → (unread unread' held held' : Option (List ℕ)) → Type 0
@@ -69,12 +83,13 @@ HasRefused words unread unread' held held' told told' =
 
 -- The job came to no end, and that was said: memory, reading or writing failed, and what was written is a beginning of
 -- what the job writes of its input; or not all its messages were sent or told, and where a connection could not be made
--- the next line says why; or connections could not be served, and no input was read.
+-- the next line says why; or connections could not be served, and no input was read; or watching stopped.
 abbrev pub HasNotEnded : Job → (unread unread' held held' told told' : Option (List ℕ)) → Type 0
 HasNotEnded job unread unread' held held' told told' =
     HasFailed job unread unread' held held' told told'
     ⊎ (((between : Option (List ℕ)) × AreNotAcknowledged job unread unread' held held' told between
-    × MaySayUnreached job between told') ⊎ (HasStopped job held held' told told' × (unread' ≡ unread)))
+    × MaySayUnreached job between told') ⊎ ((HasStopped job held held' told told' × (unread' ≡ unread))
+    ⊎ HasStoppedWatching job unread unread' held held' told told'))
 
 -- The words ask for a job, and it came to no end.
 abbrev pub HasBrokenOff : (words : List (List ℕ)) → (unread unread' held held' told told' : Option (List ℕ)) → Type 0

@@ -2,7 +2,7 @@
 use Rattle.std.specs.Prelude.{ℕ, ◌≤◌}
 use Rattle.uecp_jobs.specs.declared.job.Job.{Job}
 use Rattle.uecp_jobs.specs.declared.job.Job.TheVariants.{Answer, AnswerAs, Show, ShowAs, Make, MakeWords}
-use Rattle.uecp_jobs.specs.declared.job.Job.TheVariants.{Line, LineAs, Encoder, Server}
+use Rattle.uecp_jobs.specs.declared.job.Job.TheVariants.{Line, LineAs, Encoder, Server, Watch}
 
 -- A number lies from the least to the greatest.
 abbrev pub Lies : (least greatest number : ℕ) → Type 0
@@ -29,5 +29,6 @@ IsInRange (Server site encoder host port tries timeout turns reconnects window j
     × Lies 0 100 reconnects × Lies 1 8 window
 IsInRange Show = Unit {0}
 IsInRange (ShowAs form) = Unit {0}
+IsInRange (Watch form time) = Unit {0}
 IsInRange Make = Unit {0}
 IsInRange (MakeWords region) = Unit {0}

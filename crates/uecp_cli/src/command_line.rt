@@ -6,10 +6,10 @@ ghost use Rattle.clap.specs.Simple.{Shape, new_shape};
 ghost use Rattle.uecp_cli.specs.Ranges.{IsInRange};
 ghost use Rattle.uecp_cli.specs.CommandLine.{Asks, RefusesWords, command_with, place_options, encoder_options};
 ghost use Rattle.uecp_cli.specs.CommandLine.{store_command, showing_command, making_command, listening_command};
-ghost use Rattle.uecp_cli.specs.CommandLine.{sending_command, flag, uecp_app};
+ghost use Rattle.uecp_cli.specs.CommandLine.{sending_command, watching_command, flag, uecp_app};
 
 use crate::arguments::{flag, host, number, services};
-use crate::matched::{answer_of, encoder_of, line_of, make_of, server_of, show_of};
+use crate::matched::{answer_of, encoder_of, line_of, make_of, server_of, show_of, watch_of};
 use crate::numbers::{
     CONNECTIONS, ENCODER, PORT, RECONNECTS, SERVE_TURNS, SETS, SITE, TIMEOUT, TRIES, TRY_TURNS,
     WINDOW,
@@ -23,7 +23,7 @@ const VERSION: &str = "0.1.0";
 
 /// What the exit statuses say, below the list of commands.
 const STATUSES: &str =
-    "Each command but encoder reads standard input to its end, at most 1 MiB (1,048,576 bytes).\n'uecp COMMAND --help' has its options and an example.\nExit status: 0 done, 1 an input line was refused, 2 the command line or the services were refused,\n3 memory, reading, writing or a connection failed.";
+    "Each command but encoder reads standard input to its end, at most 1 MiB (1,048,576 bytes);\nwatch tells what comes at once, and has no limit.\n'uecp COMMAND --help' has its options and an example.\nExit status: 0 done, 1 an input line was refused, 2 the command line or the services were refused,\n3 memory, reading, writing or a connection failed.";
 
 /// Reads the words of a command line, the first being the program's name.
 pub fn parse(alloc: Global, words: &[String]) -> Result<Job, Usage>
@@ -41,6 +41,7 @@ pub fn parse(alloc: Global, words: &[String]) -> Result<Job, Usage>
         Some(("server", found)) => server_of(alloc, found),
         Some(("make", found)) => Ok(make_of(found)),
         Some(("show", found)) => Ok(show_of(found)),
+        Some(("watch", found)) => Ok(watch_of(found)),
         _ => unreachable!(),
     }
 }
@@ -60,7 +61,8 @@ pub fn program<'a>(alloc: Global) -> Result<Command<'a>, AllocError>
         .subcommand(make_command(alloc)?)?
         .subcommand(line_command(alloc)?)?
         .subcommand(encoder_command(alloc)?)?
-        .subcommand(server_command(alloc)?)
+        .subcommand(server_command(alloc)?)?
+        .subcommand(watch_command(alloc)?)
 }
 
 fn answer_command<'a>(alloc: Global) -> Result<Command<'a>, AllocError>
@@ -81,6 +83,19 @@ fn show_command<'a>(alloc: Global) -> Result<Command<'a>, AllocError>
         .about("Show the frames and elements in hexadecimal pieces, one a line")
         .after_help("Example: echo FE00410105010000C20167A8FF | uecp show --words");
     with_words(alloc, command)?.arg(json(alloc))
+}
+
+fn watch_command<'a>(alloc: Global) -> Result<Command<'a>, AllocError>
+    ensures { IfOk result (λ command. shape_of command ≡ watching_command) }
+{
+    let command = Command::new(alloc, "watch")
+        .about("Tell what stands in the raw bytes of a control line, as they come")
+        .after_help("Example: socat -u /dev/ttyUSB0,b9600,raw - | uecp watch --words");
+    with_words(alloc, command)?.arg(json(alloc))?.arg(flag(
+        alloc,
+        "no-time",
+        "Without the time before what was read",
+    ))
 }
 
 fn make_command<'a>(alloc: Global) -> Result<Command<'a>, AllocError>

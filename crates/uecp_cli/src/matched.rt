@@ -131,6 +131,16 @@ pub fn show_of(found: &ArgMatches<'_>) -> Job
     }
 }
 
+/// The job of the command `watch`.
+pub fn watch_of(found: &ArgMatches<'_>) -> Job
+    ensures { IsJobOf (codes "watch") (rows_of (found_of found.now)) result }
+{
+    Job::Watch {
+        form: form_of(found),
+        time: !flag_of(found, "no-time"),
+    }
+}
+
 /// The job of the command `make`.
 pub fn make_of(found: &ArgMatches<'_>) -> Job
     ensures { IsJobOf (codes "make") (rows_of (found_of found.now)) result }

@@ -1,7 +1,11 @@
 //! The program from its words to its exit status (profile).
-ghost use Rattle.std.specs.Prelude.{◌≡◌, ◌≢◌, ◌⊎◌, ◌≤◌, map, IfErr};
+ghost use Rattle.std.specs.Prelude.{◌≡◌, ◌≢◌, ◌⊎◌, ◌≤◌, map, is_some, Ok, Err, IfErr};
 ghost use Rattle.std.specs.String.{string_bytes};
+ghost use Rattle.uecp_text.specs.declared.run_fault.RunFault.{RunFault};
 ghost use Rattle.uecp_text.specs.declared.run_fault.RunFault.TheVariants.{Writing};
+ghost use Rattle.uecp_text.specs.Faults.{Fails, error_lines};
+ghost use Rattle.uecp_text.specs.Written.{Begins};
+ghost use Rattle.uecp_watch.specs.Watching.{Watches};
 ghost use Rattle.uecp_jobs.specs.EncoderRun.{IsEncoder};
 ghost use Rattle.uecp_jobs.specs.Jobs.{IsUndescribed};
 ghost use Rattle.uecp_jobs.specs.ServerRun.{IsServer};
@@ -16,14 +20,21 @@ use clap::Error;
 use std::alloc::Global;
 use std::io::{Read, Write};
 use std::net::{Net, TcpListener, TcpStream};
-use uecp_jobs::{Job, fail, run_encoder, run_job, run_server};
+use std::time::Clock;
+use uecp_jobs::{Form, Job, fail, run_encoder, run_job, run_server};
 use uecp_net::{Dialing, Local};
 use uecp_text::RunFault;
+use uecp_watch::watch;
 
 /// Does what the words of a command line ask for, the first being the program's name, and answers the exit status: 0
 /// done, 1 a line of input was refused, 2 the words or the services were refused, 3 memory, reading, writing or a
 /// connection failed.
-pub fn run_words<R: Read, W: Write, E: Write, N: Net<Listener = TcpListener, Stream = TcpStream>>(
+pub fn run_words<
+    R: Read,
+    W: Write,
+    E: Write,
+    N: Net<Listener = TcpListener, Stream = TcpStream> + Clock,
+>(
     alloc: Global,
     words: &[String],
     reader: &mut R,
@@ -58,7 +69,12 @@ pub fn run_words<R: Read, W: Write, E: Write, N: Net<Listener = TcpListener, Str
 }
 
 /// Does the job, over TCP where it is that of a command with connections, and answers the exit status.
-fn run_any<R: Read, W: Write, E: Write, N: Net<Listener = TcpListener, Stream = TcpStream>>(
+fn run_any<
+    R: Read,
+    W: Write,
+    E: Write,
+    N: Net<Listener = TcpListener, Stream = TcpStream> + Clock,
+>(
     alloc: Global,
     job: &Job,
     reader: &mut R,
@@ -89,7 +105,33 @@ fn run_any<R: Read, W: Write, E: Write, N: Net<Listener = TcpListener, Stream = 
             }
             status
         }
+        Job::Watch { form, time } => {
+            let clock = if *time { Some(net) } else { None };
+            run_watch(alloc, *form, clock, reader, writer, errors)
+        }
         _ => run_job(alloc, job, reader, writer, errors),
+    }
+}
+
+/// Tells what comes as it comes, and answers the exit status.
+fn run_watch<R: Read, W: Write, E: Write, C: Clock>(
+    alloc: Global,
+    form: Form,
+    clock: Option<&C>,
+    reader: &mut R,
+    writer: &mut W,
+    errors: &mut E,
+) -> u8
+    ensures status { (result ≡ 0) ⊎ (result ≡ 3) }
+    ensures done { result ≡ 0 → Watches form (is_some clock.entry) (R.remaining reader.old) (R.remaining reader.new)
+        (W.contents writer.old) (W.contents writer.new) (Ok tt) × (errors.new ≡ errors.old) }
+    ensures failed { result ≡ 3 → (fault : RunFault) × Fails fault × Watches form (is_some clock.entry)
+        (R.remaining reader.old) (R.remaining reader.new) (W.contents writer.old) (W.contents writer.new) (Err fault)
+        × Begins (E.contents errors.old) (E.contents errors.new) (error_lines fault) }
+{
+    match watch(alloc, form, clock, reader, writer) {
+        Ok(()) => 0,
+        Err(fault) => fail(&fault, errors),
     }
 }
 

@@ -19,7 +19,7 @@ use Rattle.uecp_jobs.specs.declared.frame_script.Making.{Making}
 use Rattle.uecp_jobs.specs.declared.showing.Showing.{Showing}
 use Rattle.uecp_jobs.specs.declared.job.Job.{Job}
 use Rattle.uecp_jobs.specs.declared.job.Job.TheVariants.{Answer, AnswerAs, Show, ShowAs, Make, MakeWords, Line}
-use Rattle.uecp_jobs.specs.declared.job.Job.TheVariants.{LineAs, Encoder, Server}
+use Rattle.uecp_jobs.specs.declared.job.Job.TheVariants.{LineAs, Encoder, Server, Watch}
 use Rattle.output_forms.specs.declared.form.Form.{Form}
 use Rattle.uecp_jobs.specs.Commands.{ShowsIn, Shows, AnswersIn, Answers}
 use Rattle.output_forms.specs.Forms.{found_lines, answer_lines, store_lines}
@@ -59,6 +59,7 @@ pub setup_refused : (job : Job) (o : Options) (fault : RunFault) → Describes j
     → RefusesJob job fault
 setup_refused Show o fault is refused = absurd is
 setup_refused (ShowAs form) o fault is refused = absurd is
+setup_refused (Watch form time) o fault is refused = absurd is
 setup_refused Make o fault is refused = absurd is
 setup_refused (MakeWords region) o fault is refused = absurd is
 setup_refused (AnswerAs site encoder sets services store form) o fault is refused =
@@ -191,6 +192,7 @@ from_command (AnswerAs site encoder sets services store form) tells P follows to
 from_command (Answer site encoder sets services store) tells P follows told = follows _ _ _ _ told
 from_command (Line site encoder sets services store) tells P follows told = follows _ _ _ _ told
 from_command (LineAs site encoder sets services store form) tells P follows told = follows _ _ _ _ told
+from_command (Watch form time) tells P follows told = absurd told
 from_command (Server site encoder host port tries timeout turns reconnects window join) tells P follows told =
     absurd told
 from_command (Encoder site encoder sets services port connections turns) tells P follows told = absurd told
@@ -214,6 +216,7 @@ of_local (AnswerAs site encoder sets services store form) local tells told = tol
 of_local (Answer site encoder sets services store) local tells told = told _ _ _ _
 of_local (Line site encoder sets services store) local tells told = told _ _ _ _
 of_local (LineAs site encoder sets services store form) local tells told = told _ _ _ _
+of_local (Watch form time) local tells told = absurd local
 of_local (Server site encoder host port tries timeout turns reconnects window join) local tells told = absurd local
 of_local (Encoder site encoder sets services port connections turns) local tells told = absurd local
 
@@ -247,6 +250,7 @@ prints_status (Line site encoder sets services store) input written fault (v', r
     stop_status Plays _ v' (texts_of input) written fault ran is
 prints_status (LineAs site encoder sets services store form) input written fault (v', ran) is =
     stop_status (PlaysIn form) _ v' (texts_of input) written fault ran is
+prints_status (Watch form time) input written fault prints is = absurd prints
 prints_status (Server site encoder host port tries timeout turns reconnects window join) input written fault prints is =
     absurd prints
 prints_status (Encoder site encoder sets services port connections turns) input written fault prints is = absurd prints
@@ -282,6 +286,7 @@ local_status (Line site encoder sets services store) local input written fault (
     no_end Plays (λ v text lines v' ended. ended) _ v' (texts_of input) written fault ran is
 local_status (LineAs site encoder sets services store form) local input written fault (v', ran) is =
     no_end (PlaysIn form) (λ v text lines v' ended. ended) _ v' (texts_of input) written fault ran is
+local_status (Watch form time) local input written fault prints is = local
 local_status (Server site encoder host port tries timeout turns reconnects window join) local input written fault prints
     is = local
 local_status (Encoder site encoder sets services port connections turns) local input written fault prints is = local
@@ -305,6 +310,7 @@ job_wants : (job : Job) → IsLocal job → (fault : RunFault) → RefusesJob jo
     → fault ≡ run.OutOfMemory
 job_wants Show local fault refused is = absurd refused
 job_wants (ShowAs form) local fault refused is = absurd refused
+job_wants (Watch form time) local fault refused is = absurd refused
 job_wants Make local fault refused is = absurd refused
 job_wants (MakeWords region) local fault refused is = absurd refused
 job_wants (AnswerAs site encoder sets services store form) local fault refused is =
@@ -345,6 +351,7 @@ says_status o fault (inr (address, none, apart)) is = let two : 2 ≡ 1 = sym (a
 pub job_status : (job : Job) (fault : RunFault) → RefusesJob job fault → status_of fault ≡ 1 → ⊥
 job_status Show fault refused is = refused
 job_status (ShowAs form) fault refused is = refused
+job_status (Watch form time) fault refused is = refused
 job_status Make fault refused is = refused
 job_status (MakeWords region) fault refused is = refused
 job_status (AnswerAs site encoder sets services store form) fault refused is =

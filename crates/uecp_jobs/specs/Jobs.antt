@@ -4,7 +4,7 @@ use Rattle.std.specs.Io.KnownBytes.{Appends}
 use Rattle.uecp_frame.specs.Findings.{Closed}
 use Rattle.uecp_jobs.specs.declared.job.Job.{Job}
 use Rattle.uecp_jobs.specs.declared.job.Job.TheVariants.{Answer, AnswerAs, Show, ShowAs, Make, MakeWords}
-use Rattle.uecp_jobs.specs.declared.job.Job.TheVariants.{Line, LineAs, Encoder, Server}
+use Rattle.uecp_jobs.specs.declared.job.Job.TheVariants.{Line, LineAs, Encoder, Server, Watch}
 use Rattle.uecp_text.specs.declared.run_fault.RunFault.{RunFault}
 use Rattle.uecp_text.specs.Faults.{status_of, error_lines}
 use Rattle.uecp_text.specs.Written.{Begins}
@@ -26,6 +26,7 @@ options site encoder sets services = record { site = site; encoder = encoder; se
 abbrev pub HasEncoder : Job → Type 0
 HasEncoder Show = ⊥
 HasEncoder (ShowAs form) = ⊥
+HasEncoder (Watch form time) = ⊥
 HasEncoder Make = ⊥
 HasEncoder (MakeWords region) = ⊥
 HasEncoder (Server site encoder host port tries timeout turns reconnects window join) = ⊥
@@ -40,14 +41,15 @@ Describes (LineAs site encoder sets services store form) o = o ≡ options site 
 Describes (Encoder site encoder sets services port connections turns) o = o ≡ options site encoder sets services.items
 Describes job o = ⊥
 
--- The job is that of a command without a connection.
+-- The job is that of a command without a connection that reads its input to the end before it writes.
 abbrev pub IsLocal : Job → Type 0
+IsLocal (Watch form time) = ⊥
 IsLocal (Encoder site encoder sets services port connections turns) = ⊥
 IsLocal (Server site encoder host port tries timeout turns reconnects window join) = ⊥
 IsLocal job = Unit {0}
 
 -- What is told of a job by its command: by what texts mean to it, the value that it begins with, and its closing lines.
--- The jobs with connections are told of apart.
+-- The jobs with connections, and the one that tells as it reads, are told of apart.
 abbrev pub ByCommand : Job → ((V : Type 0) → Meaning V → (start : V) → (closing : V → List ℕ) → Type 0) → Type 0
 ByCommand Show tells = tells _ Shows Closed (λ part. [])
 ByCommand (ShowAs form) tells = tells _ (ShowsIn (found_lines form)) Closed (λ part. [])
@@ -63,6 +65,7 @@ ByCommand (Line site encoder sets services store) tells =
     tells _ Plays (line_at_first (options site encoder sets services.items)) (closing_lines Lines store)
 ByCommand (LineAs site encoder sets services store form) tells =
     tells _ (PlaysIn form) (line_at_first (options site encoder sets services.items)) (closing_lines form store)
+ByCommand (Watch form time) tells = ⊥
 ByCommand (Server site encoder host port tries timeout turns reconnects window join) tells = ⊥
 ByCommand (Encoder site encoder sets services port connections turns) tells = ⊥
 
@@ -82,6 +85,7 @@ JobBreaks job unread unread' held held' fault = ByCommand job
 abbrev pub IsDescribed : Job → Type 0
 IsDescribed Show = Unit {0}
 IsDescribed (ShowAs form) = Unit {0}
+IsDescribed (Watch form time) = Unit {0}
 IsDescribed Make = Unit {0}
 IsDescribed (MakeWords region) = Unit {0}
 IsDescribed (Answer site encoder sets services store) = IsSetup (options site encoder sets services.items)
@@ -96,6 +100,7 @@ IsDescribed (Server site encoder host port tries timeout turns reconnects window
 abbrev pub RefusesJob : Job → RunFault → Type 0
 RefusesJob Show fault = ⊥
 RefusesJob (ShowAs form) fault = ⊥
+RefusesJob (Watch form time) fault = ⊥
 RefusesJob Make fault = ⊥
 RefusesJob (MakeWords region) fault = ⊥
 RefusesJob (Answer site encoder sets services store) fault =

@@ -41,6 +41,13 @@ pub enum Job {
         /// The form.
         form: Form,
     },
+    /// What stands in the raw bytes on standard input, told as they come.
+    Watch {
+        /// The form.
+        form: Form,
+        /// Whether a line with the time stands before what a read brought.
+        time: bool,
+    },
     /// The frames of the script on standard input.
     Make,
     /// The frames of the phrase script on standard input.

@@ -108,7 +108,7 @@ fn do_job<R: Read, W: Write>(
             let mut playing = Playing::new(alloc, &setup, asked)?;
             run(alloc, reader, &mut playing, writer)
         }
-        Job::Encoder { .. } | Job::Server { .. } => unreachable!(),
+        Job::Watch { .. } | Job::Encoder { .. } | Job::Server { .. } => unreachable!(),
     }
 }
 

@@ -74,9 +74,12 @@ pub(crate) fn setup_of(job: &Job) -> Setup<'_>
             sets: *sets,
             services: services.as_slice(),
         },
-        Job::Show | Job::ShowAs { .. } | Job::Make | Job::MakeWords { .. } | Job::Server { .. } => {
-            unreachable!()
-        }
+        Job::Show
+        | Job::ShowAs { .. }
+        | Job::Watch { .. }
+        | Job::Make
+        | Job::MakeWords { .. }
+        | Job::Server { .. } => unreachable!(),
     }
 }
 

@@ -145,6 +145,20 @@ returns-in-Some-show-default-clause-asked c =
     none
     (subst (λ name. IsJobOf name rows c.show_of.result) (sym now.is-show) c.show_of.ensures)
 
+pub returns-in-Some-watch-default-clause-range : goal.returns-in-Some-watch-default-clause-range
+returns-in-Some-watch-default-clause-range c = is_in_range _ _ c.watch_of.result c.watch_of.ensures
+
+pub returns-in-Some-watch-default-clause-asked : goal.returns-in-Some-watch-default-clause-asked
+returns-in-Some-watch-default-clause-asked c =
+    let words = map string_bytes c.args.words.now in
+    let now = c.in-Some-watch-default in
+    let rows = rows_of (found_of now.found.now) in
+    let met = met_of _ words c.in_ok-matches.matches c.in_ok-program.ensures c.in_ok-matches.ensures.matches in
+    let none = faultless_of _ words c.in_ok-program.ensures c.in_ok-matches.ensures.kinds in
+    asks words c.in_ok-matches.matches now.field-0-0.now rows c.watch_of.result now.ensures.name now.ensures.rows met
+    none
+    (subst (λ name. IsJobOf name rows c.watch_of.result) (sym now.is-watch) c.watch_of.ensures)
+
 pub unreachable-requires : goal.unreachable-requires
 unreachable-requires c =
     let words = map string_bytes c.args.words.now in
@@ -155,7 +169,7 @@ unreachable-requires c =
       | goal.in_default-via-in-Some+in_default w ↦
           no_other words c.in_ok-matches.matches name c.subcommand.ensures.name met none
           (λ e. search rules) (λ e. search rules) (λ e. search rules) (λ e. search rules) (λ e. search rules)
-          (λ e. search rules)
+          (λ e. search rules) (λ e. search rules)
       | goal.in_default-via-in_default w ↦
           no_other words c.in_ok-matches.matches name c.subcommand.ensures.name met none
           (none_named _ c.subcommand.result (codes "answer") w.in_default.is)
@@ -164,4 +178,5 @@ unreachable-requires c =
           (none_named _ c.subcommand.result (codes "show") w.in_default.is)
           (none_named _ c.subcommand.result (codes "encoder") w.in_default.is)
           (none_named _ c.subcommand.result (codes "server") w.in_default.is)
+          (none_named _ c.subcommand.result (codes "watch") w.in_default.is)
     ]

@@ -10,7 +10,7 @@ returns-in-Encoder-clause-failed g c = λ three.
     let ended = rw is at (c.run_encoder.ensures.failed three) in
     elim ended.serves [
       | inl (listening, (is_setup, (outcomes, e', last, fewer, sessions, none, appends))) ↦
-          inr (inr (
+          inr (inr (inl (
             rw is (
               ended.fault,
               ap status_of listening,
@@ -22,7 +22,8 @@ returns-in-Encoder-clause-failed g c = λ three.
               ended.said,
             ),
             refl,
-          ))
+          )))
       | inr (fails, (outcomes, e', few, sessions, begun)) ↦ inr
-          (inr (rw is (ended.fault, not_failed ended.fault _ fails refl, (outcomes, few, begun), ended.said), refl))
+          (inr (inl
+          (rw is (ended.fault, not_failed ended.fault _ fails refl, (outcomes, few, begun), ended.said), refl)))
     ]
