@@ -27,6 +27,10 @@ no_counts = record { fresh = 0; repeats = 0; not_for_me = 0; unnumbered = 0; dro
 abbrev pub opening : {V : Type 0} → ℕ → V → EncoderState V
 opening address value = record { address = address; value = value; ring = []; counts = no_counts; part = Closed }
 
+-- an encoder that starts again from what it kept: its open part and its counts are new, and nothing else changes
+abbrev pub restarted : {V : Type 0} → EncoderState V → EncoderState V
+restarted e = record e { counts = no_counts; part = Closed }
+
 -- a count rises by one, and stays at its greatest value
 abbrev pub raised : ℕ → ℕ
 raised n = min (n + 1) (2 ^ 64 - 1)

@@ -6,7 +6,7 @@ ghost use Rattle.std.specs.Io.BufRead.{Rests};
 ghost use Rattle.uecp_frame.specs.Address.{is_exact};
 ghost use Rattle.uecp_frame.specs.Findings.{Closed};
 ghost use Rattle.uecp_frame.specs.Frame.{spelling};
-ghost use Rattle.uecp_encoder.specs.State.{opening, fed};
+ghost use Rattle.uecp_encoder.specs.State.{opening, restarted, fed};
 ghost use Rattle.uecp_encoder.specs.Answering.{AnswersPiece, Replied, reply_of, responses_to};
 ghost use Rattle.uecp_encoder.specs.ReplyCodes.{replies};
 ghost use Rattle.uecp_encoder.specs.contracts.encoder.Encoder.{the_row};
@@ -161,6 +161,23 @@ impl<T: Target> Encoder<T> {
         ensures { self.new ≡ record self.old { part = Closed } }
     {
         self.deframer.line_lost();
+    }
+
+    /// Starts again, and goes on from what it kept, as after a crash: a segment that has not ended is forgotten and
+    /// nothing is counted. Nothing else changes: the address, the target and the kept replies stay, so that a message
+    /// which was applied before is still known. How they are kept is not the encoder's matter.
+    ///
+    /// ```
+    /// encoder.feed(&frame); // What::Reply(bytes, true)
+    /// encoder.restart();
+    /// let answer = encoder.feed(&frame); // What::Reply(bytes, false): the same bytes
+    /// ```
+    pub fn restart(&mut self)
+        ensures { self.new ≡ restarted self.old }
+    {
+        self.line_lost();
+        let counts = &mut self.holdings.counts;
+        *counts = Counts::default();
     }
 
     /// Takes from the target the group that is to go out next, or None where it has none. Nothing but the target
