@@ -8,8 +8,8 @@ use Rattle.std.proofs.lemmas.Bool.{cases_eq, eqb-true, ne_eqb}
 use Rattle.uecp_elements.specs.declared.code.Code.{Code}
 use Rattle.uecp_encoder.specs.Target.{Step, Taken}
 use Rattle.uecp_link.specs.Once.{Event, Submit, FrameComes, ReplyComes, NoiseToEncoder, NoiseToServer, EncoderLost}
-use Rattle.uecp_link.specs.Once.{ServerLost, Take, Once, message_at, Delivered, NotNext, with_code, after, applied_once}
-use Rattle.uecp_link.specs.Once.{delivered, delivery, answer_of}
+use Rattle.uecp_link.specs.Once.{ServerLost, EncoderRestart, ServerRestart, Take, Once, message_at, Delivered, NotNext}
+use Rattle.uecp_link.specs.Once.{with_code, after, applied_once, delivered, delivery, answer_of}
 use Rattle.uecp_link.specs.Once.{is_next as is_next_number}
 use Rattle.uecp_link.specs.History.{Act, Message, Taking, act_of, messages_in, numbers_below}
 use Rattle.uecp_link.specs.Fold.{value_after, codes_after}
@@ -173,6 +173,10 @@ module _ {V : Type 0} (step : Step V) (taken : Taken V) (opening : V) where
   folded o p acts EncoderLost next le f = folded_nothing (after step taken o EncoderLost) p acts
       (record { order = f.order; value = f.value; codes = f.codes })
   folded o p acts ServerLost next le f = folded_nothing (after step taken o ServerLost) p acts
+      (record { order = f.order; value = f.value; codes = f.codes })
+  folded o p acts EncoderRestart next le f = folded_nothing (after step taken o EncoderRestart) p acts
+      (record { order = f.order; value = f.value; codes = f.codes })
+  folded o p acts ServerRestart next le f = folded_nothing (after step taken o ServerRestart) p acts
       (record { order = f.order; value = f.value; codes = f.codes })
   folded o p acts Take next le f = record {
     order = messages_in-append acts (Taking ∷ []) ∙ (ap (λ ks. ks ++ []) f.order ∙ append-nil (numbers_below p));

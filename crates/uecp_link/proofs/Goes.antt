@@ -11,16 +11,17 @@ use Rattle.uecp_encoder.specs.State.{EncoderState, fed}
 use Rattle.uecp_link.specs.Counters.{counter_of}
 use Rattle.uecp_link.specs.Server.{ServerState, is_marked, heard}
 use Rattle.uecp_link.specs.Once.{Event, Submit, FrameComes, ReplyComes, NoiseToEncoder, NoiseToServer, EncoderLost}
-use Rattle.uecp_link.specs.Once.{ServerLost, Take, Once, message_at, with_code, refusal_of, after, applied_once}
-use Rattle.uecp_link.specs.Once.{delivered}
+use Rattle.uecp_link.specs.Once.{ServerLost, EncoderRestart, ServerRestart, Take, Once, message_at, with_code}
+use Rattle.uecp_link.specs.Once.{refusal_of, after, applied_once, delivered}
 use Rattle.uecp_link.specs.Once.{is_next as is_next_number}
 use Rattle.uecp_link.specs.Law.{encoder_after, server_after, reply_bytes, Fits}
 use Rattle.uecp_link.specs.Kept.{pairs, last_counter, code_at, held_from, Kept, Hears}
 use Rattle.uecp_link.specs.Holds.{LineState, let_go, is_acknowledged, once_of, IsLine, Holds}
 use Rattle.uecp_link.specs.Next.{line_next, codes_with, codes_next, Passes}
 use Rattle.uecp_link.proofs.Steps.{keeps_submit, keeps_frame, keeps_reply, keeps_noise_to_encoder}
-use Rattle.uecp_link.proofs.Steps.{keeps_noise_to_server, keeps_encoder_lost, keeps_server_lost, keeps_take, keeps}
-use Rattle.uecp_link.proofs.Steps.{hears_after, one_more, applied_after, let_go_is, acknowledged_are}
+use Rattle.uecp_link.proofs.Steps.{keeps_noise_to_server, keeps_encoder_lost, keeps_server_lost, keeps_encoder_restart}
+use Rattle.uecp_link.proofs.Steps.{keeps_server_restart, keeps_take, keeps, hears_after, one_more, applied_after}
+use Rattle.uecp_link.proofs.Steps.{let_go_is, acknowledged_are}
 use Rattle.uecp_link.proofs.Least.{next_number}
 use Rattle.uecp_link.proofs.Folding.{slice_get-push}
 
@@ -109,6 +110,8 @@ module _ {V : Type 0} (step : Step V) (taken : Taken V) where
   encoder_same a o o' e (NoiseToServer x) h = refl
   encoder_same a o o' e EncoderLost h = refl
   encoder_same a o o' e ServerLost h = refl
+  encoder_same a o o' e EncoderRestart h = refl
+  encoder_same a o o' e ServerRestart h = refl
   encoder_same a o o' e Take h = refl
 
   pub server_same : (a : ℕ) (o o' : Once V) (s : ServerState) (event : Event) → ((k : ℕ) → o.codes k ≡ o'.codes k)
@@ -120,6 +123,8 @@ module _ {V : Type 0} (step : Step V) (taken : Taken V) where
   server_same a o o' s (NoiseToServer x) h = refl
   server_same a o o' s EncoderLost h = refl
   server_same a o o' s ServerLost h = refl
+  server_same a o o' s EncoderRestart h = refl
+  server_same a o o' s ServerRestart h = refl
   server_same a o o' s Take h = refl
 
   sent_same : (line : LineState V) (o : Once V) (event : Event) → line.sent ≡ o.sent
@@ -139,6 +144,8 @@ module _ {V : Type 0} (step : Step V) (taken : Taken V) where
   sent_same line o (NoiseToServer x) h = h
   sent_same line o EncoderLost h = h
   sent_same line o ServerLost h = h
+  sent_same line o EncoderRestart h = h
+  sent_same line o ServerRestart h = h
   sent_same line o Take h = h
 
   codes_same : (line : LineState V) (o : Once V) (event : Event) → line.sent ≡ o.sent → line.encoder.value ≡ o.value
@@ -182,6 +189,8 @@ module _ {V : Type 0} (step : Step V) (taken : Taken V) where
   codes_same line o (NoiseToServer x) sent value h next = (h, refl)
   codes_same line o EncoderLost sent value h next = (h, refl)
   codes_same line o ServerLost sent value h next = (h, refl)
+  codes_same line o EncoderRestart sent value h next = (h, refl)
+  codes_same line o ServerRestart sent value h next = (h, refl)
   codes_same line o Take sent value h next = (h, refl)
 
   -- the line goes on as the once-machine does
@@ -243,6 +252,16 @@ module _ {V : Type 0} (step : Step V) (taken : Taken V) where
   passed_keeps line ServerLost fit pass is = (
     let_go line,
     keeps_server_lost step taken line.encoder.address line.encoder line.server (once_of line) (length line.codes)
+        (let_go line) is,
+  )
+  passed_keeps line EncoderRestart fit pass is = (
+    let_go line,
+    keeps_encoder_restart step taken line.encoder.address line.encoder line.server (once_of line) (length line.codes)
+        (let_go line) is,
+  )
+  passed_keeps line ServerRestart fit pass is = (
+    let_go line,
+    keeps_server_restart step taken line.encoder.address line.encoder line.server (once_of line) (length line.codes)
         (let_go line) is,
   )
   passed_keeps line Take fit pass is = (

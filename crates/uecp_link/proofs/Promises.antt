@@ -10,7 +10,8 @@ use Rattle.uecp_link.specs.declared.stepped.Stepped.{Stepped}
 use Rattle.uecp_link.specs.declared.refusal.LineRefusal.{LineRefusal}
 use Rattle.uecp_link.specs.declared.refusal.LineRefusal.TheVariants as line_refusal
 use Rattle.uecp_link.specs.Once.{Event, Submit, FrameComes, ReplyComes, NoiseToEncoder, NoiseToServer, EncoderLost}
-use Rattle.uecp_link.specs.Once.{ServerLost, Take, Once, Noise, Refusal, HoldsAFrame, refusal_of, after, answer_of}
+use Rattle.uecp_link.specs.Once.{ServerLost, EncoderRestart, ServerRestart, Take, Once, Noise, Refusal}
+use Rattle.uecp_link.specs.Once.{HoldsAFrame, refusal_of, after, answer_of}
 use Rattle.uecp_link.specs.Law.{Fits}
 use Rattle.uecp_link.specs.Events.{Refuses}
 use Rattle.uecp_link.specs.Holds.{LineState, once_of, Holds, StepsAs}
@@ -110,6 +111,8 @@ accepted line o (NoiseToServer x) h p = refusal_none (is_quiet (o.to_server ++ x
     (quiet_on o.to_server x line.server.part h.open_parts.server h.open_parts.server_quiet false p)
 accepted line o EncoderLost h p = refl
 accepted line o ServerLost h p = refl
+accepted line o EncoderRestart h p = refl
+accepted line o ServerRestart h p = refl
 accepted line o Take h p = refl
 
 answered : {V : Type 0} (step : Step V) (taken : Taken V) (line : LineState V) (o : Once V) (event : Event)
@@ -125,6 +128,8 @@ answered step taken line o (NoiseToServer x) h =
     ap (λ n. Noise n) (noise_counted o.to_server x line.server.part h.open_parts.server)
 answered step taken line o EncoderLost h = refl
 answered step taken line o ServerLost h = refl
+answered step taken line o EncoderRestart h = refl
+answered step taken line o ServerRestart h = refl
 answered step taken line o Take h = ap (λ (x : Once _). answer_of step taken x Take) (same_once line o h)
 
 pub goes_promise : {V : Type 0} (step : Step V) (taken : Taken V) (line line' : LineState V) (event : Event)
@@ -174,4 +179,6 @@ stops_promise line (NoiseToServer x) refusal r o h =
     (quiet_on o.to_server x line.server.part h.open_parts.server h.open_parts.server_quiet true r.1))
 stops_promise line EncoderLost refusal r o h = refused_same (once_of line) o EncoderLost refl refusal r
 stops_promise line ServerLost refusal r o h = refused_same (once_of line) o ServerLost refl refusal r
+stops_promise line EncoderRestart refusal r o h = refused_same (once_of line) o EncoderRestart refl refusal r
+stops_promise line ServerRestart refusal r o h = refused_same (once_of line) o ServerRestart refl refusal r
 stops_promise line Take refusal r o h = refused_same (once_of line) o Take refl refusal r

@@ -6,7 +6,7 @@ use Rattle.uecp_link.specs.declared.event.LineEvent.{LineEvent}
 use Rattle.uecp_link.specs.declared.stepped.Stepped.{Stepped}
 use Rattle.uecp_link.specs.declared.refusal.LineRefusal.{LineRefusal}
 use Rattle.uecp_link.specs.Once.{Event, Submit, FrameComes, ReplyComes, NoiseToEncoder, NoiseToServer, EncoderLost}
-use Rattle.uecp_link.specs.Once.{ServerLost, Take, Once}
+use Rattle.uecp_link.specs.Once.{ServerLost, EncoderRestart, ServerRestart, Take, Once}
 use Rattle.uecp_link.specs.Law.{Fits}
 use Rattle.uecp_link.specs.Events.{event_of, lost_of, Refuses}
 use Rattle.uecp_link.specs.declared.event.Side.{Side}
@@ -44,6 +44,8 @@ next_address step taken line (NoiseToEncoder x) = fed_address step line.encoder 
 next_address step taken line (NoiseToServer x) = refl
 next_address step taken line EncoderLost = refl
 next_address step taken line ServerLost = refl
+next_address step taken line EncoderRestart = refl
+next_address step taken line ServerRestart = refl
 next_address step taken line Take = refl
 
 -- no event changes the encoder's address

@@ -13,14 +13,15 @@ use Rattle.uecp_frame.specs.Frame.{spelling}
 use Rattle.uecp_frame.specs.Address.{reaches}
 use Rattle.uecp_encoder.specs.Target.{Step, Taken}
 use Rattle.reply_ring.specs.Ring.{kept_code, keep}
-use Rattle.uecp_encoder.specs.State.{EncoderState, fed, applied, numbered}
+use Rattle.uecp_encoder.specs.State.{EncoderState, restarted, fed, applied, numbered}
 use Rattle.uecp_encoder.specs.State.{is_next as is_next_kept}
 use Rattle.uecp_encoder.specs.Answering.{reply_of}
 use Rattle.uecp_link.specs.Counters.{is_recent, counter_of, next_counter}
-use Rattle.uecp_link.specs.Server.{ServerState, Held, is_marked, freed_of, heard, submitted, heard_finding}
+use Rattle.uecp_link.specs.Server.{ServerState, Held, restarted_server, is_marked, freed_of, heard}
+use Rattle.uecp_link.specs.Server.{submitted, heard_finding}
 use Rattle.uecp_link.specs.Once.{Event, Submit, FrameComes, ReplyComes, NoiseToEncoder, NoiseToServer, EncoderLost}
-use Rattle.uecp_link.specs.Once.{ServerLost, Take, Once, message_at, least_missing, has_room, with_code, with_member}
-use Rattle.uecp_link.specs.Once.{refusal_of, after, applied_once, delivered}
+use Rattle.uecp_link.specs.Once.{ServerLost, EncoderRestart, ServerRestart, Take, Once, message_at, least_missing}
+use Rattle.uecp_link.specs.Once.{has_room, with_code, with_member, refusal_of, after, applied_once, delivered}
 use Rattle.uecp_link.specs.Once.{is_next as is_next_number}
 use Rattle.uecp_link.specs.Law.{frame_of, encoder_after, server_after, reply_bytes, Fits}
 use Rattle.uecp_link.specs.Kept.{pairs, last_counter, code_at, held_from, IsMessage, EncoderIs, ServerIs, Kept, Hears}
@@ -431,6 +432,18 @@ module _ {V : Type 0} (step : Step V) (taken : Taken V) (address : ℕ) where
       with_ends address e s o p q kept e (record s { part = Closed }) o.value o.to_encoder [] kept.encoder
       (record { address = kept.server.address; last = kept.server.last; held = kept.server.held })
 
+  pub keeps_encoder_restart : (e : EncoderState V) (s : ServerState) (o : Once V) (p q : ℕ) → Kept address e s o p q
+      → Kept address (restarted e) s (after step taken o EncoderRestart) p q
+  keeps_encoder_restart e s o p q kept =
+      with_ends address e s o p q kept (restarted e) s o.value [] o.to_server
+      (record { address = kept.encoder.address; value = kept.encoder.value; ring = kept.encoder.ring }) kept.server
+
+  pub keeps_server_restart : (e : EncoderState V) (s : ServerState) (o : Once V) (p q : ℕ) → Kept address e s o p q
+      → Kept address e (restarted_server s) (after step taken o ServerRestart) p q
+  keeps_server_restart e s o p q kept =
+      with_ends address e s o p q kept e (restarted_server s) o.value o.to_encoder [] kept.encoder
+      (record { address = kept.server.address; last = kept.server.last; held = kept.server.held })
+
   pub keeps_take : (e : EncoderState V) (s : ServerState) (o : Once V) (p q : ℕ) → Kept address e s o p q
       → Kept address (encoder_after step taken address o e Take) s (after step taken o Take) p q
   keeps_take e s o p q kept =
@@ -459,6 +472,8 @@ module _ {V : Type 0} (step : Step V) (taken : Taken V) (address : ℕ) where
   )
   keeps e s o p q EncoderLost fit open_ hears kept = (q, keeps_encoder_lost e s o p q kept)
   keeps e s o p q ServerLost fit open_ hears kept = (q, keeps_server_lost e s o p q kept)
+  keeps e s o p q EncoderRestart fit open_ hears kept = (q, keeps_encoder_restart e s o p q kept)
+  keeps e s o p q ServerRestart fit open_ hears kept = (q, keeps_server_restart e s o p q kept)
   keeps e s o p q Take fit open_ hears kept = (q, keeps_take e s o p q kept)
 
   -- and so do the open parts
@@ -530,6 +545,14 @@ module _ {V : Type 0} (step : Step V) (taken : Taken V) (address : ℕ) where
   hears_after e s o p q EncoderLost open_ kept h =
       record { encoder = sym left_none; server = h.server; encoder_quiet = quiet_none; server_quiet = h.server_quiet }
   hears_after e s o p q ServerLost open_ kept h = record {
+    encoder = h.encoder;
+    server = sym left_none;
+    encoder_quiet = h.encoder_quiet;
+    server_quiet = quiet_none;
+  }
+  hears_after e s o p q EncoderRestart open_ kept h =
+      record { encoder = sym left_none; server = h.server; encoder_quiet = quiet_none; server_quiet = h.server_quiet }
+  hears_after e s o p q ServerRestart open_ kept h = record {
     encoder = h.encoder;
     server = sym left_none;
     encoder_quiet = h.encoder_quiet;

@@ -9,8 +9,9 @@ use Rattle.uecp_link.specs.declared.event.LineEvent.TheVariants as event
 use Rattle.uecp_link.specs.declared.stepped.Stepped.TheVariants as stepped
 use Rattle.uecp_link.specs.declared.refusal.LineRefusal.TheVariants as line
 use Rattle.uecp_link.specs.Once.{Event, Submit, FrameComes, ReplyComes, NoiseToEncoder, NoiseToServer, EncoderLost}
-use Rattle.uecp_link.specs.Once.{ServerLost, Take, Answer, Numbered, Delivered, NotNext, Acknowledged, Stray, Noise}
-use Rattle.uecp_link.specs.Once.{Lost, Took, Busy, NotSent, TooLate, HoldsAFrame, Once, refusal_of}
+use Rattle.uecp_link.specs.Once.{ServerLost, EncoderRestart, ServerRestart, Take, Answer, Numbered, Delivered, NotNext}
+use Rattle.uecp_link.specs.Once.{Acknowledged, Stray, Noise, Lost, Restarted, Took, Busy, NotSent, TooLate}
+use Rattle.uecp_link.specs.Once.{HoldsAFrame, Once, refusal_of}
 
 -- The loss of the line at one end.
 abbrev pub lost_of : Side → Event
@@ -25,6 +26,8 @@ event_of (event.Reply k cut) = ReplyComes k
 event_of (event.NoiseToEncoder x) = NoiseToEncoder x.now
 event_of (event.NoiseToServer x) = NoiseToServer x.now
 event_of (event.LineLost s) = lost_of s
+event_of event.EncoderRestart = EncoderRestart
+event_of event.ServerRestart = ServerRestart
 event_of event.Take = Take
 
 -- What a line answers, as the once-machine says it.
@@ -36,6 +39,7 @@ answer_seen (stepped.Acknowledged code) = Acknowledged code
 answer_seen stepped.Stray = Stray
 answer_seen (stepped.Noise dropped) = Noise dropped
 answer_seen stepped.Lost = Lost
+answer_seen stepped.Restarted = Restarted
 answer_seen (stepped.Taken group) = Took group
 
 -- The event is a submission.

@@ -8,14 +8,15 @@ use Rattle.uecp_frame.specs.Frame.{spelling}
 use Rattle.uecp_frame.specs.Findings.{Closed}
 use Rattle.reply_ring.specs.Ring.{kept_code}
 use Rattle.uecp_encoder.specs.Target.{Step, Taken}
-use Rattle.uecp_encoder.specs.State.{EncoderState, opening, fed}
+use Rattle.uecp_encoder.specs.State.{EncoderState, opening, restarted, fed}
 use Rattle.uecp_encoder.specs.Answering.{Response, reply_of, responses_to}
 use Rattle.uecp_encoder.specs.Laws.{fresh_in}
 use Rattle.uecp_link.specs.Counters.{counter_of, is_recent}
 use Rattle.uecp_link.specs.Frames.{frame_under}
-use Rattle.uecp_link.specs.Server.{ServerState, idle_at, submitted, waiting, heard}
+use Rattle.uecp_link.specs.Server.{ServerState, idle_at, restarted_server, submitted, waiting, heard}
 use Rattle.uecp_link.specs.Once.{Event, Submit, FrameComes, ReplyComes, NoiseToEncoder, NoiseToServer, EncoderLost}
-use Rattle.uecp_link.specs.Once.{ServerLost, Take, Once, message_at, missing, refusal_of, after, at_first}
+use Rattle.uecp_link.specs.Once.{ServerLost, EncoderRestart, ServerRestart, Take, Once, message_at, missing}
+use Rattle.uecp_link.specs.Once.{refusal_of, after, at_first}
 use Rattle.uecp_link.specs.History.{Act, messages_in, numbers_below, history}
 use Rattle.uecp_link.specs.Fold.{value_after, codes_after}
 
@@ -29,7 +30,7 @@ reply_bytes address k (Some code) = spelling (reply_of address (counter_of k) co
 reply_bytes address k None = []
 
 -- The encoder after an event that is not refused: it is fed the frame of the number, or the noise, or it forgets what
--- is open, or a group is taken from its target; all else does not touch it.
+-- is open, or starts again from what it kept, or a group is taken from its target; all else does not touch it.
 abbrev pub encoder_after : {V : Type 0} → Step V → Taken V → ℕ → Once V → EncoderState V → Event → EncoderState V
 encoder_after step taken address o e (Submit m) = e
 encoder_after step taken address o e (FrameComes k) = fed step e (spelling (frame_of address o k))
@@ -38,10 +39,12 @@ encoder_after step taken address o e (NoiseToEncoder x) = fed step e x
 encoder_after step taken address o e (NoiseToServer x) = e
 encoder_after step taken address o e EncoderLost = record e { part = Closed }
 encoder_after step taken address o e ServerLost = e
+encoder_after step taken address o e EncoderRestart = restarted e
+encoder_after step taken address o e ServerRestart = e
 encoder_after step taken address o e Take = record e { value = (taken e.value).0 }
 
 -- The server after an event that is not refused: it takes the message, hears the reply or the noise, or forgets what is
--- open; all else does not touch it.
+-- open, or starts again from what it kept; all else does not touch it.
 abbrev pub server_after : {V : Type 0} → ℕ → Once V → ServerState → Event → ServerState
 server_after address o s (Submit m) = submitted s m
 server_after address o s (FrameComes k) = s
@@ -50,6 +53,8 @@ server_after address o s (NoiseToEncoder x) = s
 server_after address o s (NoiseToServer x) = heard s x
 server_after address o s EncoderLost = s
 server_after address o s ServerLost = record s { part = Closed }
+server_after address o s EncoderRestart = s
+server_after address o s ServerRestart = restarted_server s
 server_after address o s Take = s
 
 -- The two ends and the once-machine, side by side.

@@ -18,6 +18,8 @@ pub data Event : Type 0 where
   NoiseToServer : List ℕ → Event
   EncoderLost : Event
   ServerLost : Event
+  EncoderRestart : Event  -- the encoder starts again, and goes on from what it kept
+  ServerRestart : Event  -- the server starts again, and goes on from what it kept
   Take : Event  -- the modulator takes a group from the encoder
 
 -- Why an event is refused: eight messages were sent from the least number on that is not acknowledged; there is no such
@@ -37,6 +39,7 @@ pub data Answer : Type 0 where
   Stray : Answer
   Noise : ℕ → Answer  -- how many findings it adds
   Lost : Answer
+  Restarted : Answer
   Took : Option Group → Answer  -- the group, if there was one
 
 -- Its state: the messages by number, the target's value, the codes of the applied numbers, the set of the acknowledged
@@ -46,7 +49,7 @@ pub record Once (V : Type 0) : Type 0 where
   pub value : V
   pub codes : ℕ → Option Code  -- the codes of the applied numbers
   pub acknowledged : ℕ → Bool
-  pub to_encoder : List ℕ  -- the noise since the last whole frame or loss of that end
+  pub to_encoder : List ℕ  -- the noise since the last whole frame, or loss or restart of that end
   pub to_server : List ℕ
 
 -- The message of a number.
@@ -88,6 +91,8 @@ refusal_of o (NoiseToEncoder x) = if is_quiet (o.to_encoder ++ x) then None else
 refusal_of o (NoiseToServer x) = if is_quiet (o.to_server ++ x) then None else Some HoldsAFrame
 refusal_of o EncoderLost = None
 refusal_of o ServerLost = None
+refusal_of o EncoderRestart = None
+refusal_of o ServerRestart = None
 refusal_of o Take = None
 
 -- A map with one more entry.
@@ -118,8 +123,8 @@ delivered step o k None = if is_next o.codes (length o.sent) k then applied_once
     k else record o { to_encoder = [] }
 
 -- The state after an event that is not refused: a submission adds a message, a frame is delivered, a reply makes its
--- number an acknowledged one, noise is added to the noise of its direction, a loss forgets the noise towards that end,
--- and a take changes the value alone.
+-- number an acknowledged one, noise is added to the noise of its direction, a loss or a restart of an end forgets the
+-- noise towards that end and nothing else, and a take changes the value alone.
 abbrev pub after : {V : Type 0} → Step V → Taken V → Once V → Event → Once V
 after step taken o (Submit m) = record o { sent = o.sent ++ m ∷ [] }
 after step taken o (FrameComes k) = delivered step o k (o.codes k)
@@ -128,6 +133,8 @@ after step taken o (NoiseToEncoder x) = record o { to_encoder = o.to_encoder ++ 
 after step taken o (NoiseToServer x) = record o { to_server = o.to_server ++ x }
 after step taken o EncoderLost = record o { to_encoder = [] }
 after step taken o ServerLost = record o { to_server = [] }
+after step taken o EncoderRestart = record o { to_encoder = [] }
+after step taken o ServerRestart = record o { to_server = [] }
 after step taken o Take = record o { value = (taken o.value).0 }
 
 -- What is answered to the frame of a number, by the code that it has.
@@ -150,6 +157,8 @@ answer_of step taken o (NoiseToEncoder x) = Noise (length (found (o.to_encoder +
 answer_of step taken o (NoiseToServer x) = Noise (length (found (o.to_server ++ x)) - length (found o.to_server))
 answer_of step taken o EncoderLost = Lost
 answer_of step taken o ServerLost = Lost
+answer_of step taken o EncoderRestart = Restarted
+answer_of step taken o ServerRestart = Restarted
 answer_of step taken o Take = Took (taken o.value).1
 
 -- At first nothing is sent, nothing applied, and the value is the one that was given.

@@ -43,6 +43,11 @@ nothing_counted = record { acknowledged = 0; stray = 0; dropped = 0 }
 abbrev pub idle_at : ℕ → ServerState
 idle_at address = record { address = address; last = 0; held = []; counts = nothing_counted; part = Closed }
 
+-- A server that starts again from what it kept: its open part and its counts are new, and nothing else changes.
+-- (profile)
+abbrev pub restarted_server : ServerState → ServerState
+restarted_server s = record s { counts = nothing_counted; part = Closed }
+
 -- ---- The messages that are held.
 
 -- A message that is submitted is held, the newest, under the next counter and not marked. (profile)

@@ -38,6 +38,14 @@ pub enum LineEvent<'a> {
     NoiseToServer(&'a [u8]),
     /// That end alone forgets a segment that has not ended.
     LineLost(Side),
+    /// The encoder starts again, and goes on from what it kept: its target and its replies, while what was open is
+    /// forgotten and its counts are new. How that is kept is not the line's matter. It is never refused.
+    EncoderRestart,
+    /// The server starts again, and goes on from what it kept: its last counter and the messages that it holds, while
+    /// what was open is forgotten and its counts are new. How that is kept is not the line's matter. It is never
+    /// refused. Where a server knows nothing any more and joins, that is no event: see
+    /// [`Line::restart_server`](crate::Line::restart_server).
+    ServerRestart,
     /// The modulator takes from the encoder the group that is to go out next. It is never refused.
     Take,
 }

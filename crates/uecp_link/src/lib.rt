@@ -19,9 +19,10 @@
 //! The law that users rely on stands at [`Line::play`], clause `headline`: over every list of events the encoder's
 //! store is what a prefix of the sent messages with the takes between makes, each applied once and in order; every
 //! acknowledged message is in it with its one reply, and every message that is missing is still outstanding. It holds
-//! as long as the encoder goes on or both ends are new, damage leaves no frame behind, and nothing comes after 127
-//! newer messages were numbered; the line tests the last two and refuses by name. A server that is started again joins
-//! first, as [`Line::restart_server`] does, and from there on it holds again.
+//! as long as both ends are new or go on, an end that starts again goes on from what it kept
+//! ([`LineEvent::EncoderRestart`], [`LineEvent::ServerRestart`]), damage leaves no frame behind, and nothing comes
+//! after 127 newer messages were numbered; the line tests the last two and refuses by name. A server that is started
+//! again and kept nothing joins first, as [`Line::restart_server`] does, and from there on it holds again.
 #![tactic(auto)]
 
 mod counters;

@@ -165,6 +165,8 @@ impl<T: Target> Line<T> {
             LineEvent::NoiseToEncoder(noise) => self.disturb_encoder(noise),
             LineEvent::NoiseToServer(noise) => self.disturb_server(noise),
             LineEvent::LineLost(side) => Ok(self.lose(side)),
+            LineEvent::EncoderRestart => Ok(self.resume_encoder()),
+            LineEvent::ServerRestart => Ok(self.resume_server()),
             LineEvent::Take => Ok(self.take_group()),
         }
     }

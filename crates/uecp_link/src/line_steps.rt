@@ -8,7 +8,8 @@ ghost use Rattle.uecp_encoder.specs.ReplyCodes.{replies};
 ghost use Rattle.uecp_link.specs.Replying.{acknowledgements};
 ghost use Rattle.uecp_link.specs.Server.{heard};
 ghost use Rattle.uecp_frame.specs.Frame.{spelling};
-ghost use Rattle.uecp_link.specs.Once.{Submit, FrameComes, ReplyComes, NoiseToEncoder, NoiseToServer, Take};
+ghost use Rattle.uecp_link.specs.Once.{Submit, FrameComes, ReplyComes, NoiseToEncoder, NoiseToServer, EncoderRestart};
+ghost use Rattle.uecp_link.specs.Once.{ServerRestart, Take};
 ghost use Rattle.uecp_link.specs.Events.{lost_of};
 ghost use Rattle.uecp_link.specs.Law.{Fits, frame_of, reply_bytes};
 ghost use Rattle.uecp_link.specs.Holds.{once_of};
@@ -202,6 +203,23 @@ impl<T: Target> Line<T> {
         }
         Stepped::Lost
     }
+
+    /// The encoder starts again, and goes on from what it kept.
+    pub(crate) fn resume_encoder(&mut self) -> Stepped
+        ensures { Goes T.step T.taken self.old EncoderRestart result self.new }
+    {
+        self.encoder.restart();
+        Stepped::Restarted
+    }
+
+    /// The server starts again, and goes on from what it kept.
+    pub(crate) fn resume_server(&mut self) -> Stepped
+        ensures { Goes T.step T.taken self.old ServerRestart result self.new }
+    {
+        self.server.restart();
+        Stepped::Restarted
+    }
+
     /// The modulator takes a group from the encoder.
     pub(crate) fn take_group(&mut self) -> Stepped
         ensures { Goes T.step T.taken self.old Take result self.new }

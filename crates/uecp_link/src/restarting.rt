@@ -1,4 +1,4 @@
-//! A line whose server is started again. Source: profile.
+//! A line whose server is started again, knows nothing, and joins. Source: profile.
 ghost use Rattle.std.specs.Prelude.{◌≡◌};
 ghost use Rattle.uecp_encoder.specs.State.{fed};
 ghost use Rattle.uecp_link.specs.Joining.{pass_sent};
@@ -18,6 +18,9 @@ impl<T: Target> Line<T> {
     /// them, and whether they were applied no end can tell. The line goes on from there as one of a new server and this
     /// encoder ([`of_encoder`](Line::of_encoder)): nothing is sent, the next message has the number 0, and what came
     /// before has no numbers any more. It takes no memory.
+    ///
+    /// This server knows nothing of what was before. One that kept what it held goes on from that and does not join:
+    /// that is the event [`ServerRestart`](crate::LineEvent::ServerRestart).
     ///
     /// It wants a target that an empty message leaves as it is, as [`RdsStore`](rds_store::RdsStore) is
     /// ([`empty_message_changes_nothing`](rds_store::laws::empty_message_changes_nothing)).

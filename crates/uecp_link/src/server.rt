@@ -6,8 +6,8 @@ ghost use Rattle.std.specs.List.{IsDistinct};
 ghost use Rattle.std.specs.Option.{option_copied};
 ghost use Rattle.uecp_frame.specs.Address.{is_exact};
 ghost use Rattle.uecp_frame.specs.Findings.{Closed};
-ghost use Rattle.uecp_link.specs.Server.{idle_at, submitted, waiting, is_marked, heard, HearsPiece, frames_waiting};
-ghost use Rattle.uecp_link.specs.Server.{counters_waiting, outgoing_bytes};
+ghost use Rattle.uecp_link.specs.Server.{idle_at, restarted_server, submitted, waiting, is_marked, heard, HearsPiece};
+ghost use Rattle.uecp_link.specs.Server.{frames_waiting, counters_waiting, outgoing_bytes};
 ghost use Rattle.uecp_link.specs.Window.{mark_in};
 
 mod passing;
@@ -252,5 +252,22 @@ impl Server {
         ensures { self.new ≡ record self.old { part = Closed } }
     {
         self.deframer.line_lost();
+    }
+
+    /// Starts again, and goes on from what it kept, as after a crash: a segment that has not ended is forgotten and
+    /// nothing is counted. Nothing else changes: the last counter and what is held stay, marks too, so that each
+    /// message which waited still waits under its counter. How they are kept is not the server's matter. A server that
+    /// kept nothing is a new one, and joins first: see [`join`](crate::join).
+    ///
+    /// ```
+    /// server.submit(&message);
+    /// server.restart();
+    /// let frame = server.outgoing(); // as before
+    /// ```
+    pub fn restart(&mut self)
+        ensures { self.new ≡ restarted_server self.old }
+    {
+        self.line_lost();
+        self.counts = ServerCounts::default();
     }
 }

@@ -27,6 +27,8 @@ pub enum Stepped {
     },
     /// The end forgot what was open.
     Lost,
+    /// The end started again, and goes on from what it kept.
+    Restarted,
     /// The modulator has this group, or there was none to take.
     Taken(Option<Group>),
 }

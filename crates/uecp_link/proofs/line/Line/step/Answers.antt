@@ -1,5 +1,6 @@
 use Rattle.std.proofs.Common.{ap}
-use Rattle.uecp_link.specs.Once.{Submit, FrameComes, ReplyComes, NoiseToEncoder, NoiseToServer}
+use Rattle.uecp_link.specs.Once.{Submit, FrameComes, ReplyComes, NoiseToEncoder, NoiseToServer, EncoderRestart}
+use Rattle.uecp_link.specs.Once.{ServerRestart}
 use Rattle.uecp_link.specs.Events.{event_of, lost_of}
 use Rattle.uecp_link.proofs.Stepping.{steps_from, steps_one, refused_from, address_from, loss_fits}
 use Rattle.uecp_link.proofs.line.Line.step.Goals as goal
@@ -57,3 +58,13 @@ pub returns-in-LineLost-clause-steps : goal.returns-in-LineLost-clause-steps
 returns-in-LineLost-clause-steps g c = steps_one g.T.Target.step g.T.Target.taken c.args.self.now c.lose.new.self
     c.args.event.now (lost_of c.in-LineLost.side) (ap event_of c.in-LineLost.is) (loss_fits c.in-LineLost.side)
     c.lose.result c.lose.ensures
+
+pub returns-in-EncoderRestart-clause-steps : goal.returns-in-EncoderRestart-clause-steps
+returns-in-EncoderRestart-clause-steps g c = steps_one g.T.Target.step g.T.Target.taken c.args.self.now
+    c.resume_encoder.new.self c.args.event.now EncoderRestart (ap event_of c.in-EncoderRestart.is) tt
+    c.resume_encoder.result c.resume_encoder.ensures
+
+pub returns-in-ServerRestart-clause-steps : goal.returns-in-ServerRestart-clause-steps
+returns-in-ServerRestart-clause-steps g c = steps_one g.T.Target.step g.T.Target.taken c.args.self.now
+    c.resume_server.new.self c.args.event.now ServerRestart (ap event_of c.in-ServerRestart.is) tt
+    c.resume_server.result c.resume_server.ensures
