@@ -3,7 +3,7 @@ use Rattle.std.specs.Prelude.{ℕ, List, ◌++◌, codes, if◌then◌else◌, R
 use Rattle.uecp_elements.specs.Codes.{byte_of}
 use Rattle.uecp_link.specs.declared.stepped.Stepped.{Stepped}
 use Rattle.uecp_link.specs.declared.stepped.Stepped.TheVariants.{Numbered, Delivered, NotNext, Acknowledged, Stray}
-use Rattle.uecp_link.specs.declared.stepped.Stepped.TheVariants.{Noise, Lost, Taken}
+use Rattle.uecp_link.specs.declared.stepped.Stepped.TheVariants.{Noise, Lost, Restarted, Taken}
 use Rattle.uecp_link.specs.declared.refusal.LineRefusal.{LineRefusal}
 use Rattle.uecp_link.specs.Refusal.{number_of, name_of}
 use Rattle.rds_store.specs.declared.group.Group.{Group}
@@ -25,6 +25,7 @@ step_words (Ok (Acknowledged code)) named = codes "acknowledged" ++ byte_word (b
 step_words (Ok Stray) named = codes "stray"
 step_words (Ok (Noise dropped)) named = counted (codes "noise") dropped
 step_words (Ok Lost) named = codes "lost"
+step_words (Ok Restarted) named = codes "resumed"
 step_words (Ok (Taken group)) named = codes "taken" ++ taken_words group
 step_words (Err refusal) named = counted (codes "refused") (number_of refusal) ++ codes " " ++ name_of refusal
 
