@@ -1,5 +1,6 @@
 //! The ring of kept replies. Source: profile.
 ghost use Rattle.std.specs.Prelude.{◌≡◌, ◌≢◌, ◌≤◌, ◌↔◌, [], length, IsTrue, IfOk, IfSome, IfNone, None, Contains, All};
+ghost use Rattle.std.specs.Prelude.{slice_get, IsNone};
 ghost use Rattle.reply_ring.specs.Ring.{kept_code, newest, keep, IsRing};
 
 use circular_buffer::HeapCircularBuffer;
@@ -73,6 +74,26 @@ impl ReplyRing {
         ensures none { (result ≡ None) ↔ (length self.now ≡ 0) }
     {
         self.counters.front().copied()
+    }
+
+    /// The pair at a place, the newest at 0: its counter and its code. None from [`len`](ReplyRing::len) on.
+    ///
+    /// ```
+    /// for place in (0..ring.len()).rev() {
+    ///     let pair = ring.pair(place); // Some, the oldest first
+    /// }
+    /// ```
+    pub fn pair(&self, place: usize) -> Option<(u8, Code)>
+        ensures value { result ≡ slice_get self.now place }
+        ensures none { IsNone result ↔ (length self.now ≤ place) }
+    {
+        match self.counters.get(place) {
+            None => None,
+            Some(counter) => Some((
+                *counter,
+                self.codes[usize::from(*counter)].unwrap_or(Code::Applied),
+            )),
+        }
     }
 
     /// Keeps the code for the counter, and drops the oldest pair where 127 are held.
