@@ -66,17 +66,32 @@ impl<T: Target> Encoder<T> {
         ensures handed_back { IfErr result (λ fault. fault.target ≡ target) }
     {
         match ReplyRing::new(alloc) {
-            Ok(ring) => Ok(Encoder {
-                deframer: Deframer::new(),
-                holdings: Holdings {
-                    address,
-                    target,
-                    ring,
-                    counts: Counts::default(),
-                },
-                reply: ReplyBytes::new(),
-            }),
+            Ok(ring) => Ok(Encoder::resumed(address, target, ring)),
             Err(_) => Err(EncoderFault { target }),
+        }
+    }
+
+    /// An encoder that goes on with kept replies: its next message is the one after the newest of them, and a message
+    /// whose reply is kept is a repeat. Nothing is counted or open. It takes no memory.
+    ///
+    /// The caller knows that the address is one encoder's own, as for [`new`](Encoder::new).
+    ///
+    /// ```
+    /// let mut encoder = Encoder::resumed(address, store, ring);
+    /// ```
+    pub fn resumed(address: Address, target: T, ring: ReplyRing) -> Encoder<T>
+        requires { IsTrue (is_exact address) }
+        ensures { result ≡ record (opening address target) { ring = ring } }
+    {
+        Encoder {
+            deframer: Deframer::new(),
+            holdings: Holdings {
+                address,
+                target,
+                ring,
+                counts: Counts::default(),
+            },
+            reply: ReplyBytes::new(),
         }
     }
 
@@ -214,6 +229,28 @@ impl<T: Target> Encoder<T> {
         ensures { result.now ≡ self.now.value }
     {
         &self.holdings.target
+    }
+
+    /// The encoder's own address.
+    ///
+    /// ```
+    /// let site = encoder.address().site(); // 1 to 1023
+    /// ```
+    pub fn address(&self) -> Address
+        ensures { result ≡ self.now.address }
+    {
+        self.holdings.address
+    }
+
+    /// The kept replies: the codes of the last 127 applied messages.
+    ///
+    /// ```
+    /// let last = encoder.kept().newest(); // the counter of the last message, or None before the first
+    /// ```
+    pub fn kept(&self) -> &ReplyRing
+        ensures { result.now ≡ self.now.ring }
+    {
+        &self.holdings.ring
     }
 
     /// What was counted since the encoder was made.

@@ -11,7 +11,7 @@ use Rattle.uecp_link.specs.Frames.{frame_under}
 use Rattle.uecp_link.specs.Server.{ServerState, waiting_among, waiting, frames_waiting, is_marked, marked_at, freed_of}
 use Rattle.uecp_link.specs.declared.held_message.HeldMessage.{HeldMessage}
 use Rattle.uecp_link.specs.HeldMessages.{held_as, held_in, frames_among, with_mark, left_of, AreSpelled, AreInTurn}
-use Rattle.uecp_link.specs.HeldMessages.{IsHolding}
+use Rattle.uecp_link.specs.HeldMessages.{AreNumbered, IsHolding}
 
 -- the frames that are lent are the spellings of the messages that wait
 pub frames_are : (address : ℕ) (hs : List HeldMessage) → AreSpelled address hs
@@ -80,21 +80,31 @@ in_turn-marked last counter [] t = tt
 in_turn-marked last counter (h ∷ []) t = t
 in_turn-marked last counter (h ∷ g ∷ hs) t = (t.0, in_turn-marked last counter (g ∷ hs) t.1)
 
+numbered-marked : (counter : ℕ) (hs : List HeldMessage) → AreNumbered hs → AreNumbered (map (with_mark counter) hs)
+numbered-marked counter [] n = tt
+numbered-marked counter (h ∷ hs) n = (n.0, numbered-marked counter hs n.1)
+
 -- ---- letting go
 in_turn-rest : (last : ℕ) (h : HeldMessage) (hs : List HeldMessage) → AreInTurn last (h ∷ hs) → AreInTurn last hs
 in_turn-rest last h [] t = tt
 in_turn-rest last h (g ∷ hs) t = t.1
 
 left_holds : (address last : ℕ) (hs : List HeldMessage) → length hs ≤ 8 → AreSpelled address hs → AreInTurn last hs
-    → IsHolding address last (left_of hs)
-left_holds address last [] few s t = record { few = omega arith; spelled = tt; in_turn = tt; oldest = refl }
-left_holds address last (h ∷ hs) few s t = go h.marked refl
-    (left_holds address last hs (omega arith) s.1 (in_turn-rest last h hs t))
+    → AreNumbered hs → IsHolding address last (left_of hs)
+left_holds address last [] few s t n = record {
+  few = omega arith;
+  spelled = tt;
+  in_turn = tt;
+  oldest = refl;
+  numbered = tt;
+}
+left_holds address last (h ∷ hs) few s t n = go h.marked refl
+    (left_holds address last hs (omega arith) s.1 (in_turn-rest last h hs t) n.1)
   where
     go : (b : Bool) → h.marked ≡ b → IsHolding address last (left_of hs)
         → IsHolding address last (cond b (left_of hs) (h ∷ hs))
     go true is rest = rest
-    go false is rest = record { few = few; spelled = s; in_turn = t; oldest = is }
+    go false is rest = record { few = few; spelled = s; in_turn = t; oldest = is; numbered = n }
 
 -- a message is marked, and what may be let go is
 pub still_holds : (address last counter : ℕ) (hs : List HeldMessage) → IsHolding address last hs
@@ -102,6 +112,7 @@ pub still_holds : (address last counter : ℕ) (hs : List HeldMessage) → IsHol
 still_holds address last counter hs is =
     left_holds address last (map (with_mark counter) hs) (omega (arith, length-map hs (with_mark counter), is.few))
     (spelled-marked address counter hs is.spelled) (in_turn-marked last counter hs is.in_turn)
+    (numbered-marked counter hs is.numbered)
 
 -- the mark at a place
 pub mark_at : (hs : List HeldMessage) (place : ℕ)

@@ -35,3 +35,4 @@ pub mod PassComes
 pub mod JoinedOver
 pub mod WholePass
 pub mod Restarted
+pub mod Resumed

@@ -45,9 +45,15 @@ AreInTurn last [] = Unit {0}
 AreInTurn last (h ∷ []) = h.counter ≡ last
 AreInTurn last (h ∷ g ∷ hs) = (g.counter ≡ next_counter h.counter) × AreInTurn last (g ∷ hs)
 
+-- Each counter is one of a numbered message: 01 to FF.
+abbrev pub AreNumbered : List HeldMessage → Type 0
+AreNumbered [] = Unit {0}
+AreNumbered (h ∷ hs) = ((1 ≤ h.counter) × (h.counter ≤ 255)) × AreNumbered hs
+
 -- What every server keeps of its messages: at most eight, each with its frame, numbered in turn, the oldest waiting.
 pub record IsHolding (address last : ℕ) (held : List HeldMessage) : Type 0 where
   pub few : length held ≤ 8
   pub spelled : AreSpelled address held
   pub in_turn : AreInTurn last held
   pub oldest : oldest_marked held ≡ false
+  pub numbered : AreNumbered held

@@ -22,3 +22,4 @@ pub mod Listening
 pub mod Window
 pub mod Joining
 pub mod Restarting
+pub mod Resuming

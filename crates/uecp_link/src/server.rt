@@ -12,6 +12,7 @@ ghost use Rattle.uecp_link.specs.Window.{mark_in};
 
 mod passing;
 mod replies;
+mod resuming;
 
 use crate::counters::counter_of;
 use crate::counts::ServerCounts;
@@ -222,9 +223,10 @@ impl Server {
         self.counts
     }
 
-    /// How many messages are held, marked ones too.
-    pub(crate) fn held_count(&self) -> usize
-        ensures { result ≡ length self.now.held }
+    /// How many messages are held, marked ones too: at most eight.
+    pub fn held_count(&self) -> usize
+        ensures value { result ≡ length self.now.held }
+        ensures few { result ≤ 8 }
     {
         self.held.len()
     }

@@ -11,7 +11,7 @@ use uecp_frame::{Address, Deframer, FoundRef};
 
 impl Server {
     /// The encoder's address.
-    pub(crate) fn address(&self) -> Address
+    pub fn address(&self) -> Address
         ensures { result ≡ self.now.address }
     {
         self.address
