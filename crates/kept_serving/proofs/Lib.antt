@@ -1,0 +1,6 @@
+pub mod Unchanged
+pub mod Beginnings
+pub mod Together
+pub mod First
+pub mod Ending
+pub mod Surviving
