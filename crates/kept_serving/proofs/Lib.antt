@@ -4,3 +4,4 @@ pub mod Together
 pub mod First
 pub mod Ending
 pub mod Surviving
+pub mod Served

@@ -1,20 +1,34 @@
 -- What a crash leaves of an encoder loses nothing and doubles nothing. Source: profile.
 use Rattle.std.specs.Prelude.{◌≡◌, ℕ, ◌+◌, ◌<◌, ◌≤◌, true, List, ◌∷◌, ◌++◌, length, take, map, Ok}
 use Rattle.uecp_frame.specs.declared.frame.Frame.{Frame}
-use Rattle.uecp_frame.specs.Findings.{Finding}
+use Rattle.uecp_frame.specs.Findings.{Finding, Closed}
 use Rattle.uecp_frame.specs.Beyond.{found_beyond}
 use Rattle.uecp_encoder.specs.Target.{Step}
-use Rattle.uecp_encoder.specs.State.{EncoderState, after_finding, after_findings}
+use Rattle.uecp_encoder.specs.State.{EncoderState, no_counts, after_finding, after_findings}
 use Rattle.uecp_encoder.specs.Answering.{Replied, response_to, answers}
-use Rattle.uecp_encoder.specs.Laws.{Happening, Finds, after_happenings, applied_among, IsRepeat, IsNotApplied}
-use Rattle.kept_serving.specs.Keeping.{Kept, going_on, Outlives}
+use Rattle.uecp_encoder.specs.Laws.{Happening, Finds, Becomes, after_happening, after_happenings, applied_among}
+use Rattle.uecp_encoder.specs.Laws.{IsRepeat, IsNotApplied}
+use Rattle.kept_serving.specs.Keeping.{Kept, kept_of, going_on, Outlives}
 
--- An encoder was e, read s, sent these bytes, and crashed; this is what the crash left. Where even one byte of the reply
--- to the frame that ends at a place of s was sent, then what was left has taken that frame.
+-- ---- An encoder that goes on.
+
+-- An encoder that goes on from what is to be kept of another, at its address, is that other after something that leaves
+-- its address, its target's value and its kept replies. So what the laws of an encoder say whatever happens to it, they
+-- say also where it ends and goes on.
+abbrev pub GoesOnAsItWas : {V : Type 0} → Step V → Type 0
+GoesOnAsItWas {V} step = (e : EncoderState V) → going_on e.address (kept_of e)
+    ≡ after_happening step e (Becomes e.value no_counts Closed)
+
+-- ---- A crash loses nothing.
+
+-- An encoder was e, read s, sent these bytes, and crashed; this is what the crash left. Where even one byte of the
+-- reply to the frame that ends at a place of s was sent, what was left has taken that frame.
 abbrev pub LosesNothing : {V : Type 0} → Step V → Type 0
 LosesNothing {V} step =
     (e : EncoderState V) (s sent : List ℕ) (left : Kept V) (survives : Outlives step e s sent left) (place : ℕ) →
     length (answers step e (take place s)) < length sent → place < length survives.taken
+
+-- ---- A crash doubles nothing.
 
 -- how many messages were applied after a frame was: by the findings until the crash, and by what happened since
 abbrev pub applied_since : {V : Type 0} → Step V → (before : EncoderState V) → (frame : Frame) → (later : List Finding)

@@ -3,5 +3,6 @@ pub mod Keeping
 pub mod Serving
 pub mod Parts
 pub mod Laws
+pub mod Sessions
 pub use Rattle.uecp_encoder.specs.State
 pub use Rattle.uecp_encoder.specs.Answering

@@ -112,8 +112,8 @@ fn after(bytes: u64, stop: Stop) -> Stop
     }
 }
 
-/// Takes a piece up to the end of its first segment: saves the encoder where the reply is fresh, and writes the reply if
-/// there is one.
+/// Takes a piece up to the end of its first segment: saves the encoder where the reply is fresh, and writes the reply
+/// if there is one.
 fn take_first<T: Target, K: KeepEncoder<T>, W: Write>(
     encoder: &mut Encoder<T>,
     keeper: &mut K,

@@ -20,8 +20,8 @@ pub trait KeepEncoder<T: Target> {
     // Whether a save of this may fail, and leave the keeper so.
     ghost fails: { Self → Kept T → Self → Type 0 };
 
-    /// Saves the state of the encoder. Once it has, a crash leaves that; where it fails, a crash leaves that or what one
-    /// might have left before. The premise reaches back: where it holds now it held before.
+    /// Saves the state of the encoder. Once it has, a crash leaves that; where it fails, a crash leaves that or what
+    /// one might have left before. The premise reaches back: where it holds now it held before.
     fn save(&mut self, encoder: &Encoder<T>) -> Result<(), SaveFailed>
         ensures saved { is_clean self.new → OnOk result (Settled (leaves self.new) encoder.now) }
         ensures either { is_clean self.new → (left : Kept T) → leaves self.new left

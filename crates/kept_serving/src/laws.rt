@@ -1,7 +1,16 @@
 //! Laws of the definitions, each the contract of a function that does nothing.
-ghost use Rattle.kept_serving.specs.Laws.{LosesNothing, DoublesNothing};
+ghost use Rattle.kept_serving.specs.Laws.{GoesOnAsItWas, LosesNothing, DoublesNothing};
 
 use uecp_encoder::Target;
+
+/// An encoder that goes on from what was kept is the one that was saved, but that nothing is counted and nothing open:
+/// something of the kind that may happen to an encoder, in between of what it finds. So [`a_retry_acts_once`], and what
+/// else holds of an encoder whatever happens to it, holds across any number of ends and starts.
+///
+/// [`a_retry_acts_once`]: uecp_encoder::laws::a_retry_acts_once
+pub fn goes_on_as_it_was<T: Target>()
+    ensures { GoesOnAsItWas T.step }
+{}
 
 /// A crash loses nothing: where even one byte of the reply to a frame was sent, what the crash left has taken that
 /// frame.

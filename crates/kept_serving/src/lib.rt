@@ -7,6 +7,7 @@
 //! - [`KeepEncoder`]: saves the state of an encoder; [`SaveFailed`] says that it could not.
 //! - [`serve_kept`]: the encoder over a reader and a writer; [`KeptFault`] is why a call ended before its input did.
 //! - [`take_kept`]: the group that goes out next.
+//! - [`serve_connection_kept`]: the encoder over the next connection.
 //!
 //! The laws that users rely on: [`laws::loses_nothing`], what a crash leaves has taken each frame of whose reply a byte
 //! was sent; and [`laws::doubles_nothing`], an encoder that goes on from it answers such a frame with the reply that it
@@ -17,8 +18,10 @@ mod answering;
 mod keep;
 pub mod laws;
 mod serving;
+mod sessions;
 mod taking;
 
 pub use keep::{KeepEncoder, SaveFailed};
 pub use serving::{KeptFault, serve_kept};
+pub use sessions::serve_connection_kept;
 pub use taking::take_kept;

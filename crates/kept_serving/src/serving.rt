@@ -19,13 +19,15 @@ const READ_MAX: usize = 512;
 pub enum KeptFault {
     /// As [`serve`](uecp_encoder::serve) says. What is kept is what the encoder is.
     Serve(ServeFault),
-    /// The encoder could not be saved. It has applied a message that may not be kept, and has not answered it: let this
-    /// encoder go, and go on from what is kept.
+    /// The encoder could not be saved. It has applied a message that may not be kept, and has not answered it: save it
+    /// before it serves again, or let it go and go on from what is kept.
     StateFailed,
 }
 
 /// Makes at most `turns` reads of at most 512 bytes, and writes each reply before the next byte is fed, as
 /// [`serve`](uecp_encoder::serve) does; and saves the encoder before it writes a fresh reply. A repeat saves nothing.
+///
+/// What is kept at the start is to be this encoder: a new one is saved first.
 ///
 /// ```
 /// let served = serve_kept(&mut encoder, &mut keeper, &mut Meter::new(input), &mut Meter::new(output), 16)?;

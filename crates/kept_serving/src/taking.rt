@@ -9,7 +9,11 @@ use uecp_encoder::{Encoder, Target};
 /// Takes from the target the group that is to go out next, or None where it has none, and hands it out once the encoder
 /// is saved. So no group goes out twice; one that was taken before a crash, and was not yet sent, is not sent.
 ///
-/// Where the save fails nothing is handed out: let this encoder go, and go on from what is kept.
+/// A call saves also where there is no group, since a target may change then too: a caller that asks often looks first
+/// whether one waits, as a store tells.
+///
+/// Where the save fails nothing is handed out: save the encoder before it goes on, or let it go and go on from what is
+/// kept.
 ///
 /// ```
 /// let group = take_kept(&mut encoder, &mut keeper)?; // of a store: the first group that waits

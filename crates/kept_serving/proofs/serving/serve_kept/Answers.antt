@@ -5,7 +5,7 @@ use Rattle.kept_serving.specs.Keeping.{Settled}
 use Rattle.kept_serving.specs.Serving.{ServesKept, KeptReadsMade, StaysSettled}
 use Rattle.kept_serving.specs.Parts.{Takes}
 use Rattle.kept_serving.proofs.Together.{takes_nothing, takes_on, stops_at_on}
-use Rattle.kept_serving.proofs.Ending.{ends_stopped, settled_stopped, reads_stopped}
+use Rattle.kept_serving.proofs.Ending.{ends_whole, ends_stopped, settled_stopped, reads_stopped}
 use Rattle.kept_serving.proofs.serving.serve_kept.Goals as goal
 
 pub loop-turn-init : goal.loop-turn-init
@@ -144,3 +144,46 @@ returns-in-Err-take_piece-clause-settled g c =
     bytes why
     (stops_at_on step k.leaves k.is_clean k.fails e c.loop-turn.encoder e' k0 c.loop-turn.keeper k' s before more
     now _ _ place why taken stops))
+
+-- ---- all that was read was taken
+pub returns-in-Err-clause-bytes : goal.returns-in-Err-clause-bytes
+returns-in-Err-clause-bytes g c =
+    let k = g.K.KeepEncoder in
+    let (s, written, took, gave, taken, is, most, least, calls, read_failures, empty_reads, write_failures) =
+    c.loop-turn.invariant in (
+      s,
+      written,
+      search rules,
+      gave,
+      ends_whole g.T.Target.step k.leaves k.is_clean k.fails c.args.encoder.now c.loop-turn.encoder c.args.keeper.now
+          c.loop-turn.keeper s written _ _ _ c.args.turns _ taken (search rules),
+      search rules,
+    )
+
+pub returns-in-Ok-eq0-clause-bytes : goal.returns-in-Ok-eq0-clause-bytes
+returns-in-Ok-eq0-clause-bytes g c =
+    let k = g.K.KeepEncoder in
+    let (s, written, took, gave, taken, is, most, least, calls, read_failures, empty_reads, write_failures) =
+    c.loop-turn.invariant in (
+      s,
+      written,
+      search rules,
+      gave,
+      ends_whole g.T.Target.step k.leaves k.is_clean k.fails c.args.encoder.now c.loop-turn.encoder c.args.keeper.now
+          c.loop-turn.keeper s written _ _ _ c.args.turns _ taken (search rules),
+      search rules,
+    )
+
+pub returns-clause-bytes : goal.returns-clause-bytes
+returns-clause-bytes g c =
+    let k = g.K.KeepEncoder in
+    let (s, written, took, gave, taken, is, most, least, calls, read_failures, empty_reads, write_failures) =
+    c.loop-turn.invariant in (
+      s,
+      written,
+      search rules,
+      gave,
+      ends_whole g.T.Target.step k.leaves k.is_clean k.fails c.args.encoder.now c.loop-turn.encoder c.args.keeper.now
+          c.loop-turn.keeper s written _ _ _ c.args.turns _ taken (search rules),
+      search rules,
+    )
