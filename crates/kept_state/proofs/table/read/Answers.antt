@@ -1,0 +1,13 @@
+use Rattle.std.proofs.Common.{◌∙◌, subst, subst₂, sym, ap, ◌≡◌, ◌≤◌, length, map, List}
+use Rattle.sqlite.specs.Effect.{Database}
+use Rattle.sqlite.specs.Order.{Row}
+use Rattle.sqlite.specs.Held.{state}
+use Rattle.kept_state.specs.Kept.{shown_row}
+use Rattle.kept_state.proofs.TableLemmas.{read_finds}
+use Rattle.kept_state.proofs.table.read.Goals as goal
+
+pub returns-in-Ok-clause-found : goal.returns-in-Ok-clause-found
+returns-in-Ok-clause-found g c stands clean =
+    let s = state g.S.Store c.rows.new.conn in
+    read_finds c.args.version s c.as_slice.result.now c.image_of.result (c.in-Ok.ensures.ours stands clean)
+    (subst₂ (λ (all : List Row) (db : Database). length all ≤ 1 → all ≡ map shown_row (db.trees 0)) (sym c.as_slice.ensures.value) (sym (c.in-Ok.ensures.same stands clean)) (c.in-Ok.ensures.found stands clean)) c.image_of.ensures

@@ -1,0 +1,11 @@
+//! One image in a SQLite file, kept so that a crash at any moment loses nothing and doubles nothing.
+#![tactic(auto)]
+
+mod fault;
+mod kept;
+mod ours;
+mod start;
+mod table;
+
+pub use fault::KeepFault;
+pub use kept::{Kept, Opened};
