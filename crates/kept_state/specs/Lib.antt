@@ -1,3 +1,4 @@
 pub mod Fault
+pub mod Files
 pub mod Keeper
 pub mod Kept

@@ -25,9 +25,9 @@ pub(crate) enum Rows {
 /// table. Source: profile.
 #[derive(Drop)]
 pub struct Kept<S: Alter> {
-    conn: Connection<S>,
-    version: u32,
-    rows: Rows,
+    pub(crate) conn: Connection<S>,
+    pub(crate) version: u32,
+    pub(crate) rows: Rows,
 }
 
 impl<S: Alter> Model for Kept<S> {
@@ -107,6 +107,7 @@ impl<S: Alter> Kept<S> {
         ensures kept { IfOk result (λ r. IsClean S.Store r.kept → Keeps S.Store r.kept (bytes_of r.image)) }
         ensures found { (image : Option (List ℕ)) → Holds version image (state S.Store conn).now.trees → IfOk result (λ r. IsClean S.Store r.kept → bytes_of r.image ≡ image) }
         ensures version { IfOk result (λ r. r.kept.version ≡ version) }
+        ensures clean { IfOk result (λ r. IsClean S.Store r.kept → HasCleanDisk (state S.Store conn)) }
         ensures spared { IfErr result (λ e. HasCleanDisk (state S.Store e.1) → (rows : Trees) → (state S.Store e.1).may_leave rows → (state S.Store conn).may_leave rows ⊎ (IsFresh (state S.Store conn).now × Holds version None rows)) }
     {
         match find(&mut conn, version) {

@@ -2,10 +2,12 @@
 #![tactic(auto)]
 
 mod fault;
+mod file;
 mod kept;
 mod ours;
 mod start;
 mod table;
 
 pub use fault::KeepFault;
+pub use file::{StateFile, open, open_from};
 pub use kept::{Kept, Opened};

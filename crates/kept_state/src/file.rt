@@ -1,0 +1,85 @@
+//! A keeper over the database file at a path and its log. The concrete store is named here alone.
+ghost use Rattle.std.specs.Prelude.{◌≡◌, ℕ, List, Option, IfOk};
+ghost use Rattle.sqlite.specs.Recovery.{Image};
+ghost use Rattle.sqlite.specs.WalFiles.{image_at, outcomes};
+ghost use Rattle.sqlite.specs.WalReads.{AreClean};
+ghost use Rattle.sqlite.specs.Files.{over_files, image_of};
+ghost use Rattle.kept_state.specs.Kept.{bytes_of};
+ghost use Rattle.kept_state.specs.Keeper.{IsClean, Keeps};
+ghost use Rattle.kept_state.specs.Files.{FilesHold, FileHolds};
+
+use crate::fault::{KeepFault, fault_of};
+use crate::kept::{Kept, Opened};
+use sqlite::{Connection, FileFrom, FileStore, Files, Start, Wary};
+use sqlite_disk::Disk;
+use std::rt::HostRuntime;
+
+/// The store of a database file at a path, whose commits suppose nothing of a write that a crash tears.
+pub type StateFile = FileStore<FileFrom<Wary>>;
+
+/// Opens the file, or makes it. `version` is the number of the caller's format. It is `open_from` at `Wary`.
+pub fn open(rt: &HostRuntime, path: &str, version: u32) -> Result<Opened<StateFile>, KeepFault>
+    ensures kept { IfOk result (λ r. IsClean over_files r.kept → Keeps over_files r.kept (bytes_of r.image)) }
+    ensures version { IfOk result (λ r. r.kept.version ≡ version) }
+{
+    match open_from(rt, path, version, Wary) {
+        Ok(opened) => Ok(opened),
+        Err(fault) => Err(fault),
+    }
+}
+
+/// Opens the file, or makes it, where `S` stands for what the two files held before.
+pub fn open_from<S: Start>(
+    rt: &HostRuntime,
+    path: &str,
+    version: u32,
+    start: S,
+) -> Result<Opened<FileStore<FileFrom<S>>>, KeepFault>
+    ensures kept { IfOk result (λ r. IsClean over_files r.kept → Keeps over_files r.kept (bytes_of r.image)) }
+    ensures found { (image : Option (List ℕ)) → FilesHold version image (image_at S.Start) → IfOk result (λ r. IsClean over_files r.kept → bytes_of r.image ≡ image) }
+    ensures version { IfOk result (λ r. r.kept.version ≡ version) }
+{
+    let conn = match Connection::open_from(rt, path, false, start) {
+        Ok(conn) => conn,
+        Err((error, _)) => return Err(fault_of(error)),
+    };
+    match Kept::over(conn, version) {
+        Ok(opened) => Ok(opened),
+        Err((fault, _)) => Err(fault),
+    }
+}
+
+impl<D: Disk + Drop> Kept<FileStore<D>> {
+    /// A clean end: copies the log into the database file and gives the two files back, so that the database file alone
+    /// holds what was kept, also after a crash.
+    pub fn close(self) -> Result<Files<D>, KeepFault>
+        ensures alone { (image : Option (List ℕ)) → Keeps over_files self image → IfOk result (λ files. AreClean D.Disk files.log files.db → FileHolds self.version image (image_of D.Disk files)) }
+        ensures left { (image : Option (List ℕ)) → Keeps over_files self image → IfOk result (λ files. AreClean D.Disk files.log files.db → (left : Image) → outcomes D.Disk files.log files.db left → FileHolds self.version image left) }
+    {
+        let Kept {
+            conn,
+            version: _,
+            rows: _,
+        } = self;
+        match conn.close_files() {
+            Ok(files) => Ok(files),
+            Err((error, store)) => {
+                drop(store.close());
+                Err(fault_of(error))
+            }
+        }
+    }
+
+    /// An end that is not clean, as a crash between two calls: the two files are given back as they are, with no further
+    /// write. Whatever such a crash leaves holds what was kept.
+    pub fn stop(self) -> Files<D>
+        ensures left { (image : Option (List ℕ)) → Keeps over_files self image → AreClean D.Disk result.log result.db → (left : Image) → outcomes D.Disk result.log result.db left → FilesHold self.version image left }
+    {
+        let Kept {
+            conn,
+            version: _,
+            rows: _,
+        } = self;
+        conn.into_store().close()
+    }
+}
