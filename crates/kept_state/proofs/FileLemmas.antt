@@ -38,7 +38,7 @@ found_in version image other files s held opened found is = ∥∥₁_elim held 
 module _ {D : Type 0} {g : Ghosts D} where
   -- the last commit is one of those that a crash may leave
   pub holds_commit : (k : Keeper (FileStore D g)) → SeenMayStay g → IsTrue (file_state k.conn).is_open → (image : Option (List ℕ)) → Keeps over_files k image → Holds k.version image (file_state k.conn).committed.trees
-  holds_commit k stays is_open image keeps = keeps _ (stays_at k.conn.store stays is_open)
+  holds_commit k stays is_open image keeps = keeps.every _ (stays_at k.conn.store stays is_open)
 
   pub left_in : (it : FileStore D g) → IsTrue (view it).is_numbered → AreDatabases (recovers it) → (version : ℕ) (image : Option (List ℕ)) → ((rows : Trees) → recovers it rows → Holds version image rows)
       → (left : Image) → (store_state it).may_leave left → FilesHold version image left
@@ -69,4 +69,4 @@ module _ {D : Type 0} {g : Ghosts D} (was k : Keeper (FileStore D g)) (is : was 
       let honest : IsHonest (view back) = no_doubt _ (clean_is back.pool ∙ sure) in
       let left_of = may_leave_is back.pool left sure (subst (λ (p : D × D). outcomes g p.0 p.1 left) same may) in
       subst (λ (x : Keeper (FileStore D g)). FilesHold x.version image left) is
-      (left_in back (numbered honest) (sound honest) was.version image (λ rows found. kept_before rows (before rows found)) left left_of)
+      (left_in back (numbered honest) (sound honest) was.version image (λ rows found. kept_before.every rows (before rows found)) left left_of)

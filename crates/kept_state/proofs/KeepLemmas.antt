@@ -12,6 +12,7 @@ use Rattle.sqlite.specs.Table.{Table}
 use Rattle.sqlite.specs.Schema.{Schema}
 use Rattle.std.specs.Prelude.{Vec, Result, Ok, Err, IfOk, OnOk}
 use Rattle.std.specs.declared.alloc.Global.{Global}
+use Rattle.kept_state.specs.Keeper.{Keeper, Keeps}
 use Rattle.kept_state.specs.Kept.{kept_table, kept_schema, no_schema, IsFresh, IsOurs, HasNone, HasImage, HasTable, Has, Holds, Stands, bytes_of}
 
 unlisted : (P : Row → Table → Type 0) (rows : List Row) (table : Table) → AllZip P rows [] → ¬ AllZip P rows (table ∷ [])
@@ -68,10 +69,20 @@ ours_now s o live schema = opened IsOurs s o (record { schema = schema; sound = 
 pub none_is_ours : (s : State) → Stands HasNone s → Stands IsOurs s
 none_is_ours s k = record { is_open = k.is_open; autocommit = k.autocommit; has = k.has.ours; settled = k.settled }
 
--- while nothing is under way, whatever a crash leaves is what the table has
-pub kept_only : {S : Type 0} (g : Ghosts S) (h : Held S) → ((db : Trees) → IsTrue (g.view h.store).is_open → g.recovers h.store db → db ≡ (g.view h.store).committed)
-    → (version : ℕ) (image : Option (List ℕ)) (db : Trees) → Stands (HasTable version image) (state g h) → (state g h).may_leave db → Holds version image db
-kept_only g h law version image db k may = ((state g h).now, law db k.is_open may ∙ ap (λ (d : Database). d.trees) k.settled, inr k.has)
+-- while nothing is under way, a crash leaves what the table has and nothing else
+pub keeps_table : {S : Type 0} (g : Ghosts S) (k : Keeper S) → ((db : Trees) → IsTrue (g.view k.conn.store).is_open → g.recovers k.conn.store db → db ≡ (g.view k.conn.store).committed)
+    → (IsTrue (g.view k.conn.store).is_open → g.recovers k.conn.store (g.view k.conn.store).committed) → (image : Option (List ℕ)) → Stands (HasTable k.version image) (state g k.conn) → Keeps g k image
+keeps_table g k settled stays image stands = record {
+  every = λ rows may. ((state g k.conn).now, settled rows stands.is_open may ∙ ap (λ (d : Database). d.trees) stands.settled, inr stands.has);
+  some = (_, stays stands.is_open);
+}
+
+-- rows hold one image, or none
+pub one_image : (version : ℕ) (p q : Option (List ℕ)) (rows : Trees) → Holds version p rows → Holds version q rows → p ≡ q
+one_image version p q rows (a, is, inl none) (b, same, inl other) = none.1 ∙ sym other.1
+one_image version p q rows (a, is, inl none) (b, same, inr table) = absurd (fresh_not_ours a b (sym is ∙ same) none.0 (ours_of version q b table))
+one_image version p q rows (a, is, inr table) (b, same, inl none) = absurd (fresh_not_ours b a (sym same ∙ is) none.0 (ours_of version p a table))
+one_image version p q rows (a, is, inr first) (b, same, inr second) = same_table version p q a b (sym is ∙ same) first second
 
 pub found_is : {F : Type 0} (version : ℕ) (image : Option (List ℕ)) (old new : State) (r : Result (Option (Vec ℕ Global)) F) → IfOk r (λ o. Stands (HasTable version (bytes_of o)) new) → OnOk r (new.now ≡ old.now)
     → Holds version image old.now.trees → IfOk r (λ o. bytes_of o ≡ image)

@@ -1,3 +1,4 @@
 pub mod FileLemmas
 pub mod KeepLemmas
+pub mod SavedLemmas
 pub mod TableLemmas

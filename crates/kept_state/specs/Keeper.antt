@@ -38,9 +38,10 @@ module _ {S : Type 0} (g : Ghosts S) where
   abbrev pub MayLeave : Keeper S → Trees → Type 0
   MayLeave k = (state g k.conn).may_leave
 
-  -- whatever a crash at this moment leaves holds this image, or none yet
-  abbrev pub Keeps : Keeper S → Option (List ℕ) → Type 0
-  Keeps k image = (rows : Trees) → MayLeave k rows → Holds k.version image rows
+  -- whatever a crash at this moment leaves holds this image, or none yet, and it leaves something
+  pub record Keeps (k : Keeper S) (image : Option (List ℕ)) : Type 0 where
+    pub every : (rows : Trees) → MayLeave k rows → Holds k.version image rows
+    pub some : (rows : Trees) × MayLeave k rows
 
   -- a save failed: what is kept is the image before or the one that was to be saved
   abbrev pub HasEnded : Keeper S → Type 0

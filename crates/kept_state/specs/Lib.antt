@@ -2,3 +2,4 @@ pub mod Fault
 pub mod Files
 pub mod Keeper
 pub mod Kept
+pub mod Saved

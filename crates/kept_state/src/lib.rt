@@ -5,9 +5,11 @@ mod fault;
 mod file;
 mod kept;
 mod ours;
+mod saved;
 mod start;
 mod table;
 
 pub use fault::KeepFault;
 pub use file::{StateFile, open, open_from};
 pub use kept::{Kept, Opened};
+pub use saved::{Found, Image, Saved};

@@ -3,12 +3,13 @@ use Rattle.sqlite.specs.Held.{Held, state}
 use Rattle.kept_state.specs.Keeper.{Keeper}
 use Rattle.kept_state.specs.declared.kept.Rows.{Rows}
 use Rattle.kept_state.specs.declared.kept.Rows.TheVariants.{Unsure}
-use Rattle.kept_state.proofs.KeepLemmas.{kept_only}
+use Rattle.kept_state.proofs.KeepLemmas.{keeps_table}
 use Rattle.kept_state.proofs.kept.Kept.save.Goals as goal
 
 pub returns-in-Ok-clause-saved : goal.returns-in-Ok-clause-saved
-returns-in-Ok-clause-saved g c clean rows may =
-    kept_only g.S.Store c.write.new.conn (g.met.S.Store.settled c.write.new.conn.store) c.self.inside.version (Some c.args.image.now) rows (c.in-Ok.ensures.made clean) may
+returns-in-Ok-clause-saved g c clean =
+    let store = c.write.new.conn.store in
+    keeps_table g.S.Store _ (g.met.S.Store.settled store) (g.met.S.Store.stays store) (Some c.args.image.now) (c.in-Ok.ensures.made clean)
 
 pub returns-in-Ok-clause-ended : goal.returns-in-Ok-clause-ended
 returns-in-Ok-clause-ended g c ended =
