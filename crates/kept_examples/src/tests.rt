@@ -48,6 +48,8 @@ impl<T: Target> KeepEncoder<T> for FaultyKeeper<'_> {
 
     ghost is_clean = { λ _. ⊥ };
 
+    ghost saves = { λ _ _ _. Unit {0} };
+
     ghost fails = { λ _ _ _. Unit {0} };
 
     fn save(&mut self, encoder: &Encoder<T>) -> Result<(), SaveFailed> {

@@ -7,7 +7,7 @@ use Rattle.uecp_encoder.specs.Answering.{Replied, responses_to}
 use Rattle.kept_serving.specs.declared.answering.Stop.{Stop}
 use Rattle.kept_serving.specs.declared.answering.Stop.TheVariants as stop
 use Rattle.kept_serving.specs.Keeping.{Kept, Settled}
-use Rattle.kept_serving.specs.Serving.{Ended, ServesOrStops, ServesKept, KeptReadsMade, StaysSettled}
+use Rattle.kept_serving.specs.Serving.{Ended, HasSaved, ServesOrStops, ServesKept, KeptReadsMade, StaysSettled}
 use Rattle.kept_serving.specs.Serving.{fresh_among}
 use Rattle.kept_serving.specs.Parts.{Takes, StopsAt, stopped_after, fault_after}
 use Rattle.kept_serving.proofs.Unchanged.{fresh_among-append, fresh_on}
@@ -28,14 +28,15 @@ is_fresh step e s place reply due none =
     omega (arith, parts, one, none)
 
 module _ {V K : Type 0} (step : Step V) (leaves : K → Kept V → Type 0) (is_clean : K → Type 0)
-    (fails : K → Kept V → K → Type 0) where
+    (saves fails : K → Kept V → K → Type 0) where
   -- all was taken
   pub ends_whole : (e e' : EncoderState V) (k k' : K) (s sent : List ℕ) (replies bytes : ℕ) (unread : Option (List ℕ))
-      (turns : ℕ) (ended : Ended) → Takes step leaves is_clean e e' k k' s sent replies bytes
-      → ServesOrStops step e e' s sent unread turns ended
-      → ServesKept step leaves is_clean e e' k k' s sent unread turns ended
-  ends_whole e e' k k' s sent replies bytes unread turns ended taken serves = record {
+      (turns : ℕ) (ended : Ended) → Takes step leaves is_clean saves e e' k k' s sent replies bytes
+      → ServesOrStops step e e' s sent unread turns ended → HasSaved saves fails step e e' k k' s sent ended
+      → ServesKept step leaves is_clean saves fails e e' k k' s sent unread turns ended
+  ends_whole e e' k k' s sent replies bytes unread turns ended taken serves saved = record {
     serves = serves;
+    saved = saved;
     kept = λ start clean left is. outlives_all step e e' s sent left taken.sends.all
         (taken.keeps.settled start clean left is);
     same = taken.keeps.same;
@@ -44,25 +45,29 @@ module _ {V K : Type 0} (step : Step V) (leaves : K → Kept V → Type 0) (is_c
   -- a write failed, or a save did
   pub ends_stopped : (e e' : EncoderState V) (k k' : K) (s sent : List ℕ) (place bytes : ℕ) (why : Stop)
       (unread : Option (List ℕ)) (turns : ℕ) →
-      StopsAt step leaves is_clean fails e e' k k' s sent place (stopped_after bytes why) → length s < place + 1 + 512
-      → ServesKept step leaves is_clean e e' k k' s sent unread turns (Err (fault_after bytes why))
-  ends_stopped e e' k k' s sent place bytes (stop.Write w) unread turns (stops, keeps) near = record {
+      StopsAt step leaves is_clean saves fails e e' k k' s sent place (stopped_after bytes why)
+      → length s < place + 1 + 512
+      → ServesKept step leaves is_clean saves fails e e' k k' s sent unread turns (Err (fault_after bytes why))
+  ends_stopped e e' k k' s sent place bytes (stop.Write w) unread turns (stops, keeps, saved) near = record {
     serves = (place, stops, near);
+    saved = (place, stops, saved);
     kept = λ start clean left is. outlives_writing step e e' s sent (bytes + w) place left stops
         (keeps.settled start clean left is);
     same = keeps.same;
   }
-  ends_stopped e e' k k' s sent place bytes stop.State unread turns (stops, breaks) near = record {
+  ends_stopped e e' k k' s sent place bytes stop.State unread turns (stops, breaks, saved) near = record {
     serves = (place, stops, near);
+    saved = (place, stops, saved);
     kept = breaks.outlives;
     same = λ none. absurd (is_fresh step e s place stops.reply stops.due none);
   }
 
   pub settled_stopped : (e e' : EncoderState V) (k k' : K) (s sent : List ℕ) (place bytes : ℕ) (why : Stop) →
-      StopsAt step leaves is_clean fails e e' k k' s sent place (stopped_after bytes why) → Settled (leaves k) e
+      StopsAt step leaves is_clean saves fails e e' k k' s sent place (stopped_after bytes why) → Settled (leaves k) e
       → is_clean k' → StaysSettled (leaves k') e' (Err (fault_after bytes why))
-  settled_stopped e e' k k' s sent place bytes (stop.Write w) (stops, keeps) start clean = keeps.settled start clean
-  settled_stopped e e' k k' s sent place bytes stop.State (stops, breaks) start clean = tt
+  settled_stopped e e' k k' s sent place bytes (stop.Write w) (stops, keeps, saved) start clean =
+      keeps.settled start clean
+  settled_stopped e e' k k' s sent place bytes stop.State (stops, breaks, saved) start clean = tt
 
 -- ---- what is counted
 pub reads_stopped : (bytes : ℕ) (why : Stop) (turns n : ℕ) → 1 ≤ n → n ≤ turns

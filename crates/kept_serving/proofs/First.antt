@@ -12,9 +12,11 @@ use Rattle.uecp_encoder.proofs.InParts.{fed_none}
 use Rattle.kept_serving.specs.declared.answering.Due.{Due}
 use Rattle.kept_serving.specs.declared.answering.Due.TheVariants as due
 use Rattle.kept_serving.specs.Keeping.{Kept, kept_of, Settled, Outlives}
-use Rattle.kept_serving.specs.Serving.{fresh_among, StopsSaving}
-use Rattle.kept_serving.specs.Parts.{Keeps, Breaks, Takes, due_bytes, due_replies, IsDue, IsKeptFor, IsNotKeptFor}
+use Rattle.kept_serving.specs.Serving.{fresh_among, StopsSaving, SavesFor}
+use Rattle.kept_serving.specs.Parts.{Keeps, Breaks, Takes, SavesUpTo, due_bytes, due_replies, IsDue, IsKeptFor}
+use Rattle.kept_serving.specs.Parts.{IsNotKeptFor}
 use Rattle.kept_serving.proofs.Unchanged.{unchanged, fresh_on}
+use Rattle.kept_serving.proofs.Saving.{saves_none, saves_quiet, saves_one}
 use Rattle.kept_serving.proofs.Beginnings.{starts_taken}
 
 -- ---- what is due, as bytes and as a number
@@ -34,10 +36,10 @@ nothing_before : {V : Type 0} (step : Step V) (e : EncoderState V) (piece : List
 nothing_before step e piece used some first = ap (responses step e) (first (used - 1) (omega (arith, some)))
 
 module _ {V K : Type 0} (step : Step V) (leaves : K → Kept V → Type 0) (is_clean : K → Type 0)
-    (fails : K → Kept V → K → Type 0) where
+    (saves fails : K → Kept V → K → Type 0) where
   -- what was saved for it is enough
   first_keeps : (e e' : EncoderState V) (k k' : K) (x : List ℕ) (d : Due) → e' ≡ fed step e x
-      → IsDue (responses_to step e x) d → IsKeptFor leaves is_clean e' k k' d → (is_clean k' → is_clean k)
+      → IsDue (responses_to step e x) d → IsKeptFor leaves is_clean saves e' k k' d → (is_clean k' → is_clean k)
       → Keeps step leaves is_clean e e' k k' x
   first_keeps e e' k k' x due.Nothing state (bytes, replies, fresh) kept clean = record {
     settled = λ start here left is.
@@ -53,16 +55,25 @@ module _ {V K : Type 0} (step : Step V) (leaves : K → Kept V → Type 0) (is_c
     same = λ none. kept;
   }
   first_keeps e e' k k' x (due.Fresh reply) state is_due kept clean = record {
-    settled = λ start here. kept here;
+    settled = λ start here. kept.0 here;
     clean = clean;
     same = λ none. absurd (omega (arith, ap fresh_among is_due, none));
   }
 
+  -- and it is what was to be saved
+  first_saves : (e e' : EncoderState V) (k k' : K) (x : List ℕ) (d : Due) → e' ≡ fed step e x
+      → IsDue (responses_to step e x) d → IsKeptFor leaves is_clean saves e' k k' d → SavesFor saves step e x k k'
+  first_saves e e' k k' x due.Nothing state (bytes, replies, fresh) kept = saves_quiet saves step e x k k' fresh kept
+  first_saves e e' k k' x (due.Repeat reply) state is_due kept =
+      saves_quiet saves step e x k k' (ap fresh_among is_due) kept
+  first_saves e e' k k' x (due.Fresh reply) state is_due kept =
+      saves_one saves step e e' x reply.items k k' state is_due kept.1
+
   pub first_takes : (e e' : EncoderState V) (k k' : K) (piece : List ℕ) (used : ℕ) (d : Due) (replies bytes : ℕ) →
       0 < used → used ≤ length piece → e' ≡ fed step e (take used piece)
-      → IsDue (responses_to step e (take used piece)) d → IsKeptFor leaves is_clean e' k k' d
+      → IsDue (responses_to step e (take used piece)) d → IsKeptFor leaves is_clean saves e' k k' d
       → (is_clean k' → is_clean k) → replies ≡ due_replies d → bytes ≡ length (due_bytes d) → replies ≤ 1 → bytes ≤ 16
-      → Takes step leaves is_clean e e' k k' (take used piece) (due_bytes d) replies bytes
+      → Takes step leaves is_clean saves e e' k k' (take used piece) (due_bytes d) replies bytes
   first_takes e e' k k' piece used d replies bytes some fits state is_due kept clean replies_is bytes_is one few =
       let long = length-take-le used piece fits in
       record {
@@ -77,15 +88,17 @@ module _ {V K : Type 0} (step : Step V) (leaves : K → Kept V → Type 0) (is_c
           few_bytes = omega (arith, long, some, few);
         };
         keeps = first_keeps e e' k k' (take used piece) d state is_due kept clean;
+        saved = first_saves e e' k k' (take used piece) d state is_due kept;
       }
 
   -- the rest of the piece was not fed
   pub first_stops_writing : (e e' : EncoderState V) (k k' : K) (piece : List ℕ) (used : ℕ) (d : Due) (w : ℕ) →
       0 < used → used ≤ length piece → e' ≡ fed step e (take used piece)
       → IsDue (responses_to step e (take used piece)) d
-      → ((n : ℕ) → n < used → found_beyond e.part (take n piece) ≡ []) → IsKeptFor leaves is_clean e' k k' d
+      → ((n : ℕ) → n < used → found_beyond e.part (take n piece) ≡ []) → IsKeptFor leaves is_clean saves e' k k' d
       → (is_clean k' → is_clean k) → w < length (due_bytes d)
       → StopsWriting step e e' piece (take w (due_bytes d)) w (used - 1) × Keeps step leaves is_clean e e' k k' piece
+      × SavesFor saves step e (take (used - 1 + 1) piece) k k'
   first_stops_writing e e' k k' piece used d w some fits state is_due first kept clean part =
       let place_is : used - 1 + 1 ≡ used = omega (arith, some) in
       let sent_is = due_sent (responses_to step e (take used piece)) d is_due in
@@ -112,6 +125,8 @@ module _ {V K : Type 0} (step : Step V) (leaves : K → Kept V → Type 0) (is_c
           clean = keeps.clean;
           same = λ none. keeps.same (omega (arith, parts, none));
         },
+        subst (λ n. SavesFor saves step e (take n piece) k k') (sym place_is)
+            (first_saves e e' k k' (take used piece) d state is_due kept),
       )
 
   -- a crash leaves what it might have left before, or what was to be saved
@@ -140,7 +155,8 @@ module _ {V K : Type 0} (step : Step V) (leaves : K → Kept V → Type 0) (is_c
       → IsDue (responses_to step e (take used piece)) d
       → ((n : ℕ) → n < used → found_beyond e.part (take n piece) ≡ [])
       → IsNotKeptFor leaves is_clean fails e' k k' d → (is_clean k' → is_clean k)
-      → StopsSaving step e e' piece [] (used - 1) × Breaks step leaves is_clean fails e e' k k' piece []
+      → StopsSaving step e e' piece [] (used - 1) × Breaks step leaves is_clean e k k' piece []
+      × SavesUpTo step saves fails e e' k k' piece (used - 1)
   first_stops_saving e e' k k' piece used due.Nothing some fits state is_due first none clean = absurd none
   first_stops_saving e e' k k' piece used (due.Repeat reply) some fits state is_due first none clean = absurd none
   first_stops_saving e e' k k' piece used (due.Fresh reply) some fits state is_due first (either, failed) clean =
@@ -158,7 +174,6 @@ module _ {V K : Type 0} (step : Step V) (leaves : K → Kept V → Type 0) (is_c
           outlives = λ start here left is. breaks_first e e' k k' piece used left state
               (or_settled e e' k left start (either here left is));
           clean = clean;
-          before = k;
-          failed = failed;
         },
+        (k, saves_none saves step e (take (used - 1) piece) k (first (used - 1) (omega (arith, some))), failed),
       )

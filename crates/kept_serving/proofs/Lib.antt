@@ -1,5 +1,6 @@
 pub mod Unchanged
 pub mod Beginnings
+pub mod Saving
 pub mod Together
 pub mod First
 pub mod Ending

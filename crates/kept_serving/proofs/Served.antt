@@ -21,20 +21,23 @@ few_reads (Err (Serve TurnsSpent)) turns n all = omega (arith, all)
 few_reads (Err StateFailed) turns n (some, few) = few
 
 pub session_of : {V K I O : Type 0} (step : Step V) (leaves : K → Kept V → Type 0) (is_clean : K → Type 0)
-    (remaining : I → Option (List ℕ)) (contents : O → Option (List ℕ)) (turns : ℕ) (old start new : EncoderState V)
+    (saves fails : K → Kept V → K → Type 0) (remaining : I → Option (List ℕ)) (contents : O → Option (List ℕ))
+    (turns : ℕ) (old start new : EncoderState V)
     (k k' : K) (input : I) (reader reader' : Metered I) (output : O) (writer writer' : Metered O) (ended : Ended) →
     turns < 2 ^ 32 → reader.device ≡ input → reader.calls ≡ 0 → reader.failures ≡ 0 → reader.empty ≡ 0
     → writer.device ≡ output → writer.failures ≡ 0 → start ≡ record old { part = Closed } →
     ((s : List ℕ) × (written : List ℕ) × Consumes (remaining reader.device) (remaining reader'.device) s
     × Appends (contents writer.device) (contents writer'.device) written
-    × ServesKept step leaves is_clean start new k k' s written (remaining reader'.device) turns ended
+    × ServesKept step leaves is_clean saves fails start new k k' s written (remaining reader'.device) turns ended
     × (length s ≤ 512 * turns)) →
     ((n : ℕ) × KeptReadsMade ended turns n × (reader.calls + n < 2 ^ 128 → reader'.calls ≡ reader.calls + n))
     → reader'.failures ≡ kept_read_failures ended reader.failures
     → reader'.empty ≡ kept_empty_reads ended reader.empty
     → writer'.failures ≡ kept_write_failures ended writer.failures →
-    SessionKept step leaves is_clean remaining contents turns old new k k' input reader' output writer' ended
-session_of step leaves is_clean remaining contents turns old start new k k' input reader reader' output writer writer'
+    SessionKept step leaves is_clean saves fails remaining contents turns old new k k' input reader' output writer'
+    ended
+session_of step leaves is_clean saves fails remaining contents turns old start new k k' input reader reader' output
+    writer writer'
     ended fits input_is none no_read_failed none_empty output_is no_write_failed lost
     (s, written, consumed, appended, serves, few) (n, made, calls) read_failed were_empty write_failed =
     let most = few_reads ended turns n made in
@@ -43,7 +46,8 @@ session_of step leaves is_clean remaining contents turns old start new k k' inpu
       sent = written;
       consumed = subst (λ d. Consumes (remaining d) (remaining reader'.device) s) input_is consumed;
       appended = subst (λ d. Appends (contents d) (contents writer'.device) written) output_is appended;
-      serves = subst (λ e. ServesKept step leaves is_clean e new k k' s written (remaining reader'.device) turns ended)
+      serves = subst (λ e. ServesKept step leaves is_clean saves fails e new k k' s written (remaining reader'.device)
+          turns ended)
           lost serves;
       few_bytes = few;
       reads = subst (KeptReadsMade ended turns) (let is : reader'.calls ≡ reader.calls

@@ -1,5 +1,5 @@
 -- What one part of a call of `serve_kept` does; no public clause cites this.
-use Rattle.std.specs.Prelude.{◌≡◌, ℕ, ◌+◌, ◌⊎◌, true, false, List, [], ◌∷◌, Result, Ok, Err, flat_map}
+use Rattle.std.specs.Prelude.{◌≡◌, ℕ, ◌+◌, ◌⊎◌, true, false, List, [], ◌∷◌, take, Result, Ok, Err, flat_map}
 use Rattle.uecp_encoder.specs.declared.serving.ServeFault.TheVariants.{WriteFailed}
 use Rattle.uecp_encoder.specs.Target.{Step}
 use Rattle.uecp_encoder.specs.State.{EncoderState}
@@ -13,7 +13,7 @@ use Rattle.kept_serving.specs.declared.answering.Stop.TheVariants as stop
 use Rattle.kept_serving.specs.declared.answering.Due.{Due}
 use Rattle.kept_serving.specs.declared.answering.Due.TheVariants as due
 use Rattle.kept_serving.specs.Keeping.{Kept, kept_of, Settled, Outlives}
-use Rattle.kept_serving.specs.Serving.{fresh_among, StopsSaving}
+use Rattle.kept_serving.specs.Serving.{fresh_among, StopsSaving, SavesFor}
 
 -- All of s was fed, and what had to be saved for it was.
 pub record Keeps {V K : Type 0} (step : Step V) (leaves : K → Kept V → Type 0) (is_clean : K → Type 0)
@@ -24,26 +24,34 @@ pub record Keeps {V K : Type 0} (step : Step V) (leaves : K → Kept V → Type 
 
 -- Some of s was fed, these bytes were written, and then a save failed.
 pub record Breaks {V K : Type 0} (step : Step V) (leaves : K → Kept V → Type 0) (is_clean : K → Type 0)
-    (fails : K → Kept V → K → Type 0) (e e' : EncoderState V) (k k' : K) (s sent : List ℕ) : Type 0 where
+    (e : EncoderState V) (k k' : K) (s sent : List ℕ) : Type 0 where
   pub outlives : Settled (leaves k) e → is_clean k' → (left : Kept V) → leaves k' left → Outlives step e s sent left
   pub clean : is_clean k' → is_clean k
-  pub before : K
-  pub failed : fails before (kept_of e') k'
 
 -- All of s was fed, answered and saved: so many replies, of so many bytes.
 pub record Takes {V K : Type 0} (step : Step V) (leaves : K → Kept V → Type 0) (is_clean : K → Type 0)
-    (e e' : EncoderState V) (k k' : K) (s sent : List ℕ) (replies bytes : ℕ) : Type 0 where
+    (saves : K → Kept V → K → Type 0) (e e' : EncoderState V) (k k' : K) (s sent : List ℕ) (replies bytes : ℕ) : Type
+    0 where
   pub sends : Sends step e e' s sent replies bytes
   pub keeps : Keeps step leaves is_clean e e' k k' s
+  pub saved : SavesFor saves step e s k k'
+
+-- A save of the encoder failed, after those for the fresh replies before this place of s.
+abbrev pub SavesUpTo : {V K : Type 0} → Step V → (saves fails : K → Kept V → K → Type 0) → (e e' : EncoderState V)
+    → (k k' : K) → (s : List ℕ) → (place : ℕ) → Type 0
+SavesUpTo {V} {K} step saves fails e e' k k' s place =
+    (before : K) × SavesFor saves step e (take place s) k before × fails before (kept_of e') k'
 
 -- A write failed, or a save did, at this place of s.
 abbrev pub StopsAt : {V K : Type 0} → Step V → (leaves : K → Kept V → Type 0) → (is_clean : K → Type 0)
-    → (fails : K → Kept V → K → Type 0) → (e e' : EncoderState V) → (k k' : K) → (s sent : List ℕ) → (place : ℕ) → Stop
-    → Type 0
-StopsAt step leaves is_clean fails e e' k k' s sent place (stop.Write w) =
+    → (saves fails : K → Kept V → K → Type 0) → (e e' : EncoderState V) → (k k' : K) → (s sent : List ℕ) → (place : ℕ)
+    → Stop → Type 0
+StopsAt step leaves is_clean saves fails e e' k k' s sent place (stop.Write w) =
     StopsWriting step e e' s sent w place × Keeps step leaves is_clean e e' k k' s
-StopsAt step leaves is_clean fails e e' k k' s sent place stop.State =
-    StopsSaving step e e' s sent place × Breaks step leaves is_clean fails e e' k k' s sent
+    × SavesFor saves step e (take (place + 1) s) k k'
+StopsAt step leaves is_clean saves fails e e' k k' s sent place stop.State =
+    StopsSaving step e e' s sent place × Breaks step leaves is_clean e k k' s sent
+    × SavesUpTo step saves fails e e' k k' s place
 
 -- how many bytes of a call's part were written before it stopped, as far as it says
 abbrev pub written_at : Stop → ℕ
@@ -85,11 +93,12 @@ IsDue rs (due.Repeat reply) = rs ≡ Replied reply.items false ∷ []
 IsDue rs (due.Fresh reply) = rs ≡ Replied reply.items true ∷ []
 
 -- The encoder was saved where a fresh reply is due, and else the keeper is as it was.
-abbrev pub IsKeptFor : {V K : Type 0} → (leaves : K → Kept V → Type 0) → (is_clean : K → Type 0) → EncoderState V
-    → (k k' : K) → Due → Type 0
-IsKeptFor leaves is_clean e k k' due.Nothing = k' ≡ k
-IsKeptFor leaves is_clean e k k' (due.Repeat reply) = k' ≡ k
-IsKeptFor leaves is_clean e k k' (due.Fresh reply) = is_clean k' → Settled (leaves k') e
+abbrev pub IsKeptFor : {V K : Type 0} → (leaves : K → Kept V → Type 0) → (is_clean : K → Type 0)
+    → (saves : K → Kept V → K → Type 0) → EncoderState V → (k k' : K) → Due → Type 0
+IsKeptFor leaves is_clean saves e k k' due.Nothing = k' ≡ k
+IsKeptFor leaves is_clean saves e k k' (due.Repeat reply) = k' ≡ k
+IsKeptFor leaves is_clean saves e k k' (due.Fresh reply) =
+    (is_clean k' → Settled (leaves k') e) × saves k (kept_of e) k'
 
 -- A save of the encoder failed, for a fresh reply that is due.
 abbrev pub IsNotKeptFor : {V K : Type 0} → (leaves : K → Kept V → Type 0) → (is_clean : K → Type 0)

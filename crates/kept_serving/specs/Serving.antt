@@ -1,11 +1,16 @@
 -- What `serve_kept` does with the bytes that it reads, and with what it keeps. Source: profile.
-use Rattle.std.specs.Prelude.{◌≡◌, ℕ, ◌+◌, ◌<◌, ◌≤◌, true, List, [], ◌∷◌, ◌++◌, length, take, Option, Result, Ok, Err}
+use Rattle.std.specs.Prelude.{◌≡◌, ℕ, ◌+◌, ◌<◌, ◌≤◌, true, false, List, [], ◌∷◌, ◌++◌, length, take, Option, Result, Ok}
+use Rattle.std.specs.Prelude.{Err}
+use Rattle.uecp_frame.specs.Findings.{Finding}
+use Rattle.uecp_frame.specs.Beyond.{found_beyond}
 use Rattle.uecp_encoder.specs.declared.serving.Served.{Served}
 use Rattle.uecp_encoder.specs.Target.{Step}
-use Rattle.uecp_encoder.specs.State.{EncoderState, fed}
-use Rattle.uecp_encoder.specs.Answering.{Response, Replied, responses_to, answers}
+use Rattle.uecp_encoder.specs.declared.serving.ServeFault.TheVariants.{ReadFailed, WriteFailed, TurnsSpent}
+use Rattle.uecp_encoder.specs.State.{EncoderState, after_finding, fed}
+use Rattle.uecp_encoder.specs.Answering.{Response, Replied, NotForMe, Unnumbered, NotNext, Dropped, response_to}
+use Rattle.uecp_encoder.specs.Answering.{responses_to, answers}
 use Rattle.uecp_encoder.specs.Laws.{fresh_in}
-use Rattle.uecp_encoder.specs.Serving.{Serves, ReadsMade, read_failures, empty_reads, write_failures}
+use Rattle.uecp_encoder.specs.Serving.{StopsWriting, Serves, ReadsMade, read_failures, empty_reads, write_failures}
 use Rattle.kept_serving.specs.declared.serving.KeptFault.{KeptFault}
 use Rattle.kept_serving.specs.declared.serving.KeptFault.TheVariants.{Serve, StateFailed}
 use Rattle.kept_serving.specs.Keeping.{Kept, kept_of, Settled, Outlives}
@@ -78,12 +83,49 @@ IsSaveFailed fails e k (Ok served) = Unit {0}
 IsSaveFailed fails e k (Err (Serve fault)) = Unit {0}
 IsSaveFailed {V} {K} fails e k (Err StateFailed) = (before : K) × fails before (kept_of e) k
 
+-- What a response asks to be saved: this where it is a reply to a message that was applied now, and else nothing.
+abbrev pub SavesOnce : {V K : Type 0} → (saves : K → Kept V → K → Type 0) → Response → Kept V → (k k' : K) → Type 0
+SavesOnce saves (Replied bytes true) kept k k' = saves k kept k'
+SavesOnce saves (Replied bytes false) kept k k' = k' ≡ k
+SavesOnce saves NotForMe kept k k' = k' ≡ k
+SavesOnce saves Unnumbered kept k k' = k' ≡ k
+SavesOnce saves NotNext kept k k' = k' ≡ k
+SavesOnce saves (Dropped fault) kept k k' = k' ≡ k
+
+-- The encoder was saved as each of these findings left it to which it gives a fresh reply, one after another, and
+-- nothing else was saved.
+abbrev pub SavesEach : {V K : Type 0} → (saves : K → Kept V → K → Type 0) → Step V → EncoderState V → List Finding
+    → (k k' : K) → Type 0
+SavesEach saves step e [] k k' = k' ≡ k
+SavesEach {V} {K} saves step e (x ∷ xs) k k' =
+    (between : K) × SavesOnce saves (response_to step e x) (kept_of (after_finding step e x)) k between
+    × SavesEach saves step (after_finding step e x) xs between k'
+
+-- so for each that these bytes find
+abbrev pub SavesFor : {V K : Type 0} → (saves : K → Kept V → K → Type 0) → Step V → EncoderState V → List ℕ
+    → (k k' : K) → Type 0
+SavesFor saves step e bytes k k' = SavesEach saves step e (found_beyond e.part bytes) k k'
+
+-- What was saved: the encoder for each fresh reply to all of s; where a write failed, to the bytes that were fed; and
+-- where a save failed, to those before the byte at which it was due.
+abbrev pub HasSaved : {V K : Type 0} → (saves fails : K → Kept V → K → Type 0) → Step V → (e e' : EncoderState V)
+    → (k k' : K) → (s sent : List ℕ) → Ended → Type 0
+HasSaved saves fails step e e' k k' s sent (Ok served) = SavesFor saves step e s k k'
+HasSaved saves fails step e e' k k' s sent (Err (Serve ReadFailed)) = SavesFor saves step e s k k'
+HasSaved saves fails step e e' k k' s sent (Err (Serve TurnsSpent)) = SavesFor saves step e s k k'
+HasSaved saves fails step e e' k k' s sent (Err (Serve (WriteFailed w))) =
+    (place : ℕ) × StopsWriting step e e' s sent w place × SavesFor saves step e (take (place + 1) s) k k'
+HasSaved {V} {K} saves fails step e e' k k' s sent (Err StateFailed) =
+    (place : ℕ) × StopsSaving step e e' s sent place
+    × ((before : K) × SavesFor saves step e (take place s) k before × fails before (kept_of e') k')
+
 -- A call read s and wrote these bytes. Where whatever a crash left at its start was what is to be kept of the encoder,
 -- whatever one leaves at its end is what is to be kept once some first bytes of s were taken, and only replies to those
--- were written. And where no reply to s is fresh nothing is saved.
+-- were written. For each fresh reply the encoder was saved once; and where no reply to s is fresh nothing was.
 pub record ServesKept {V K : Type 0} (step : Step V) (leaves : K → Kept V → Type 0) (is_clean : K → Type 0)
-    (e e' : EncoderState V) (k k' : K) (s sent : List ℕ) (unread : Option (List ℕ)) (turns : ℕ) (ended : Ended) : Type
-    0 where
+    (saves fails : K → Kept V → K → Type 0) (e e' : EncoderState V) (k k' : K) (s sent : List ℕ)
+    (unread : Option (List ℕ)) (turns : ℕ) (ended : Ended) : Type 0 where
   pub serves : ServesOrStops step e e' s sent unread turns ended
   pub kept : Settled (leaves k) e → is_clean k' → (left : Kept V) → leaves k' left → Outlives step e s sent left
+  pub saved : HasSaved saves fails step e e' k k' s sent ended
   pub same : fresh_among (responses_to step e s) ≡ 0 → k' ≡ k

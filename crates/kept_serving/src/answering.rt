@@ -62,11 +62,13 @@ pub(crate) fn take_piece<T: Target, K: KeepEncoder<T>, W: Write>(
     requires { length piece.now ≤ 512 }
     ensures ok { IfOk result (λ sent. (written : List ℕ)
         × Appends (W.contents writer.old.device) (W.contents writer.new.device) written
-        × Takes T.step K.leaves K.is_clean encoder.old encoder.new keeper.old keeper.new piece.now written sent.replies
+        × Takes T.step K.leaves K.is_clean K.saves encoder.old encoder.new keeper.old keeper.new piece.now written
+        sent.replies
         sent.bytes) }
     ensures err { IfErr result (λ stop. (written : List ℕ) × (place : ℕ)
         × Appends (W.contents writer.old.device) (W.contents writer.new.device) written
-        × StopsAt T.step K.leaves K.is_clean K.fails encoder.old encoder.new keeper.old keeper.new piece.now written
+        × StopsAt T.step K.leaves K.is_clean K.saves K.fails encoder.old encoder.new keeper.old keeper.new piece.now
+        written
         place stop) }
     ensures few_written { IfErr result (λ stop. written_at stop ≤ 16 * length piece.now) }
     ensures failures { writer.new.failures ≡ failures_at result writer.old.failures }
@@ -124,11 +126,13 @@ fn take_first<T: Target, K: KeepEncoder<T>, W: Write>(
     ensures used { IfOk result (λ first. (0 < first.used) × (first.used ≤ length piece.now)) }
     ensures ok { IfOk result (λ first. (written : List ℕ)
         × Appends (W.contents writer.old.device) (W.contents writer.new.device) written
-        × Takes T.step K.leaves K.is_clean encoder.old encoder.new keeper.old keeper.new (take first.used piece.now)
+        × Takes T.step K.leaves K.is_clean K.saves encoder.old encoder.new keeper.old keeper.new
+        (take first.used piece.now)
         written first.sent.replies first.sent.bytes) }
     ensures err { IfErr result (λ stop. (written : List ℕ) × (place : ℕ)
         × Appends (W.contents writer.old.device) (W.contents writer.new.device) written
-        × StopsAt T.step K.leaves K.is_clean K.fails encoder.old encoder.new keeper.old keeper.new piece.now written
+        × StopsAt T.step K.leaves K.is_clean K.saves K.fails encoder.old encoder.new keeper.old keeper.new piece.now
+        written
         place stop) }
     ensures few_written { IfErr result (λ stop. written_at stop ≤ 16) }
     ensures failures { writer.new.failures ≡ failures_at result writer.old.failures }
@@ -193,7 +197,7 @@ fn save_for<T: Target, K: KeepEncoder<T>>(
     keeper: &mut K,
 ) -> Result<(), SaveFailed>
     ensures clean { K.is_clean keeper.new → K.is_clean keeper.old }
-    ensures ok { OnOk result (IsKeptFor K.leaves K.is_clean encoder.now keeper.old keeper.new due.now) }
+    ensures ok { OnOk result (IsKeptFor K.leaves K.is_clean K.saves encoder.now keeper.old keeper.new due.now) }
     ensures err { IfErr result (λ _. IsNotKeptFor K.leaves K.is_clean K.fails encoder.now keeper.old keeper.new
         due.now) }
 {

@@ -17,6 +17,9 @@ pub trait KeepEncoder<T: Target> {
     // The premise of what the keeper stands on, up to now: as that a disk kept what it said it had.
     ghost is_clean: { Self → Type 0 };
 
+    // Whether a save of this may succeed, and leave the keeper so.
+    ghost saves: { Self → Kept T → Self → Type 0 };
+
     // Whether a save of this may fail, and leave the keeper so.
     ghost fails: { Self → Kept T → Self → Type 0 };
 
@@ -27,5 +30,6 @@ pub trait KeepEncoder<T: Target> {
         ensures either { is_clean self.new → (left : Kept T) → leaves self.new left
             → leaves self.old left ⊎ (left ≡ kept_of encoder.now) }
         ensures clean { is_clean self.new → is_clean self.old }
+        ensures made { OnOk result (saves self.old (kept_of encoder.now) self.new) }
         ensures failed { IfErr result (λ _. fails self.old (kept_of encoder.now) self.new) };
 }

@@ -43,7 +43,7 @@ pub fn serve_kept<T: Target, K: KeepEncoder<T>, R: Read, W: Write>(
     ensures bytes { (s : List ℕ) × (written : List ℕ)
         × Consumes (R.remaining reader.old.device) (R.remaining reader.new.device) s
         × Appends (W.contents writer.old.device) (W.contents writer.new.device) written
-        × ServesKept T.step K.leaves K.is_clean encoder.old encoder.new keeper.old keeper.new s written
+        × ServesKept T.step K.leaves K.is_clean K.saves K.fails encoder.old encoder.new keeper.old keeper.new s written
         (R.remaining reader.new.device) turns result
         × (length s ≤ 512 * turns) }
     // From here the next call goes on.

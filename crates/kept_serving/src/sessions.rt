@@ -25,7 +25,8 @@ pub fn serve_connection_kept<T: Target, K: KeepEncoder<T>, C: Connect>(
     turns: u32,
     connect: &mut C,
 ) -> Option<Result<Served, KeptFault>>
-    ensures served { IfSome result (λ ended. ServingKept T.step K.leaves K.is_clean C.opens C.closes C.Input.remaining
+    ensures served { IfSome result (λ ended. ServingKept T.step K.leaves K.is_clean K.saves K.fails C.opens C.closes
+        C.Input.remaining
         C.Output.contents turns encoder.old keeper.old connect.old ended encoder.new keeper.new connect.new) }
     // From here the next connection goes on.
     ensures settled { IfSome result (λ ended. Settled (K.leaves keeper.old) encoder.old → K.is_clean keeper.new

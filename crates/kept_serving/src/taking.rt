@@ -28,6 +28,7 @@ pub fn take_kept<T: Target, K: KeepEncoder<T>>(
     ensures either { Settled (K.leaves keeper.old) encoder.old → K.is_clean keeper.new → (left : Kept T)
         → K.leaves keeper.new left → (left ≡ kept_of encoder.old) ⊎ (left ≡ kept_of encoder.new) }
     ensures clean { K.is_clean keeper.new → K.is_clean keeper.old }
+    ensures saved { OnOk result (K.saves keeper.old (kept_of encoder.new) keeper.new) }
     ensures save_failed { IfErr result (λ _. K.fails keeper.old (kept_of encoder.new) keeper.new) }
 {
     let group = encoder.take_group();

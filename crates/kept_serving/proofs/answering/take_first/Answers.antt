@@ -11,7 +11,7 @@ returns-in-Err-clause-err g c =
       [],
       taken.result.used - 1,
       Appends-nil _,
-      first_stops_saving g.T.Target.step k.leaves k.is_clean k.fails c.args.encoder.now taken.new.encoder
+      first_stops_saving g.T.Target.step k.leaves k.is_clean k.saves k.fails c.args.encoder.now taken.new.encoder
           c.args.keeper.now c.save_for.new.keeper c.args.piece.now taken.result.used taken.result.due
           taken.ensures.some taken.ensures.fits taken.ensures.state taken.ensures.due taken.ensures.first
           c.in-Err.ensures.err c.save_for.ensures.clean,
@@ -25,7 +25,7 @@ returns-in-Err-write_due-clause-err g c =
       take c.in-Err-write_due.written (due_bytes taken.result.due),
       taken.result.used - 1,
       err.1,
-      first_stops_writing g.T.Target.step k.leaves k.is_clean k.fails c.args.encoder.now taken.new.encoder
+      first_stops_writing g.T.Target.step k.leaves k.is_clean k.saves k.fails c.args.encoder.now taken.new.encoder
           c.args.keeper.now c.save_for.new.keeper c.args.piece.now taken.result.used taken.result.due
           c.in-Err-write_due.written taken.ensures.some taken.ensures.fits taken.ensures.state taken.ensures.due
           taken.ensures.first c.in-Ok.ensures.ok c.save_for.ensures.clean err.0,
@@ -38,7 +38,7 @@ returns-in-Ok-write_due-clause-ok g c =
     let ok = c.in-Ok-write_due.ensures in (
       due_bytes taken.result.due,
       ok.ok,
-      first_takes g.T.Target.step k.leaves k.is_clean k.fails c.args.encoder.now taken.new.encoder
+      first_takes g.T.Target.step k.leaves k.is_clean k.saves k.fails c.args.encoder.now taken.new.encoder
           c.args.keeper.now c.save_for.new.keeper c.args.piece.now taken.result.used taken.result.due
           c.in-Ok-write_due.sent.replies c.in-Ok-write_due.sent.bytes taken.ensures.some taken.ensures.fits
           taken.ensures.state taken.ensures.due c.in-Ok.ensures.ok c.save_for.ensures.clean ok.replies ok.bytes

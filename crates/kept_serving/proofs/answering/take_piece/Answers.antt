@@ -12,7 +12,7 @@ loop-at-init g c =
       [],
       omega arith,
       Appends-nil _,
-      takes_nothing g.T.Target.step k.leaves k.is_clean k.fails c.args.encoder.now c.args.keeper.now,
+      takes_nothing g.T.Target.step k.leaves k.is_clean k.saves k.fails c.args.encoder.now c.args.keeper.now,
       refl,
     )
 
@@ -30,11 +30,13 @@ returns-in-Err-clause-err g c =
       before ++ now,
       length (take at piece) + place,
       Appends-trans _ _ _ _ _ gave appended,
-      subst (λ why. StopsAt step k.leaves k.is_clean k.fails e e' c.args.keeper.now c.take_first.new.keeper piece
+      subst (λ why. StopsAt step k.leaves k.is_clean k.saves k.fails e e' c.args.keeper.now c.take_first.new.keeper
+          piece
           (before ++ now) (length (take at piece) + place) why) (sym c.after.ensures)
-          (subst (λ s. StopsAt step k.leaves k.is_clean k.fails e e' c.args.keeper.now c.take_first.new.keeper s
+          (subst (λ s. StopsAt step k.leaves k.is_clean k.saves k.fails e e' c.args.keeper.now c.take_first.new.keeper s
           (before ++ now) (length (take at piece) + place) (stopped_after c.loop-at.sent.bytes c.in-Err.stop)) whole
-          (stops_at_on step k.leaves k.is_clean k.fails e c.loop-at.encoder e' c.args.keeper.now c.loop-at.keeper
+          (stops_at_on step k.leaves k.is_clean k.saves k.fails e c.loop-at.encoder e' c.args.keeper.now
+          c.loop-at.keeper
           c.take_first.new.keeper (take at piece) before _ now _ _ place c.in-Err.stop taken stops)),
     )
 
@@ -55,15 +57,16 @@ loop-at-preserved g c =
       before ++ now,
       search rules,
       Appends-trans _ _ _ _ _ gave appended,
-      subst (λ r. Takes step k.leaves k.is_clean e e' k0 k' (take (at + used) piece) (before ++ now) r
+      subst (λ r. Takes step k.leaves k.is_clean k.saves e e' k0 k' (take (at + used) piece) (before ++ now) r
           c.both-sent.result.bytes)
           (sym c.both-sent.ensures.replies)
-          (subst (λ b. Takes step k.leaves k.is_clean e e' k0 k' (take (at + used) piece) (before ++ now)
+          (subst (λ b. Takes step k.leaves k.is_clean k.saves e e' k0 k' (take (at + used) piece) (before ++ now)
           (c.loop-at.sent.replies + c.in-Ok.first.sent.replies) b) (sym c.both-sent.ensures.bytes)
-          (subst (λ s. Takes step k.leaves k.is_clean e e' k0 k' s (before ++ now)
+          (subst (λ s. Takes step k.leaves k.is_clean k.saves e e' k0 k' s (before ++ now)
           (c.loop-at.sent.replies + c.in-Ok.first.sent.replies) (c.loop-at.sent.bytes + c.in-Ok.first.sent.bytes))
           joined
-          (takes_on step k.leaves k.is_clean k.fails e c.loop-at.encoder e' k0 c.loop-at.keeper k' (take at piece)
+          (takes_on step k.leaves k.is_clean k.saves k.fails e c.loop-at.encoder e' k0 c.loop-at.keeper k'
+          (take at piece)
           before _ now _ _ _ _ taken more))),
       search rules,
     )

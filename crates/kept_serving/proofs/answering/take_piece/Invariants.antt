@@ -8,7 +8,8 @@ abbrev pub invariant-loop-at : goal.invariant-loop-at
 invariant-loop-at g l = (written : List ℕ)
     × (l.at ≤ length l.piece)
     × Appends (g.W.Write.contents l.fn.writer.device) (g.W.Write.contents l.writer.device) written
-    × Takes g.T.Target.step g.K.KeepEncoder.leaves g.K.KeepEncoder.is_clean l.fn.encoder l.encoder l.fn.keeper l.keeper
+    × Takes g.T.Target.step g.K.KeepEncoder.leaves g.K.KeepEncoder.is_clean g.K.KeepEncoder.saves l.fn.encoder l.encoder
+    l.fn.keeper l.keeper
     (take l.at l.piece) written l.sent.replies l.sent.bytes
     × (l.writer.failures ≡ l.fn.writer.failures)
 

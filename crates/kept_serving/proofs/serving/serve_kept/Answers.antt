@@ -15,7 +15,7 @@ loop-turn-init g c =
       [],
       Consumes-nil _,
       Appends-nil _,
-      takes_nothing g.T.Target.step k.leaves k.is_clean k.fails c.args.encoder.now c.args.keeper.now,
+      takes_nothing g.T.Target.step k.leaves k.is_clean k.saves k.fails c.args.encoder.now c.args.keeper.now,
       refl,
       omega arith,
       omega arith,
@@ -45,11 +45,13 @@ loop-turn-preserved g c =
       before ++ now,
       Consumes-trans _ _ _ _ _ took c.in-Ok.ensures.bytes.0,
       Appends-trans _ _ _ _ _ gave appended,
-      subst (λ r. Takes step k.leaves k.is_clean e e' k0 k' (s ++ more) (before ++ now) r c.both-sent.result.bytes)
+      subst (λ r. Takes step k.leaves k.is_clean k.saves e e' k0 k' (s ++ more) (before ++ now) r
+          c.both-sent.result.bytes)
           (sym c.both-sent.ensures.replies)
-          (subst (λ b. Takes step k.leaves k.is_clean e e' k0 k' (s ++ more) (before ++ now)
+          (subst (λ b. Takes step k.leaves k.is_clean k.saves e e' k0 k' (s ++ more) (before ++ now)
           (c.loop-turn.sent.replies + c.in-Ok-take_piece.more.replies) b) (sym c.both-sent.ensures.bytes)
-          (takes_on step k.leaves k.is_clean k.fails e c.loop-turn.encoder e' k0 c.loop-turn.keeper k' s before more now
+          (takes_on step k.leaves k.is_clean k.saves k.fails e c.loop-turn.encoder e' k0 c.loop-turn.keeper k' s before
+          more now
           _ _ _ _ taken takes_more)),
       omega (arith, is, long, within.1),
       omega (arith, most, long, within.1, room),
@@ -114,12 +116,15 @@ returns-in-Err-take_piece-clause-bytes g c =
       before ++ now,
       Consumes-trans _ _ _ _ _ took c.in-Ok.ensures.bytes.0,
       Appends-trans _ _ _ _ _ gave appended,
-      subst (λ f. ServesKept step k.leaves k.is_clean e e' k0 k' (s ++ more) (before ++ now) unread c.args.turns
+      subst (λ f. ServesKept step k.leaves k.is_clean k.saves k.fails e e' k0 k' (s ++ more) (before ++ now) unread
+          c.args.turns
           (Err f))
           (sym c.fault.ensures)
-          (ends_stopped step k.leaves k.is_clean k.fails e e' k0 k' (s ++ more) (before ++ now) (length s + place) bytes
+          (ends_stopped step k.leaves k.is_clean k.saves k.fails e e' k0 k' (s ++ more) (before ++ now)
+          (length s + place) bytes
           why unread c.args.turns
-          (stops_at_on step k.leaves k.is_clean k.fails e c.loop-turn.encoder e' k0 c.loop-turn.keeper k' s before more
+          (stops_at_on step k.leaves k.is_clean k.saves k.fails e c.loop-turn.encoder e' k0 c.loop-turn.keeper k' s
+          before more
           now _ _ place why taken stops)
           (omega (arith, long, within.1, room))),
       omega (arith, long, within.1, room, most, turn),
@@ -140,9 +145,10 @@ returns-in-Err-take_piece-clause-settled g c =
     let k0 = c.args.keeper.now in
     let k' = c.take_piece.new.keeper in
     subst (λ f. Settled (k.leaves k0) e → k.is_clean k' → StaysSettled (k.leaves k') e' (Err f)) (sym c.fault.ensures)
-    (settled_stopped step k.leaves k.is_clean k.fails e e' k0 k' (s ++ more) (before ++ now) (length s + place)
+    (settled_stopped step k.leaves k.is_clean k.saves k.fails e e' k0 k' (s ++ more) (before ++ now) (length s + place)
     bytes why
-    (stops_at_on step k.leaves k.is_clean k.fails e c.loop-turn.encoder e' k0 c.loop-turn.keeper k' s before more
+    (stops_at_on step k.leaves k.is_clean k.saves k.fails e c.loop-turn.encoder e' k0 c.loop-turn.keeper k' s before
+    more
     now _ _ place why taken stops))
 
 -- ---- all that was read was taken
@@ -155,8 +161,9 @@ returns-in-Err-clause-bytes g c =
       written,
       search rules,
       gave,
-      ends_whole g.T.Target.step k.leaves k.is_clean k.fails c.args.encoder.now c.loop-turn.encoder c.args.keeper.now
-          c.loop-turn.keeper s written _ _ _ c.args.turns _ taken (search rules),
+      ends_whole g.T.Target.step k.leaves k.is_clean k.saves k.fails c.args.encoder.now c.loop-turn.encoder
+          c.args.keeper.now
+          c.loop-turn.keeper s written _ _ _ c.args.turns _ taken (search rules) taken.saved,
       search rules,
     )
 
@@ -169,8 +176,9 @@ returns-in-Ok-eq0-clause-bytes g c =
       written,
       search rules,
       gave,
-      ends_whole g.T.Target.step k.leaves k.is_clean k.fails c.args.encoder.now c.loop-turn.encoder c.args.keeper.now
-          c.loop-turn.keeper s written _ _ _ c.args.turns _ taken (search rules),
+      ends_whole g.T.Target.step k.leaves k.is_clean k.saves k.fails c.args.encoder.now c.loop-turn.encoder
+          c.args.keeper.now
+          c.loop-turn.keeper s written _ _ _ c.args.turns _ taken (search rules) taken.saved,
       search rules,
     )
 
@@ -183,7 +191,8 @@ returns-clause-bytes g c =
       written,
       search rules,
       gave,
-      ends_whole g.T.Target.step k.leaves k.is_clean k.fails c.args.encoder.now c.loop-turn.encoder c.args.keeper.now
-          c.loop-turn.keeper s written _ _ _ c.args.turns _ taken (search rules),
+      ends_whole g.T.Target.step k.leaves k.is_clean k.saves k.fails c.args.encoder.now c.loop-turn.encoder
+          c.args.keeper.now
+          c.loop-turn.keeper s written _ _ _ c.args.turns _ taken (search rules) taken.saved,
       search rules,
     )

@@ -8,7 +8,8 @@ abbrev pub invariant-loop-turn : goal.invariant-loop-turn
 invariant-loop-turn g l = (s : List ℕ) × (written : List ℕ)
     × Consumes (g.R.Read.remaining l.fn.reader.device) (g.R.Read.remaining l.reader.device) s
     × Appends (g.W.Write.contents l.fn.writer.device) (g.W.Write.contents l.writer.device) written
-    × Takes g.T.Target.step g.K.KeepEncoder.leaves g.K.KeepEncoder.is_clean l.fn.encoder l.encoder l.fn.keeper l.keeper
+    × Takes g.T.Target.step g.K.KeepEncoder.leaves g.K.KeepEncoder.is_clean g.K.KeepEncoder.saves l.fn.encoder l.encoder
+    l.fn.keeper l.keeper
     s
     written l.sent.replies l.sent.bytes
     × (l.read ≡ length s)

@@ -13,7 +13,8 @@ returns-clause-served g c =
       s.new.writer,
       c.open.new.self,
       search rules,
-      session_of g.T.Target.step k.leaves k.is_clean g.C.Input.Read.remaining g.C.Output.Write.contents c.args.turns
+      session_of g.T.Target.step k.leaves k.is_clean k.saves k.fails g.C.Input.Read.remaining g.C.Output.Write.contents
+          c.args.turns
           c.args.encoder.now c.line_lost.new.self s.new.encoder c.args.keeper.now s.new.keeper i.input
           c.new-input.result s.new.reader i.output c.new-output.result s.new.writer s.result c.ranges.turns.fits
           c.new-input.ensures.device c.new-input.ensures.calls c.new-input.ensures.failures c.new-input.ensures.empty
