@@ -1,5 +1,5 @@
 -- What the two files hold, from what a crash may leave.
-use Rattle.std.proofs.Common.{◌≡◌, ℕ, List, Option, IsTrue, sym, ap, subst, ◌∙◌}
+use Rattle.std.proofs.Common.{[], ◌≡◌, ℕ, List, Option, IsTrue, sym, ap, subst, ◌∙◌}
 use Rattle.std.proofs.Math.Logic.{∥∥₁_elim, ∥∥₁_map}
 use Rattle.std.specs.Coded.{coded_ℕ, coded_list, coded_option}
 use base.Stored.{Coded-set}
@@ -25,7 +25,7 @@ use Rattle.sqlite.specs.Closing.{HoldsAlone, IsCopied}
 use Rattle.sqlite.proofs.Theorems.{opens_again}
 use Rattle.kept_state.specs.Kept.{Holds}
 use Rattle.kept_state.specs.Keeper.{Keeper, Keeps}
-use Rattle.kept_state.specs.Files.{FilesHold, FileHolds}
+use Rattle.kept_state.specs.Files.{FilesHold, FileHolds, HoldLeft}
 
 images_set : IsSet (Option (List ℕ))
 images_set = Coded-set (coded_option (coded_list coded_ℕ))
@@ -70,3 +70,18 @@ module _ {D : Type 0} {g : Ghosts D} (was k : Keeper (FileStore D g)) (is : was 
       let left_of = may_leave_is back.pool left sure (subst (λ (p : D × D). outcomes g p.0 p.1 left) same may) in
       subst (λ (x : Keeper (FileStore D g)). FilesHold x.version image left) is
       (left_in back (numbered honest) (sound honest) was.version image (λ rows found. kept_before.every rows (before rows found)) left left_of)
+
+module _ {D : Type 0} {g : Ghosts D} (was k : Keeper (FileStore D g)) (is : was ≡ k) where
+  pub closed_rows : SeenMayStay g → (files : Files D) → IsCopied was.conn files → (left : Image) → outcomes g files.log files.db left → HoldLeft over_files k (record left { log = [] })
+  closed_rows stays files copied left may =
+      subst (λ (x : Keeper (FileStore D g)). HoldLeft over_files x (record left { log = [] })) is
+      (∥∥₁_map (copied.left left may).alone (λ has. (_, stays_at was.conn.store stays copied.was_open, has)))
+
+  pub stopped_rows : (back : FileStore D g) (files : Files D) → (files.log, files.db) ≡ store_files back → (IsHonest (view back) → IsTrue (view back).is_numbered) → (IsHonest (view back) → AreDatabases (recovers back))
+      → ((rows : Trees) → recovers back rows → recovers was.conn.store rows) → AreClean g files.log files.db → (left : Image) → outcomes g files.log files.db left → HoldLeft over_files k left
+  stopped_rows back files same numbered sound before clean left may =
+      let sure = subst (λ (p : D × D). AreClean g p.0 p.1) same clean in
+      let honest : IsHonest (view back) = no_doubt _ (clean_is back.pool ∙ sure) in
+      let left_of = may_leave_is back.pool left sure (subst (λ (p : D × D). outcomes g p.0 p.1 left) same may) in
+      subst (λ (x : Keeper (FileStore D g)). HoldLeft over_files x left) is
+      (∥∥₁_map (opens_again back (numbered honest) (sound honest) left left_of) (λ (rows, found, has). (rows, before rows found, has)))

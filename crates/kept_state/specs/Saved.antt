@@ -4,8 +4,8 @@ use Rattle.sqlite.specs.Tree.{Trees}
 use Rattle.sqlite.specs.Store.{Ghosts}
 use Rattle.sqlite.specs.Recovery.{Image}
 use Rattle.kept_state.specs.Kept.{Holds}
-use Rattle.kept_state.specs.Keeper.{Keeper, MayLeave, Keeps}
-use Rattle.kept_state.specs.Files.{FilesHold}
+use Rattle.sqlite.specs.Files.{HoldsDatabase}
+use Rattle.kept_state.specs.Keeper.{Keeper, MayLeave}
 
 module _ {T : Type 0} (reads : List ℕ → T → Type 0) where
   -- the rows hold an image that is read as this value
@@ -14,11 +14,14 @@ module _ {T : Type 0} (reads : List ℕ → T → Type 0) where
     pub holds : Holds version (Some image) rows
     pub read : reads image value
 
-  -- the files hold an image that is read as this value
-  pub record FilesHoldValue (version : ℕ) (files : Image) (value : T) : Type 0 where
-    pub image : List ℕ
-    pub holds : FilesHold version (Some image) files
-    pub read : reads image value
+  -- the two files hold a database whose image is read as this value
+  abbrev pub FilesHoldValue : ℕ → Image → T → Type 0
+  FilesHoldValue version files value = ∥ ((rows : Trees) × HoldsDatabase files rows × HoldsValue version rows value) ∥₁
+
+  -- the rows hold this value, or none yet
+  abbrev pub HoldsIt : ℕ → Trees → Option T → Type 0
+  HoldsIt version rows None = Holds version None rows
+  HoldsIt version rows (Some value) = HoldsValue version rows value
 
   -- the image is read as the value, and no image as none
   abbrev pub ReadsAs : Option (List ℕ) → Option T → Type 0
@@ -32,7 +35,7 @@ module _ {T : Type 0} (reads : List ℕ → T → Type 0) where
     abbrev pub Leaves : Keeper S → T → Type 0
     Leaves k value = (rows : Trees) × MayLeave g k rows × HoldsValue k.version rows value
 
-    -- a crash at this moment may leave this value and no other; where none was saved yet it leaves none
-    abbrev pub LeavesOnly : Keeper S → Option T → Type 0
-    LeavesOnly k None = Keeps g k None
-    LeavesOnly k (Some value) = Leaves k value × ((other : T) → Leaves k other → other ≡ value)
+    -- whatever a crash at this moment leaves holds this value, or none yet, and it leaves something
+    pub record KeepsValue (k : Keeper S) (value : Option T) : Type 0 where
+      pub every : (rows : Trees) → MayLeave g k rows → HoldsIt k.version rows value
+      pub some : (rows : Trees) × MayLeave g k rows

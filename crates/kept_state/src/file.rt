@@ -1,15 +1,17 @@
 //! A keeper over the database file at a path and its log. The concrete store is named here alone.
-ghost use Rattle.std.specs.Prelude.{◌≡◌, ℕ, List, Option, IfOk};
-ghost use Rattle.sqlite.specs.Recovery.{Image};
+ghost use Rattle.std.specs.Prelude.{◌≡◌, [], ℕ, List, Option, None, Some, IfOk};
+ghost use Rattle.sqlite.specs.Recovery.{Image as Held};
 ghost use Rattle.sqlite.specs.WalFiles.{image_at, outcomes};
 ghost use Rattle.sqlite.specs.WalReads.{AreClean};
 ghost use Rattle.sqlite.specs.Files.{over_files, image_of};
 ghost use Rattle.kept_state.specs.Kept.{bytes_of};
 ghost use Rattle.kept_state.specs.Keeper.{IsClean, Keeps};
-ghost use Rattle.kept_state.specs.Files.{FilesHold, FileHolds};
+ghost use Rattle.kept_state.specs.Files.{FilesHold, FileHolds, HoldLeft};
+ghost use Rattle.kept_state.specs.Saved.{FilesHoldValue, KeepsValue};
 
 use crate::fault::{KeepFault, fault_of};
 use crate::kept::{Kept, Opened};
+use crate::saved::{Found, Image, Saved};
 use sqlite::{Connection, FileFrom, FileStore, Files, Start, Wary};
 use sqlite_disk::Disk;
 use std::rt::HostRuntime;
@@ -49,12 +51,50 @@ pub fn open_from<S: Start>(
     }
 }
 
+/// As `open`, for a value.
+pub fn open_value<T: Image>(
+    rt: &HostRuntime,
+    path: &str,
+    version: u32,
+) -> Result<Found<StateFile, T>, KeepFault>
+    ensures kept { IfOk result (λ r. IsClean over_files r.saved → KeepsValue T.Image.reads over_files r.saved r.value) }
+    ensures version { IfOk result (λ r. r.saved.version ≡ version) }
+{
+    match open_value_from(rt, path, version, Wary) {
+        Ok(found) => Ok(found),
+        Err(fault) => Err(fault),
+    }
+}
+
+/// As `open_from`, for a value.
+pub fn open_value_from<S: Start, T: Image>(
+    rt: &HostRuntime,
+    path: &str,
+    version: u32,
+    start: S,
+) -> Result<Found<FileStore<FileFrom<S>>, T>, KeepFault>
+    ensures kept { IfOk result (λ r. IsClean over_files r.saved → KeepsValue T.Image.reads over_files r.saved r.value) }
+    ensures found { (value : T) → FilesHoldValue T.Image.reads version (image_at S.Start) value → IfOk result (λ r. IsClean over_files r.saved → r.value ≡ Some value) }
+    ensures fresh { FilesHold version None (image_at S.Start) → IfOk result (λ r. IsClean over_files r.saved → r.value ≡ None) }
+    ensures version { IfOk result (λ r. r.saved.version ≡ version) }
+{
+    let opened = match open_from(rt, path, version, start) {
+        Ok(opened) => opened,
+        Err(fault) => return Err(fault),
+    };
+    match Saved::over(opened, rt.alloc()) {
+        Ok(found) => Ok(found),
+        Err(fault) => Err(fault),
+    }
+}
+
 impl<D: Disk + Drop> Kept<FileStore<D>> {
     /// A clean end: copies the log into the database file and gives the two files back, so that the database file alone
     /// holds what was kept, also after a crash.
     pub fn close(self) -> Result<Files<D>, KeepFault>
         ensures alone { (image : Option (List ℕ)) → Keeps over_files self image → IfOk result (λ files. AreClean D.Disk files.log files.db → FileHolds self.version image (image_of D.Disk files)) }
-        ensures left { (image : Option (List ℕ)) → Keeps over_files self image → IfOk result (λ files. AreClean D.Disk files.log files.db → (left : Image) → outcomes D.Disk files.log files.db left → FileHolds self.version image left) }
+        ensures rows { IfOk result (λ files. AreClean D.Disk files.log files.db → (left : Held) → outcomes D.Disk files.log files.db left → HoldLeft over_files self (record left { log = [] })) }
+        ensures left { (image : Option (List ℕ)) → Keeps over_files self image → IfOk result (λ files. AreClean D.Disk files.log files.db → (left : Held) → outcomes D.Disk files.log files.db left → FileHolds self.version image left) }
     {
         let Kept {
             conn,
@@ -73,7 +113,8 @@ impl<D: Disk + Drop> Kept<FileStore<D>> {
     /// An end that is not clean, as a crash between two calls: the two files are given back as they are, with no further
     /// write. Whatever such a crash leaves holds what was kept.
     pub fn stop(self) -> Files<D>
-        ensures left { (image : Option (List ℕ)) → Keeps over_files self image → AreClean D.Disk result.log result.db → (left : Image) → outcomes D.Disk result.log result.db left → FilesHold self.version image left }
+        ensures rows { AreClean D.Disk result.log result.db → (left : Held) → outcomes D.Disk result.log result.db left → HoldLeft over_files self left }
+        ensures left { (image : Option (List ℕ)) → Keeps over_files self image → AreClean D.Disk result.log result.db → (left : Held) → outcomes D.Disk result.log result.db left → FilesHold self.version image left }
     {
         let Kept {
             conn,
@@ -81,5 +122,24 @@ impl<D: Disk + Drop> Kept<FileStore<D>> {
             rows: _,
         } = self;
         conn.into_store().close()
+    }
+}
+
+impl<D: Disk + Drop, T: Image> Saved<FileStore<D>, T> {
+    /// As `Kept::close`: the database file alone holds the value, also after a crash.
+    pub fn close(self) -> Result<Files<D>, KeepFault>
+        ensures left { (value : T) → KeepsValue T.Image.reads over_files self (Some value) → IfOk result (λ files. AreClean D.Disk files.log files.db → (left : Held) → outcomes D.Disk files.log files.db left → FilesHoldValue T.Image.reads self.version (record left { log = [] }) value) }
+    {
+        match self.into_kept().close() {
+            Ok(files) => Ok(files),
+            Err(fault) => Err(fault),
+        }
+    }
+
+    /// As `Kept::stop`: whatever a crash between two calls leaves holds the value.
+    pub fn stop(self) -> Files<D>
+        ensures { (value : T) → KeepsValue T.Image.reads over_files self (Some value) → AreClean D.Disk result.log result.db → (left : Held) → outcomes D.Disk result.log result.db left → FilesHoldValue T.Image.reads self.version left value }
+    {
+        self.into_kept().stop()
     }
 }

@@ -10,6 +10,6 @@ mod start;
 mod table;
 
 pub use fault::KeepFault;
-pub use file::{StateFile, open, open_from};
+pub use file::{StateFile, open, open_from, open_value, open_value_from};
 pub use kept::{Kept, Opened};
 pub use saved::{Found, Image, Saved};

@@ -1,9 +1,10 @@
 //! One value, kept as its image: what a crash leaves is said of the value alone.
 ghost use Rattle.std.specs.Prelude.{◌≡◌, ◌⊎◌, ℕ, List, Some, IfOk, IfErr, OnOk, OnErr, MatchOption};
-ghost use Rattle.kept_state.specs.Keeper.{IsClean, Keeps, HasEnded};
+ghost use Rattle.sqlite.specs.Tree.{Trees};
+ghost use Rattle.kept_state.specs.Keeper.{IsClean, MayLeave, HasEnded};
 ghost use Rattle.kept_state.specs.Kept.{bytes_of};
 ghost use Rattle.kept_state.specs.declared.fault.KeepFault.TheVariants.{OutOfMemory, Damaged};
-ghost use Rattle.kept_state.specs.Saved.{Leaves, ReadsAs};
+ghost use Rattle.kept_state.specs.Saved.{HoldsValue, KeepsValue, Leaves, ReadsAs};
 
 use crate::fault::KeepFault;
 use crate::kept::{Kept, Opened};
@@ -59,14 +60,17 @@ pub struct Found<S: Alter, T> {
 }
 
 impl<S: Alter, T: Image> Saved<S, T> {
-    /// Saves the value in place of the one that was kept. From `Ok` on a crash leaves it and no other. At any outcome a
+    /// Saves the value in place of the one that was kept. From `Ok` on whatever a crash leaves is read as it. At any outcome a
     /// crash leaves what it could leave before, or the new value. Where there was no memory for the image nothing has
     /// happened; after any other fault each later save answers `Failed`, as `Kept::save` says.
     pub fn save(&mut self, value: &T) -> Result<(), KeepFault>
         ensures saved { IsClean S.Store self.new → OnOk result ((w : T) → Leaves T.Image.reads S.Store self.new w → w ≡ T.Image.again value.now) }
-        ensures left { IsClean S.Store self.new → OnOk result (Leaves T.Image.reads S.Store self.new (T.Image.again value.now)) }
         ensures either { IsClean S.Store self.new → (w : T) → Leaves T.Image.reads S.Store self.new w → Leaves T.Image.reads S.Store self.old w ⊎ (w ≡ T.Image.again value.now) }
         ensures clean { IsClean S.Store self.new → IsClean S.Store self.old }
+        ensures kept { IsClean S.Store self.new → OnOk result (KeepsValue T.Image.reads S.Store self.new (Some (T.Image.again value.now))) }
+        ensures rows { IsClean S.Store self.new → (rows : Trees) → MayLeave S.Store self.new rows → MayLeave S.Store self.old rows ⊎ HoldsValue T.Image.reads self.old.version rows (T.Image.again value.now) }
+        ensures version { self.new.version ≡ self.old.version }
+        ensures ended { HasEnded S.Store self.old → (result ≡ Err KeepFault.Failed) ⊎ (result ≡ Err KeepFault.OutOfMemory) }
         ensures failed { OnErr result (HasEnded S.Store self.new ⊎ (self.new ≡ self.old)) }
     {
         let image = match value.put(self.alloc) {
@@ -74,6 +78,18 @@ impl<S: Alter, T: Image> Saved<S, T> {
             Err(_) => return Err(KeepFault::OutOfMemory),
         };
         self.kept.save(image.as_slice())
+    }
+
+    /// What keeps the value, without its type.
+    pub fn into_kept(self) -> Kept<S>
+        ensures { result ≡ self }
+    {
+        let Saved {
+            kept,
+            alloc: _,
+            of: _,
+        } = self;
+        kept
     }
 }
 
