@@ -1,18 +1,19 @@
 -- Words that name an event, and words that name none.
 use Rattle.std.proofs.Common.{◌≡◌, ℕ, ◌⊎◌, inl, inr, List, [], ◌∷◌, ◌++◌, codes, refl, sym, ap, ◌∙◌, subst, length}
-use Rattle.std.proofs.Common.{get_or, take, drop, Some, ◌+◌, eqb, eq-eqb, false, Bor, ◌≤◌, ◌<◌, map, arith}
+use Rattle.std.proofs.Common.{get_or, take, drop, Some, ◌+◌, eqb, eq-eqb, false, Bor, ◌≤◌, ◌<◌, ◌*◌, map, arith}
 use Rattle.std.specs.List.{list_all}
 use Rattle.std.proofs.lemmas.List.{map_more, map-append, length-map}
 use Rattle.std.proofs.lemmas.Bool.{false≢true}
-use Rattle.uecp_link.specs.Once.{Event, Submit, FrameComes, ReplyComes, EncoderLost, ServerLost}
+use Rattle.uecp_link.specs.Once.{Event, Submit, FrameComes, ReplyComes, EncoderLost, ServerLost, EncoderRestart}
+use Rattle.uecp_link.specs.Once.{ServerRestart}
 use Rattle.uecp_link.specs.Events.{lost_of}
 use Rattle.uecp_link.specs.declared.event.Side.{Side}
 use Rattle.uecp_link.specs.declared.event.Side.TheVariants as side
 use Rattle.uecp_text.specs.declared.text_fault.TextFault.{TextFault}
 use Rattle.uecp_text.specs.declared.text_fault.TextFault.TheVariants.{NotACommand, OutOfMemory}
 use Rattle.uecp_text.specs.Words.{IsRow, decimal_in}
-use Rattle.uecp_words.specs.EventWords.{name_of, end_word, noise_to, is_cut, AreCuts, TellsMessage, TellsNoise}
-use Rattle.uecp_words.specs.EventWords.{TellsRow, Names, Submits, IsFaultOf}
+use Rattle.uecp_words.specs.EventWords.{name_of, end_word, noise_to, restart_of, is_cut, AreCuts, TellsMessage}
+use Rattle.uecp_words.specs.EventWords.{TellsNoise, TellsRow, Names, Submits, IsFaultOf}
 
 -- ---- Words that name an event.
 
@@ -28,11 +29,17 @@ pub loss_named : (end : Side) (words : List (List ℕ)) → words ≡ end_word e
 loss_named side.Encoder words told = (words, refl, told)
 loss_named side.Server words told = (words, refl, told)
 
+-- `resume` and an end name the start of that end.
+pub resume_named : (end : Side) (words : List (List ℕ)) → words ≡ end_word end ∷ []
+    → Names (codes "resume" ∷ words) (restart_of end)
+resume_named side.Encoder words told = (words, refl, told)
+resume_named side.Server words told = (words, refl, told)
+
 -- ---- Words that name none.
 
--- The length of a word and its first byte together: no two names have the same.
+-- Three times the length of a word and its first byte together: no two names have the same.
 abbrev mark : List ℕ → ℕ
-mark word = length word + get_or word 0 0
+mark word = 3 * length word + get_or word 0 0
 
 -- Lists of words with different names in front are different.
 apart : (a b : List ℕ) (words others : List (List ℕ)) → eqb (mark a) (mark b) ≡ false → a ∷ words ≡ b ∷ others → ⊥
@@ -82,6 +89,15 @@ no_loss words none EncoderLost named =
 no_loss words none ServerLost named =
     none side.Server (sym (same_rest (codes "line-lost") (codes "line-lost") words named.0 named.1) ∙ named.2)
 no_loss words none event named = apart (codes "line-lost") (name_of event) words named.0 refl named.1
+
+-- Words after `resume` that are no end name no event.
+no_resume : (words : List (List ℕ)) → ((end : Side) → words ≡ end_word end ∷ [] → ⊥) → (event : Event)
+    → Names (codes "resume" ∷ words) event → ⊥
+no_resume words none EncoderRestart named =
+    none side.Encoder (sym (same_rest (codes "resume") (codes "resume") words named.0 named.1) ∙ named.2)
+no_resume words none ServerRestart named =
+    none side.Server (sym (same_rest (codes "resume") (codes "resume") words named.0 named.1) ∙ named.2)
+no_resume words none event named = apart (codes "resume") (name_of event) words named.0 refl named.1
 
 -- Why a word, or all words after the first, are refused.
 abbrev pub FailsFor : {A : Type 0} → (A → Type 0) → TextFault → Type 0
@@ -133,6 +149,16 @@ loss_refused word words e is f =
       no_event = no_loss words (λ end same.
           f.1 end (let one : word ∷ [] ≡ end_word end ∷ [] = sym is ∙ same in first_same word (end_word end) one));
       no_bytes = no_bytes (codes "line-lost") words refl;
+    })
+
+-- What the end of `resume` is refused for is the fault of the words.
+pub resume_refused : (word : List ℕ) (words : List (List ℕ)) (e : TextFault) → words ≡ word ∷ []
+    → (e ≡ NotACommand) × ((end : Side) → word ≡ end_word end → ⊥) → IsFaultOf (codes "resume" ∷ words) e
+resume_refused word words e is f =
+    rw f.0 (record {
+      no_event = no_resume words (λ end same.
+          f.1 end (let one : word ∷ [] ≡ end_word end ∷ [] = sym is ∙ same in first_same word (end_word end) one));
+      no_bytes = no_bytes (codes "resume") words refl;
     })
 
 -- A lone word that fits nothing makes words that tell nothing.

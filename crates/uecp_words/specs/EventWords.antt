@@ -3,7 +3,7 @@ use Rattle.std.specs.Prelude.{◌≡◌, ℕ, ◌≤◌, ◌<◌, Bool, true, Li
 use Rattle.std.specs.List.{list_all}
 use Rattle.hex.specs.Hex.{decode_of}
 use Rattle.uecp_link.specs.Once.{Event, Submit, FrameComes, ReplyComes, NoiseToEncoder, NoiseToServer, EncoderLost}
-use Rattle.uecp_link.specs.Once.{ServerLost, Take}
+use Rattle.uecp_link.specs.Once.{ServerLost, EncoderRestart, ServerRestart, Take}
 use Rattle.uecp_link.specs.Events.{lost_of}
 use Rattle.uecp_link.specs.declared.event.Side.{Side}
 use Rattle.uecp_link.specs.declared.event.Side.TheVariants as side
@@ -22,6 +22,8 @@ name_of (NoiseToEncoder bytes) = codes "noise-encoder"
 name_of (NoiseToServer bytes) = codes "noise-server"
 name_of EncoderLost = codes "line-lost"
 name_of ServerLost = codes "line-lost"
+name_of EncoderRestart = codes "resume"
+name_of ServerRestart = codes "resume"
 name_of Take = codes "take"
 
 -- The word of one end.
@@ -63,6 +65,8 @@ Tells words (NoiseToEncoder bytes) = TellsNoise words bytes
 Tells words (NoiseToServer bytes) = TellsNoise words bytes
 Tells words EncoderLost = words ≡ codes "encoder" ∷ []
 Tells words ServerLost = words ≡ codes "server" ∷ []
+Tells words EncoderRestart = words ≡ codes "encoder" ∷ []
+Tells words ServerRestart = words ≡ codes "server" ∷ []
 Tells words Take = words ≡ []
 
 -- The words name the event: the first is its name, and the others tell the rest.
@@ -88,6 +92,8 @@ TakesMemory (NoiseToEncoder bytes) others = length others ≡ 1
 TakesMemory (NoiseToServer bytes) others = length others ≡ 1
 TakesMemory EncoderLost others = ⊥
 TakesMemory ServerLost others = ⊥
+TakesMemory EncoderRestart others = ⊥
+TakesMemory ServerRestart others = ⊥
 TakesMemory Take others = ⊥
 
 -- Memory may be wanting for the words: the first is the name of an event, and the others hold what takes some.
@@ -110,6 +116,11 @@ abbrev pub noise_to : Side → List ℕ → Event
 noise_to side.Encoder bytes = NoiseToEncoder bytes
 noise_to side.Server bytes = NoiseToServer bytes
 
+-- An end starts again, and goes on from what it kept.
+abbrev pub restart_of : Side → Event
+restart_of side.Encoder = EncoderRestart
+restart_of side.Server = ServerRestart
+
 -- The event of a line of a script, without its cuts.
 abbrev pub event_seen : EventLine → Event
 event_seen (line.Submit m) = Submit m
@@ -117,6 +128,7 @@ event_seen (line.Frame number cut) = FrameComes number
 event_seen (line.Reply number cut) = ReplyComes number
 event_seen (line.Noise end bytes) = noise_to end bytes.items
 event_seen (line.LineLost end) = lost_of end
+event_seen (line.Resume end) = restart_of end
 event_seen line.Take = Take
 
 -- The pieces of the event of a line have the lengths that its words tell behind the name and the number.
@@ -126,6 +138,7 @@ IsCutAs words (line.Frame number cut) = AreCuts (drop 2 words) cut.items
 IsCutAs words (line.Reply number cut) = AreCuts (drop 2 words) cut.items
 IsCutAs words (line.Noise end bytes) = Unit {0}
 IsCutAs words (line.LineLost end) = Unit {0}
+IsCutAs words (line.Resume end) = Unit {0}
 IsCutAs words line.Take = Unit {0}
 
 -- The number of the message that an event names, or 0 where it names none.
@@ -137,4 +150,6 @@ named_message (NoiseToEncoder bytes) = 0
 named_message (NoiseToServer bytes) = 0
 named_message EncoderLost = 0
 named_message ServerLost = 0
+named_message EncoderRestart = 0
+named_message ServerRestart = 0
 named_message Take = 0

@@ -4,7 +4,8 @@ ghost use Rattle.uecp_text.specs.Words.{texts};
 ghost use Rattle.uecp_words.specs.RestartWords.{restart_words};
 
 /// Whether a line of an event script is `restart server`: it names no event that comes over the line, but that the
-/// server died and a new one joins.
+/// server died and a new one, which knows nothing, joins. An end that goes on from what it kept is
+/// [`EventLine::Resume`](crate::EventLine::Resume).
 pub fn is_restart(words: &[&[u8]]) -> bool
     ensures { IsTrue result ↔ (texts words.now ≡ restart_words) }
 {
