@@ -5,7 +5,7 @@ use Rattle.uecp_elements.specs.declared.code.Code.{Code}
 use Rattle.uecp_elements.specs.Codes.{byte_of}
 use Rattle.uecp_link.specs.declared.stepped.Stepped.{Stepped}
 use Rattle.uecp_link.specs.declared.stepped.Stepped.TheVariants.{Numbered, Delivered, NotNext, Acknowledged, Stray}
-use Rattle.uecp_link.specs.declared.stepped.Stepped.TheVariants.{Noise, Lost, Taken}
+use Rattle.uecp_link.specs.declared.stepped.Stepped.TheVariants.{Noise, Lost, Restarted, Taken}
 use Rattle.uecp_link.specs.declared.refusal.LineRefusal.{LineRefusal}
 use Rattle.uecp_link.specs.Refusal.{number_of, name_of}
 use Rattle.rds_store.specs.declared.group.Group.{Group}
@@ -39,6 +39,7 @@ step_line (Ok (Acknowledged code)) named = line_of (codes "acknowledged") (code_
 step_line (Ok Stray) named = line_of (codes "stray") []
 step_line (Ok (Noise dropped)) named = line_of (codes "noise") ((codes "dropped", in_decimal dropped) ∷ [])
 step_line (Ok Lost) named = line_of (codes "lost") []
+step_line (Ok Restarted) named = line_of (codes "resumed") []
 step_line (Ok (Taken group)) named = line_of (codes "taken") ((codes "group", taken_group group) ∷ [])
 step_line (Err refusal) named = line_of (codes "refused")
     ((codes "number", in_decimal (number_of refusal)) ∷ (codes "name", string (name_of refusal)) ∷ [])
