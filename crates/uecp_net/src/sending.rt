@@ -7,6 +7,7 @@ ghost use Rattle.uecp_net.specs.Sending.{AreTold, AreFreed, StillWait};
 
 mod connections;
 mod joining;
+mod lending;
 mod telling;
 
 use crate::connect::Connect;

@@ -1,0 +1,1 @@
+-- What a crash leaves of a server goes on as it was and loses no message. Source: profile.
