@@ -1,1 +1,5 @@
 pub mod Submitting
+pub mod GoingOn
+pub mod Waiting
+pub mod LosingNone
+pub mod Joined

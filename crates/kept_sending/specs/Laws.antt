@@ -1,1 +1,119 @@
--- What a crash leaves of a server goes on as it was and loses no message. Source: profile.
+-- What a crash leaves of a server goes on as it was, loses no message, and sends none again whose acknowledgement was
+-- told. Source: profile.
+use Rattle.std.specs.Prelude.{◌≡◌, ◌⊎◌, ℕ, ◌+◌, false, List, [], ◌∷◌, ◌++◌, length, Option, IsSome, Result, Ok}
+use Rattle.std.specs.List.{Contains}
+use Rattle.uecp_frame.specs.Findings.{Closed}
+use Rattle.uecp_frame.specs.Beyond.{found_beyond}
+use Rattle.uecp_link.specs.declared.heard.HeardWhat.{HeardWhat}
+use Rattle.uecp_link.specs.Counters.{next_counter}
+use Rattle.uecp_link.specs.Server.{ServerState, submitted, waiting, heard, all_heard_as, frames_waiting}
+use Rattle.uecp_link.specs.Server.{counters_waiting}
+use Rattle.uecp_link.specs.Window.{code_under}
+use Rattle.uecp_net.specs.declared.sending.Outstanding.{Outstanding}
+use Rattle.uecp_net.specs.declared.sending.Outstanding.TheVariants.{ConnectionFailed}
+use Rattle.uecp_net.specs.declared.sending.Settled.{Settled}
+use Rattle.uecp_net.specs.Sending.{SenderOver, Marks, Delivers, submitted_all}
+use Rattle.kept_sending.specs.declared.keep.Progress.{Progress}
+use Rattle.kept_sending.specs.Keeping.{KeptServer, kept_of, going_on, taking}
+use Rattle.kept_sending.specs.Sending.{Ended, Acknowledges, SendsKept, OutlivesBatch}
+use Rattle.kept_sending.specs.Joining.{Joined, Joins, HasJoined, OutlivesPass}
+
+-- ---- A server that goes on.
+
+-- what a server says to some bytes
+abbrev pub says : ServerState → List ℕ → List HeardWhat
+says s bytes = all_heard_as s (found_beyond s.part bytes)
+
+-- A server goes on in place of another, which was cut off from its line: it lends the very frames of the messages that
+-- waited, under the same counters; it numbers the next message as that; to whatever is heard over the next connection
+-- it says what that would, and from then on the same is to be kept of it.
+pub record GoesOnAs (progress : Progress) (s again : ServerState) : Type 0 where
+  pub frames : frames_waiting again ≡ frames_waiting s
+  pub counters : counters_waiting again ≡ counters_waiting s
+  pub next : (message : List ℕ) → kept_of progress (submitted again message) ≡ kept_of progress (submitted s message)
+  pub hears : (bytes : List ℕ) → says again bytes ≡ says (record s { part = Closed }) bytes
+  pub keeps : (bytes : List ℕ)
+      → kept_of progress (heard again bytes) ≡ kept_of progress (heard (record s { part = Closed }) bytes)
+
+-- A server that goes on from what is to be kept of another, at its address, does so.
+abbrev pub GoesOnAsItWas : Type 0
+GoesOnAsItWas = (progress : Progress) (s : ServerState) → GoesOnAs progress s (going_on s.address (kept_of progress s))
+
+-- ---- A crash loses no message.
+
+-- The messages of a batch, each with its counter: those after this one, in turn.
+abbrev pub numbered_after : (last : ℕ) → List (List ℕ) → List (ℕ × List ℕ)
+numbered_after last [] = []
+numbered_after last (message ∷ batch) = (next_counter last, message) ∷ numbered_after (next_counter last) batch
+
+-- What is to be delivered once a batch is taken: the messages that wait, and those of the batch.
+abbrev pub to_deliver : ServerState → List (List ℕ) → List (ℕ × List ℕ)
+to_deliver s batch = waiting s ++ numbered_after s.last batch
+
+-- Over the connections from one state of a sender to another the acknowledgement of the message with this counter came.
+abbrev pub HasCome : {C I O : Type 0} → (opens : C → Option (I × O) → C → Type 0) → (closes : C → I → O → C → Type 0)
+    → (remaining : I → Option (List ℕ)) → (contents : O → Option (List ℕ)) → (s s' : SenderOver C I O) → (counter : ℕ)
+    → Type 0
+HasCome opens closes remaining contents s s' counter =
+    (ended : ℕ) × (marks : Marks) × (result : Result ℕ Outstanding)
+    × Delivers opens closes remaining contents ended ConnectionFailed s s' [] marks result
+    × IsSome (code_under counter marks)
+
+-- A crash left this of a sender that took a batch, and of the batch nothing: no connection was opened and no byte
+-- written since it was submitted, its messages are still to be taken from the input, and those that waited before wait
+-- at a server that goes on.
+pub record TakesNone {C I O : Type 0} (before : Progress) (old new : SenderOver C I O) (batch : List (List ℕ))
+    (left : KeptServer) : Type 0 where
+  pub nothing_sent : new ≡ submitted_all old batch
+  pub taken : left.taken ≡ before.taken
+  pub wait : waiting (going_on old.sender.server.address left) ≡ waiting old.sender.server
+
+-- A crash left this of a sender that took a batch, and the whole batch: its messages are not taken from the input
+-- again, and each of them, and of those that waited before, waits at a server that goes on, under its counter, or its
+-- acknowledgement came.
+pub record TakesAll {C I O : Type 0} (opens : C → Option (I × O) → C → Type 0) (closes : C → I → O → C → Type 0)
+    (remaining : I → Option (List ℕ)) (contents : O → Option (List ℕ)) (before : Progress) (old new : SenderOver C I O)
+    (batch : List (List ℕ)) (left : KeptServer) : Type 0 where
+  pub taken : left.taken ≡ before.taken + length batch
+  pub none_lost : (message : ℕ × List ℕ) → Contains (to_deliver old.sender.server batch) message
+      → Contains (waiting (going_on old.sender.server.address left)) message
+      ⊎ HasCome opens closes remaining contents (submitted_all old batch) new message.0
+
+-- Whatever a call of `send_kept` did, and whatever a crash leaves of it: nothing of the batch, where nothing was sent;
+-- or all of it, and no message is lost.
+abbrev pub LosesNoMessage : {C I O K : Type 0} → (opens : C → Option (I × O) → C → Type 0)
+    → (closes : C → I → O → C → Type 0) → (remaining : I → Option (List ℕ)) → (contents : O → Option (List ℕ))
+    → (fails : K → KeptServer → K → Type 0) → Type 0
+LosesNoMessage {C} {I} {O} {K} opens closes remaining contents fails =
+    (before : Progress) (old new : SenderOver C I O) (batch : List (List ℕ)) (k k' : K) (ended : Ended)
+    (left : KeptServer) →
+    SendsKept opens closes remaining contents fails (taking before (length batch)) (submitted_all old batch) new k k'
+    ended →
+    OutlivesBatch before (taking before (length batch)) old (submitted_all old batch) new left →
+    TakesNone before old new batch left
+    ⊎ TakesAll opens closes remaining contents before old new batch left
+
+-- ---- What was told is not sent again.
+
+-- Where the messages that waited are told to be acknowledged, a server that goes on from what is to be kept then lends
+-- no frame.
+abbrev pub SendsNoneAgain : {C I O : Type 0} → (opens : C → Option (I × O) → C → Type 0)
+    → (closes : C → I → O → C → Type 0) → (remaining : I → Option (List ℕ)) → (contents : O → Option (List ℕ)) → Type 0
+SendsNoneAgain {C} {I} {O} opens closes remaining contents =
+    (progress : Progress) (s s' : SenderOver C I O) (settled : Settled) →
+    Acknowledges opens closes remaining contents s s' settled →
+    frames_waiting (going_on s'.sender.server.address (kept_of progress s'.sender.server)) ≡ []
+
+-- ---- A pass that was cut begins anew.
+
+-- A crash left this of a server that was not joined and held nothing: not joined and nothing held, so that a pass may
+-- begin; or joined, and then a pass was complete, nothing is held, and the next message has counter 01.
+abbrev pub BeginsAnewOrIsJoined : {C I O : Type 0} → (opens : C → Option (I × O) → C → Type 0)
+    → (closes : C → I → O → C → Type 0) → (remaining : I → Option (List ℕ)) → (contents : O → Option (List ℕ)) → Type 0
+BeginsAnewOrIsJoined {C} {I} {O} opens closes remaining contents =
+    (before after : Progress) (old new : SenderOver C I O) (ended : Joined) (left : KeptServer) →
+    before.joined ≡ false → old.sender.server.held ≡ [] →
+    (HasJoined ended → Joins opens closes remaining contents old new (Ok tt)) →
+    OutlivesPass before after old.sender.server new.sender.server ended left →
+    ((left.joined ≡ false) × (left.held ≡ []))
+    ⊎ (HasJoined ended × (left.held ≡ []) × (next_counter left.last ≡ 1))

@@ -1,1 +1,32 @@
 //! Laws of the definitions, each the contract of a function that does nothing.
+ghost use Rattle.kept_sending.specs.Laws.{GoesOnAsItWas, LosesNoMessage, SendsNoneAgain, BeginsAnewOrIsJoined};
+
+use crate::keep::KeepServer;
+use uecp_net::Connect;
+
+/// A server that goes on from what was kept is the one that was saved, as the next connection finds it, but that
+/// nothing is counted: it lends the very frames of the messages that waited, byte for byte and under the same counters,
+/// numbers the next message as that server would, and says the same to whatever it hears.
+pub fn goes_on_as_it_was()
+    ensures { GoesOnAsItWas }
+{}
+
+/// A crash loses no message. Whatever [`send_kept`](crate::send_kept) did with a batch, and whatever a crash leaves of
+/// it: where a connection was opened or a byte written, each message of the batch, and each that waited before, waits
+/// at a server that goes on from that, or its acknowledgement came; and the batch is not taken from the input again.
+/// Else the batch may be left out as a whole: then it is taken again, and no byte of it was written.
+pub fn loses_no_message<K: KeepServer, C: Connect>()
+    ensures { LosesNoMessage C.opens C.closes C.Input.remaining C.Output.contents K.fails }
+{}
+
+/// A message whose acknowledgement was told is not sent again: a server that goes on from what is kept then lends no
+/// frame.
+pub fn told_is_not_sent_again<C: Connect>()
+    ensures { SendsNoneAgain C.opens C.closes C.Input.remaining C.Output.contents }
+{}
+
+/// A pass that a crash cut begins anew: where no pass was complete, what the crash left says that the encoder is not
+/// joined, and holds nothing. Where it says that it is joined a pass was complete, and the next message has counter 01.
+pub fn a_cut_pass_begins_anew<C: Connect>()
+    ensures { BeginsAnewOrIsJoined C.opens C.closes C.Input.remaining C.Output.contents }
+{}
