@@ -1,14 +1,12 @@
-//! The groups that wait, as lines (profile).
-ghost use Rattle.std.specs.Prelude.{◌≡◌, true, false, map, All};
+//! The groups that wait, element by element (profile).
+ghost use Rattle.std.specs.Prelude.{◌≡◌, true, false, map, flat_map, All};
 ghost use Rattle.rds_store.specs.Value.{IsGroup};
 ghost use Rattle.uecp_text.specs.Written.{Adds};
-ghost use Rattle.store_phrases.specs.Said.{rule_bits, group_said, groups_said, line, lines};
+ghost use Rattle.store_phrases.specs.Said.{rule_bits, group_said, groups_said};
 
-use crate::element_line::put_line;
+use crate::form::ElementForm;
 use rds_store::Group;
-use rds_text::Region;
 use uecp_elements::Element;
-use uecp_text::Output;
 
 /// The bits of a buffer rule: 10 adds, 00 replaces.
 pub(crate) fn rule_bits(adds: bool) -> u8
@@ -17,31 +15,31 @@ pub(crate) fn rule_bits(adds: bool) -> u8
     if adds { 0x40 } else { 0x00 }
 }
 
-/// The lines of the groups: the first replaces those that wait, and each other is added.
-pub(crate) fn put_groups(region: Region, groups: &[Group], output: &mut Output)
+/// The elements of the groups: the first replaces those that wait, and each other is added.
+pub(crate) fn put_groups<F: ElementForm>(form: &F, groups: &[Group], output: &mut F::Out)
     requires { All IsGroup groups.now }
-    ensures { Adds output.old output.new (lines region (groups_said groups.now)) }
+    ensures { Adds (F.kept output.old) (F.kept output.new) (flat_map (F.bytes form.now) (groups_said groups.now)) }
 {
     if let Some((first, others)) = groups.split_first() {
-        put_group(region, false, first, output);
-        put_added(region, others, output);
+        put_group(form, false, first, output);
+        put_added(form, others, output);
     }
 }
 
-/// The lines of groups that are each added.
-fn put_added(region: Region, groups: &[Group], output: &mut Output)
+/// The elements of groups that are each added.
+fn put_added<F: ElementForm>(form: &F, groups: &[Group], output: &mut F::Out)
     requires { All IsGroup groups.now }
-    ensures { Adds output.old output.new (lines region (map (group_said true) groups.now)) }
+    ensures { Adds (F.kept output.old) (F.kept output.new) (flat_map (F.bytes form.now) (map (group_said true) groups.now)) }
 {
     for group in groups {
-        put_group(region, true, group, output);
+        put_group(form, true, group, output);
     }
 }
 
-/// The line of a group.
-fn put_group(region: Region, adds: bool, group: &Group, output: &mut Output)
+/// The element of a group.
+fn put_group<F: ElementForm>(form: &F, adds: bool, group: &Group, output: &mut F::Out)
     requires { IsGroup group.now }
-    ensures { Adds output.old output.new (line region (group_said adds group.now)) }
+    ensures { Adds (F.kept output.old) (F.kept output.new) (F.bytes form.now (group_said adds group.now)) }
 {
     let element = Element::Group {
         kind: group.kind,
@@ -49,5 +47,5 @@ fn put_group(region: Region, adds: bool, group: &Group, output: &mut Output)
         block3: group.block3,
         block4: group.block4,
     };
-    put_line(region, &element, output);
+    form.put(&element, output);
 }

@@ -7,9 +7,11 @@
 #![tactic(auto)]
 
 mod element_line;
+mod form;
 mod groups;
 pub mod laws;
 mod services;
 mod store;
 
-pub use store::put_store;
+pub use form::ElementForm;
+pub use store::{put_elements, put_store};

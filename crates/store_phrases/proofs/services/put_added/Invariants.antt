@@ -1,10 +1,10 @@
-use Rattle.std.proofs.Common.{map, drop, true}
-use Rattle.store_phrases.specs.Said.{text_said, lines}
+use Rattle.std.proofs.Common.{map, drop, true, flat_map}
+use Rattle.store_phrases.specs.Said.{text_said}
 use Rattle.uecp_text.proofs.Leading.{Leads}
 use Rattle.store_phrases.proofs.services.put_added.Given as goal
 
 -- what is left leads to the same
 abbrev pub invariant-loop-text : goal.invariant-loop-text
-invariant-loop-text l = Leads l.fn.output l.output
-    (lines l.region (map (text_said l.set l.number true) (drop l.text-index l.texts)))
-    (lines l.region (map (text_said l.set l.number true) l.texts))
+invariant-loop-text g l = Leads (g.F.ElementForm.kept l.fn.output) (g.F.ElementForm.kept l.output)
+    (flat_map (g.F.ElementForm.bytes l.form) (map (text_said l.set l.number true) (drop l.text-index l.texts)))
+    (flat_map (g.F.ElementForm.bytes l.form) (map (text_said l.set l.number true) l.texts))

@@ -1,0 +1,7 @@
+pub mod Spelled
+pub mod Apart
+pub mod Pairs
+pub mod Telling
+pub mod Servers
+pub mod Same
+pub mod Walks

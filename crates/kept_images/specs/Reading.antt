@@ -1,0 +1,78 @@
+-- What is read of an image, and which images are read. Source: profile.
+use Rattle.std.specs.Prelude.{◌≡◌, ℕ, ◌<◌, ◌^◌, ◌==◌, ◌&&◌, nat_lt, if◌then◌else◌, Bool, true, false, List, [], ◌∷◌}
+use Rattle.std.specs.Prelude.{Option, Some, None, Result, Ok, Err}
+use Rattle.uecp_frame.specs.Address.{is_exact}
+use Rattle.rds_store.specs.Value.{Store}
+use Rattle.rds_store.specs.Opening.{fault_of}
+use Rattle.reply_ring.specs.Ring.{IsRing}
+use Rattle.store_phrases.specs.Station.{IsStation}
+use Rattle.uecp_encoder.specs.State.{EncoderState, restarted}
+use Rattle.uecp_link.specs.Server.{ServerState, restarted_server}
+use Rattle.uecp_link.specs.Resuming.{IsServer}
+use Rattle.kept_images.specs.declared.fault.ImageFault.{ImageFault}
+use Rattle.kept_images.specs.declared.fault.ImageFault.TheVariants.{Newer, OtherEnd, Damaged, OutOfMemory}
+use Rattle.kept_images.specs.declared.server_reading.KeptServer.{KeptServer}
+use Rattle.kept_images.specs.Images.{version, encoder_kind, server_kind, encoder_image, server_image}
+
+-- ---- What can be kept.
+
+-- What is so of each encoder of a store: its address is its own, its store is a station that was opened with its sets
+-- and services, and its kept pairs are a ring.
+pub record IsEncoder (e : EncoderState Store) : Type 0 where
+  pub exact : is_exact e.address ≡ true
+  pub station : IsStation e.value
+  pub opens : fault_of e.value.sets e.value.services ≡ None
+  pub ring : IsRing e.ring
+
+-- ---- Which image it is.
+
+-- The version of an image, where it is above the one that is read here.
+abbrev pub newer_of : List ℕ → Option ℕ
+newer_of [] = None
+newer_of (v ∷ bytes) = if nat_lt version v then Some v else None
+
+-- Whether bytes begin as an image of this kind.
+abbrev pub is_headed : (kind : ℕ) → List ℕ → Bool
+is_headed kind (v ∷ k ∷ bytes) = v == version && k == kind
+is_headed kind _ = false
+
+-- Why no image of one kind was read, where that of the other end has another: its version is above the one that is
+-- read here; it is the other end's; it is neither, and damaged; or there was no memory for what it says.
+abbrev pub IsFaultOf : (kind other : ℕ) → List ℕ → ImageFault → Type 0
+IsFaultOf kind other bytes (Newer v) = newer_of bytes ≡ Some v
+IsFaultOf kind other bytes OtherEnd = is_headed other bytes ≡ true
+IsFaultOf kind other bytes Damaged = (newer_of bytes ≡ None) × (is_headed other bytes ≡ false)
+IsFaultOf kind other bytes OutOfMemory = is_headed kind bytes ≡ true
+
+-- An end was read, and it is this one; or there was no memory for it.
+abbrev pub GivesBack : {V : Type 0} → Result V ImageFault → V → Type 0
+GivesBack (Ok v) after = v ≡ after
+GivesBack (Err OutOfMemory) after = Unit {0}
+GivesBack (Err Damaged) after = ⊥
+GivesBack (Err OtherEnd) after = ⊥
+GivesBack (Err (Newer v)) after = ⊥
+
+-- ---- What is read.
+
+-- What reading an encoder's image answers: an encoder whose image these bytes are, as a start leaves it; or why none.
+abbrev pub EncoderRead : List ℕ → Result (EncoderState Store) ImageFault → Type 0
+EncoderRead bytes (Ok e) = (bytes ≡ encoder_image e) × (e ≡ restarted e) × (is_exact e.address ≡ true) × IsRing e.ring
+EncoderRead bytes (Err fault) = IsFaultOf encoder_kind server_kind bytes fault
+
+-- What is so of each server that a program keeps: it is one, its address is its encoder's own, and the number of messages
+-- taken is one of 64 bits.
+pub record IsKeptServer (k : KeptServer) : Type 0 where
+  pub exact : is_exact k.server.address ≡ true
+  pub taken : k.taken < 2 ^ 64
+  pub server : IsServer k.server
+
+-- The same once it is started again.
+abbrev pub restarted_kept : KeptServer → KeptServer
+restarted_kept k = record k { server = restarted_server k.server }
+
+-- What reading a server's image answers.
+abbrev pub ServerRead : List ℕ → Result KeptServer ImageFault → Type 0
+ServerRead bytes (Ok k) =
+    (bytes ≡ server_image k.joined k.taken k.server) × (k.server ≡ restarted_server k.server)
+    × (is_exact k.server.address ≡ true) × IsServer k.server
+ServerRead bytes (Err fault) = IsFaultOf server_kind encoder_kind bytes fault

@@ -1,0 +1,196 @@
+//! The image of an encoder, read. Source: profile.
+ghost use Rattle.std.specs.Prelude.{◌≡◌, ◌↔◌, Some, None, [], IsTrue, IfOk, IfErr, if◌then◌else◌};
+ghost use Rattle.std.specs.Option.{option_map};
+ghost use Rattle.rds_store.specs.Value.{Store};
+ghost use Rattle.rds_store.specs.Opening.{fault_of};
+ghost use Rattle.store_phrases.specs.Station.{IsStation};
+ghost use Rattle.uecp_encoder.specs.State.{EncoderState, restarted};
+ghost use Rattle.kept_images.specs.Images.{encoder_content, encoder_image};
+ghost use Rattle.kept_images.specs.Reading.{IsEncoder, EncoderRead, GivesBack};
+ghost use Rattle.kept_images.specs.Parsing.{encoder_says, encoder_parts, pair_kept, pairs_kept, Tells, RingRead};
+ghost use Rattle.kept_images.specs.Parsing.{says_encoder, SaysStore, IsAsStarted, IsUnread};
+
+use crate::encoder_writing::add_encoder;
+use crate::fault::ImageFault;
+use crate::image::Image;
+use crate::parts::{ENCODER, SERVER, content_of, exact_of, split_off};
+use rds_store::{RdsStore, StoreFault};
+use reply_ring::ReplyRing;
+use std::alloc::Global;
+use uecp_elements::Code;
+use uecp_encoder::Encoder;
+
+/// The parts of what an encoder's image says.
+#[derive(Clone, Copy)]
+pub(crate) struct EncoderParts<'a> {
+    /// The address.
+    pub(crate) address: u16,
+    /// How many data sets there are.
+    pub(crate) sets: u8,
+    /// The services, in configured order.
+    pub(crate) services: &'a [u8],
+    /// The kept pairs, the oldest first.
+    pub(crate) pairs: &'a [u8],
+    /// The messages that make the store again, each behind its length.
+    pub(crate) messages: &'a [u8],
+}
+
+/// Reads the image of an encoder, which is then as a start leaves it: nothing is counted or open.
+///
+/// Bytes that are the image of no such encoder are refused: `Newer` with their version where that is above 01,
+/// `OtherEnd` where they begin as a server's image, else `Damaged`. `OutOfMemory` where there was no memory.
+///
+/// ```
+/// let encoder = read_encoder(alloc, image.as_slice())?;
+/// ```
+pub fn read_encoder(alloc: Global, bytes: &[u8]) -> Result<Encoder<RdsStore>, ImageFault>
+    ensures read { EncoderRead bytes.now result }
+    ensures complete { (e : EncoderState Store) → IsEncoder e → bytes.now ≡ encoder_image e
+        → GivesBack result (restarted e) }
+{
+    let content = content_of(bytes, ENCODER, SERVER)?;
+    let encoder = encoder_in(alloc, content)?;
+    if is_image(alloc, &encoder, bytes)? {
+        Ok(encoder)
+    } else {
+        Err(ImageFault::Damaged)
+    }
+}
+
+/// Whether these bytes are the image of the encoder.
+fn is_image(alloc: Global, encoder: &Encoder<RdsStore>, bytes: &[u8]) -> Result<bool, ImageFault>
+    ensures is { IfOk result (λ is. IsTrue is ↔ (bytes.now ≡ encoder_image encoder.now)) }
+    ensures memory { IfErr result (λ fault. fault ≡ ImageFault.OutOfMemory) }
+{
+    let mut image = Image::new(alloc);
+    add_encoder(encoder, &mut image);
+    let whole = image.whole()?;
+    Ok(whole == bytes)
+}
+
+/// The encoder that this content says.
+fn encoder_in(alloc: Global, content: &[u8]) -> Result<Encoder<RdsStore>, ImageFault>
+    ensures started { IfOk result IsAsStarted }
+    ensures fault { IfErr result IsUnread }
+    ensures complete { (e : EncoderState Store) → IsEncoder e → content.now ≡ encoder_content e
+        → GivesBack result (restarted e) }
+{
+    match encoder_parts(content) {
+        None => Err(ImageFault::Damaged),
+        Some(parts) => encoder_of(alloc, &parts),
+    }
+}
+
+/// The parts of an encoder's content. None where they are not all there.
+fn encoder_parts(content: &[u8]) -> Option<EncoderParts<'_>>
+    ensures { option_map encoder_says result ≡ encoder_parts content.now }
+{
+    let [high, low, sets, count, rest @ ..] = content else {
+        return None;
+    };
+    let (services, rest) = split_off(rest, usize::from(*count))?;
+    let [count, rest @ ..] = rest else {
+        return None;
+    };
+    let (pairs, messages) = split_off(rest, 2 * usize::from(*count))?;
+    Some(EncoderParts {
+        address: u16::from_be_bytes([*high, *low]),
+        sets: *sets,
+        services,
+        pairs,
+        messages,
+    })
+}
+
+/// The encoder that these parts make.
+fn encoder_of(alloc: Global, parts: &EncoderParts<'_>) -> Result<Encoder<RdsStore>, ImageFault>
+    ensures started { IfOk result IsAsStarted }
+    ensures fault { IfErr result IsUnread }
+    ensures complete { (e : EncoderState Store) → IsEncoder e → encoder_says parts.now ≡ says_encoder e
+        → GivesBack result (restarted e) }
+{
+    let Some(address) = exact_of(parts.address) else {
+        return Err(ImageFault::Damaged);
+    };
+    let store = store_of(alloc, parts)?;
+    let ring = ring_of(alloc, parts.pairs)?;
+    Ok(Encoder::resumed(address, store, ring))
+}
+
+/// The store that these parts make.
+fn store_of(alloc: Global, parts: &EncoderParts<'_>) -> Result<RdsStore, ImageFault>
+    ensures fault { IfErr result IsUnread }
+    ensures complete { (v : Store) → IsStation v → fault_of v.sets v.services ≡ None → SaysStore parts.now v
+        → GivesBack result v }
+{
+    match RdsStore::new(alloc, parts.sets, parts.services) {
+        Err(StoreFault::OutOfMemory) => Err(ImageFault::OutOfMemory),
+        Err(_) => Err(ImageFault::Damaged),
+        Ok(mut store) => {
+            if tell(&mut store, parts.messages) {
+                Ok(store)
+            } else {
+                Err(ImageFault::Damaged)
+            }
+        }
+    }
+}
+
+/// Applies messages, each behind its length, and answers whether each was applied.
+fn tell(store: &mut RdsStore, messages: &[u8]) -> bool
+    ensures { (after : Store) → Tells store.old messages.now after → IsTrue result × (store.new ≡ after) }
+{
+    let mut rest = messages;
+    while let [count, more @ ..] = rest {
+        let Some((message, more)) = split_off(more, usize::from(*count)) else {
+            return false;
+        };
+        if store.apply(message) != Code::Applied {
+            return false;
+        }
+        rest = more;
+    }
+    true
+}
+
+/// The ring that keeps these pairs.
+fn ring_of(alloc: Global, pairs: &[u8]) -> Result<ReplyRing, ImageFault>
+    ensures { RingRead pairs.now result }
+{
+    let mut ring = ReplyRing::new(alloc)?;
+    if keep_pairs(&mut ring, pairs) {
+        Ok(ring)
+    } else {
+        Err(ImageFault::Damaged)
+    }
+}
+
+/// Keeps pairs in turn, and answers whether each could be kept.
+fn keep_pairs(ring: &mut ReplyRing, pairs: &[u8]) -> bool
+    ensures { (if result then Some ring.new else None) ≡ pairs_kept ring.old pairs.now }
+{
+    let mut rest = pairs;
+    while let [counter, byte, more @ ..] = rest {
+        if !keep_pair(ring, *counter, *byte) {
+            return false;
+        }
+        rest = more;
+    }
+    rest.is_empty()
+}
+
+/// Keeps a pair of a counter and a code's byte, and answers whether it could be kept.
+fn keep_pair(ring: &mut ReplyRing, counter: u8, byte: u8) -> bool
+    ensures { (if result then Some ring.new else None) ≡ pair_kept ring.old counter byte }
+{
+    if counter == 0 || ring.find(counter).is_some() {
+        return false;
+    }
+    match Code::from_byte(byte) {
+        None => false,
+        Some(code) => {
+            ring.keep(counter, code);
+            true
+        }
+    }
+}
