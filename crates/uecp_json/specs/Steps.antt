@@ -39,7 +39,7 @@ step_line (Ok (Acknowledged code)) named = line_of (codes "acknowledged") (code_
 step_line (Ok Stray) named = line_of (codes "stray") []
 step_line (Ok (Noise dropped)) named = line_of (codes "noise") ((codes "dropped", in_decimal dropped) ∷ [])
 step_line (Ok Lost) named = line_of (codes "lost") []
-step_line (Ok Restarted) named = line_of (codes "resumed") []
+step_line (Ok Restarted) named = line_of (codes "restarted") []
 step_line (Ok (Taken group)) named = line_of (codes "taken") ((codes "group", taken_group group) ∷ [])
 step_line (Err refusal) named = line_of (codes "refused")
     ((codes "number", in_decimal (number_of refusal)) ∷ (codes "name", string (name_of refusal)) ∷ [])

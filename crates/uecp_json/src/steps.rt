@@ -36,7 +36,7 @@ pub fn put_step(stepped: Result<Stepped, LineRefusal>, named: usize, output: &mu
         Ok(Stepped::Stray) => put_kind("stray", output),
         Ok(Stepped::Noise { dropped }) => put_count("noise", "dropped", dropped, output),
         Ok(Stepped::Lost) => put_kind("lost", output),
-        Ok(Stepped::Restarted) => put_kind("resumed", output),
+        Ok(Stepped::Restarted) => put_kind("restarted", output),
         Ok(Stepped::Taken(group)) => put_taken(group, output),
         Err(refusal) => put_refused(refusal, output),
     }

@@ -25,7 +25,7 @@ step_words (Ok (Acknowledged code)) named = codes "acknowledged" ++ byte_word (b
 step_words (Ok Stray) named = codes "stray"
 step_words (Ok (Noise dropped)) named = counted (codes "noise") dropped
 step_words (Ok Lost) named = codes "lost"
-step_words (Ok Restarted) named = codes "resumed"
+step_words (Ok Restarted) named = codes "restarted"
 step_words (Ok (Taken group)) named = codes "taken" ++ taken_words group
 step_words (Err refusal) named = counted (codes "refused") (number_of refusal) ++ codes " " ++ name_of refusal
 

@@ -36,7 +36,7 @@ fn put_words(stepped: Result<Stepped, LineRefusal>, named: usize, output: &mut O
         Ok(Stepped::Stray) => output.text("stray"),
         Ok(Stepped::Noise { dropped }) => put_count("noise", dropped, output),
         Ok(Stepped::Lost) => output.text("lost"),
-        Ok(Stepped::Restarted) => output.text("resumed"),
+        Ok(Stepped::Restarted) => output.text("restarted"),
         Ok(Stepped::Taken(group)) => {
             output.text("taken");
             put_taken(group, output);

@@ -34,5 +34,5 @@ pub mod Replying
 pub mod PassComes
 pub mod JoinedOver
 pub mod WholePass
-pub mod Restarted
+pub mod Replaced
 pub mod Resumed

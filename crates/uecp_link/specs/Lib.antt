@@ -21,5 +21,5 @@ pub mod Driving
 pub mod Listening
 pub mod Window
 pub mod Joining
-pub mod Restarting
+pub mod Replacing
 pub mod Resuming

@@ -44,7 +44,7 @@ pub enum LineEvent<'a> {
     /// The server starts again, and goes on from what it kept: its last counter and the messages that it holds, while
     /// what was open is forgotten and its counts are new. How that is kept is not the line's matter. It is never
     /// refused. Where a server knows nothing any more and joins, that is no event: see
-    /// [`Line::restart_server`](crate::Line::restart_server).
+    /// [`Line::replace_server`](crate::Line::replace_server).
     ServerRestart,
     /// The modulator takes from the encoder the group that is to go out next. It is never refused.
     Take,

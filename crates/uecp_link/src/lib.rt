@@ -22,7 +22,7 @@
 //! as long as both ends are new or go on, an end that starts again goes on from what it kept
 //! ([`LineEvent::EncoderRestart`], [`LineEvent::ServerRestart`]), damage leaves no frame behind, and nothing comes
 //! after 127 newer messages were numbered; the line tests the last two and refuses by name. A server that is started
-//! again and kept nothing joins first, as [`Line::restart_server`] does, and from there on it holds again.
+//! again and kept nothing joins first, as [`Line::replace_server`] does, and from there on it holds again.
 #![tactic(auto)]
 
 mod counters;
@@ -38,7 +38,7 @@ pub mod laws;
 mod line;
 mod line_steps;
 mod refusal;
-mod restarting;
+mod replacing;
 mod server;
 mod stepped;
 mod window;

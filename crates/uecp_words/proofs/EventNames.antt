@@ -29,17 +29,17 @@ pub loss_named : (end : Side) (words : List (List ℕ)) → words ≡ end_word e
 loss_named side.Encoder words told = (words, refl, told)
 loss_named side.Server words told = (words, refl, told)
 
--- `resume` and an end name the start of that end.
-pub resume_named : (end : Side) (words : List (List ℕ)) → words ≡ end_word end ∷ []
-    → Names (codes "resume" ∷ words) (restart_of end)
-resume_named side.Encoder words told = (words, refl, told)
-resume_named side.Server words told = (words, refl, told)
+-- `restart` and an end name the start of that end.
+pub restart_named : (end : Side) (words : List (List ℕ)) → words ≡ end_word end ∷ []
+    → Names (codes "restart" ∷ words) (restart_of end)
+restart_named side.Encoder words told = (words, refl, told)
+restart_named side.Server words told = (words, refl, told)
 
 -- ---- Words that name none.
 
--- Three times the length of a word and its first byte together: no two names have the same.
+-- Four times the length of a word and its first byte together: no two names have the same.
 abbrev mark : List ℕ → ℕ
-mark word = 3 * length word + get_or word 0 0
+mark word = 4 * length word + get_or word 0 0
 
 -- Lists of words with different names in front are different.
 apart : (a b : List ℕ) (words others : List (List ℕ)) → eqb (mark a) (mark b) ≡ false → a ∷ words ≡ b ∷ others → ⊥
@@ -90,14 +90,14 @@ no_loss words none ServerLost named =
     none side.Server (sym (same_rest (codes "line-lost") (codes "line-lost") words named.0 named.1) ∙ named.2)
 no_loss words none event named = apart (codes "line-lost") (name_of event) words named.0 refl named.1
 
--- Words after `resume` that are no end name no event.
-no_resume : (words : List (List ℕ)) → ((end : Side) → words ≡ end_word end ∷ [] → ⊥) → (event : Event)
-    → Names (codes "resume" ∷ words) event → ⊥
-no_resume words none EncoderRestart named =
-    none side.Encoder (sym (same_rest (codes "resume") (codes "resume") words named.0 named.1) ∙ named.2)
-no_resume words none ServerRestart named =
-    none side.Server (sym (same_rest (codes "resume") (codes "resume") words named.0 named.1) ∙ named.2)
-no_resume words none event named = apart (codes "resume") (name_of event) words named.0 refl named.1
+-- Words after `restart` that are no end name no event.
+no_restart : (words : List (List ℕ)) → ((end : Side) → words ≡ end_word end ∷ [] → ⊥) → (event : Event)
+    → Names (codes "restart" ∷ words) event → ⊥
+no_restart words none EncoderRestart named =
+    none side.Encoder (sym (same_rest (codes "restart") (codes "restart") words named.0 named.1) ∙ named.2)
+no_restart words none ServerRestart named =
+    none side.Server (sym (same_rest (codes "restart") (codes "restart") words named.0 named.1) ∙ named.2)
+no_restart words none event named = apart (codes "restart") (name_of event) words named.0 refl named.1
 
 -- Why a word, or all words after the first, are refused.
 abbrev pub FailsFor : {A : Type 0} → (A → Type 0) → TextFault → Type 0
@@ -151,14 +151,14 @@ loss_refused word words e is f =
       no_bytes = no_bytes (codes "line-lost") words refl;
     })
 
--- What the end of `resume` is refused for is the fault of the words.
-pub resume_refused : (word : List ℕ) (words : List (List ℕ)) (e : TextFault) → words ≡ word ∷ []
-    → (e ≡ NotACommand) × ((end : Side) → word ≡ end_word end → ⊥) → IsFaultOf (codes "resume" ∷ words) e
-resume_refused word words e is f =
+-- What the end of `restart` is refused for is the fault of the words.
+pub restart_refused : (word : List ℕ) (words : List (List ℕ)) (e : TextFault) → words ≡ word ∷ []
+    → (e ≡ NotACommand) × ((end : Side) → word ≡ end_word end → ⊥) → IsFaultOf (codes "restart" ∷ words) e
+restart_refused word words e is f =
     rw f.0 (record {
-      no_event = no_resume words (λ end same.
+      no_event = no_restart words (λ end same.
           f.1 end (let one : word ∷ [] ≡ end_word end ∷ [] = sym is ∙ same in first_same word (end_word end) one));
-      no_bytes = no_bytes (codes "resume") words refl;
+      no_bytes = no_bytes (codes "restart") words refl;
     })
 
 -- A lone word that fits nothing makes words that tell nothing.

@@ -22,8 +22,8 @@ name_of (NoiseToEncoder bytes) = codes "noise-encoder"
 name_of (NoiseToServer bytes) = codes "noise-server"
 name_of EncoderLost = codes "line-lost"
 name_of ServerLost = codes "line-lost"
-name_of EncoderRestart = codes "resume"
-name_of ServerRestart = codes "resume"
+name_of EncoderRestart = codes "restart"
+name_of ServerRestart = codes "restart"
 name_of Take = codes "take"
 
 -- The word of one end.
@@ -128,7 +128,7 @@ event_seen (line.Frame number cut) = FrameComes number
 event_seen (line.Reply number cut) = ReplyComes number
 event_seen (line.Noise end bytes) = noise_to end bytes.items
 event_seen (line.LineLost end) = lost_of end
-event_seen (line.Resume end) = restart_of end
+event_seen (line.Restart end) = restart_of end
 event_seen line.Take = Take
 
 -- The pieces of the event of a line have the lengths that its words tell behind the name and the number.
@@ -138,7 +138,7 @@ IsCutAs words (line.Frame number cut) = AreCuts (drop 2 words) cut.items
 IsCutAs words (line.Reply number cut) = AreCuts (drop 2 words) cut.items
 IsCutAs words (line.Noise end bytes) = Unit {0}
 IsCutAs words (line.LineLost end) = Unit {0}
-IsCutAs words (line.Resume end) = Unit {0}
+IsCutAs words (line.Restart end) = Unit {0}
 IsCutAs words line.Take = Unit {0}
 
 -- The number of the message that an event names, or 0 where it names none.

@@ -1,5 +1,5 @@
 -- The definitions that the contracts of the words of scripts cite.
 pub mod ScriptWords
 pub mod EventWords
-pub mod RestartWords
+pub mod ReplaceWords
 pub mod Laws

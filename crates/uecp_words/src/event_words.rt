@@ -33,7 +33,7 @@ pub enum EventLine {
     /// Tells the encoder or the server that its line was lost.
     LineLost(Side),
     /// Has the encoder or the server start again, and go on from what it kept.
-    Resume(Side),
+    Restart(Side),
     /// Takes from the encoder the group that is to go out next.
     Take,
 }
@@ -68,8 +68,8 @@ fn event_named(alloc: Global, name: &[u8], words: &[&[u8]]) -> Result<EventLine,
         noise_of(alloc, Side::Server, words)
     } else if name == b"line-lost".as_slice() {
         loss_of(words)
-    } else if name == b"resume".as_slice() {
-        resume_of(words)
+    } else if name == b"restart".as_slice() {
+        restart_line(words)
     } else if name == b"take".as_slice() {
         take_of(words)
     } else {
@@ -150,13 +150,13 @@ fn loss_of(words: &[&[u8]]) -> Result<EventLine, TextFault>
 }
 
 /// The start of the end that the words tell, which goes on from what it kept.
-fn resume_of(words: &[&[u8]]) -> Result<EventLine, TextFault>
-    ensures named { IfOk result (λ e. Names (codes "resume" ∷ texts words.now) (event_seen e)) }
-    ensures pieces { IfOk result (λ e. IsCutAs (codes "resume" ∷ texts words.now) e) }
-    ensures refused { IfErr result (λ e. IsFaultOf (codes "resume" ∷ texts words.now) e) }
+fn restart_line(words: &[&[u8]]) -> Result<EventLine, TextFault>
+    ensures named { IfOk result (λ e. Names (codes "restart" ∷ texts words.now) (event_seen e)) }
+    ensures pieces { IfOk result (λ e. IsCutAs (codes "restart" ∷ texts words.now) e) }
+    ensures refused { IfErr result (λ e. IsFaultOf (codes "restart" ∷ texts words.now) e) }
 {
     match words {
-        [word] => Ok(EventLine::Resume(end_of(word)?)),
+        [word] => Ok(EventLine::Restart(end_of(word)?)),
         _ => Err(TextFault::NotACommand),
     }
 }

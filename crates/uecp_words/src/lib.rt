@@ -5,7 +5,7 @@
 //!
 //! - [`ScriptLine`], [`script_line`]: a line of a frame script, as `uecp make` reads it; an element comes as its
 //!   spelling.
-//! - [`EventLine`], [`event_of`]: a line of an event script, as `uecp line` reads it; [`is_restart`]: whether it starts
+//! - [`EventLine`], [`event_of`]: a line of an event script, as `uecp line` reads it; [`is_replacement`]: whether it starts
 //!   the server again, as one that knows nothing.
 //! - [`message_of`]: a message out of its bytes.
 #![tactic(auto)]
@@ -15,10 +15,10 @@ mod element_words;
 mod event_words;
 pub mod laws;
 mod messages;
-mod restart_words;
+mod replace_words;
 mod script_words;
 
 pub use event_words::{EventLine, event_of};
 pub use messages::message_of;
-pub use restart_words::is_restart;
+pub use replace_words::is_replacement;
 pub use script_words::{ScriptLine, script_line};

@@ -165,7 +165,7 @@ fn three_more(rt: &impl Abort, line: &mut Line<BytesTarget>, count: u16) {
 /// The server of a line on which so many messages were applied is started again, and gives up those that wait, which
 /// are so many. Two messages of the new one go over, from number 0 on.
 fn starts_again(rt: &impl Abort, line: &mut Line<BytesTarget>, count: u16, waiting: usize) {
-    assert_eq!(rt; line.restart_server(), waiting);
+    assert_eq!(rt; line.replace_server(), waiting);
     assert!(rt; line.sent().is_empty() && line.codes().is_empty());
     assert_eq!(rt; *line.encoder().target(), made(count));
     let after = count.saturating_add(2);

@@ -2,7 +2,7 @@ use Rattle.std.proofs.Common.{◌≡◌, take}
 use Rattle.std.specs.List.{concat}
 use Rattle.uecp_encoder.specs.State.{fed}
 use Rattle.uecp_link.specs.Joining.{frames_of_pass}
-use Rattle.uecp_link.proofs.restarting.give_pass.Given as goal
+use Rattle.uecp_link.proofs.replacing.give_pass.Given as goal
 
 -- the frames up to this place were fed
 abbrev pub invariant-loop-before : goal.invariant-loop-before

@@ -9,7 +9,7 @@ use Rattle.uecp_link.specs.Kept.{code_at}
 use Rattle.uecp_link.specs.Once.{at_first}
 use Rattle.uecp_link.specs.Server.{ServerState, idle_at}
 use Rattle.uecp_link.specs.Joining.{pass_sent, BringsBoth, HasJoinedWith}
-use Rattle.uecp_link.specs.Restarting.{EmptyChangesNothing, with_nothing_open}
+use Rattle.uecp_link.specs.Replacing.{EmptyChangesNothing, with_nothing_open}
 use Rattle.uecp_link.specs.Holds.{LineState, IsLine, Holds, once_of, line_from}
 use Rattle.uecp_link.proofs.Opening.{holds_from}
 use Rattle.uecp_link.proofs.Played.{line_ready}
@@ -17,7 +17,7 @@ use Rattle.uecp_link.proofs.Ready.{some_messages}
 use Rattle.uecp_link.proofs.WholePass.{brings_both, joined_whole, address_after}
 
 -- What a whole pass to the encoder of a line comes to, where nothing was open.
-pub record Restarted {V : Type 0} (step : Step V) (line : LineState V) (e : EncoderState V) : Type 0 where
+pub record Replaced {V : Type 0} (step : Step V) (line : LineState V) (e : EncoderState V) : Type 0 where
   pub replied : BringsBoth line.encoder.address (answers step (with_nothing_open line.encoder)
       (pass_sent line.encoder.address))
   pub joined : HasJoinedWith e line.encoder.value
@@ -25,9 +25,9 @@ pub record Restarted {V : Type 0} (step : Step V) (line : LineState V) (e : Enco
   pub is_line : IsLine (line_from e)
   pub holds : Holds (line_from e) (at_first e.value)
 
-pub restarted : {V : Type 0} (step : Step V) → EmptyChangesNothing step → (line : LineState V) → IsLine line
-    → Restarted step line (fed step (with_nothing_open line.encoder) (pass_sent line.encoder.address))
-restarted {V} step same line is =
+pub replaced : {V : Type 0} (step : Step V) → EmptyChangesNothing step → (line : LineState V) → IsLine line
+    → Replaced step line (fed step (with_nothing_open line.encoder) (pass_sent line.encoder.address))
+replaced {V} step same line is =
     let old : EncoderState V = with_nothing_open line.encoder in
     let e : EncoderState V = fed step old (pass_sent line.encoder.address) in
     let some = some_messages is.base (code_at (once_of line).codes) (length line.codes) is.ready in

@@ -2,10 +2,10 @@ use Rattle.std.proofs.Common.{◌≡◌, ◌∙◌, ap, sym, subst, rules}
 use Rattle.uecp_encoder.specs.State.{EncoderState, fed}
 use Rattle.uecp_link.specs.Once.{at_first}
 use Rattle.uecp_link.specs.Joining.{pass_sent, HasJoinedWith}
-use Rattle.uecp_link.specs.Restarting.{Restarts, with_nothing_open}
+use Rattle.uecp_link.specs.Replacing.{Replaces, with_nothing_open}
 use Rattle.uecp_link.specs.Holds.{LineState, IsLine, Holds, line_from}
-use Rattle.uecp_link.proofs.Restarted.{Restarted, restarted, left_is}
-use Rattle.uecp_link.proofs.line.Line.restart_server.Goals as goal
+use Rattle.uecp_link.proofs.Replaced.{Replaced, replaced, left_is}
+use Rattle.uecp_link.proofs.line.Line.replace_server.Goals as goal
 
 pub invariant_of-self : goal.invariant_of-self
 invariant_of-self g c =
@@ -22,7 +22,7 @@ invariant_of-self g c =
       codes = c.clear-2.new.self.items;
     } in
     let e : EncoderState _ = fed g.T.Target.step (with_nothing_open old.encoder) (pass_sent old.encoder.address) in
-    let r : Restarted g.T.Target.step old e = restarted g.T.Target.step c.requires.empty old c.self.invariant.is_line in
+    let r : Replaced g.T.Target.step old e = replaced g.T.Target.step c.requires.empty old c.self.invariant.is_line in
     let begins : new ≡ line_from e =
     left_is g.T.Target.step old c.self.invariant.is_line c.self.inside.address c.line_lost.new.self
     c.give_pass.new.encoder c.begin_again.new.self c.clear.new.self.items c.clear-2.new.self.items
@@ -34,8 +34,8 @@ invariant_of-self g c =
       fits = search rules;
     }
 
-pub returns-clause-restarts : goal.returns-clause-restarts
-returns-clause-restarts g c =
+pub returns-clause-replaces : goal.returns-clause-replaces
+returns-clause-replaces g c =
     let old : LineState _ = record {
       encoder = c.self.inside.encoder;
       server = c.self.inside.server;
@@ -49,13 +49,13 @@ returns-clause-restarts g c =
       codes = c.clear-2.new.self.items;
     } in
     let e : EncoderState _ = fed g.T.Target.step (with_nothing_open old.encoder) (pass_sent old.encoder.address) in
-    let r : Restarted g.T.Target.step old e = restarted g.T.Target.step c.requires.empty old c.self.invariant.is_line in
+    let r : Replaced g.T.Target.step old e = replaced g.T.Target.step c.requires.empty old c.self.invariant.is_line in
     let begins : new ≡ line_from e =
     left_is g.T.Target.step old c.self.invariant.is_line c.self.inside.address c.line_lost.new.self
     c.give_pass.new.encoder c.begin_again.new.self c.clear.new.self.items c.clear-2.new.self.items
     c.self.invariant.address_is c.line_lost.ensures c.give_pass.ensures c.begin_again.ensures (search rules)
     (search rules) r.address in
-    subst (λ (l : LineState _). Restarts g.T.Target.step l c.waiting-given_up.result new) c.self.view_is
+    subst (λ (l : LineState _). Replaces g.T.Target.step l c.waiting-given_up.result new) c.self.view_is
     (record {
       given_up_is = c.waiting-given_up.ensures.value;
       begins = begins;
@@ -79,7 +79,7 @@ returns-clause-holds g c =
       codes = c.clear-2.new.self.items;
     } in
     let e : EncoderState _ = fed g.T.Target.step (with_nothing_open old.encoder) (pass_sent old.encoder.address) in
-    let r : Restarted g.T.Target.step old e = restarted g.T.Target.step c.requires.empty old c.self.invariant.is_line in
+    let r : Replaced g.T.Target.step old e = replaced g.T.Target.step c.requires.empty old c.self.invariant.is_line in
     let begins : new ≡ line_from e =
     left_is g.T.Target.step old c.self.invariant.is_line c.self.inside.address c.line_lost.new.self
     c.give_pass.new.encoder c.begin_again.new.self c.clear.new.self.items c.clear-2.new.self.items

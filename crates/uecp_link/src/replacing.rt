@@ -1,10 +1,10 @@
-//! A line whose server is started again, knows nothing, and joins. Source: profile.
+//! A line whose server is replaced by a new one, which knows nothing and joins. Source: profile.
 ghost use Rattle.std.specs.Prelude.{◌≡◌};
 ghost use Rattle.uecp_encoder.specs.State.{fed};
 ghost use Rattle.uecp_link.specs.Joining.{pass_sent};
 ghost use Rattle.uecp_link.specs.Once.{at_first};
 ghost use Rattle.uecp_link.specs.Holds.{Holds};
-ghost use Rattle.uecp_link.specs.Restarting.{EmptyChangesNothing, Restarts};
+ghost use Rattle.uecp_link.specs.Replacing.{EmptyChangesNothing, Replaces};
 
 use crate::counters::COUNTER_MAX;
 use crate::feeding::give_cut;
@@ -26,11 +26,11 @@ impl<T: Target> Line<T> {
     /// ([`empty_message_changes_nothing`](rds_store::laws::empty_message_changes_nothing)).
     ///
     /// ```
-    /// let given_up = line.restart_server(); // line.sent() is empty now
+    /// let given_up = line.replace_server(); // line.sent() is empty now
     /// ```
-    pub fn restart_server(&mut self) -> usize
+    pub fn replace_server(&mut self) -> usize
         requires empty { EmptyChangesNothing T.step }
-        ensures restarts { Restarts T.step self.old result self.new }
+        ensures replaces { Replaces T.step self.old result self.new }
         ensures holds { Holds self.new (at_first self.new.encoder.value) }
     {
         let given_up = self.server.waiting();

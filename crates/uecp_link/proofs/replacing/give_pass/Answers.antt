@@ -9,7 +9,7 @@ use Rattle.uecp_link.specs.Joining.{frames_of_pass}
 use Rattle.uecp_link.proofs.FeedingLemmas.{fed_none}
 use Rattle.uecp_link.proofs.Windowing.{frames_more}
 use Rattle.uecp_link.proofs.Passing.{frame_there, frames_all}
-use Rattle.uecp_link.proofs.restarting.give_pass.Goals as goal
+use Rattle.uecp_link.proofs.replacing.give_pass.Goals as goal
 
 pub loop-before-preserved : goal.loop-before-preserved
 loop-before-preserved g c =

@@ -1,5 +1,5 @@
--- A line whose server is started again, and joins: at once, and without loss; a reader has to believe it. Source:
--- profile.
+-- A line whose server is replaced by a new one, which joins: at once, and without loss; a reader has to believe it.
+-- Source: profile.
 use Rattle.std.specs.Prelude.{◌≡◌, ℕ, [], length}
 use Rattle.uecp_frame.specs.Findings.{Closed}
 use Rattle.uecp_encoder.specs.Target.{Step}
@@ -21,7 +21,7 @@ with_nothing_open e = record e { part = Closed }
 -- up: so many messages, of which the new one knows nothing. The encoder has got one pass, whole, and nothing else; its
 -- replies are those by which `join` answers `Joined`. It has its value as it was, keeps the replies to FF, FE .. 81
 -- alone, expects 01, and has nothing open. The line begins from there, with a new server: nothing is sent.
-pub record Restarts {V : Type 0} (step : Step V) (old : LineState V) (given_up : ℕ) (new : LineState V) : Type 0 where
+pub record Replaces {V : Type 0} (step : Step V) (old : LineState V) (given_up : ℕ) (new : LineState V) : Type 0 where
   pub given_up_is : given_up ≡ length (waiting old.server)
   pub begins : new ≡ line_from (fed step (with_nothing_open old.encoder) (pass_sent old.encoder.address))
   pub replied : BringsBoth old.encoder.address (answers step (with_nothing_open old.encoder)
