@@ -5,7 +5,7 @@ use Rattle.rds_store.specs.Value.{Store}
 use Rattle.rds_store.specs.Opening.{opening}
 use Rattle.rds_store.specs.Step.{step, group_taken}
 use Rattle.uecp_link.specs.Once.{Event, Submit, FrameComes, ReplyComes, NoiseToEncoder, NoiseToServer, EncoderLost}
-use Rattle.uecp_link.specs.Once.{ServerLost, Take, Once, after, at_first}
+use Rattle.uecp_link.specs.Once.{ServerLost, EncoderRestart, ServerRestart, Take, Once, after, at_first}
 use Rattle.uecp_link.specs.Law.{Fits}
 use Rattle.uecp_link.specs.Holds.{LineState, Outcome, Holds, history_by, line_from, new_line}
 use Rattle.uecp_link.specs.Headline.{IsHeadline}
@@ -33,6 +33,8 @@ named_fits words (NoiseToEncoder bytes) names = tt
 named_fits words (NoiseToServer bytes) names = tt
 named_fits words EncoderLost names = tt
 named_fits words ServerLost names = tt
+named_fits words EncoderRestart names = tt
+named_fits words ServerRestart names = tt
 named_fits words Take names = tt
 
 -- from a line that joined on, steps keep the headline, with the store that the line before it left

@@ -107,6 +107,8 @@ fn line_event(event: &EventLine) -> LineEvent<'_>
         EventLine::Noise(Side::Encoder, bytes) => LineEvent::NoiseToEncoder(bytes.as_slice()),
         EventLine::Noise(Side::Server, bytes) => LineEvent::NoiseToServer(bytes.as_slice()),
         EventLine::LineLost(side) => LineEvent::LineLost(*side),
+        EventLine::Resume(Side::Encoder) => LineEvent::EncoderRestart,
+        EventLine::Resume(Side::Server) => LineEvent::ServerRestart,
         EventLine::Take => LineEvent::Take,
     }
 }
