@@ -1,6 +1,6 @@
 """The protocol once more, in plain Python: what `uecp answer`, `uecp show` and `uecp line` are to write.
 
-Written from docs/PROTOCOL.md and docs/MANUAL.md; tests/fuzz compares the program with it. The events of a line, but for restarts,
+Written from docs/PROTOCOL.md and docs/MANUAL.md; tests/fuzz compares the program with it. The events of a line, but for ends that start again,
 stand nearly word for word in tests/long_schedule.py too, so on these the two are one opinion. It is slow and
 keeps no state that it could look up: it cuts a stream into segments first, then takes the stuffing out, then judges.
 
@@ -371,7 +371,7 @@ class Line:
     def __init__(self, setup):
         self.store = Store(setup.sets, setup.services)
         self.sent, self.codes, self.acknowledged = [], {}, set()
-        self.noise = {"encoder": b"", "server": b""}  # since the last whole frame, or the last loss
+        self.noise = {"encoder": b"", "server": b""}  # since the last whole frame, or the last loss or start of that end
 
     def held(self):
         """The numbers that the server holds: from the first that is not acknowledged on, acknowledged ones behind it too."""
@@ -424,6 +424,11 @@ class Line:
     def lose(self, end):
         self.noise[end] = b""
         return "lost"
+
+    def resume(self, end):
+        """An end starts again, and goes on from what it kept: of the end only what was open and its counts are gone."""
+        self.noise[end] = b""
+        return "resumed"
 
     def take(self):
         """The modulator takes the group that waits longest; no number, code or noise has a part in it."""
@@ -499,6 +504,8 @@ def play(line, words):
         return line.disturb(name[6:].decode(), bytes_of(rest[0], "not a command"))
     if name == b"line-lost" and rest in ([b"encoder"], [b"server"]):
         return line.lose(rest[0].decode())
+    if name == b"resume" and rest in ([b"encoder"], [b"server"]):
+        return line.resume(rest[0].decode())
     if name == b"take" and not rest:
         return line.take()
     if name == b"restart" and rest == [b"server"]:

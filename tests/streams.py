@@ -304,6 +304,8 @@ NO_EVENTS = [
     *(b"frame 0 65536", b"frame 0 -1", b"frame 0 1A", b"frame 0 #", b"reply", b"reply 0000000000", b"reply 0 99999999999999999999"),
     *(b"noise-encoder", b"noise-encoder -", b"noise-server FE FF", b"noise-server F", b"noise-line FE"),
     *(b"line-lost", b"line-lost both", b"line-lost Server", b"line-lost server encoder"),
+    *(b"resume", b"resume both", b"resume -", b"resume 0", b"resume Server", b"resume servers", b"resume server encoder", b"resume encoder #"),
+    *(b"resume\tserver", b"resume server\t", b"Resume encoder", b"RESUME SERVER", b"resumed server", b"resume-server", b"resumeserver", b"server resume"),
     *(b"take 1", b"take -", b"take 0", b"take now", b"take take", b"take\t", b"take #", b"Take", b"TAKE", b"taken", b"tak", b"take-group"),
 ]
 NO_RESTARTS = [
@@ -315,10 +317,12 @@ NO_RESTARTS = [
 
 class Script(Maker):
     """Makes events for a line; the model plays along, so that most of them fit where they stand. The server is restarted where there is a
-    second chance, which decides when."""
+    second chance, which decides when; ends go on from what they kept where there is a third."""
 
-    def __init__(self, chance, setup, restarts=None):
+    def __init__(self, chance, setup, restarts=None, resumes=None):
         super().__init__(chance, setup)
+        self.resumes = resumes
+        self.resuming = resumes.choice([0.002, 0.01, 0.05]) if resumes else 0
         self.restarts, self.given_up = restarts, 0  # how many messages were numbered before the last restart
         self.restarting = restarts.choice([0.0004, 0.001, 0.004]) if restarts else 0
         self.line, self.writer, self.waiting = model.Line(setup), Writer(chance), []
@@ -341,6 +345,8 @@ class Script(Maker):
         if self.restarts and self.restarts.random() < self.restarting_now():
             self.given_up += len(self.line.sent)
             return "restart server"
+        if self.resumes and self.resumes.random() < self.resuming * (4 if self.waiting else 1):
+            return f"resume {self.resumes.choice(['encoder', 'server'])}"
         self.drift()
         if self.chance.random() < self.taking_now():
             return "take"
@@ -443,9 +449,10 @@ class Script(Maker):
         return self.writer.text(NO_EVENTS + NO_RESTARTS if self.restarts else NO_EVENTS)
 
 
-def script_text(chance, setup, restarts):
-    """A script; the second chance decides whether it has restarts, and a script without them does not hang on it."""
-    script = Script(chance, setup, restarts if restarts.random() < 0.4 else None)
+def script_text(chance, setup, restarts, resumes):
+    """A script; the second chance decides whether it has restarts, the third whether ends go on in it from what they kept, and a script
+    without them does not hang on these."""
+    script = Script(chance, setup, restarts if restarts.random() < 0.4 else None, resumes if resumes.random() < 0.5 else None)
     return script.text(chance.choice([20, 20, 150, 300, 600, 800]))
 
 
