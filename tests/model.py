@@ -425,10 +425,10 @@ class Line:
         self.noise[end] = b""
         return "lost"
 
-    def resume(self, end):
+    def restart(self, end):
         """An end starts again, and goes on from what it kept: of the end only what was open and its counts are gone."""
         self.noise[end] = b""
-        return "resumed"
+        return "restarted"
 
     def take(self):
         """The modulator takes the group that waits longest; no number, code or noise has a part in it."""
@@ -436,7 +436,7 @@ class Line:
         self.store.groups = waiting[1:]
         return f"taken {words_of(waiting[0] if waiting else ())}"
 
-    def restart(self):
+    def replace(self):
         """The server is gone, and a new one joins the encoder: it begins at number 0, and of all that was only the store is left."""
         waiting = len(self.sent) - len(self.acknowledged)
         self.sent, self.codes, self.acknowledged = [], {}, set()
@@ -504,12 +504,12 @@ def play(line, words):
         return line.disturb(name[6:].decode(), bytes_of(rest[0], "not a command"))
     if name == b"line-lost" and rest in ([b"encoder"], [b"server"]):
         return line.lose(rest[0].decode())
-    if name == b"resume" and rest in ([b"encoder"], [b"server"]):
-        return line.resume(rest[0].decode())
+    if name == b"restart" and rest in ([b"encoder"], [b"server"]):
+        return line.restart(rest[0].decode())
     if name == b"take" and not rest:
         return line.take()
-    if name == b"restart" and rest == [b"server"]:
-        return line.restart()
+    if name == b"replace" and rest == [b"server"]:
+        return line.replace()
     raise Refused("not a command")
 
 

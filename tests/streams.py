@@ -304,27 +304,27 @@ NO_EVENTS = [
     *(b"frame 0 65536", b"frame 0 -1", b"frame 0 1A", b"frame 0 #", b"reply", b"reply 0000000000", b"reply 0 99999999999999999999"),
     *(b"noise-encoder", b"noise-encoder -", b"noise-server FE FF", b"noise-server F", b"noise-line FE"),
     *(b"line-lost", b"line-lost both", b"line-lost Server", b"line-lost server encoder"),
-    *(b"resume", b"resume both", b"resume -", b"resume 0", b"resume Server", b"resume servers", b"resume server encoder", b"resume encoder #"),
-    *(b"resume\tserver", b"resume server\t", b"Resume encoder", b"RESUME SERVER", b"resumed server", b"resume-server", b"resumeserver", b"server resume"),
+    *(b"restart", b"restart both", b"restart -", b"restart 0", b"restart Server", b"restart servers", b"restart server encoder", b"restart encoder #"),
+    *(b"restart\tserver", b"restart server\t", b"Restart encoder", b"RESTART SERVER", b"restarted server", b"restart-server", b"restartserver", b"server restart"),
     *(b"take 1", b"take -", b"take 0", b"take now", b"take take", b"take\t", b"take #", b"Take", b"TAKE", b"taken", b"tak", b"take-group"),
 ]
-NO_RESTARTS = [
-    *(b"restart", b"restart encoder", b"restart both", b"restart -", b"restart 0", b"restart Server", b"restart servers", b"restart server now"),
-    *(b"restart server 0", b"restart server server", b"restart server encoder", b"restart server #", b"restart\tserver", b"restart server\t"),
-    *(b"Restart server", b"RESTART SERVER", b"restart-server", b"restartserver", b"restarted server", b"server restart", b"re start server"),
+NO_REPLACEMENTS = [
+    *(b"replace", b"replace encoder", b"replace both", b"replace -", b"replace 0", b"replace Server", b"replace servers", b"replace server now"),
+    *(b"replace server 0", b"replace server server", b"replace server encoder", b"replace server #", b"replace\tserver", b"replace server\t"),
+    *(b"Replace server", b"REPLACE SERVER", b"replace-server", b"replaceserver", b"replaced server", b"server replace", b"re place server"),
 ]
 
 
 class Script(Maker):
-    """Makes events for a line; the model plays along, so that most of them fit where they stand. The server is restarted where there is a
+    """Makes events for a line; the model plays along, so that most of them fit where they stand. The server is replaced where there is a
     second chance, which decides when; ends go on from what they kept where there is a third."""
 
-    def __init__(self, chance, setup, restarts=None, resumes=None):
+    def __init__(self, chance, setup, replacements=None, restarts=None):
         super().__init__(chance, setup)
-        self.resumes = resumes
-        self.resuming = resumes.choice([0.002, 0.01, 0.05]) if resumes else 0
-        self.restarts, self.given_up = restarts, 0  # how many messages were numbered before the last restart
-        self.restarting = restarts.choice([0.0004, 0.001, 0.004]) if restarts else 0
+        self.restarts = restarts
+        self.restarting = restarts.choice([0.002, 0.01, 0.05]) if restarts else 0
+        self.replacements, self.given_up = replacements, 0  # how many messages were numbered before the last replacement
+        self.replacing = replacements.choice([0.0004, 0.001, 0.004]) if replacements else 0
         self.line, self.writer, self.waiting = model.Line(setup), Writer(chance), []
         self.loss = chance.choice([0.05, 0.3, 0.6])
         self.taking = 0.4  # how likely a take is
@@ -342,11 +342,11 @@ class Script(Maker):
             self.turn = chance.choice([min, max, chance.choice])
 
     def event(self):
-        if self.restarts and self.restarts.random() < self.restarting_now():
+        if self.replacements and self.replacements.random() < self.replacing_now():
             self.given_up += len(self.line.sent)
-            return "restart server"
-        if self.resumes and self.resumes.random() < self.resuming * (4 if self.waiting else 1):
-            return f"resume {self.resumes.choice(['encoder', 'server'])}"
+            return "replace server"
+        if self.restarts and self.restarts.random() < self.restarting * (4 if self.waiting else 1):
+            return f"restart {self.restarts.choice(['encoder', 'server'])}"
         self.drift()
         if self.chance.random() < self.taking_now():
             return "take"
@@ -373,11 +373,11 @@ class Script(Maker):
     def submission(self, message):
         return f"submit {self.row(message) or '-'}"
 
-    def restarting_now(self):
-        """How likely a restart is: more where there was one just now, amid noise, and where all eight messages wait."""
+    def replacing_now(self):
+        """How likely a replacement is: more where there was one just now, amid noise, and where all eight messages wait."""
         if not self.line.sent:
             return 0.1
-        return self.restarting * (10 if self.waiting else 4 if len(self.line.held()) == model.WINDOW else 1)
+        return self.replacing * (10 if self.waiting else 4 if len(self.line.held()) == model.WINDOW else 1)
 
     def taking_now(self):
         """How likely a take is: less where none waits, more where a message found no room."""
@@ -446,19 +446,19 @@ class Script(Maker):
             event = self.event()
             model.play(self.line, event.encode())
             self.writer.put(event.replace(" ", " " * self.chance.choice([1, 1, 1, 1, 4])).encode())
-        return self.writer.text(NO_EVENTS + NO_RESTARTS if self.restarts else NO_EVENTS)
+        return self.writer.text(NO_EVENTS + NO_REPLACEMENTS if self.replacements else NO_EVENTS)
 
 
-def script_text(chance, setup, restarts, resumes):
-    """A script; the second chance decides whether it has restarts, the third whether ends go on in it from what they kept, and a script
+def script_text(chance, setup, replacements, restarts):
+    """A script; the second chance decides whether it has replacements, the third whether ends go on in it from what they kept, and a script
     without them does not hang on these."""
-    script = Script(chance, setup, restarts if restarts.random() < 0.4 else None, resumes if resumes.random() < 0.5 else None)
+    script = Script(chance, setup, replacements if replacements.random() < 0.4 else None, restarts if restarts.random() < 0.5 else None)
     return script.text(chance.choice([20, 20, 150, 300, 600, 800]))
 
 
 def refused_texts():
     """Each line that is refused, between two that are not: with the command that reads it."""
-    for command, good, refused in (("answer", b"FE FF", NO_PIECES), ("line", b"frame 0 65535", NO_EVENTS + NO_RESTARTS)):
+    for command, good, refused in (("answer", b"FE FF", NO_PIECES), ("line", b"frame 0 65535", NO_EVENTS + NO_REPLACEMENTS)):
         for line in refused:
             yield command, b"\n".join([good, line, good, b""])
 

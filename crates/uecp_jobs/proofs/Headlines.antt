@@ -9,7 +9,7 @@ use Rattle.uecp_link.specs.Once.{ServerLost, EncoderRestart, ServerRestart, Take
 use Rattle.uecp_link.specs.Law.{Fits}
 use Rattle.uecp_link.specs.Holds.{LineState, Outcome, Holds, history_by, line_from, new_line}
 use Rattle.uecp_link.specs.Headline.{IsHeadline}
-use Rattle.uecp_link.specs.Restarting.{Restarts}
+use Rattle.uecp_link.specs.Replacing.{Replaces}
 use Rattle.uecp_encoder.specs.State.{EncoderState}
 use Rattle.uecp_link.specs.Holds.{Plays as PlaysSteps}
 use Rattle.uecp_link.proofs.Opening.{holds_from, new_holds}
@@ -38,33 +38,33 @@ named_fits words ServerRestart names = tt
 named_fits words Take names = tt
 
 -- from a line that joined on, steps keep the headline, with the store that the line before it left
-since_joined : (left joined : LineState Store) (given_up : ℕ) → Restarts step left given_up joined
+since_joined : (left joined : LineState Store) (given_up : ℕ) → Replaces step left given_up joined
     → (events : List Event) (outcomes : List Outcome) (line : LineState Store) (o : Once Store) →
     PlaysSteps step group_taken joined (at_first left.encoder.value) events outcomes line o
     → IsHeadline step group_taken left.encoder.address left.encoder.value (history_by events outcomes) line
-since_joined left joined given_up restarts events outcomes line o plays =
+since_joined left joined given_up replaces events outcomes line o plays =
     let e : EncoderState Store = joined.encoder in
-    let from : joined ≡ line_from e = restarts.begins
-    ∙ ap line_from (sym (ap (λ (l : LineState Store). l.encoder) restarts.begins)) in
-    let value : left.encoder.value ≡ e.value = sym restarts.joined.value_is in
+    let from : joined ≡ line_from e = replaces.begins
+    ∙ ap line_from (sym (ap (λ (l : LineState Store). l.encoder) replaces.begins)) in
+    let value : left.encoder.value ≡ e.value = sym replaces.joined.value_is in
     let moved : PlaysSteps step group_taken (line_from e) (at_first e.value) events outcomes line o =
     subst (λ (l : LineState Store). PlaysSteps step group_taken l (at_first e.value) events outcomes line o) from
     (subst (λ (v : Store). PlaysSteps step group_taken joined (at_first v) events outcomes line o) value plays) in
     subst (λ (a : ℕ). IsHeadline step group_taken a left.encoder.value (history_by events outcomes) line)
-    restarts.address
+    replaces.address
     (subst (λ (v : Store). IsHeadline step group_taken e.address v (history_by events outcomes) line) (sym value)
-    (headline_from step group_taken e (inr restarts.joined.kept) restarts.joined.closed events outcomes line o moved))
+    (headline_from step group_taken e (inr replaces.joined.kept) replaces.joined.closed events outcomes line o moved))
 
 -- a line that joined holds what a new once-machine with the store that was left holds
-joined_holds : (left joined : LineState Store) (given_up : ℕ) → Restarts step left given_up joined
+joined_holds : (left joined : LineState Store) (given_up : ℕ) → Replaces step left given_up joined
     → Holds joined (at_first left.encoder.value)
-joined_holds left joined given_up restarts =
+joined_holds left joined given_up replaces =
     let e : EncoderState Store = joined.encoder in
-    let from : joined ≡ line_from e = restarts.begins
-    ∙ ap line_from (sym (ap (λ (l : LineState Store). l.encoder) restarts.begins)) in
+    let from : joined ≡ line_from e = replaces.begins
+    ∙ ap line_from (sym (ap (λ (l : LineState Store). l.encoder) replaces.begins)) in
     subst (λ (l : LineState Store). Holds l (at_first left.encoder.value)) (sym from)
-    (subst (λ (v : Store). Holds (line_from e) (at_first v)) restarts.joined.value_is
-    (holds_from e restarts.joined.closed))
+    (subst (λ (v : Store). Holds (line_from e) (at_first v)) replaces.joined.value_is
+    (holds_from e replaces.joined.closed))
 
 -- The events that texts name are steps of the line, one by one.
 pub record Played (line : LineState Store) (o : Once Store) (texts : List (ℕ × List ℕ)) (stop : Option RunFault)
@@ -82,7 +82,7 @@ one_before : (form : Form) (line next line' : LineState Store) (number : ℕ) (t
     KeepsHeadlineSince form next texts stop line' → KeepsHeadlineSince form line ((number, text) ∷ texts) stop line'
 one_before form line next line' number text first texts stop plays since = record {
   before = (number, text) ∷ since.before;
-  restart = since.restart;
+  replacement = since.replacement;
   behind = since.behind;
   all = ap (λ (ts : List (ℕ × List ℕ)). (number, text) ∷ ts) since.all;
   named = since.named;
@@ -91,7 +91,7 @@ one_before form line next line' number text first texts stop plays since = recor
   ran = inl (first, since.lines, next, plays, refl, since.ran);
   given_up = since.given_up;
   joined = since.joined;
-  restarts = since.restarts;
+  replaces = since.replaces;
   keeps = since.keeps;
 }
 
@@ -136,10 +136,10 @@ script_played form line line' o ((number, text) ∷ texts) lines stop holds ran 
     ]
     | inr again ↦
         elim (script_played form next line' (at_first line.encoder.value) texts rest stop
-        (joined_holds line next again.given_up again.restarts) more) [
+        (joined_holds line next again.given_up again.replaces) more) [
           | inl p ↦ inr (record {
             before = [];
-            restart = (number, text);
+            replacement = (number, text);
             behind = texts;
             all = refl;
             named = again.named;
@@ -148,14 +148,14 @@ script_played form line line' o ((number, text) ∷ texts) lines stop holds ran 
             ran = (refl, refl, refl);
             given_up = again.given_up;
             joined = next;
-            restarts = again.restarts;
+            replaces = again.replaces;
             keeps = record {
               events = p.events;
               outcomes = p.outcomes;
               last = p.last;
               named = p.named;
               plays = p.plays;
-              headline = since_joined line next again.given_up again.restarts p.events p.outcomes line' p.last p.plays;
+              headline = since_joined line next again.given_up again.replaces p.events p.outcomes line' p.last p.plays;
             };
           })
           | inr since ↦ inr (one_before form line next line' number text first texts stop (inr again) since)

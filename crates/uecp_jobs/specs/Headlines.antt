@@ -7,12 +7,12 @@ use Rattle.uecp_link.specs.Once.{Event, Once, at_first}
 use Rattle.uecp_link.specs.Holds.{LineState, Outcome, history_by}
 use Rattle.uecp_link.specs.Holds.{Plays as PlaysSteps}
 use Rattle.uecp_link.specs.Headline.{IsHeadline}
-use Rattle.uecp_link.specs.Restarting.{Restarts}
+use Rattle.uecp_link.specs.Replacing.{Replaces}
 use Rattle.uecp_text.specs.declared.run_fault.RunFault.{RunFault}
 use Rattle.uecp_text.specs.Run.{Runs}
 use Rattle.uecp_text.specs.Words.{words}
 use Rattle.uecp_words.specs.EventWords.{Names}
-use Rattle.uecp_words.specs.RestartWords.{restart_words}
+use Rattle.uecp_words.specs.ReplaceWords.{replace_words}
 use Rattle.uecp_jobs.specs.Setups.{Options, address_of, line_at_first}
 use Rattle.output_forms.specs.declared.form.Form.{Form}
 use Rattle.uecp_jobs.specs.Playing.{PlaysIn}
@@ -41,16 +41,16 @@ pub record KeepsHeadlineSince (form : Form) (start : LineState Store) (texts : L
     (stop : Option RunFault)
     (line : LineState Store) : Type 0 where
   pub before : List (ℕ × List ℕ)
-  pub restart : ℕ × List ℕ
+  pub replacement : ℕ × List ℕ
   pub behind : List (ℕ × List ℕ)
-  pub all : texts ≡ before ++ restart ∷ behind
-  pub named : words restart.1 ≡ restart_words
+  pub all : texts ≡ before ++ replacement ∷ behind
+  pub named : words replacement.1 ≡ replace_words
   pub lines : List ℕ
   pub left : LineState Store
   pub ran : Runs (PlaysIn form) start before lines None left
   pub given_up : ℕ
   pub joined : LineState Store
-  pub restarts : Restarts step left given_up joined
+  pub replaces : Replaces step left given_up joined
   pub keeps : KeepsHeadline left.encoder.address left.encoder.value joined behind stop line
 
 -- So it is after any script of `line`, in whatever form its output is, taken whole or up to a refused text: with the

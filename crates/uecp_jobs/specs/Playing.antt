@@ -7,12 +7,12 @@ use Rattle.uecp_link.specs.declared.refusal.LineRefusal.{LineRefusal}
 use Rattle.uecp_link.specs.Once.{Event, Once, least_missing}
 use Rattle.uecp_link.specs.Events.{Refuses}
 use Rattle.uecp_link.specs.Holds.{LineState, is_acknowledged, Holds, StepsAs}
-use Rattle.uecp_link.specs.Restarting.{Restarts}
+use Rattle.uecp_link.specs.Replacing.{Replaces}
 use Rattle.output_forms.specs.declared.form.Form.{Form}
 use Rattle.output_forms.specs.declared.form.Form.TheVariants.{Lines}
 use Rattle.output_forms.specs.Forms.{step_lines, given_up_lines, totals_lines, store_lines}
 use Rattle.uecp_words.specs.EventWords.{named_message, Names, IsFaultOf}
-use Rattle.uecp_words.specs.RestartWords.{restart_words}
+use Rattle.uecp_words.specs.ReplaceWords.{replace_words}
 use Rattle.uecp_text.specs.Words.{words}
 use Rattle.uecp_text.specs.Run.{Meaning, Brings, Ends}
 use Rattle.uecp_text.specs.Run.{Refuses as Declines}
@@ -45,20 +45,20 @@ PlaysNamed form old text lines new =
     (event : Event) × Names (words text) event × PlaysEvent form old event lines new
 
 -- The words start the server again: it joins, the line goes on from there, and this is said of what was given up.
-pub record PlaysRestart (form : Form) (old : LineState Store) (text lines : List ℕ)
+pub record PlaysReplacement (form : Form) (old : LineState Store) (text lines : List ℕ)
     (new : LineState Store) : Type 0 where
-  pub named : words text ≡ restart_words
+  pub named : words text ≡ replace_words
   pub given_up : ℕ
   pub said : lines ≡ given_up_lines form given_up
-  pub restarts : Restarts step old given_up new
+  pub replaces : Replaces step old given_up new
 
 -- To `line` a text whose words name an event brings the lines that say what came of it, and so does one whose words
 -- start the server again; any other text is refused for what is wrong with its words, and nothing has changed.
 abbrev pub PlaysIn : Form → Meaning (LineState Store)
 PlaysIn form line text (Brings lines) line' =
-    PlaysNamed form line text lines line' ⊎ PlaysRestart form line text lines line'
+    PlaysNamed form line text lines line' ⊎ PlaysReplacement form line text lines line'
 PlaysIn form line text (Ends lines) line' = ⊥
-PlaysIn form line text (Declines why) line' = (why ≢ OutOfMemory) × (words text ≢ restart_words)
+PlaysIn form line text (Declines why) line' = (why ≢ OutOfMemory) × (words text ≢ replace_words)
     × IsFaultOf (words text) why × (line' ≡ line)
 
 abbrev pub Plays : Meaning (LineState Store)

@@ -3,7 +3,7 @@ ghost use Rattle.std.specs.Prelude.{◌≡◌, ◌⊎◌, ℕ, List, IfOk, IfErr
 ghost use Rattle.uecp_link.specs.Once.{FrameComes, ReplyComes};
 ghost use Rattle.rds_store.specs.Step.{step};
 ghost use Rattle.uecp_link.specs.Events.{event_of};
-ghost use Rattle.uecp_link.specs.Restarting.{Restarts};
+ghost use Rattle.uecp_link.specs.Replacing.{Replaces};
 ghost use Rattle.output_forms.specs.Forms.{given_up_lines};
 ghost use Rattle.uecp_text.specs.Written.{Adds};
 ghost use Rattle.uecp_text.specs.declared.run_fault.RunFault.TheVariants.{OutOfMemory};
@@ -19,7 +19,7 @@ use rds_store::laws::empty_message_changes_nothing;
 use std::alloc::Global;
 use uecp_link::{Line, LineEvent, Side};
 use uecp_text::{Interpreter, Output, RunFault, Taken, TextFault, words_of};
-use uecp_words::{EventLine, event_of, is_restart};
+use uecp_words::{EventLine, event_of, is_replacement};
 
 /// Plays events on a line and says what came of each; then the totals and, where that is asked for, the store.
 #[derive(Drop)]
@@ -54,8 +54,8 @@ impl Interpreter for Playing {
         output: &mut Output,
     ) -> Result<Taken, TextFault> {
         let words = words_of(alloc, text)?;
-        if is_restart(words.as_slice()) {
-            restart(self.asked.form, &mut self.line, output);
+        if is_replacement(words.as_slice()) {
+            replace(self.asked.form, &mut self.line, output);
         } else {
             let event = event_of(alloc, words.as_slice())?;
             play_event(self.asked.form, &mut self.line, &event, output);
@@ -87,13 +87,13 @@ fn play_event(form: Form, line: &mut Line<RdsStore>, event: &EventLine, output: 
     put_step(form, line.step(&event), number, output);
 }
 
-/// Starts the server again, and says how many messages were given up.
-fn restart(form: Form, line: &mut Line<RdsStore>, output: &mut Output)
-    ensures { (given_up : ℕ) × Restarts step line.old given_up line.new
+/// Replaces the server by a new one, which joins, and says how many messages were given up.
+fn replace(form: Form, line: &mut Line<RdsStore>, output: &mut Output)
+    ensures { (given_up : ℕ) × Replaces step line.old given_up line.new
         × Adds output.old output.new (given_up_lines form given_up) }
 {
     empty_message_changes_nothing();
-    put_given_up(form, line.restart_server(), output);
+    put_given_up(form, line.replace_server(), output);
 }
 
 /// The event as it happens on the line.
@@ -107,8 +107,8 @@ fn line_event(event: &EventLine) -> LineEvent<'_>
         EventLine::Noise(Side::Encoder, bytes) => LineEvent::NoiseToEncoder(bytes.as_slice()),
         EventLine::Noise(Side::Server, bytes) => LineEvent::NoiseToServer(bytes.as_slice()),
         EventLine::LineLost(side) => LineEvent::LineLost(*side),
-        EventLine::Resume(Side::Encoder) => LineEvent::EncoderRestart,
-        EventLine::Resume(Side::Server) => LineEvent::ServerRestart,
+        EventLine::Restart(Side::Encoder) => LineEvent::EncoderRestart,
+        EventLine::Restart(Side::Server) => LineEvent::ServerRestart,
         EventLine::Take => LineEvent::Take,
     }
 }

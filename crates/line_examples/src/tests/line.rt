@@ -7,7 +7,7 @@ mod lateness;
 mod memory;
 mod noise;
 mod outstanding;
-mod resumes;
+mod restarts;
 mod server;
 mod takes;
 mod turns;
