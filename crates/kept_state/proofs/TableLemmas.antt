@@ -5,7 +5,7 @@ use Rattle.std.proofs.lemmas.List.Sorted.{length_permutation}
 use Rattle.std.specs.List.{flat_map}
 use Rattle.sqlite.specs.declared.types.Value.{Value}
 use Rattle.sqlite.specs.declared.types.Value.TheVariants.{Null, Int, Blob}
-use Rattle.std.specs.Prelude.{Vec}
+use Rattle.std.specs.Prelude.{Vec, IfErr}
 use Rattle.std.specs.declared.alloc.Global.{Global}
 use Rattle.sqlite.specs.Order.{Row, column}
 use Rattle.sqlite.specs.Term.{Term, lit, col}
@@ -46,6 +46,9 @@ use Rattle.sqlite_schema.specs.declared.command.Returning.{Returning}
 use Rattle.sqlite.proofs.Callers.{IsPlain, command_of, statement_of, runs_as, reads_as, never_commits, one_step, one_permutation}
 use Rattle.sqlite.specs.State.{MayWrite}
 use Rattle.sqlite.specs.Effect.{IsDatabase}
+use Rattle.kept_state.specs.declared.fault.KeepFault.{KeepFault}
+use Rattle.kept_state.specs.declared.fault.KeepFault.TheVariants as fault
+use Rattle.kept_state.specs.Fault.{HasVersion, IsRefused, AreRefused}
 use Rattle.kept_state.specs.Kept.{kept_table, kept_schema, no_schema, HasNone, IsFresh, IsOurs, stored_row, shown_row, Holds, Has, HasImage, HasTable, Stands, bytes_of}
 
 either : (b : Bool) (x : Value) → cond b x x ≡ x
@@ -401,3 +404,46 @@ read_finds version s rows (Ok None) k is h =
 read_finds version s rows (Ok (Some v)) k is (row, same, key, numbered, shown) =
     let has = one_row version v.items s.now row (s.now.trees 0) k.has refl (sym same ∙ is (omega (arith, ap length same))) key numbered shown in
     record { is_open = k.is_open; autocommit = k.autocommit; has = has; settled = k.settled }
+
+one_version : (found : ℕ) (db : Database) (row : Row) (t : List Row) → db.trees 0 ≡ t → row ∷ [] ≡ map shown_row t → column row 1 ≡ Int (pos found) → HasVersion found db
+one_version found db row [] is same numbered = absurd cc
+one_version found db row (x ∷ y ∷ more) is same numbered = absurd (omega (arith, ap length same))
+one_version found db row (x ∷ []) is same numbered =
+    let one : row ≡ shown_row x = cc in
+    record { row = x; only = is; version_is = ap (λ r. column r 1) (sym one) ∙ numbered }
+
+-- what is refused of the rows is refused of the table
+pub rows_refused : (version : ℕ) (db : Database) (rows : List Row) (why : KeepFault) → (length rows ≤ 1 → rows ≡ map shown_row (db.trees 0)) → AreRefused version rows why → IsRefused version db why
+rows_refused version db rows (fault.Newer found) is (row, same, numbered, less) =
+    (one_version found db row (db.trees 0) refl (sym same ∙ is (omega (arith, ap length same))) numbered, less)
+rows_refused version db rows (fault.Older found) is (row, same, numbered, less) =
+    (one_version found db row (db.trees 0) refl (sym same ∙ is (omega (arith, ap length same))) numbered, less)
+rows_refused version db rows fault.InUse is never = never
+rows_refused version db rows fault.NotOurs is never = absurd never
+rows_refused version db rows fault.Damaged is why = tt
+rows_refused version db rows fault.Unreachable is never = never
+rows_refused version db rows fault.Full is why = tt
+rows_refused version db rows fault.OutOfMemory is why = tt
+rows_refused version db rows fault.Failed is why = tt
+
+-- a table with no row is refused for no version, and is not another database
+pub none_refused : (version : ℕ) (db other : Database) (why : KeepFault) → HasNone db → IsRefused version db why → IsRefused version other why
+none_refused version db other (fault.Newer found) none (has, less) = absurd (let e : [] ≡ has.row ∷ [] = sym none.none ∙ has.only in cc)
+none_refused version db other (fault.Older found) none (has, less) = absurd (let e : [] ≡ has.row ∷ [] = sym none.none ∙ has.only in cc)
+none_refused version db other fault.InUse none never = never
+none_refused version db other fault.NotOurs none why = absurd (why.1 none.ours.schema)
+none_refused version db other fault.Damaged none why = tt
+none_refused version db other fault.Unreachable none never = never
+none_refused version db other fault.Full none why = tt
+none_refused version db other fault.OutOfMemory none why = tt
+none_refused version db other fault.Failed none why = tt
+
+pub all_refused : {A : Type 0} (version : ℕ) (db : Database) (rows : List Row) (r : Result A KeepFault) → (length rows ≤ 1 → rows ≡ map shown_row (db.trees 0)) → IfErr r (AreRefused version rows) → IfErr r (IsRefused version db)
+all_refused version db rows (Ok value) is why = tt
+all_refused version db rows (Err fault) is why = rows_refused version db rows fault is why
+
+-- what is refused of the table that was made, or that was there, is refused of what was there
+pub refused_before : {A : Type 0} (version : ℕ) (db other : Database) (r : Result A KeepFault) → (db ≡ other) ⊎ HasNone db → IfErr r (IsRefused version db) → IfErr r (IsRefused version other)
+refused_before version db other (Ok value) how why = tt
+refused_before version db other (Err fault) (inl same) why = subst (λ d. IsRefused version d fault) same why
+refused_before version db other (Err fault) (inr none) why = none_refused version db other fault none why

@@ -1,6 +1,7 @@
 //! Why a state can't be kept.
-ghost use Rattle.std.specs.Prelude.{◌≡◌};
-ghost use Rattle.kept_state.specs.Fault.{fault_of};
+ghost use Rattle.std.specs.Prelude.{◌≡◌, ℕ};
+ghost use Rattle.sqlite.specs.Effect.{Database};
+ghost use Rattle.kept_state.specs.Fault.{opening_fault, calling_fault, IsRefused};
 
 use sqlite::{Error, ErrorCode};
 use std::fmt;
@@ -48,15 +49,28 @@ impl fmt::Display for KeepFault {
 
 impl std::error::Error for KeepFault {}
 
-/// The fault that an error of the database is told as.
-pub(crate) fn fault_of(error: Error) -> KeepFault
-    ensures { result ≡ fault_of error }
+/// The fault that an error of an open is told as.
+pub(crate) fn opening_fault(error: Error) -> KeepFault
+    ensures { result ≡ opening_fault error }
 {
     match error {
         Error::SqliteFailure(ErrorCode::DatabaseBusy) => KeepFault::InUse,
         Error::SqliteFailure(ErrorCode::NotADatabase) => KeepFault::NotOurs,
         Error::SqliteFailure(ErrorCode::DatabaseCorrupt) => KeepFault::Damaged,
         Error::SqliteFailure(ErrorCode::CannotOpen) => KeepFault::Unreachable,
+        Error::SqliteFailure(ErrorCode::DiskFull) => KeepFault::Full,
+        Error::SqliteFailure(ErrorCode::OutOfMemory) => KeepFault::OutOfMemory,
+        _ => KeepFault::Failed,
+    }
+}
+
+/// The fault that an error of a statement is told as.
+pub(crate) fn calling_fault(error: Error) -> KeepFault
+    ensures value { result ≡ calling_fault error }
+    ensures plain { (version : ℕ) (db : Database) → IsRefused version db result }
+{
+    match error {
+        Error::SqliteFailure(ErrorCode::DatabaseCorrupt) => KeepFault::Damaged,
         Error::SqliteFailure(ErrorCode::DiskFull) => KeepFault::Full,
         Error::SqliteFailure(ErrorCode::OutOfMemory) => KeepFault::OutOfMemory,
         _ => KeepFault::Failed,

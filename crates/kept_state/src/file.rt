@@ -9,7 +9,7 @@ ghost use Rattle.kept_state.specs.Keeper.{IsClean, Keeps};
 ghost use Rattle.kept_state.specs.Files.{FilesHold, FileHolds, HoldLeft};
 ghost use Rattle.kept_state.specs.Saved.{FilesHoldValue, KeepsValue};
 
-use crate::fault::{KeepFault, fault_of};
+use crate::fault::{KeepFault, opening_fault};
 use crate::kept::{Kept, Opened};
 use crate::saved::{Found, Image, Saved};
 use sqlite::{Connection, FileFrom, FileStore, Files, Start, Wary};
@@ -43,7 +43,7 @@ pub fn open_from<S: Start>(
 {
     let conn = match Connection::open_from(rt, path, false, start) {
         Ok(conn) => conn,
-        Err((error, _)) => return Err(fault_of(error)),
+        Err((error, _)) => return Err(opening_fault(error)),
     };
     match Kept::over(conn, version) {
         Ok(opened) => Ok(opened),
@@ -105,7 +105,7 @@ impl<D: Disk + Drop> Kept<FileStore<D>> {
             Ok(files) => Ok(files),
             Err((error, store)) => {
                 drop(store.close());
-                Err(fault_of(error))
+                Err(opening_fault(error))
             }
         }
     }

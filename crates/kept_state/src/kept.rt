@@ -4,6 +4,7 @@ ghost use Rattle.sqlite.specs.Tree.{Trees};
 ghost use Rattle.sqlite.specs.State.{HasCleanDisk, Opens};
 ghost use Rattle.sqlite.specs.Held.{state};
 ghost use Rattle.kept_state.specs.Kept.{Holds, HasImage, IsFresh, Stands, bytes_of};
+ghost use Rattle.kept_state.specs.Fault.{IsRefused};
 ghost use Rattle.kept_state.specs.Keeper.{Fits, IsClean, MayLeave, Keeps, HasEnded};
 
 use crate::fault::KeepFault;
@@ -108,6 +109,7 @@ impl<S: Alter> Kept<S> {
         ensures found { (image : Option (List ℕ)) → Holds version image (state S.Store conn).now.trees → IfOk result (λ r. IsClean S.Store r.kept → bytes_of r.image ≡ image) }
         ensures version { IfOk result (λ r. r.kept.version ≡ version) }
         ensures clean { IfOk result (λ r. IsClean S.Store r.kept → HasCleanDisk (state S.Store conn)) }
+        ensures refused { IfErr result (λ e. HasCleanDisk (state S.Store e.1) → IsRefused version (state S.Store conn).now e.0) }
         ensures spared { IfErr result (λ e. HasCleanDisk (state S.Store e.1) → (rows : Trees) → (state S.Store e.1).may_leave rows → (state S.Store conn).may_leave rows ⊎ (IsFresh (state S.Store conn).now × Holds version None rows)) }
     {
         match find(&mut conn, version) {

@@ -9,7 +9,8 @@ use sqlite_value::keys::Collation;
 use sqlite_value::value::Value;
 
 fn is_column(column: &Column, name: &[u8], kind: Kind, not_null: bool) -> bool
-    ensures { IsTrue result → column.now ≡ record { name = name.now; kind = kind; is_strict = true; not_null = not_null; default = Null; collation = Binary } }
+    ensures is { IsTrue result → column.now ≡ record { name = name.now; kind = kind; is_strict = true; not_null = not_null; default = Null; collation = Binary } }
+    ensures back { column.now ≡ record { name = name.now; kind = kind; is_strict = true; not_null = not_null; default = Null; collation = Binary } → IsTrue result }
 {
     column.name.as_slice() == name
         && column.kind == kind
@@ -27,6 +28,7 @@ fn is_plain(table: &Table) -> bool
     ensures references { IsTrue result → table.now.references ≡ [] }
     ensures computed { IsTrue result → table.now.computed ≡ [] }
     ensures stamps { IsTrue result → table.now.stamps ≡ record { places = []; terms = []; formats = [] } }
+    ensures back { table.now.uniques ≡ [] → table.now.orders ≡ [] → table.now.checks ≡ [] → table.now.references ≡ [] → table.now.computed ≡ [] → table.now.stamps ≡ record { places = []; terms = []; formats = [] } → IsTrue result }
 {
     table.uniques.is_empty()
         && table.orders.is_empty()
@@ -44,6 +46,7 @@ fn is_keyed(table: &Table) -> bool
     ensures key { IsTrue result → table.now.key ≡ Some 0 }
     ensures primary { IsTrue result → table.now.primary ≡ 0 ∷ [] }
     ensures counted { IsTrue result → table.now.is_counted ≡ false }
+    ensures back { table.now.tree ≡ 0 → table.now.key ≡ Some 0 → table.now.primary ≡ 0 ∷ [] → table.now.is_counted ≡ false → IsTrue result }
 {
     let [0] = table.primary.as_slice() else {
         return false;
@@ -52,7 +55,8 @@ fn is_keyed(table: &Table) -> bool
 }
 
 fn are_columns(columns: &[Column]) -> bool
-    ensures { IsTrue result → columns.now ≡ kept_table.columns }
+    ensures is { IsTrue result → columns.now ≡ kept_table.columns }
+    ensures back { columns.now ≡ kept_table.columns → IsTrue result }
 {
     let [id, version, image] = columns else {
         return false;
@@ -63,13 +67,15 @@ fn are_columns(columns: &[Column]) -> bool
 }
 
 fn is_named(table: &Table) -> bool
-    ensures { IsTrue result → table.now.name ≡ codes "kept" }
+    ensures is { IsTrue result → table.now.name ≡ codes "kept" }
+    ensures back { table.now.name ≡ codes "kept" → IsTrue result }
 {
     table.name.as_slice() == b"kept".as_slice()
 }
 
 fn is_table(table: &Table) -> bool
-    ensures { IsTrue result → table.now ≡ kept_table }
+    ensures is { IsTrue result → table.now ≡ kept_table }
+    ensures back { table.now ≡ kept_table → IsTrue result }
 {
     if !is_named(table) {
         return false;
@@ -82,7 +88,8 @@ fn is_table(table: &Table) -> bool
 
 /// Whether our table is in the database, and nothing else.
 pub(crate) fn is_ours(schema: &Schema) -> bool
-    ensures { IsTrue result → schema.now ≡ kept_schema }
+    ensures is { IsTrue result → schema.now ≡ kept_schema }
+    ensures back { schema.now ≡ kept_schema → IsTrue result }
 {
     let [table] = schema.tables.as_slice() else {
         return false;
@@ -92,7 +99,8 @@ pub(crate) fn is_ours(schema: &Schema) -> bool
 
 /// Whether there is nothing in the database.
 pub(crate) fn is_fresh(schema: &Schema) -> bool
-    ensures { IsTrue result → schema.now ≡ no_schema }
+    ensures is { IsTrue result → schema.now ≡ no_schema }
+    ensures back { schema.now ≡ no_schema → IsTrue result }
 {
     schema.tables.is_empty() && schema.indexes.is_empty() && schema.views.is_empty()
 }

@@ -1,6 +1,7 @@
 use Rattle.std.proofs.Common.{inl, inr}
 use Rattle.sqlite.specs.Held.{state}
 use Rattle.kept_state.proofs.KeepLemmas.{found_is}
+use Rattle.kept_state.proofs.TableLemmas.{refused_before}
 use Rattle.kept_state.proofs.start.find.Goals as goal
 
 pub returns-in-Ok-clause-found : goal.returns-in-Ok-clause-found
@@ -17,3 +18,11 @@ returns-in-Ok-clause-left g c clean rows may =
 
 pub returns-in-Err-clause-left : goal.returns-in-Err-clause-left
 returns-in-Err-clause-left g c clean rows may = c.ready.ensures.left c.args.version clean rows may
+
+pub returns-in-Ok-clause-refused : goal.returns-in-Ok-clause-refused
+returns-in-Ok-clause-refused g c clean =
+    let before = c.read.ensures.clean clean in
+    refused_before c.args.version (state g.S.Store c.ready.new.conn).now (state g.S.Store c.args.conn.now).now c.read.result (c.in-Ok.ensures.made before) (c.read.ensures.refused (c.in-Ok.ensures.ours before) clean)
+
+pub returns-in-Err-clause-refused : goal.returns-in-Err-clause-refused
+returns-in-Err-clause-refused g c clean = c.in-Err.ensures.refused c.args.version
