@@ -8,7 +8,8 @@ use Rattle.sqlite.specs.declared.error.Error.{Error}
 use Rattle.sqlite.specs.declared.error.Error.TheVariants.{SqliteFailure}
 use Rattle.sqlite.specs.declared.error.ErrorCode.TheVariants as code
 use Rattle.kept_state.specs.declared.fault.KeepFault.{KeepFault}
-use Rattle.kept_state.specs.declared.fault.KeepFault.TheVariants.{InUse, NotOurs, Newer, Older, Damaged, Unreachable, Full, OutOfMemory, Failed}
+use Rattle.kept_state.specs.declared.fault.KeepFault.TheVariants.{InUse, NotOurs, Newer, Older, Damaged, Unreachable}
+use Rattle.kept_state.specs.declared.fault.KeepFault.TheVariants.{Full, OutOfMemory, Failed}
 
 abbrev pub opening_fault : Error → KeepFault
 opening_fault (SqliteFailure code.DatabaseBusy) = InUse
@@ -47,8 +48,10 @@ IsRefused version db Failed = ⊤
 abbrev pub AreRefused : ℕ → List Row → KeepFault → Type 0
 AreRefused version rows InUse = ⊥
 AreRefused version rows NotOurs = ⊥
-AreRefused version rows (Newer found) = (row : Row) × (rows ≡ row ∷ []) × (column row 1 ≡ Int (pos found)) × (version < found)
-AreRefused version rows (Older found) = (row : Row) × (rows ≡ row ∷ []) × (column row 1 ≡ Int (pos found)) × (found < version)
+AreRefused version rows (Newer found) = (row : Row) × (rows ≡ row ∷ []) × (column row 1 ≡ Int (pos found))
+    × (version < found)
+AreRefused version rows (Older found) = (row : Row) × (rows ≡ row ∷ []) × (column row 1 ≡ Int (pos found))
+    × (found < version)
 AreRefused version rows Damaged = ⊤
 AreRefused version rows Unreachable = ⊥
 AreRefused version rows Full = ⊥

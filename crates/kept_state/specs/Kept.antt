@@ -1,6 +1,7 @@
 -- A file that keeps one image: a database of one table with one row, and what a crash may leave of it.
 use Rattle.sqlite.specs.Collation.TheVariants.{Binary}
-use Rattle.std.specs.Prelude.{◌≡◌, ◌⊎◌, true, false, [], ◌∷◌, Option, None, Some, option_map, codes, ℕ, List, Vec, pos, IsTrue, ⊤}
+use Rattle.std.specs.Prelude.{◌≡◌, ◌⊎◌, true, false, [], ◌∷◌, Option, None, Some, option_map, codes, ℕ, List, Vec, pos}
+use Rattle.std.specs.Prelude.{IsTrue, ⊤}
 use Rattle.std.specs.declared.alloc.Global.{Global}
 use Rattle.sqlite.specs.declared.types.Value.TheVariants.{Null, Int, Blob as Bytes}
 use Rattle.sqlite.specs.Order.{Row, column}
@@ -16,9 +17,30 @@ abbrev pub kept_table : Table
 kept_table = record {
   name = codes "kept";
   tree = 0;
-  columns = (record { name = codes "id"; kind = Integer; is_strict = true; not_null = false; default = Null; collation = Binary })
-      ∷ (record { name = codes "version"; kind = Integer; is_strict = true; not_null = true; default = Null; collation = Binary })
-      ∷ (record { name = codes "image"; kind = Blob; is_strict = true; not_null = true; default = Null; collation = Binary }) ∷ [];
+  columns = (record {
+    name = codes "id";
+    kind = Integer;
+    is_strict = true;
+    not_null = false;
+    default = Null;
+    collation = Binary;
+  })
+      ∷ (record {
+        name = codes "version";
+        kind = Integer;
+        is_strict = true;
+        not_null = true;
+        default = Null;
+        collation = Binary;
+      })
+      ∷ (record {
+        name = codes "image";
+        kind = Blob;
+        is_strict = true;
+        not_null = true;
+        default = Null;
+        collation = Binary;
+      }) ∷ [];
   key = Some 0;
   primary = 0 ∷ [];
   uniques = [];

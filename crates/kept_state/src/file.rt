@@ -38,7 +38,8 @@ pub fn open_from<S: Start>(
     start: S,
 ) -> Result<Opened<FileStore<FileFrom<S>>>, KeepFault>
     ensures kept { IfOk result (λ r. IsClean over_files r.kept → Keeps over_files r.kept (bytes_of r.image)) }
-    ensures found { (image : Option (List ℕ)) → FilesHold version image (image_at S.Start) → IfOk result (λ r. IsClean over_files r.kept → bytes_of r.image ≡ image) }
+    ensures found { (image : Option (List ℕ)) → FilesHold version image (image_at S.Start)
+        → IfOk result (λ r. IsClean over_files r.kept → bytes_of r.image ≡ image) }
     ensures version { IfOk result (λ r. r.kept.version ≡ version) }
 {
     let conn = match Connection::open_from(rt, path, false, start) {
@@ -74,8 +75,10 @@ pub fn open_value_from<S: Start, T: Image>(
     start: S,
 ) -> Result<Found<FileStore<FileFrom<S>>, T>, KeepFault>
     ensures kept { IfOk result (λ r. IsClean over_files r.saved → KeepsValue T.Image.reads over_files r.saved r.value) }
-    ensures found { (value : T) → FilesHoldValue T.Image.reads version (image_at S.Start) value → IfOk result (λ r. IsClean over_files r.saved → r.value ≡ Some value) }
-    ensures fresh { FilesHold version None (image_at S.Start) → IfOk result (λ r. IsClean over_files r.saved → r.value ≡ None) }
+    ensures found { (value : T) → FilesHoldValue T.Image.reads version (image_at S.Start) value
+        → IfOk result (λ r. IsClean over_files r.saved → r.value ≡ Some value) }
+    ensures fresh { FilesHold version None (image_at S.Start)
+        → IfOk result (λ r. IsClean over_files r.saved → r.value ≡ None) }
     ensures version { IfOk result (λ r. r.saved.version ≡ version) }
 {
     let opened = match open_from(rt, path, version, start) {
@@ -92,9 +95,14 @@ impl<D: Disk + Drop> Kept<FileStore<D>> {
     /// A clean end: copies the log into the database file and gives the two files back, so that the database file alone
     /// holds what was kept, also after a crash.
     pub fn close(self) -> Result<Files<D>, KeepFault>
-        ensures alone { (image : Option (List ℕ)) → Keeps over_files self image → IfOk result (λ files. AreClean D.Disk files.log files.db → FileHolds self.version image (image_of D.Disk files)) }
-        ensures rows { IfOk result (λ files. AreClean D.Disk files.log files.db → (left : Held) → outcomes D.Disk files.log files.db left → HoldLeft over_files self (record left { log = [] })) }
-        ensures left { (image : Option (List ℕ)) → Keeps over_files self image → IfOk result (λ files. AreClean D.Disk files.log files.db → (left : Held) → outcomes D.Disk files.log files.db left → FileHolds self.version image left) }
+        ensures alone { (image : Option (List ℕ)) → Keeps over_files self image
+            → IfOk result (λ files. AreClean D.Disk files.log files.db
+            → FileHolds self.version image (image_of D.Disk files)) }
+        ensures rows { IfOk result (λ files. AreClean D.Disk files.log files.db → (left : Held)
+            → outcomes D.Disk files.log files.db left → HoldLeft over_files self (record left { log = [] })) }
+        ensures left { (image : Option (List ℕ)) → Keeps over_files self image
+            → IfOk result (λ files. AreClean D.Disk files.log files.db → (left : Held)
+            → outcomes D.Disk files.log files.db left → FileHolds self.version image left) }
     {
         let Kept {
             conn,
@@ -110,11 +118,13 @@ impl<D: Disk + Drop> Kept<FileStore<D>> {
         }
     }
 
-    /// An end that is not clean, as a crash between two calls: the two files are given back as they are, with no further
-    /// write. Whatever such a crash leaves holds what was kept.
+    /// An end that is not clean, as a crash between two calls: the two files are given back as they are, with no
+    /// further write. Whatever such a crash leaves holds what was kept.
     pub fn stop(self) -> Files<D>
-        ensures rows { AreClean D.Disk result.log result.db → (left : Held) → outcomes D.Disk result.log result.db left → HoldLeft over_files self left }
-        ensures left { (image : Option (List ℕ)) → Keeps over_files self image → AreClean D.Disk result.log result.db → (left : Held) → outcomes D.Disk result.log result.db left → FilesHold self.version image left }
+        ensures rows { AreClean D.Disk result.log result.db → (left : Held) → outcomes D.Disk result.log result.db left
+            → HoldLeft over_files self left }
+        ensures left { (image : Option (List ℕ)) → Keeps over_files self image → AreClean D.Disk result.log result.db
+            → (left : Held) → outcomes D.Disk result.log result.db left → FilesHold self.version image left }
     {
         let Kept {
             conn,
@@ -128,7 +138,10 @@ impl<D: Disk + Drop> Kept<FileStore<D>> {
 impl<D: Disk + Drop, T: Image> Saved<FileStore<D>, T> {
     /// As `Kept::close`: the database file alone holds the value, also after a crash.
     pub fn close(self) -> Result<Files<D>, KeepFault>
-        ensures left { (value : T) → KeepsValue T.Image.reads over_files self (Some value) → IfOk result (λ files. AreClean D.Disk files.log files.db → (left : Held) → outcomes D.Disk files.log files.db left → FilesHoldValue T.Image.reads self.version (record left { log = [] }) value) }
+        ensures left { (value : T) → KeepsValue T.Image.reads over_files self (Some value)
+            → IfOk result (λ files. AreClean D.Disk files.log files.db → (left : Held)
+            → outcomes D.Disk files.log files.db left → FilesHoldValue T.Image.reads self.version
+            (record left { log = [] }) value) }
     {
         match self.into_kept().close() {
             Ok(files) => Ok(files),
@@ -138,7 +151,9 @@ impl<D: Disk + Drop, T: Image> Saved<FileStore<D>, T> {
 
     /// As `Kept::stop`: whatever a crash between two calls leaves holds the value.
     pub fn stop(self) -> Files<D>
-        ensures { (value : T) → KeepsValue T.Image.reads over_files self (Some value) → AreClean D.Disk result.log result.db → (left : Held) → outcomes D.Disk result.log result.db left → FilesHoldValue T.Image.reads self.version left value }
+        ensures { (value : T) → KeepsValue T.Image.reads over_files self (Some value)
+            → AreClean D.Disk result.log result.db → (left : Held) → outcomes D.Disk result.log result.db left
+            → FilesHoldValue T.Image.reads self.version left value }
     {
         self.into_kept().stop()
     }

@@ -54,9 +54,11 @@ fn write<S: Alter>(
 ) -> Result<(), KeepFault>
     requires { HasCleanDisk (state S.Store conn.old) → Fits rows version (state S.Store conn.old) }
     ensures clean { HasCleanDisk (state S.Store conn.new) → HasCleanDisk (state S.Store conn.old) }
-    ensures made { HasCleanDisk (state S.Store conn.new) → OnOk result (Stands (HasImage version image.now) (state S.Store conn.new)) }
+    ensures made { HasCleanDisk (state S.Store conn.new)
+        → OnOk result (Stands (HasImage version image.now) (state S.Store conn.new)) }
     ensures idle { rows ≡ Rows.Unsure → (result ≡ Err KeepFault.Failed) × (conn.new ≡ conn.old) }
-    ensures left { HasCleanDisk (state S.Store conn.new) → (db : Trees) → (state S.Store conn.new).may_leave db → (state S.Store conn.old).may_leave db ⊎ Holds version (Some image.now) db }
+    ensures left { HasCleanDisk (state S.Store conn.new) → (db : Trees) → (state S.Store conn.new).may_leave db
+        → (state S.Store conn.old).may_leave db ⊎ Holds version (Some image.now) db }
 {
     match rows {
         Rows::Empty => insert(conn, version, image),
@@ -75,12 +77,13 @@ pub struct Opened<S: Alter> {
 }
 
 impl<S: Alter> Kept<S> {
-    /// Saves the image in place of the one that was kept. From `Ok` on, whatever a crash leaves holds it. At any outcome
-    /// a crash leaves what it could leave before, or the new image. After a save that failed each later one answers
-    /// `Failed`, and nothing more is written: what is kept is known again once the file is opened anew.
+    /// Saves the image in place of the one that was kept. From `Ok` on, whatever a crash leaves holds it. At any
+    /// outcome a crash leaves what it could leave before, or the new image. After a save that failed each later one
+    /// answers `Failed`, and nothing more is written: what is kept is known again once the file is opened anew.
     pub fn save(&mut self, image: &[u8]) -> Result<(), KeepFault>
         ensures saved { IsClean S.Store self.new → OnOk result (Keeps S.Store self.new (Some image.now)) }
-        ensures either { IsClean S.Store self.new → (rows : Trees) → MayLeave S.Store self.new rows → MayLeave S.Store self.old rows ⊎ Holds self.old.version (Some image.now) rows }
+        ensures either { IsClean S.Store self.new → (rows : Trees) → MayLeave S.Store self.new rows
+            → MayLeave S.Store self.old rows ⊎ Holds self.old.version (Some image.now) rows }
         ensures clean { IsClean S.Store self.new → IsClean S.Store self.old }
         ensures version { self.new.version ≡ self.old.version }
         ensures failed { OnErr result (HasEnded S.Store self.new) }
@@ -98,19 +101,23 @@ impl<S: Alter> Kept<S> {
         }
     }
 
-    /// Over a connection that was just opened. Nothing is overwritten: where there was nothing the table is made, with no
-    /// row, and a connection that is refused comes back with the fault, its database as it was.
+    /// Over a connection that was just opened. Nothing is overwritten: where there was nothing the table is made, with
+    /// no row, and a connection that is refused comes back with the fault, its database as it was.
     pub fn over(
         mut conn: Connection<S>,
         version: u32,
     ) -> Result<Opened<S>, (KeepFault, Connection<S>)>
         requires { HasCleanDisk (state S.Store conn) → Opens (state S.Store conn) }
         ensures kept { IfOk result (λ r. IsClean S.Store r.kept → Keeps S.Store r.kept (bytes_of r.image)) }
-        ensures found { (image : Option (List ℕ)) → Holds version image (state S.Store conn).now.trees → IfOk result (λ r. IsClean S.Store r.kept → bytes_of r.image ≡ image) }
+        ensures found { (image : Option (List ℕ)) → Holds version image (state S.Store conn).now.trees
+            → IfOk result (λ r. IsClean S.Store r.kept → bytes_of r.image ≡ image) }
         ensures version { IfOk result (λ r. r.kept.version ≡ version) }
         ensures clean { IfOk result (λ r. IsClean S.Store r.kept → HasCleanDisk (state S.Store conn)) }
-        ensures refused { IfErr result (λ e. HasCleanDisk (state S.Store e.1) → IsRefused version (state S.Store conn).now e.0) }
-        ensures spared { IfErr result (λ e. HasCleanDisk (state S.Store e.1) → (rows : Trees) → (state S.Store e.1).may_leave rows → (state S.Store conn).may_leave rows ⊎ (IsFresh (state S.Store conn).now × Holds version None rows)) }
+        ensures refused { IfErr result (λ e. HasCleanDisk (state S.Store e.1)
+            → IsRefused version (state S.Store conn).now e.0) }
+        ensures spared { IfErr result (λ e. HasCleanDisk (state S.Store e.1) → (rows : Trees)
+            → (state S.Store e.1).may_leave rows → (state S.Store conn).may_leave rows
+            ⊎ (IsFresh (state S.Store conn).now × Holds version None rows)) }
     {
         match find(&mut conn, version) {
             Ok(Some(image)) => Ok(Opened {

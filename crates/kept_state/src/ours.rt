@@ -9,8 +9,22 @@ use sqlite_value::keys::Collation;
 use sqlite_value::value::Value;
 
 fn is_column(column: &Column, name: &[u8], kind: Kind, not_null: bool) -> bool
-    ensures is { IsTrue result → column.now ≡ record { name = name.now; kind = kind; is_strict = true; not_null = not_null; default = Null; collation = Binary } }
-    ensures back { column.now ≡ record { name = name.now; kind = kind; is_strict = true; not_null = not_null; default = Null; collation = Binary } → IsTrue result }
+    ensures is { IsTrue result → column.now ≡ record {
+      name = name.now;
+      kind = kind;
+      is_strict = true;
+      not_null = not_null;
+      default = Null;
+      collation = Binary;
+    } }
+    ensures back { column.now ≡ record {
+      name = name.now;
+      kind = kind;
+      is_strict = true;
+      not_null = not_null;
+      default = Null;
+      collation = Binary;
+    } → IsTrue result }
 {
     column.name.as_slice() == name
         && column.kind == kind
@@ -28,7 +42,9 @@ fn is_plain(table: &Table) -> bool
     ensures references { IsTrue result → table.now.references ≡ [] }
     ensures computed { IsTrue result → table.now.computed ≡ [] }
     ensures stamps { IsTrue result → table.now.stamps ≡ record { places = []; terms = []; formats = [] } }
-    ensures back { table.now.uniques ≡ [] → table.now.orders ≡ [] → table.now.checks ≡ [] → table.now.references ≡ [] → table.now.computed ≡ [] → table.now.stamps ≡ record { places = []; terms = []; formats = [] } → IsTrue result }
+    ensures back { table.now.uniques ≡ [] → table.now.orders ≡ [] → table.now.checks ≡ [] → table.now.references ≡ []
+        → table.now.computed ≡ [] → table.now.stamps ≡ record { places = []; terms = []; formats = [] }
+        → IsTrue result }
 {
     table.uniques.is_empty()
         && table.orders.is_empty()
@@ -46,7 +62,8 @@ fn is_keyed(table: &Table) -> bool
     ensures key { IsTrue result → table.now.key ≡ Some 0 }
     ensures primary { IsTrue result → table.now.primary ≡ 0 ∷ [] }
     ensures counted { IsTrue result → table.now.is_counted ≡ false }
-    ensures back { table.now.tree ≡ 0 → table.now.key ≡ Some 0 → table.now.primary ≡ 0 ∷ [] → table.now.is_counted ≡ false → IsTrue result }
+    ensures back { table.now.tree ≡ 0 → table.now.key ≡ Some 0 → table.now.primary ≡ 0 ∷ []
+        → table.now.is_counted ≡ false → IsTrue result }
 {
     let [0] = table.primary.as_slice() else {
         return false;

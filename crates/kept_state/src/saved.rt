@@ -26,7 +26,8 @@ pub trait Image: Sized + Drop {
 
     /// Reads an image, or answers None where the bytes are none. The error is want of memory.
     fn read(alloc: Global, image: &[u8]) -> Result<Option<Self>, AllocError>
-        ensures { IfOk result (λ found. MatchOption found ((value : Self) → ¬ reads image.now value) (reads image.now)) };
+        ensures { IfOk result (λ found. MatchOption found
+            ((value : Self) → ¬ reads image.now value) (reads image.now)) };
 
     // no bytes are read as two values
     ghost one: { (image : List ℕ) (a b : Self) → reads image a → reads image b → a ≡ b };
@@ -60,17 +61,23 @@ pub struct Found<S: Alter, T> {
 }
 
 impl<S: Alter, T: Image> Saved<S, T> {
-    /// Saves the value in place of the one that was kept. From `Ok` on whatever a crash leaves is read as it. At any outcome a
-    /// crash leaves what it could leave before, or the new value. Where there was no memory for the image nothing has
-    /// happened; after any other fault each later save answers `Failed`, as `Kept::save` says.
+    /// Saves the value in place of the one that was kept. From `Ok` on whatever a crash leaves is read as it. At any
+    /// outcome a crash leaves what it could leave before, or the new value. Where there was no memory for the image
+    /// nothing has happened; after any other fault each later save answers `Failed`, as `Kept::save` says.
     pub fn save(&mut self, value: &T) -> Result<(), KeepFault>
-        ensures saved { IsClean S.Store self.new → OnOk result ((w : T) → Leaves T.Image.reads S.Store self.new w → w ≡ T.Image.again value.now) }
-        ensures either { IsClean S.Store self.new → (w : T) → Leaves T.Image.reads S.Store self.new w → Leaves T.Image.reads S.Store self.old w ⊎ (w ≡ T.Image.again value.now) }
+        ensures saved { IsClean S.Store self.new → OnOk result
+            ((w : T) → Leaves T.Image.reads S.Store self.new w → w ≡ T.Image.again value.now) }
+        ensures either { IsClean S.Store self.new → (w : T) → Leaves T.Image.reads S.Store self.new w
+            → Leaves T.Image.reads S.Store self.old w ⊎ (w ≡ T.Image.again value.now) }
         ensures clean { IsClean S.Store self.new → IsClean S.Store self.old }
-        ensures kept { IsClean S.Store self.new → OnOk result (KeepsValue T.Image.reads S.Store self.new (Some (T.Image.again value.now))) }
-        ensures rows { IsClean S.Store self.new → (rows : Trees) → MayLeave S.Store self.new rows → MayLeave S.Store self.old rows ⊎ HoldsValue T.Image.reads self.old.version rows (T.Image.again value.now) }
+        ensures kept { IsClean S.Store self.new → OnOk result
+            (KeepsValue T.Image.reads S.Store self.new (Some (T.Image.again value.now))) }
+        ensures rows { IsClean S.Store self.new → (rows : Trees) → MayLeave S.Store self.new rows
+            → MayLeave S.Store self.old rows ⊎ HoldsValue T.Image.reads self.old.version rows
+            (T.Image.again value.now) }
         ensures version { self.new.version ≡ self.old.version }
-        ensures ended { HasEnded S.Store self.old → (result ≡ Err KeepFault.Failed) ⊎ (result ≡ Err KeepFault.OutOfMemory) }
+        ensures ended { HasEnded S.Store self.old → (result ≡ Err KeepFault.Failed)
+            ⊎ (result ≡ Err KeepFault.OutOfMemory) }
         ensures failed { OnErr result (HasEnded S.Store self.new ⊎ (self.new ≡ self.old)) }
     {
         let image = match value.put(self.alloc) {
@@ -96,7 +103,9 @@ impl<S: Alter, T: Image> Saved<S, T> {
 /// The value of an image, where there is one.
 fn value_of<T: Image>(image: &Option<Vec<u8>>, alloc: Global) -> Result<Option<T>, KeepFault>
     ensures value { IfOk result (λ value. ReadsAs T.Image.reads (bytes_of image.now) value) }
-    ensures unread { IfErr result (λ e. (e ≡ OutOfMemory) ⊎ ((e ≡ Damaged) × (bytes : List ℕ) × (bytes_of image.now ≡ Some bytes) × ((w : T) → ¬ T.Image.reads bytes w))) }
+    ensures unread { IfErr result (λ e. (e ≡ OutOfMemory)
+        ⊎ ((e ≡ Damaged) × (bytes : List ℕ) × (bytes_of image.now ≡ Some bytes)
+        × ((w : T) → ¬ T.Image.reads bytes w))) }
 {
     let Some(bytes) = image else {
         return Ok(None);
@@ -113,7 +122,9 @@ impl<S: Alter + Drop, T: Image> Saved<S, T> {
     pub fn over(opened: Opened<S>, alloc: Global) -> Result<Found<S, T>, KeepFault>
         ensures value { IfOk result (λ r. ReadsAs T.Image.reads (bytes_of opened.image) r.value) }
         ensures same { IfOk result (λ r. r.saved ≡ opened.kept) }
-        ensures unread { IfErr result (λ e. (e ≡ OutOfMemory) ⊎ ((e ≡ Damaged) × (bytes : List ℕ) × (bytes_of opened.image ≡ Some bytes) × ((w : T) → ¬ T.Image.reads bytes w))) }
+        ensures unread { IfErr result (λ e. (e ≡ OutOfMemory)
+            ⊎ ((e ≡ Damaged) × (bytes : List ℕ) × (bytes_of opened.image ≡ Some bytes)
+            × ((w : T) → ¬ T.Image.reads bytes w))) }
     {
         match value_of(&opened.image, alloc) {
             Ok(value) => {

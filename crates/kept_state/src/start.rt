@@ -16,9 +16,14 @@ fn ready<S: Alter>(conn: &mut Connection<S>) -> Result<(), KeepFault>
     requires { HasCleanDisk (state S.Store conn.old) → Opens (state S.Store conn.old) }
     ensures clean { HasCleanDisk (state S.Store conn.new) → HasCleanDisk (state S.Store conn.old) }
     ensures ours { HasCleanDisk (state S.Store conn.new) → OnOk result (Stands IsOurs (state S.Store conn.new)) }
-    ensures same { (version : ℕ) (image : Option (List ℕ)) → Holds version image (state S.Store conn.old).now.trees → HasCleanDisk (state S.Store conn.new) → OnOk result (Holds version image (state S.Store conn.new).now.trees) }
-    ensures left { (version : ℕ) → HasCleanDisk (state S.Store conn.new) → (rows : Trees) → (state S.Store conn.new).may_leave rows → (state S.Store conn.old).may_leave rows ⊎ (IsFresh (state S.Store conn.old).now × Holds version None rows) }
-    ensures made { HasCleanDisk (state S.Store conn.new) → OnOk result (((state S.Store conn.new).now ≡ (state S.Store conn.old).now) ⊎ HasNone (state S.Store conn.new).now) }
+    ensures same { (version : ℕ) (image : Option (List ℕ)) → Holds version image (state S.Store conn.old).now.trees
+        → HasCleanDisk (state S.Store conn.new) → OnOk result (Holds version image (state S.Store conn.new).now.trees) }
+    ensures left { (version : ℕ) → HasCleanDisk (state S.Store conn.new) → (rows : Trees)
+        → (state S.Store conn.new).may_leave rows → (state S.Store conn.old).may_leave rows
+        ⊎ (IsFresh (state S.Store conn.old).now × Holds version None rows) }
+    ensures made { HasCleanDisk (state S.Store conn.new)
+        → OnOk result (((state S.Store conn.new).now ≡ (state S.Store conn.old).now)
+        ⊎ HasNone (state S.Store conn.new).now) }
     ensures refused { (version : ℕ) → IfErr result (IsRefused version (state S.Store conn.old).now) }
 {
     if is_fresh(conn.schema()) {
@@ -40,10 +45,14 @@ pub(crate) fn find<S: Alter>(
 ) -> Result<Option<Vec<u8>>, KeepFault>
     requires { HasCleanDisk (state S.Store conn.old) → Opens (state S.Store conn.old) }
     ensures clean { HasCleanDisk (state S.Store conn.new) → HasCleanDisk (state S.Store conn.old) }
-    ensures has { HasCleanDisk (state S.Store conn.new) → IfOk result (λ o. Stands (HasTable version (bytes_of o)) (state S.Store conn.new)) }
-    ensures found { (image : Option (List ℕ)) → Holds version image (state S.Store conn.old).now.trees → HasCleanDisk (state S.Store conn.new) → IfOk result (λ o. bytes_of o ≡ image) }
-    ensures left { HasCleanDisk (state S.Store conn.new) → (rows : Trees) → (state S.Store conn.new).may_leave rows → (state S.Store conn.old).may_leave rows ⊎ (IsFresh (state S.Store conn.old).now × Holds version None rows) }
-    ensures refused { HasCleanDisk (state S.Store conn.new) → IfErr result (IsRefused version (state S.Store conn.old).now) }
+    ensures has { HasCleanDisk (state S.Store conn.new)
+        → IfOk result (λ o. Stands (HasTable version (bytes_of o)) (state S.Store conn.new)) }
+    ensures found { (image : Option (List ℕ)) → Holds version image (state S.Store conn.old).now.trees
+        → HasCleanDisk (state S.Store conn.new) → IfOk result (λ o. bytes_of o ≡ image) }
+    ensures left { HasCleanDisk (state S.Store conn.new) → (rows : Trees) → (state S.Store conn.new).may_leave rows
+        → (state S.Store conn.old).may_leave rows ⊎ (IsFresh (state S.Store conn.old).now × Holds version None rows) }
+    ensures refused { HasCleanDisk (state S.Store conn.new)
+        → IfErr result (IsRefused version (state S.Store conn.old).now) }
 {
     match ready(conn) {
         Ok(()) => read(conn, version),

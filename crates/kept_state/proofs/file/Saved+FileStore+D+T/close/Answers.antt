@@ -3,4 +3,8 @@ use Rattle.kept_state.proofs.SavedLemmas.{value_moved}
 use Rattle.kept_state.proofs.file.Saved+FileStore+D+T.close.Goals as goal
 
 pub returns-in-Ok : goal.returns-in-Ok
-returns-in-Ok g c = record { left = λ value keeps clean left may. value_moved g.T.Image.reads over_files _ _ c.into_kept.ensures value _ keeps (c.in-Ok.ensures.rows clean left may) }
+returns-in-Ok g c = record {
+  left = λ value keeps clean left may.
+      let rows = c.in-Ok.ensures.rows clean left may in
+      value_moved g.T.Image.reads over_files _ _ c.into_kept.ensures value _ keeps rows;
+}

@@ -9,7 +9,8 @@ use Rattle.kept_state.proofs.kept.Kept.save.Goals as goal
 pub returns-in-Ok-clause-saved : goal.returns-in-Ok-clause-saved
 returns-in-Ok-clause-saved g c clean =
     let store = c.write.new.conn.store in
-    keeps_table g.S.Store _ (g.met.S.Store.settled store) (g.met.S.Store.stays store) (Some c.args.image.now) (c.in-Ok.ensures.made clean)
+    keeps_table g.S.Store _ (g.met.S.Store.settled store) (g.met.S.Store.stays store) (Some c.args.image.now)
+    (c.in-Ok.ensures.made clean)
 
 pub returns-in-Ok-clause-ended : goal.returns-in-Ok-clause-ended
 returns-in-Ok-clause-ended g c ended =
