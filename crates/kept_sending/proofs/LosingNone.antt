@@ -1,7 +1,9 @@
 -- No message is lost, and a pass that was cut begins anew.
-use Rattle.std.proofs.Common.{◌≡◌, ◌⊎◌, ℕ, zero, suc, Bool, true, false, cond, List, [], ◌∷◌, ◌++◌, length, map}
+use Rattle.std.proofs.Common.{◌≡◌, ◌⊎◌, ℕ, zero, suc, Bool, true, false, cond, List, [], ◌∷◌, ◌++◌, length, drop, map, ◌+◌}
 use Rattle.std.proofs.Common.{Option, Result, Ok, Err, refl, ap, sym, subst, ◌∙◌, inl, inr, append_assoc, append-nil}
 use Rattle.std.proofs.Common.{arith}
+use Rattle.std.proofs.Math.Seq.{drop-append_seam}
+use Rattle.std.proofs.lemmas.List.{drop-drop}
 use Rattle.std.specs.List.{Contains}
 use Rattle.uecp_frame.specs.Frame.{spelling}
 use Rattle.uecp_link.specs.Counters.{next_counter}
@@ -19,6 +21,7 @@ use Rattle.kept_sending.specs.declared.sending.KeptOutstanding.TheVariants.{Outs
 use Rattle.kept_sending.specs.Keeping.{KeptServer, kept_of, going_on, taking}
 use Rattle.kept_sending.specs.Sending.{Ended, Settles, SettlesKept, SendsKept, OutlivesBatch}
 use Rattle.kept_sending.specs.Laws.{numbered_after, to_deliver, HasCome, TakesNone, TakesAll, LosesNoMessage}
+use Rattle.kept_sending.specs.Laws.{LosesNoneOutstanding}
 use Rattle.kept_sending.specs.Laws.{SendsNoneAgain}
 use Rattle.kept_sending.proofs.Waiting.{delivers_keep}
 
@@ -37,6 +40,12 @@ waiting_push (h ∷ hs) counter m = go h.marked (waiting_push hs counter m)
     go true one = one
     go false one = ap (λ ws. (h.counter, h.message) ∷ ws) one
 
+-- what follows a batch
+follows : (taken : ℕ) (batch input rest : List (List ℕ)) → drop taken input ≡ batch ++ rest
+    → drop (taken + length batch) input ≡ rest
+follows taken batch input rest next =
+    sym (drop-drop (length batch) taken input) ∙ ap (drop (length batch)) next ∙ drop-append_seam batch rest
+
 module _ {C I O : Type 0} where
   -- a batch that is submitted waits, under the next counters
   all_waiting : (s : SenderOver C I O) (batch : List (List ℕ))
@@ -49,7 +58,7 @@ module _ {C I O : Type 0} where
       ∙ append_assoc (waiting s.sender.server) ((counter, m) ∷ []) (numbered_after counter batch)
 
 module _ {C I O K : Type 0} (opens : C → Option (I × O) → C → Type 0) (closes : C → I → O → C → Type 0)
-    (remaining : I → Option (List ℕ)) (contents : O → Option (List ℕ)) (fails : K → KeptServer → K → Type 0) where
+    (remaining : I → Option (List ℕ)) (contents : O → Option (List ℕ)) (saves fails : K → KeptServer → K → Type 0) where
   -- what the connections did
   abbrev Delivered : SenderOver C I O → SenderOver C I O → Type 0
   Delivered s s' = (ended : ℕ) × (marks : Marks) × (result : Result ℕ Reason)
@@ -61,9 +70,9 @@ module _ {C I O K : Type 0} (opens : C → Option (I × O) → C → Type 0) (cl
   settles_delivered s s' (Err reason) done = (done.ended, done.marks, Err reason, done.delivers)
 
   kept_delivered : (progress : Progress) (s s' : SenderOver C I O) (k k' : K) (ended : Ended)
-      → SettlesKept opens closes remaining contents fails progress s s' k k' ended → Delivered s s'
-  kept_delivered progress s s' k k' (Ok settled) done = (done.ended, done.marks, Ok settled.tries, done.delivers)
-  kept_delivered progress s s' k k' (Err (Outstanding reason)) done =
+      → SettlesKept opens closes remaining contents saves fails progress s s' k k' ended → Delivered s s'
+  kept_delivered progress s s' k k' (Ok settled) (done, saved) = (done.ended, done.marks, Ok settled.tries, done.delivers)
+  kept_delivered progress s s' k k' (Err (Outstanding reason)) (done, saved) =
       (done.ended, done.marks, Err reason, done.delivers)
   kept_delivered progress s s' k k' (Err StateFailed) (settled, done, failed) = settles_delivered s s' settled done
 
@@ -78,32 +87,47 @@ module _ {C I O K : Type 0} (opens : C → Option (I × O) → C → Type 0) (cl
       ]
 
   sends_none_lost : (progress : Progress) (s s' : SenderOver C I O) (k k' : K) (ended : Ended) (w : ℕ × List ℕ)
-      → SendsKept opens closes remaining contents fails progress s s' k k' ended → Contains (waiting s.sender.server) w
+      → SendsKept opens closes remaining contents saves fails progress s s' k k' ended → Contains (waiting s.sender.server) w
       → Contains (waiting s'.sender.server) w ⊎ HasCome opens closes remaining contents s s' w.0
-  sends_none_lost progress s s' k k' ended w (inl (is, same, failed)) has =
-      inl (subst (λ (d : SenderOver C I O). Contains (waiting d.sender.server) w) (sym same) has)
-  sends_none_lost progress s s' k k' ended w (inr (between, done)) has =
+  sends_none_lost progress s s' k k' ended w (inl (between, saved, done)) has =
       none_lost s s' w (kept_delivered progress s s' between k' ended done) has
+  sends_none_lost progress s s' k k' ended w (inr (is, same, failed)) has =
+      inl (subst (λ (d : SenderOver C I O). Contains (waiting d.sender.server) w) (sym same) has)
 
-  pub loses_no_message_lem : LosesNoMessage opens closes remaining contents fails
-  loses_no_message_lem before old new batch k k' ended left sends (inl (is, same)) = inl (record {
+  pub loses_no_message_lem : LosesNoMessage opens closes remaining contents saves fails
+  loses_no_message_lem before old new batch k k' ended left sends (inl (is, same)) = inr (record {
     nothing_sent = same;
-    taken = ap (λ (l : KeptServer). l.taken) is;
+    comes_next = λ input rest next. ap (λ (l : KeptServer). drop l.taken input) is ∙ next;
     wait = ap (λ (l : KeptServer). waiting (going_on old.sender.server.address l)) is;
   })
-  loses_no_message_lem before old new batch k k' ended left sends (inr (inl is)) = inr (record {
-    taken = ap (λ (l : KeptServer). l.taken) is;
+  loses_no_message_lem before old new batch k k' ended left sends (inr (inl is)) = inl (record {
+    comes_next = λ input rest next. ap (λ (l : KeptServer). drop l.taken input) is
+        ∙ follows before.taken batch input rest next;
     none_lost = λ w has. inl (subst (λ (l : KeptServer). Contains (waiting_among l.held) w) (sym is)
         (subst (λ ws. Contains ws w) (sym (all_waiting old batch)) has));
   })
-  loses_no_message_lem before old new batch k k' ended left sends (inr (inr is)) = inr (record {
-    taken = ap (λ (l : KeptServer). l.taken) is;
+  loses_no_message_lem before old new batch k k' ended left sends (inr (inr is)) = inl (record {
+    comes_next = λ input rest next. ap (λ (l : KeptServer). drop l.taken input) is
+        ∙ follows before.taken batch input rest next;
     none_lost = λ w has. elim (sends_none_lost (taking before (length batch)) (submitted_all old batch) new k k' ended w
         sends (subst (λ ws. Contains ws w) (sym (all_waiting old batch)) has)) [
           | inl still ↦ inl (subst (λ (l : KeptServer). Contains (waiting_among l.held) w) (sym is) still)
           | inr came ↦ inr came
         ];
   })
+
+  pub loses_none_outstanding_lem : LosesNoneOutstanding opens closes remaining contents saves fails
+  loses_none_outstanding_lem progress old new k k' ended left done (inl is) = (
+    ap (λ (l : KeptServer). l.taken) is,
+    λ w has. inl (subst (λ (l : KeptServer). Contains (waiting_among l.held) w) (sym is) has),
+  )
+  loses_none_outstanding_lem progress old new k k' ended left done (inr is) = (
+    ap (λ (l : KeptServer). l.taken) is,
+    λ w has. elim (none_lost old new w (kept_delivered progress old new k k' ended done) has) [
+      | inl still ↦ inl (subst (λ (l : KeptServer). Contains (waiting_among l.held) w) (sym is) still)
+      | inr came ↦ inr came
+    ],
+  )
 
 module _ {C I O : Type 0} (opens : C → Option (I × O) → C → Type 0) (closes : C → I → O → C → Type 0)
     (remaining : I → Option (List ℕ)) (contents : O → Option (List ℕ)) where

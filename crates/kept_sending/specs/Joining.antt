@@ -22,16 +22,16 @@ Joins {C} {I} {O} opens closes remaining contents s s' result =
     (first : SenderOver C I O) × (ended : ℕ) × HangsUp closes s first
     × JoinsOver opens closes remaining contents ended ConnectionFailed first s' result
 
--- A pass was complete; or none was, and nothing was saved; or one was, and then the save failed that says so, and left
--- the keeper so.
+-- A pass was complete, and then the server was saved, as joined; or none was, and nothing was saved; or one was, and
+-- then that save failed.
 abbrev pub JoinsKept : {C I O K : Type 0} → (opens : C → Option (I × O) → C → Type 0)
     → (closes : C → I → O → C → Type 0) → (remaining : I → Option (List ℕ)) → (contents : O → Option (List ℕ))
-    → (fails : K → KeptServer → K → Type 0) → Progress → (s s' : SenderOver C I O) → (k k' : K) → Joined → Type 0
-JoinsKept opens closes remaining contents fails progress s s' k k' (Ok done) =
-    Joins opens closes remaining contents s s' (Ok tt)
-JoinsKept opens closes remaining contents fails progress s s' k k' (Err (Outstanding reason)) =
+    → (saves fails : K → KeptServer → K → Type 0) → Progress → (s s' : SenderOver C I O) → (k k' : K) → Joined → Type 0
+JoinsKept opens closes remaining contents saves fails progress s s' k k' (Ok done) =
+    Joins opens closes remaining contents s s' (Ok tt) × saves k (kept_of progress s'.sender.server) k'
+JoinsKept opens closes remaining contents saves fails progress s s' k k' (Err (Outstanding reason)) =
     Joins opens closes remaining contents s s' (Err reason) × (k' ≡ k)
-JoinsKept opens closes remaining contents fails progress s s' k k' (Err StateFailed) =
+JoinsKept opens closes remaining contents saves fails progress s s' k k' (Err StateFailed) =
     Joins opens closes remaining contents s s' (Ok tt) × fails k (kept_of progress s'.sender.server) k'
 
 -- Whether a pass was complete where a call ended so.

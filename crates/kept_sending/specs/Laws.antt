@@ -1,6 +1,7 @@
 -- What a crash leaves of a server goes on as it was, loses no message, and sends none again whose acknowledgement was
 -- told. Source: profile.
-use Rattle.std.specs.Prelude.{◌≡◌, ◌⊎◌, ℕ, ◌+◌, false, List, [], ◌∷◌, ◌++◌, length, Option, IsSome, Result, Ok}
+use Rattle.std.specs.Prelude.{◌≡◌, ◌⊎◌, ℕ, ◌+◌, false, List, [], ◌∷◌, ◌++◌, length, drop, Option, IsSome, Result}
+use Rattle.std.specs.Prelude.{Ok}
 use Rattle.std.specs.List.{Contains}
 use Rattle.uecp_frame.specs.Findings.{Closed}
 use Rattle.uecp_frame.specs.Beyond.{found_beyond}
@@ -15,7 +16,7 @@ use Rattle.uecp_net.specs.declared.sending.Settled.{Settled}
 use Rattle.uecp_net.specs.Sending.{SenderOver, Marks, Delivers, submitted_all}
 use Rattle.kept_sending.specs.declared.keep.Progress.{Progress}
 use Rattle.kept_sending.specs.Keeping.{KeptServer, kept_of, going_on, taking}
-use Rattle.kept_sending.specs.Sending.{Ended, Acknowledges, SendsKept, OutlivesBatch}
+use Rattle.kept_sending.specs.Sending.{Ended, Acknowledges, SettlesKept, SendsKept, Outlives, OutlivesBatch}
 use Rattle.kept_sending.specs.Joining.{Joined, Joins, HasJoined, OutlivesPass}
 
 -- ---- A server that goes on.
@@ -59,39 +60,55 @@ HasCome opens closes remaining contents s s' counter =
     × Delivers opens closes remaining contents ended ConnectionFailed s s' [] marks result
     × IsSome (code_under counter marks)
 
--- A crash left this of a sender that took a batch, and of the batch nothing: no connection was opened and no byte
--- written since it was submitted, its messages are still to be taken from the input, and those that waited before wait
--- at a server that goes on.
+-- A crash left this of a sender that took a batch from its input, and of the batch nothing: no connection was opened and
+-- no byte written since it was submitted, it comes next from the input, and the messages that waited before wait at a
+-- server that goes on.
 pub record TakesNone {C I O : Type 0} (before : Progress) (old new : SenderOver C I O) (batch : List (List ℕ))
     (left : KeptServer) : Type 0 where
   pub nothing_sent : new ≡ submitted_all old batch
-  pub taken : left.taken ≡ before.taken
+  pub comes_next : (input rest : List (List ℕ)) → drop before.taken input ≡ batch ++ rest
+      → drop left.taken input ≡ batch ++ rest
   pub wait : waiting (going_on old.sender.server.address left) ≡ waiting old.sender.server
 
--- A crash left this of a sender that took a batch, and the whole batch: its messages are not taken from the input
--- again, and each of them, and of those that waited before, waits at a server that goes on, under its counter, or its
--- acknowledgement came.
+-- A crash left this of a sender that took a batch from its input, and all of the batch: what follows it comes next from
+-- the input, and each of its messages, and of those that waited before, waits at a server that goes on, under its
+-- counter, or its acknowledgement came.
 pub record TakesAll {C I O : Type 0} (opens : C → Option (I × O) → C → Type 0) (closes : C → I → O → C → Type 0)
     (remaining : I → Option (List ℕ)) (contents : O → Option (List ℕ)) (before : Progress) (old new : SenderOver C I O)
     (batch : List (List ℕ)) (left : KeptServer) : Type 0 where
-  pub taken : left.taken ≡ before.taken + length batch
+  pub comes_next : (input rest : List (List ℕ)) → drop before.taken input ≡ batch ++ rest
+      → drop left.taken input ≡ rest
   pub none_lost : (message : ℕ × List ℕ) → Contains (to_deliver old.sender.server batch) message
       → Contains (waiting (going_on old.sender.server.address left)) message
       ⊎ HasCome opens closes remaining contents (submitted_all old batch) new message.0
 
--- Whatever a call of `send_kept` did, and whatever a crash leaves of it: nothing of the batch, where nothing was sent;
--- or all of it, and no message is lost.
+-- Whatever a call of `send_kept` did, and whatever a crash leaves of it: all of the batch, and no message is lost; or
+-- nothing of the batch, where nothing was sent.
 abbrev pub LosesNoMessage : {C I O K : Type 0} → (opens : C → Option (I × O) → C → Type 0)
     → (closes : C → I → O → C → Type 0) → (remaining : I → Option (List ℕ)) → (contents : O → Option (List ℕ))
-    → (fails : K → KeptServer → K → Type 0) → Type 0
-LosesNoMessage {C} {I} {O} {K} opens closes remaining contents fails =
+    → (saves fails : K → KeptServer → K → Type 0) → Type 0
+LosesNoMessage {C} {I} {O} {K} opens closes remaining contents saves fails =
     (before : Progress) (old new : SenderOver C I O) (batch : List (List ℕ)) (k k' : K) (ended : Ended)
     (left : KeptServer) →
-    SendsKept opens closes remaining contents fails (taking before (length batch)) (submitted_all old batch) new k k'
-    ended →
+    SendsKept opens closes remaining contents saves fails (taking before (length batch)) (submitted_all old batch) new k
+    k' ended →
     OutlivesBatch before (taking before (length batch)) old (submitted_all old batch) new left →
-    TakesNone before old new batch left
-    ⊎ TakesAll opens closes remaining contents before old new batch left
+    TakesAll opens closes remaining contents before old new batch left
+    ⊎ TakesNone before old new batch left
+
+-- Whatever a call of `settle_kept` did, and whatever a crash leaves of it: each message that waited waits at a server
+-- that goes on, under its counter, or its acknowledgement came; and the same comes next from the input.
+abbrev pub LosesNoneOutstanding : {C I O K : Type 0} → (opens : C → Option (I × O) → C → Type 0)
+    → (closes : C → I → O → C → Type 0) → (remaining : I → Option (List ℕ)) → (contents : O → Option (List ℕ))
+    → (saves fails : K → KeptServer → K → Type 0) → Type 0
+LosesNoneOutstanding {C} {I} {O} {K} opens closes remaining contents saves fails =
+    (progress : Progress) (old new : SenderOver C I O) (k k' : K) (ended : Ended) (left : KeptServer) →
+    SettlesKept opens closes remaining contents saves fails progress old new k k' ended →
+    Outlives progress old.sender.server new.sender.server left →
+    (left.taken ≡ progress.taken)
+    × ((message : ℕ × List ℕ) → Contains (waiting old.sender.server) message →
+    Contains (waiting (going_on old.sender.server.address left)) message
+    ⊎ HasCome opens closes remaining contents old new message.0)
 
 -- ---- What was told is not sent again.
 

@@ -45,27 +45,28 @@ abbrev pub Settles : {C I O : Type 0} → (opens : C → Option (I × O) → C �
 Settles opens closes remaining contents s s' (Ok settled) = Acknowledges opens closes remaining contents s s' settled
 Settles opens closes remaining contents s s' (Err reason) = GivesUp opens closes remaining contents s s' reason
 
--- The messages that waited were sent, and it is told how that went; or that is not told, since the save of the server
--- as it is then failed, and left the keeper so.
+-- The messages that waited were sent, and the server was saved as it is then. It is told how that went; or that is not
+-- told, where the save failed.
 abbrev pub SettlesKept : {C I O K : Type 0} → (opens : C → Option (I × O) → C → Type 0)
     → (closes : C → I → O → C → Type 0) → (remaining : I → Option (List ℕ)) → (contents : O → Option (List ℕ))
-    → (fails : K → KeptServer → K → Type 0) → Progress → (s s' : SenderOver C I O) → (k k' : K) → Ended → Type 0
-SettlesKept opens closes remaining contents fails progress s s' k k' (Ok settled) =
-    Acknowledges opens closes remaining contents s s' settled
-SettlesKept opens closes remaining contents fails progress s s' k k' (Err (Outstanding reason)) =
-    GivesUp opens closes remaining contents s s' reason
-SettlesKept opens closes remaining contents fails progress s s' k k' (Err StateFailed) =
+    → (saves fails : K → KeptServer → K → Type 0) → Progress → (s s' : SenderOver C I O) → (k k' : K) → Ended → Type 0
+SettlesKept opens closes remaining contents saves fails progress s s' k k' (Ok settled) =
+    Acknowledges opens closes remaining contents s s' settled × saves k (kept_of progress s'.sender.server) k'
+SettlesKept opens closes remaining contents saves fails progress s s' k k' (Err (Outstanding reason)) =
+    GivesUp opens closes remaining contents s s' reason × saves k (kept_of progress s'.sender.server) k'
+SettlesKept opens closes remaining contents saves fails progress s s' k k' (Err StateFailed) =
     (settled : Result Settled Reason) × Settles opens closes remaining contents s s' settled
     × fails k (kept_of progress s'.sender.server) k'
 
--- From a sender with a batch submitted: a first save of its server failed, and nothing was opened, written or read; or
--- the messages that waited were sent, and told so, as above, after a save that left the keeper so.
+-- From a sender with a batch submitted: its server was saved, and then the messages that waited were sent, and told so,
+-- as above; or that save failed, and nothing was opened, written or read.
 abbrev pub SendsKept : {C I O K : Type 0} → (opens : C → Option (I × O) → C → Type 0)
     → (closes : C → I → O → C → Type 0) → (remaining : I → Option (List ℕ)) → (contents : O → Option (List ℕ))
-    → (fails : K → KeptServer → K → Type 0) → Progress → (s s' : SenderOver C I O) → (k k' : K) → Ended → Type 0
-SendsKept {C} {I} {O} {K} opens closes remaining contents fails progress s s' k k' ended =
-    ((ended ≡ Err StateFailed) × (s' ≡ s) × fails k (kept_of progress s.sender.server) k')
-    ⊎ ((between : K) × SettlesKept opens closes remaining contents fails progress s s' between k' ended)
+    → (saves fails : K → KeptServer → K → Type 0) → Progress → (s s' : SenderOver C I O) → (k k' : K) → Ended → Type 0
+SendsKept {C} {I} {O} {K} opens closes remaining contents saves fails progress s s' k k' ended =
+    ((between : K) × saves k (kept_of progress s.sender.server) between
+    × SettlesKept opens closes remaining contents saves fails progress s s' between k' ended)
+    ⊎ ((ended ≡ Err StateFailed) × (s' ≡ s) × fails k (kept_of progress s.sender.server) k')
 
 -- what is told of messages that were settled so, once that is kept (private)
 abbrev pub told_as : Result Settled Reason → Ended

@@ -26,8 +26,8 @@ pub fn join_kept<K: KeepServer, C: Connect>(
     requires idle { sender.old.sender.server.held ≡ [] }
     requires not_joined { progress.old.joined ≡ false }
     // What each connection did: that of `join`; and what was saved.
-    ensures joins { JoinsKept C.opens C.closes C.Input.remaining C.Output.contents K.fails progress.new sender.old
-        sender.new keeper.old keeper.new result }
+    ensures joins { JoinsKept C.opens C.closes C.Input.remaining C.Output.contents K.saves K.fails progress.new
+        sender.old sender.new keeper.old keeper.new result }
     ensures progress { progress.new ≡ joined_as result progress.old }
     // What a crash may leave, however the call ended: it says that the encoder is joined only where a pass was
     // complete.

@@ -26,6 +26,9 @@ pub trait KeepServer {
     // The premise of what the keeper stands on, up to now: as that a disk kept what it said it had.
     ghost is_clean: { Self → Type 0 };
 
+    // Whether a save of this may succeed, and leave the keeper so.
+    ghost saves: { Self → KeptServer → Self → Type 0 };
+
     // Whether a save of this may fail, and leave the keeper so.
     ghost fails: { Self → KeptServer → Self → Type 0 };
 
@@ -36,5 +39,6 @@ pub trait KeepServer {
         ensures either { is_clean self.new → (left : KeptServer) → leaves self.new left
             → leaves self.old left ⊎ (left ≡ kept_of progress server.now) }
         ensures clean { is_clean self.new → is_clean self.old }
+        ensures made { OnOk result (saves self.old (kept_of progress server.now) self.new) }
         ensures failed { IfErr result (λ _. fails self.old (kept_of progress server.now) self.new) };
 }

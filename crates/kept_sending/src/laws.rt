@@ -1,5 +1,6 @@
 //! Laws of the definitions, each the contract of a function that does nothing.
-ghost use Rattle.kept_sending.specs.Laws.{GoesOnAsItWas, LosesNoMessage, SendsNoneAgain, BeginsAnewOrIsJoined};
+ghost use Rattle.kept_sending.specs.Laws.{GoesOnAsItWas, LosesNoMessage, LosesNoneOutstanding, SendsNoneAgain};
+ghost use Rattle.kept_sending.specs.Laws.{BeginsAnewOrIsJoined};
 
 use crate::keep::KeepServer;
 use uecp_net::Connect;
@@ -16,7 +17,14 @@ pub fn goes_on_as_it_was()
 /// at a server that goes on from that, or its acknowledgement came; and the batch is not taken from the input again.
 /// Else the batch may be left out as a whole: then it is taken again, and no byte of it was written.
 pub fn loses_no_message<K: KeepServer, C: Connect>()
-    ensures { LosesNoMessage C.opens C.closes C.Input.remaining C.Output.contents K.fails }
+    ensures { LosesNoMessage C.opens C.closes C.Input.remaining C.Output.contents K.saves K.fails }
+{}
+
+/// A crash loses no outstanding message either. Whatever [`settle_kept`](crate::settle_kept) did, and whatever a crash
+/// leaves of it: each message that waited waits at a server that goes on from that, under its counter, or its
+/// acknowledgement came.
+pub fn loses_none_outstanding<K: KeepServer, C: Connect>()
+    ensures { LosesNoneOutstanding C.opens C.closes C.Input.remaining C.Output.contents K.saves K.fails }
 {}
 
 /// A message whose acknowledgement was told is not sent again: a server that goes on from what is kept then lends no

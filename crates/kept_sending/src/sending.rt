@@ -38,8 +38,8 @@ pub fn send_kept<K: KeepServer, C: Connect>(
     requires room { length sender.old.sender.server.held + length batch.now ≤ 8 }
     requires countable { progress.old.taken + length batch.now < 2 ^ 64 }
     // What was opened, written and read: that of `settle` with the batch submitted, or nothing where the first save
-    // failed.
-    ensures sends { SendsKept C.opens C.closes C.Input.remaining C.Output.contents K.fails progress.new
+    // failed; and what was saved.
+    ensures sends { SendsKept C.opens C.closes C.Input.remaining C.Output.contents K.saves K.fails progress.new
         (submitted_all sender.old batch.now) sender.new keeper.old keeper.new result }
     ensures progress { progress.new ≡ taking progress.old (length batch.now) }
     // What a crash may leave, however the call ended. Where it may leave what was before the batch, nothing was opened
@@ -79,9 +79,9 @@ pub fn settle_kept<K: KeepServer, C: Connect>(
     progress: Progress,
 ) -> Result<Settled, KeptOutstanding>
     requires { sender.old.sender.server.held ≢ [] }
-    // What was opened, written and read: that of `settle`.
-    ensures settles { SettlesKept C.opens C.closes C.Input.remaining C.Output.contents K.fails progress sender.old
-        sender.new keeper.old keeper.new result }
+    // What was opened, written and read: that of `settle`; and what was saved.
+    ensures settles { SettlesKept C.opens C.closes C.Input.remaining C.Output.contents K.saves K.fails progress
+        sender.old sender.new keeper.old keeper.new result }
     // What a crash may leave, however the call ended.
     ensures outlives { IsKept (K.leaves keeper.old) progress sender.old.sender.server → K.is_clean keeper.new
         → (left : KeptServer) → K.leaves keeper.new left

@@ -3,4 +3,4 @@ use Rattle.kept_sending.proofs.laws.loses_no_message.Goals as goal
 
 pub returns : goal.returns
 returns g c = loses_no_message_lem g.C.Connect.opens g.C.Connect.closes g.C.Input.Read.remaining
-    g.C.Output.Write.contents g.K.KeepServer.fails
+    g.C.Output.Write.contents g.K.KeepServer.saves g.K.KeepServer.fails
