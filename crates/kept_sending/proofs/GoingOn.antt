@@ -4,7 +4,8 @@ use Rattle.uecp_elements.specs.declared.code.Code.{Code}
 use Rattle.uecp_frame.specs.Findings.{Finding, Closed}
 use Rattle.uecp_frame.specs.Beyond.{found_beyond, open_beyond}
 use Rattle.uecp_link.specs.declared.counts.ServerCounts.{ServerCounts}
-use Rattle.uecp_link.specs.Server.{ServerState, nothing_counted, freed_of, marked_at, acknowledges, freed, heard_finding}
+use Rattle.uecp_link.specs.Server.{ServerState, nothing_counted, freed_of, marked_at, acknowledges, freed}
+use Rattle.uecp_link.specs.Server.{heard_finding}
 use Rattle.uecp_link.specs.Server.{heard_findings, heard_as, told, all_heard_as}
 use Rattle.kept_sending.specs.declared.keep.Progress.{Progress}
 use Rattle.kept_sending.specs.Keeping.{kept_of}

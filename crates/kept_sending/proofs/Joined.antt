@@ -1,5 +1,5 @@
 -- What a crash leaves of a server that joins.
-use Rattle.std.proofs.Common.{◌≡◌, ◌⊎◌, ℕ, zero, suc, List, [], Option, Ok, ap, ◌∙◌, inl, inr}
+use Rattle.std.proofs.Common.{◌≡◌, ℕ, zero, suc, List, [], Option, Ok, ap, ◌∙◌, inl, inr}
 use Rattle.uecp_link.specs.Counters.{next_counter}
 use Rattle.uecp_link.specs.Server.{ServerState}
 use Rattle.uecp_link.proofs.Passing.{still_new}

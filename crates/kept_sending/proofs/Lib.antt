@@ -3,3 +3,4 @@ pub mod GoingOn
 pub mod Waiting
 pub mod LosingNone
 pub mod Joined
+pub mod Living

@@ -1,26 +1,22 @@
 -- No message is lost, and a pass that was cut begins anew.
-use Rattle.std.proofs.Common.{◌≡◌, ◌⊎◌, ℕ, zero, suc, Bool, true, false, cond, List, [], ◌∷◌, ◌++◌, length, drop, map, ◌+◌}
+use Rattle.std.proofs.Common.{◌≡◌, ◌⊎◌, ℕ, Bool, true, false, cond, List, [], ◌∷◌, ◌++◌, length, drop, map, ◌+◌}
 use Rattle.std.proofs.Common.{Option, Result, Ok, Err, refl, ap, sym, subst, ◌∙◌, inl, inr, append_assoc, append-nil}
-use Rattle.std.proofs.Common.{arith}
 use Rattle.std.proofs.Math.Seq.{drop-append_seam}
 use Rattle.std.proofs.lemmas.List.{drop-drop}
 use Rattle.std.specs.List.{Contains}
 use Rattle.uecp_frame.specs.Frame.{spelling}
 use Rattle.uecp_link.specs.Counters.{next_counter}
 use Rattle.uecp_link.specs.Frames.{frame_under}
-use Rattle.uecp_link.specs.Server.{ServerState, Held, waiting_among, waiting, frames_waiting}
-use Rattle.uecp_link.specs.Joining.{anew}
-use Rattle.uecp_link.proofs.Marks.{heard_keeps}
+use Rattle.uecp_link.specs.Server.{ServerState, Held, waiting_among, waiting}
 use Rattle.uecp_net.specs.declared.sending.Outstanding.{Outstanding as Reason}
 use Rattle.uecp_net.specs.declared.sending.Outstanding.TheVariants.{ConnectionFailed}
 use Rattle.uecp_net.specs.declared.sending.Settled.{Settled}
-use Rattle.uecp_net.specs.Sending.{SenderOver, Marks, Delivers, submitted_to, submitted_all, reconnecting}
-use Rattle.uecp_net.specs.Joining.{JoinsOver}
+use Rattle.uecp_net.specs.Sending.{SenderOver, Marks, Delivers, submitted_to, submitted_all}
 use Rattle.kept_sending.specs.declared.keep.Progress.{Progress}
 use Rattle.kept_sending.specs.declared.sending.KeptOutstanding.TheVariants.{Outstanding, StateFailed}
-use Rattle.kept_sending.specs.Keeping.{KeptServer, kept_of, going_on, taking}
-use Rattle.kept_sending.specs.Sending.{Ended, Settles, SettlesKept, SendsKept, OutlivesBatch}
-use Rattle.kept_sending.specs.Laws.{numbered_after, to_deliver, HasCome, TakesNone, TakesAll, LosesNoMessage}
+use Rattle.kept_sending.specs.Keeping.{KeptServer, going_on, taking}
+use Rattle.kept_sending.specs.Sending.{Ended, Settles, SettlesKept, SendsKept}
+use Rattle.kept_sending.specs.Laws.{numbered_after, to_deliver, HasCome, LosesNoMessage}
 use Rattle.kept_sending.specs.Laws.{LosesNoneOutstanding}
 use Rattle.kept_sending.specs.Laws.{SendsNoneAgain}
 use Rattle.kept_sending.proofs.Waiting.{delivers_keep}
@@ -71,7 +67,8 @@ module _ {C I O K : Type 0} (opens : C → Option (I × O) → C → Type 0) (cl
 
   kept_delivered : (progress : Progress) (s s' : SenderOver C I O) (k k' : K) (ended : Ended)
       → SettlesKept opens closes remaining contents saves fails progress s s' k k' ended → Delivered s s'
-  kept_delivered progress s s' k k' (Ok settled) (done, saved) = (done.ended, done.marks, Ok settled.tries, done.delivers)
+  kept_delivered progress s s' k k' (Ok settled) (done, saved) =
+      (done.ended, done.marks, Ok settled.tries, done.delivers)
   kept_delivered progress s s' k k' (Err (Outstanding reason)) (done, saved) =
       (done.ended, done.marks, Err reason, done.delivers)
   kept_delivered progress s s' k k' (Err StateFailed) (settled, done, failed) = settles_delivered s s' settled done
@@ -87,7 +84,8 @@ module _ {C I O K : Type 0} (opens : C → Option (I × O) → C → Type 0) (cl
       ]
 
   sends_none_lost : (progress : Progress) (s s' : SenderOver C I O) (k k' : K) (ended : Ended) (w : ℕ × List ℕ)
-      → SendsKept opens closes remaining contents saves fails progress s s' k k' ended → Contains (waiting s.sender.server) w
+      → SendsKept opens closes remaining contents saves fails progress s s' k k' ended
+      → Contains (waiting s.sender.server) w
       → Contains (waiting s'.sender.server) w ⊎ HasCome opens closes remaining contents s s' w.0
   sends_none_lost progress s s' k k' ended w (inl (between, saved, done)) has =
       none_lost s s' w (kept_delivered progress s s' between k' ended done) has

@@ -1,7 +1,7 @@
 -- A message that waits goes on to wait, or its acknowledgement comes.
-use Rattle.std.proofs.Common.{◌≡◌, ◌⊎◌, ℕ, zero, suc, ◌+◌, ◌==◌, ◌||◌, Bool, true, false, not, cond, List, [], ◌∷◌, ◌++◌}
-use Rattle.std.proofs.Common.{Option, Some, None, IsSome, Result, Ok, Err, refl, ap, sym, subst, ◌∙◌, inl, inr, eq-eqb, arith}
-use Rattle.std.proofs.Common.{append_assoc}
+use Rattle.std.proofs.Common.{◌≡◌, ◌⊎◌, ℕ, zero, suc, ◌==◌, ◌||◌, Bool, true, false, not, cond, List, [], ◌∷◌, ◌++◌}
+use Rattle.std.proofs.Common.{Option, Some, None, IsSome, Result, Ok, Err, refl, ap, sym, subst, ◌∙◌, inl, inr, eq-eqb}
+use Rattle.std.proofs.Common.{arith}
 use Rattle.std.specs.Prelude.{filter_map}
 use Rattle.std.specs.List.{Contains, filter}
 use Rattle.std.specs.Option.{option_or}
@@ -13,7 +13,6 @@ use Rattle.uecp_frame.specs.Findings.{Finding}
 use Rattle.uecp_frame.specs.Beyond.{found_beyond, open_beyond}
 use Rattle.uecp_link.specs.declared.driving.DriveFault.{DriveFault}
 use Rattle.uecp_link.specs.declared.driving.DriveFault.TheVariants as drive
-use Rattle.uecp_link.specs.Counters.{next_counter}
 use Rattle.uecp_link.specs.Server.{ServerState, Held, waiting_among, waiting, marked_at, acknowledges, freed}
 use Rattle.uecp_link.specs.Server.{heard_finding, heard_findings, heard, told, all_heard_as}
 use Rattle.uecp_link.specs.Window.{mark_in, marks_in, code_under}
@@ -139,7 +138,8 @@ keeps_heard s s' m m' read state marked =
         | inl still ↦ inl (subst (λ ws. Contains ws w) (sym same) still)
         | inr some ↦ inr (subst IsSome (sym (under w.0)) (or_some (code_under w.0 m) _ some))
       ];
-      marks = λ counter some. subst IsSome (sym (under counter)) (some_or _ (code_under counter (marks_in s read)) some);
+      marks = λ counter some. subst IsSome (sym (under counter))
+          (some_or _ (code_under counter (marks_in s read)) some);
     }
 
 module _ {C I O : Type 0} (opens : C → Option (I × O) → C → Type 0) (closes : C → I → O → C → Type 0)

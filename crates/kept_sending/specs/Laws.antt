@@ -1,14 +1,16 @@
 -- What a crash leaves of a server goes on as it was, loses no message, and sends none again whose acknowledgement was
 -- told. Source: profile.
-use Rattle.std.specs.Prelude.{◌≡◌, ◌⊎◌, ℕ, ◌+◌, false, List, [], ◌∷◌, ◌++◌, length, drop, Option, IsSome, Result}
-use Rattle.std.specs.Prelude.{Ok}
+use Rattle.std.specs.Prelude.{◌≡◌, ◌⊎◌, ℕ, zero, suc, false, List, [], ◌∷◌, ◌++◌, length, drop, Option, IsSome}
+use Rattle.std.specs.Prelude.{Result, Ok}
+use mathlib.Core.Logic.{inl, inr}
 use Rattle.std.specs.List.{Contains}
 use Rattle.uecp_frame.specs.Findings.{Closed}
 use Rattle.uecp_frame.specs.Beyond.{found_beyond}
 use Rattle.uecp_link.specs.declared.heard.HeardWhat.{HeardWhat}
 use Rattle.uecp_link.specs.Counters.{next_counter}
-use Rattle.uecp_link.specs.Server.{ServerState, submitted, waiting, heard, all_heard_as, frames_waiting}
-use Rattle.uecp_link.specs.Server.{counters_waiting}
+use Rattle.uecp_link.specs.Kept.{last_counter}
+use Rattle.uecp_link.specs.Server.{ServerState, submitted, waiting_among, waiting, heard, all_heard_as}
+use Rattle.uecp_link.specs.Server.{frames_waiting, counters_waiting}
 use Rattle.uecp_link.specs.Window.{code_under}
 use Rattle.uecp_net.specs.declared.sending.Outstanding.{Outstanding}
 use Rattle.uecp_net.specs.declared.sending.Outstanding.TheVariants.{ConnectionFailed}
@@ -109,6 +111,92 @@ LosesNoneOutstanding {C} {I} {O} {K} opens closes remaining contents saves fails
     × ((message : ℕ × List ℕ) → Contains (waiting old.sender.server) message →
     Contains (waiting (going_on old.sender.server.address left)) message
     ⊎ HasCome opens closes remaining contents old new message.0)
+
+-- ---- Over any number of crashes.
+
+-- One call of `send_kept` by a server of which this was kept, and this is left of it, by a crash or at its end.
+pub record Sends {C I O K : Type 0} (opens : C → Option (I × O) → C → Type 0) (closes : C → I → O → C → Type 0)
+    (remaining : I → Option (List ℕ)) (contents : O → Option (List ℕ)) (saves fails : K → KeptServer → K → Type 0)
+    (kept left : KeptServer) : Type 0 where
+  pub before : Progress
+  pub old : SenderOver C I O
+  pub new : SenderOver C I O
+  pub batch : List (List ℕ)
+  pub keeper : K
+  pub keeper' : K
+  pub ended : Ended
+  pub is_kept : kept ≡ kept_of before old.sender.server
+  pub sends : SendsKept opens closes remaining contents saves fails (taking before (length batch))
+      (submitted_all old batch) new keeper keeper' ended
+  pub outlives : OutlivesBatch before (taking before (length batch)) old (submitted_all old batch) new left
+
+-- One call of `settle_kept`, likewise.
+pub record SettlesOnce {C I O K : Type 0} (opens : C → Option (I × O) → C → Type 0) (closes : C → I → O → C → Type 0)
+    (remaining : I → Option (List ℕ)) (contents : O → Option (List ℕ)) (saves fails : K → KeptServer → K → Type 0)
+    (kept left : KeptServer) : Type 0 where
+  pub progress : Progress
+  pub old : SenderOver C I O
+  pub new : SenderOver C I O
+  pub keeper : K
+  pub keeper' : K
+  pub ended : Ended
+  pub is_kept : kept ≡ kept_of progress old.sender.server
+  pub settles : SettlesKept opens closes remaining contents saves fails progress old new keeper keeper' ended
+  pub outlives : Outlives progress old.sender.server new.sender.server left
+
+-- So many calls, each by a server that goes on from what was left by the one before, or by that server itself.
+abbrev pub Lives : {C I O K : Type 0} → (opens : C → Option (I × O) → C → Type 0) → (closes : C → I → O → C → Type 0)
+    → (remaining : I → Option (List ℕ)) → (contents : O → Option (List ℕ))
+    → (saves fails : K → KeptServer → K → Type 0) → (calls : ℕ) → (kept kept' : KeptServer) → Type 0
+Lives opens closes remaining contents saves fails zero kept kept' = kept' ≡ kept
+Lives opens closes remaining contents saves fails (suc n) kept kept' =
+    (left : KeptServer)
+    × (Sends opens closes remaining contents saves fails kept left
+    ⊎ SettlesOnce opens closes remaining contents saves fails kept left)
+    × Lives opens closes remaining contents saves fails n left kept'
+
+-- In a call the acknowledgement of the message with this counter came.
+abbrev pub ComesIn : {C I O K : Type 0} → (opens : C → Option (I × O) → C → Type 0) → (closes : C → I → O → C → Type 0)
+    → (remaining : I → Option (List ℕ)) → (contents : O → Option (List ℕ))
+    → (saves fails : K → KeptServer → K → Type 0) → (kept left : KeptServer)
+    → Sends opens closes remaining contents saves fails kept left
+    ⊎ SettlesOnce opens closes remaining contents saves fails kept left → (counter : ℕ) → Type 0
+ComesIn opens closes remaining contents saves fails kept left (inl call) counter =
+    HasCome opens closes remaining contents (submitted_all call.old call.batch) call.new counter
+ComesIn opens closes remaining contents saves fails kept left (inr call) counter =
+    HasCome opens closes remaining contents call.old call.new counter
+
+-- A message waits in what is kept before each of these calls and after the last, up to the call in which its
+-- acknowledgement came.
+abbrev pub WaitsUntilItCame : {C I O K : Type 0} → (opens : C → Option (I × O) → C → Type 0)
+    → (closes : C → I → O → C → Type 0) → (remaining : I → Option (List ℕ)) → (contents : O → Option (List ℕ))
+    → (saves fails : K → KeptServer → K → Type 0) → (calls : ℕ) → (kept kept' : KeptServer)
+    → Lives opens closes remaining contents saves fails calls kept kept' → (message : ℕ × List ℕ) → Type 0
+WaitsUntilItCame opens closes remaining contents saves fails zero kept kept' same message =
+    Contains (waiting_among kept.held) message
+WaitsUntilItCame opens closes remaining contents saves fails (suc n) kept kept' (left, call, later) message =
+    Contains (waiting_among kept.held) message
+    × (ComesIn opens closes remaining contents saves fails kept left call message.0
+    ⊎ WaitsUntilItCame opens closes remaining contents saves fails n left kept' later message)
+
+-- Over any number of calls and crashes each message that waits once waits in every file until its acknowledgement came.
+-- (No pass is made in between, since none begins while a message is held.)
+abbrev pub WaitsInEveryFile : {C I O K : Type 0} → (opens : C → Option (I × O) → C → Type 0)
+    → (closes : C → I → O → C → Type 0) → (remaining : I → Option (List ℕ)) → (contents : O → Option (List ℕ))
+    → (saves fails : K → KeptServer → K → Type 0) → Type 0
+WaitsInEveryFile opens closes remaining contents saves fails =
+    (calls : ℕ) (kept kept' : KeptServer) (lives : Lives opens closes remaining contents saves fails calls kept kept')
+    (message : ℕ × List ℕ) → Contains (waiting_among kept.held) message
+    → WaitsUntilItCame opens closes remaining contents saves fails calls kept kept' lives message
+
+-- Over any number of calls and crashes the messages of the input are numbered by their places, from counter 01 on:
+-- where the last counter was that of the number of messages that were taken, it still is.
+abbrev pub NumbersByPlace : {C I O K : Type 0} → (opens : C → Option (I × O) → C → Type 0)
+    → (closes : C → I → O → C → Type 0) → (remaining : I → Option (List ℕ)) → (contents : O → Option (List ℕ))
+    → (saves fails : K → KeptServer → K → Type 0) → Type 0
+NumbersByPlace opens closes remaining contents saves fails =
+    (calls : ℕ) (kept kept' : KeptServer) → Lives opens closes remaining contents saves fails calls kept kept'
+    → kept.last ≡ last_counter kept.taken → kept'.last ≡ last_counter kept'.taken
 
 -- ---- What was told is not sent again.
 

@@ -1,6 +1,6 @@
 //! Laws of the definitions, each the contract of a function that does nothing.
 ghost use Rattle.kept_sending.specs.Laws.{GoesOnAsItWas, LosesNoMessage, LosesNoneOutstanding, SendsNoneAgain};
-ghost use Rattle.kept_sending.specs.Laws.{BeginsAnewOrIsJoined};
+ghost use Rattle.kept_sending.specs.Laws.{WaitsInEveryFile, NumbersByPlace, BeginsAnewOrIsJoined};
 
 use crate::keep::KeepServer;
 use uecp_net::Connect;
@@ -25,6 +25,18 @@ pub fn loses_no_message<K: KeepServer, C: Connect>()
 /// acknowledgement came.
 pub fn loses_none_outstanding<K: KeepServer, C: Connect>()
     ensures { LosesNoneOutstanding C.opens C.closes C.Input.remaining C.Output.contents K.saves K.fails }
+{}
+
+/// Over any number of calls and crashes each message that waits once waits in every file, until its acknowledgement
+/// came. With [`loses_no_message`] that holds of each message of which a byte was written.
+pub fn waits_in_every_file<K: KeepServer, C: Connect>()
+    ensures { WaitsInEveryFile C.opens C.closes C.Input.remaining C.Output.contents K.saves K.fails }
+{}
+
+/// Over any number of calls and crashes the messages of the input are numbered by their places, from counter 01 on: so
+/// a message is sent under one counter alone, and none is left out.
+pub fn numbers_by_place<K: KeepServer, C: Connect>()
+    ensures { NumbersByPlace C.opens C.closes C.Input.remaining C.Output.contents K.saves K.fails }
 {}
 
 /// A message whose acknowledgement was told is not sent again: a server that goes on from what is kept then lends no
