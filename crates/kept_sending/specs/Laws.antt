@@ -62,9 +62,9 @@ HasCome opens closes remaining contents s s' counter =
     × Delivers opens closes remaining contents ended ConnectionFailed s s' [] marks result
     × IsSome (code_under counter marks)
 
--- A crash left this of a sender that took a batch from its input, and of the batch nothing: no connection was opened and
--- no byte written since it was submitted, it comes next from the input, and the messages that waited before wait at a
--- server that goes on.
+-- A crash left this of a sender that took a batch from its input, and of the batch nothing: no connection was opened
+-- and no byte written since it was submitted, it comes next from the input, and the messages that waited before wait at
+-- a server that goes on.
 pub record TakesNone {C I O : Type 0} (before : Progress) (old new : SenderOver C I O) (batch : List (List ℕ))
     (left : KeptServer) : Type 0 where
   pub nothing_sent : new ≡ submitted_all old batch
