@@ -1,6 +1,5 @@
 -- What a crash leaves of a server that joins.
 use Rattle.std.proofs.Common.{◌≡◌, ℕ, zero, suc, List, [], Option, Ok, ap, ◌∙◌, inl, inr}
-use Rattle.uecp_link.specs.Counters.{next_counter}
 use Rattle.uecp_link.specs.Server.{ServerState}
 use Rattle.uecp_link.proofs.Passing.{still_new}
 use Rattle.uecp_net.specs.declared.sending.Outstanding.{Outstanding}
@@ -33,5 +32,5 @@ module _ {C I O : Type 0} (opens : C → Option (I × O) → C → Type 0) (clos
       let fresh = joined_new many ConnectionFailed first new over in inr (
         has,
         ap (λ (l : KeptServer). l.held) is ∙ fresh.1,
-        ap (λ (l : KeptServer). next_counter l.last) is ∙ ap next_counter fresh.0,
+        ap (λ (l : KeptServer). l.last) is ∙ fresh.0,
       )

@@ -212,7 +212,8 @@ SendsNoneAgain {C} {I} {O} opens closes remaining contents =
 -- ---- A pass that was cut begins anew.
 
 -- A crash left this of a server that was not joined and held nothing: not joined and nothing held, so that a pass may
--- begin; or joined, and then a pass was complete, nothing is held, and the next message has counter 01.
+-- begin; or joined, and then a pass was complete, nothing is held, and no message was numbered: the next has counter
+-- 01.
 abbrev pub BeginsAnewOrIsJoined : {C I O : Type 0} → (opens : C → Option (I × O) → C → Type 0)
     → (closes : C → I → O → C → Type 0) → (remaining : I → Option (List ℕ)) → (contents : O → Option (List ℕ)) → Type 0
 BeginsAnewOrIsJoined {C} {I} {O} opens closes remaining contents =
@@ -221,4 +222,4 @@ BeginsAnewOrIsJoined {C} {I} {O} opens closes remaining contents =
     (HasJoined ended → Joins opens closes remaining contents old new (Ok tt)) →
     OutlivesPass before after old.sender.server new.sender.server ended left →
     ((left.joined ≡ false) × (left.held ≡ []))
-    ⊎ (HasJoined ended × (left.held ≡ []) × (next_counter left.last ≡ 1))
+    ⊎ (HasJoined ended × (left.held ≡ []) × (left.last ≡ last_counter 0))

@@ -57,9 +57,32 @@ pub fn send_kept<K: KeepServer, C: Connect>(
 {
     submit_all(batch, sender);
     progress.taken += batch.len() as u64;
-    match keeper.save(sender.server(), *progress) {
+    send_submitted(sender, keeper, *progress)
+}
+
+/// Saves a server with a batch submitted, and then sends what waits, and says how that went once that is kept.
+fn send_submitted<K: KeepServer, C: Connect>(
+    sender: &mut Sender<'_, C>,
+    keeper: &mut K,
+    progress: Progress,
+) -> Result<Settled, KeptOutstanding>
+    requires { sender.old.sender.server.held ≢ [] }
+    ensures sends { SendsKept C.opens C.closes C.Input.remaining C.Output.contents K.saves K.fails progress sender.old
+        sender.new keeper.old keeper.new result }
+    // What a crash might have left before it may leave now only where nothing was opened or written.
+    ensures outlives { K.is_clean keeper.new → (left : KeptServer) → K.leaves keeper.new left
+        → (K.leaves keeper.old left × (sender.new ≡ sender.old))
+        ⊎ Outlives progress sender.old.sender.server sender.new.sender.server left }
+    ensures settled { K.is_clean keeper.new
+        → StaysKept (K.leaves keeper.new) progress sender.new.sender.server result }
+    ensures clean { K.is_clean keeper.new → K.is_clean keeper.old }
+    ensures stays { record sender.new.sender { server = sender.old.sender.server; left = sender.old.sender.left }
+        ≡ sender.old.sender }
+    ensures loan { sender.new.loan ≡ sender.old.loan }
+{
+    match keeper.save(sender.server(), progress) {
         Err(SaveFailed) => Err(KeptOutstanding::StateFailed),
-        Ok(()) => settle_kept(sender, keeper, *progress),
+        Ok(()) => settle_kept(sender, keeper, progress),
     }
 }
 
@@ -95,7 +118,8 @@ pub fn settle_kept<K: KeepServer, C: Connect>(
     ensures loan { sender.new.loan ≡ sender.old.loan }
 {
     let settled = sender.settle();
-    match keeper.save(sender.server(), progress) {
+    let kept = keeper.save(sender.server(), progress);
+    match kept {
         Err(SaveFailed) => Err(KeptOutstanding::StateFailed),
         Ok(()) => told_as(settled),
     }
