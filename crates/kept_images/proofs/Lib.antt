@@ -5,3 +5,4 @@ pub mod Telling
 pub mod Servers
 pub mod Same
 pub mod Walks
+pub mod Writing

@@ -1,6 +1,6 @@
 -- Kept pairs that are read in turn make the ring again.
-use Rattle.std.proofs.Common.{◌≡◌, ℕ, suc, ◌+◌, ◌*◌, ◌≤◌, ◌==◌, Bool, true, false, List, [], ◌∷◌, ◌++◌, length, take}
-use Rattle.std.proofs.Common.{drop, Option, Some, None, refl, ap, sym, ◌∙◌, arith, length-append, append_assoc, append-nil, if◌then◌else◌}
+use Rattle.std.proofs.Common.{◌≡◌, ℕ, suc, ◌+◌, ◌-◌, ◌*◌, ◌≤◌, ◌==◌, Bool, true, false, List, [], ◌∷◌, ◌++◌, length, take}
+use Rattle.std.proofs.Common.{drop, Option, Some, None, Err, refl, ap, sym, ◌∙◌, arith, length-append, append_assoc, append-nil, get_or, if◌then◌else◌}
 use Rattle.std.specs.Option.{option_and_then}
 use Rattle.std.proofs.lemmas.Bool.{ne_eqb}
 use Rattle.std.proofs.lemmas.List.{take_all}
@@ -8,7 +8,10 @@ use Rattle.uecp_elements.specs.declared.code.Code.{Code}
 use Rattle.uecp_elements.specs.Codes.{byte_of, code_of_byte, IsReadBack}
 use Rattle.reply_ring.specs.Ring.{kept_code, keep, IsRing}
 use Rattle.kept_images.specs.Images.{pair_bytes}
-use Rattle.kept_images.specs.Parsing.{pairs_kept, pair_kept, kept_with}
+use Rattle.kept_images.specs.declared.fault.ImageFault.{ImageFault}
+use Rattle.kept_images.specs.declared.fault.ImageFault.TheVariants.{Newer, OtherEnd, Damaged, OutOfMemory}
+use Rattle.kept_images.specs.Reading.{GivesBack}
+use Rattle.kept_images.specs.Parsing.{pairs_kept, pair_kept, kept_with, RingRead}
 
 pub pairs_length : (ring : List (ℕ × Code)) → length (pair_bytes ring) ≡ 2 * length ring
 pairs_length [] = refl
@@ -36,6 +39,16 @@ rest_is_ring pair older is = record {
   numbered = numbered_rest pair older is.numbered;
 }
 
+-- One pair of those that are left.
+pub pairs_step : (ring new : List (ℕ × Code)) (rest : List ℕ) → 2 ≤ length rest
+    → Some new ≡ pair_kept ring (get_or rest 0 0) (get_or rest 1 0)
+    → pairs_kept new (take (length rest - 2) (drop 2 rest)) ≡ pairs_kept ring rest
+pairs_step ring new [] within kept = absurd (omega (arith, within))
+pairs_step ring new (counter ∷ []) within kept = absurd (omega (arith, within))
+pairs_step ring new (counter ∷ byte ∷ more) within kept =
+    ap (pairs_kept new) (take_all (length (counter ∷ byte ∷ more) - 2) more (omega arith))
+    ∙ ap (λ o. option_and_then (λ r. pairs_kept r more) o) kept
+
 module _ (read_back : IsReadBack) where
   one_kept : (pair : ℕ × Code) (older : List (ℕ × Code)) → IsRing (pair ∷ older)
       → pair_kept older pair.0 (byte_of pair.1) ≡ Some (pair ∷ older)
@@ -53,3 +66,12 @@ module _ (read_back : IsReadBack) where
 
   pub pairs_back : (ring : List (ℕ × Code)) → IsRing ring → pairs_kept [] (pair_bytes ring) ≡ Some ring
   pairs_back ring is = ap (pairs_kept []) (sym (append-nil (pair_bytes ring))) ∙ pairs_back_then ring [] is
+
+-- Where the pairs of a ring are read, only memory is wanting.
+pub ring_err : {V : Type 0} (fault : ImageFault) (pairs : List ℕ) (ring : List (ℕ × Code)) (v : V)
+    → pairs_kept [] pairs ≡ Some ring → RingRead pairs (Err fault) → GivesBack {V = V} (Err fault) v
+ring_err (Newer n) pairs ring v back read = absurd read
+ring_err OtherEnd pairs ring v back read = absurd read
+ring_err Damaged pairs ring v back read =
+    let both : ◌≡◌ {A = Option (List (ℕ × Code))} None (Some ring) = sym read ∙ back in absurd (cc)
+ring_err OutOfMemory pairs ring v back read = tt

@@ -1,6 +1,6 @@
 -- An image says which end it is of.
 use Rattle.std.proofs.Common.{◌≡◌, ℕ, ◌==◌, Bool, true, false, List, [], ◌∷◌, ◌++◌, length, map, flat_map, Option, Some}
-use Rattle.std.proofs.Common.{None, refl, ap, sym, subst, ◌∙◌, arith, unwrap_or}
+use Rattle.std.proofs.Common.{None, refl, ap, sym, subst, ◌∙◌, arith}
 use Rattle.uecp_elements.specs.declared.code.Code.{Code}
 use Rattle.uecp_elements.specs.Codes.{IsReadBack}
 use Rattle.uecp_frame.specs.Findings.{Closed}
@@ -20,13 +20,10 @@ use Rattle.kept_images.specs.Reading.{IsEncoder, IsKeptServer, restarted_kept}
 use Rattle.kept_images.specs.Parsing.{split_off, pairs_kept, Tells, encoder_parts, says_encoder, EncoderSays, kept_each}
 use Rattle.kept_images.specs.Parsing.{server_parts, ServerSays}
 use Rattle.kept_images.specs.Laws.{SaysEncoder, SaysServer}
-use Rattle.kept_images.proofs.Apart.{split_whole, parts_back}
+use Rattle.kept_images.proofs.Apart.{split_whole, parts_back, some_same}
 use Rattle.kept_images.proofs.Pairs.{pairs_back}
 use Rattle.kept_images.proofs.Telling.{halves, first_of, rest_of}
-use Rattle.kept_images.proofs.Servers.{each_back, server_back, says_server}
-
-some_same : {A : Type 0} (x y : A) → Some x ≡ Some y → x ≡ y
-some_same x y e = ap (λ o. unwrap_or o x) e
+use Rattle.kept_images.proofs.Servers.{each_back, server_back, says_server, is_flagged, flagged}
 
 -- ---- Messages.
 
@@ -77,13 +74,6 @@ encoders_same read_back remade d e is_d is_e same =
     λ i. record { address = address i; value = value i; ring = ring i; counts = no_counts; part = Closed }
 
 -- ---- Servers.
-
-abbrev pub is_flagged : ℕ → Bool
-is_flagged n = n == 1
-
-flagged : (b : Bool) → is_flagged (flag b) ≡ b
-flagged true = refl
-flagged false = refl
 
 pub servers_same : SaysServer
 servers_same j k is_j is_k same =

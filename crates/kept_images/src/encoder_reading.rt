@@ -1,5 +1,6 @@
 //! The image of an encoder, read. Source: profile.
-ghost use Rattle.std.specs.Prelude.{◌≡◌, ◌↔◌, Some, None, [], IsTrue, IfOk, IfErr, if◌then◌else◌};
+ghost use Rattle.std.specs.Prelude.{◌≡◌, ◌<◌, ◌↔◌, Some, None, [], length, IsTrue, IfOk, IfErr, IfSome, IsSomeAnd};
+ghost use Rattle.std.specs.Prelude.{if◌then◌else◌};
 ghost use Rattle.std.specs.Option.{option_map};
 ghost use Rattle.rds_store.specs.Value.{Store};
 ghost use Rattle.rds_store.specs.Opening.{fault_of};
@@ -17,7 +18,9 @@ use crate::parts::{ENCODER, SERVER, content_of, exact_of, split_off};
 use rds_store::{RdsStore, StoreFault};
 use reply_ring::ReplyRing;
 use std::alloc::Global;
+use store_phrases::laws::made_again;
 use uecp_elements::Code;
+use uecp_elements::laws::codes_and_bytes;
 use uecp_encoder::Encoder;
 
 /// The parts of what an encoder's image says.
@@ -109,12 +112,17 @@ fn encoder_of(alloc: Global, parts: &EncoderParts<'_>) -> Result<Encoder<RdsStor
     ensures complete { (e : EncoderState Store) → IsEncoder e → encoder_says parts.now ≡ says_encoder e
         → GivesBack result (restarted e) }
 {
+    codes_and_bytes();
     let Some(address) = exact_of(parts.address) else {
         return Err(ImageFault::Damaged);
     };
-    let store = store_of(alloc, parts)?;
-    let ring = ring_of(alloc, parts.pairs)?;
-    Ok(Encoder::resumed(address, store, ring))
+    match ring_of(alloc, parts.pairs) {
+        Err(fault) => Err(fault),
+        Ok(ring) => match store_of(alloc, parts) {
+            Err(fault) => Err(fault),
+            Ok(store) => Ok(Encoder::resumed(address, store, ring)),
+        },
+    }
 }
 
 /// The store that these parts make.
@@ -123,6 +131,7 @@ fn store_of(alloc: Global, parts: &EncoderParts<'_>) -> Result<RdsStore, ImageFa
     ensures complete { (v : Store) → IsStation v → fault_of v.sets v.services ≡ None → SaysStore parts.now v
         → GivesBack result v }
 {
+    made_again();
     match RdsStore::new(alloc, parts.sets, parts.services) {
         Err(StoreFault::OutOfMemory) => Err(ImageFault::OutOfMemory),
         Err(_) => Err(ImageFault::Damaged),
@@ -141,16 +150,32 @@ fn tell(store: &mut RdsStore, messages: &[u8]) -> bool
     ensures { (after : Store) → Tells store.old messages.now after → IsTrue result × (store.new ≡ after) }
 {
     let mut rest = messages;
-    while let [count, more @ ..] = rest {
-        let Some((message, more)) = split_off(more, usize::from(*count)) else {
-            return false;
-        };
-        if store.apply(message) != Code::Applied {
-            return false;
+    while !rest.is_empty() {
+        match tell_first(store, rest) {
+            None => return false,
+            Some(more) => rest = more,
         }
-        rest = more;
     }
     true
+}
+
+/// Applies the first message, and gives the bytes behind it. None where it is not all there, or was not applied.
+fn tell_first<'a>(store: &mut RdsStore, messages: &'a [u8]) -> Option<&'a [u8]>
+    requires { 0 < length messages.now }
+    ensures told { (after : Store) → Tells store.old messages.now after
+        → IsSomeAnd result (λ more. Tells store.new more.now after) }
+    ensures shorter { IfSome result (λ more. length more.now < length messages.now) }
+{
+    let [count, more @ ..] = messages else {
+        return None;
+    };
+    match split_off(more, usize::from(*count)) {
+        None => None,
+        Some((message, more)) => match store.apply(message) {
+            Code::Applied => Some(more),
+            _ => None,
+        },
+    }
 }
 
 /// The ring that keeps these pairs.
@@ -159,6 +184,7 @@ fn ring_of(alloc: Global, pairs: &[u8]) -> Result<ReplyRing, ImageFault>
 {
     let mut ring = ReplyRing::new(alloc)?;
     if keep_pairs(&mut ring, pairs) {
+        prove!(ring.len() <= 127);
         Ok(ring)
     } else {
         Err(ImageFault::Damaged)

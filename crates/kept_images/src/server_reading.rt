@@ -147,8 +147,10 @@ fn kept_first(bytes: &[u8]) -> Option<(KeptMessage, &[u8])>
     if *mark > 1 {
         return None;
     }
-    let (message, rest) = split_off(rest, usize::from(*count))?;
-    let message = Message::from_bytes(message)?;
+    let (bytes, rest) = split_off(rest, usize::from(*count))?;
+    let Some(message) = Message::from_bytes(bytes) else {
+        unreachable!();
+    };
     let marked = *mark == 1;
     Some((KeptMessage { message, marked }, rest))
 }

@@ -1,0 +1,14 @@
+use Rattle.std.proofs.Common.{◌≡◌, [], length, refl, subst, arith}
+use Rattle.kept_images.specs.Parsing.{Tells}
+use Rattle.kept_images.proofs.Telling.{told_all, none_long}
+use Rattle.kept_images.proofs.encoder_reading.tell.Goals as goal
+
+pub returns-in-None : goal.returns-in-None
+returns-in-None c = λ after tells. absurd (c.in-None.ensures.told after (c.loop-rest.invariant after tells))
+
+pub returns : goal.returns
+returns c = λ after tells.
+    let many : length c.loop-rest.rest.now ≡ 0 = grind arith in
+    let none : c.loop-rest.rest.now ≡ [] = none_long c.loop-rest.rest.now many in
+    (refl, told_all c.loop-rest.store after
+     (subst (λ rest. Tells c.loop-rest.store rest after) none (c.loop-rest.invariant after tells)))
