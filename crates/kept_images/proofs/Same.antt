@@ -50,7 +50,7 @@ one_told v x y bytes first second =
 
 pub tells_itself : IsMadeAgain → (e : EncoderState Store) → IsEncoder e
     → Tells (opening e.value.sets e.value.services) (message_bytes e.value) e.value
-tells_itself remade e is = (messages_of e.value, refl, remade e.value is.station is.opens)
+tells_itself remade e is = (messages_of e.value, refl, remade e.value is.store.station is.store.opens)
 
 -- ---- Encoders.
 

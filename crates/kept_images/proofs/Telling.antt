@@ -1,15 +1,16 @@
 -- Messages that are told one after another.
-use Rattle.std.proofs.Common.{◌≡◌, ℕ, suc, ◌+◌, ◌<◌, Bool, true, false, List, [], ◌∷◌, ◌++◌, length, flat_map, take, drop}
-use Rattle.std.proofs.Common.{Option, Some, None, IfSome, refl, ap, sym, subst, ◌∙◌, arith, length-drop, ◌-◌, ◌≤◌, get_or}
+use Rattle.std.proofs.Common.{◌≡◌, ℕ, zero, suc, ◌+◌, ◌<◌, Bool, true, false, List, [], ◌∷◌, ◌++◌, length, flat_map, take, drop}
+use Rattle.std.proofs.Common.{Option, Some, None, IfSome, refl, ap, sym, subst, ◌∙◌, arith, length-drop, Fits, w8, ◌-◌, ◌≤◌, get_or}
 use Rattle.std.proofs.lemmas.List.{take_all}
 use Rattle.std.specs.Prelude.{nat_lt, if◌then◌else◌}
 use Rattle.uecp_elements.specs.declared.code.Code.TheVariants.{Applied}
 use Rattle.rds_store.specs.Value.{Store}
 use Rattle.rds_store.specs.Step.{step}
 use Rattle.rds_store.specs.Opening.{opening, fault_of}
-use Rattle.store_phrases.specs.Laws.{AppliesEach, IsMadeAgain, messages_of}
-use Rattle.store_phrases.specs.Station.{IsStation}
-use Rattle.kept_images.specs.declared.encoder_reading.EncoderParts.{EncoderParts}
+use Rattle.rds_store.specs.Laws.{MessagesKeepSetsAndServices}
+use Rattle.uecp_elements.specs.Grammar.{AreBytes}
+use Rattle.store_phrases.specs.Laws.{AppliesEach, IsMadeAgain, AreStations, messages_of}
+use Rattle.kept_images.specs.Reading.{IsOpenedStation}
 use Rattle.kept_images.specs.Images.{counted}
 use Rattle.kept_images.specs.Parsing.{split_off, Tells, SaysStore}
 use Rattle.kept_images.proofs.Apart.{split_whole}
@@ -107,14 +108,67 @@ slice_shorter [] message more within split = absurd (omega (arith, within))
 slice_shorter (count ∷ rest) message more within split =
     shorter count rest message more (ap (split_off count) (sym (all_behind rest count)) ∙ split)
 
--- What an encoder's parts tell, where they say a store.
-pub parts_tell : (remade : IsMadeAgain) (parts : EncoderParts) (v : Store) → IsStation v
-    → fault_of v.sets v.services ≡ None → SaysStore parts v
-    → Tells (opening parts.sets parts.services.now) parts.messages.now v
-parts_tell remade parts v station opens says =
-    (messages_of v, says.messages,
-     subst (λ (s : List ℕ). AppliesEach (opening parts.sets s) (messages_of v) v) (sym says.services)
-     (subst (λ (n : ℕ). AppliesEach (opening n v.services) (messages_of v) v) (sym says.sets) (remade v station opens)))
+-- What is told where parts say a store.
+pub parts_tell : (remade : IsMadeAgain) (sets : ℕ) (services messages : List ℕ) (v : Store) → IsOpenedStation v
+    → SaysStore sets services messages v → Tells (opening sets services) messages v
+parts_tell remade sets services messages v is says =
+    let told : AppliesEach (opening v.sets v.services) (messages_of v) v = remade v is.station is.opens in
+    let with_sets : AppliesEach (opening sets v.services) (messages_of v) v =
+    subst (λ (n : ℕ). AppliesEach (opening n v.services) (messages_of v) v) (sym says.sets_are) told in (
+      messages_of v,
+      says.messages_are,
+      subst (λ (s : List ℕ). AppliesEach (opening sets s) (messages_of v) v) (sym says.services_are) with_sets,
+    )
+
+-- ---- Stores that are opened stations.
+
+pub are_bytes : (xs : List ℕ) → ((i : ℕ) → Fits w8 (get_or xs i 0)) → AreBytes xs
+are_bytes [] h = tt
+are_bytes (x ∷ xs) h = (omega (arith, h 0), are_bytes xs (λ i. h (suc i)))
+
+bytes_taken : (n : ℕ) (xs : List ℕ) → AreBytes xs → AreBytes (take n xs)
+bytes_taken zero xs h = tt
+bytes_taken (suc n) [] h = tt
+bytes_taken (suc n) (x ∷ xs) h = (h.0, bytes_taken n xs h.1)
+
+bytes_behind : (n : ℕ) (xs : List ℕ) → AreBytes xs → AreBytes (drop n xs)
+bytes_behind zero xs h = h
+bytes_behind (suc n) [] h = tt
+bytes_behind (suc n) (x ∷ xs) h = bytes_behind n xs h.1
+
+pub bytes_split : (count n k : ℕ) (xs message more : List ℕ) → AreBytes xs
+    → split_off count (take n (drop k xs)) ≡ Some (message, more) → AreBytes message
+unfolding split_off
+bytes_split count n k xs message more bytes split = go (nat_lt (length (take n (drop k xs))) count) split
+  where
+    go : (b : Bool)
+        → if◌then◌else◌ {A = Option (List ℕ × List ℕ)} b None
+        (Some (take count (take n (drop k xs)), drop count (take n (drop k xs))))
+        ≡ Some (message, more)
+        → AreBytes message
+    go true s = absurd (cc)
+    go false s =
+        subst AreBytes (ap (λ (o : Option (List ℕ × List ℕ)). (halves o).0) s)
+        (bytes_taken count (take n (drop k xs)) (bytes_taken n (drop k xs) (bytes_behind k xs bytes)))
+
+pub station_after : AreStations → MessagesKeepSetsAndServices → (v after : Store) (m : List ℕ) → AreBytes m
+    → after ≡ (step v m).0 → IsOpenedStation v → IsOpenedStation after
+station_after stations keep v after m bytes is opened =
+    let same = keep v m in
+    let next : IsOpenedStation (step v m).0 = record {
+      station = stations.message v m opened.station bytes;
+      opens = (λ i. fault_of (same.0 i) (same.1 i)) ∙ opened.opens;
+    } in
+    subst IsOpenedStation (sym is) next
+
+pub station_opened : AreStations → (sets : ℕ) (services : List ℕ) (v : Store) → AreBytes services
+    → fault_of sets services ≡ None → v ≡ opening sets services → IsOpenedStation v
+station_opened stations sets services v bytes opens is =
+    let first : IsOpenedStation (opening sets services) = record {
+      station = stations.opened sets services bytes opens;
+      opens = opens;
+    } in
+    subst IsOpenedStation (sym is) first
 
 pub none_long : (xs : List ℕ) → length xs ≡ 0 → xs ≡ []
 none_long [] h = refl

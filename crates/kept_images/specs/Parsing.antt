@@ -11,14 +11,13 @@ use Rattle.rds_store.specs.Value.{Store}
 use Rattle.reply_ring.specs.Ring.{kept_code, keep, IsRing}
 use Rattle.uecp_encoder.specs.State.{EncoderState, restarted}
 use Rattle.store_phrases.specs.Laws.{AppliesEach}
-use Rattle.uecp_link.specs.Server.{restarted_server}
-use Rattle.uecp_link.specs.Resuming.{IsServer}
 use Rattle.uecp_link.specs.declared.kept_message.KeptMessage.{KeptMessage}
 use Rattle.kept_images.specs.declared.encoder_reading.EncoderParts.{EncoderParts}
 use Rattle.kept_images.specs.declared.server_reading.ServerParts.{ServerParts}
 use Rattle.kept_images.specs.declared.server_reading.KeptServer.{KeptServer}
 use Rattle.kept_images.specs.declared.fault.ImageFault.{ImageFault}
 use Rattle.kept_images.specs.declared.fault.ImageFault.TheVariants.{Newer, OtherEnd, Damaged, OutOfMemory}
+use Rattle.kept_images.specs.Reading.{IsEncoder, IsKeptServer, restarted_kept}
 use Rattle.kept_images.specs.Images.{counted, pair_bytes, message_bytes}
 
 -- ---- Bytes and what is behind them.
@@ -84,16 +83,15 @@ says_encoder e = record {
 }
 
 -- These parts say a store.
-pub record SaysStore (parts : EncoderParts) (v : Store) : Type 0 where
-  pub sets : parts.sets ≡ v.sets
-  pub services : parts.services.now ≡ v.services
-  pub messages : parts.messages.now ≡ message_bytes v
+pub record SaysStore (sets : ℕ) (services messages : List ℕ) (v : Store) : Type 0 where
+  pub sets_are : sets ≡ v.sets
+  pub services_are : services ≡ v.services
+  pub messages_are : messages ≡ message_bytes v
 
--- An encoder as a start leaves it, at an address of its own and with a ring.
+-- An encoder as a start leaves it.
 pub record IsAsStarted (e : EncoderState Store) : Type 0 where
-  pub exact : is_exact e.address ≡ true
   pub started : e ≡ restarted e
-  pub ring : IsRing e.ring
+  pub encoder : IsEncoder e
 
 -- Why no end was made of content.
 abbrev pub IsUnread : ImageFault → Type 0
@@ -183,8 +181,7 @@ kept_each (suc n) bytes =
 abbrev pub kept_few : ℕ → List ℕ → Option (List KeptMessage)
 kept_few count bytes = if nat_lt 8 count then None else kept_each count bytes
 
--- A server as a start leaves it, at an address of its own.
+-- A server as a start leaves it.
 pub record IsServerAsStarted (k : KeptServer) : Type 0 where
-  pub exact : is_exact k.server.address ≡ true
-  pub started : k.server ≡ restarted_server k.server
-  pub server : IsServer k.server
+  pub started : k ≡ restarted_kept k
+  pub server : IsKeptServer k

@@ -16,12 +16,15 @@ use Rattle.kept_images.specs.Images.{version, encoder_kind, server_kind, encoder
 
 -- ---- What can be kept.
 
--- What is so of each encoder of a store: its address is its own, its store is a station that was opened with its sets
--- and services, and its kept pairs are a ring.
+-- What is so of each store: it is a station, and was opened with its sets and services.
+pub record IsOpenedStation (v : Store) : Type 0 where
+  pub station : IsStation v
+  pub opens : fault_of v.sets v.services ≡ None
+
+-- What is so of each encoder of a store: its address is its own, its store is one, and its kept pairs are a ring.
 pub record IsEncoder (e : EncoderState Store) : Type 0 where
   pub exact : is_exact e.address ≡ true
-  pub station : IsStation e.value
-  pub opens : fault_of e.value.sets e.value.services ≡ None
+  pub store : IsOpenedStation e.value
   pub ring : IsRing e.ring
 
 -- ---- Which image it is.
@@ -56,7 +59,7 @@ GivesBack (Err (Newer v)) after = ⊥
 
 -- What reading an encoder's image answers: an encoder whose image these bytes are, as a start leaves it; or why none.
 abbrev pub EncoderRead : List ℕ → Result (EncoderState Store) ImageFault → Type 0
-EncoderRead bytes (Ok e) = (bytes ≡ encoder_image e) × (e ≡ restarted e) × (is_exact e.address ≡ true) × IsRing e.ring
+EncoderRead bytes (Ok e) = (bytes ≡ encoder_image e) × (e ≡ restarted e) × IsEncoder e
 EncoderRead bytes (Err fault) = IsFaultOf encoder_kind server_kind bytes fault
 
 -- What is so of each server that a program keeps: it is one, its address is its encoder's own, and the number of messages
@@ -73,6 +76,5 @@ restarted_kept k = record k { server = restarted_server k.server }
 -- What reading a server's image answers.
 abbrev pub ServerRead : List ℕ → Result KeptServer ImageFault → Type 0
 ServerRead bytes (Ok k) =
-    (bytes ≡ server_image k.joined k.taken k.server) × (k.server ≡ restarted_server k.server)
-    × (is_exact k.server.address ≡ true) × IsServer k.server
+    (bytes ≡ server_image k.joined k.taken k.server) × (k ≡ restarted_kept k) × IsKeptServer k
 ServerRead bytes (Err fault) = IsFaultOf server_kind encoder_kind bytes fault

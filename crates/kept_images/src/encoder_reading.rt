@@ -3,11 +3,9 @@ ghost use Rattle.std.specs.Prelude.{◌≡◌, ◌<◌, ◌↔◌, Some, None, [
 ghost use Rattle.std.specs.Prelude.{if◌then◌else◌};
 ghost use Rattle.std.specs.Option.{option_map};
 ghost use Rattle.rds_store.specs.Value.{Store};
-ghost use Rattle.rds_store.specs.Opening.{fault_of};
-ghost use Rattle.store_phrases.specs.Station.{IsStation};
 ghost use Rattle.uecp_encoder.specs.State.{EncoderState, restarted};
 ghost use Rattle.kept_images.specs.Images.{encoder_content, encoder_image};
-ghost use Rattle.kept_images.specs.Reading.{IsEncoder, EncoderRead, GivesBack};
+ghost use Rattle.kept_images.specs.Reading.{IsOpenedStation, IsEncoder, EncoderRead, GivesBack};
 ghost use Rattle.kept_images.specs.Parsing.{encoder_says, encoder_parts, pair_kept, pairs_kept, Tells, RingRead};
 ghost use Rattle.kept_images.specs.Parsing.{says_encoder, SaysStore, IsAsStarted, IsUnread};
 
@@ -15,10 +13,11 @@ use crate::encoder_writing::add_encoder;
 use crate::fault::ImageFault;
 use crate::image::Image;
 use crate::parts::{ENCODER, SERVER, content_of, exact_of, split_off};
+use rds_store::laws::messages_keep_sets_and_services;
 use rds_store::{RdsStore, StoreFault};
 use reply_ring::ReplyRing;
 use std::alloc::Global;
-use store_phrases::laws::made_again;
+use store_phrases::laws::{are_stations, made_again};
 use uecp_elements::Code;
 use uecp_elements::laws::codes_and_bytes;
 use uecp_encoder::Encoder;
@@ -118,25 +117,32 @@ fn encoder_of(alloc: Global, parts: &EncoderParts<'_>) -> Result<Encoder<RdsStor
     };
     match ring_of(alloc, parts.pairs) {
         Err(fault) => Err(fault),
-        Ok(ring) => match store_of(alloc, parts) {
+        Ok(ring) => match store_of(alloc, parts.sets, parts.services, parts.messages) {
             Err(fault) => Err(fault),
             Ok(store) => Ok(Encoder::resumed(address, store, ring)),
         },
     }
 }
 
-/// The store that these parts make.
-fn store_of(alloc: Global, parts: &EncoderParts<'_>) -> Result<RdsStore, ImageFault>
+/// The store of these sets and services that the messages make.
+fn store_of(
+    alloc: Global,
+    sets: u8,
+    services: &[u8],
+    messages: &[u8],
+) -> Result<RdsStore, ImageFault>
+    ensures station { IfOk result IsOpenedStation }
     ensures fault { IfErr result IsUnread }
-    ensures complete { (v : Store) → IsStation v → fault_of v.sets v.services ≡ None → SaysStore parts.now v
+    ensures complete { (v : Store) → IsOpenedStation v → SaysStore sets services.now messages.now v
         → GivesBack result v }
 {
     made_again();
-    match RdsStore::new(alloc, parts.sets, parts.services) {
+    are_stations();
+    match RdsStore::new(alloc, sets, services) {
         Err(StoreFault::OutOfMemory) => Err(ImageFault::OutOfMemory),
         Err(_) => Err(ImageFault::Damaged),
         Ok(mut store) => {
-            if tell(&mut store, parts.messages) {
+            if tell(&mut store, messages) {
                 Ok(store)
             } else {
                 Err(ImageFault::Damaged)
@@ -147,7 +153,8 @@ fn store_of(alloc: Global, parts: &EncoderParts<'_>) -> Result<RdsStore, ImageFa
 
 /// Applies messages, each behind its length, and answers whether each was applied.
 fn tell(store: &mut RdsStore, messages: &[u8]) -> bool
-    ensures { (after : Store) → Tells store.old messages.now after → IsTrue result × (store.new ≡ after) }
+    ensures told { (after : Store) → Tells store.old messages.now after → IsTrue result × (store.new ≡ after) }
+    ensures station { IsOpenedStation store.old → IsOpenedStation store.new }
 {
     let mut rest = messages;
     while !rest.is_empty() {
@@ -165,7 +172,10 @@ fn tell_first<'a>(store: &mut RdsStore, messages: &'a [u8]) -> Option<&'a [u8]>
     ensures told { (after : Store) → Tells store.old messages.now after
         → IsSomeAnd result (λ more. Tells store.new more.now after) }
     ensures shorter { IfSome result (λ more. length more.now < length messages.now) }
+    ensures station { IsOpenedStation store.old → IsOpenedStation store.new }
 {
+    are_stations();
+    messages_keep_sets_and_services();
     let [count, more @ ..] = messages else {
         return None;
     };

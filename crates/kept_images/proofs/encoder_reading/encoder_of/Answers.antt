@@ -22,10 +22,10 @@ returns-in-Ok-store_of-clause-complete c = λ e is says.
     ∙ ap (λ (s : EncoderSays). s.address) says in
     let ring : c.in-Ok.ring ≡ e.ring = some_same c.in-Ok.ring e.ring (sym c.in-Ok.ensures.0 ∙ back) in
     let value : c.in-Ok-store_of.store ≡ e.value =
-    c.in-Ok-store_of.ensures.complete e.value is.station is.opens (record {
-      sets = ap (λ (s : EncoderSays). s.sets) says;
-      services = ap (λ (s : EncoderSays). s.services) says;
-      messages = ap (λ (s : EncoderSays). s.messages) says;
+    c.in-Ok-store_of.ensures.complete e.value is.store (record {
+      sets_are = ap (λ (s : EncoderSays). s.sets) says;
+      services_are = ap (λ (s : EncoderSays). s.services) says;
+      messages_are = ap (λ (s : EncoderSays). s.messages) says;
     }) in
     c.resumed.ensures
     ∙ (λ i. record { address = address i; value = value i; ring = ring i; counts = no_counts; part = Closed })

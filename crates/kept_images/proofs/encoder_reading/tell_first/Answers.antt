@@ -3,7 +3,8 @@ use Rattle.std.specs.Option.{option_map}
 use Rattle.uecp_elements.specs.declared.code.Code.TheVariants.{Applied}
 use Rattle.rds_store.specs.Value.{Store}
 use Rattle.kept_images.specs.Parsing.{split_off, halves_of, Tells}
-use Rattle.kept_images.proofs.Telling.{slice_told, slice_short, slice_shorter}
+use Rattle.kept_images.proofs.Telling.{slice_told, slice_short, slice_shorter, are_bytes, bytes_split}
+use Rattle.kept_images.proofs.Telling.{station_after}
 use Rattle.kept_images.proofs.encoder_reading.tell_first.Goals as goal
 
 pub returns-in-None-clause-told : goal.returns-in-None-clause-told
@@ -34,18 +35,30 @@ returns-in-Applied-clause-shorter c =
     ∙ ap (option_map halves_of) c.in-Some.is in
     slice_shorter bytes c.in-Some.message.now c.in-Some.more.now c.in-len1-up.len_at_least split
 
-pub returns-in_default-apply : goal.returns-in_default-apply
-returns-in_default-apply c =
+pub returns-in_default-apply-clause-told : goal.returns-in_default-apply-clause-told
+returns-in_default-apply-clause-told c = λ after tells.
     let bytes = c.args.messages.now in
     let split : split_off (get_or bytes 0 0) (take (length bytes - 1) (drop 1 bytes))
     ≡ Some (c.in-Some.message.now, c.in-Some.more.now) =
     ap (λ n. split_off n (take (length bytes - 1) (drop 1 bytes))) (sym c.from.ensures) ∙ sym c.split_off.ensures
     ∙ ap (option_map halves_of) c.in-Some.is in
-    record {
-      told = λ after tells.
-          let first = slice_told c.args.store.now after bytes c.in-Some.message.now c.in-Some.more.now
-          c.in-len1-up.len_at_least tells split in
-          let applied : c.apply.result ≡ Applied = ap (λ p. p.1) c.apply.ensures ∙ first.applied in
-          absurd (c.in_default-apply.not-Applied applied);
-      shorter = tt;
-    }
+    let first = slice_told c.args.store.now after bytes c.in-Some.message.now c.in-Some.more.now
+    c.in-len1-up.len_at_least tells split in
+    let applied : c.apply.result ≡ Applied = ap (λ p. p.1) c.apply.ensures ∙ first.applied in
+    absurd (c.in_default-apply.not-Applied applied)
+
+pub returns-in_default-apply-clause-station : goal.returns-in_default-apply-clause-station
+returns-in_default-apply-clause-station c =
+    let bytes = c.args.messages.now in
+    let split = sym c.split_off.ensures ∙ ap (option_map halves_of) c.in-Some.is in
+    station_after c.are_stations.ensures c.messages_keep_sets_and_services.ensures c.args.store.now c.apply.new.self
+    c.in-Some.message.now (bytes_split c.from.result (length bytes - 1) 1 bytes c.in-Some.message.now c.in-Some.more.now
+    (are_bytes bytes c.type_inv.messages) split) (ap (λ p. p.0) c.apply.ensures)
+
+pub returns-in-Applied-clause-station : goal.returns-in-Applied-clause-station
+returns-in-Applied-clause-station c =
+    let bytes = c.args.messages.now in
+    let split = sym c.split_off.ensures ∙ ap (option_map halves_of) c.in-Some.is in
+    station_after c.are_stations.ensures c.messages_keep_sets_and_services.ensures c.args.store.now c.apply.new.self
+    c.in-Some.message.now (bytes_split c.from.result (length bytes - 1) 1 bytes c.in-Some.message.now c.in-Some.more.now
+    (are_bytes bytes c.type_inv.messages) split) (ap (λ p. p.0) c.apply.ensures)
