@@ -6,3 +6,5 @@ pub mod Servers
 pub mod Same
 pub mod Walks
 pub mod Writing
+pub mod Bytes
+pub mod Encoders

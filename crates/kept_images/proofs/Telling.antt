@@ -126,12 +126,12 @@ pub are_bytes : (xs : List ℕ) → ((i : ℕ) → Fits w8 (get_or xs i 0)) → 
 are_bytes [] h = tt
 are_bytes (x ∷ xs) h = (omega (arith, h 0), are_bytes xs (λ i. h (suc i)))
 
-bytes_taken : (n : ℕ) (xs : List ℕ) → AreBytes xs → AreBytes (take n xs)
+pub bytes_taken : (n : ℕ) (xs : List ℕ) → AreBytes xs → AreBytes (take n xs)
 bytes_taken zero xs h = tt
 bytes_taken (suc n) [] h = tt
 bytes_taken (suc n) (x ∷ xs) h = (h.0, bytes_taken n xs h.1)
 
-bytes_behind : (n : ℕ) (xs : List ℕ) → AreBytes xs → AreBytes (drop n xs)
+pub bytes_behind : (n : ℕ) (xs : List ℕ) → AreBytes xs → AreBytes (drop n xs)
 bytes_behind zero xs h = h
 bytes_behind (suc n) [] h = tt
 bytes_behind (suc n) (x ∷ xs) h = bytes_behind n xs h.1

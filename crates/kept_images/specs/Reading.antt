@@ -2,6 +2,8 @@
 use Rattle.std.specs.Prelude.{◌≡◌, ℕ, ◌<◌, ◌^◌, ◌==◌, ◌&&◌, nat_lt, if◌then◌else◌, Bool, true, false, List, [], ◌∷◌}
 use Rattle.std.specs.Prelude.{Option, Some, None, Result, Ok, Err}
 use Rattle.uecp_frame.specs.Address.{is_exact}
+use Rattle.uecp_frame.specs.Findings.{OpenPart, Closed, Doomed, Part}
+use Rattle.uecp_elements.specs.Grammar.{AreBytes}
 use Rattle.rds_store.specs.Value.{Store}
 use Rattle.rds_store.specs.Opening.{fault_of}
 use Rattle.reply_ring.specs.Ring.{IsRing}
@@ -21,11 +23,19 @@ pub record IsOpenedStation (v : Store) : Type 0 where
   pub station : IsStation v
   pub opens : fault_of v.sets v.services ≡ None
 
--- What is so of each encoder of a store: its address is its own, its store is one, and its kept pairs are a ring.
+-- What is open of the line was read from bytes.
+abbrev pub IsOpenOfBytes : OpenPart → Type 0
+IsOpenOfBytes Closed = Unit {0}
+IsOpenOfBytes (Doomed fault) = Unit {0}
+IsOpenOfBytes (Part x) = AreBytes x.plain × AreBytes x.rest
+
+-- What is so of each encoder of a store: its address is its own, its store is one, its kept pairs are a ring, and what
+-- is open was read from bytes.
 pub record IsEncoder (e : EncoderState Store) : Type 0 where
   pub exact : is_exact e.address ≡ true
   pub store : IsOpenedStation e.value
   pub ring : IsRing e.ring
+  pub open_part : IsOpenOfBytes e.part
 
 -- ---- Which image it is.
 

@@ -1,8 +1,9 @@
 //! The laws of images, each the contract of a function that does nothing (profile).
-ghost use Rattle.kept_images.specs.Laws.{SaysEncoder, SaysServer};
+ghost use Rattle.kept_images.specs.Laws.{SaysEncoder, SaysServer, AreEncoders};
 
+use rds_store::laws::messages_keep_sets_and_services;
+use store_phrases::laws::{are_stations, made_again};
 use uecp_elements::laws::codes_and_bytes;
-use store_phrases::laws::made_again;
 
 /// Read after written is the same: encoders with one image are one encoder, but for what a start forgets.
 pub fn encoder_again()
@@ -17,3 +18,11 @@ pub fn encoder_again()
 pub fn server_again()
     ensures { SaysServer }
 {}
+
+/// Each encoder of a store is one whose image is read: a new one is, and bytes, takes, a lost line and a start leave one.
+pub fn are_encoders()
+    ensures { AreEncoders }
+{
+    are_stations();
+    messages_keep_sets_and_services();
+}
