@@ -1,5 +1,5 @@
 -- What is written comes apart as it was.
-use Rattle.std.proofs.Common.{◌≡◌, ℕ, suc, ◌+◌, ◌*◌, ◌/◌, ◌%◌, ◌<◌, ◌≤◌, Bool, true, false, List, [], ◌∷◌, ◌++◌, length}
+use Rattle.std.proofs.Common.{◌≡◌, ℕ, ◌+◌, ◌*◌, ◌/◌, ◌%◌, Bool, true, false, List, ◌∷◌, ◌++◌, length}
 use Rattle.std.proofs.Common.{take, drop, Option, Some, None, refl, ap, sym, ◌∙◌, arith, length-append, unwrap_or}
 use Rattle.std.specs.Prelude.{nat_lt, if◌then◌else◌}
 use Rattle.std.proofs.lemmas.Bool.{le-ltb, ltb-false}
@@ -9,7 +9,7 @@ use Rattle.std.proofs.Math.Seq.{take-append_seam, drop-append_seam}
 use Rattle.rds_store.specs.Value.{Store}
 use Rattle.uecp_encoder.specs.State.{EncoderState}
 use Rattle.kept_images.specs.Images.{pair_bytes, message_bytes, encoder_content}
-use Rattle.kept_images.specs.Parsing.{split_off, exact_of, with_pairs, with_messages, encoder_parts, says_encoder, EncoderSays}
+use Rattle.kept_images.specs.Parsing.{split_off, exact_of, with_pairs, with_messages, encoder_parts, says_encoder}
 use Rattle.kept_images.proofs.Pairs.{pairs_length}
 
 pub some_same : {A : Type 0} (x y : A) → Some x ≡ Some y → x ≡ y
@@ -59,7 +59,8 @@ parts_back e =
     let pairs : List ℕ = pair_bytes e.ring in
     let messages : List ℕ = message_bytes e.value in
     ap (λ h. with_pairs a e.value.sets h) (split_whole e.value.services (length e.ring ∷ (pairs ++ messages)))
-    ∙ ap (λ n. with_messages a e.value.sets e.value.services (split_off n (pairs ++ messages))) (sym (pairs_length e.ring))
+    ∙ ap (λ n. with_messages a e.value.sets e.value.services (split_off n (pairs ++ messages)))
+    (sym (pairs_length e.ring))
     ∙ ap (λ h. with_messages a e.value.sets e.value.services h) (split_whole pairs messages)
     ∙ ap (λ (x : ℕ). Some (record {
       address = x;

@@ -1,19 +1,18 @@
 -- Frames that are found in bytes are of bytes.
-use Rattle.std.proofs.Common.{◌≡◌, ℕ, zero, suc, ◌+◌, ◌-◌, ◌<◌, ◌==◌, Bool, true, false, List, [], ◌∷◌, ◌++◌, length}
-use Rattle.std.proofs.Common.{take, drop, Ok, Err, Option, Some, None, refl, arith}
-use Rattle.std.specs.Prelude.{nat_lt, nat_le, not, ◌&&◌, ◌||◌, if◌then◌else◌, slice_index, Result}
+use Rattle.std.proofs.Common.{◌≡◌, ℕ, ◌+◌, ◌-◌, ◌==◌, Bool, true, false, List, [], ◌∷◌, ◌++◌, length}
+use Rattle.std.proofs.Common.{take, Ok, Err, Option, Some, None, refl, arith}
+use Rattle.std.specs.Prelude.{nat_lt, nat_le, not, ◌&&◌, if◌then◌else◌, slice_index}
 use Rattle.std.specs.List.{list_any}
 use Rattle.std.proofs.lemmas.Bool.{ltb-true}
 use Rattle.uecp_elements.specs.Grammar.{AreBytes}
-use Rattle.uecp_frame.specs.declared.frame.Frame.{Frame}
-use Rattle.uecp_frame.specs.declared.fault.FrameFault.{FrameFault}
 use Rattle.uecp_frame.specs.declared.fault.FrameFault.TheVariants.{TooShort, WrongLength, WrongCheck, TooLong, Unended}
 use Rattle.uecp_frame.specs.declared.fault.FrameFault.TheVariants.{BadStuffing}
 use Rattle.uecp_frame.specs.Check.{check}
 use Rattle.uecp_frame.specs.Stuffing.{is_delimiter, Reading, after, unstuffed, stuffed}
 use Rattle.uecp_frame.specs.Segment.{content, judged, finding, frame_of, number_at, is_read, is_too_long}
 use Rattle.uecp_frame.specs.Findings.{Finding, before_delimiter, from_delimiter, found_at, segment_found, found}
-use Rattle.uecp_frame.specs.Findings.{open_bytes, OpenPart, Closed, Doomed, Part, has_two, progress, open_from, open_part}
+use Rattle.uecp_frame.specs.Findings.{open_bytes, OpenPart, Closed, Doomed, Part, has_two, progress, open_from}
+use Rattle.uecp_frame.specs.Findings.{open_part}
 use Rattle.uecp_frame.specs.Beyond.{resumed, closing, closing_at, found_beyond, prolonged, open_beyond}
 use Rattle.kept_images.specs.Reading.{IsOpenOfBytes}
 use Rattle.kept_images.proofs.Telling.{bytes_taken, bytes_behind}
@@ -45,7 +44,10 @@ unfolding unstuffed
 unstuffed_bytes [] h = (tt, tt)
 unstuffed_bytes (b ∷ []) h = go (b == 0xFD)
   where
-    go : (is : Bool) → ReadsBytes (if is then record { plain = []; rest = b ∷ [] } else record { plain = b ∷ []; rest = [] })
+    go : (is : Bool) → ReadsBytes (if is then record { plain = []; rest = b ∷ [] } else record {
+      plain = b ∷ [];
+      rest = [];
+    })
     go true = (tt, h)
     go false = (h, tt)
 unstuffed_bytes (b ∷ c ∷ x) h =

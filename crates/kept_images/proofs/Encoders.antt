@@ -1,26 +1,27 @@
 -- Each encoder that can be is one: a new one is, and bytes, takes, a lost line and a start leave one.
-use Rattle.std.proofs.Common.{◌≡◌, ◌≢◌, ℕ, ◌==◌, Bool, true, false, List, [], ◌∷◌, Option, Some, None, Ok, Err, refl, sym}
+use Rattle.std.proofs.Common.{◌≡◌, ◌≢◌, ℕ, ◌==◌, Bool, true, false, List, [], ◌∷◌, Option, Some, None, Ok, Err, refl}
+use Rattle.std.proofs.Common.{sym}
 use Rattle.std.proofs.Common.{◌∙◌, arith}
 use Rattle.std.specs.Prelude.{if◌then◌else◌}
 use Rattle.std.proofs.lemmas.Bool.{false≢true, eq-eqb}
 use Rattle.uecp_elements.specs.declared.code.Code.{Code}
 use Rattle.uecp_elements.specs.Grammar.{AreBytes}
 use Rattle.uecp_frame.specs.declared.frame.Frame.{Frame}
-use Rattle.uecp_frame.specs.Address.{is_exact, reaches}
-use Rattle.uecp_frame.specs.Findings.{Finding, Closed}
+use Rattle.uecp_frame.specs.Address.{reaches}
+use Rattle.uecp_frame.specs.Findings.{Finding}
 use Rattle.uecp_frame.specs.Beyond.{found_beyond, open_beyond}
 use Rattle.rds_store.specs.declared.group.Group.{Group}
 use Rattle.rds_store.specs.Value.{Store}
-use Rattle.rds_store.specs.Step.{step, group_taken, first_taken}
+use Rattle.rds_store.specs.Step.{step, first_taken}
 use Rattle.rds_store.specs.Opening.{opening as opening_store, fault_of}
 use Rattle.rds_store.specs.Laws.{MessagesKeepSetsAndServices}
-use Rattle.reply_ring.specs.Ring.{kept_code, keep, IsRing}
+use Rattle.reply_ring.specs.Ring.{kept_code}
 use Rattle.reply_ring.proofs.Kept.{ring-keep}
 use Rattle.store_phrases.specs.Laws.{AreStations}
-use Rattle.uecp_encoder.specs.State.{EncoderState, opening, restarted, is_next, applied, numbered, after_finding}
+use Rattle.uecp_encoder.specs.State.{EncoderState, is_next, applied, numbered, after_finding}
 use Rattle.uecp_encoder.specs.declared.counts.Counts.{Counts}
 use Rattle.uecp_encoder.specs.State.{after_findings, fed, raised}
-use Rattle.kept_images.specs.Reading.{IsOpenedStation, IsEncoder, IsOpenOfBytes}
+use Rattle.kept_images.specs.Reading.{IsEncoder}
 use Rattle.kept_images.specs.Laws.{AreEncoders}
 use Rattle.kept_images.proofs.Bytes.{OfBytes, AllOfBytes, beyond_bytes, open_beyond_bytes}
 use Rattle.kept_images.proofs.Telling.{station_after, station_opened}

@@ -1,17 +1,17 @@
 -- Kept pairs that are read in turn make the ring again.
-use Rattle.std.proofs.Common.{◌≡◌, ℕ, suc, ◌+◌, ◌-◌, ◌*◌, ◌≤◌, ◌==◌, Bool, true, false, List, [], ◌∷◌, ◌++◌, length, take}
-use Rattle.std.proofs.Common.{drop, Option, Some, None, Err, refl, ap, sym, ◌∙◌, arith, length-append, append_assoc, append-nil, get_or, if◌then◌else◌}
+use Rattle.std.proofs.Common.{◌≡◌, ℕ, ◌-◌, ◌*◌, ◌≤◌, ◌==◌, Bool, true, false, List, [], ◌∷◌, ◌++◌, length, take}
+use Rattle.std.proofs.Common.{drop, Option, Some, None, Err, refl, ap, sym, ◌∙◌, arith, length-append, append_assoc}
+use Rattle.std.proofs.Common.{append-nil, get_or, if◌then◌else◌}
 use Rattle.std.specs.Option.{option_and_then}
-use Rattle.std.proofs.lemmas.Bool.{ne_eqb}
 use Rattle.std.proofs.lemmas.List.{take_all}
 use Rattle.uecp_elements.specs.declared.code.Code.{Code}
-use Rattle.uecp_elements.specs.Codes.{byte_of, code_of_byte, IsReadBack}
-use Rattle.reply_ring.specs.Ring.{kept_code, keep, IsRing}
+use Rattle.uecp_elements.specs.Codes.{byte_of, IsReadBack}
+use Rattle.reply_ring.specs.Ring.{kept_code, IsRing}
 use Rattle.kept_images.specs.Images.{pair_bytes}
 use Rattle.kept_images.specs.declared.fault.ImageFault.{ImageFault}
 use Rattle.kept_images.specs.declared.fault.ImageFault.TheVariants.{Newer, OtherEnd, Damaged, OutOfMemory}
 use Rattle.kept_images.specs.Reading.{GivesBack}
-use Rattle.kept_images.specs.Parsing.{pairs_kept, pair_kept, kept_with, RingRead}
+use Rattle.kept_images.specs.Parsing.{pairs_kept, pair_kept, RingRead}
 
 pub pairs_length : (ring : List (ℕ × Code)) → length (pair_bytes ring) ≡ 2 * length ring
 pairs_length [] = refl
@@ -25,7 +25,8 @@ numbered_first pair older none = go (pair.0 == 0) refl none
     go true is none = cc
     go false is none = refl
 
-numbered_rest : (pair : ℕ × Code) (older : List (ℕ × Code)) → kept_code (pair ∷ older) 0 ≡ None → kept_code older 0 ≡ None
+numbered_rest : (pair : ℕ × Code) (older : List (ℕ × Code)) → kept_code (pair ∷ older) 0 ≡ None
+    → kept_code older 0 ≡ None
 numbered_rest pair older none = go (pair.0 == 0) none
   where
     go : (b : Bool) → (if b then Some pair.1 else kept_code older 0) ≡ None → kept_code older 0 ≡ None

@@ -1,6 +1,6 @@
 -- An image says which end it is of.
-use Rattle.std.proofs.Common.{◌≡◌, ℕ, ◌==◌, Bool, true, false, List, [], ◌∷◌, ◌++◌, length, map, flat_map, Option, Some}
-use Rattle.std.proofs.Common.{None, refl, ap, sym, subst, ◌∙◌, arith}
+use Rattle.std.proofs.Common.{◌≡◌, ℕ, List, [], ◌∷◌, ◌++◌, length, map, flat_map, Some}
+use Rattle.std.proofs.Common.{refl, ap, sym, subst, ◌∙◌}
 use Rattle.uecp_elements.specs.declared.code.Code.{Code}
 use Rattle.uecp_elements.specs.Codes.{IsReadBack}
 use Rattle.uecp_frame.specs.Findings.{Closed}
@@ -9,14 +9,12 @@ use Rattle.rds_store.specs.Step.{step}
 use Rattle.rds_store.specs.Opening.{opening}
 use Rattle.reply_ring.specs.Ring.{IsRing}
 use Rattle.store_phrases.specs.Laws.{AppliesEach, IsMadeAgain, messages_of}
-use Rattle.uecp_encoder.specs.State.{EncoderState, no_counts, restarted}
-use Rattle.uecp_link.specs.Server.{Held, ServerState, nothing_counted}
+use Rattle.uecp_encoder.specs.State.{EncoderState, no_counts}
+use Rattle.uecp_link.specs.Server.{nothing_counted}
 use Rattle.uecp_link.specs.Resuming.{kept_of, held_up_to}
-use Rattle.uecp_link.specs.declared.kept_message.KeptMessage.{KeptMessage}
-use Rattle.kept_images.specs.declared.server_reading.KeptServer.{KeptServer}
-use Rattle.kept_images.specs.Images.{counted, flag, held_bytes, pair_bytes, message_bytes, encoder_content, encoder_image}
-use Rattle.kept_images.specs.Images.{server_content, server_image}
-use Rattle.kept_images.specs.Reading.{IsEncoder, IsKeptServer, restarted_kept}
+use Rattle.kept_images.specs.Images.{counted, pair_bytes, message_bytes, encoder_content}
+use Rattle.kept_images.specs.Images.{server_content}
+use Rattle.kept_images.specs.Reading.{IsEncoder}
 use Rattle.kept_images.specs.Parsing.{split_off, pairs_kept, Tells, encoder_parts, says_encoder, EncoderSays, kept_each}
 use Rattle.kept_images.specs.Parsing.{server_parts, ServerSays}
 use Rattle.kept_images.specs.Laws.{SaysEncoder, SaysServer}
@@ -67,7 +65,8 @@ encoders_same read_back remade d e is_d is_e same =
     let ring : d.ring ≡ e.ring =
     same_rings read_back d.ring e.ring is_d.ring is_e.ring (ap (λ (s : EncoderSays). s.pairs) says) in
     let told : Tells (opening e.value.sets e.value.services) (message_bytes e.value) d.value =
-    subst (λ (s : EncoderSays). Tells (opening s.sets s.services) s.messages d.value) says (tells_itself remade d is_d) in
+    subst (λ (s : EncoderSays). Tells (opening s.sets s.services) s.messages d.value) says
+    (tells_itself remade d is_d) in
     let value : d.value ≡ e.value =
     one_told (opening e.value.sets e.value.services) d.value e.value (message_bytes e.value) told
     (tells_itself remade e is_e) in

@@ -1,5 +1,5 @@
 -- What a server's image says is read as it was.
-use Rattle.std.proofs.Common.{◌≡◌, ℕ, zero, suc, ◌+◌, ◌-◌, ◌*◌, ◌/◌, ◌%◌, ◌<◌, ◌≤◌, ◌^◌, Bool, true, false, List, [], ◌∷◌}
+use Rattle.std.proofs.Common.{◌≡◌, ℕ, suc, ◌+◌, ◌*◌, ◌/◌, ◌%◌, ◌<◌, ◌≤◌, ◌^◌, Bool, true, false, List, [], ◌∷◌}
 use Rattle.std.proofs.Common.{◌++◌, length, map, flat_map, Option, Some, None, refl, ap, sym, ◌∙◌, arith, append_assoc}
 use Rattle.std.specs.Option.{option_map, option_and_then}
 use Rattle.std.specs.Prelude.{nat_le, not, ◌&&◌, ◌||◌, ◌==◌}
@@ -9,8 +9,8 @@ use Rattle.std.proofs.lemmas.Nat.{from_be_bytes-to_be_bytes_8}
 use Rattle.uecp_link.specs.Server.{Held, ServerState, restarted_server}
 use Rattle.uecp_link.specs.Resuming.{kept_of, is_oldest_kept_marked, resumed_at, IsServer}
 use Rattle.uecp_link.specs.declared.kept_message.KeptMessage.{KeptMessage}
-use Rattle.kept_images.specs.Images.{flag, counted, held_bytes, server_content}
-use Rattle.kept_images.specs.Parsing.{split_off, kept_first, kept_each, kept_few, with_mark, server_parts, ServerSays}
+use Rattle.kept_images.specs.Images.{flag, held_bytes, server_content}
+use Rattle.kept_images.specs.Parsing.{kept_first, kept_each, kept_few, with_mark, server_parts, ServerSays}
 use Rattle.kept_images.proofs.Apart.{split_whole}
 
 pub first_back : (h : Held) (more : List ℕ) → kept_first (held_bytes h ++ more) ≡ Some (kept_of h, more)

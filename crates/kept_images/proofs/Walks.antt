@@ -1,5 +1,5 @@
 -- What the loops over an end's parts go by.
-use Rattle.std.proofs.Common.{◌≡◌, ℕ, zero, suc, ◌+◌, ◌<◌, List, [], ◌∷◌, ◌++◌, length, drop, Option, Some, None, refl, ap}
+use Rattle.std.proofs.Common.{◌≡◌, ℕ, zero, suc, ◌+◌, List, [], ◌∷◌, ◌++◌, drop, Some, None, refl, ap}
 use Rattle.std.proofs.Common.{sym, ◌∙◌, arith, unwrap_or}
 use Rattle.std.specs.List.{slice_get}
 use Rattle.uecp_elements.specs.declared.code.Code.{Code}

@@ -11,8 +11,8 @@ use Rattle.kept_images.specs.declared.server_reading.KeptServer.{KeptServer}
 use Rattle.kept_images.specs.Images.{encoder_image, server_image}
 use Rattle.kept_images.specs.Reading.{IsEncoder, IsKeptServer, restarted_kept}
 
--- Law: encoders with one image are the same, but for what a start forgets; so what is read after one was written is that
--- one. (profile)
+-- Law: encoders with one image are the same, but for what a start forgets; so what is read after one was written is
+-- that one. (profile)
 abbrev pub SaysEncoder : Type 0
 SaysEncoder =
     (d e : EncoderState Store) → IsEncoder d → IsEncoder e → encoder_image d ≡ encoder_image e

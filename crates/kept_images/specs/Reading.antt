@@ -9,7 +9,7 @@ use Rattle.rds_store.specs.Opening.{fault_of}
 use Rattle.reply_ring.specs.Ring.{IsRing}
 use Rattle.store_phrases.specs.Station.{IsStation}
 use Rattle.uecp_encoder.specs.State.{EncoderState, restarted}
-use Rattle.uecp_link.specs.Server.{ServerState, restarted_server}
+use Rattle.uecp_link.specs.Server.{restarted_server}
 use Rattle.uecp_link.specs.Resuming.{IsServer}
 use Rattle.kept_images.specs.declared.fault.ImageFault.{ImageFault}
 use Rattle.kept_images.specs.declared.fault.ImageFault.TheVariants.{Newer, OtherEnd, Damaged, OutOfMemory}
@@ -72,8 +72,8 @@ abbrev pub EncoderRead : List ℕ → Result (EncoderState Store) ImageFault →
 EncoderRead bytes (Ok e) = (bytes ≡ encoder_image e) × (e ≡ restarted e) × IsEncoder e
 EncoderRead bytes (Err fault) = IsFaultOf encoder_kind server_kind bytes fault
 
--- What is so of each server that a program keeps: it is one, its address is its encoder's own, and the number of messages
--- taken is one of 64 bits.
+-- What is so of each server that a program keeps: it is one, its address is its encoder's own, and the number of
+-- messages taken is one of 64 bits.
 pub record IsKeptServer (k : KeptServer) : Type 0 where
   pub exact : is_exact k.server.address ≡ true
   pub taken : k.taken < 2 ^ 64

@@ -19,7 +19,8 @@ pub fn server_again()
     ensures { SaysServer }
 {}
 
-/// Each encoder of a store is one whose image is read: a new one is, and bytes, takes, a lost line and a start leave one.
+/// Each encoder of a store is one whose image is read: a new one is, and bytes, takes, a lost line and a start leave
+/// one.
 pub fn are_encoders()
     ensures { AreEncoders }
 {

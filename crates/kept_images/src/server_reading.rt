@@ -106,7 +106,23 @@ fn server_in(content: &[u8]) -> Option<KeptServer>
 fn server_parts(content: &[u8]) -> Option<ServerParts<'_>>
     ensures { option_map server_says result ≡ server_parts content.now }
 {
-    let [high, low, joined, a, b, c, d, e, f, g, h, last, count, messages @ ..] = content else {
+    let [
+        high,
+        low,
+        joined,
+        a,
+        b,
+        c,
+        d,
+        e,
+        f,
+        g,
+        h,
+        last,
+        count,
+        messages @ ..,
+    ] = content
+    else {
         return None;
     };
     Some(ServerParts {

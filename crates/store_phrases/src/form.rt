@@ -6,8 +6,8 @@ ghost use Rattle.uecp_text.specs.Written.{Kept, Adds};
 
 use uecp_elements::Element;
 
-/// A form in which elements are written, one after another, to an output. Contracts see the bytes of an element and what
-/// the output keeps.
+/// A form in which elements are written, one after another, to an output. Contracts see the bytes of an element and
+/// what the output keeps.
 pub trait ElementForm {
     /// What the elements are written to.
     type Out;

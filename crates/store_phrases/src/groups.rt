@@ -29,7 +29,8 @@ pub(crate) fn put_groups<F: ElementForm>(form: &F, groups: &[Group], output: &mu
 /// The elements of groups that are each added.
 fn put_added<F: ElementForm>(form: &F, groups: &[Group], output: &mut F::Out)
     requires { All IsGroup groups.now }
-    ensures { Adds (F.kept output.old) (F.kept output.new) (flat_map (F.bytes form.now) (map (group_said true) groups.now)) }
+    ensures { Adds (F.kept output.old) (F.kept output.new)
+        (flat_map (F.bytes form.now) (map (group_said true) groups.now)) }
 {
     for group in groups {
         put_group(form, true, group, output);

@@ -18,7 +18,8 @@ pub(crate) fn put_service<F: ElementForm>(
     service: &Service,
     output: &mut F::Out,
 )
-    ensures { Adds (F.kept output.old) (F.kept output.new) (flat_map (F.bytes form.now) (service_said set number service.now)) }
+    ensures { Adds (F.kept output.old) (F.kept output.new)
+        (flat_map (F.bytes form.now) (service_said set number service.now)) }
 {
     put_values(form, set, number, service, output);
     put_texts(form, set, number, service.texts(), output);
@@ -26,7 +27,8 @@ pub(crate) fn put_service<F: ElementForm>(
 
 /// The elements of what a service has but for its texts.
 fn put_values<F: ElementForm>(form: &F, set: u8, number: u8, service: &Service, output: &mut F::Out)
-    ensures { Adds (F.kept output.old) (F.kept output.new) (flat_map (F.bytes form.now) (values_said set number service.now)) }
+    ensures { Adds (F.kept output.old) (F.kept output.new)
+        (flat_map (F.bytes form.now) (values_said set number service.now)) }
 {
     let (dsn, psn) = (set, number);
     let pi = service.pi();
@@ -74,8 +76,15 @@ fn traffic_byte(service: &Service) -> u8
 }
 
 /// The elements of the texts: one that empties where there is none, else the first replaces and each other is added.
-fn put_texts<F: ElementForm>(form: &F, set: u8, number: u8, texts: &[RadioText], output: &mut F::Out)
-    ensures { Adds (F.kept output.old) (F.kept output.new) (flat_map (F.bytes form.now) (texts_said set number texts.now)) }
+fn put_texts<F: ElementForm>(
+    form: &F,
+    set: u8,
+    number: u8,
+    texts: &[RadioText],
+    output: &mut F::Out,
+)
+    ensures { Adds (F.kept output.old) (F.kept output.new)
+        (flat_map (F.bytes form.now) (texts_said set number texts.now)) }
 {
     match texts.split_first() {
         None => put_no_text(form, set, number, output),
@@ -99,8 +108,15 @@ fn put_no_text<F: ElementForm>(form: &F, set: u8, number: u8, output: &mut F::Ou
 }
 
 /// The elements of texts that are each added.
-fn put_added<F: ElementForm>(form: &F, set: u8, number: u8, texts: &[RadioText], output: &mut F::Out)
-    ensures { Adds (F.kept output.old) (F.kept output.new) (flat_map (F.bytes form.now) (map (text_said set number true) texts.now)) }
+fn put_added<F: ElementForm>(
+    form: &F,
+    set: u8,
+    number: u8,
+    texts: &[RadioText],
+    output: &mut F::Out,
+)
+    ensures { Adds (F.kept output.old) (F.kept output.new)
+        (flat_map (F.bytes form.now) (map (text_said set number true) texts.now)) }
 {
     for text in texts {
         put_text(form, set, number, true, text, output);
@@ -108,7 +124,14 @@ fn put_added<F: ElementForm>(form: &F, set: u8, number: u8, texts: &[RadioText],
 }
 
 /// The element of a text.
-fn put_text<F: ElementForm>(form: &F, set: u8, number: u8, adds: bool, text: &RadioText, output: &mut F::Out)
+fn put_text<F: ElementForm>(
+    form: &F,
+    set: u8,
+    number: u8,
+    adds: bool,
+    text: &RadioText,
+    output: &mut F::Out,
+)
     ensures { Adds (F.kept output.old) (F.kept output.new) (F.bytes form.now (text_said set number adds text.now)) }
 {
     let element = Element::Rt {

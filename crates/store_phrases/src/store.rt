@@ -14,9 +14,9 @@ use rds_text::Region;
 use uecp_elements::Element;
 use uecp_text::Output;
 
-/// Adds the lines of a store, each the phrase of one element, in the order of [`put_elements`]. An encoder with the same
-/// sets and services that is sent a message for each line then has this store. Where no group waits, those that wait in
-/// the encoder stay: no element empties their queue.
+/// Adds the lines of a store, each the phrase of one element, in the order of [`put_elements`]. An encoder with the
+/// same sets and services that is sent a message for each line then has this store. Where no group waits, those that
+/// wait in the encoder stay: no element empties their queue.
 pub fn put_store(region: Region, store: &RdsStore, output: &mut Output)
     ensures { Adds output.old output.new (said_lines region store.now) }
 {
@@ -46,7 +46,8 @@ fn put_current<F: ElementForm>(form: &F, current: u8, output: &mut F::Out)
 
 /// The services of each set, set 1 first.
 fn put_sets<F: ElementForm>(form: &F, store: &RdsStore, output: &mut F::Out)
-    ensures { Adds (F.kept output.old) (F.kept output.new) (flat_map (F.bytes form.now) (flat_map (set_said store.now) (set_numbers store.now.sets))) }
+    ensures { Adds (F.kept output.old) (F.kept output.new)
+        (flat_map (F.bytes form.now) (flat_map (set_said store.now) (set_numbers store.now.sets))) }
 {
     for set in 1..=store.set_count() {
         put_set(form, store, set, output);
@@ -67,7 +68,8 @@ fn put_set<F: ElementForm>(form: &F, store: &RdsStore, set: u8, output: &mut F::
 /// The service of that number in a set, where it is there.
 #[tactic(auto, unfolding(crate::specs::Said::said_at))]
 fn put_at<F: ElementForm>(form: &F, store: &RdsStore, set: u8, number: u8, output: &mut F::Out)
-    ensures { Adds (F.kept output.old) (F.kept output.new) (flat_map (F.bytes form.now) (said_at store.now set number)) }
+    ensures { Adds (F.kept output.old) (F.kept output.new)
+        (flat_map (F.bytes form.now) (said_at store.now set number)) }
 {
     if let Some(service) = store.service(set, number) {
         put_service(form, set, number, service, output);

@@ -1,14 +1,13 @@
 -- A server that goes on: the counters of what it holds, from their places and back.
 use Rattle.std.proofs.Common.{◌≡◌, ℕ, zero, suc, ◌+◌, ◌-◌, ◌<◌, ◌≤◌, ◌==◌, ◌&&◌, ◌||◌, nat_le, not, Bool, true, false}
-use Rattle.std.proofs.Common.{List, [], ◌∷◌, ◌++◌, length, map, take, get_or, refl, ap, sym, subst, ◌∙◌, arith, eq-eqb}
-use Rattle.std.proofs.lemmas.List.{length-map}
+use Rattle.std.proofs.Common.{List, [], ◌∷◌, ◌++◌, length, map, take, get_or, refl, ap, sym, ◌∙◌, arith, eq-eqb}
 use Rattle.std.proofs.lemmas.Bool.{le-leb, leb-true, ne_eqb, eqb-true, false≢true}
 use Rattle.uecp_link.specs.Counters.{counter_of, next_counter}
 use Rattle.uecp_link.specs.Server.{Held}
 use Rattle.uecp_link.specs.declared.kept_message.KeptMessage.{KeptMessage}
 use Rattle.uecp_link.specs.declared.held_message.HeldMessage.{HeldMessage}
 use Rattle.uecp_link.specs.HeldMessages.{held_as, held_in, oldest_marked, AreSpelled, AreInTurn, AreNumbered, IsHolding}
-use Rattle.uecp_link.specs.Resuming.{kept_of, numbered_from, held_up_to, is_oldest_kept_marked, can_hold, IsServer}
+use Rattle.uecp_link.specs.Resuming.{kept_of, numbered_from, held_up_to, is_oldest_kept_marked, can_hold}
 
 -- ---- counters
 
@@ -91,9 +90,10 @@ in_turn_from last k n (h ∷ g ∷ hs) [] is whole ends = cc
 in_turn_from last k n (h ∷ g ∷ hs) (m ∷ []) is whole ends =
     let rest : held_in (g ∷ hs) ≡ [] = ap later is in cc
 in_turn_from last k n (h ∷ g ∷ hs) (m ∷ m' ∷ ms) is whole ends =
-    let rest : held_in (g ∷ hs) ≡ numbered_from (suc n) (m' ∷ ms) = ap later is in
-    (ap oldest_counter rest ∙ counter_next n ∙ ap next_counter (sym (ap oldest_counter is)),
-     in_turn_from last k (suc n) (g ∷ hs) (m' ∷ ms) rest (omega (arith, whole)) ends)
+    let rest : held_in (g ∷ hs) ≡ numbered_from (suc n) (m' ∷ ms) = ap later is in (
+      ap oldest_counter rest ∙ counter_next n ∙ ap next_counter (sym (ap oldest_counter is)),
+      in_turn_from last k (suc n) (g ∷ hs) (m' ∷ ms) rest (omega (arith, whole)) ends,
+    )
 
 are_numbered_from : (n : ℕ) (hs : List HeldMessage) (ms : List KeptMessage) → held_in hs ≡ numbered_from n ms
     → AreNumbered hs

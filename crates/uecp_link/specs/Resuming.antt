@@ -1,9 +1,9 @@
 -- A server that goes on from what was kept of it; a reader has to believe it. Source: profile.
-use Rattle.std.specs.Prelude.{◌≡◌, ℕ, suc, ◌+◌, ◌-◌, ◌<◌, ◌≤◌, ◌==◌, ◌&&◌, ◌||◌, nat_le, not, Bool, true, false, List, []}
+use Rattle.std.specs.Prelude.{◌≡◌, ℕ, suc, ◌+◌, ◌-◌, ◌<◌, ◌==◌, ◌&&◌, ◌||◌, nat_le, not, Bool, true, false, List, []}
 use Rattle.std.specs.Prelude.{◌∷◌, length, map, Option, Some, None, if◌then◌else◌}
 use Rattle.uecp_frame.specs.Findings.{Closed}
 use Rattle.uecp_link.specs.Counters.{counter_of}
-use Rattle.uecp_link.specs.Server.{Held, ServerState, nothing_counted, is_marked}
+use Rattle.uecp_link.specs.Server.{Held, ServerState, nothing_counted}
 use Rattle.uecp_link.specs.declared.kept_message.KeptMessage.{KeptMessage}
 use Rattle.uecp_link.specs.declared.kept_message.LentMessage.{LentMessage}
 

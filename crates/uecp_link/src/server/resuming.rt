@@ -5,7 +5,8 @@ ghost use Rattle.uecp_frame.specs.Address.{is_exact};
 ghost use Rattle.uecp_frame.specs.Frame.{spelling};
 ghost use Rattle.uecp_link.specs.Frames.{frame_under};
 ghost use Rattle.uecp_link.specs.HeldMessages.{held_as, held_in, AreSpelled};
-ghost use Rattle.uecp_link.specs.Resuming.{numbered_from, held_of, is_oldest_kept_marked, can_hold, resumed_at, IsServer};
+ghost use Rattle.uecp_link.specs.Resuming.{numbered_from, held_of, is_oldest_kept_marked, can_hold, resumed_at};
+ghost use Rattle.uecp_link.specs.Resuming.{IsServer};
 
 use crate::counters::{COUNTER_MAX, counter_of};
 use crate::counts::ServerCounts;

@@ -10,13 +10,15 @@ pub returns-in-Err-clause-complete : goal.returns-in-Err-clause-complete
 returns-in-Err-clause-complete c = λ e is says.
     let pairs = c.args.parts.now.pairs.now in
     let back : pairs_kept [] pairs ≡ Some e.ring =
-    ap (λ (s : EncoderSays). pairs_kept [] s.pairs) says ∙ pairs_back c.codes_and_bytes.ensures.read_back e.ring is.ring in
+    ap (λ (s : EncoderSays). pairs_kept [] s.pairs) says
+    ∙ pairs_back c.codes_and_bytes.ensures.read_back e.ring is.ring in
     ring_err c.in-Err.fault pairs e.ring (restarted e) back c.in-Err.ensures
 
 pub returns-in-Ok-store_of-clause-complete : goal.returns-in-Ok-store_of-clause-complete
 returns-in-Ok-store_of-clause-complete c = λ e is says.
     let back : pairs_kept [] c.args.parts.now.pairs.now ≡ Some e.ring =
-    ap (λ (s : EncoderSays). pairs_kept [] s.pairs) says ∙ pairs_back c.codes_and_bytes.ensures.read_back e.ring is.ring in
+    ap (λ (s : EncoderSays). pairs_kept [] s.pairs) says
+    ∙ pairs_back c.codes_and_bytes.ensures.read_back e.ring is.ring in
     let address : c.in-Some.address ≡ e.address =
     exact_is c.args.parts.now.address c.in-Some.address (sym c.in-Some.is ∙ c.exact_of.ensures)
     ∙ ap (λ (s : EncoderSays). s.address) says in

@@ -20,5 +20,6 @@ pub returns-else-tell-clause-complete : goal.returns-else-tell-clause-complete
 returns-else-tell-clause-complete c = λ v is says.
     let messages = c.args.messages.now in
     let tells = parts_tell c.made_again.ensures c.args.sets c.args.services.now messages v is says in
-    let yes = (c.tell.ensures.told v (subst (λ (s : Store). Tells s messages v) (sym c.in-Ok.ensures.opening) tells)).0 in
+    let yes = (c.tell.ensures.told v (subst (λ (s : Store). Tells s messages v) (sym c.in-Ok.ensures.opening)
+    tells)).0 in
     absurd (search rules)

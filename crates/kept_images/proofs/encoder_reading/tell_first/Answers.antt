@@ -22,7 +22,8 @@ returns-in-Applied-clause-told c = λ after tells.
     ≡ Some (c.in-Some.message.now, c.in-Some.more.now) =
     ap (λ n. split_off n (take (length bytes - 1) (drop 1 bytes))) (sym c.from.ensures) ∙ sym c.split_off.ensures
     ∙ ap (option_map halves_of) c.in-Some.is in
-    let first = slice_told c.args.store.now after bytes c.in-Some.message.now c.in-Some.more.now c.in-len1-up.len_at_least
+    let first = slice_told c.args.store.now after bytes c.in-Some.message.now c.in-Some.more.now
+    c.in-len1-up.len_at_least
     tells split in
     subst (λ (v : Store). Tells v c.in-Some.more.now after) (sym (ap (λ p. p.0) c.apply.ensures)) first.rest
 

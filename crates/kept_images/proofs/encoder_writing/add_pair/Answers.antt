@@ -1,4 +1,4 @@
-use Rattle.std.proofs.Common.{◌≡◌, Some, [], ◌∷◌, slice_get, sym, subst, ◌∙◌}
+use Rattle.std.proofs.Common.{[], ◌∷◌, sym, subst, ◌∙◌}
 use Rattle.uecp_text.specs.Written.{Adds}
 use Rattle.kept_images.proofs.Walks.{pair_added}
 use Rattle.kept_images.proofs.encoder_writing.add_pair.Goals as goal

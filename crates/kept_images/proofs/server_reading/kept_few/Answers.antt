@@ -18,8 +18,13 @@ loop-place-preserved c =
     sym c.kept_first.ensures ∙ ap (option_map kept_first_of) c.in_ok-message.was in
     let left : count - place ≡ suc (count - (place + 1)) = omega (arith, c.loop-place-test.true) in
     let before : option_map (λ ms. items ++ ms) (kept_each (suc (count - (place + 1))) rest) ≡ all =
-    ap (λ n. option_map (λ ms. items ++ ms) (kept_each n rest)) (sym left) ∙ c.loop-place.invariant.0 in
-    (ap (λ (held : List KeptMessage). option_map (λ ms. held ++ ms) (kept_each (count - (place + 1)) more))
-     c.push.ensures.items ∙ each_step items (count - (place + 1)) rest more message all first before,
-     omega (arith, c.loop-place.invariant.1, ap (λ (held : List KeptMessage). length held) c.push.ensures.items,
-     length-append items (message ∷ [])))
+    ap (λ n. option_map (λ ms. items ++ ms) (kept_each n rest)) (sym left) ∙ c.loop-place.invariant.0 in (
+      ap (λ (held : List KeptMessage). option_map (λ ms. held ++ ms) (kept_each (count - (place + 1)) more))
+          c.push.ensures.items ∙ each_step items (count - (place + 1)) rest more message all first before,
+      omega (
+        arith,
+        c.loop-place.invariant.1,
+        ap (λ (held : List KeptMessage). length held) c.push.ensures.items,
+        length-append items (message ∷ []),
+      ),
+    )

@@ -9,7 +9,8 @@ pub unreachable-requires : goal.unreachable-requires
 unreachable-requires c =
     let bytes = c.args.bytes.now in
     let message = c.in_ok-bytes.bytes.now in
-    let split : split_off c.from.result (take (length bytes - 2) (drop 2 bytes)) ≡ Some (message, c.in_ok-bytes.rest.now) =
+    let split : split_off c.from.result (take (length bytes - 2) (drop 2 bytes))
+    ≡ Some (message, c.in_ok-bytes.rest.now) =
     sym c.split_off.ensures ∙ ap (option_map halves_of) c.in_ok-bytes.was in
     let long : length message ≡ get_or bytes 1 0 =
     split_length c.from.result (take (length bytes - 2) (drop 2 bytes)) message c.in_ok-bytes.rest.now split

@@ -1,10 +1,8 @@
-use Rattle.std.proofs.Common.{◌≡◌, Option, Some, None, List, length, map, flat_map, ap, sym, ◌∙◌}
+use Rattle.std.proofs.Common.{◌≡◌, Option, Some, None, List, map, ap, sym, ◌∙◌}
 use Rattle.std.specs.Option.{option_map}
 use Rattle.uecp_link.specs.Server.{ServerState, restarted_server}
 use Rattle.uecp_link.specs.Resuming.{kept_of, resumed_at}
 use Rattle.uecp_link.specs.declared.kept_message.KeptMessage.{KeptMessage}
-use Rattle.kept_images.specs.Images.{held_bytes}
-use Rattle.kept_images.specs.Reading.{restarted_kept}
 use Rattle.kept_images.specs.Parsing.{server_says, server_parts, kept_few, ServerSays}
 use Rattle.kept_images.proofs.Apart.{some_same, exact_is}
 use Rattle.kept_images.proofs.Servers.{says_server, server_back, few_back, resumed_back, is_flagged, flagged}
@@ -63,6 +61,7 @@ returns-clause-complete c = λ k is content.
     some_same c.in_ok-server.server (restarted_server k.server)
     (sym c.in_ok-server.was ∙ c.resumed.ensures ∙ (λ i. resumed_at (address i) (last i) (slice i))
     ∙ resumed_back k.server is.server) in
-    let joined : is_flagged parts.joined ≡ k.joined = ap (λ (s : ServerSays). is_flagged s.joined) says ∙ flagged k.joined in
+    let joined : is_flagged parts.joined ≡ k.joined =
+    ap (λ (s : ServerSays). is_flagged s.joined) says ∙ flagged k.joined in
     let taken : parts.taken ≡ k.taken = ap (λ (s : ServerSays). s.taken) says in
     λ i. Some (record { joined = joined i; taken = taken i; server = server i })

@@ -1,4 +1,4 @@
-use Rattle.std.proofs.Common.{◌≡◌, ◌-◌, ◌+◌, true, length, ap, sym, ◌∙◌, rules, arith}
+use Rattle.std.proofs.Common.{◌≡◌, ◌-◌, ◌+◌, true, length, ap, ◌∙◌, rules, arith}
 use Rattle.uecp_link.specs.Resuming.{can_hold, numbered_from, held_up_to}
 use Rattle.uecp_link.specs.HeldMessages.{held_in}
 use Rattle.uecp_link.proofs.Resumed.{can_parts, holds_from}

@@ -1,4 +1,5 @@
-use Rattle.std.proofs.Common.{◌≡◌, suc, List, take, ◌+◌, ◌++◌, ◌∷◌, [], ◌<◌, length, ap, subst, sym, ◌∙◌, arith, length-append}
+use Rattle.std.proofs.Common.{◌≡◌, suc, List, take, ◌+◌, ◌++◌, ◌∷◌, [], length, ap, subst, sym, ◌∙◌, arith}
+use Rattle.std.proofs.Common.{length-append}
 use Rattle.uecp_frame.specs.Frame.{spelling}
 use Rattle.uecp_link.specs.Frames.{frame_under}
 use Rattle.uecp_link.specs.declared.held_message.HeldMessage.{HeldMessage}
@@ -27,9 +28,11 @@ loop-message-preserved c =
     ∙ ap (λ n. record { counter = n; message = message.message; marked = message.marked }) counter in
     let place = c.loop-message.message-index in
     let next : suc place ≡ place + 1 = omega arith in
-    let spelled : AreSpelled c.args.address (new ∷ []) =
-    (c.held_under.ensures.spelled ∙ ap (λ (h : Held). spelling (frame_under c.args.address (h.counter, h.message)))
-    (sym c.held_under.ensures.held), tt) in (
+    let spelled : AreSpelled c.args.address (new ∷ []) = (
+      c.held_under.ensures.spelled ∙ ap (λ (h : Held). spelling (frame_under c.args.address (h.counter, h.message)))
+          (sym c.held_under.ensures.held),
+      tt,
+    ) in (
       ap held_in pushed ∙ held_more items new
           ∙ ap (λ hs. hs ++ held_as new ∷ []) before.0
           ∙ ap (λ (h : Held). numbered_from c.args.first (take place c.args.kept.now) ++ h ∷ []) one
