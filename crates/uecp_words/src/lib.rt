@@ -5,8 +5,8 @@
 //!
 //! - [`ScriptLine`], [`script_line`]: a line of a frame script, as `uecp make` reads it; an element comes as its
 //!   spelling.
-//! - [`EventLine`], [`event_of`]: a line of an event script, as `uecp line` reads it; [`is_replacement`]: whether it starts
-//!   the server again, as one that knows nothing.
+//! - [`EventLine`], [`event_of`]: a line of an event script, as `uecp line` reads it; [`is_replacement`]: whether it
+//!   replaces the server by one that knows nothing.
 //! - [`message_of`]: a message out of its bytes.
 #![tactic(auto)]
 
