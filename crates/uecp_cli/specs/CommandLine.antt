@@ -1,7 +1,6 @@
 -- The command line that the program takes, and what it asks for (profile).
 use Rattle.std.specs.Prelude.{◌≡◌, ◌⊎◌, ℕ, ◌≤◌, ◌==◌, Bool, true, false, not, List, [], ◌∷◌, ◌++◌, codes, map, Option}
-use Rattle.std.specs.Prelude.{Some}
-use Rattle.std.specs.Prelude.{None, Ok, is_none, option_map, unwrap_or, pos, if◌then◌else◌}
+use Rattle.std.specs.Prelude.{Some, None, Ok, is_none, option_map, unwrap_or, pos, if◌then◌else◌}
 use Rattle.std.specs.List.{slice_split}
 use Rattle.std.specs.String.{string_bytes}
 use Rattle.std.specs.Str.Parse.{IsNumeral, without_leading_plus, digits_value}
