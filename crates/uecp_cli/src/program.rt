@@ -34,14 +34,7 @@ pub fn run_words<
     W: Write,
     E: Write,
     N: Net<Listener = TcpListener, Stream = TcpStream> + Clock,
->(
-    alloc: Global,
-    words: &[String],
-    reader: &mut R,
-    writer: &mut W,
-    errors: &mut E,
-    net: &N,
-) -> u8
+>(alloc: Global, words: &[String], reader: &mut R, writer: &mut W, errors: &mut E, net: &N) -> u8
     ensures status { result ≤ 3 }
     // 0: the job of the words was done; or they ask for a text, and nothing was read. Nothing was said on `errors`.
     ensures done { result ≡ 0 → (HasDone (map string_bytes words.now) (R.remaining reader.old) (R.remaining reader.new)
@@ -69,12 +62,7 @@ pub fn run_words<
 }
 
 /// Does the job, over TCP where it is that of a command with connections, and answers the exit status.
-fn run_any<
-    R: Read,
-    W: Write,
-    E: Write,
-    N: Net<Listener = TcpListener, Stream = TcpStream> + Clock,
->(
+fn run_any<R: Read, W: Write, E: Write, N: Net<Listener = TcpListener, Stream = TcpStream> + Clock>(
     alloc: Global,
     job: &Job,
     reader: &mut R,
