@@ -1,7 +1,10 @@
 pub mod Spelled
+pub mod Sealed
+pub mod Noticing
 pub mod Apart
 pub mod Pairs
 pub mod Telling
+pub mod Unread
 pub mod Servers
 pub mod Same
 pub mod Walks

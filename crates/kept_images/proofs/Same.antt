@@ -12,14 +12,15 @@ use Rattle.store_phrases.specs.Laws.{AppliesEach, IsMadeAgain, messages_of}
 use Rattle.uecp_encoder.specs.State.{EncoderState, no_counts}
 use Rattle.uecp_link.specs.Server.{nothing_counted}
 use Rattle.uecp_link.specs.Resuming.{kept_of, held_up_to}
-use Rattle.kept_images.specs.Images.{counted, pair_bytes, message_bytes, encoder_content}
-use Rattle.kept_images.specs.Images.{server_content}
+use Rattle.kept_images.specs.Images.{version, encoder_kind, server_kind, counted, pair_bytes, message_bytes}
+use Rattle.kept_images.specs.Images.{encoder_content, server_content}
 use Rattle.kept_images.specs.Reading.{IsEncoder}
 use Rattle.kept_images.specs.Parsing.{split_off, pairs_kept, Tells, encoder_parts, says_encoder, EncoderSays, kept_each}
 use Rattle.kept_images.specs.Parsing.{server_parts, ServerSays}
 use Rattle.kept_images.specs.Laws.{SaysEncoder, SaysServer}
 use Rattle.kept_images.proofs.Apart.{split_whole, parts_back, some_same}
 use Rattle.kept_images.proofs.Pairs.{pairs_back}
+use Rattle.kept_images.proofs.Sealed.{sealed_same}
 use Rattle.kept_images.proofs.Telling.{halves, first_of, rest_of}
 use Rattle.kept_images.proofs.Servers.{each_back, server_back, says_server, is_flagged, flagged}
 
@@ -58,7 +59,9 @@ same_rings read_back r s is_r is_s same =
 
 pub encoders_same : IsReadBack → IsMadeAgain → SaysEncoder
 encoders_same read_back remade d e is_d is_e same =
-    let content : encoder_content d ≡ encoder_content e = ap (λ b. rest_of (rest_of b)) same in
+    let content : encoder_content d ≡ encoder_content e =
+    ap (λ b. rest_of (rest_of b))
+    (sealed_same (version ∷ encoder_kind ∷ encoder_content d) (version ∷ encoder_kind ∷ encoder_content e) same) in
     let says : says_encoder d ≡ says_encoder e =
     some_same (says_encoder d) (says_encoder e) (sym (parts_back d) ∙ ap encoder_parts content ∙ parts_back e) in
     let address : d.address ≡ e.address = ap (λ (s : EncoderSays). s.address) says in
@@ -77,7 +80,9 @@ encoders_same read_back remade d e is_d is_e same =
 pub servers_same : SaysServer
 servers_same j k is_j is_k same =
     let content : server_content j.joined j.taken j.server ≡ server_content k.joined k.taken k.server =
-    ap (λ b. rest_of (rest_of b)) same in
+    ap (λ b. rest_of (rest_of b))
+    (sealed_same (version ∷ server_kind ∷ server_content j.joined j.taken j.server)
+    (version ∷ server_kind ∷ server_content k.joined k.taken k.server) same) in
     let says : says_server j.joined j.taken j.server ≡ says_server k.joined k.taken k.server =
     some_same (says_server j.joined j.taken j.server) (says_server k.joined k.taken k.server)
     (sym (server_back j.joined j.taken j.server is_j.taken) ∙ ap server_parts content

@@ -9,7 +9,7 @@ use Rattle.store_phrases.specs.Said.{said_of}
 use Rattle.uecp_encoder.specs.State.{EncoderState}
 use Rattle.uecp_link.specs.Server.{ServerState}
 use Rattle.kept_images.specs.Images.{version, encoder_kind, server_kind, counted, flag, pair_bytes, message_bytes}
-use Rattle.kept_images.specs.Images.{held_bytes, encoder_image, server_image}
+use Rattle.kept_images.specs.Images.{held_bytes, encoder_content, server_content}
 
 counted_each : (es : List Element) → flat_map (λ e. counted (spelling e)) es ≡ flat_map counted (map spelling es)
 counted_each [] = refl
@@ -20,7 +20,7 @@ pub encoder_laid : (e : EncoderState Store) (address sets count : ℕ) (services
     → ring ≡ e.ring → v ≡ e.value
     → version ∷ encoder_kind ∷ (high_first address ++ (sets ∷ (counted services ++ (count ∷ (pair_bytes ring
     ++ flat_map (λ x. counted (spelling x)) (said_of v))))))
-    ≡ encoder_image e
+    ≡ version ∷ encoder_kind ∷ encoder_content e
 encoder_laid e address sets count services ring v a s n k r w =
     let told : flat_map (λ x. counted (spelling x)) (said_of v) ≡ message_bytes e.value =
     counted_each (said_of v) ∙ ap message_bytes w in
@@ -30,7 +30,7 @@ encoder_laid e address sets count services ring v a s n k r w =
 pub server_laid : (s : ServerState) (joined : Bool) (taken address mark last count : ℕ) (number : List ℕ)
     → address ≡ s.address → mark ≡ flag joined → number ≡ to_be_bytes w64 taken → last ≡ s.last → count ≡ length s.held
     → version ∷ server_kind ∷ (high_first address ++ (mark ∷ (number ++ (last ∷ count ∷ flat_map held_bytes s.held))))
-    ≡ server_image joined taken s
+    ≡ version ∷ server_kind ∷ server_content joined taken s
 server_laid s joined taken address mark last count number a m n l k =
     λ i. version ∷ server_kind
     ∷ (high_first (a i) ++ (m i ∷ (n i ++ (l i ∷ k i ∷ flat_map held_bytes s.held))))

@@ -1,6 +1,7 @@
 -- The images of the two ends: their bytes as they are kept. Source: profile.
 use Rattle.std.specs.Prelude.{ℕ, Bool, if◌then◌else◌, List, [], ◌∷◌, ◌++◌, length, flat_map}
 use Rattle.std.specs.Int.{w64, to_be_bytes}
+use Rattle.uecp_frame.specs.Check.{check}
 use Rattle.uecp_frame.specs.Frame.{high_first}
 use Rattle.uecp_elements.specs.declared.code.Code.{Code}
 use Rattle.uecp_elements.specs.Codes.{byte_of}
@@ -19,6 +20,11 @@ encoder_kind = 0x45
 
 abbrev pub server_kind : ℕ
 server_kind = 0x53
+
+-- Bytes with their check behind them, high byte first: that of a frame (SPB 490, check). So ends each image, since
+-- nothing else tells a changed byte from a kept one; the law `NoticesAChange` says which changes it notices.
+unfoldable pub sealed : List ℕ → List ℕ
+sealed bytes = bytes ++ high_first (check bytes)
 
 -- Bytes behind their number.
 abbrev pub counted : List ℕ → List ℕ
@@ -46,7 +52,7 @@ encoder_content e =
 
 -- The image of an encoder.
 abbrev pub encoder_image : EncoderState Store → List ℕ
-encoder_image e = version ∷ encoder_kind ∷ encoder_content e
+encoder_image e = sealed (version ∷ encoder_kind ∷ encoder_content e)
 
 -- A message that is held: its mark, and its bytes behind their number.
 abbrev pub held_bytes : Held → List ℕ
@@ -62,4 +68,4 @@ server_content joined taken s =
 
 -- The image of a server.
 abbrev pub server_image : (joined : Bool) (taken : ℕ) → ServerState → List ℕ
-server_image joined taken s = version ∷ server_kind ∷ server_content joined taken s
+server_image joined taken s = sealed (version ∷ server_kind ∷ server_content joined taken s)

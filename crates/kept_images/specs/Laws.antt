@@ -1,7 +1,8 @@
 -- The laws of images: an image says which end it is of, and each encoder is one that is read. Source: profile.
-use Rattle.std.specs.Prelude.{◌≡◌, ℕ, List, true, None}
+use Rattle.std.specs.Prelude.{◌≡◌, ℕ, ◌≤◌, List, ◌++◌, length, true, None}
 use Rattle.uecp_elements.specs.Grammar.{AreBytes}
 use Rattle.uecp_frame.specs.Address.{is_exact}
+use Rattle.uecp_frame.specs.Check.{check}
 use Rattle.uecp_frame.specs.Findings.{Closed}
 use Rattle.rds_store.specs.Value.{Store}
 use Rattle.rds_store.specs.Step.{step, group_taken}
@@ -24,6 +25,13 @@ SaysServer =
     (j k : KeptServer) → IsKeptServer j → IsKeptServer k
     → server_image j.joined j.taken j.server ≡ server_image k.joined k.taken k.server
     → restarted_kept j ≡ restarted_kept k
+
+-- Law: the check notices a change of one byte, and of two that are neighbours: other bytes in their place have another
+-- check. (SPB 490, check)
+abbrev pub NoticesAChange : Type 0
+NoticesAChange =
+    (front m n back : List ℕ) → length m ≡ length n → length m ≤ 2 → AreBytes m → AreBytes n
+    → check (front ++ (m ++ back)) ≡ check (front ++ (n ++ back)) → m ≡ n
 
 -- Law: a new encoder is one whose image is read, and bytes that come, takes of a group, a line that is lost and a start
 -- leave one: so is each encoder of a store that a program has. (profile)

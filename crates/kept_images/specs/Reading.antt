@@ -14,7 +14,7 @@ use Rattle.uecp_link.specs.Resuming.{IsServer}
 use Rattle.kept_images.specs.declared.fault.ImageFault.{ImageFault}
 use Rattle.kept_images.specs.declared.fault.ImageFault.TheVariants.{Newer, OtherEnd, Damaged, OutOfMemory}
 use Rattle.kept_images.specs.declared.server_reading.KeptServer.{KeptServer}
-use Rattle.kept_images.specs.Images.{version, encoder_kind, server_kind, encoder_image, server_image}
+use Rattle.kept_images.specs.Images.{version, encoder_kind, server_kind, sealed, encoder_image, server_image}
 
 -- ---- What can be kept.
 
@@ -49,13 +49,20 @@ abbrev pub is_headed : (kind : ℕ) → List ℕ → Bool
 is_headed kind (v ∷ k ∷ bytes) = v == version && k == kind
 is_headed kind _ = false
 
+-- Bytes end with their check, and begin as an image of this kind.
+pub record IsWhole (kind : ℕ) (bytes : List ℕ) : Type 0 where
+  pub body : List ℕ
+  pub is_sealed : bytes ≡ sealed body
+  pub headed : is_headed kind body ≡ true
+
 -- Why no image of one kind was read, where that of the other end has another: its version is above the one that is
--- read here; it is the other end's; it is neither, and damaged; or there was no memory for what it says.
+-- read here, whatever its check is; it is the other end's, as its check says too; it is neither, and damaged; or there
+-- was no memory for what it says, which its check confirms.
 abbrev pub IsFaultOf : (kind other : ℕ) → List ℕ → ImageFault → Type 0
 IsFaultOf kind other bytes (Newer v) = newer_of bytes ≡ Some v
-IsFaultOf kind other bytes OtherEnd = is_headed other bytes ≡ true
-IsFaultOf kind other bytes Damaged = (newer_of bytes ≡ None) × (is_headed other bytes ≡ false)
-IsFaultOf kind other bytes OutOfMemory = is_headed kind bytes ≡ true
+IsFaultOf kind other bytes OtherEnd = IsWhole other bytes
+IsFaultOf kind other bytes Damaged = (newer_of bytes ≡ None) × (IsWhole other bytes → ⊥)
+IsFaultOf kind other bytes OutOfMemory = IsWhole kind bytes
 
 -- An end was read, and it is this one; or there was no memory for it.
 abbrev pub GivesBack : {V : Type 0} → Result V ImageFault → V → Type 0

@@ -9,9 +9,8 @@ ghost use Rattle.kept_images.specs.Reading.{IsOpenedStation, IsEncoder, EncoderR
 ghost use Rattle.kept_images.specs.Parsing.{encoder_says, encoder_parts, pair_kept, pairs_kept, Tells, RingRead};
 ghost use Rattle.kept_images.specs.Parsing.{says_encoder, SaysStore, IsAsStarted, IsUnread};
 
-use crate::encoder_writing::add_encoder;
+use crate::encoder_writing::image_of_encoder;
 use crate::fault::ImageFault;
-use crate::image::Image;
 use crate::parts::{ENCODER, SERVER, content_of, exact_of, split_off};
 use rds_store::laws::messages_keep_sets_and_services;
 use rds_store::{RdsStore, StoreFault};
@@ -39,12 +38,14 @@ pub(crate) struct EncoderParts<'a> {
 
 /// Reads the image of an encoder, which is then as a start leaves it: nothing is counted or open.
 ///
-/// Bytes that are the image of no such encoder are refused: `Newer` with their version where that is above 01,
-/// `OtherEnd` where they begin as a server's image, else `Damaged`. `OutOfMemory` where there was no memory.
+/// Bytes that are the image of no such encoder are refused: `Newer` with their version where that is above 01, whatever
+/// else they are; `OtherEnd` where they begin as a server's image and end with their check; else `Damaged`.
+/// `OutOfMemory` where there was no memory.
 ///
 /// ```
 /// let encoder = read_encoder(alloc, image.as_slice())?;
 /// ```
+#[tactic(auto, unfolding(crate::specs::Images::sealed))]
 pub fn read_encoder(alloc: Global, bytes: &[u8]) -> Result<Encoder<RdsStore>, ImageFault>
     ensures read { EncoderRead bytes.now result }
     ensures complete { (e : EncoderState Store) → IsEncoder e → bytes.now ≡ encoder_image e
@@ -64,8 +65,7 @@ fn is_image(alloc: Global, encoder: &Encoder<RdsStore>, bytes: &[u8]) -> Result<
     ensures is { IfOk result (λ is. IsTrue is ↔ (bytes.now ≡ encoder_image encoder.now)) }
     ensures memory { IfErr result (λ fault. fault ≡ ImageFault.OutOfMemory) }
 {
-    let mut image = Image::new(alloc);
-    add_encoder(encoder, &mut image);
+    let image = image_of_encoder(alloc, encoder);
     let whole = image.whole()?;
     Ok(whole == bytes)
 }

@@ -1,15 +1,15 @@
 //! The image of an encoder, written. Source: profile.
-ghost use Rattle.std.specs.Prelude.{◌≡◌, ◌+◌, ◌++◌, ◌<◌, length, drop, OnOk, OnErr};
+ghost use Rattle.std.specs.Prelude.{◌≡◌, ◌+◌, ◌++◌, ◌∷◌, ◌<◌, length, drop, IsTrue, OnOk, OnErr};
 ghost use Rattle.uecp_elements.specs.Grammar.{spelling};
 ghost use Rattle.uecp_text.specs.Written.{Kept, Adds};
-ghost use Rattle.kept_images.specs.Images.{encoder_image, counted, pair_bytes};
+ghost use Rattle.kept_images.specs.Images.{version, encoder_kind, encoder_content, encoder_image, counted, pair_bytes};
 
 use crate::image::{Image, append};
 use crate::parts::{ENCODER, VERSION};
 use arrayvec::ArrayVec;
 use rds_store::RdsStore;
 use reply_ring::ReplyRing;
-use std::alloc::AllocError;
+use std::alloc::{AllocError, Global};
 use store_phrases::{ElementForm, put_elements};
 use uecp_elements::{Element, push_element};
 use uecp_encoder::Encoder;
@@ -39,7 +39,7 @@ impl ElementForm for Messages {
 }
 
 /// Adds the image of an encoder behind the bytes that are there: its address, its store and its kept replies, and
-/// neither its counts nor what is open. Where memory is refused, the bytes are as before.
+/// neither its counts nor what is open; and their check. Where memory is refused, the bytes are as before.
 ///
 /// ```
 /// let mut image = Vec::new(alloc);
@@ -49,14 +49,23 @@ pub fn put_encoder(encoder: &Encoder<RdsStore>, bytes: &mut Vec<u8>) -> Result<(
     ensures added { OnOk result (bytes.new.items ≡ bytes.old.items ++ encoder_image encoder.now) }
     ensures unchanged { OnErr result (bytes.new.items ≡ bytes.old.items) }
 {
-    let mut image = Image::new(*bytes.allocator());
-    add_encoder(encoder, &mut image);
+    let image = image_of_encoder(*bytes.allocator(), encoder);
     append(&image, bytes)
 }
 
-/// Adds the image of an encoder.
-pub(crate) fn add_encoder(encoder: &Encoder<RdsStore>, image: &mut Image)
-    ensures { Adds image.old image.new (encoder_image encoder.now) }
+/// The image of an encoder.
+pub(crate) fn image_of_encoder(alloc: Global, encoder: &Encoder<RdsStore>) -> Image
+    ensures { IsTrue result.is_whole → result.bytes ≡ encoder_image encoder.now }
+{
+    let mut image = Image::new(alloc);
+    add_encoder(encoder, &mut image);
+    image.seal();
+    image
+}
+
+/// Adds the image of an encoder up to its check.
+fn add_encoder(encoder: &Encoder<RdsStore>, image: &mut Image)
+    ensures { Adds image.old image.new (version ∷ encoder_kind ∷ encoder_content encoder.now) }
 {
     let store = encoder.target();
     image.add(&[VERSION, ENCODER]);

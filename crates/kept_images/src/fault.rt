@@ -8,7 +8,7 @@ use std::alloc::AllocError;
 pub enum ImageFault {
     /// The first byte is a version above 01: a newer program has written it.
     Newer(u8),
-    /// They begin as the image of the other end.
+    /// They begin as the image of the other end, and end with their check.
     OtherEnd,
     /// They are the image of no end of this kind.
     Damaged,

@@ -2,11 +2,11 @@
 ghost use Rattle.std.specs.Prelude.{◌≡◌, ◌≤◌, ◌++◌, [], length, IfOk, IsTrue, OnOk, OnErr, true};
 ghost use Rattle.uecp_frame.specs.Frame.{high_first};
 ghost use Rattle.uecp_text.specs.Written.{Adds};
-ghost use Rattle.kept_images.specs.Images.{counted};
+ghost use Rattle.kept_images.specs.Images.{sealed, counted};
 
 use std::alloc::{AllocError, Global};
 use std::marker::Model;
-use uecp_frame::Address;
+use uecp_frame::{Address, check_of};
 
 /// The bytes of an image so far. Once memory was refused it takes nothing more, and is whole no longer.
 #[derive(Drop)]
@@ -58,6 +58,15 @@ impl Image {
     {
         self.add(&[bytes.len() as u8]);
         self.add(bytes);
+    }
+
+    /// Adds the check of the bytes so far, high byte first: so ends an image.
+    #[tactic(auto, unfolding(crate::specs::Images::sealed))]
+    pub(crate) fn seal(&mut self)
+        ensures { IsTrue self.new.is_whole → IsTrue self.old.is_whole × (self.new.bytes ≡ sealed self.old.bytes) }
+    {
+        let check = check_of(self.bytes.as_slice());
+        self.add(&check.to_be_bytes());
     }
 
     /// The bytes, where all were taken.

@@ -1,5 +1,5 @@
 //! The laws of images, each the contract of a function that does nothing (profile).
-ghost use Rattle.kept_images.specs.Laws.{SaysEncoder, SaysServer, AreEncoders};
+ghost use Rattle.kept_images.specs.Laws.{SaysEncoder, SaysServer, NoticesAChange, AreEncoders};
 
 use rds_store::laws::messages_keep_sets_and_services;
 use store_phrases::laws::{are_stations, made_again};
@@ -17,6 +17,11 @@ pub fn encoder_again()
 /// was kept beside them.
 pub fn server_again()
     ensures { SaysServer }
+{}
+
+/// The check that ends an image notices a change of one byte of it, and of two that are neighbours.
+pub fn a_change_is_noticed()
+    ensures { NoticesAChange }
 {}
 
 /// Each encoder of a store is one whose image is read: a new one is, and bytes, takes, a lost line and a start leave

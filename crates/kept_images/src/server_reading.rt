@@ -8,9 +8,8 @@ ghost use Rattle.kept_images.specs.Parsing.{server_says, server_parts, kept_firs
 ghost use Rattle.kept_images.specs.Parsing.{kept_few, IsServerAsStarted, IsUnread};
 
 use crate::fault::ImageFault;
-use crate::image::Image;
 use crate::parts::{ENCODER, SERVER, content_of, exact_of, split_off};
-use crate::server_writing::add_server;
+use crate::server_writing::image_of_server;
 use arrayvec::ArrayVec;
 use std::alloc::Global;
 use uecp_frame::Message;
@@ -46,13 +45,15 @@ pub(crate) struct ServerParts<'a> {
 
 /// Reads the image of a server, which is then as a start leaves it: nothing is counted or open.
 ///
-/// Bytes that are the image of no such server are refused: `Newer` with their version where that is above 01,
-/// `OtherEnd` where they begin as an encoder's image, else `Damaged`. `OutOfMemory` where there was no memory.
+/// Bytes that are the image of no such server are refused: `Newer` with their version where that is above 01, whatever
+/// else they are; `OtherEnd` where they begin as an encoder's image and end with their check; else `Damaged`.
+/// `OutOfMemory` where there was no memory.
 ///
 /// ```
 /// let kept = read_server(alloc, image.as_slice())?;
 /// let server = kept.server;
 /// ```
+#[tactic(auto, unfolding(crate::specs::Images::sealed))]
 pub fn read_server(alloc: Global, bytes: &[u8]) -> Result<KeptServer, ImageFault>
     ensures read { ServerRead bytes.now result }
     ensures complete { (k : KeptServer) → IsKeptServer k → bytes.now ≡ server_image k.joined k.taken k.server
@@ -72,8 +73,7 @@ fn checked(alloc: Global, kept: KeptServer, bytes: &[u8]) -> Result<KeptServer, 
     ensures fault { IfErr result IsUnread }
     ensures complete { bytes.now ≡ server_image kept.joined kept.taken kept.server → GivesBack result kept }
 {
-    let mut image = Image::new(alloc);
-    add_server(kept.joined, kept.taken, &kept.server, &mut image);
+    let image = image_of_server(alloc, kept.joined, kept.taken, &kept.server);
     if image.whole()? == bytes {
         Ok(kept)
     } else {

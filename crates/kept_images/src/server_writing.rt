@@ -1,17 +1,17 @@
 //! The image of a server, written. Source: profile.
-ghost use Rattle.std.specs.Prelude.{◌≡◌, ◌++◌, OnOk, OnErr, flat_map};
+ghost use Rattle.std.specs.Prelude.{◌≡◌, ◌++◌, ◌∷◌, IsTrue, OnOk, OnErr, flat_map};
 ghost use Rattle.uecp_text.specs.Written.{Adds};
 ghost use Rattle.uecp_link.specs.Resuming.{held_of};
-ghost use Rattle.kept_images.specs.Images.{server_image, held_bytes, flag};
+ghost use Rattle.kept_images.specs.Images.{version, server_kind, server_content, server_image, held_bytes, flag};
 
 use crate::image::{Image, append};
 use crate::parts::{SERVER, VERSION};
-use std::alloc::AllocError;
+use std::alloc::{AllocError, Global};
 use uecp_link::{LentMessage, Server};
 
 /// Adds the image of a server behind the bytes that are there: whether it has joined, how many messages of its input
-/// were taken, its address, its last counter and the messages that it holds, and neither its counts nor what is open.
-/// Where memory is refused, the bytes are as before.
+/// were taken, its address, its last counter and the messages that it holds, and neither its counts nor what is open;
+/// and their check. Where memory is refused, the bytes are as before.
 ///
 /// ```
 /// let mut image = Vec::new(alloc);
@@ -26,14 +26,23 @@ pub fn put_server(
     ensures added { OnOk result (bytes.new.items ≡ bytes.old.items ++ server_image joined taken server.now) }
     ensures unchanged { OnErr result (bytes.new.items ≡ bytes.old.items) }
 {
-    let mut image = Image::new(*bytes.allocator());
-    add_server(joined, taken, server, &mut image);
+    let image = image_of_server(*bytes.allocator(), joined, taken, server);
     append(&image, bytes)
 }
 
-/// Adds the image of a server.
-pub(crate) fn add_server(joined: bool, taken: u64, server: &Server, image: &mut Image)
-    ensures { Adds image.old image.new (server_image joined taken server.now) }
+/// The image of a server.
+pub(crate) fn image_of_server(alloc: Global, joined: bool, taken: u64, server: &Server) -> Image
+    ensures { IsTrue result.is_whole → result.bytes ≡ server_image joined taken server.now }
+{
+    let mut image = Image::new(alloc);
+    add_server(joined, taken, server, &mut image);
+    image.seal();
+    image
+}
+
+/// Adds the image of a server up to its check.
+fn add_server(joined: bool, taken: u64, server: &Server, image: &mut Image)
+    ensures { Adds image.old image.new (version ∷ server_kind ∷ server_content joined taken server.now) }
 {
     image.add(&[VERSION, SERVER]);
     image.add_address(server.address());

@@ -1,6 +1,7 @@
 //! The store: a message is whole or none. Source: RDS Forum SPB 490 for data sets and programme services, profile for
 //! the limits.
-ghost use Rattle.std.specs.Prelude.{◌≡◌, ◌==◌, All, ◌&&◌, nat_le, is_some, false, ◌<◌, ◌≤◌, IfSome, length, slice_get};
+ghost use Rattle.std.specs.Prelude.{ℕ, ◌≡◌, ◌==◌, All, ◌&&◌, nat_le, is_some, false, ◌<◌, ◌≤◌, IfSome, length};
+ghost use Rattle.std.specs.Prelude.{slice_get};
 ghost use Rattle.std.specs.Prelude.{IfOk, IfErr, unwrap_or, None};
 ghost use Rattle.std.specs.Option.{option_copied};
 ghost use Rattle.std.specs.List.{list_any};
@@ -148,6 +149,16 @@ impl RdsStore {
         ensures most { result ≤ 8 }
     {
         self.main.sets
+    }
+
+    /// How many services there are, 1 to 8.
+    pub fn service_count(&self) -> usize
+        ensures value { result ≡ length self.now.services }
+        // Each service has something in each set, and there is nothing elsewhere.
+        ensures there { (place : ℕ × ℕ) → is_some (get self.now.places place)
+            ≡ (list_any (λ s. place.1 == s) self.now.services && (nat_le 1 place.0 && nat_le place.0 self.now.sets)) }
+    {
+        self.main.services.len()
     }
 
     /// The number of the service at a place of the configured order, counted from 0; None exactly from the number of

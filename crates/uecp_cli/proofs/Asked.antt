@@ -2,7 +2,7 @@
 use Rattle.std.proofs.Common.{◌≡◌, ◌⊎◌, ℕ, List, [], refl, ap, ◌∙◌, sym, subst, true, inl, inr, codes}
 use Rattle.std.specs.Prelude.{Option, Some, None, Box, option_map, Result, Ok, Err, IsErrAnd, IfErr}
 use Rattle.std.specs.Box.{box_value}
-use Rattle.clap.specs.Walk.{Row, Text}
+use Rattle.clap.specs.Walk.{Row, Text, first_of}
 use Rattle.clap.specs.Simple.{App, HasMatchesOf, is_simple, subcommand_of, subcommand_rows, subcommand_rows_of}
 use Rattle.clap.specs.Faults.{fault_of, is_simple_and_free}
 use Rattle.clap.specs.Kinds.{HasKind}
@@ -15,10 +15,13 @@ use Rattle.clap.proofs.OnLiterals.{clap_on_literals}
 use Rattle.uecp_jobs.specs.declared.job.Job.{Job}
 use Rattle.uecp_jobs.specs.declared.job.Job.TheVariants.{Answer, AnswerAs, Show, ShowAs, Make, MakeWords}
 use Rattle.uecp_jobs.specs.declared.job.Job.TheVariants.{Line, LineAs, Encoder, Server, Watch}
+use Rattle.uecp_cli.specs.declared.task.Task.{Task}
+use Rattle.uecp_cli.specs.declared.task.Task.TheVariants.{Plain, Kept, State}
 use Rattle.uecp_cli.specs.declared.usage.Usage.{Usage}
-use Rattle.uecp_cli.specs.Ranges.{IsInRange, IsPlaceInRange, IsSetupInRange, Lies}
+use Rattle.uecp_cli.specs.Ranges.{AreInRange, IsInRange, IsPlaceInRange, IsSetupInRange, Lies}
 use Rattle.uecp_cli.specs.Usages.{SaysError}
-use Rattle.uecp_cli.specs.CommandLine.{AreOptions, Asks, IsJobOf, IsOption, IsPlace, RefusesList, RefusesWords}
+use Rattle.uecp_cli.specs.CommandLine.{AreOptions, Asks, IsEnd, IsJobOf, IsKeptAs, IsOption, IsPlace}
+use Rattle.uecp_cli.specs.CommandLine.{IsTaskOf, RefusesList, RefusesWords}
 use Rattle.uecp_cli.specs.CommandLine.{services_text, uecp_app}
 use Rattle.uecp_cli.proofs.Helps.{one_named}
 
@@ -60,25 +63,25 @@ none_named f None name is e = absurd (let none : None ≡ Some name = e in cc)
 none_named f (Some x) name is e = absurd (let some : Some x ≡ None = is in cc)
 
 -- ---- what the words ask for
-pub asks : (words : List Text) (m : ArgMatches) (name : Text) (rows : List Row) (job : Job)
+pub asks : (words : List Text) (m : ArgMatches) (name : Text) (rows : List Row) (task : Task)
     → Some name ≡ subcommand_name_of m → Some rows ≡ option_map (λ p. p.1) (subcommand_rows_of m)
-    → subcommand_rows_of m ≡ subcommand_of uecp_app words → fault_of uecp_app words ≡ [] → IsJobOf name rows job
-    → Asks words job
-asks words m name rows job e f met none is = record {
+    → subcommand_rows_of m ≡ subcommand_of uecp_app words → fault_of uecp_app words ≡ [] → IsTaskOf name rows task
+    → Asks words task
+asks words m name rows task e f met none is = record {
   faultless = none;
   name = name;
   rows = rows;
   command = sym met ∙ both_met (out-ArgMatches m).subcommand name rows e f;
-  is_job = is;
+  is_task = is;
 }
 
--- the words with no fault name one of the seven commands
+-- the words with no fault name one of the eight commands
 pub no_other : (words : List Text) (m : ArgMatches) (o : Option Text) → o ≡ subcommand_name_of m
     → subcommand_rows_of m ≡ subcommand_of uecp_app words → fault_of uecp_app words ≡ []
     → (o ≡ Some (codes "answer") → ⊥) → (o ≡ Some (codes "line") → ⊥) → (o ≡ Some (codes "make") → ⊥)
     → (o ≡ Some (codes "show") → ⊥) → (o ≡ Some (codes "encoder") → ⊥) → (o ≡ Some (codes "server") → ⊥)
-    → (o ≡ Some (codes "watch") → ⊥) → ⊥
-no_other words m o e met none no_answer no_line no_make no_show no_encoder no_server no_watch =
+    → (o ≡ Some (codes "watch") → ⊥) → (o ≡ Some (codes "state") → ⊥) → ⊥
+no_other words m o e met none no_answer no_line no_make no_show no_encoder no_server no_watch no_state =
     let n = one_named words none in
     let name : o ≡ Some n.0.0 = e ∙ name_met (out-ArgMatches m).subcommand ∙ ap (option_map (λ p. p.0)) (met ∙ n.1) in
     elim n.2 [
@@ -88,7 +91,8 @@ no_other words m o e met none no_answer no_line no_make no_show no_encoder no_se
       | inr (inr (inr (inl is))) ↦ no_line (name ∙ ap Some is)
       | inr (inr (inr (inr (inl is)))) ↦ no_encoder (name ∙ ap Some is)
       | inr (inr (inr (inr (inr (inl is))))) ↦ no_server (name ∙ ap Some is)
-      | inr (inr (inr (inr (inr (inr is))))) ↦ no_watch (name ∙ ap Some is)
+      | inr (inr (inr (inr (inr (inr (inl is)))))) ↦ no_watch (name ∙ ap Some is)
+      | inr (inr (inr (inr (inr (inr (inr is)))))) ↦ no_state (name ∙ ap Some is)
     ]
 
 pub gives_no_list : (words : List Text) (m : ArgMatches) (name : Text) (rows : List Row) (why : Usage)
@@ -114,9 +118,9 @@ says_why words e why kinds says = elim says [
   | inr is ↦ subst (RefusesWords words) (sym is.1) (elim kinds [ inl out ↦ absurd (is.0 out) | inr among ↦ among ])
 ]
 
-pub refuses_words : (words : List Text) (e : Error) (r : Result Job Usage) → HasKind (fault_of uecp_app words) e
+pub refuses_words : (words : List Text) (e : Error) (r : Result Task Usage) → HasKind (fault_of uecp_app words) e
     → IsErrAnd r (SaysError e) → IfErr r (RefusesWords words)
-refuses_words words e (Ok job) kinds says = tt
+refuses_words words e (Ok task) kinds says = tt
 refuses_words words e (Err why) kinds says = says_why words e why kinds says
 
 -- ---- ranges
@@ -133,7 +137,7 @@ setup_in_range rows site encoder sets services o =
     (place_in_range rows site encoder o.is_place, in_range _ _ _ _ o.is_sets)
 
 -- the numbers of such a job are in their ranges
-pub is_in_range : (name : Text) (rows : List Row) (job : Job) → IsJobOf name rows job → IsInRange job
+is_in_range : (name : Text) (rows : List Row) (job : Job) → IsJobOf name rows job → IsInRange job
 is_in_range name rows (Answer site encoder sets services store) h =
     setup_in_range rows site encoder sets services.items h.1
 is_in_range name rows (Line site encoder sets services store) h =
@@ -164,3 +168,33 @@ is_in_range name rows (ShowAs form) h = tt
 is_in_range name rows (Watch form time) h = tt
 is_in_range name rows Make h = tt
 is_in_range name rows (MakeWords region) h = tt
+
+pub are_in_range : (name : Text) (rows : List Row) (task : Task) → IsTaskOf name rows task → AreInRange task
+are_in_range name rows (Plain job) is = is_in_range name rows job is.0
+are_in_range name rows (Kept job path) is = is_in_range name rows job is.0
+are_in_range name rows (State path) is = tt
+
+-- ---- with its state in a file or without
+kept_job : (name : Text) (rows : List Row) (job : Job) (task : Task) → IsJobOf name rows job → IsEnd job
+    → ((same : Job) → same ≡ job → first_of (codes "state") rows ≡ None → IsTaskOf name rows (Plain same))
+    → IsKeptAs rows job task → IsTaskOf name rows task
+kept_job name rows job (Plain same) is end unkept how = unkept same how.0 how.1
+kept_job name rows job (Kept same path) is end unkept how =
+    (subst (IsJobOf name rows) (sym how.0) is, subst IsEnd (sym how.0) end, how.1)
+kept_job name rows job (State path) is end unkept how = absurd how
+
+pub kept_encoder : (name : Text) (rows : List Row) (site encoder sets : ℕ) (services : _) (port connections turns : ℕ)
+    (task : Task) → IsJobOf name rows (Encoder site encoder sets services port connections turns)
+    → IsKeptAs rows (Encoder site encoder sets services port connections turns) task → IsTaskOf name rows task
+kept_encoder name rows site encoder sets services port connections turns task is how =
+    kept_job name rows (Encoder site encoder sets services port connections turns) task is tt
+    (λ job same none. subst (λ j. IsTaskOf name rows (Plain j)) (sym same) (is, none)) how
+
+pub kept_server : (name : Text) (rows : List Row) (site encoder : ℕ) (host : _)
+    (port tries timeout turns reconnects window : ℕ) (join : _) (task : Task)
+    → IsJobOf name rows (Server site encoder host port tries timeout turns reconnects window join)
+    → IsKeptAs rows (Server site encoder host port tries timeout turns reconnects window join) task
+    → IsTaskOf name rows task
+kept_server name rows site encoder host port tries timeout turns reconnects window join task is how =
+    kept_job name rows (Server site encoder host port tries timeout turns reconnects window join) task is tt
+    (λ job same none. subst (λ j. IsTaskOf name rows (Plain j)) (sym same) (is, none)) how

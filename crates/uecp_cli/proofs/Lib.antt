@@ -5,3 +5,4 @@ pub mod Ending
 pub mod Helps
 pub mod Examples
 pub mod Watched
+pub mod Kept

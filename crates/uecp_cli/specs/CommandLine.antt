@@ -15,6 +15,8 @@ use Rattle.clap.specs.declared.builder.value_parser.ValueParser.TheVariants.{Sig
 use Rattle.uecp_jobs.specs.declared.job.Job.{Job}
 use Rattle.uecp_jobs.specs.declared.job.Job.TheVariants.{Answer, AnswerAs, Show, ShowAs, Make, MakeWords}
 use Rattle.uecp_jobs.specs.declared.job.Job.TheVariants.{Line, LineAs, Encoder, Server, Watch}
+use Rattle.uecp_cli.specs.declared.task.Task.{Task}
+use Rattle.uecp_cli.specs.declared.task.Task.TheVariants.{Plain, Kept, State}
 use Rattle.output_forms.specs.declared.form.Form.{Form}
 use Rattle.output_forms.specs.declared.form.Form.TheVariants.{Lines, Words, Json}
 use Rattle.rds_text.specs.declared.programme_type.Region.TheVariants.{Europe, NorthAmerica}
@@ -144,6 +146,34 @@ IsJobOf name rows Show = (name ≡ codes "show") × IsForm rows Lines
 IsJobOf name rows (ShowAs form) = (name ≡ codes "show") × IsForm rows form
 IsJobOf name rows (Watch form time) = (name ≡ codes "watch") × IsForm rows form × IsTimed rows time
 
+-- The job is that of one of the two ends, which have a state.
+abbrev pub IsEnd : Job → Type 0
+IsEnd (Encoder site encoder sets services port connections turns) = Unit {0}
+IsEnd (Server site encoder host port tries timeout turns reconnects window join) = Unit {0}
+IsEnd job = ⊥
+
+-- No file is given for the state of the job's end, if it is that of one.
+abbrev pub IsUnkept : List Row → Job → Type 0
+IsUnkept rows (Encoder site encoder sets services port connections turns) = first_of (codes "state") rows ≡ None
+IsUnkept rows (Server site encoder host port tries timeout turns reconnects window join) =
+    first_of (codes "state") rows ≡ None
+IsUnkept rows job = Unit {0}
+
+-- The task is this job, with the file for the state of its end where one is given.
+abbrev pub IsKeptAs : List Row → Job → Task → Type 0
+IsKeptAs rows job (Plain same) = (same ≡ job) × (first_of (codes "state") rows ≡ None)
+IsKeptAs rows job (Kept same path) = (same ≡ job) × (first_of (codes "state") rows ≡ Some (string_bytes path))
+IsKeptAs rows job (State path) = ⊥
+
+-- The task is that of the command of this name: its job, with the file for the state of its end where one is given; or
+-- what is in the file that is named.
+abbrev pub IsTaskOf : (name : List ℕ) → List Row → Task → Type 0
+IsTaskOf name rows (Plain job) = IsJobOf name rows job × IsUnkept rows job
+IsTaskOf name rows (Kept job path) =
+    IsJobOf name rows job × IsEnd job × (first_of (codes "state") rows ≡ Some (string_bytes path))
+IsTaskOf name rows (State path) =
+    (name ≡ codes "state") × (string_bytes path ≡ word_text (codes "file") [] rows)
+
 -- ---- the command line that the program takes
 
 -- The text of an option that is not given: the default if it has one.
@@ -170,6 +200,14 @@ number_option name least greatest default =
 -- The option of a table's row.
 abbrev pub rule_for : NumberOption → Rule
 rule_for option = number_option option.name.now option.least option.most (option_map (λ text. text.now) option.default)
+
+-- The option with the file for the state of an end, which may be left out.
+abbrev pub state_option : Rule
+state_option = record (word_option (codes "state") None) { required = false }
+
+-- The file to look at, which has to be named.
+abbrev pub file_argument : Rule
+file_argument = record (new_rule (codes "file")) { action = Some Set; value_names = 1; required = true }
 
 -- The option with the list of services, 01 where it is not given.
 abbrev pub services_option : Rule
@@ -225,7 +263,7 @@ abbrev pub listening_command : Shape
 listening_command =
     command_with (codes "encoder")
     (encoder_options ++ port_option ∷ number_option (codes "connections") 1 1000 (Some (codes "1"))
-    ∷ number_option (codes "turns") 1 1000000 (Some (codes "100000")) ∷ [])
+    ∷ number_option (codes "turns") 1 1000000 (Some (codes "100000")) ∷ state_option ∷ [])
 
 -- The options of a server's bounds.
 abbrev pub bound_options : List Rule
@@ -239,23 +277,27 @@ bound_options =
 -- The command `server`.
 abbrev pub sending_command : Shape
 sending_command = command_with (codes "server") (place_options ++ word_option (codes "host") (Some (codes "127.0.0.1"))
-    ∷ port_option ∷ bound_options ++ flag (codes "join") ∷ [])
+    ∷ port_option ∷ bound_options ++ flag (codes "join") ∷ state_option ∷ [])
 
--- The program: it has a version, and one of seven commands has to be named.
+-- The command `state`.
+abbrev pub looking_command : Shape
+looking_command = command_with (codes "state") (file_argument ∷ [])
+
+-- The program: it has a version, and one of eight commands has to be named.
 abbrev pub uecp_app : App
 uecp_app = record {
   top = record (new_shape (codes "uecp")) { is_leaf = false; has_version = true; subcommand_required = true };
   subs = store_command (codes "answer") ∷ showing_command ∷ making_command
-      ∷ store_command (codes "line") ∷ listening_command ∷ sending_command ∷ watching_command ∷ [];
+      ∷ store_command (codes "line") ∷ listening_command ∷ sending_command ∷ watching_command ∷ looking_command ∷ [];
 }
 
--- The words have no fault, and ask for this job: they name its command, and give its options.
-pub record Asks (words : List (List ℕ)) (job : Job) : Type 0 where
+-- The words have no fault, and ask for this: they name its command, and give its options.
+pub record Asks (words : List (List ℕ)) (task : Task) : Type 0 where
   pub faultless : fault_of uecp_app words ≡ []
   pub name : List ℕ
   pub rows : List Row
   pub command : subcommand_of uecp_app words ≡ Some (name, rows)
-  pub is_job : IsJobOf name rows job
+  pub is_task : IsTaskOf name rows task
 
 -- The words name a command with an encoder, and give it a list of services that is none.
 pub record GivesNoList (words : List (List ℕ)) : Type 0 where

@@ -3,4 +3,5 @@ pub mod Ranges
 pub mod Usages
 pub mod CommandLine
 pub mod Unreached
+pub mod Kept
 pub mod Program

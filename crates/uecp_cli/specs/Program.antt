@@ -14,7 +14,17 @@ use Rattle.uecp_jobs.specs.declared.job.Job.{Job}
 use Rattle.uecp_jobs.specs.declared.job.Job.TheVariants.{Encoder, Server, Watch}
 use Rattle.uecp_cli.specs.declared.usage.Usage.{Usage}
 use Rattle.uecp_cli.specs.declared.usage.Usage.TheVariants.{Refused, NotAList, OutOfMemory}
-use Rattle.uecp_cli.specs.CommandLine.{uecp_app, Asks, GivesNoList}
+use Rattle.rds_store.specs.Value.{Store}
+use Rattle.uecp_encoder.specs.State.{EncoderState}
+use Rattle.uecp_link.specs.Server.{ServerState}
+use Rattle.kept_serving.specs.Keeping as serving
+use Rattle.kept_sending.specs.declared.keep.Progress.{Progress}
+use Rattle.kept_sending.specs.Keeping as sending
+use Rattle.state_files.specs.declared.reading.Found.{Found}
+use Rattle.uecp_cli.specs.declared.task.Task.{Task}
+use Rattle.uecp_cli.specs.declared.task.Task.TheVariants.{Plain, Kept, State}
+use Rattle.uecp_cli.specs.Kept.{IsKeptDone, IsKeptRefused, IsKeptStopped, IsKeptIn, HasTold, HasNotTold}
+use Rattle.uecp_cli.specs.CommandLine.{uecp_app, Asks, GivesNoList, IsEnd}
 use Rattle.uecp_cli.specs.Unreached.{MaySayUnreached}
 use Rattle.uecp_watch.specs.Watching.{Watches}
 use Rattle.uecp_jobs.specs.Jobs.{IsDone, IsRefused, IsUndescribed, HasFailed}
@@ -66,20 +76,11 @@ IsAllDone job unread unread' held held' = IsDone job unread unread' held held'
     ⊎ ((HasServed job held held' × (unread' ≡ unread))
     ⊎ (AreAcknowledged job unread unread' held held' ⊎ HasWatched job unread unread' held held'))
 
--- The words ask for a job, and it was done.
-abbrev pub HasDone : (words : List (List ℕ)) → (unread unread' held held' : Option (List ℕ)) → Type 0
-HasDone words unread unread' held held' = (job : Job) × Asks words job × IsAllDone job unread unread' held held'
-
 -- A line of the job's input was refused: what the lines before it bring was written, or their messages were
 -- acknowledged.
 abbrev pub HasLineRefused : Job → (unread unread' held held' told told' : Option (List ℕ)) → Type 0
 HasLineRefused job unread unread' held held' told told' =
     IsRefused job unread unread' held held' told told' ⊎ AreAcknowledgedBefore job unread unread' held held' told told'
-
--- The words ask for a job, and a line was refused.
-abbrev pub HasRefused : (words : List (List ℕ)) → (unread unread' held held' told told' : Option (List ℕ)) → Type 0
-HasRefused words unread unread' held held' told told' =
-    (job : Job) × Asks words job × HasLineRefused job unread unread' held held' told told'
 
 -- The job came to no end, and that was said: memory, reading or writing failed, and what was written is a beginning of
 -- what the job writes of its input; or not all its messages were sent or told, and where a connection could not be made
@@ -91,22 +92,86 @@ HasNotEnded job unread unread' held held' told told' =
     × MaySayUnreached job between told') ⊎ ((HasStopped job held held' told told' × (unread' ≡ unread))
     ⊎ HasStoppedWatching job unread unread' held held' told told'))
 
--- The words ask for a job, and it came to no end.
-abbrev pub HasBrokenOff : (words : List (List ℕ)) → (unread unread' held held' told told' : Option (List ℕ)) → Type 0
-HasBrokenOff words unread unread' held held' told told' =
-    (job : Job) × Asks words job × HasNotEnded job unread unread' held held' told told'
+-- It can be run: a job with its state in a file is that of an end.
+abbrev pub IsRunnable : Task → Type 0
+IsRunnable (Plain job) = Unit {0}
+IsRunnable (Kept job path) = IsEnd job
+IsRunnable (State path) = Unit {0}
+
+-- The options of what is asked for describe no encoder, or no address of one, and that was said, or begun to be said.
+abbrev pub IsTaskUndescribed : Task → (told told' : Option (List ℕ)) → Type 0
+IsTaskUndescribed (Plain job) told told' = IsUndescribed job told told'
+IsTaskUndescribed (Kept job path) told told' = IsUndescribed job told told'
+IsTaskUndescribed (State path) told told' = ⊥
+
+-- What is asked for was done.
+abbrev pub IsTaskDone : (finds : (path : List ℕ) → Found → Type 0) → Task
+    → (unread unread' held held' : Option (List ℕ))
+    → Type 0
+IsTaskDone finds (Plain job) unread unread' held held' = IsAllDone job unread unread' held held'
+IsTaskDone finds (Kept job path) unread unread' held held' = IsKeptDone job unread unread' held held'
+IsTaskDone finds (State path) unread unread' held held' = HasTold finds (string_bytes path) unread unread' held held'
+
+-- A line of its input was refused.
+abbrev pub IsTaskRefused : Task → (unread unread' held held' told told' : Option (List ℕ)) → Type 0
+IsTaskRefused (Plain job) unread unread' held held' told told' = HasLineRefused job unread unread' held held' told told'
+IsTaskRefused (Kept job path) unread unread' held held' told told' = IsKeptRefused unread unread' told told'
+IsTaskRefused (State path) unread unread' held held' told told' = ⊥
+
+-- It came to no end, and that was said.
+abbrev pub IsTaskStopped : (finds : (path : List ℕ) → Found → Type 0) → Task
+    → (unread unread' held held' told told' : Option (List ℕ)) → Type 0
+IsTaskStopped finds (Plain job) unread unread' held held' told told' =
+    HasNotEnded job unread unread' held held' told told'
+IsTaskStopped finds (Kept job path) unread unread' held held' told told' =
+    IsKeptStopped job unread unread' told told'
+IsTaskStopped finds (State path) unread unread' held held' told told' =
+    HasNotTold finds (string_bytes path) unread unread' held held' told told'
+
+-- What is kept in the file of an end's state, where that is asked for.
+abbrev pub IsTaskKept : {E S : Type 0} → (gives_encoder : (path : List ℕ) → EncoderState Store → E → Type 0)
+    → (encoder_leaves : E → serving.Kept Store → Type 0) → (encoder_clean : E → Type 0)
+    → (gives_server : (path : List ℕ) → ServerState → Progress → S → Type 0)
+    → (server_leaves : S → sending.KeptServer → Type 0) → (server_clean : S → Type 0) → Task
+    → (unread unread' held held' : Option (List ℕ)) → Type 0
+IsTaskKept gives_encoder encoder_leaves encoder_clean gives_server server_leaves server_clean (Plain job) unread unread'
+    held held' = Unit {0}
+IsTaskKept gives_encoder encoder_leaves encoder_clean gives_server server_leaves server_clean (Kept job path) unread
+    unread' held held' =
+    IsKeptIn gives_encoder encoder_leaves encoder_clean gives_server server_leaves server_clean (string_bytes path) job
+    unread unread' held held'
+IsTaskKept gives_encoder encoder_leaves encoder_clean gives_server server_leaves server_clean (State path) unread
+    unread'
+    held held' = Unit {0}
+
+-- The words ask for something, and it was done.
+abbrev pub HasDone : (finds : (path : List ℕ) → Found → Type 0) → (words : List (List ℕ))
+    → (unread unread' held held' : Option (List ℕ)) → Type 0
+HasDone finds words unread unread' held held' =
+    (task : Task) × Asks words task × IsTaskDone finds task unread unread' held held'
+
+-- The words ask for something, and a line was refused.
+abbrev pub HasRefused : (words : List (List ℕ)) → (unread unread' held held' told told' : Option (List ℕ)) → Type 0
+HasRefused words unread unread' held held' told told' =
+    (task : Task) × Asks words task × IsTaskRefused task unread unread' held held' told told'
+
+-- The words ask for something, and it came to no end.
+abbrev pub HasBrokenOff : (finds : (path : List ℕ) → Found → Type 0) → (words : List (List ℕ))
+    → (unread unread' held held' told told' : Option (List ℕ)) → Type 0
+HasBrokenOff finds words unread unread' held held' told told' =
+    (task : Task) × Asks words task × IsTaskStopped finds task unread unread' held held' told told'
 
 -- Memory was wanting, or the text that was asked for could not be written, and that was said, or begun to be said.
 abbrev pub SaysFailure : (told told' : Option (List ℕ)) → Type 0
 SaysFailure told told' = (fault : RunFault) × Fails fault × Begins told told' (error_lines fault)
 
--- The words ask for no job that can be done: they are mistaken, or give a list of services that is none, or ask for a
+-- The words ask for nothing that can be done: they are mistaken, or give a list of services that is none, or ask for a
 -- job whose options describe no encoder. The last two were said on standard error, or begun to be said; the first is
 -- said by clap.
 abbrev pub HasRefusedWords : (words : List (List ℕ)) → (told told' : Option (List ℕ)) → Type 0
 HasRefusedWords words told told' =
     AreMistaken words ⊎ ((GivesNoList words × Begins told told' no_list_line)
-    ⊎ ((job : Job) × Asks words job × IsUndescribed job told told'))
+    ⊎ ((task : Task) × Asks words task × IsTaskUndescribed task told told'))
 
 -- ---- by the refusal of the words
 -- It is a question for a text.

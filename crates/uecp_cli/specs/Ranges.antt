@@ -3,6 +3,8 @@ use Rattle.std.specs.Prelude.{ℕ, ◌≤◌}
 use Rattle.uecp_jobs.specs.declared.job.Job.{Job}
 use Rattle.uecp_jobs.specs.declared.job.Job.TheVariants.{Answer, AnswerAs, Show, ShowAs, Make, MakeWords}
 use Rattle.uecp_jobs.specs.declared.job.Job.TheVariants.{Line, LineAs, Encoder, Server, Watch}
+use Rattle.uecp_cli.specs.declared.task.Task.{Task}
+use Rattle.uecp_cli.specs.declared.task.Task.TheVariants.{Plain, Kept, State}
 
 -- A number lies from the least to the greatest.
 abbrev pub Lies : (least greatest number : ℕ) → Type 0
@@ -32,3 +34,9 @@ IsInRange (ShowAs form) = Unit {0}
 IsInRange (Watch form time) = Unit {0}
 IsInRange Make = Unit {0}
 IsInRange (MakeWords region) = Unit {0}
+
+-- Each number of what is asked for is in its range.
+abbrev pub AreInRange : Task → Type 0
+AreInRange (Plain job) = IsInRange job
+AreInRange (Kept job path) = IsInRange job
+AreInRange (State path) = Unit {0}

@@ -1,7 +1,8 @@
 //! The options of the program's commands, with their defaults and helpful texts (profile).
 ghost use Rattle.std.specs.Prelude.{◌≡◌, false, codes, Some};
 ghost use Rattle.clap.specs.Words.{rule_of};
-ghost use Rattle.uecp_cli.specs.CommandLine.{rule_for, word_option, services_option, flag};
+ghost use Rattle.uecp_cli.specs.CommandLine.{rule_for, word_option, services_option, state_option};
+ghost use Rattle.uecp_cli.specs.CommandLine.{file_argument, flag};
 
 use crate::numbers::NumberOption;
 use clap::{Arg, ArgAction, value_parser};
@@ -62,4 +63,28 @@ pub fn host<'a>(alloc: Global) -> Arg<'a>
         .help("Where the encoder listens, a name or an address")
         .action(ArgAction::Set)
         .default_value("127.0.0.1")
+}
+
+/// The option `state`.
+pub fn state<'a>(alloc: Global) -> Arg<'a>
+    ensures rule { rule_of result ≡ state_option }
+    ensures own { result.global ≡ false }
+{
+    Arg::new(alloc, "state")
+        .long("state")
+        .value_name("FILE")
+        .help("The file in which this end is kept, so that the next run goes on from it")
+        .action(ArgAction::Set)
+}
+
+/// The path of a state file.
+pub fn file<'a>(alloc: Global) -> Arg<'a>
+    ensures rule { rule_of result ≡ file_argument }
+    ensures own { result.global ≡ false }
+{
+    Arg::new(alloc, "file")
+        .value_name("FILE")
+        .help("The state file")
+        .action(ArgAction::Set)
+        .required(true)
 }

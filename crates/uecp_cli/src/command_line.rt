@@ -3,32 +3,35 @@ ghost use Rattle.std.specs.Prelude.{◌≡◌, ◌++◌, ◌∷◌, [], ℕ, Lis
 ghost use Rattle.std.specs.String.{string_bytes};
 ghost use Rattle.clap.specs.Words.{app_of, rule_of, shape_of};
 ghost use Rattle.clap.specs.Simple.{Shape, new_shape};
-ghost use Rattle.uecp_cli.specs.Ranges.{IsInRange};
-ghost use Rattle.uecp_cli.specs.CommandLine.{Asks, RefusesWords, command_with, place_options, encoder_options};
+ghost use Rattle.uecp_cli.specs.Ranges.{AreInRange};
+ghost use Rattle.uecp_cli.specs.CommandLine.{uecp_app, Asks, RefusesWords, command_with, place_options};
+ghost use Rattle.uecp_cli.specs.CommandLine.{encoder_options};
 ghost use Rattle.uecp_cli.specs.CommandLine.{store_command, showing_command, making_command, listening_command};
-ghost use Rattle.uecp_cli.specs.CommandLine.{sending_command, watching_command, flag, uecp_app};
+ghost use Rattle.uecp_cli.specs.CommandLine.{sending_command, watching_command, looking_command, flag};
 
-use crate::arguments::{flag, host, number, services};
-use crate::matched::{answer_of, encoder_of, line_of, make_of, server_of, show_of, watch_of};
+use crate::arguments::{file, flag, host, number, services, state};
+use crate::matched::{
+    answer_of, encoder_of, line_of, make_of, server_of, show_of, state_of, watch_of,
+};
 use crate::numbers::{
     CONNECTIONS, ENCODER, PORT, RECONNECTS, SERVE_TURNS, SETS, SITE, TIMEOUT, TRIES, TRY_TURNS,
     WINDOW,
 };
+use crate::task::Task;
 use crate::usage::Usage;
 use clap::{Arg, Command};
 use std::alloc::{AllocError, Global};
-use uecp_jobs::Job;
 
 const VERSION: &str = "0.1.0";
 
 /// What the exit statuses say, below the list of commands.
 const STATUSES: &str =
-    "Each command but encoder reads standard input to its end, at most 1 MiB (1,048,576 bytes);\nwatch tells what comes at once, and has no limit.\n'uecp COMMAND --help' has its options and an example.\nExit status: 0 done, 1 an input line was refused, 2 the command line or the services were refused,\n3 memory, reading, writing or a connection failed.";
+    "Each command but encoder and state reads standard input to its end, at most 1 MiB (1,048,576 bytes);\nwatch tells what comes at once, and has no limit.\n'uecp COMMAND --help' has its options and an example.\nExit status: 0 done, 1 an input line was refused, 2 the command line or the services were refused,\n3 memory, reading, writing, a connection or a state failed.";
 
 /// Reads the words of a command line, the first being the program's name.
-pub fn parse(alloc: Global, words: &[String]) -> Result<Job, Usage>
-    ensures range { IfOk result IsInRange }
-    // The words have no fault, and the job is that of the command that they name, with their options.
+pub fn parse(alloc: Global, words: &[String]) -> Result<Task, Usage>
+    ensures range { IfOk result AreInRange }
+    // The words have no fault, and the task is that of the command that they name, with their options.
     ensures asked { IfOk result (Asks (map string_bytes words.now)) }
     // The words have a fault, or their list of services is none. Or there was no memory.
     ensures refused { IfErr result (RefusesWords (map string_bytes words.now)) }
@@ -42,6 +45,7 @@ pub fn parse(alloc: Global, words: &[String]) -> Result<Job, Usage>
         Some(("make", found)) => Ok(make_of(found)),
         Some(("show", found)) => Ok(show_of(found)),
         Some(("watch", found)) => Ok(watch_of(found)),
+        Some(("state", found)) => state_of(alloc, found),
         _ => unreachable!(),
     }
 }
@@ -62,7 +66,8 @@ pub fn program<'a>(alloc: Global) -> Result<Command<'a>, AllocError>
         .subcommand(line_command(alloc)?)?
         .subcommand(encoder_command(alloc)?)?
         .subcommand(server_command(alloc)?)?
-        .subcommand(watch_command(alloc)?)
+        .subcommand(watch_command(alloc)?)?
+        .subcommand(state_command(alloc)?)
 }
 
 fn answer_command<'a>(alloc: Global) -> Result<Command<'a>, AllocError>
@@ -133,7 +138,8 @@ fn encoder_command<'a>(alloc: Global) -> Result<Command<'a>, AllocError>
     with_encoder(alloc, command)?
         .arg(number(alloc, &PORT))?
         .arg(number(alloc, &CONNECTIONS))?
-        .arg(number(alloc, &SERVE_TURNS))
+        .arg(number(alloc, &SERVE_TURNS))?
+        .arg(state(alloc))
 }
 
 fn server_command<'a>(alloc: Global) -> Result<Command<'a>, AllocError>
@@ -144,7 +150,7 @@ fn server_command<'a>(alloc: Global) -> Result<Command<'a>, AllocError>
             "Send hexadecimal messages, one a line, to an encoder, each until it is acknowledged",
         )
         .after_help(
-            "A line is HEX, or - for the empty message.\nWithout --join a second run against an encoder that still runs begins at counter 01 again, and its messages are acknowledged and not applied.\nExample: echo 010000C201 | uecp server --port 4001 --join",
+            "A line is HEX, or - for the empty message.\nWithout --join or --state a second run against an encoder that still runs begins at counter 01 again, and its messages are acknowledged and not applied.\nExample: echo 010000C201 | uecp server --port 4001 --join",
         );
     with_place(alloc, command)?
         .arg(host(alloc))?
@@ -157,8 +163,18 @@ fn server_command<'a>(alloc: Global) -> Result<Command<'a>, AllocError>
         .arg(flag(
             alloc,
             "join",
-            "Begin whatever the encoder has kept: always, but with one that was just started",
-        ))
+            "Begin whatever the encoder has kept: always, but with one that was just started. With --state it gives up what waits",
+        ))?
+        .arg(state(alloc))
+}
+
+fn state_command<'a>(alloc: Global) -> Result<Command<'a>, AllocError>
+    ensures { IfOk result (λ command. shape_of command ≡ looking_command) }
+{
+    Command::new(alloc, "state")
+        .about("Tell what is in the state file of an encoder or a server")
+        .after_help("Standard input is not read.\nExample: uecp state studio.db")
+        .arg(file(alloc))
 }
 
 /// The command with the options of an encoder, the flag for its store and those for a form.

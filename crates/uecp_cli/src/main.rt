@@ -2,12 +2,11 @@
 //!
 //! It reads pieces or scripts from standard input and writes what an encoder answers, what a stream of bytes holds, the
 //! frames of a script, or what came of the events of a line; or it is one of the two ends over TCP. It has no rules of
-//! its own: each line of output is what one call of the crates below answered. It does not open a serial port and does
-//! not keep a store across runs.
+//! its own: each line of output is what one call of the crates below answered. It does not open a serial port.
 //!
-//! `parse` reads the command line into a `Job`. `run_job`, `run_encoder` and `run_server` do the job and answer the
-//! exit status, which is 0 to 3 whatever the input is. `run_words` is all of that; `main` gives it the machine's words,
-//! streams and network.
+//! `parse` reads the command line into a `Task`. `run_job`, `run_encoder` and `run_server`, and with a state in a file
+//! `run_encoder_in` and `run_server_in`, do the job and answer the exit status, which is 0 to 3 whatever the input is.
+//! `run_words` is all of that; `main` gives it the machine's words, streams and network.
 #![tactic(auto)]
 
 mod arguments;
@@ -17,6 +16,7 @@ mod matched;
 mod numbers;
 mod program;
 mod services;
+mod task;
 mod unreached;
 mod usage;
 
@@ -41,6 +41,7 @@ fn main(rt: HostRuntime) -> ExitCode {
                 &mut reader,
                 &mut writer,
                 &mut errors,
+                &rt,
                 &rt,
             )
         }

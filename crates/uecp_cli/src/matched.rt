@@ -2,7 +2,8 @@
 ghost use Rattle.std.specs.Prelude.{◌≡◌, ◌≤◌, codes, IfOk, IfErr};
 ghost use Rattle.std.specs.String.{string_bytes};
 ghost use Rattle.clap.specs.Words.{found_of, one_of, rows_of};
-ghost use Rattle.uecp_cli.specs.CommandLine.{IsOption, IsList, IsJobOf, RefusesList, services_text, host_text};
+ghost use Rattle.uecp_cli.specs.CommandLine.{IsOption, IsList, IsTaskOf, RefusesList, services_text, host_text};
+ghost use Rattle.uecp_cli.specs.CommandLine.{IsEnd, IsKeptAs};
 ghost use Rattle.uecp_cli.specs.declared.usage.Usage.TheVariants.{OutOfMemory};
 
 use crate::forms::{flag_of, form_of, wording_of};
@@ -11,6 +12,7 @@ use crate::numbers::{
     TRY_TURNS, WINDOW,
 };
 use crate::services::services_of;
+use crate::task::Task;
 use crate::usage::Usage;
 use clap::ArgMatches;
 use std::alloc::{AllocError, Global};
@@ -64,8 +66,8 @@ fn host_of(alloc: Global, found: &ArgMatches<'_>) -> Result<String, AllocError>
 }
 
 /// The job of the command `answer`.
-pub fn answer_of(alloc: Global, found: &ArgMatches<'_>) -> Result<Job, Usage>
-    ensures job { IfOk result (IsJobOf (codes "answer") (rows_of (found_of found.now))) }
+pub fn answer_of(alloc: Global, found: &ArgMatches<'_>) -> Result<Task, Usage>
+    ensures job { IfOk result (IsTaskOf (codes "answer") (rows_of (found_of found.now))) }
     ensures refused { IfErr result (RefusesList (services_text (rows_of (found_of found.now)))) }
 {
     let site = short_of(found, &SITE);
@@ -74,27 +76,27 @@ pub fn answer_of(alloc: Global, found: &ArgMatches<'_>) -> Result<Job, Usage>
     let services = list_of(alloc, found)?;
     let store = flag_of(found, "store");
     match form_of(found) {
-        Form::Lines => Ok(Job::Answer {
+        Form::Lines => Ok(Task::Plain(Job::Answer {
             site,
             encoder,
             sets,
             services,
             store,
-        }),
-        form => Ok(Job::AnswerAs {
+        })),
+        form => Ok(Task::Plain(Job::AnswerAs {
             site,
             encoder,
             sets,
             services,
             store,
             form,
-        }),
+        })),
     }
 }
 
 /// The job of the command `line`.
-pub fn line_of(alloc: Global, found: &ArgMatches<'_>) -> Result<Job, Usage>
-    ensures job { IfOk result (IsJobOf (codes "line") (rows_of (found_of found.now))) }
+pub fn line_of(alloc: Global, found: &ArgMatches<'_>) -> Result<Task, Usage>
+    ensures job { IfOk result (IsTaskOf (codes "line") (rows_of (found_of found.now))) }
     ensures refused { IfErr result (RefusesList (services_text (rows_of (found_of found.now)))) }
 {
     let site = short_of(found, &SITE);
@@ -103,60 +105,60 @@ pub fn line_of(alloc: Global, found: &ArgMatches<'_>) -> Result<Job, Usage>
     let services = list_of(alloc, found)?;
     let store = flag_of(found, "store");
     match form_of(found) {
-        Form::Lines => Ok(Job::Line {
+        Form::Lines => Ok(Task::Plain(Job::Line {
             site,
             encoder,
             sets,
             services,
             store,
-        }),
-        form => Ok(Job::LineAs {
+        })),
+        form => Ok(Task::Plain(Job::LineAs {
             site,
             encoder,
             sets,
             services,
             store,
             form,
-        }),
+        })),
     }
 }
 
 /// The job of the command `show`.
-pub fn show_of(found: &ArgMatches<'_>) -> Job
-    ensures { IsJobOf (codes "show") (rows_of (found_of found.now)) result }
+pub fn show_of(found: &ArgMatches<'_>) -> Task
+    ensures { IsTaskOf (codes "show") (rows_of (found_of found.now)) result }
 {
     match form_of(found) {
-        Form::Lines => Job::Show,
-        form => Job::ShowAs { form },
+        Form::Lines => Task::Plain(Job::Show),
+        form => Task::Plain(Job::ShowAs { form }),
     }
 }
 
 /// The job of the command `watch`.
-pub fn watch_of(found: &ArgMatches<'_>) -> Job
-    ensures { IsJobOf (codes "watch") (rows_of (found_of found.now)) result }
+pub fn watch_of(found: &ArgMatches<'_>) -> Task
+    ensures { IsTaskOf (codes "watch") (rows_of (found_of found.now)) result }
 {
-    Job::Watch {
+    Task::Plain(Job::Watch {
         form: form_of(found),
         time: !flag_of(found, "no-time"),
-    }
+    })
 }
 
 /// The job of the command `make`.
-pub fn make_of(found: &ArgMatches<'_>) -> Job
-    ensures { IsJobOf (codes "make") (rows_of (found_of found.now)) result }
+pub fn make_of(found: &ArgMatches<'_>) -> Task
+    ensures { IsTaskOf (codes "make") (rows_of (found_of found.now)) result }
 {
     match wording_of(found) {
-        Form::Words(region) => Job::MakeWords { region },
-        _ => Job::Make,
+        Form::Words(region) => Task::Plain(Job::MakeWords { region }),
+        _ => Task::Plain(Job::Make),
     }
 }
 
-/// The job of the command `encoder`.
-pub fn encoder_of(alloc: Global, found: &ArgMatches<'_>) -> Result<Job, Usage>
-    ensures job { IfOk result (IsJobOf (codes "encoder") (rows_of (found_of found.now))) }
+/// The job of the command `encoder`, and the file of its state where one is given.
+pub fn encoder_of(alloc: Global, found: &ArgMatches<'_>) -> Result<Task, Usage>
+    ensures job { IfOk result (IsTaskOf (codes "encoder") (rows_of (found_of found.now))) }
     ensures refused { IfErr result (RefusesList (services_text (rows_of (found_of found.now)))) }
 {
-    Ok(Job::Encoder {
+    let job = Job::Encoder {
         site: short_of(found, &SITE),
         encoder: small_of(found, &ENCODER),
         sets: small_of(found, &SETS),
@@ -164,15 +166,16 @@ pub fn encoder_of(alloc: Global, found: &ArgMatches<'_>) -> Result<Job, Usage>
         port: short_of(found, &PORT),
         connections: number_of(found, &CONNECTIONS),
         turns: number_of(found, &SERVE_TURNS),
-    })
+    };
+    Ok(task_of(alloc, found, job)?)
 }
 
-/// The job of the command `server`.
-pub fn server_of(alloc: Global, found: &ArgMatches<'_>) -> Result<Job, Usage>
-    ensures job { IfOk result (IsJobOf (codes "server") (rows_of (found_of found.now))) }
+/// The job of the command `server`, and the file of its state where one is given.
+pub fn server_of(alloc: Global, found: &ArgMatches<'_>) -> Result<Task, Usage>
+    ensures job { IfOk result (IsTaskOf (codes "server") (rows_of (found_of found.now))) }
     ensures refused { IfErr result (λ why. why ≡ OutOfMemory) }
 {
-    Ok(Job::Server {
+    let job = Job::Server {
         site: short_of(found, &SITE),
         encoder: small_of(found, &ENCODER),
         host: host_of(alloc, found)?,
@@ -183,5 +186,25 @@ pub fn server_of(alloc: Global, found: &ArgMatches<'_>) -> Result<Job, Usage>
         reconnects: number_of(found, &RECONNECTS),
         window: small_of(found, &WINDOW),
         join: flag_of(found, "join"),
-    })
+    };
+    Ok(task_of(alloc, found, job)?)
+}
+
+/// The job, with the file of its state where one is given.
+fn task_of(alloc: Global, found: &ArgMatches<'_>, job: Job) -> Result<Task, AllocError>
+    ensures { IfOk result (IsKeptAs (rows_of (found_of found.now)) job) }
+{
+    match found.get_str("state") {
+        Some(path) => Ok(Task::Kept(job, String::from_str(alloc, path)?)),
+        None => Ok(Task::Plain(job)),
+    }
+}
+
+/// What the command `state` asks for.
+pub fn state_of(alloc: Global, found: &ArgMatches<'_>) -> Result<Task, Usage>
+    ensures job { IfOk result (IsTaskOf (codes "state") (rows_of (found_of found.now))) }
+    ensures refused { IfErr result (λ why. why ≡ OutOfMemory) }
+{
+    let path = found.get_str("file").unwrap_or("");
+    Ok(Task::State(String::from_str(alloc, path)?))
 }

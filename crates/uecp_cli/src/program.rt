@@ -1,5 +1,5 @@
 //! The program from its words to its exit status (profile).
-ghost use Rattle.std.specs.Prelude.{◌≡◌, ◌≢◌, ◌⊎◌, ◌≤◌, map, is_some, Ok, Err, IfErr};
+ghost use Rattle.std.specs.Prelude.{◌≡◌, ◌≢◌, ◌⊎◌, ◌≤◌, ℕ, List, Option, None, map, is_some, Ok, Err, IfErr};
 ghost use Rattle.std.specs.String.{string_bytes};
 ghost use Rattle.uecp_text.specs.declared.run_fault.RunFault.{RunFault};
 ghost use Rattle.uecp_text.specs.declared.run_fault.RunFault.TheVariants.{Writing};
@@ -11,12 +11,20 @@ ghost use Rattle.uecp_jobs.specs.Jobs.{IsUndescribed};
 ghost use Rattle.uecp_jobs.specs.ServerRun.{IsServer};
 ghost use Rattle.uecp_cli.specs.Program.{AskForText, IsAllDone, HasDone, HasLineRefused, HasRefused, HasNotEnded};
 ghost use Rattle.uecp_cli.specs.Program.{HasBrokenOff, HasRefusedWords, ListensFor, DialsFor, AsksForText, SaysMistake};
-ghost use Rattle.uecp_cli.specs.Program.{SaysFailure};
+ghost use Rattle.uecp_cli.specs.Program.{SaysFailure, IsRunnable, IsTaskDone, IsTaskRefused, IsTaskUndescribed};
+ghost use Rattle.uecp_cli.specs.Program.{IsTaskStopped, IsTaskKept};
+ghost use Rattle.uecp_cli.specs.Kept.{IsKeptDone, IsKeptRefused, IsKeptStopped, IsKeptIn, HasServedLines};
+ghost use Rattle.kept_jobs.specs.ServerKept.{IsReadWith};
+ghost use Rattle.uecp_cli.specs.Unreached.{MaySayUnreached};
+ghost use Rattle.state_jobs.specs.Kept.{HasServedKept, HasSentKept, SaysWhy};
+ghost use Rattle.uecp_cli.specs.CommandLine.{IsEnd};
 
 use crate::command_line::parse;
+use crate::task::Task;
 use crate::unreached::say_unreached;
 use crate::usage::Usage;
 use clap::Error;
+use state_jobs::{OpenStates, run_encoder_in, run_server_in, tell_state};
 use std::alloc::Global;
 use std::io::{Read, Write};
 use std::net::{Net, TcpListener, TcpStream};
@@ -34,30 +42,82 @@ pub fn run_words<
     W: Write,
     E: Write,
     N: Net<Listener = TcpListener, Stream = TcpStream> + Clock,
->(alloc: Global, words: &[String], reader: &mut R, writer: &mut W, errors: &mut E, net: &N) -> u8
+    S: OpenStates,
+>(
+    alloc: Global,
+    words: &[String],
+    reader: &mut R,
+    writer: &mut W,
+    errors: &mut E,
+    net: &N,
+    states: &S,
+) -> u8
     ensures status { result ≤ 3 }
-    // 0: the job of the words was done; or they ask for a text, and nothing was read. Nothing was said on `errors`.
-    ensures done { result ≡ 0 → (HasDone (map string_bytes words.now) (R.remaining reader.old) (R.remaining reader.new)
-        (W.contents writer.old) (W.contents writer.new) ⊎ (AskForText (map string_bytes words.now)
-        × (reader.new ≡ reader.old))) × (errors.new ≡ errors.old) }
+    // 0: what the words ask for was done; or they ask for a text, and nothing was read. Nothing was said on `errors`.
+    ensures done { result ≡ 0 → (HasDone (S.finds states.now) (map string_bytes words.now) (R.remaining reader.old)
+        (R.remaining reader.new) (W.contents writer.old) (W.contents writer.new)
+        ⊎ (AskForText (map string_bytes words.now) × (reader.new ≡ reader.old))) × (errors.new ≡ errors.old) }
     // 1: the words ask for a job, and a line was refused.
     ensures refused { result ≡ 1 → HasRefused (map string_bytes words.now) (R.remaining reader.old)
         (R.remaining reader.new) (W.contents writer.old) (W.contents writer.new) (E.contents errors.old)
         (E.contents errors.new) }
-    // 2: the words ask for no job that can be done. Nothing was read or written.
+    // 2: the words ask for nothing that can be done. Nothing was read or written.
     ensures mistaken { result ≡ 2 → HasRefusedWords (map string_bytes words.now) (E.contents errors.old)
         (E.contents errors.new) × (reader.new ≡ reader.old) × (writer.new ≡ writer.old) }
-    // 3: memory, reading, writing or a connection failed: of the job of the words, and what was written is a beginning
-    // of what it writes; or before there was a job, and nothing was read, and but for the text that was asked for
-    // nothing was written.
-    ensures failed { result ≡ 3 → HasBrokenOff (map string_bytes words.now) (R.remaining reader.old)
-        (R.remaining reader.new) (W.contents writer.old) (W.contents writer.new) (E.contents errors.old)
-        (E.contents errors.new) ⊎ (SaysFailure (E.contents errors.old) (E.contents errors.new)
+    // 3: memory, reading, writing, a connection or a state failed: of what the words ask for, and what was written is a
+    // beginning of what it writes; or before there was a job, and nothing was read, and but for the text that was asked
+    // for nothing was written.
+    ensures failed { result ≡ 3 → HasBrokenOff (S.finds states.now) (map string_bytes words.now)
+        (R.remaining reader.old) (R.remaining reader.new) (W.contents writer.old) (W.contents writer.new)
+        (E.contents errors.old) (E.contents errors.new) ⊎ (SaysFailure (E.contents errors.old) (E.contents errors.new)
         × (reader.new ≡ reader.old) × (AskForText (map string_bytes words.now) ⊎ (writer.new ≡ writer.old))) }
 {
     match parse(alloc, words) {
-        Ok(job) => run_any(alloc, &job, reader, writer, errors, net),
+        Ok(task) => run_task(alloc, &task, reader, writer, errors, net, states),
         Err(usage) => refuse(&usage, writer, errors),
+    }
+}
+
+/// Does what is asked for, and answers the exit status.
+fn run_task<
+    R: Read,
+    W: Write,
+    E: Write,
+    N: Net<Listener = TcpListener, Stream = TcpStream> + Clock,
+    S: OpenStates,
+>(
+    alloc: Global,
+    task: &Task,
+    reader: &mut R,
+    writer: &mut W,
+    errors: &mut E,
+    net: &N,
+    states: &S,
+) -> u8
+    requires { IsRunnable task.now }
+    ensures status { result ≤ 3 }
+    ensures done { result ≡ 0 → IsTaskDone (S.finds states.now) task.now (R.remaining reader.old)
+        (R.remaining reader.new) (W.contents writer.old) (W.contents writer.new) × (errors.new ≡ errors.old) }
+    ensures refused { result ≡ 1 → IsTaskRefused task.now (R.remaining reader.old) (R.remaining reader.new)
+        (W.contents writer.old) (W.contents writer.new) (E.contents errors.old) (E.contents errors.new) }
+    ensures undescribed { result ≡ 2 → IsTaskUndescribed task.now (E.contents errors.old) (E.contents errors.new)
+        × (reader.new ≡ reader.old) × (writer.new ≡ writer.old) }
+    ensures failed { result ≡ 3 → IsTaskStopped (S.finds states.now) task.now (R.remaining reader.old)
+        (R.remaining reader.new) (W.contents writer.old) (W.contents writer.new) (E.contents errors.old)
+        (E.contents errors.new) }
+    // 0 or 1: this is kept then.
+    ensures kept { (result ≡ 0) ⊎ (result ≡ 1) → IsTaskKept (S.gives_encoder states.now) S.EncoderKeeper.leaves
+        S.EncoderKeeper.is_clean
+        (S.gives_server states.now) S.ServerKeeper.leaves S.ServerKeeper.is_clean task.now (R.remaining reader.old)
+        (R.remaining reader.new) (W.contents writer.old) (W.contents writer.new) }
+{
+    match task {
+        Task::Plain(job) => run_any(alloc, job, reader, writer, errors, net),
+        Task::Kept(job, path) => {
+            let path = path.as_str();
+            run_kept(alloc, job, path, reader, writer, errors, net, states)
+        }
+        Task::State(path) => tell_state(alloc, path.as_str(), states, writer, errors),
     }
 }
 
@@ -98,6 +158,122 @@ fn run_any<R: Read, W: Write, E: Write, N: Net<Listener = TcpListener, Stream = 
             run_watch(alloc, *form, clock, reader, writer, errors)
         }
         _ => run_job(alloc, job, reader, writer, errors),
+    }
+}
+
+/// Does the job with its state in the file at this path, and answers the exit status.
+fn run_kept<
+    R: Read,
+    W: Write,
+    E: Write,
+    N: Net<Listener = TcpListener, Stream = TcpStream>,
+    S: OpenStates,
+>(
+    alloc: Global,
+    job: &Job,
+    path: &str,
+    reader: &mut R,
+    writer: &mut W,
+    errors: &mut E,
+    net: &N,
+    states: &S,
+) -> u8
+    requires { IsEnd job.now }
+    ensures status { result ≤ 3 }
+    ensures done { result ≡ 0 → IsKeptDone job.now (R.remaining reader.old) (R.remaining reader.new)
+        (W.contents writer.old) (W.contents writer.new) × (errors.new ≡ errors.old) }
+    ensures refused { result ≡ 1 → IsKeptRefused (R.remaining reader.old) (R.remaining reader.new)
+        (E.contents errors.old) (E.contents errors.new) }
+    ensures undescribed { result ≡ 2 → IsUndescribed job.now (E.contents errors.old) (E.contents errors.new)
+        × (reader.new ≡ reader.old) × (writer.new ≡ writer.old) }
+    ensures failed { result ≡ 3 → IsKeptStopped job.now (R.remaining reader.old) (R.remaining reader.new)
+        (E.contents errors.old) (E.contents errors.new) }
+    ensures kept { (result ≡ 0) ⊎ (result ≡ 1) → IsKeptIn (S.gives_encoder states.now) S.EncoderKeeper.leaves
+        S.EncoderKeeper.is_clean
+        (S.gives_server states.now) S.ServerKeeper.leaves S.ServerKeeper.is_clean path.now job.now
+        (R.remaining reader.old) (R.remaining reader.new) (W.contents writer.old) (W.contents writer.new) }
+{
+    match job {
+        Job::Encoder { .. } => run_kept_encoder(alloc, job, path, writer, errors, net, states),
+        Job::Server { .. } => run_kept_server(
+            alloc, job, path, reader, writer, errors, net, states,
+        ),
+        _ => unreachable!(),
+    }
+}
+
+/// Does the job of `encoder` with its state in the file at this path, over TCP, and answers the exit status.
+fn run_kept_encoder<
+    W: Write,
+    E: Write,
+    N: Net<Listener = TcpListener, Stream = TcpStream>,
+    S: OpenStates,
+>(alloc: Global, job: &Job, path: &str, writer: &mut W, errors: &mut E, net: &N, states: &S) -> u8
+    requires { IsEncoder job.now }
+    ensures status { (result ≤ 3) × (result ≢ 1) }
+    ensures done { result ≡ 0 → HasServedLines job.now (W.contents writer.old) (W.contents writer.new)
+        × (errors.new ≡ errors.old) }
+    ensures undescribed { result ≡ 2 → IsUndescribed job.now (E.contents errors.old) (E.contents errors.new)
+        × (writer.new ≡ writer.old) }
+    ensures failed { result ≡ 3 → SaysWhy (E.contents errors.old) (E.contents errors.new) }
+    ensures kept { result ≡ 0 → HasServedKept (S.gives_encoder states.now) S.EncoderKeeper.leaves
+        S.EncoderKeeper.is_clean
+        path.now job.now (W.contents writer.old) (W.contents writer.new) }
+{
+    let mut local = local_of(net, job);
+    run_encoder_in(alloc, job, path, states, writer, errors, &mut local)
+}
+
+/// Does the job of `server` with its state in the file at this path, over TCP, and answers the exit status.
+fn run_kept_server<
+    R: Read,
+    W: Write,
+    E: Write,
+    N: Net<Listener = TcpListener, Stream = TcpStream>,
+    S: OpenStates,
+>(
+    alloc: Global,
+    job: &Job,
+    path: &str,
+    reader: &mut R,
+    writer: &mut W,
+    errors: &mut E,
+    net: &N,
+    states: &S,
+) -> u8
+    requires { IsServer job.now }
+    ensures status { result ≤ 3 }
+    ensures done { result ≡ 0 → IsReadWith None (R.remaining reader.old) (R.remaining reader.new)
+        × (errors.new ≡ errors.old) }
+    ensures refused { result ≡ 1 → IsKeptRefused (R.remaining reader.old) (R.remaining reader.new)
+        (E.contents errors.old) (E.contents errors.new) }
+    ensures undescribed { result ≡ 2 → IsUndescribed job.now (E.contents errors.old) (E.contents errors.new)
+        × (reader.new ≡ reader.old) × (writer.new ≡ writer.old) }
+    ensures failed { result ≡ 3 → (between : Option (List ℕ)) × SaysWhy (E.contents errors.old) between
+        × MaySayUnreached job.now between (E.contents errors.new) }
+    ensures kept { (result ≡ 0) ⊎ (result ≡ 1) → HasSentKept (S.gives_server states.now) S.ServerKeeper.leaves
+        S.ServerKeeper.is_clean
+        path.now job.now (R.remaining reader.old) (R.remaining reader.new) }
+{
+    match job {
+        Job::Server { host, port, .. } => {
+            let mut dialing = dialing_of(net, job);
+            let status = run_server_in(
+                alloc,
+                job,
+                path,
+                states,
+                reader,
+                writer,
+                errors,
+                &mut dialing,
+            );
+            if status == 3 {
+                say_unreached(host.as_str(), *port, dialing.failed(), errors);
+            }
+            status
+        }
+        _ => unreachable!(),
     }
 }
 

@@ -59,7 +59,7 @@ fn joining_line(joined: &Result<(), Outstanding>) -> &'static str
 }
 
 /// How a run ends whose messages are outstanding, or whose encoder could not be joined, for this reason.
-fn fault_of(reason: Outstanding) -> RunFault
+pub fn fault_of(reason: Outstanding) -> RunFault
     ensures { result ≡ fault_of reason }
 {
     match reason {
@@ -147,7 +147,7 @@ fn put_batch(settled: &Result<Settled, Outstanding>, output: &mut Output)
 }
 
 /// Puts down the lines of a batch whose messages are acknowledged, in order.
-fn put_settled(settled: &Settled, output: &mut Output)
+pub fn put_settled(settled: &Settled, output: &mut Output)
     ensures { Adds output.old output.new (batch_lines settled.now.codes.items settled.now.tries) }
 {
     for code in settled.codes.as_slice() {

@@ -12,17 +12,17 @@ use uecp_words::message_of;
 
 /// The messages of an input.
 #[derive(Drop)]
-pub(crate) struct Messages {
+pub struct Messages {
     /// The messages, in order, of all lines or of those before the first that is refused.
-    pub(crate) list: Vec<Message>,
+    pub list: Vec<Message>,
     /// The refusal of that line, if there is one.
-    pub(crate) refused: Option<RunFault>,
+    pub refused: Option<RunFault>,
 }
 
 /// The messages of an input, up to the first line that is refused.
 ///
 /// Errors: `OutOfMemory` alone.
-pub(crate) fn messages_of(alloc: Global, input: &[u8]) -> Result<Messages, RunFault>
+pub fn messages_of(alloc: Global, input: &[u8]) -> Result<Messages, RunFault>
     ensures messages { IfOk result (λ all. all.list.items ≡ messages_first (texts_of input.now)) }
     ensures refused_line { IfOk result (λ all. all.refused ≡ refusal_in (texts_of input.now)) }
     ensures refused { IfErr result (λ fault. fault ≡ run.OutOfMemory) }

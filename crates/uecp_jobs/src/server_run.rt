@@ -139,7 +139,7 @@ fn refusal(messages: Messages) -> Result<(), RunFault>
 }
 
 /// How many messages a batch has at most: as many as the window says, but 1 where it says 0, and 8 where it says more.
-fn batch_size(window: u8) -> usize
+pub fn batch_size(window: u8) -> usize
     ensures { result ≡ batch_size window }
 {
     usize::from(window.clamp(1, WINDOW_MAX))

@@ -3,6 +3,7 @@ ghost use Rattle.uecp_jobs.specs.Jobs.{IsLocal};
 
 use super::{Ends, REPLY, answer};
 use crate::command_line::parse;
+use crate::task::Task;
 use crate::usage::Usage;
 use faulty_devices::ScarceMemory;
 use std::alloc::Global;
@@ -53,8 +54,9 @@ fn the_words_of_a_command_line(rt: HostRuntime) -> Result<(), Fail> {
     let mut memory = ScarceMemory::take_all(rt.alloc(), ROOM)?;
     for refused in 0..TIMES {
         match parse(rt.alloc(), words.as_slice()) {
-            Ok(job) => {
-                assert!(rt; refused > 0 && matches!(job, Job::Answer { store: true, .. }));
+            Ok(task) => {
+                let is_answer = matches!(task, Task::Plain(Job::Answer { store: true, .. }));
+                assert!(rt; refused > 0 && is_answer);
                 return Ok(());
             }
             Err(usage) => assert!(rt; matches!(usage, Usage::OutOfMemory), "{refused}"),

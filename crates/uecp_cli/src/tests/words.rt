@@ -2,6 +2,7 @@
 use super::{Ends, NOT_HEX, PIECES};
 use crate::program::run_words;
 use faulty_devices::FaultyWriter;
+use state_jobs::OpenStates;
 use std::alloc::Global;
 use std::net::{Net, TcpListener, TcpStream};
 use std::process::Abort;
@@ -10,7 +11,7 @@ use std::time::Clock;
 
 /// What the words come to over these ends: the status, and how often was read.
 fn run(
-    rt: &(impl Abort + Clock + Net<Listener = TcpListener, Stream = TcpStream>),
+    rt: &(impl Abort + Clock + Net<Listener = TcpListener, Stream = TcpStream> + OpenStates),
     alloc: Global,
     words: &[&str],
     ends: &mut Ends<'_>,
@@ -26,6 +27,7 @@ fn run(
         &mut ends.writer,
         &mut ends.errors,
         rt,
+        rt,
     );
     Ok((status, ends.reader.reads()))
 }
@@ -33,7 +35,7 @@ fn run(
 /// This word asks for a text, all of which is flushed, once, by this writer; the run comes to this status and text of
 /// errors.
 fn asks_for_text(
-    rt: &(impl Abort + Clock + Net<Listener = TcpListener, Stream = TcpStream>),
+    rt: &(impl Abort + Clock + Net<Listener = TcpListener, Stream = TcpStream> + OpenStates),
     alloc: Global,
     word: &str,
     writer: FaultyWriter<'_>,
@@ -64,7 +66,7 @@ fn a_text_that_is_asked_for_is_flushed(rt: HostRuntime) -> Result<(), Fail> {
 
 /// The words come to this on the two pieces: the status, how often was read, and the text of errors where one is given.
 fn words_come_to(
-    rt: &(impl Abort + Clock + Net<Listener = TcpListener, Stream = TcpStream>),
+    rt: &(impl Abort + Clock + Net<Listener = TcpListener, Stream = TcpStream> + OpenStates),
     alloc: Global,
     words: &[&str],
     (status, reads): (u8, u32),

@@ -13,5 +13,7 @@ returns c =
     (c.in_ok-with_encoder.ensures (codes "encoder") is_new) c.number.ensures.rule in
     let two = arg_added _ _ c.number-2.result _ _ c.in_ok-arg-2.ensures c.number-2.ensures.own one
     c.number-2.ensures.rule in
-    IfOk-weaker c.arg-3.result _ _ (λ whole added. arg_added _ whole c.number-3.result _ _ added c.number-3.ensures.own
-    two c.number-3.ensures.rule) c.arg-3.ensures
+    let three = arg_added _ _ c.number-3.result _ _ c.in_ok-arg-3.ensures c.number-3.ensures.own two
+    c.number-3.ensures.rule in
+    IfOk-weaker c.arg-4.result _ _ (λ whole added. arg_added _ whole c.state.result _ _ added c.state.ensures.own three
+    c.state.ensures.rule) c.arg-4.ensures

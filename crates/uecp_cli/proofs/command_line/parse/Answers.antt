@@ -2,8 +2,8 @@ use Rattle.std.proofs.Common.{rules, option_map, map, codes, subst, sym, inl, in
 use Rattle.std.specs.String.{string_bytes}
 use Rattle.std.proofs.lemmas.Result.{IfOk-weaker, IfErr-weaker}
 use Rattle.clap.specs.Words.{found_of, rows_of}
-use Rattle.uecp_cli.specs.CommandLine.{IsJobOf, RefusesWords}
-use Rattle.uecp_cli.proofs.Asked.{asks, no_other, faultless_of, faulty_of, gives_no_list, is_in_range, met_of}
+use Rattle.uecp_cli.specs.CommandLine.{IsTaskOf, RefusesWords}
+use Rattle.uecp_cli.proofs.Asked.{asks, no_other, faultless_of, faulty_of, gives_no_list, are_in_range, met_of}
 use Rattle.uecp_cli.proofs.Asked.{none_named, refuses_words}
 use Rattle.uecp_cli.proofs.command_line.parse.Goals as goal
 
@@ -17,11 +17,11 @@ returns-in_err-matches-clause-refused c =
 
 pub returns-in-Some-answer-default-clause-range : goal.returns-in-Some-answer-default-clause-range
 returns-in-Some-answer-default-clause-range c =
-    IfOk-weaker c.answer_of.result _ _ (λ job is. is_in_range _ _ job is) c.answer_of.ensures.job
+    IfOk-weaker c.answer_of.result _ _ (λ job is. are_in_range _ _ job is) c.answer_of.ensures.job
 
 pub returns-in-Some-line-default-clause-range : goal.returns-in-Some-line-default-clause-range
 returns-in-Some-line-default-clause-range c =
-    IfOk-weaker c.line_of.result _ _ (λ job is. is_in_range _ _ job is) c.line_of.ensures.job
+    IfOk-weaker c.line_of.result _ _ (λ job is. are_in_range _ _ job is) c.line_of.ensures.job
 
 pub returns-in-Some-answer-default-clause-asked : goal.returns-in-Some-answer-default-clause-asked
 returns-in-Some-answer-default-clause-asked c =
@@ -32,7 +32,7 @@ returns-in-Some-answer-default-clause-asked c =
     let none = faultless_of _ words c.in_ok-program.ensures c.in_ok-matches.ensures.kinds in
     IfOk-weaker c.answer_of.result _ _
     (λ job is. asks words c.in_ok-matches.matches now.field-0-0.now rows job now.ensures.name now.ensures.rows met none
-    (subst (λ name. IsJobOf name rows job) (sym now.is-answer) is))
+    (subst (λ name. IsTaskOf name rows job) (sym now.is-answer) is))
     c.answer_of.ensures.job
 
 pub returns-in-Some-answer-default-clause-refused : goal.returns-in-Some-answer-default-clause-refused
@@ -55,7 +55,7 @@ returns-in-Some-line-default-clause-asked c =
     let none = faultless_of _ words c.in_ok-program.ensures c.in_ok-matches.ensures.kinds in
     IfOk-weaker c.line_of.result _ _
     (λ job is. asks words c.in_ok-matches.matches now.field-0-0.now rows job now.ensures.name now.ensures.rows met none
-    (subst (λ name. IsJobOf name rows job) (sym now.is-line) is))
+    (subst (λ name. IsTaskOf name rows job) (sym now.is-line) is))
     c.line_of.ensures.job
 
 pub returns-in-Some-line-default-clause-refused : goal.returns-in-Some-line-default-clause-refused
@@ -71,7 +71,7 @@ returns-in-Some-line-default-clause-refused c =
 
 pub returns-in-Some-encoder-default-clause-range : goal.returns-in-Some-encoder-default-clause-range
 returns-in-Some-encoder-default-clause-range c =
-    IfOk-weaker c.encoder_of.result _ _ (λ job is. is_in_range _ _ job is) c.encoder_of.ensures.job
+    IfOk-weaker c.encoder_of.result _ _ (λ job is. are_in_range _ _ job is) c.encoder_of.ensures.job
 
 pub returns-in-Some-encoder-default-clause-asked : goal.returns-in-Some-encoder-default-clause-asked
 returns-in-Some-encoder-default-clause-asked c =
@@ -82,7 +82,7 @@ returns-in-Some-encoder-default-clause-asked c =
     let none = faultless_of _ words c.in_ok-program.ensures c.in_ok-matches.ensures.kinds in
     IfOk-weaker c.encoder_of.result _ _
     (λ job is. asks words c.in_ok-matches.matches now.field-0-0.now rows job now.ensures.name now.ensures.rows met none
-    (subst (λ name. IsJobOf name rows job) (sym now.is-encoder) is))
+    (subst (λ name. IsTaskOf name rows job) (sym now.is-encoder) is))
     c.encoder_of.ensures.job
 
 pub returns-in-Some-encoder-default-clause-refused : goal.returns-in-Some-encoder-default-clause-refused
@@ -98,7 +98,7 @@ returns-in-Some-encoder-default-clause-refused c =
 
 pub returns-in-Some-server-default-clause-range : goal.returns-in-Some-server-default-clause-range
 returns-in-Some-server-default-clause-range c =
-    IfOk-weaker c.server_of.result _ _ (λ job is. is_in_range _ _ job is) c.server_of.ensures.job
+    IfOk-weaker c.server_of.result _ _ (λ job is. are_in_range _ _ job is) c.server_of.ensures.job
 
 pub returns-in-Some-server-default-clause-asked : goal.returns-in-Some-server-default-clause-asked
 returns-in-Some-server-default-clause-asked c =
@@ -109,7 +109,7 @@ returns-in-Some-server-default-clause-asked c =
     let none = faultless_of _ words c.in_ok-program.ensures c.in_ok-matches.ensures.kinds in
     IfOk-weaker c.server_of.result _ _
     (λ job is. asks words c.in_ok-matches.matches now.field-0-0.now rows job now.ensures.name now.ensures.rows met none
-    (subst (λ name. IsJobOf name rows job) (sym now.is-server) is))
+    (subst (λ name. IsTaskOf name rows job) (sym now.is-server) is))
     c.server_of.ensures.job
 
 pub returns-in-Some-server-default-clause-refused : goal.returns-in-Some-server-default-clause-refused
@@ -118,7 +118,7 @@ returns-in-Some-server-default-clause-refused c =
     c.server_of.ensures.refused
 
 pub returns-in-Some-make-default-clause-range : goal.returns-in-Some-make-default-clause-range
-returns-in-Some-make-default-clause-range c = is_in_range _ _ c.make_of.result c.make_of.ensures
+returns-in-Some-make-default-clause-range c = are_in_range _ _ c.make_of.result c.make_of.ensures
 
 pub returns-in-Some-make-default-clause-asked : goal.returns-in-Some-make-default-clause-asked
 returns-in-Some-make-default-clause-asked c =
@@ -129,10 +129,10 @@ returns-in-Some-make-default-clause-asked c =
     let none = faultless_of _ words c.in_ok-program.ensures c.in_ok-matches.ensures.kinds in
     asks words c.in_ok-matches.matches now.field-0-0.now rows c.make_of.result now.ensures.name now.ensures.rows met
     none
-    (subst (λ name. IsJobOf name rows c.make_of.result) (sym now.is-make) c.make_of.ensures)
+    (subst (λ name. IsTaskOf name rows c.make_of.result) (sym now.is-make) c.make_of.ensures)
 
 pub returns-in-Some-show-default-clause-range : goal.returns-in-Some-show-default-clause-range
-returns-in-Some-show-default-clause-range c = is_in_range _ _ c.show_of.result c.show_of.ensures
+returns-in-Some-show-default-clause-range c = are_in_range _ _ c.show_of.result c.show_of.ensures
 
 pub returns-in-Some-show-default-clause-asked : goal.returns-in-Some-show-default-clause-asked
 returns-in-Some-show-default-clause-asked c =
@@ -143,10 +143,10 @@ returns-in-Some-show-default-clause-asked c =
     let none = faultless_of _ words c.in_ok-program.ensures c.in_ok-matches.ensures.kinds in
     asks words c.in_ok-matches.matches now.field-0-0.now rows c.show_of.result now.ensures.name now.ensures.rows met
     none
-    (subst (λ name. IsJobOf name rows c.show_of.result) (sym now.is-show) c.show_of.ensures)
+    (subst (λ name. IsTaskOf name rows c.show_of.result) (sym now.is-show) c.show_of.ensures)
 
 pub returns-in-Some-watch-default-clause-range : goal.returns-in-Some-watch-default-clause-range
-returns-in-Some-watch-default-clause-range c = is_in_range _ _ c.watch_of.result c.watch_of.ensures
+returns-in-Some-watch-default-clause-range c = are_in_range _ _ c.watch_of.result c.watch_of.ensures
 
 pub returns-in-Some-watch-default-clause-asked : goal.returns-in-Some-watch-default-clause-asked
 returns-in-Some-watch-default-clause-asked c =
@@ -157,7 +157,28 @@ returns-in-Some-watch-default-clause-asked c =
     let none = faultless_of _ words c.in_ok-program.ensures c.in_ok-matches.ensures.kinds in
     asks words c.in_ok-matches.matches now.field-0-0.now rows c.watch_of.result now.ensures.name now.ensures.rows met
     none
-    (subst (λ name. IsJobOf name rows c.watch_of.result) (sym now.is-watch) c.watch_of.ensures)
+    (subst (λ name. IsTaskOf name rows c.watch_of.result) (sym now.is-watch) c.watch_of.ensures)
+
+pub returns-in-Some-state-default-clause-range : goal.returns-in-Some-state-default-clause-range
+returns-in-Some-state-default-clause-range c =
+    IfOk-weaker c.state_of.result _ _ (λ job is. are_in_range _ _ job is) c.state_of.ensures.job
+
+pub returns-in-Some-state-default-clause-asked : goal.returns-in-Some-state-default-clause-asked
+returns-in-Some-state-default-clause-asked c =
+    let words = map string_bytes c.args.words.now in
+    let now = c.in-Some-state-default in
+    let rows = rows_of (found_of now.found.now) in
+    let met = met_of _ words c.in_ok-matches.matches c.in_ok-program.ensures c.in_ok-matches.ensures.matches in
+    let none = faultless_of _ words c.in_ok-program.ensures c.in_ok-matches.ensures.kinds in
+    IfOk-weaker c.state_of.result _ _
+    (λ job is. asks words c.in_ok-matches.matches now.field-0-0.now rows job now.ensures.name now.ensures.rows met none
+    (subst (λ name. IsTaskOf name rows job) (sym now.is-state) is))
+    c.state_of.ensures.job
+
+pub returns-in-Some-state-default-clause-refused : goal.returns-in-Some-state-default-clause-refused
+returns-in-Some-state-default-clause-refused c =
+    IfErr-weaker c.state_of.result _ _ (λ why is. subst (RefusesWords (map string_bytes c.args.words.now)) (sym is) tt)
+    c.state_of.ensures.refused
 
 pub unreachable-requires : goal.unreachable-requires
 unreachable-requires c =
@@ -169,7 +190,7 @@ unreachable-requires c =
       | goal.in_default-via-in-Some+in_default w ↦
           no_other words c.in_ok-matches.matches name c.subcommand.ensures.name met none
           (λ e. search rules) (λ e. search rules) (λ e. search rules) (λ e. search rules) (λ e. search rules)
-          (λ e. search rules) (λ e. search rules)
+          (λ e. search rules) (λ e. search rules) (λ e. search rules)
       | goal.in_default-via-in_default w ↦
           no_other words c.in_ok-matches.matches name c.subcommand.ensures.name met none
           (none_named _ c.subcommand.result (codes "answer") w.in_default.is)
@@ -179,4 +200,5 @@ unreachable-requires c =
           (none_named _ c.subcommand.result (codes "encoder") w.in_default.is)
           (none_named _ c.subcommand.result (codes "server") w.in_default.is)
           (none_named _ c.subcommand.result (codes "watch") w.in_default.is)
+          (none_named _ c.subcommand.result (codes "state") w.in_default.is)
     ]

@@ -22,5 +22,6 @@ returns c =
     c.number-5.ensures.rule in
     let seven = arg_added _ _ c.number-6.result _ _ c.in_ok-arg-7.ensures c.number-6.ensures.own six
     c.number-6.ensures.rule in
-    IfOk-weaker c.arg-8.result _ _ (λ whole added. arg_added _ whole c.flag.result _ _ added c.flag.ensures.own seven
-    c.flag.ensures.rule) c.arg-8.ensures
+    let eight = arg_added _ _ c.flag.result _ _ c.in_ok-arg-8.ensures c.flag.ensures.own seven c.flag.ensures.rule in
+    IfOk-weaker c.arg-9.result _ _ (λ whole added. arg_added _ whole c.state.result _ _ added c.state.ensures.own eight
+    c.state.ensures.rule) c.arg-9.ensures

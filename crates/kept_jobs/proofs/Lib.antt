@@ -1,0 +1,9 @@
+pub mod Serving
+pub mod Outliving
+pub mod Lines
+pub mod Sending
+pub mod Starting
+pub mod Calls
+pub mod Begun
+pub mod Surviving
+pub mod Ending

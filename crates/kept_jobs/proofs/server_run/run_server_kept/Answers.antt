@@ -1,0 +1,54 @@
+use Rattle.std.proofs.Common.{◌≡◌, Ok, Err, refl, inl}
+use Rattle.uecp_link.specs.Server.{ServerState}
+use Rattle.kept_jobs.specs.ServerRun.{Standing}
+use Rattle.kept_jobs.proofs.Surviving.{run_survives}
+use Rattle.kept_jobs.proofs.Ending.{run_done, run_stopped, said_so}
+use Rattle.kept_jobs.proofs.server_run.run_server_kept.Goals as goal
+
+pub returns-in-Ok : goal.returns-in-Ok
+returns-in-Ok g c =
+    let k = g.K.KeepServer in
+    let ran = c.in-Ok.ensures.runs in
+    let all = run_done g.C.Connect.opens g.C.Connect.closes g.C.Input.Read.remaining g.C.Output.Write.contents k.leaves
+    k.is_clean k.saves k.fails _ _ _ _ _ _ _ _ _ _ ran in
+    let left = run_survives g.C.Connect.opens g.C.Connect.closes g.C.Input.Read.remaining g.C.Output.Write.contents
+    k.leaves k.is_clean k.saves k.fails _ _ _ _ _ _ _ _ _ _ _ ran in
+    record {
+      runs = (Ok tt, ran, (refl, refl));
+      status = inl refl;
+      done = λ is. (all.0, refl);
+      refused = λ is. absurd (let no : 0 ≡ 1 = is in cc);
+      failed = λ is. absurd (let no : 0 ≡ 3 = is in cc);
+      kept = λ some. all.1;
+      outlives = left.outlives;
+      clean = left.clean;
+    }
+
+pub returns-in-Err : goal.returns-in-Err
+returns-in-Err g c =
+    let k = g.K.KeepServer in
+    let stop = c.in-Err.stop in
+    let ran = c.in-Err.ensures.runs in
+    let told = c.fail_run.ensures in
+    let start : Standing ServerState g.row.K.Denot = record {
+      runs = c.args.server;
+      keeper = c.args.keeper.now;
+      progress = c.args.progress;
+      held = g.W.Write.contents c.args.writer.now;
+    } in
+    let why = run_stopped g.C.Connect.opens g.C.Connect.closes g.C.Input.Read.remaining g.C.Output.Write.contents
+    k.leaves k.is_clean k.saves k.fails _ _ _ _ _ _ _ _ _ _ stop ran in
+    let said = said_so g.C.Connect.opens g.C.Connect.closes g.C.Input.Read.remaining g.C.Output.Write.contents k.leaves
+    k.is_clean k.saves k.fails _ _ start _ stop _ _ _ why told.status told.said in
+    let left = run_survives g.C.Connect.opens g.C.Connect.closes g.C.Input.Read.remaining g.C.Output.Write.contents
+    k.leaves k.is_clean k.saves k.fails _ _ _ _ _ _ _ _ _ _ _ ran in
+    record {
+      runs = (Err stop, ran, (told.status, told.said));
+      status = said.status;
+      done = λ is. absurd (said.not_done is);
+      refused = said.refused;
+      failed = said.failed;
+      kept = said.kept;
+      outlives = left.outlives;
+      clean = left.clean;
+    }

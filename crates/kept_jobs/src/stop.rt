@@ -1,0 +1,56 @@
+//! Why a run stops whose state is kept, and what is said of that. Source: profile.
+ghost use Rattle.std.specs.Prelude.{◌≡◌, Err};
+ghost use Rattle.uecp_text.specs.Written.{Begins};
+ghost use Rattle.kept_jobs.specs.Stops.{stop_status, stop_lines, state_line};
+ghost use Rattle.kept_jobs.specs.declared.stop.KeptStop.TheVariants.{Run};
+
+use std::io::Write;
+use uecp_jobs::fail;
+use uecp_text::{RunFault, write_parts};
+
+/// Why a run stopped whose state is kept.
+#[derive(Debug, Drop)]
+pub enum KeptStop {
+    /// For what stops a run without a state.
+    Run(RunFault),
+    /// A batch is outstanding, its tries are spent, and since the run began nothing was heard of its encoder: neither a
+    /// reply nor any other frame nor noise.
+    Unanswered,
+    /// The state could not be saved.
+    StateFailed,
+}
+
+impl From<RunFault> for KeptStop {
+    ghost from_gives = { λ fault stop. stop ≡ Run fault };
+
+    fn from(fault: RunFault) -> KeptStop {
+        KeptStop::Run(fault)
+    }
+}
+
+/// Says on the writer of errors why a run stopped, and answers its status. A text that can't be written changes
+/// nothing.
+pub(crate) fn fail_run<E: Write>(stop: &KeptStop, errors: &mut E) -> u8
+    ensures status { result ≡ stop_status stop.now }
+    ensures said { Begins (E.contents errors.old) (E.contents errors.new) (stop_lines stop.now) }
+{
+    match stop {
+        KeptStop::Run(fault) => fail(fault, errors),
+        KeptStop::Unanswered => {
+            let text =
+                "the encoder answers nothing: if it is new or lost its state, begin anew with --join";
+            fail_state(text, errors)
+        }
+        KeptStop::StateFailed => fail_state("state failed", errors),
+    }
+}
+
+/// Says on the writer of errors why a state can't be kept, as `state in use`, and answers the status of that, 3. A text
+/// that can't be written changes nothing.
+pub fn fail_state<E: Write>(text: &str, errors: &mut E) -> u8
+    ensures status { result ≡ 3 }
+    ensures said { Begins (E.contents errors.old) (E.contents errors.new) (state_line text.now) }
+{
+    let _ = write_parts(&[b"uecp: ", text.as_bytes(), b"\n"], errors);
+    3
+}

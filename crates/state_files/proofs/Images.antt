@@ -1,0 +1,127 @@
+-- What is kept follows from the image that the rows hold.
+use Rattle.std.proofs.Common.{◌≡◌, ◌⊎◌, inl, inr, ℕ, ◌<◌, ◌^◌, List, [], ◌∷◌, ◌++◌, drop, Some, refl, sym, ap, subst}
+use Rattle.std.proofs.Common.{◌∙◌}
+use Rattle.sqlite.specs.Order.{column}
+use Rattle.sqlite.specs.declared.types.Value.TheVariants.{Blob}
+use Rattle.sqlite.specs.Tree.{Trees}
+use Rattle.sqlite.specs.Store.{Ghosts}
+use Rattle.rds_store.specs.Value.{Store}
+use Rattle.uecp_frame.specs.Frame.{high_first}
+use Rattle.uecp_encoder.specs.State.{EncoderState}
+use Rattle.uecp_link.specs.Server.{ServerState}
+use Rattle.uecp_link.specs.Resuming.{IsServer}
+use Rattle.kept_serving.specs.Keeping as serving
+use Rattle.kept_sending.specs.declared.keep.Progress.{Progress}
+use Rattle.kept_sending.specs.Keeping as sending
+use Rattle.kept_state.specs.Kept.{Holds}
+use Rattle.kept_state.specs.Keeper.{Keeper, MayLeave, Keeps}
+use Rattle.kept_images.specs.declared.server_reading.KeptServer.{KeptServer}
+use Rattle.kept_images.specs.Images.{sealed, encoder_image, server_content, server_image}
+use Rattle.kept_images.specs.Laws.{SaysServer}
+use Rattle.kept_images.specs.Reading.{IsKeptServer}
+use Rattle.state_files.specs.Encoders.{IsPlaced, TellsWhatIsKept, LeavesEncoder}
+use Rattle.state_files.specs.Servers.{LeavesServer, image_of}
+use Rattle.state_files.proofs.Sealed.{sealed_same}
+
+-- rows hold at most one image
+one_image : (version : ℕ) (p q : List ℕ) (rows : Trees) → Holds version (Some p) rows → Holds version (Some q) rows
+    → p ≡ q
+one_image version p q rows (a, is, inl none) (b, same, other) = absurd (let e = none.1 in cc)
+one_image version p q rows (a, is, inr x) (b, same, inl none) = absurd (let e = none.1 in cc)
+one_image version p q rows (a, is, inr x) (b, same, inr y) =
+    let one : x.row ∷ [] ≡ y.row ∷ [] = sym x.only ∙ ap (λ (t : Trees). t 0) (sym is ∙ same) ∙ y.only in
+    let row : x.row ≡ y.row = cc in
+    let blob : Blob p ≡ Blob q = sym x.image_is ∙ ap (λ r. column r 3) row ∙ y.image_is in
+    cc
+
+-- ---- Servers.
+
+-- the address is no part of what is kept
+abbrev at : Progress → ServerState → KeptServer
+at progress s = record { joined = progress.joined; taken = progress.taken; server = record s { address = 65 } }
+
+module _ (law : SaysServer) where
+  told : (p q : Progress) (s t : ServerState) → IsServer s → IsServer t → p.taken < 2 ^ 64 → q.taken < 2 ^ 64
+      → image_of p s ≡ image_of q t → sending.kept_of p s ≡ sending.kept_of q t
+  told p q s t is_s is_t fits_p fits_q same =
+      let first : IsKeptServer (at p s) = record {
+        exact = refl;
+        taken = fits_p;
+        server = record { last = is_s.last; can = is_s.can; in_turn = is_s.in_turn };
+      } in
+      let second : IsKeptServer (at q t) = record {
+        exact = refl;
+        taken = fits_q;
+        server = record { last = is_t.last; can = is_t.can; in_turn = is_t.in_turn };
+      } in
+      let moved : server_image p.joined p.taken (record s { address = 65 })
+      ≡ server_image q.joined q.taken (record t { address = 65 }) =
+      ap (λ b. sealed (0x01 ∷ 0x53 ∷ (high_first 65 ++ drop 4 b)))
+      (sealed_same (0x01 ∷ 0x53 ∷ server_content p.joined p.taken s) (0x01 ∷ 0x53 ∷ server_content q.joined q.taken t)
+      same)
+      in
+      ap (λ (k : KeptServer). record {
+        last = k.server.last;
+        held = k.server.held;
+        taken = k.taken;
+        joined = k.joined;
+      }) (law (at p s) (at q t) first second moved)
+
+  module _ {S : Type 0} (g : Ghosts S) (k : Keeper S) (p : Progress) (s : ServerState) (is : IsServer s)
+      (fits : p.taken < 2 ^ 64) where
+    pub server_saved : Keeps g k (Some (image_of p s)) → (left : sending.KeptServer) → LeavesServer g k left
+        → left ≡ sending.kept_of p s
+    server_saved keeps left l =
+        l.is_kept ∙ told l.progress p l.server s l.is_server is l.taken fits
+        (one_image k.version (image_of l.progress l.server) (image_of p s) l.rows l.holds (keeps.every l.rows l.may))
+
+    pub server_either : (old : Keeper S) → k.version ≡ old.version
+        → ((rows : Trees) → MayLeave g k rows → MayLeave g old rows ⊎ Holds old.version (Some (image_of p s)) rows)
+        → (left : sending.KeptServer) → LeavesServer g k left
+        → LeavesServer g old left ⊎ (left ≡ sending.kept_of p s)
+    server_either old same either left l =
+        let holds : Holds old.version (Some (image_of l.progress l.server)) l.rows =
+        subst (λ v. Holds v (Some (image_of l.progress l.server)) l.rows) same l.holds in
+        elim (either l.rows l.may) [
+          | inl before ↦ inl (record {
+            rows = l.rows;
+            may = before;
+            server = l.server;
+            progress = l.progress;
+            is_server = l.is_server;
+            taken = l.taken;
+            holds = holds;
+            is_kept = l.is_kept;
+          })
+          | inr made ↦ inr (l.is_kept ∙ told l.progress p l.server s l.is_server is l.taken fits
+              (one_image old.version (image_of l.progress l.server) (image_of p s) l.rows holds made))
+        ]
+
+-- ---- Encoders.
+
+module _ (law : TellsWhatIsKept) {S : Type 0} (g : Ghosts S) (k : Keeper S) (e : EncoderState Store)
+    (placed : IsPlaced e.value) where
+  pub encoder_saved : Keeps g k (Some (encoder_image e)) → (left : serving.Kept Store) → LeavesEncoder g k left
+      → left ≡ serving.kept_of e
+  encoder_saved keeps left l =
+      l.is_kept ∙ law l.encoder e l.placed placed
+      (one_image k.version (encoder_image l.encoder) (encoder_image e) l.rows l.holds (keeps.every l.rows l.may))
+
+  pub encoder_either : (old : Keeper S) → k.version ≡ old.version
+      → ((rows : Trees) → MayLeave g k rows → MayLeave g old rows ⊎ Holds old.version (Some (encoder_image e)) rows)
+      → (left : serving.Kept Store) → LeavesEncoder g k left → LeavesEncoder g old left ⊎ (left ≡ serving.kept_of e)
+  encoder_either old same either left l =
+      let holds : Holds old.version (Some (encoder_image l.encoder)) l.rows =
+      subst (λ v. Holds v (Some (encoder_image l.encoder)) l.rows) same l.holds in
+      elim (either l.rows l.may) [
+        | inl before ↦ inl (record {
+          rows = l.rows;
+          may = before;
+          encoder = l.encoder;
+          placed = l.placed;
+          holds = holds;
+          is_kept = l.is_kept;
+        })
+        | inr made ↦ inr (l.is_kept ∙ law l.encoder e l.placed placed
+            (one_image old.version (encoder_image l.encoder) (encoder_image e) l.rows holds made))
+      ]

@@ -1,0 +1,6 @@
+pub mod Images
+pub mod Lists
+pub mod Sealed
+pub mod Spelled
+pub mod OneStore
+pub mod OneEncoder

@@ -1,0 +1,106 @@
+//! An encoder's state in a file. Source: profile.
+ghost use Rattle.std.specs.Prelude.{◌≡◌, ◌⊎◌, Some, Err, OnOk, OnErr};
+ghost use Rattle.sqlite.specs.Tree.{Trees};
+ghost use Rattle.kept_state.specs.Kept.{Holds};
+ghost use Rattle.kept_state.specs.Keeper.{IsClean, MayLeave, Keeps, HasEnded};
+ghost use Rattle.kept_serving.specs.Keeping.{Settled};
+ghost use Rattle.kept_images.specs.Images.{encoder_image};
+ghost use Rattle.state_files.specs.Encoders.{IsPlaced, LeavesEncoder, SavesEncoder, FailsTo};
+
+use crate::laws::tells_what_is_kept;
+use kept_images::put_encoder;
+use kept_serving::{KeepEncoder, SaveFailed};
+use kept_state::{KeepFault, Kept};
+use rds_store::RdsStore;
+use sqlite::Alter;
+use std::marker::Model;
+use uecp_encoder::Encoder;
+
+/// Keeps an encoder's state in a file. Clauses see what its `Kept` shows.
+#[derive(Drop)]
+pub struct EncoderFile<S: Alter> {
+    /// The file.
+    pub(crate) kept: Kept<S>,
+    /// Room for the image.
+    pub(crate) image: Vec<u8>,
+}
+
+impl<S: Alter> Model for EncoderFile<S> {
+    ghost use Rattle.kept_state.specs.Keeper.{Keeper, keeper_code};
+
+    ghost Value = { Keeper S };
+
+    ghost coded = { keeper_code S.code };
+
+    ghost view = { λ f. f.kept };
+}
+
+impl<S: Alter> EncoderFile<S> {
+    /// Saves the encoder's image in place of the one that was kept. From `Ok` on, whatever a crash leaves holds it. At
+    /// any outcome a crash leaves what it could leave before, or the new image. Where there was no memory for the image
+    /// nothing has happened; after any other fault each later save answers `Failed` or `OutOfMemory`.
+    pub fn put(&mut self, encoder: &Encoder<RdsStore>) -> Result<(), KeepFault>
+        ensures saved { IsClean S.Store self.new → OnOk result
+            (Keeps S.Store self.new (Some (encoder_image encoder.now))) }
+        ensures either { IsClean S.Store self.new → (rows : Trees) → MayLeave S.Store self.new rows
+            → MayLeave S.Store self.old rows ⊎ Holds self.old.version (Some (encoder_image encoder.now)) rows }
+        ensures clean { IsClean S.Store self.new → IsClean S.Store self.old }
+        ensures version { self.new.version ≡ self.old.version }
+        ensures failed { OnErr result (HasEnded S.Store self.new ⊎ (self.new ≡ self.old)) }
+        ensures ended { HasEnded S.Store self.old → (result ≡ Err KeepFault.Failed)
+            ⊎ (result ≡ Err KeepFault.OutOfMemory) }
+    {
+        self.image.clear();
+        match put_encoder(encoder, &mut self.image) {
+            Ok(()) => self.kept.save(self.image.as_slice()),
+            Err(_) => Err(KeepFault::OutOfMemory),
+        }
+    }
+
+    /// What keeps the image, as it is.
+    pub fn into_kept(self) -> Kept<S>
+        ensures { result ≡ self }
+    {
+        let EncoderFile { kept, image: _ } = self;
+        kept
+    }
+}
+
+impl<S: Alter> KeepEncoder<RdsStore> for EncoderFile<S> {
+    ghost use Rattle.kept_state.specs.Keeper.{IsClean};
+    ghost use Rattle.state_files.specs.Encoders.{LeavesEncoder, SavesEncoder, FailsTo};
+
+    ghost leaves = { LeavesEncoder S.Store };
+
+    ghost is_clean = { IsClean S.Store };
+
+    ghost saves = { SavesEncoder S.Store };
+
+    ghost fails = { FailsTo S.Store };
+
+    fn save(&mut self, encoder: &Encoder<RdsStore>) -> Result<(), SaveFailed> {
+        tells_what_is_kept();
+        let _count = is_placed(encoder.target());
+        match self.put(encoder) {
+            Ok(()) => Ok(()),
+            Err(_) => Err(SaveFailed),
+        }
+    }
+}
+
+/// Whatever a crash leaves of a file that keeps an encoder is what is to be kept of it.
+pub(crate) fn settled<S: Alter>(encoder: &Encoder<RdsStore>, file: &EncoderFile<S>)
+    ensures { Keeps S.Store file.now (Some (encoder_image encoder.now))
+        → Settled (LeavesEncoder S.Store file.now) encoder.now }
+{
+    let _ = file;
+    tells_what_is_kept();
+    let _count = is_placed(encoder.target());
+}
+
+/// How many services a store has; that each store has something in each of its places, and nothing elsewhere.
+fn is_placed(store: &RdsStore) -> usize
+    ensures { IsPlaced store.now }
+{
+    store.service_count()
+}

@@ -1,0 +1,69 @@
+//! Why a state file is refused. Source: profile.
+ghost use Rattle.std.specs.Prelude.{◌≡◌};
+ghost use Rattle.state_files.specs.Faults.{keep_fault, image_fault};
+
+use kept_images::ImageFault;
+use kept_state::KeepFault;
+use rds_store::StoreFault;
+
+/// Why there is no end with this state file, or why a state was not saved. No refusal overwrites what the file has.
+#[derive(Clone, Copy, Debug, PartialEq, Eq)]
+pub enum StateFault {
+    /// Another process has the file open.
+    InUse,
+    /// The file is another database, or no database.
+    NotOurs,
+    /// It was written by a newer program: the version of its format.
+    Newer(u32),
+    /// It was written by an older program: the version of its format.
+    Older(u32),
+    /// It has the image of the other end.
+    OtherEnd,
+    /// It has the image of no end: it was damaged.
+    Damaged,
+    /// The end in it has another address.
+    OtherAddress,
+    /// The encoder in it has another number of data sets.
+    OtherSets,
+    /// The encoder in it has other services, or has them in another order.
+    OtherServices,
+    /// No store has these data sets and services.
+    Store(StoreFault),
+    /// The path can't be opened.
+    Unreachable,
+    /// The disk is full.
+    Full,
+    /// There was no memory.
+    OutOfMemory,
+    /// Any other failure of the disk, and each save after one that failed.
+    Failed,
+}
+
+/// The fault that one of the file is told as.
+pub(crate) fn keep_fault(fault: KeepFault) -> StateFault
+    ensures { result ≡ keep_fault fault }
+{
+    match fault {
+        KeepFault::InUse => StateFault::InUse,
+        KeepFault::NotOurs => StateFault::NotOurs,
+        KeepFault::Newer(version) => StateFault::Newer(version),
+        KeepFault::Older(version) => StateFault::Older(version),
+        KeepFault::Damaged => StateFault::Damaged,
+        KeepFault::Unreachable => StateFault::Unreachable,
+        KeepFault::Full => StateFault::Full,
+        KeepFault::OutOfMemory => StateFault::OutOfMemory,
+        KeepFault::Failed => StateFault::Failed,
+    }
+}
+
+/// The fault that one of the image is told as.
+pub(crate) fn image_fault(fault: ImageFault) -> StateFault
+    ensures { result ≡ image_fault fault }
+{
+    match fault {
+        ImageFault::Newer(version) => StateFault::Newer(u32::from(version)),
+        ImageFault::OtherEnd => StateFault::OtherEnd,
+        ImageFault::Damaged => StateFault::Damaged,
+        ImageFault::OutOfMemory => StateFault::OutOfMemory,
+    }
+}

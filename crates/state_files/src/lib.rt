@@ -1,0 +1,24 @@
+//! The state of each end of the line in a file: what `uecp encoder --state FILE` and `uecp server --state FILE` keep
+//! (profile). A file keeps one image, and each save puts another in its place.
+//!
+//! - [`EncoderFile`], [`ServerFile`]: keepers, for `kept_serving` and `kept_sending`.
+//! - [`open_encoder`], [`open_server`]: an end that goes on from its file, or a new one in a new file.
+//! - [`read_state`]: what a file has, for looking at it.
+//! - [`StateFault`]: why there is no such end; nothing is overwritten by a refusal.
+#![tactic(auto)]
+
+mod closing;
+mod encoder_file;
+mod encoder_opening;
+mod fault;
+pub mod laws;
+mod reading;
+mod server_file;
+mod server_opening;
+
+pub use encoder_file::EncoderFile;
+pub use encoder_opening::{encoder_over, open_encoder, open_encoder_from};
+pub use fault::StateFault;
+pub use reading::{Found, read_state};
+pub use server_file::ServerFile;
+pub use server_opening::{open_server, open_server_from, server_over};

@@ -1,0 +1,107 @@
+//! A server's state in a file. Source: profile.
+ghost use Rattle.std.specs.Prelude.{◌≡◌, ◌⊎◌, Some, Err, OnOk, OnErr};
+ghost use Rattle.sqlite.specs.Tree.{Trees};
+ghost use Rattle.uecp_link.specs.Resuming.{IsServer};
+ghost use Rattle.kept_state.specs.Kept.{Holds};
+ghost use Rattle.kept_state.specs.Keeper.{IsClean, MayLeave, Keeps, HasEnded};
+ghost use Rattle.kept_sending.specs.Keeping.{IsKept};
+ghost use Rattle.state_files.specs.Encoders.{FailsTo};
+ghost use Rattle.state_files.specs.Servers.{LeavesServer, image_of};
+
+use kept_images::laws::server_again;
+use kept_images::put_server;
+use kept_sending::{KeepServer, Progress, SaveFailed};
+use kept_state::{KeepFault, Kept};
+use sqlite::Alter;
+use std::marker::Model;
+use uecp_link::Server;
+
+/// Keeps a server's state in a file. Clauses see what its `Kept` shows.
+#[derive(Drop)]
+pub struct ServerFile<S: Alter> {
+    /// The file.
+    pub(crate) kept: Kept<S>,
+    /// Room for the image.
+    pub(crate) image: Vec<u8>,
+}
+
+impl<S: Alter> Model for ServerFile<S> {
+    ghost use Rattle.kept_state.specs.Keeper.{Keeper, keeper_code};
+
+    ghost Value = { Keeper S };
+
+    ghost coded = { keeper_code S.code };
+
+    ghost view = { λ f. f.kept };
+}
+
+impl<S: Alter> ServerFile<S> {
+    /// Saves the server's image in place of the one that was kept. From `Ok` on, whatever a crash leaves holds it. At
+    /// any outcome a crash leaves what it could leave before, or the new image. Where there was no memory for the image
+    /// nothing has happened; after any other fault each later save answers `Failed` or `OutOfMemory`.
+    pub fn put(&mut self, server: &Server, progress: Progress) -> Result<(), KeepFault>
+        ensures saved { IsClean S.Store self.new → OnOk result
+            (Keeps S.Store self.new (Some (image_of progress server.now))) }
+        ensures either { IsClean S.Store self.new → (rows : Trees) → MayLeave S.Store self.new rows
+            → MayLeave S.Store self.old rows ⊎ Holds self.old.version (Some (image_of progress server.now)) rows }
+        ensures clean { IsClean S.Store self.new → IsClean S.Store self.old }
+        ensures version { self.new.version ≡ self.old.version }
+        ensures failed { OnErr result (HasEnded S.Store self.new ⊎ (self.new ≡ self.old)) }
+        ensures ended { HasEnded S.Store self.old → (result ≡ Err KeepFault.Failed)
+            ⊎ (result ≡ Err KeepFault.OutOfMemory) }
+    {
+        self.image.clear();
+        match put_server(progress.joined, progress.taken, server, &mut self.image) {
+            Ok(()) => self.kept.save(self.image.as_slice()),
+            Err(_) => Err(KeepFault::OutOfMemory),
+        }
+    }
+
+    /// What keeps the image, as it is.
+    pub fn into_kept(self) -> Kept<S>
+        ensures { result ≡ self }
+    {
+        let ServerFile { kept, image: _ } = self;
+        kept
+    }
+}
+
+impl<S: Alter> KeepServer for ServerFile<S> {
+    ghost use Rattle.kept_state.specs.Keeper.{IsClean};
+    ghost use Rattle.state_files.specs.Encoders.{FailsTo};
+    ghost use Rattle.state_files.specs.Servers.{LeavesServer, SavesServer};
+
+    ghost leaves = { LeavesServer S.Store };
+
+    ghost is_clean = { IsClean S.Store };
+
+    ghost saves = { SavesServer S.Store };
+
+    ghost fails = { FailsTo S.Store };
+
+    fn save(&mut self, server: &Server, progress: Progress) -> Result<(), SaveFailed> {
+        server_again();
+        let _last = is_server(server);
+        match self.put(server, progress) {
+            Ok(()) => Ok(()),
+            Err(_) => Err(SaveFailed),
+        }
+    }
+}
+
+/// Whatever a crash leaves of a file that keeps a server is what is to be kept of it.
+pub(crate) fn settled<S: Alter>(server: &Server, progress: Progress, file: &ServerFile<S>)
+    ensures { Keeps S.Store file.now (Some (image_of progress server.now))
+        → IsKept (LeavesServer S.Store file.now) progress server.now }
+{
+    let _ = file;
+    server_again();
+    let _last = is_server(server);
+}
+
+/// The last counter; that each server is one.
+fn is_server(server: &Server) -> u8
+    ensures { IsServer server.now }
+{
+    server.last()
+}

@@ -1,0 +1,108 @@
+-- What comes of a job with its state in a file.
+use Rattle.std.proofs.Common.{◌≡◌, ◌⊎◌, ℕ, zero, suc, ◌+◌, List, [], ◌∷◌, ◌++◌, length, refl, sym, ap, subst, inl, inr}
+use Rattle.std.specs.Prelude.{Option, None, Ok, Err}
+use Rattle.std.specs.Io.KnownBytes.{Appends}
+use Rattle.rds_store.specs.Value.{Store}
+use Rattle.rds_store.specs.Step.{step}
+use Rattle.uecp_encoder.specs.State.{EncoderState}
+use Rattle.uecp_text.specs.declared.run_fault.RunFault.TheVariants as run
+use Rattle.uecp_text.proofs.Begun.{appends_nothing, appends_then}
+use Rattle.uecp_jobs.specs.declared.job.Job.{Job}
+use Rattle.uecp_jobs.specs.declared.job.Job.TheVariants.{Answer, AnswerAs, Show, ShowAs, Make, MakeWords}
+use Rattle.uecp_jobs.specs.declared.job.Job.TheVariants.{Line, LineAs, Encoder, Server, Watch}
+use Rattle.kept_serving.specs.Keeping.{Kept}
+use Rattle.kept_serving.specs.Serving.{Ended}
+use Rattle.kept_jobs.specs.declared.stop.KeptStop.{KeptStop}
+use Rattle.kept_jobs.specs.declared.stop.KeptStop.TheVariants.{Run}
+use Rattle.kept_jobs.specs.Stops.{Went, TellsKept}
+use Rattle.kept_jobs.specs.EncoderRun.{Standing, ServesFrom, ServesNext, ended_line, ended_so}
+use Rattle.state_jobs.specs.EncoderJob.{Serves, ServesJob, Stops, HasStopped}
+use Rattle.state_jobs.specs.Kept.{ended_lines, SaysWhy, ServedKept, HasServedKept}
+
+module _ {K C I O : Type 0} (gives : (path : List ℕ) → EncoderState Store → K → Type 0)
+    (leaves : K → Kept Store → Type 0) (is_clean : K → Type 0) (saves fails : K → Kept Store → K → Type 0)
+    (opens : C → Option (I × O) → C → Type 0) (closes : C → I → O → C → Type 0) (remaining : I → Option (List ℕ))
+    (contents : O → Option (List ℕ)) where
+  -- the lines of the connections that were served
+  abbrev Lines : (number connections : ℕ) (held held' : Option (List ℕ)) → Type 0
+  Lines number connections held held' =
+      (endings : List Ended) × (length endings ≡ connections) × Appends held held' (ended_lines number endings)
+
+  ended_told : (number : ℕ) (ended : Ended) (held held' : Option (List ℕ))
+      → TellsKept (ended_line number ended) (ended_so ended) held held' (Ok tt)
+      → Appends held held' (ended_line number ended)
+  ended_told number ended held held' (inl (appends, is)) = appends
+  ended_told number ended held held' (inr (begun, inl is)) = cc
+  ended_told number ended held held' (inr (begun, inr is)) = cc
+
+  next_told : (turns number : ℕ) (x x' : Standing Store K C)
+      → ServesNext step leaves is_clean saves fails opens closes remaining contents turns number x x' (Ok tt)
+      → (ended : Ended) × Appends x.held x'.held (ended_line number ended)
+  next_told turns number x x' (inl (none, same, is)) = cc
+  next_told turns number x x' (inr (ended, serves, keeps, tells)) =
+      (ended, ended_told number ended x.held x'.held tells)
+
+  told_from : (turns number connections : ℕ) (x x' : Standing Store K C)
+      → ServesFrom step leaves is_clean saves fails opens closes remaining contents turns number connections x x'
+      (Ok tt)
+      → Lines number connections x.held x'.held
+  told_from turns number zero x x' (same, is) =
+      ([], refl, subst (λ (y : Standing Store K C). Appends x.held y.held []) (sym same) (appends_nothing x.held))
+  told_from turns number (suc more) x x' (inl (y, first, rest)) =
+      let one = next_told turns number x y first in
+      let others = told_from turns (number + 1) more y x' rest in (
+        one.0 ∷ others.0,
+        ap suc others.1,
+        appends_then x.held y.held x'.held (ended_line number one.0) (ended_lines (number + 1) others.0) one.1 others.2,
+      )
+  told_from turns number (suc more) x x' (inr (stop, first, is)) = cc
+
+  served : (path : List ℕ) (address sets : ℕ) (services : List ℕ) (connections turns : ℕ) (c c' : C)
+      (held held' : Option (List ℕ))
+      → Serves gives leaves is_clean saves fails opens closes remaining contents path address sets services connections
+      turns c c' held held' (Ok tt) → ServedKept gives leaves is_clean path address sets services connections held held'
+  served path address sets services connections turns c c' held held' s =
+      let lines = told_from turns 1 connections _ _ s.serves in
+      record {
+        encoder = s.encoder;
+        keeper = s.keeper;
+        after = s.after;
+        keeper_after = s.keeper_after;
+        endings = lines.0;
+        is_opened = s.is_opened;
+        count = lines.1;
+        told = lines.2;
+        settled = s.settled refl;
+        clean = s.clean;
+      }
+
+  pub has_served : (path : List ℕ) (job : Job) (c c' : C) (held held' : Option (List ℕ))
+      → ServesJob gives leaves is_clean saves fails opens closes remaining contents path job c c' held held' (Ok tt)
+      → HasServedKept gives leaves is_clean path job held held'
+  has_served path (Encoder site encoder sets services port connections turns) c c' held held' s =
+      served path _ sets services.items connections turns c c' held held' s.1
+  has_served path (Answer site encoder sets services store) c c' held held' s = absurd s
+  has_served path (AnswerAs site encoder sets services store form) c c' held held' s = absurd s
+  has_served path Show c c' held held' s = absurd s
+  has_served path (ShowAs form) c c' held held' s = absurd s
+  has_served path (Watch form time) c c' held held' s = absurd s
+  has_served path Make c c' held held' s = absurd s
+  has_served path (MakeWords region) c c' held held' s = absurd s
+  has_served path (Line site encoder sets services store) c c' held held' s = absurd s
+  has_served path (LineAs site encoder sets services store form) c c' held held' s = absurd s
+  has_served path (Server site encoder host port tries timeout turns reconnects window join) c c' held held' s =
+      absurd s
+
+  stops_why : (path : List ℕ) (job : Job) (c c' : C) (held held' told told' : Option (List ℕ))
+      → Stops (ServesJob gives leaves is_clean saves fails opens closes remaining contents path job c c' held held') c
+      c'
+      held held' told told' → SaysWhy told told'
+  stops_why path job c c' held held' told told' (inl opened) = inl (opened.0, opened.3)
+  stops_why path job c c' held held' told told' (inr (inl stopped)) = inr (stopped.0, stopped.2)
+  stops_why path job c c' held held' told told' (inr (inr unclosed)) = inl (unclosed.0, unclosed.2)
+
+  pub says_why : (path : List ℕ) (job : Job) (c c' : C) (held held' told told' : Option (List ℕ))
+      → HasStopped gives leaves is_clean saves fails opens closes remaining contents path job c c' held held' told told'
+      → SaysWhy told told'
+  says_why path job c c' held held' told told' (inl wanting) = inr (Run run.OutOfMemory, wanting.2)
+  says_why path job c c' held held' told told' (inr stops) = stops_why path job c c' held held' told told' stops

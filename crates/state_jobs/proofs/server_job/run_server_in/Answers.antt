@@ -1,0 +1,34 @@
+use Rattle.std.proofs.Common.{rules, ◌≡◌, refl, sym, inl, inr, subst}
+use Rattle.uecp_text.specs.declared.run_fault.RunFault.TheVariants.{Address}
+use Rattle.uecp_jobs.specs.Jobs.{RefusesJob}
+use Rattle.state_jobs.proofs.server_job.run_server_in.Goals as goal
+
+pub returns-in_default-address_of-clause-undescribed : goal.returns-in_default-address_of-clause-undescribed
+returns-in_default-address_of-clause-undescribed g c = λ is. (
+  (
+    Address,
+    subst (λ job. RefusesJob job Address) (sym c.in-Server.is)
+        (refl, c.in_default-address_of.ensures.none),
+    c.fail.ensures.said,
+  ),
+  refl,
+  refl,
+  refl,
+)
+
+pub returns-clause-sent : goal.returns-clause-sent
+returns-clause-sent g c =
+    elim c.send_in.ensures.sent [
+      | inl sent ↦ inr (inl (sent.0, search rules, sent.2))
+      | inr lost ↦ inr (inr (
+        lost.0,
+        (
+          lost.1.0,
+          lost.1.1,
+          elim lost.1.2 [
+            | inl same ↦ inl same
+            | inr sends ↦ inr (search rules)
+          ],
+        ),
+      ))
+    ]

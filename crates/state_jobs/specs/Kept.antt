@@ -1,0 +1,80 @@
+-- What comes of a job with its state in a file, whatever its connections are (profile).
+use Rattle.std.specs.Prelude.{◌≡◌, ◌⊎◌, ℕ, ◌+◌, List, [], ◌∷◌, ◌++◌, length, Option}
+use Rattle.std.specs.Io.KnownBytes.{Appends}
+use Rattle.rds_store.specs.Value.{Store}
+use Rattle.uecp_encoder.specs.State.{EncoderState}
+use Rattle.uecp_link.specs.Server.{ServerState}
+use Rattle.uecp_text.specs.Written.{Begins}
+use Rattle.uecp_jobs.specs.declared.job.Job.{Job}
+use Rattle.uecp_jobs.specs.declared.job.Job.TheVariants.{Encoder, Server}
+use Rattle.uecp_jobs.specs.Setups.{address_of}
+use Rattle.kept_serving.specs.Serving.{Ended}
+use Rattle.kept_serving.specs.Keeping as serving
+use Rattle.kept_sending.specs.declared.keep.Progress.{Progress}
+use Rattle.kept_sending.specs.Keeping as sending
+use Rattle.kept_jobs.specs.declared.stop.KeptStop.{KeptStop}
+use Rattle.kept_jobs.specs.Stops.{stop_lines, state_line}
+use Rattle.kept_jobs.specs.EncoderRun.{ended_line}
+use Rattle.kept_jobs.specs.ServerKept.{HasTakenInput}
+use Rattle.state_files.specs.declared.fault.StateFault.{StateFault}
+use Rattle.state_jobs.specs.Texts.{state_text}
+use Rattle.state_jobs.specs.EncoderJob.{IsOpened}
+
+-- the lines of connections, the first of which has this number
+abbrev pub ended_lines : ℕ → List Ended → List ℕ
+ended_lines number [] = []
+ended_lines number (ended ∷ rest) = ended_line number ended ++ ended_lines (number + 1) rest
+
+-- It was said that the state can't be had, and why; or why the run stopped. Or that was begun to be said.
+abbrev pub SaysWhy : (told told' : Option (List ℕ)) → Type 0
+SaysWhy told told' = ((fault : StateFault) × Begins told told' (state_line (state_text fault)))
+    ⊎ ((stop : KeptStop) × Begins told told' (stop_lines stop))
+
+-- The encoder in the state at the path, which is the one that is asked for, served so many connections, each has its
+-- line, and whatever a crash leaves then is the encoder as the last one left it.
+pub record ServedKept {K : Type 0} (gives : (path : List ℕ) → EncoderState Store → K → Type 0)
+    (leaves : K → serving.Kept Store → Type 0) (is_clean : K → Type 0) (path : List ℕ) (address sets : ℕ)
+    (services : List ℕ) (connections : ℕ) (held held' : Option (List ℕ)) : Type 0 where
+  pub encoder : EncoderState Store
+  pub keeper : K
+  pub after : EncoderState Store
+  pub keeper_after : K
+  pub endings : List Ended
+  pub is_opened : IsOpened (gives path) leaves is_clean address sets services encoder keeper
+  pub count : length endings ≡ connections
+  pub told : Appends held held' (ended_lines 1 endings)
+  pub settled : is_clean keeper_after → serving.Settled (leaves keeper_after) after
+  pub clean : is_clean keeper_after → is_clean keeper
+
+-- so, for the options of the job
+abbrev pub HasServedKept : {K : Type 0} → (gives : (path : List ℕ) → EncoderState Store → K → Type 0)
+    → (leaves : K → serving.Kept Store → Type 0) → (is_clean : K → Type 0) → (path : List ℕ) → Job
+    → (held held' : Option (List ℕ)) → Type 0
+HasServedKept gives leaves is_clean path (Encoder site encoder sets services port connections turns) held held' =
+    ServedKept gives leaves is_clean path (address_of site encoder) sets services.items connections held held'
+HasServedKept gives leaves is_clean path job held held' = ⊥
+
+-- The messages of the input were sent from where the server in the state at the path had come: whatever a crash leaves
+-- then has taken them, or those before the line that is refused, none of them waits, nor any that waited before.
+pub record SentKept {K : Type 0} (gives : (path : List ℕ) → ServerState → Progress → K → Type 0)
+    (leaves : K → sending.KeptServer → Type 0) (is_clean : K → Type 0) (path : List ℕ) (address : ℕ)
+    (unread unread' : Option (List ℕ)) : Type 0 where
+  pub server : ServerState
+  pub progress : Progress
+  pub keeper : K
+  pub keeper_after : K
+  pub given : gives path server progress keeper
+  pub address_is : server.address ≡ address
+  pub settled : is_clean keeper → sending.IsKept (leaves keeper) progress server
+  pub kept : is_clean keeper_after → (left : sending.KeptServer) → leaves keeper_after left
+      → HasTakenInput unread unread' progress left
+  pub clean : is_clean keeper_after → is_clean keeper
+
+-- so, for the options of the job
+abbrev pub HasSentKept : {K : Type 0} → (gives : (path : List ℕ) → ServerState → Progress → K → Type 0)
+    → (leaves : K → sending.KeptServer → Type 0) → (is_clean : K → Type 0) → (path : List ℕ) → Job
+    → (unread unread' : Option (List ℕ)) → Type 0
+HasSentKept gives leaves is_clean path
+    (Server site encoder host port tries timeout turns reconnects window join) unread unread' =
+    SentKept gives leaves is_clean path (address_of site encoder) unread unread'
+HasSentKept gives leaves is_clean path job unread unread' = ⊥

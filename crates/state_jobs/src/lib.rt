@@ -1,0 +1,24 @@
+//! The jobs `encoder` and `server` with their state in a file, and what is in such a file: from the options to the exit
+//! status, for every reader, writer, source of connections and place where states are kept.
+//!
+//! [`run_encoder_in`] and [`run_server_in`] open the state, go on from it, and close it; [`tell_state`] tells what is
+//! in one. The services and the address are judged before a file is opened, and a state that is refused is not
+//! overwritten.
+//!
+//! Where states are kept is the matter of an [`OpenStates`]: the files of the machine, for a
+//! [`HostRuntime`](std::rt::HostRuntime).
+#![tactic(auto)]
+
+mod encoder_job;
+mod files;
+mod open_states;
+mod server_job;
+mod state_lines;
+mod telling;
+mod texts;
+
+pub use encoder_job::run_encoder_in;
+pub use files::{MachineEncoder, MachineServer};
+pub use open_states::OpenStates;
+pub use server_job::run_server_in;
+pub use telling::tell_state;

@@ -1,0 +1,168 @@
+//! The job `server` with its state in a file. Source: profile.
+ghost use Rattle.std.specs.Prelude.{◌≡◌, ◌⊎◌, ◌≤◌, Some, None, Ok, IsTrue};
+ghost use Rattle.uecp_frame.specs.Address.{is_exact};
+ghost use Rattle.uecp_jobs.specs.Jobs.{IsUndescribed};
+ghost use Rattle.uecp_jobs.specs.ServerRun.{IsServer};
+ghost use Rattle.uecp_text.specs.Written.{Begins};
+ghost use Rattle.kept_jobs.specs.Stops.{Went, state_line};
+ghost use Rattle.kept_jobs.specs.ServerRun.{IsTold};
+ghost use Rattle.state_files.specs.declared.fault.StateFault.{StateFault};
+ghost use Rattle.state_jobs.specs.Texts.{state_text};
+ghost use Rattle.uecp_text.specs.declared.run_fault.RunFault.{RunFault};
+ghost use Rattle.uecp_text.specs.Faults.{error_lines};
+ghost use Rattle.kept_jobs.specs.ServerKept.{IsReadWith};
+ghost use Rattle.state_jobs.specs.Kept.{HasSentKept, SentKept, SaysWhy};
+ghost use Rattle.state_jobs.specs.ServerJob.{Sends, HasLostState, HasSent};
+
+use crate::open_states::OpenStates;
+use crate::texts::{closed_so, state_text};
+use kept_jobs::{ServerOptions, fail_state, run_server_kept};
+use state_files::StateFault;
+use std::alloc::Global;
+use std::io::{Read, Write};
+use uecp_frame::Address;
+use uecp_jobs::{Job, address_of, fail};
+use uecp_net::{Connect, Limits};
+use uecp_text::RunFault;
+
+/// How many messages a server has taken at most: a file that tells of more was damaged.
+const TAKEN_MAX: u64 = 1 << 63;
+
+/// Does the job of `server` with its state at this path, and answers the exit status: 0 done, 1 a line was refused, 2
+/// the address was refused, 3 the state can't be opened, saved or closed, a batch of messages is outstanding, or
+/// memory, reading or writing failed. The address is judged before the state is opened, and the state before anything
+/// is read.
+pub fn run_server_in<S: OpenStates, R: Read, W: Write, E: Write, C: Connect>(
+    alloc: Global,
+    job: &Job,
+    path: &str,
+    states: &S,
+    reader: &mut R,
+    writer: &mut W,
+    errors: &mut E,
+    connect: &mut C,
+) -> u8
+    requires { IsServer job.now }
+    ensures status { result ≤ 3 }
+    // 2: the address is not that of one encoder. No state was opened, no connection, and nothing was read or written.
+    ensures undescribed { result ≡ 2 → IsUndescribed job.now (E.contents errors.old) (E.contents errors.new)
+        × (reader.new ≡ reader.old) × (writer.new ≡ writer.old) × (connect.new ≡ connect.old) }
+    // 0, 1 and 3: the messages of the input were sent from where the state had come, as far as that went, and that was
+    // told. 3 too: the state could not be opened or closed.
+    ensures sent { (result ≡ 2) ⊎ (HasSent (S.gives_server states.now) S.ServerKeeper.leaves S.ServerKeeper.is_clean
+        S.ServerKeeper.saves S.ServerKeeper.fails
+        C.opens C.closes C.Input.remaining C.Output.contents
+        path.now job.now result (R.remaining reader.old) (R.remaining reader.new) connect.old connect.new
+        (W.contents writer.old) (W.contents writer.new) (E.contents errors.old) (E.contents errors.new)
+        ⊎ ((result ≡ 3) × HasLostState (S.gives_server states.now) S.ServerKeeper.leaves S.ServerKeeper.is_clean
+        S.ServerKeeper.saves S.ServerKeeper.fails
+        C.opens C.closes C.Input.remaining C.Output.contents
+        path.now job.now (R.remaining reader.old) (R.remaining reader.new) connect.old connect.new
+        (W.contents writer.old) (W.contents writer.new) (E.contents errors.old) (E.contents errors.new))) }
+    // 0: whatever the connections are, a crash leaves a server that has taken the messages of the input, of which none
+    // waits, and no line is refused. Nothing was said on `errors`.
+    ensures done { result ≡ 0 → HasSentKept (S.gives_server states.now) S.ServerKeeper.leaves S.ServerKeeper.is_clean
+        path.now job.now (R.remaining reader.old) (R.remaining reader.new)
+        × IsReadWith None (R.remaining reader.old) (R.remaining reader.new) × (errors.new ≡ errors.old) }
+    // 1: so with the messages before a line that is refused, and its number and fault were said, or begun to be said.
+    ensures refused { result ≡ 1 → HasSentKept (S.gives_server states.now) S.ServerKeeper.leaves S.ServerKeeper.is_clean
+        path.now job.now (R.remaining reader.old) (R.remaining reader.new)
+        × ((fault : RunFault) × IsReadWith (Some fault) (R.remaining reader.old) (R.remaining reader.new)
+        × Begins (E.contents errors.old) (E.contents errors.new) (error_lines fault)) }
+    // 3: why was said, or begun to be said.
+    ensures said { result ≡ 3 → SaysWhy (E.contents errors.old) (E.contents errors.new) }
+{
+    match job {
+        Job::Server {
+            site,
+            encoder,
+            tries,
+            turns,
+            reconnects,
+            window,
+            join,
+            ..
+        } => {
+            let Some(address) = address_of(*site, *encoder) else {
+                return fail(&RunFault::Address, errors);
+            };
+            let options = ServerOptions {
+                limits: Limits {
+                    tries: *tries,
+                    turns: *turns,
+                    reconnects: *reconnects,
+                },
+                window: *window,
+                join: *join,
+            };
+            send_in(
+                alloc, &options, address, path, states, reader, writer, errors, connect,
+            )
+        }
+        _ => unreachable!(),
+    }
+}
+
+/// Opens the state, sends, and closes it.
+fn send_in<S: OpenStates, R: Read, W: Write, E: Write, C: Connect>(
+    alloc: Global,
+    options: &ServerOptions,
+    address: Address,
+    path: &str,
+    states: &S,
+    reader: &mut R,
+    writer: &mut W,
+    errors: &mut E,
+    connect: &mut C,
+) -> u8
+    requires { IsTrue (is_exact address) }
+    ensures status { (result ≡ 0) ⊎ ((result ≡ 1) ⊎ (result ≡ 3)) }
+    ensures sent { ((went : Went) × Sends (S.gives_server states.now) S.ServerKeeper.leaves S.ServerKeeper.is_clean
+        S.ServerKeeper.saves S.ServerKeeper.fails
+        C.opens C.closes C.Input.remaining C.Output.contents
+        path.now address options.now.limits options.now.window options.now.join (R.remaining reader.old)
+        (R.remaining reader.new) connect.old connect.new (W.contents writer.old) (W.contents writer.new) went
+        × IsTold went result (E.contents errors.old) (E.contents errors.new))
+        ⊎ ((result ≡ 3) × ((fault : StateFault)
+        × Begins (E.contents errors.old) (E.contents errors.new) (state_line (state_text fault))
+        × (((R.remaining reader.new ≡ R.remaining reader.old) × (connect.new ≡ connect.old)
+        × (W.contents writer.new ≡ W.contents writer.old))
+        ⊎ Sends (S.gives_server states.now) S.ServerKeeper.leaves S.ServerKeeper.is_clean S.ServerKeeper.saves
+        S.ServerKeeper.fails
+        C.opens C.closes C.Input.remaining C.Output.contents
+        path.now address options.now.limits options.now.window options.now.join (R.remaining reader.old)
+        (R.remaining reader.new) connect.old connect.new (W.contents writer.old) (W.contents writer.new) (Ok tt)))) }
+    // 0: whatever the connections are, a crash leaves a server that has taken the messages of the input, of which none
+    // waits, and no line is refused. Nothing was said on `errors`.
+    ensures done { result ≡ 0 → SentKept (S.gives_server states.now) S.ServerKeeper.leaves S.ServerKeeper.is_clean
+        path.now address (R.remaining reader.old) (R.remaining reader.new)
+        × IsReadWith None (R.remaining reader.old) (R.remaining reader.new) × (errors.new ≡ errors.old) }
+    // 1: so with the messages before a line that is refused, and its number and fault were said, or begun to be said.
+    ensures refused { result ≡ 1 → SentKept (S.gives_server states.now) S.ServerKeeper.leaves S.ServerKeeper.is_clean
+        path.now address (R.remaining reader.old) (R.remaining reader.new)
+        × ((fault : RunFault) × IsReadWith (Some fault) (R.remaining reader.old) (R.remaining reader.new)
+        × Begins (E.contents errors.old) (E.contents errors.new) (error_lines fault)) }
+    // 3: why was said, or begun to be said.
+    ensures said { result ≡ 3 → SaysWhy (E.contents errors.old) (E.contents errors.new) }
+{
+    match states.open_server(path, address) {
+        Err(fault) => fail_state(state_text(fault), errors),
+        Ok((server, progress, mut keeper)) => {
+            if progress.taken >= TAKEN_MAX {
+                return fail_state(state_text(StateFault::Damaged), errors);
+            }
+            let status = run_server_kept(
+                alloc,
+                options,
+                server,
+                progress,
+                &mut keeper,
+                reader,
+                writer,
+                errors,
+                connect,
+            );
+            closed_so(status, states.close_server(keeper), errors)
+        }
+    }
+}

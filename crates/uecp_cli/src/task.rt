@@ -1,0 +1,14 @@
+//! What the words of a command line ask for (profile).
+
+use uecp_jobs::Job;
+
+/// What the words of a command line ask for.
+#[derive(Debug, Drop, PartialEq, Eq)]
+pub enum Task {
+    /// A job with no state in a file.
+    Plain(Job),
+    /// The job of `encoder` or of `server` with its state in the file at this path.
+    Kept(Job, String),
+    /// What is in the state file at this path.
+    State(String),
+}
