@@ -16,12 +16,13 @@ use Rattle.kept_jobs.specs.declared.stop.KeptStop.{KeptStop}
 use Rattle.kept_jobs.specs.declared.stop.KeptStop.TheVariants.{Run}
 use Rattle.kept_jobs.specs.Stops.{Went, TellsKept}
 use Rattle.kept_jobs.specs.EncoderRun.{Standing, ServesFrom, ServesNext, ended_line, ended_so}
-use Rattle.state_jobs.specs.EncoderJob.{Serves, ServesJob, Stops, HasStopped}
+use Rattle.state_files.specs.declared.fault.StateFault.{StateFault}
+use Rattle.state_jobs.specs.EncoderJob.{Closed, Serves, ServesJob, Stops, HasStopped}
 use Rattle.state_jobs.specs.Kept.{ended_lines, SaysWhy, ServedKept, HasServedKept}
 
 module _ {K C I O : Type 0} (gives : (path : List ℕ) → EncoderState Store → K → Type 0)
-    (leaves : K → Kept Store → Type 0) (is_clean : K → Type 0) (saves fails : K → Kept Store → K → Type 0)
-    (opens : C → Option (I × O) → C → Type 0) (closes : C → I → O → C → Type 0) (remaining : I → Option (List ℕ))
+    (ends : K → Closed → Type 0) (leaves : K → Kept Store → Type 0) (is_clean : K → Type 0)
+    (saves fails : K → Kept Store → K → Type 0) (opens : C → Option (I × O) → C → Type 0) (closes : C → I → O → C → Type 0) (remaining : I → Option (List ℕ))
     (contents : O → Option (List ℕ)) where
   -- the lines of the connections that were served
   abbrev Lines : (number connections : ℕ) (held held' : Option (List ℕ)) → Type 0
@@ -59,8 +60,8 @@ module _ {K C I O : Type 0} (gives : (path : List ℕ) → EncoderState Store �
 
   served : (path : List ℕ) (address sets : ℕ) (services : List ℕ) (connections turns : ℕ) (c c' : C)
       (held held' : Option (List ℕ))
-      → Serves gives leaves is_clean saves fails opens closes remaining contents path address sets services connections
-      turns c c' held held' (Ok tt) → ServedKept gives leaves is_clean path address sets services connections held held'
+      → Serves gives ends leaves is_clean saves fails opens closes remaining contents path address sets services
+      connections turns c c' held held' (Ok tt) (Ok tt) → ServedKept gives leaves is_clean path address sets services connections held held'
   served path address sets services connections turns c c' held held' s =
       let lines = told_from turns 1 connections _ _ s.serves in
       record {
@@ -77,7 +78,8 @@ module _ {K C I O : Type 0} (gives : (path : List ℕ) → EncoderState Store �
       }
 
   pub has_served : (path : List ℕ) (job : Job) (c c' : C) (held held' : Option (List ℕ))
-      → ServesJob gives leaves is_clean saves fails opens closes remaining contents path job c c' held held' (Ok tt)
+      → ServesJob gives ends leaves is_clean saves fails opens closes remaining contents path job c c' held held' (Ok tt)
+      (Ok tt)
       → HasServedKept gives leaves is_clean path job held held'
   has_served path (Encoder site encoder sets services port connections turns) c c' held held' s =
       served path _ sets services.items connections turns c c' held held' s.1
@@ -93,16 +95,19 @@ module _ {K C I O : Type 0} (gives : (path : List ℕ) → EncoderState Store �
   has_served path (Server site encoder host port tries timeout turns reconnects window join) c c' held held' s =
       absurd s
 
-  stops_why : (path : List ℕ) (job : Job) (c c' : C) (held held' told told' : Option (List ℕ))
-      → Stops (ServesJob gives leaves is_clean saves fails opens closes remaining contents path job c c' held held') c
-      c'
+  stops_why : (refuses : StateFault → Type 0) (path : List ℕ) (job : Job) (c c' : C)
+      (held held' told told' : Option (List ℕ))
+      → Stops refuses
+      (ServesJob gives ends leaves is_clean saves fails opens closes remaining contents path job c c' held held') c c'
       held held' told told' → SaysWhy told told'
-  stops_why path job c c' held held' told told' (inl opened) = inl (opened.0, opened.3)
-  stops_why path job c c' held held' told told' (inr (inl stopped)) = inr (stopped.0, stopped.2)
-  stops_why path job c c' held held' told told' (inr (inr unclosed)) = inl (unclosed.0, unclosed.2)
+  stops_why refuses path job c c' held held' told told' (inl opened) = inl (opened.0, opened.4)
+  stops_why refuses path job c c' held held' told told' (inr (inl stopped)) = inr (stopped.0, stopped.3)
+  stops_why refuses path job c c' held held' told told' (inr (inr unclosed)) = inl (unclosed.0, unclosed.2)
 
-  pub says_why : (path : List ℕ) (job : Job) (c c' : C) (held held' told told' : Option (List ℕ))
-      → HasStopped gives leaves is_clean saves fails opens closes remaining contents path job c c' held held' told told'
-      → SaysWhy told told'
-  says_why path job c c' held held' told told' (inl wanting) = inr (Run run.OutOfMemory, wanting.2)
-  says_why path job c c' held held' told told' (inr stops) = stops_why path job c c' held held' told told' stops
+  pub says_why : (refuses : List ℕ → StateFault → Type 0) (path : List ℕ) (job : Job) (c c' : C)
+      (held held' told told' : Option (List ℕ))
+      → HasStopped gives ends leaves is_clean saves fails opens closes remaining contents refuses path job c c' held
+      held' told told' → SaysWhy told told'
+  says_why refuses path job c c' held held' told told' (inl wanting) = inr (Run run.OutOfMemory, wanting.2)
+  says_why refuses path job c c' held held' told told' (inr stops) =
+      stops_why (refuses path) path job c c' held held' told told' stops

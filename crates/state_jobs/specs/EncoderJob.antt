@@ -1,5 +1,5 @@
 -- What the job `encoder` does whose state is in a file, and how it ends (profile).
-use Rattle.std.specs.Prelude.{◌≡◌, ◌⊎◌, ℕ, List, Option, Ok, Err}
+use Rattle.std.specs.Prelude.{◌≡◌, ◌⊎◌, ℕ, List, Option, Result, Ok, Err}
 use Rattle.rds_store.specs.Value.{Store}
 use Rattle.rds_store.specs.Step.{step}
 use Rattle.uecp_encoder.specs.State.{EncoderState}
@@ -26,25 +26,31 @@ pub record IsOpened {K : Type 0} (gives : EncoderState Store → K → Type 0) (
   pub described : IsDescribed address sets services e
   pub settled : is_clean k → Settled (leaves k) e
 
--- A run that serves so came to no end: the state could not be opened, and then no connection was opened and nothing
--- written; or the run stopped; or it was done, and the state could not be closed. Why was said, or begun to be said.
-abbrev pub Stops : {C : Type 0} → (serves : Went → Type 0) → (c c' : C) → (held held' told told' : Option (List ℕ))
-    → Type 0
-Stops serves c c' held held' told told' =
-    ((fault : StateFault) × (c' ≡ c) × (held' ≡ held) × Begins told told' (state_line (state_text fault)))
-    ⊎ (((stop : KeptStop) × serves (Err stop) × Begins told told' (stop_lines stop))
-    ⊎ ((fault : StateFault) × serves (Ok tt) × Begins told told' (state_line (state_text fault))))
+-- how the close of a state went
+abbrev pub Closed : Type 0
+Closed = Result (Unit {0}) StateFault
+
+-- A run that serves so came to no end: the open of the state gave this fault, and then no connection was opened and
+-- nothing written; or the run stopped, and the state was closed; or it was done, and the close gave this fault. Why was
+-- said, or begun to be said.
+abbrev pub Stops : {C : Type 0} → (refuses : StateFault → Type 0) → (serves : Went → Closed → Type 0) → (c c' : C)
+    → (held held' told told' : Option (List ℕ)) → Type 0
+Stops refuses serves c c' held held' told told' =
+    ((fault : StateFault) × refuses fault × (c' ≡ c) × (held' ≡ held)
+    × Begins told told' (state_line (state_text fault)))
+    ⊎ (((stop : KeptStop) × (closed : Closed) × serves (Err stop) closed × Begins told told' (stop_lines stop))
+    ⊎ ((fault : StateFault) × serves (Ok tt) (Err fault) × Begins told told' (state_line (state_text fault))))
 
 module _ {K C I O : Type 0} (gives : (path : List ℕ) → EncoderState Store → K → Type 0)
-    (leaves : K → Kept Store → Type 0) (is_clean : K → Type 0) (saves fails : K → Kept Store → K → Type 0)
-    (opens : C → Option (I × O) → C → Type 0) (closes : C → I → O → C → Type 0) (remaining : I → Option (List ℕ))
+    (ends : K → Closed → Type 0) (leaves : K → Kept Store → Type 0) (is_clean : K → Type 0)
+    (saves fails : K → Kept Store → K → Type 0) (opens : C → Option (I × O) → C → Type 0) (closes : C → I → O → C → Type 0) (remaining : I → Option (List ℕ))
     (contents : O → Option (List ℕ)) where
   -- The state at the path was opened, and its encoder served so many connections, one after another, from there; so it
-  -- went. Where it was done, whatever a crash leaves is the encoder as the last connection left it; and however it
+  -- went, and so the close of the state went. Where it was done, whatever a crash leaves is the encoder as the last connection left it; and however it
   -- went, it is that, or the encoder after some first bytes of the last connection, of whose replies all that was sent
   -- is.
   pub record Serves (path : List ℕ) (address sets : ℕ) (services : List ℕ) (connections turns : ℕ) (c c' : C)
-      (held held' : Option (List ℕ)) (went : Went) : Type 0 where
+      (held held' : Option (List ℕ)) (went : Went) (closed : Closed) : Type 0 where
     pub encoder : EncoderState Store
     pub keeper : K
     pub after : EncoderState Store
@@ -62,17 +68,20 @@ module _ {K C I O : Type 0} (gives : (path : List ℕ) → EncoderState Store �
         → OutlivesRun step leaves is_clean saves fails opens closes remaining contents turns
         (record { encoder = after; keeper = keeper_after; connect = c'; held = held' }) left
     pub clean : is_clean keeper_after → is_clean keeper
+    pub is_closed : ends keeper_after closed
 
   -- so, for the options of the job
-  abbrev pub ServesJob : (path : List ℕ) → Job → (c c' : C) → (held held' : Option (List ℕ)) → Went → Type 0
-  ServesJob path (Encoder site encoder sets services port connections turns) c c' held held' went =
+  abbrev pub ServesJob : (path : List ℕ) → Job → (c c' : C) → (held held' : Option (List ℕ)) → Went → Closed → Type 0
+  ServesJob path (Encoder site encoder sets services port connections turns) c c' held held' went
+      closed =
       IsSetup (options site encoder sets services.items)
       × Serves path (address_of site encoder) sets services.items connections turns c c' held held' went
-  ServesJob path job c c' held held' went = ⊥
+      closed
+  ServesJob path job c c' held held' went closed = ⊥
 
   -- It came to no end, and why was said, or begun to be said: as above; or there was no memory for an encoder, and then
   -- no state was opened, no connection, and nothing was written.
-  abbrev pub HasStopped : (path : List ℕ) → Job → (c c' : C) → (held held' told told' : Option (List ℕ)) → Type 0
-  HasStopped path job c c' held held' told told' =
+  abbrev pub HasStopped : (refuses : List ℕ → StateFault → Type 0) → (path : List ℕ) → Job → (c c' : C) → (held held' told told' : Option (List ℕ)) → Type 0
+  HasStopped refuses path job c c' held held' told told' =
       ((c' ≡ c) × (held' ≡ held) × Begins told told' (error_lines run.OutOfMemory))
-      ⊎ Stops (ServesJob path job c c' held held') c c' held held' told told'
+      ⊎ Stops (refuses path) (ServesJob path job c c' held held') c c' held held' told told'

@@ -1,5 +1,5 @@
 -- What the job `server` does whose state is in a file, and how it ends (profile).
-use Rattle.std.specs.Prelude.{◌≡◌, ◌⊎◌, ℕ, Bool, List, Option, Ok, Err}
+use Rattle.std.specs.Prelude.{◌≡◌, ◌⊎◌, ℕ, ◌≤◌, ◌^◌, Bool, List, Option, Ok, Err}
 use Rattle.uecp_link.specs.Server.{ServerState}
 use Rattle.uecp_net.specs.declared.sending.Limits.{Limits}
 use Rattle.uecp_text.specs.Written.{Begins}
@@ -12,23 +12,34 @@ use Rattle.kept_jobs.specs.Stops.{Went, stop_status, state_line}
 use Rattle.kept_jobs.specs.ServerRun.{RunsServer, IsTold}
 use Rattle.kept_jobs.specs.ServerKept.{HasTakenInput, OutlivesRun}
 use Rattle.state_files.specs.declared.fault.StateFault.{StateFault}
+use Rattle.state_files.specs.declared.fault.StateFault.TheVariants.{Damaged}
 use Rattle.state_jobs.specs.Texts.{state_text}
+use Rattle.state_jobs.specs.EncoderJob.{Closed}
 
 -- the exit status of a run that went so
 abbrev pub status_so : Went → ℕ
 status_so (Ok done) = 0
 status_so (Err stop) = stop_status stop
 
+-- The open of the path gave this fault; or it gave a server that has taken more messages than can be counted on from, and
+-- such a state is damaged.
+abbrev pub RefusesServer : {K : Type 0} → (gives : List ℕ → ServerState → Progress → K → Type 0)
+    → (refuses : List ℕ → StateFault → Type 0) → (path : List ℕ) → StateFault → Type 0
+RefusesServer {K} gives refuses path fault = refuses path fault
+    ⊎ ((s : ServerState) × (progress : Progress) × (k : K) × gives path s progress k × (2 ^ 63 ≤ progress.taken)
+    × (fault ≡ Damaged))
+
 module _ {K C I O : Type 0} (gives : (path : List ℕ) → ServerState → Progress → K → Type 0)
-    (leaves : K → KeptServer → Type 0) (is_clean : K → Type 0) (saves fails : K → KeptServer → K → Type 0)
+    (ends : K → Closed → Type 0) (leaves : K → KeptServer → Type 0) (is_clean : K → Type 0) (saves fails : K → KeptServer → K → Type 0)
     (opens : C → Option (I × O) → C → Type 0) (closes : C → I → O → C → Type 0) (remaining : I → Option (List ℕ))
     (contents : O → Option (List ℕ)) where
   -- The state at the path was opened, its server is one to the encoder that is asked for, and a crash would leave of it
-  -- what is to be kept; it sent the messages of the input from there, and so it went. Whatever a crash leaves then has
+  -- what is to be kept; it sent the messages of the input from there, so it went, and so the close of the state went.
+  -- Whatever a crash leaves then has
   -- taken the messages of the input, or those before the line that is refused, and none of them waits; and however it
   -- went, what a crash leaves is as `run_server_kept` says.
   pub record Sends (path : List ℕ) (address : ℕ) (limits : Limits) (window : ℕ) (join : Bool)
-      (unread unread' : Option (List ℕ)) (c c' : C) (held held' : Option (List ℕ)) (went : Went) : Type 0 where
+      (unread unread' : Option (List ℕ)) (c c' : C) (held held' : Option (List ℕ)) (went : Went) (closed : Closed) : Type 0 where
     pub server : ServerState
     pub progress : Progress
     pub keeper : K
@@ -43,29 +54,33 @@ module _ {K C I O : Type 0} (gives : (path : List ℕ) → ServerState → Progr
     pub outlives : is_clean keeper_after → (left : KeptServer) → leaves keeper_after left
         → OutlivesRun opens closes remaining contents saves fails join unread unread' progress server left
     pub clean : is_clean keeper_after → is_clean keeper
+    pub is_closed : ends keeper_after closed
 
   -- so, for the options of the job
   abbrev pub SendsJob : (path : List ℕ) → Job → (unread unread' : Option (List ℕ)) → (c c' : C)
-      → (held held' : Option (List ℕ)) → Went → Type 0
+      → (held held' : Option (List ℕ)) → Went → Closed → Type 0
   SendsJob path (Server site encoder host port tries timeout turns reconnects window join) unread unread' c c' held
       held'
-      went =
+      went closed =
       IsOneEncoder site encoder
       × Sends path (address_of site encoder) (record { tries = tries; turns = turns; reconnects = reconnects }) window
       join
-      unread unread' c c' held held' went
-  SendsJob path job unread unread' c c' held held' went = ⊥
+      unread unread' c c' held held' went closed
+  SendsJob path job unread unread' c c' held held' went closed = ⊥
 
-  -- The state could not be opened: nothing was read, opened or written. Or the run was done, and the state could not be
-  -- closed. That was said, or begun to be said.
-  abbrev pub HasLostState : (path : List ℕ) → Job → (unread unread' : Option (List ℕ)) → (c c' : C)
-      → (held held' told told' : Option (List ℕ)) → Type 0
-  HasLostState path job unread unread' c c' held held' told told' =
+  -- The state could not be opened: nothing was read, opened or written. Or the run was done, and the close of the state
+  -- gave this fault. That was said, or begun to be said.
+  abbrev pub HasLostState : (refuses : List ℕ → StateFault → Type 0) → (path : List ℕ) → Job
+      → (unread unread' : Option (List ℕ)) → (c c' : C) → (held held' told told' : Option (List ℕ)) → Type 0
+  HasLostState refuses path job unread unread' c c' held held' told told' =
       (fault : StateFault) × Begins told told' (state_line (state_text fault))
-      × (((unread' ≡ unread) × (c' ≡ c) × (held' ≡ held)) ⊎ SendsJob path job unread unread' c c' held held' (Ok tt))
+      × ((RefusesServer gives refuses path fault × (unread' ≡ unread) × (c' ≡ c) × (held' ≡ held))
+      ⊎ SendsJob path job unread unread' c c' held held' (Ok tt) (Err fault))
 
-  -- Its messages were sent, and the run went so, and that was told.
+  -- Its messages were sent, and the run went so, and that was told; the state was closed, and where the status is 0,
+  -- that went well.
   abbrev pub HasSent : (path : List ℕ) → Job → (status : ℕ) → (unread unread' : Option (List ℕ)) → (c c' : C)
       → (held held' told told' : Option (List ℕ)) → Type 0
   HasSent path job status unread unread' c c' held held' told told' =
-      (went : Went) × SendsJob path job unread unread' c c' held held' went × IsTold went status told told'
+      (went : Went) × (closed : Closed) × SendsJob path job unread unread' c c' held held' went closed
+      × IsTold went status told told' × ((status ≡ 0) → closed ≡ Ok tt)

@@ -32,11 +32,13 @@ pub fn run_encoder_in<S: OpenStates, W: Write, E: Write, C: Connect>(
 ) -> u8
     requires { IsEncoder job.now }
     ensures status { (result ≤ 3) × (result ≢ 1) }
-    // 0: all connections were served, with the encoder kept, and each has its line. Nothing was said on `errors`.
-    ensures done { result ≡ 0 → ServesJob (S.gives_encoder states.now) S.EncoderKeeper.leaves S.EncoderKeeper.is_clean
+    // 0: all connections were served, with the encoder kept, each has its line, and the state was closed. Nothing was
+    // said on `errors`.
+    ensures done { result ≡ 0 → ServesJob (S.gives_encoder states.now) (S.closes_encoder states.now)
+        S.EncoderKeeper.leaves S.EncoderKeeper.is_clean
         S.EncoderKeeper.saves
         S.EncoderKeeper.fails C.opens C.closes C.Input.remaining C.Output.contents
-        path.now job.now connect.old connect.new (W.contents writer.old) (W.contents writer.new) (Ok tt)
+        path.now job.now connect.old connect.new (W.contents writer.old) (W.contents writer.new) (Ok tt) (Ok tt)
         × (errors.new ≡ errors.old) }
     // 0: so, whatever the connections are, each has its line, and a crash leaves the encoder as the last one left it.
     ensures kept { result ≡ 0 → HasServedKept (S.gives_encoder states.now) S.EncoderKeeper.leaves
@@ -45,12 +47,13 @@ pub fn run_encoder_in<S: OpenStates, W: Write, E: Write, C: Connect>(
     ensures undescribed { result ≡ 2 → IsUndescribed job.now (E.contents errors.old) (E.contents errors.new)
         × (writer.new ≡ writer.old) × (connect.new ≡ connect.old) }
     // 3: the state could not be opened, saved or closed, there was no connection to be had, or memory or writing
-    // failed.
-    ensures failed { result ≡ 3 → HasStopped (S.gives_encoder states.now) S.EncoderKeeper.leaves
+    // failed. A state that was opened was closed.
+    ensures failed { result ≡ 3 → HasStopped (S.gives_encoder states.now) (S.closes_encoder states.now)
+        S.EncoderKeeper.leaves
         S.EncoderKeeper.is_clean S.EncoderKeeper.saves
         S.EncoderKeeper.fails C.opens C.closes C.Input.remaining C.Output.contents
-        path.now job.now connect.old connect.new (W.contents writer.old) (W.contents writer.new)
-        (E.contents errors.old) (E.contents errors.new) }
+        (S.refuses_encoder states.now) path.now job.now connect.old connect.new (W.contents writer.old)
+        (W.contents writer.new) (E.contents errors.old) (E.contents errors.new) }
     // 3: so why was said, or begun to be said.
     ensures said { result ≡ 3 → SaysWhy (E.contents errors.old) (E.contents errors.new) }
 {
@@ -121,12 +124,13 @@ fn serve_in<S: OpenStates, W: Write, E: Write, C: Connect>(
 ) -> u8
     requires { IsTrue (is_exact address) }
     ensures status { (result ≡ 0) ⊎ (result ≡ 3) }
-    ensures done { result ≡ 0 → Serves (S.gives_encoder states.now) S.EncoderKeeper.leaves S.EncoderKeeper.is_clean
-        S.EncoderKeeper.saves
+    ensures done { result ≡ 0 → Serves (S.gives_encoder states.now) (S.closes_encoder states.now)
+        S.EncoderKeeper.leaves S.EncoderKeeper.is_clean S.EncoderKeeper.saves
         S.EncoderKeeper.fails C.opens C.closes C.Input.remaining C.Output.contents
         path.now address setup.now.sets setup.now.services.now bounds.connections bounds.turns connect.old connect.new
-        (W.contents writer.old) (W.contents writer.new) (Ok tt) × (errors.new ≡ errors.old) }
-    ensures failed { result ≡ 3 → Stops (Serves (S.gives_encoder states.now) S.EncoderKeeper.leaves
+        (W.contents writer.old) (W.contents writer.new) (Ok tt) (Ok tt) × (errors.new ≡ errors.old) }
+    ensures failed { result ≡ 3 → Stops (S.refuses_encoder states.now path.now)
+        (Serves (S.gives_encoder states.now) (S.closes_encoder states.now) S.EncoderKeeper.leaves
         S.EncoderKeeper.is_clean
         S.EncoderKeeper.saves S.EncoderKeeper.fails C.opens C.closes C.Input.remaining C.Output.contents path.now
         address

@@ -68,7 +68,18 @@ impl OpenStates for HostRuntime {
 
     ghost gives_server = { λ files path s progress k. Unit {0} };
 
+    // nor why one can't be opened, closed or read
+    ghost refuses_encoder = { λ files path fault. Unit {0} };
+
+    ghost refuses_server = { λ files path fault. Unit {0} };
+
+    ghost closes_encoder = { λ files k closed. Unit {0} };
+
+    ghost closes_server = { λ files k closed. Unit {0} };
+
     ghost finds = { λ files path found. Unit {0} };
+
+    ghost hides = { λ files path fault. Unit {0} };
 
     fn open_encoder(
         &self,

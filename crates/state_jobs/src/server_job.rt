@@ -1,5 +1,5 @@
 //! The job `server` with its state in a file. Source: profile.
-ghost use Rattle.std.specs.Prelude.{◌≡◌, ◌⊎◌, ◌≤◌, Some, None, Ok, IsTrue};
+ghost use Rattle.std.specs.Prelude.{◌≡◌, ◌⊎◌, ◌≤◌, Some, None, Ok, Err, IsTrue};
 ghost use Rattle.uecp_frame.specs.Address.{is_exact};
 ghost use Rattle.uecp_jobs.specs.Jobs.{IsUndescribed};
 ghost use Rattle.uecp_jobs.specs.ServerRun.{IsServer};
@@ -12,7 +12,8 @@ ghost use Rattle.uecp_text.specs.declared.run_fault.RunFault.{RunFault};
 ghost use Rattle.uecp_text.specs.Faults.{error_lines};
 ghost use Rattle.kept_jobs.specs.ServerKept.{IsReadWith};
 ghost use Rattle.state_jobs.specs.Kept.{HasSentKept, SentKept, SaysWhy};
-ghost use Rattle.state_jobs.specs.ServerJob.{Sends, HasLostState, HasSent};
+ghost use Rattle.state_jobs.specs.EncoderJob.{Closed};
+ghost use Rattle.state_jobs.specs.ServerJob.{Sends, RefusesServer, HasLostState, HasSent};
 
 use crate::open_states::OpenStates;
 use crate::texts::{closed_so, state_text};
@@ -49,16 +50,18 @@ pub fn run_server_in<S: OpenStates, R: Read, W: Write, E: Write, C: Connect>(
         × (reader.new ≡ reader.old) × (writer.new ≡ writer.old) × (connect.new ≡ connect.old) }
     // 0, 1 and 3: the messages of the input were sent from where the state had come, as far as that went, and that was
     // told. 3 too: the state could not be opened or closed.
-    ensures sent { (result ≡ 2) ⊎ (HasSent (S.gives_server states.now) S.ServerKeeper.leaves S.ServerKeeper.is_clean
+    ensures sent { (result ≡ 2) ⊎ (HasSent (S.gives_server states.now) (S.closes_server states.now)
+        S.ServerKeeper.leaves S.ServerKeeper.is_clean
         S.ServerKeeper.saves S.ServerKeeper.fails
         C.opens C.closes C.Input.remaining C.Output.contents
         path.now job.now result (R.remaining reader.old) (R.remaining reader.new) connect.old connect.new
         (W.contents writer.old) (W.contents writer.new) (E.contents errors.old) (E.contents errors.new)
-        ⊎ ((result ≡ 3) × HasLostState (S.gives_server states.now) S.ServerKeeper.leaves S.ServerKeeper.is_clean
+        ⊎ ((result ≡ 3) × HasLostState (S.gives_server states.now) (S.closes_server states.now)
+        S.ServerKeeper.leaves S.ServerKeeper.is_clean
         S.ServerKeeper.saves S.ServerKeeper.fails
         C.opens C.closes C.Input.remaining C.Output.contents
-        path.now job.now (R.remaining reader.old) (R.remaining reader.new) connect.old connect.new
-        (W.contents writer.old) (W.contents writer.new) (E.contents errors.old) (E.contents errors.new))) }
+        (S.refuses_server states.now) path.now job.now (R.remaining reader.old) (R.remaining reader.new) connect.old
+        connect.new (W.contents writer.old) (W.contents writer.new) (E.contents errors.old) (E.contents errors.new))) }
     // 0: whatever the connections are, a crash leaves a server that has taken the messages of the input, of which none
     // waits, and no line is refused. Nothing was said on `errors`.
     ensures done { result ≡ 0 → HasSentKept (S.gives_server states.now) S.ServerKeeper.leaves S.ServerKeeper.is_clean
@@ -117,21 +120,23 @@ fn send_in<S: OpenStates, R: Read, W: Write, E: Write, C: Connect>(
 ) -> u8
     requires { IsTrue (is_exact address) }
     ensures status { (result ≡ 0) ⊎ ((result ≡ 1) ⊎ (result ≡ 3)) }
-    ensures sent { ((went : Went) × Sends (S.gives_server states.now) S.ServerKeeper.leaves S.ServerKeeper.is_clean
+    ensures sent { ((went : Went) × (closed : Closed) × Sends (S.gives_server states.now)
+        (S.closes_server states.now) S.ServerKeeper.leaves S.ServerKeeper.is_clean
         S.ServerKeeper.saves S.ServerKeeper.fails
         C.opens C.closes C.Input.remaining C.Output.contents
         path.now address options.now.limits options.now.window options.now.join (R.remaining reader.old)
-        (R.remaining reader.new) connect.old connect.new (W.contents writer.old) (W.contents writer.new) went
-        × IsTold went result (E.contents errors.old) (E.contents errors.new))
+        (R.remaining reader.new) connect.old connect.new (W.contents writer.old) (W.contents writer.new) went closed
+        × IsTold went result (E.contents errors.old) (E.contents errors.new) × ((result ≡ 0) → closed ≡ Ok tt))
         ⊎ ((result ≡ 3) × ((fault : StateFault)
         × Begins (E.contents errors.old) (E.contents errors.new) (state_line (state_text fault))
-        × (((R.remaining reader.new ≡ R.remaining reader.old) × (connect.new ≡ connect.old)
+        × ((RefusesServer (S.gives_server states.now) (S.refuses_server states.now) path.now fault
+        × (R.remaining reader.new ≡ R.remaining reader.old) × (connect.new ≡ connect.old)
         × (W.contents writer.new ≡ W.contents writer.old))
-        ⊎ Sends (S.gives_server states.now) S.ServerKeeper.leaves S.ServerKeeper.is_clean S.ServerKeeper.saves
+        ⊎ Sends (S.gives_server states.now) (S.closes_server states.now) S.ServerKeeper.leaves S.ServerKeeper.is_clean S.ServerKeeper.saves
         S.ServerKeeper.fails
         C.opens C.closes C.Input.remaining C.Output.contents
         path.now address options.now.limits options.now.window options.now.join (R.remaining reader.old)
-        (R.remaining reader.new) connect.old connect.new (W.contents writer.old) (W.contents writer.new) (Ok tt)))) }
+        (R.remaining reader.new) connect.old connect.new (W.contents writer.old) (W.contents writer.new) (Ok tt) (Err fault)))) }
     // 0: whatever the connections are, a crash leaves a server that has taken the messages of the input, of which none
     // waits, and no line is refused. Nothing was said on `errors`.
     ensures done { result ≡ 0 → SentKept (S.gives_server states.now) S.ServerKeeper.leaves S.ServerKeeper.is_clean

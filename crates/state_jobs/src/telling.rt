@@ -35,7 +35,8 @@ pub fn tell_state<S: OpenStates, W: Write, E: Write>(
         × Appends (W.contents writer.old) (W.contents writer.new) (found_lines found)) × (errors.new ≡ errors.old) }
     // 3: the state could not be read, and nothing was written; or memory or writing failed, and a beginning of the
     // lines was.
-    ensures failed { result ≡ 3 → ((fault : StateFault) × (writer.new ≡ writer.old)
+    ensures failed { result ≡ 3 → ((fault : StateFault) × S.hides states.now path.now fault
+        × (writer.new ≡ writer.old)
         × Begins (E.contents errors.old) (E.contents errors.new) (state_line (state_text fault)))
         ⊎ ((found : Found) × (fault : RunFault) × S.finds states.now path.now found × Fails fault
         × Begins (W.contents writer.old) (W.contents writer.new) (found_lines found)

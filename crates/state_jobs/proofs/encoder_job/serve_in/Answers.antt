@@ -28,6 +28,8 @@ returns-in-Ok-clause-done g c = λ is.
                   clean;
               outlives = λ clean. run.ensures.outlives (c.in-Ok.ensures.settled (run.ensures.clean clean)) clean;
               clean = run.ensures.clean;
+              is_closed = subst (g.S.OpenStates.closes_encoder c.args.states.now run.new.keeper) (same.2 zero)
+                  c.close_encoder.ensures;
             },
             c.closed_so.ensures.same same.0 ∙ ran.1,
           )
@@ -43,6 +45,7 @@ returns-in-Ok-clause-failed g c = λ is.
           let ran = run.ensures.failed (sym same.0 ∙ is) in
           inr (inl (
             ran.0,
+            c.close_encoder.result,
             record {
               encoder = c.in-Ok.encoder;
               keeper = c.in-Ok.keeper;
@@ -57,6 +60,7 @@ returns-in-Ok-clause-failed g c = λ is.
               settled = λ done. not_stopped ran.0 _ _ refl done;
               outlives = λ clean. run.ensures.outlives (c.in-Ok.ensures.settled (run.ensures.clean clean)) clean;
               clean = run.ensures.clean;
+              is_closed = c.close_encoder.ensures;
             },
             subst (λ x. Begins told (g.E.Write.contents x) (stop_lines ran.0)) (sym (c.closed_so.ensures.same same.0))
                 ran.2,
@@ -80,6 +84,8 @@ returns-in-Ok-clause-failed g c = λ is.
                   clean;
               outlives = λ clean. run.ensures.outlives (c.in-Ok.ensures.settled (run.ensures.clean clean)) clean;
               clean = run.ensures.clean;
+              is_closed = subst (g.S.OpenStates.closes_encoder c.args.states.now run.new.keeper) lost.1
+                  c.close_encoder.ensures;
             },
             subst (λ x. Begins (g.E.Write.contents x) (g.E.Write.contents c.closed_so.new.errors)
                 (state_line (state_text lost.0))) ran.1 lost.4,

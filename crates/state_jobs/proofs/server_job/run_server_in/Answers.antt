@@ -19,7 +19,7 @@ returns-in_default-address_of-clause-undescribed g c = λ is. (
 pub returns-clause-sent : goal.returns-clause-sent
 returns-clause-sent g c =
     elim c.send_in.ensures.sent [
-      | inl sent ↦ inr (inl (sent.0, search rules, sent.2))
+      | inl sent ↦ inr (inl (sent.0, sent.1, search rules, sent.3, sent.4))
       | inr lost ↦ inr (inr (
         lost.0,
         (

@@ -1,10 +1,11 @@
-use Rattle.std.proofs.Common.{◌≡◌, ◌⊎◌, refl, sym, ◌∙◌, inl, inr, subst}
+use Rattle.std.proofs.Common.{rules, ◌≡◌, ◌⊎◌, refl, sym, ◌∙◌, inl, inr, subst}
 use Rattle.std.specs.Prelude.{Ok, Err}
 use Rattle.uecp_text.specs.Written.{Begins}
 use Rattle.kept_jobs.specs.Stops.{stop_lines, state_line}
 use Rattle.kept_jobs.specs.ServerRun.{IsTold}
 use Rattle.state_files.specs.declared.fault.StateFault.TheVariants as state
 use Rattle.state_jobs.specs.Texts.{state_text}
+use Rattle.state_jobs.specs.EncoderJob.{Closed}
 use Rattle.state_jobs.specs.ServerJob.{Sends}
 use Rattle.state_jobs.proofs.Stopping.{not_done, not_refused}
 use Rattle.state_jobs.proofs.Ending.{status_after, told_so, told_done}
@@ -22,7 +23,12 @@ returns-then-progress-ge-TAKEN_MAX-clause-sent g c =
         subst (λ x. Begins (g.E.Write.contents c.args.errors.now)
             (g.E.Write.contents said.new.errors) (state_line x)) c.state_text-then-progress-ge-TAKEN_MAX.ensures
             said.ensures.said,
-        inl (refl, refl, refl),
+        inl (
+          inr (c.in-Ok.server, c.in-Ok.progress, c.in-Ok.keeper, c.in-Ok.ensures.given, search rules, refl),
+          refl,
+          refl,
+          refl,
+        ),
       ),
     )
 
@@ -36,11 +42,12 @@ returns-else-progress-ge-TAKEN_MAX-clause-sent g c =
     let k = g.S.ServerKeeper.KeepServer in
     let told = g.E.Write.contents c.args.errors.now in
     let went = run.ensures.runs.0 in
-    let sends : Sends (g.S.OpenStates.gives_server c.args.states.now) k.leaves k.is_clean k.saves k.fails
+    let sends : (closed : Closed) → g.S.OpenStates.closes_server c.args.states.now run.new.keeper closed
+    → Sends (g.S.OpenStates.gives_server c.args.states.now) (g.S.OpenStates.closes_server c.args.states.now) k.leaves k.is_clean k.saves k.fails
     g.C.Connect.opens g.C.Connect.closes g.C.Input.Read.remaining g.C.Output.Write.contents c.args.path.now
     c.args.address c.args.options.now.limits c.args.options.now.window c.args.options.now.join
     (g.R.Read.remaining c.args.reader.now) (g.R.Read.remaining run.new.reader) c.args.connect.now run.new.connect
-    (g.W.Write.contents c.args.writer.now) (g.W.Write.contents run.new.writer) went = record {
+    (g.W.Write.contents c.args.writer.now) (g.W.Write.contents run.new.writer) went closed = λ closed is_closed. record {
       server = c.in-Ok.server;
       progress = c.in-Ok.progress;
       keeper = c.in-Ok.keeper;
@@ -53,13 +60,16 @@ returns-else-progress-ge-TAKEN_MAX-clause-sent g c =
           (c.in-Ok.ensures.settled (run.ensures.clean clean)) clean;
       outlives = λ clean. run.ensures.outlives (c.in-Ok.ensures.settled (run.ensures.clean clean)) clean;
       clean = run.ensures.clean;
+      is_closed = is_closed;
     } in
     elim c.closed_so.ensures.closed [
       | inl same ↦ inl (
         went,
-        sends,
+        c.close_server.result,
+        sends c.close_server.result c.close_server.ensures,
         subst (λ x. IsTold went x told (g.E.Write.contents c.closed_so.new.errors))
             (sym same.0) (subst (λ x. IsTold went run.result told x) (sym same.1) run.ensures.runs.2),
+        λ is. same.2 (sym same.0 ∙ is),
       )
       | inr lost ↦
           let done = told_done went _ _ _ run.ensures.runs.2 lost.2 in
@@ -70,12 +80,14 @@ returns-else-progress-ge-TAKEN_MAX-clause-sent g c =
               subst (λ x. Begins x (g.E.Write.contents c.closed_so.new.errors)
                   (state_line (state_text lost.0))) done.1 lost.4,
               inr (subst (λ x. Sends
-                  (g.S.OpenStates.gives_server c.args.states.now) k.leaves k.is_clean k.saves k.fails g.C.Connect.opens
+                  (g.S.OpenStates.gives_server c.args.states.now) (g.S.OpenStates.closes_server c.args.states.now) k.leaves
+                  k.is_clean k.saves k.fails g.C.Connect.opens
                   g.C.Connect.closes g.C.Input.Read.remaining g.C.Output.Write.contents c.args.path.now c.args.address
                   c.args.options.now.limits c.args.options.now.window c.args.options.now.join
                   (g.R.Read.remaining c.args.reader.now) (g.R.Read.remaining run.new.reader) c.args.connect.now
-                  run.new.connect (g.W.Write.contents c.args.writer.now) (g.W.Write.contents run.new.writer) x) done.0
-                  sends),
+                  run.new.connect (g.W.Write.contents c.args.writer.now) (g.W.Write.contents run.new.writer) x (Err lost.0)) done.0
+                  (sends (Err lost.0) (subst (g.S.OpenStates.closes_server c.args.states.now run.new.keeper) lost.1
+                  c.close_server.ensures))),
             ),
           )
     ]
