@@ -22,7 +22,8 @@ use Rattle.state_jobs.specs.Kept.{ended_lines, SaysWhy, ServedKept, HasServedKep
 
 module _ {K C I O : Type 0} (gives : (path : List ℕ) → EncoderState Store → K → Type 0)
     (ends : K → Closed → Type 0) (leaves : K → Kept Store → Type 0) (is_clean : K → Type 0)
-    (saves fails : K → Kept Store → K → Type 0) (opens : C → Option (I × O) → C → Type 0) (closes : C → I → O → C → Type 0) (remaining : I → Option (List ℕ))
+    (saves fails : K → Kept Store → K → Type 0) (opens : C → Option (I × O) → C → Type 0)
+    (closes : C → I → O → C → Type 0) (remaining : I → Option (List ℕ))
     (contents : O → Option (List ℕ)) where
   -- the lines of the connections that were served
   abbrev Lines : (number connections : ℕ) (held held' : Option (List ℕ)) → Type 0
@@ -61,7 +62,8 @@ module _ {K C I O : Type 0} (gives : (path : List ℕ) → EncoderState Store �
   served : (path : List ℕ) (address sets : ℕ) (services : List ℕ) (connections turns : ℕ) (c c' : C)
       (held held' : Option (List ℕ))
       → Serves gives ends leaves is_clean saves fails opens closes remaining contents path address sets services
-      connections turns c c' held held' (Ok tt) (Ok tt) → ServedKept gives leaves is_clean path address sets services connections held held'
+      connections turns c c' held held' (Ok tt) (Ok tt)
+      → ServedKept gives leaves is_clean path address sets services connections held held'
   served path address sets services connections turns c c' held held' s =
       let lines = told_from turns 1 connections _ _ s.serves in
       record {
@@ -78,7 +80,8 @@ module _ {K C I O : Type 0} (gives : (path : List ℕ) → EncoderState Store �
       }
 
   pub has_served : (path : List ℕ) (job : Job) (c c' : C) (held held' : Option (List ℕ))
-      → ServesJob gives ends leaves is_clean saves fails opens closes remaining contents path job c c' held held' (Ok tt)
+      → ServesJob gives ends leaves is_clean saves fails opens closes remaining contents path job c c' held held'
+      (Ok tt)
       (Ok tt)
       → HasServedKept gives leaves is_clean path job held held'
   has_served path (Encoder site encoder sets services port connections turns) c c' held held' s =

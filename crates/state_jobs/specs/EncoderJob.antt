@@ -43,7 +43,8 @@ Stops refuses serves c c' held held' told told' =
 
 module _ {K C I O : Type 0} (gives : (path : List ℕ) → EncoderState Store → K → Type 0)
     (ends : K → Closed → Type 0) (leaves : K → Kept Store → Type 0) (is_clean : K → Type 0)
-    (saves fails : K → Kept Store → K → Type 0) (opens : C → Option (I × O) → C → Type 0) (closes : C → I → O → C → Type 0) (remaining : I → Option (List ℕ))
+    (saves fails : K → Kept Store → K → Type 0) (opens : C → Option (I × O) → C → Type 0)
+    (closes : C → I → O → C → Type 0) (remaining : I → Option (List ℕ))
     (contents : O → Option (List ℕ)) where
   -- The state at the path was opened, and its encoder served so many connections, one after another, from there; so it
   -- went, and so the close of the state went. Where it was done, whatever a crash leaves is the encoder as the last connection left it; and however it
@@ -81,7 +82,8 @@ module _ {K C I O : Type 0} (gives : (path : List ℕ) → EncoderState Store �
 
   -- It came to no end, and why was said, or begun to be said: as above; or there was no memory for an encoder, and then
   -- no state was opened, no connection, and nothing was written.
-  abbrev pub HasStopped : (refuses : List ℕ → StateFault → Type 0) → (path : List ℕ) → Job → (c c' : C) → (held held' told told' : Option (List ℕ)) → Type 0
+  abbrev pub HasStopped : (refuses : List ℕ → StateFault → Type 0) → (path : List ℕ) → Job → (c c' : C)
+      → (held held' told told' : Option (List ℕ)) → Type 0
   HasStopped refuses path job c c' held held' told told' =
       ((c' ≡ c) × (held' ≡ held) × Begins told told' (error_lines run.OutOfMemory))
       ⊎ Stops (refuses path) (ServesJob path job c c' held held') c c' held held' told told'

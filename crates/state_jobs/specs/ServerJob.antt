@@ -30,7 +30,8 @@ RefusesServer {K} gives refuses path fault = refuses path fault
     × (fault ≡ Damaged))
 
 module _ {K C I O : Type 0} (gives : (path : List ℕ) → ServerState → Progress → K → Type 0)
-    (ends : K → Closed → Type 0) (leaves : K → KeptServer → Type 0) (is_clean : K → Type 0) (saves fails : K → KeptServer → K → Type 0)
+    (ends : K → Closed → Type 0) (leaves : K → KeptServer → Type 0) (is_clean : K → Type 0)
+    (saves fails : K → KeptServer → K → Type 0)
     (opens : C → Option (I × O) → C → Type 0) (closes : C → I → O → C → Type 0) (remaining : I → Option (List ℕ))
     (contents : O → Option (List ℕ)) where
   -- The state at the path was opened, its server is one to the encoder that is asked for, and a crash would leave of it
@@ -39,7 +40,8 @@ module _ {K C I O : Type 0} (gives : (path : List ℕ) → ServerState → Progr
   -- taken the messages of the input, or those before the line that is refused, and none of them waits; and however it
   -- went, what a crash leaves is as `run_server_kept` says.
   pub record Sends (path : List ℕ) (address : ℕ) (limits : Limits) (window : ℕ) (join : Bool)
-      (unread unread' : Option (List ℕ)) (c c' : C) (held held' : Option (List ℕ)) (went : Went) (closed : Closed) : Type 0 where
+      (unread unread' : Option (List ℕ)) (c c' : C) (held held' : Option (List ℕ)) (went : Went)
+      (closed : Closed) : Type 0 where
     pub server : ServerState
     pub progress : Progress
     pub keeper : K

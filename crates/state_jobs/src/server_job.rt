@@ -132,11 +132,13 @@ fn send_in<S: OpenStates, R: Read, W: Write, E: Write, C: Connect>(
         × ((RefusesServer (S.gives_server states.now) (S.refuses_server states.now) path.now fault
         × (R.remaining reader.new ≡ R.remaining reader.old) × (connect.new ≡ connect.old)
         × (W.contents writer.new ≡ W.contents writer.old))
-        ⊎ Sends (S.gives_server states.now) (S.closes_server states.now) S.ServerKeeper.leaves S.ServerKeeper.is_clean S.ServerKeeper.saves
+        ⊎ Sends (S.gives_server states.now) (S.closes_server states.now) S.ServerKeeper.leaves S.ServerKeeper.is_clean
+        S.ServerKeeper.saves
         S.ServerKeeper.fails
         C.opens C.closes C.Input.remaining C.Output.contents
         path.now address options.now.limits options.now.window options.now.join (R.remaining reader.old)
-        (R.remaining reader.new) connect.old connect.new (W.contents writer.old) (W.contents writer.new) (Ok tt) (Err fault)))) }
+        (R.remaining reader.new) connect.old connect.new (W.contents writer.old) (W.contents writer.new) (Ok tt)
+        (Err fault)))) }
     // 0: whatever the connections are, a crash leaves a server that has taken the messages of the input, of which none
     // waits, and no line is refused. Nothing was said on `errors`.
     ensures done { result ≡ 0 → SentKept (S.gives_server states.now) S.ServerKeeper.leaves S.ServerKeeper.is_clean

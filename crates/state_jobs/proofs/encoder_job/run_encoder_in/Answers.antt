@@ -10,7 +10,8 @@ returns-in-Ok-clause-failed g c = λ is.
     let k = g.S.EncoderKeeper.KeepEncoder in
     let held = g.W.Write.contents c.args.writer.now in
     let held' = g.W.Write.contents c.serve_in.new.writer in
-    inr (stops_as (g.S.OpenStates.refuses_encoder c.args.states.now c.args.path.now) (Serves (g.S.OpenStates.gives_encoder c.args.states.now)
+    inr (stops_as (g.S.OpenStates.refuses_encoder c.args.states.now c.args.path.now)
+    (Serves (g.S.OpenStates.gives_encoder c.args.states.now)
     (g.S.OpenStates.closes_encoder c.args.states.now) k.leaves k.is_clean k.saves k.fails
     g.C.Connect.opens g.C.Connect.closes g.C.Input.Read.remaining g.C.Output.Write.contents c.args.path.now
     c.in-Ok.address c.in-Encoder.sets c.as_slice.result.now c.in-Encoder.connections c.in-Encoder.turns

@@ -43,11 +43,13 @@ returns-else-progress-ge-TAKEN_MAX-clause-sent g c =
     let told = g.E.Write.contents c.args.errors.now in
     let went = run.ensures.runs.0 in
     let sends : (closed : Closed) → g.S.OpenStates.closes_server c.args.states.now run.new.keeper closed
-    → Sends (g.S.OpenStates.gives_server c.args.states.now) (g.S.OpenStates.closes_server c.args.states.now) k.leaves k.is_clean k.saves k.fails
+    → Sends (g.S.OpenStates.gives_server c.args.states.now) (g.S.OpenStates.closes_server c.args.states.now) k.leaves
+    k.is_clean k.saves k.fails
     g.C.Connect.opens g.C.Connect.closes g.C.Input.Read.remaining g.C.Output.Write.contents c.args.path.now
     c.args.address c.args.options.now.limits c.args.options.now.window c.args.options.now.join
     (g.R.Read.remaining c.args.reader.now) (g.R.Read.remaining run.new.reader) c.args.connect.now run.new.connect
-    (g.W.Write.contents c.args.writer.now) (g.W.Write.contents run.new.writer) went closed = λ closed is_closed. record {
+    (g.W.Write.contents c.args.writer.now) (g.W.Write.contents run.new.writer) went closed =
+    λ closed is_closed. record {
       server = c.in-Ok.server;
       progress = c.in-Ok.progress;
       keeper = c.in-Ok.keeper;
@@ -80,12 +82,14 @@ returns-else-progress-ge-TAKEN_MAX-clause-sent g c =
               subst (λ x. Begins x (g.E.Write.contents c.closed_so.new.errors)
                   (state_line (state_text lost.0))) done.1 lost.4,
               inr (subst (λ x. Sends
-                  (g.S.OpenStates.gives_server c.args.states.now) (g.S.OpenStates.closes_server c.args.states.now) k.leaves
+                  (g.S.OpenStates.gives_server c.args.states.now) (g.S.OpenStates.closes_server c.args.states.now)
+                  k.leaves
                   k.is_clean k.saves k.fails g.C.Connect.opens
                   g.C.Connect.closes g.C.Input.Read.remaining g.C.Output.Write.contents c.args.path.now c.args.address
                   c.args.options.now.limits c.args.options.now.window c.args.options.now.join
                   (g.R.Read.remaining c.args.reader.now) (g.R.Read.remaining run.new.reader) c.args.connect.now
-                  run.new.connect (g.W.Write.contents c.args.writer.now) (g.W.Write.contents run.new.writer) x (Err lost.0)) done.0
+                  run.new.connect (g.W.Write.contents c.args.writer.now) (g.W.Write.contents run.new.writer) x
+                  (Err lost.0)) done.0
                   (sends (Err lost.0) (subst (g.S.OpenStates.closes_server c.args.states.now run.new.keeper) lost.1
                   c.close_server.ensures))),
             ),
