@@ -47,9 +47,9 @@ module _ {K C I O : Type 0} (gives : (path : List ℕ) → EncoderState Store �
     (closes : C → I → O → C → Type 0) (remaining : I → Option (List ℕ))
     (contents : O → Option (List ℕ)) where
   -- The state at the path was opened, and its encoder served so many connections, one after another, from there; so it
-  -- went, and so the close of the state went. Where it was done, whatever a crash leaves is the encoder as the last connection left it; and however it
-  -- went, it is that, or the encoder after some first bytes of the last connection, of whose replies all that was sent
-  -- is.
+  -- went, and so the close of the state went. Where it was done, whatever a crash leaves is the encoder as the last
+  -- connection left it; and however it went, it is that, or the encoder after some first bytes of the last connection,
+  -- of whose replies all that was sent is.
   pub record Serves (path : List ℕ) (address sets : ℕ) (services : List ℕ) (connections turns : ℕ) (c c' : C)
       (held held' : Option (List ℕ)) (went : Went) (closed : Closed) : Type 0 where
     pub encoder : EncoderState Store

@@ -21,8 +21,8 @@ abbrev pub status_so : Went → ℕ
 status_so (Ok done) = 0
 status_so (Err stop) = stop_status stop
 
--- The open of the path gave this fault; or it gave a server that has taken more messages than can be counted on from, and
--- such a state is damaged.
+-- The open of the path gave this fault; or it gave a server that has taken more messages than can be counted on from,
+-- and such a state is damaged.
 abbrev pub RefusesServer : {K : Type 0} → (gives : List ℕ → ServerState → Progress → K → Type 0)
     → (refuses : List ℕ → StateFault → Type 0) → (path : List ℕ) → StateFault → Type 0
 RefusesServer {K} gives refuses path fault = refuses path fault
