@@ -1,0 +1,165 @@
+-- What is backed by a line holds the headline.
+use mathlib.Core.Path.{fun_ext}
+use Rattle.std.proofs.Common.{◌≡◌, ℕ, Bool, true, false, List, [], ◌∷◌, length, map, take, nat_lt, refl, ap, sym}
+use Rattle.std.proofs.Common.{◌∙◌, arith, inl, inr, cond}
+use Rattle.std.specs.Prelude.{is_some, slice_get}
+use Rattle.std.proofs.lemmas.Bool.{cases_order, lt-ltb, le-ltb, ltb-false}
+use Rattle.std.proofs.lemmas.List.{take_all}
+use Rattle.std.proofs.lemmas.Option.{slice_get-get_or, slice_get_past}
+use Rattle.uecp_elements.specs.declared.code.Code.{Code}
+use Rattle.uecp_elements.specs.declared.code.Code.TheVariants.{Applied}
+use Rattle.uecp_frame.specs.Frame.{spelling}
+use Rattle.uecp_encoder.specs.Target.{Step, Taken}
+use Rattle.uecp_encoder.specs.State.{fed}
+use Rattle.uecp_link.specs.Counters.{counter_of}
+use Rattle.uecp_link.specs.Frames.{frame_under}
+use Rattle.uecp_link.specs.Server.{waiting_among, waiting, frames_waiting}
+use Rattle.uecp_link.specs.Once.{FrameComes, message_at, missing, at_first}
+use Rattle.uecp_link.specs.History.{Act, numbers_below, history}
+use Rattle.uecp_link.specs.Fold.{codes_after}
+use Rattle.uecp_link.specs.Law.{World, frame_of}
+use Rattle.uecp_link.specs.Holds.{LineState, is_acknowledged, Holds}
+use Rattle.uecp_link.specs.Headline.{IsHeadline}
+use Rattle.uecp_link.proofs.Steps.{sent_le, acknowledged_are}
+use Rattle.uecp_link.proofs.Lawful.{Lawful, waiting_is}
+use Rattle.uecp_link.proofs.Played.{same_bound}
+use Rattle.kept_serving.specs.Keeping.{kept_of as encoder_kept}
+use Rattle.crash_laws.specs.Station.{Station, run_on_disks, station_from}
+use Rattle.crash_laws.specs.Station.{encoder_took, station_after}
+use Rattle.crash_laws.specs.Laws.{HeadlineHoldsOnDisks, WhatIsLeftIsACut}
+use Rattle.crash_laws.proofs.Fronts.{saved_is}
+use Rattle.crash_laws.proofs.Reaching.{lawful_of, with_server}
+use Rattle.crash_laws.proofs.Backing.{shown, backed}
+
+-- a list has an entry at each place below its length
+has_entry : (cs : List Code) (k : ℕ) → is_some (slice_get cs k) ≡ nat_lt k (length cs)
+has_entry cs k =
+    elim (cases_order k (length cs)) [
+      | inl e ↦ ap is_some (slice_get_past cs k (omega arith)) ∙ sym (le-ltb k (length cs) (omega arith))
+      | inr other ↦ elim other [
+        | inl l ↦ ap is_some (slice_get-get_or cs k Applied l) ∙ sym (lt-ltb k (length cs) l)
+        | inr l ↦ ap is_some (slice_get_past cs k (omega arith)) ∙ sym (le-ltb k (length cs) (omega arith))
+      ]
+    ]
+
+-- the frames of numbers, each by its counter and its message
+frames_of : (a : ℕ) (sent : List (List ℕ)) (ks : List ℕ)
+    → map (λ w. spelling (frame_under a w)) (map (λ k. (counter_of k, message_at sent k)) ks)
+    ≡ map (λ k. spelling (frame_under a (counter_of k, message_at sent k))) ks
+frames_of a sent [] = refl
+frames_of a sent (k ∷ ks) = ap (λ fs. spelling (frame_under a (counter_of k, message_at sent k)) ∷ fs)
+    (frames_of a sent ks)
+
+module _ {V : Type 0} (step : Step V) (taken : Taken V) (address : ℕ) (opening : V) (w : World V) (acts : List Act)
+    (law : Lawful step taken address opening w acts) where
+  -- the line that shows what the two ends and the once-machine have come to
+  abbrev pub line_of : LineState V
+  line_of = record {
+    encoder = w.encoder;
+    server = w.server;
+    sent = w.once.sent;
+    codes = codes_after step taken w.once.sent opening acts;
+  }
+
+  acknowledged_on : (k : ℕ) → is_acknowledged line_of k ≡ w.once.acknowledged k
+  acknowledged_on k = acknowledged_are address w.encoder w.server w.once law.p law.q law.kept k
+
+  pub holds_on : Holds line_of w.once
+  holds_on = record {
+    sent = refl;
+    value = law.kept.encoder.value;
+    codes = λ k. sym (law.folded_is.codes k);
+    acknowledged = acknowledged_on;
+    open_parts = law.hears;
+  }
+
+  applied_are : length line_of.codes ≡ law.p
+  applied_are = same_bound (length line_of.codes) law.p
+      (λ k. sym (has_entry line_of.codes k) ∙ (ap is_some (sym (law.folded_is.codes k)) ∙ law.kept.applied k))
+
+  lent : frames_waiting w.server ≡ map (λ k. spelling (frame_under address (counter_of k, message_at w.once.sent k)))
+      (missing (is_acknowledged line_of) (length w.once.sent))
+  lent =
+      ap (λ (a : ℕ). map (λ m. spelling (frame_under a m)) (waiting w.server)) law.kept.server.address
+      ∙ ap (map (λ m. spelling (frame_under address m)))
+      (waiting_is address w.encoder w.server w.once law.p law.q law.kept)
+      ∙ frames_of address w.once.sent (missing w.once.acknowledged (length w.once.sent))
+      ∙ ap (λ (f : ℕ → Bool). map (λ k. spelling (frame_under address (counter_of k, message_at w.once.sent k)))
+      (missing f (length w.once.sent))) (sym (fun_ext acknowledged_on))
+
+  pub headline_on : IsHeadline step taken address opening acts line_of
+  headline_on =
+      let n = sent_le address w.encoder w.server w.once law.p law.q law.kept in
+      record {
+        order = law.folded_is.order ∙ ap numbers_below (sym applied_are);
+        store = law.kept.encoder.value ∙ law.folded_is.value;
+        codes = refl;
+        applied = (omega (arith, applied_are, law.kept.p_le), omega (arith, applied_are, n.1, law.kept.q_le));
+        acknowledged = λ k acked.
+            let l = law.kept.within k (sym (acknowledged_on k) ∙ acked) in omega (arith, l, applied_are);
+        outstanding = lent;
+      }
+
+pub headline_lem : {V : Type 0} (step : Step V) (taken : Taken V) → HeadlineHoldsOnDisks step taken
+headline_lem {V} step taken e ready shut disk_events fit =
+    let s : Station V = run_on_disks step taken e.address (station_from e) disk_events in
+    let h = backed step taken e ready shut disk_events fit in
+    let acts : List Act = history step taken (at_first e.value) h.now.events in
+    let law = lawful_of step taken e ready shut s.world h.now in
+    let file : World V = with_server s.world h.server h.acknowledged h.noise in
+    let in_file = lawful_of step taken e ready shut file h.saved in
+    let shows = shown step taken e ready shut s h in
+    let holds = holds_on step taken e.address e.value s.world acts law in (
+      h.now.events,
+      line_of step taken e.address e.value s.world acts law,
+      record {
+        is_a_line = record { fits = h.now.fits; same = h.now.same };
+        encoder = refl;
+        server = refl;
+        holds = holds;
+        headline = headline_on step taken e.address e.value s.world acts law;
+        told = λ k t. holds.acknowledged k ∙ h.told_now k t;
+        encoder_file = h.encoder_file_is_kept;
+        outstanding_in_file =
+            ap waiting_among h.held_is
+            ∙ waiting_is e.address file.encoder file.server file.once in_file.p in_file.q in_file.kept
+            ∙ ap (λ (f : ℕ → Bool). map (λ k. (counter_of k, message_at s.world.once.sent k))
+            (missing f (length s.world.once.sent))) (sym shows);
+        told_in_file = λ k t. ap (λ (f : ℕ → Bool). f k) shows ∙ h.told_saved k t;
+        taken_from_input = h.input;
+      },
+    )
+
+-- ---- what may be left of an encoder
+
+-- the file after a crash within a frame is what is to be kept once these first bytes were taken
+frame_cut_file : {V : Type 0} (step : Step V) (taken : Taken V) (address : ℕ) (s : Station V) (k came : ℕ) (b : Bool)
+    → s.encoder_file ≡ encoder_kept s.world.encoder
+    → nat_lt came (length (spelling (frame_of address s.world.once k))) ≡ b
+    → (cond b (encoder_took step s (take came (spelling (frame_of address s.world.once k))))
+    (station_after step taken address s (FrameComes k))).encoder_file
+    ≡ encoder_kept (fed step s.world.encoder (take came (spelling (frame_of address s.world.once k))))
+frame_cut_file step taken address s k came true is part =
+    saved_is step s.world.encoder s.encoder_file (take came (spelling (frame_of address s.world.once k))) is
+frame_cut_file step taken address s k came false is whole =
+    let bytes : List ℕ = spelling (frame_of address s.world.once k) in
+    saved_is step s.world.encoder s.encoder_file bytes is
+    ∙ ap (λ (x : List ℕ). encoder_kept (fed step s.world.encoder x))
+    (sym (take_all came bytes (ltb-false came (length bytes) whole)))
+
+pub what_is_left_lem : {V : Type 0} (step : Step V) (taken : Taken V) → WhatIsLeftIsACut step taken
+what_is_left_lem step taken address s is = record {
+  frame = λ k sent left survives.
+      let bytes : List ℕ = spelling (frame_of address s.world.once k) in
+      let came : ℕ = length survives.taken in (
+        came,
+        frame_cut_file step taken address s k came (nat_lt came (length bytes)) is refl
+            ∙ (ap (λ (x : List ℕ). encoder_kept (fed step s.world.encoder x)) survives.beginning
+            ∙ sym survives.state),
+      );
+  noise = λ x sent left survives. (
+    length survives.taken,
+    saved_is step s.world.encoder s.encoder_file (take (length survives.taken) x) is
+        ∙ (ap (λ (y : List ℕ). encoder_kept (fed step s.world.encoder y)) survives.beginning ∙ sym survives.state),
+  );
+}

@@ -1,0 +1,4 @@
+pub mod Fronts
+pub mod Reaching
+pub mod Backing
+pub mod Holding
