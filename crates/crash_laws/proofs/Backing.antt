@@ -1,7 +1,7 @@
 -- Every list of events and crashes leads to what a line comes to, and so does each file of the server.
 use mathlib.Core.Path.{fun_ext}
 use Rattle.std.proofs.Common.{◌≡◌, ℕ, ◌||◌, ◌⊎◌, Bool, true, false, cond, List, [], ◌∷◌, ◌++◌, length}
-use Rattle.std.proofs.Common.{Some, None, take, nat_lt, refl, ap, sym, subst, ◌∙◌, arith, inl, inr, length-append}
+use Rattle.std.proofs.Common.{append-nil, append_assoc, Some, None, take, nat_lt, refl, ap, sym, subst, ◌∙◌, arith, inl, inr, length-append}
 use Rattle.std.specs.Prelude.{is_none}
 use Rattle.std.specs.List.{AllByRecursion}
 use Rattle.std.proofs.lemmas.Bool.{cases_Bool, ltb-true}
@@ -12,7 +12,8 @@ use Rattle.uecp_encoder.specs.Target.{Step, Taken}
 use Rattle.uecp_encoder.specs.State.{EncoderState, restarted}
 use Rattle.uecp_link.specs.Server.{ServerState, Held, idle_at, nothing_counted, restarted_server, submitted}
 use Rattle.uecp_link.specs.Once.{Event, Submit, FrameComes, ReplyComes, NoiseToEncoder, NoiseToServer, EncoderLost}
-use Rattle.uecp_link.specs.Once.{ServerLost, EncoderRestart, ServerRestart, Take, refusal_of}
+use Rattle.uecp_link.specs.Once.{ServerLost, EncoderRestart, ServerRestart, Take, refusal_of, answer_of}
+use Rattle.uecp_link.specs.History.{Act, act_of}
 use Rattle.uecp_link.specs.Law.{World, frame_of, start_from, Fits}
 use Rattle.uecp_link.specs.Kept.{IsReady}
 use Rattle.uecp_link.proofs.Steps.{acknowledged_are}
@@ -24,9 +25,11 @@ use Rattle.crash_laws.specs.Station.{Station, DiskEvent, Happens, CutOff, Server
 use Rattle.crash_laws.specs.Station.{acknowledged_by, world_after, station_after, encoder_crashes, server_crashes}
 use Rattle.crash_laws.specs.Station.{server_saves, encoder_took, cut_off, happens_on_disks, after_disk_event}
 use Rattle.crash_laws.specs.Station.{run_on_disks, station_from, FitsOnDisks}
+use Rattle.crash_laws.specs.Acts.{brought_by_cut, brought_by, history_on_disks}
 use Rattle.crash_laws.proofs.Fronts.{noise_front, frame_front, saved_none, saved_is}
 use Rattle.crash_laws.proofs.Reaching.{Reached, reached_on, lawful_of, with_server, OfEncoder, OfServer, world_beside}
-use Rattle.crash_laws.proofs.Reaching.{refused_beside, encoder_leaves, server_leaves, stays_acknowledged}
+use Rattle.crash_laws.proofs.Reaching.{reached_as, refused_beside, brought_beside, encoder_leaves, server_leaves}
+use Rattle.crash_laws.proofs.Reaching.{stays_acknowledged, server_brings}
 
 -- an encoder's file that is what is to be kept stays so
 encoder_file_is : {V : Type 0} (step : Step V) (taken : Taken V) (address : ℕ) (w : World V) (file : Kept V)
@@ -56,13 +59,13 @@ either_of false c h = inr h
 module _ {V : Type 0} (step : Step V) (taken : Taken V) (e : EncoderState V) (ready : IsReady e.ring)
     (shut : e.part ≡ Closed) where
   -- What the line has come to, and what it comes to where the server goes on from its file, each by some events of a
-  -- line: the second has the same encoder, messages and codes.
-  pub record Backed (s : Station V) : Type 0 where
-    pub now : Reached step taken e s.world
+  -- line with this history: the second has the same encoder, messages and codes.
+  pub record Backed (s : Station V) (acts : List Act) : Type 0 where
+    pub now : Reached step taken e s.world acts
     pub server : ServerState
     pub acknowledged : ℕ → Bool
     pub noise : List ℕ
-    pub saved : Reached step taken e (with_server s.world server acknowledged noise)
+    pub saved : Reached step taken e (with_server s.world server acknowledged noise) acts
     pub last_is : s.server_file.last ≡ server.last
     pub held_is : s.server_file.held ≡ server.held
     pub encoder_file_is_kept : s.encoder_file ≡ encoder_kept s.world.encoder
@@ -70,30 +73,45 @@ module _ {V : Type 0} (step : Step V) (taken : Taken V) (e : EncoderState V) (re
     pub told_now : (k : ℕ) → s.told k ≡ true → s.world.once.acknowledged k ≡ true
     pub told_saved : (k : ℕ) → s.told k ≡ true → acknowledged k ≡ true
 
+  -- what the event brings
+  abbrev brings : Station V → Event → List Act
+  brings s event = act_of event (answer_of step taken s.world.once event)
+
+  -- nothing was brought
+  with_nothing : (s : Station V) (acts : List Act) → Backed s acts → Backed s (acts ++ [])
+  with_nothing s acts h = subst (λ (x : List Act). Backed s x) (sym (append-nil acts)) h
+
+  without_nothing : (s : Station V) (acts : List Act) → Backed s (acts ++ []) → Backed s acts
+  without_nothing s acts h = subst (λ (x : List Act). Backed s x) (append-nil acts) h
+
   -- ---- at the encoder's end
 
-  backed_encoder : (s : Station V) (event : Event) (file : Kept V) → Fits event → OfEncoder event
-      → is_none (refusal_of s.world.once event) ≡ true → Backed s
+  backed_encoder : (s : Station V) (acts : List Act) (event : Event) (file : Kept V) → Fits event → OfEncoder event
+      → is_none (refusal_of s.world.once event) ≡ true → Backed s acts
       → file ≡ encoder_kept (world_after step taken e.address s.world event).encoder
       → Backed (record {
         world = world_after step taken e.address s.world event;
         encoder_file = file;
         server_file = s.server_file;
         told = s.told;
-      })
-  backed_encoder s event file fit at open_ h is =
+      }) (acts ++ brings s event)
+  backed_encoder s acts event file fit at open_ h is =
       let leaves = encoder_leaves step taken s.world.once event at in
-      let open_beside : is_none (refusal_of (with_server s.world h.server h.acknowledged h.noise).once event) ≡ true =
+      let w : World V = with_server s.world h.server h.acknowledged h.noise in
+      let open_beside : is_none (refusal_of w.once event) ≡ true =
       ap is_none (refused_beside step taken e.address h.acknowledged h.noise s.world.once event at) ∙ open_ in
       record {
-        now = reached_on step taken e s.world event fit open_ h.now;
+        now = reached_on step taken e s.world acts event fit open_ h.now;
         server = h.server;
         acknowledged = h.acknowledged;
         noise = h.noise;
-        saved = subst (λ (w : World V). Reached step taken e w)
+        saved = reached_as step taken e (world_after step taken e.address w event)
+            (with_server (world_after step taken e.address s.world event) h.server h.acknowledged h.noise)
+            (acts ++ act_of event (answer_of step taken w.once event)) (acts ++ brings s event)
             (world_beside step taken e.address h.acknowledged h.noise s.world h.server event at)
-            (reached_on step taken e (with_server s.world h.server h.acknowledged h.noise) event fit open_beside
-            h.saved);
+            (ap (λ (x : List Act). acts ++ x)
+            (brought_beside step taken e.address h.acknowledged h.noise s.world.once event at))
+            (reached_on step taken e w acts event fit open_beside h.saved);
         last_is = h.last_is;
         held_is = h.held_is;
         encoder_file_is_kept = is;
@@ -102,35 +120,41 @@ module _ {V : Type 0} (step : Step V) (taken : Taken V) (e : EncoderState V) (re
         told_saved = h.told_saved;
       }
 
-  backed_encoder_crash : (s : Station V) → Backed s → Backed (encoder_crashes e.address s)
-  backed_encoder_crash s h =
-      let law = lawful_of step taken e ready shut s.world h.now in
+  backed_encoder_crash : (s : Station V) (acts : List Act) → Backed s acts → Backed (encoder_crashes e.address s) acts
+  backed_encoder_crash s acts h =
+      let law = lawful_of step taken e ready shut s.world acts h.now in
       let goes_on : encoder_going_on e.address s.encoder_file ≡ restarted s.world.encoder =
       ap (encoder_going_on e.address) h.encoder_file_is_kept
       ∙ ap (λ (a : ℕ). encoder_going_on a (encoder_kept s.world.encoder)) (sym law.kept.encoder.address) in
-      subst (λ (d : EncoderState V). Backed (record s {
+      without_nothing (encoder_crashes e.address s) acts
+      (subst (λ (d : EncoderState V). Backed (record s {
         world = record s.world {
           encoder = d;
           once =
               record s.world.once { to_encoder = [] };
         };
-      })) (sym goes_on)
-      (backed_encoder s EncoderRestart s.encoder_file tt tt refl h h.encoder_file_is_kept)
+      }) (acts ++ [])) (sym goes_on)
+      (backed_encoder s acts EncoderRestart s.encoder_file tt tt refl h h.encoder_file_is_kept))
 
   -- ---- at the server's end
 
-  backed_server : (s : Station V) (event : Event) → Fits event → OfServer event
+  backed_server : (s : Station V) (acts : List Act) (event : Event) → Fits event → OfServer event
       → is_none (refusal_of s.world.once event) ≡ true
       → (world_after step taken e.address s.world event).encoder ≡ s.world.encoder
-      → (world_after step taken e.address s.world event).once.sent ≡ s.world.once.sent → Backed s
-      → Backed (record s { world = world_after step taken e.address s.world event })
-  backed_server s event fit at open_ encoder_is sent_is h = record {
-    now = reached_on step taken e s.world event fit open_ h.now;
+      → (world_after step taken e.address s.world event).once.sent ≡ s.world.once.sent → Backed s acts
+      → Backed (record s { world = world_after step taken e.address s.world event }) (acts ++ brings s event)
+  backed_server s acts event fit at open_ encoder_is sent_is h = record {
+    now = reached_on step taken e s.world acts event fit open_ h.now;
     server = h.server;
     acknowledged = h.acknowledged;
     noise = h.noise;
-    saved = subst (λ (w : World V). Reached step taken e w)
-        (sym (server_leaves step taken e.address s.world h.server h.acknowledged h.noise event at)) h.saved;
+    saved = reached_as step taken e (with_server s.world h.server h.acknowledged h.noise)
+        (with_server (world_after step taken e.address s.world event) h.server h.acknowledged h.noise) acts
+        (acts ++ brings s event)
+        (sym (server_leaves step taken e.address s.world h.server h.acknowledged h.noise event at))
+        (sym (append-nil acts)
+        ∙ ap (λ (x : List Act). acts ++ x) (sym (server_brings step taken s.world.once event at)))
+        h.saved;
     last_is = h.last_is;
     held_is = h.held_is;
     encoder_file_is_kept = h.encoder_file_is_kept ∙ ap encoder_kept (sym encoder_is);
@@ -140,11 +164,11 @@ module _ {V : Type 0} (step : Step V) (taken : Taken V) (e : EncoderState V) (re
   }
 
   -- a message that is submitted is in the file, with what the server was by then
-  backed_submit : (s : Station V) (m : List ℕ) → Fits (Submit m)
-      → is_none (refusal_of s.world.once (Submit m)) ≡ true → Backed s
-      → Backed (station_after step taken e.address s (Submit m))
-  backed_submit s m fit open_ h =
-      let now = reached_on step taken e s.world (Submit m) fit open_ h.now in
+  backed_submit : (s : Station V) (acts : List Act) (m : List ℕ) → Fits (Submit m)
+      → is_none (refusal_of s.world.once (Submit m)) ≡ true → Backed s acts
+      → Backed (station_after step taken e.address s (Submit m)) (acts ++ [])
+  backed_submit s acts m fit open_ h =
+      let now = reached_on step taken e s.world acts (Submit m) fit open_ h.now in
       record {
         now = now;
         server = submitted s.world.server m;
@@ -159,9 +183,9 @@ module _ {V : Type 0} (step : Step V) (taken : Taken V) (e : EncoderState V) (re
         told_saved = h.told_now;
       }
 
-  backed_saves : (s : Station V) → Backed s → Backed (server_saves s)
-  backed_saves s h =
-      let law = lawful_of step taken e ready shut s.world h.now in
+  backed_saves : (s : Station V) (acts : List Act) → Backed s acts → Backed (server_saves s) acts
+  backed_saves s acts h =
+      let law = lawful_of step taken e ready shut s.world acts h.now in
       let told : (k : ℕ)
       → (s.told k || acknowledged_by s.world.server.held (length s.world.once.sent) k) ≡ true
       → s.world.once.acknowledged k ≡ true = λ k t.
@@ -185,30 +209,31 @@ module _ {V : Type 0} (step : Step V) (taken : Taken V) (e : EncoderState V) (re
       }
 
   -- what the file shows to be acknowledged is so where the server goes on from it
-  pub shown : (s : Station V) (h : Backed s) → acknowledged_by s.server_file.held (length s.world.once.sent)
-      ≡ h.acknowledged
-  shown s h =
-      let w = with_server s.world h.server h.acknowledged h.noise in
-      let law = lawful_of step taken e ready shut w h.saved in
+  pub shown : (s : Station V) (acts : List Act) (h : Backed s acts)
+      → acknowledged_by s.server_file.held (length s.world.once.sent) ≡ h.acknowledged
+  shown s acts h =
+      let w : World V = with_server s.world h.server h.acknowledged h.noise in
+      let law = lawful_of step taken e ready shut w acts h.saved in
       ap (λ (hs : List Held). acknowledged_by hs (length s.world.once.sent)) h.held_is
       ∙ fun_ext (acknowledged_are e.address w.encoder w.server w.once law.p law.q law.kept)
 
-  backed_server_crash : (s : Station V) → Backed s → Backed (server_crashes e.address s)
-  backed_server_crash s h =
-      let w = with_server s.world h.server h.acknowledged h.noise in
-      let law = lawful_of step taken e ready shut w h.saved in
+  backed_server_crash : (s : Station V) (acts : List Act) → Backed s acts → Backed (server_crashes e.address s) acts
+  backed_server_crash s acts h =
+      let w : World V = with_server s.world h.server h.acknowledged h.noise in
+      let law = lawful_of step taken e ready shut w acts h.saved in
       let goes_on : server_going_on e.address s.server_file ≡ restarted_server h.server =
       ap (λ (l : ℕ). going e.address l s.server_file.held) h.last_is
       ∙ (ap (λ (hs : List Held). going e.address h.server.last hs) h.held_is
       ∙ ap (λ (a : ℕ). going a h.server.last h.server.held) (sym law.kept.server.address)) in
-      let again = reached_on step taken e w ServerRestart tt refl h.saved in
-      let now : Reached step taken e (server_crashes e.address s).world =
-      subst (λ (f : ℕ → Bool). Reached step taken e (with_server s.world (server_going_on e.address s.server_file) f []))
-      (sym (shown s h))
-      (subst (λ (d : ServerState). Reached step taken e (with_server s.world d h.acknowledged [])) (sym goes_on) again)
-      in
+      let there : with_server s.world (restarted_server h.server) h.acknowledged []
+      ≡ (server_crashes e.address s).world =
+      ap (λ (d : ServerState). with_server s.world d h.acknowledged []) (sym goes_on)
+      ∙ ap (λ (f : ℕ → Bool). with_server s.world (server_going_on e.address s.server_file) f [])
+      (sym (shown s acts h)) in
       record {
-        now = now;
+        now = reached_as step taken e (with_server s.world (restarted_server h.server) h.acknowledged [])
+            (server_crashes e.address s).world (acts ++ []) acts there (append-nil acts)
+            (reached_on step taken e w acts ServerRestart tt refl h.saved);
         server = h.server;
         acknowledged = h.acknowledged;
         noise = h.noise;
@@ -217,7 +242,7 @@ module _ {V : Type 0} (step : Step V) (taken : Taken V) (e : EncoderState V) (re
         held_is = h.held_is;
         encoder_file_is_kept = h.encoder_file_is_kept;
         input = h.input;
-        told_now = λ k t. ap (λ (f : ℕ → Bool). f k) (shown s h) ∙ h.told_saved k t;
+        told_now = λ k t. ap (λ (f : ℕ → Bool). f k) (shown s acts h) ∙ h.told_saved k t;
         told_saved = h.told_saved;
       }
     where
@@ -226,129 +251,159 @@ module _ {V : Type 0} (step : Step V) (taken : Taken V) (e : EncoderState V) (re
 
   -- ---- an event
 
-  backed_after : (s : Station V) (event : Event) → Fits event → is_none (refusal_of s.world.once event) ≡ true
-      → Backed s → Backed (station_after step taken e.address s event)
-  backed_after s (Submit m) fit open_ h = backed_submit s m fit open_ h
-  backed_after s (FrameComes k) fit open_ h =
-      backed_encoder s (FrameComes k)
+  backed_after : (s : Station V) (acts : List Act) (event : Event) → Fits event
+      → is_none (refusal_of s.world.once event) ≡ true
+      → Backed s acts → Backed (station_after step taken e.address s event) (acts ++ brings s event)
+  backed_after s acts (Submit m) fit open_ h = backed_submit s acts m fit open_ h
+  backed_after s acts (FrameComes k) fit open_ h =
+      backed_encoder s acts (FrameComes k)
       (encoder_file_after step taken e.address s.world s.encoder_file (FrameComes k)) fit tt open_ h
       (encoder_file_is step taken e.address s.world s.encoder_file (FrameComes k) h.encoder_file_is_kept)
-  backed_after s (ReplyComes k) fit open_ h = backed_server s (ReplyComes k) fit tt open_ refl refl h
-  backed_after s (NoiseToEncoder x) fit open_ h =
-      backed_encoder s (NoiseToEncoder x)
+  backed_after s acts (ReplyComes k) fit open_ h = backed_server s acts (ReplyComes k) fit tt open_ refl refl h
+  backed_after s acts (NoiseToEncoder x) fit open_ h =
+      backed_encoder s acts (NoiseToEncoder x)
       (encoder_file_after step taken e.address s.world s.encoder_file (NoiseToEncoder x)) fit tt open_ h
       (encoder_file_is step taken e.address s.world s.encoder_file (NoiseToEncoder x) h.encoder_file_is_kept)
-  backed_after s (NoiseToServer x) fit open_ h = backed_server s (NoiseToServer x) fit tt open_ refl refl h
-  backed_after s EncoderLost fit open_ h =
-      backed_encoder s EncoderLost s.encoder_file fit tt open_ h h.encoder_file_is_kept
-  backed_after s ServerLost fit open_ h = backed_server s ServerLost fit tt open_ refl refl h
-  backed_after s EncoderRestart fit open_ h =
-      backed_encoder s EncoderRestart s.encoder_file fit tt open_ h h.encoder_file_is_kept
-  backed_after s ServerRestart fit open_ h = backed_server s ServerRestart fit tt open_ refl refl h
-  backed_after s Take fit open_ h =
-      backed_encoder s Take (encoder_file_after step taken e.address s.world s.encoder_file Take) fit tt open_ h refl
+  backed_after s acts (NoiseToServer x) fit open_ h = backed_server s acts (NoiseToServer x) fit tt open_ refl refl h
+  backed_after s acts EncoderLost fit open_ h =
+      backed_encoder s acts EncoderLost s.encoder_file fit tt open_ h h.encoder_file_is_kept
+  backed_after s acts ServerLost fit open_ h = backed_server s acts ServerLost fit tt open_ refl refl h
+  backed_after s acts EncoderRestart fit open_ h =
+      backed_encoder s acts EncoderRestart s.encoder_file fit tt open_ h h.encoder_file_is_kept
+  backed_after s acts ServerRestart fit open_ h = backed_server s acts ServerRestart fit tt open_ refl refl h
+  backed_after s acts Take fit open_ h =
+      backed_encoder s acts Take (encoder_file_after step taken e.address s.world s.encoder_file Take) fit tt open_ h
+      refl
 
   -- ---- a crash within one
 
   -- what was taken brought no frame, so the file is as it was
-  backed_took : (s : Station V) (bytes : List ℕ) → has_frame (found_beyond s.world.encoder.part bytes) ≡ false
-      → Backed s → Backed (encoder_took step s bytes)
-  backed_took s bytes none h =
-      subst (λ (file : Kept V). Backed (record s { encoder_file = file }))
+  backed_took : (s : Station V) (acts : List Act) (bytes : List ℕ)
+      → has_frame (found_beyond s.world.encoder.part bytes) ≡ false → Backed s acts
+      → Backed (encoder_took step s bytes) acts
+  backed_took s acts bytes none h =
+      subst (λ (file : Kept V). Backed (record s { encoder_file = file }) acts)
       (sym (saved_none step s.world.encoder s.encoder_file bytes none)) h
 
-  backed_frame_cut : (s : Station V) (k came : ℕ) → is_none (refusal_of s.world.once (FrameComes k)) ≡ true → Backed s
+  backed_frame_cut : (s : Station V) (acts : List Act) (k came : ℕ)
+      → is_none (refusal_of s.world.once (FrameComes k)) ≡ true → Backed s acts
       → (b : Bool) → nat_lt came (length (spelling (frame_of e.address s.world.once k))) ≡ b
-      → Backed (cond b (encoder_took step s (take came (spelling (frame_of e.address s.world.once k))))
-      (station_after step taken e.address s (FrameComes k)))
-  backed_frame_cut s k came open_ h true part =
-      let law = lawful_of step taken e ready shut s.world h.now in
+      → Backed (encoder_crashes e.address
+      (cond b (encoder_took step s (take came (spelling (frame_of e.address s.world.once k))))
+      (station_after step taken e.address s (FrameComes k))))
+      (acts ++ cond b [] (brings s (FrameComes k)))
+  backed_frame_cut s acts k came open_ h true part =
+      let law = lawful_of step taken e ready shut s.world acts h.now in
       let f = frame_of e.address s.world.once k in
-      backed_took s (take came (spelling f))
-      (frame_front s.world.encoder.part f came (law.kept.fits k) (ltb-true came (length (spelling f)) part)) h
-  backed_frame_cut s k came open_ h false whole = backed_after s (FrameComes k) tt open_ h
+      let none = frame_front s.world.encoder.part f came (law.kept.fits k)
+      (ltb-true came (length (spelling f)) part) in
+      let took : Station V = encoder_took step s (take came (spelling f)) in
+      with_nothing (encoder_crashes e.address took) acts
+      (backed_encoder_crash took acts (backed_took s acts (take came (spelling f)) none h))
+  backed_frame_cut s acts k came open_ h false whole =
+      backed_encoder_crash (station_after step taken e.address s (FrameComes k)) (acts ++ brings s (FrameComes k))
+      (backed_after s acts (FrameComes k) tt open_ h)
 
-  backed_cut : (s : Station V) (event : Event) (came : ℕ) (saved : Bool) → Fits event
-      → is_none (refusal_of s.world.once event) ≡ true → Backed s
+  -- with nothing brought
+  encoder_cut : (s : Station V) (acts : List Act) → Backed s acts → Backed (encoder_crashes e.address s) (acts ++ [])
+  encoder_cut s acts h = with_nothing (encoder_crashes e.address s) acts (backed_encoder_crash s acts h)
+
+  server_cut : (s : Station V) (acts : List Act) → Backed s acts → Backed (server_crashes e.address s) (acts ++ [])
+  server_cut s acts h = with_nothing (server_crashes e.address s) acts (backed_server_crash s acts h)
+
+  backed_cut : (s : Station V) (acts : List Act) (event : Event) (came : ℕ) (saved : Bool) → Fits event
+      → is_none (refusal_of s.world.once event) ≡ true → Backed s acts
       → Backed (cut_off step taken e.address s event came saved)
-  backed_cut s (Submit m) came true fit open_ h =
-      backed_server_crash (station_after step taken e.address s (Submit m)) (backed_submit s m fit open_ h)
-  backed_cut s (Submit m) came false fit open_ h = backed_server_crash s h
-  backed_cut s (FrameComes k) came true fit open_ h =
-      let bytes = spelling (frame_of e.address s.world.once k) in
-      backed_encoder_crash (cond (nat_lt came (length bytes)) (encoder_took step s (take came bytes))
-      (station_after step taken e.address s (FrameComes k)))
-      (backed_frame_cut s k came open_ h (nat_lt came (length bytes)) refl)
-  backed_cut s (FrameComes k) came false fit open_ h = backed_encoder_crash s h
-  backed_cut s (ReplyComes k) came saved fit open_ h = backed_server_crash s h
-  backed_cut s (NoiseToEncoder x) came true fit open_ h =
-      let law = lawful_of step taken e ready shut s.world h.now in
+      (acts ++ brought_by_cut step taken e.address s.world.once event came saved)
+  backed_cut s acts (Submit m) came true fit open_ h =
+      backed_server_crash (station_after step taken e.address s (Submit m)) (acts ++ [])
+      (backed_submit s acts m fit open_ h)
+  backed_cut s acts (Submit m) came false fit open_ h = server_cut s acts h
+  backed_cut s acts (FrameComes k) came true fit open_ h =
+      backed_frame_cut s acts k came open_ h (nat_lt came (length (spelling (frame_of e.address s.world.once k)))) refl
+  backed_cut s acts (FrameComes k) came false fit open_ h = encoder_cut s acts h
+  backed_cut s acts (ReplyComes k) came saved fit open_ h = server_cut s acts h
+  backed_cut s acts (NoiseToEncoder x) came true fit open_ h =
+      let law = lawful_of step taken e ready shut s.world acts h.now in
       let quiet = quiet_rest s.world.encoder.part s.world.once.to_encoder x law.hears.encoder
       (test_of_one (is_quiet (s.world.once.to_encoder ++ x)) _ open_) in
-      backed_encoder_crash (encoder_took step s (take came x))
-      (backed_took s (take came x) (noise_front s.world.encoder.part x came quiet) h)
-  backed_cut s (NoiseToEncoder x) came false fit open_ h = backed_encoder_crash s h
-  backed_cut s (NoiseToServer x) came saved fit open_ h = backed_server_crash s h
-  backed_cut s EncoderLost came saved fit open_ h = backed_encoder_crash s h
-  backed_cut s ServerLost came saved fit open_ h = backed_server_crash s h
-  backed_cut s EncoderRestart came saved fit open_ h = backed_encoder_crash s h
-  backed_cut s ServerRestart came saved fit open_ h = backed_server_crash s h
-  backed_cut s Take came true fit open_ h =
-      backed_encoder_crash (station_after step taken e.address s Take) (backed_after s Take fit open_ h)
-  backed_cut s Take came false fit open_ h = backed_encoder_crash s h
+      encoder_cut (encoder_took step s (take came x)) acts
+      (backed_took s acts (take came x) (noise_front s.world.encoder.part x came quiet) h)
+  backed_cut s acts (NoiseToEncoder x) came false fit open_ h = encoder_cut s acts h
+  backed_cut s acts (NoiseToServer x) came saved fit open_ h = server_cut s acts h
+  backed_cut s acts EncoderLost came saved fit open_ h = encoder_cut s acts h
+  backed_cut s acts ServerLost came saved fit open_ h = server_cut s acts h
+  backed_cut s acts EncoderRestart came saved fit open_ h = encoder_cut s acts h
+  backed_cut s acts ServerRestart came saved fit open_ h = server_cut s acts h
+  backed_cut s acts Take came true fit open_ h =
+      backed_encoder_crash (station_after step taken e.address s Take) (acts ++ brings s Take)
+      (backed_after s acts Take fit open_ h)
+  backed_cut s acts Take came false fit open_ h = encoder_cut s acts h
 
   -- ---- over every list
 
-  -- what is refused changes nothing
-  unless_refused : (s s' : Station V) (event : Event) → Backed s
-      → (is_none (refusal_of s.world.once event) ≡ true → Backed s')
+  -- what is refused changes nothing, and brings nothing
+  unless_refused : (s s' : Station V) (acts brought : List Act) (event : Event) → Backed s acts
+      → (is_none (refusal_of s.world.once event) ≡ true → Backed s' (acts ++ brought))
       → Backed (cond (is_none (refusal_of s.world.once event)) s' s)
-  unless_refused s s' event h then_ =
+      (acts ++ cond (is_none (refusal_of s.world.once event)) brought [])
+  unless_refused s s' acts brought event h then_ =
       elim (cases_Bool (is_none (refusal_of s.world.once event))) [
         | inl open_ ↦ rw open_ (then_ open_)
-        | inr refused ↦ rw refused h
+        | inr refused ↦ rw refused (with_nothing s acts h)
       ]
 
-  backed_event : (s : Station V) (event : Event) → Fits event → Backed s
+  -- an event that is no restart
+  backed_unless : (s : Station V) (acts : List Act) (event : Event) → Fits event → Backed s acts
+      → Backed (cond (is_none (refusal_of s.world.once event)) (station_after step taken e.address s event) s)
+      (acts ++ cond (is_none (refusal_of s.world.once event)) (brings s event) [])
+  backed_unless s acts event fit h =
+      unless_refused s (station_after step taken e.address s event) acts (brings s event) event h
+      (λ open_. backed_after s acts event fit open_ h)
+
+  backed_event : (s : Station V) (acts : List Act) (event : Event) → Fits event → Backed s acts
       → Backed (happens_on_disks step taken e.address s event)
-  backed_event s (Submit m) fit h =
-      unless_refused s (station_after step taken e.address s (Submit m)) (Submit m) h
-      (λ open_. backed_after s (Submit m) fit open_ h)
-  backed_event s (FrameComes k) fit h =
-      unless_refused s (station_after step taken e.address s (FrameComes k)) (FrameComes k) h
-      (λ open_. backed_after s (FrameComes k) fit open_ h)
-  backed_event s (ReplyComes k) fit h =
-      unless_refused s (station_after step taken e.address s (ReplyComes k)) (ReplyComes k) h
-      (λ open_. backed_after s (ReplyComes k) fit open_ h)
-  backed_event s (NoiseToEncoder x) fit h =
-      unless_refused s (station_after step taken e.address s (NoiseToEncoder x)) (NoiseToEncoder x) h
-      (λ open_. backed_after s (NoiseToEncoder x) fit open_ h)
-  backed_event s (NoiseToServer x) fit h =
-      unless_refused s (station_after step taken e.address s (NoiseToServer x)) (NoiseToServer x) h
-      (λ open_. backed_after s (NoiseToServer x) fit open_ h)
-  backed_event s EncoderLost fit h = backed_after s EncoderLost fit refl h
-  backed_event s ServerLost fit h = backed_after s ServerLost fit refl h
-  backed_event s EncoderRestart fit h = backed_encoder_crash s h
-  backed_event s ServerRestart fit h = backed_server_crash s h
-  backed_event s Take fit h = backed_after s Take fit refl h
+      (acts ++ brought_by step taken e.address s (Happens event))
+  backed_event s acts (Submit m) fit h = backed_unless s acts (Submit m) fit h
+  backed_event s acts (FrameComes k) fit h = backed_unless s acts (FrameComes k) fit h
+  backed_event s acts (ReplyComes k) fit h = backed_unless s acts (ReplyComes k) fit h
+  backed_event s acts (NoiseToEncoder x) fit h = backed_unless s acts (NoiseToEncoder x) fit h
+  backed_event s acts (NoiseToServer x) fit h = backed_unless s acts (NoiseToServer x) fit h
+  backed_event s acts EncoderLost fit h = backed_unless s acts EncoderLost fit h
+  backed_event s acts ServerLost fit h = backed_unless s acts ServerLost fit h
+  backed_event s acts EncoderRestart fit h = encoder_cut s acts h
+  backed_event s acts ServerRestart fit h = server_cut s acts h
+  backed_event s acts Take fit h = backed_unless s acts Take fit h
 
-  backed_disk_event : (s : Station V) (event : DiskEvent) → FitsOnDisks event → Backed s
-      → Backed (after_disk_event step taken e.address s event)
-  backed_disk_event s (Happens event) fit h = backed_event s event fit h
-  backed_disk_event s (CutOff event came saved) fit h =
-      unless_refused s (cut_off step taken e.address s event came saved) event h
-      (λ open_. backed_cut s event came saved fit open_ h)
-  backed_disk_event s ServerSaves fit h = backed_saves s h
+  backed_disk_event : (s : Station V) (acts : List Act) (event : DiskEvent) → FitsOnDisks event → Backed s acts
+      → Backed (after_disk_event step taken e.address s event) (acts ++ brought_by step taken e.address s event)
+  backed_disk_event s acts (Happens event) fit h = backed_event s acts event fit h
+  backed_disk_event s acts (CutOff event came saved) fit h =
+      unless_refused s (cut_off step taken e.address s event came saved) acts
+      (brought_by_cut step taken e.address s.world.once event came saved) event h
+      (λ open_. backed_cut s acts event came saved fit open_ h)
+  backed_disk_event s acts ServerSaves fit h = with_nothing (server_saves s) acts (backed_saves s acts h)
 
-  backed_run : (s : Station V) (events : List DiskEvent) → AllByRecursion FitsOnDisks events → Backed s
+  backed_run : (s : Station V) (acts : List Act) (events : List DiskEvent) → AllByRecursion FitsOnDisks events
+      → Backed s acts
       → Backed (run_on_disks step taken e.address s events)
-  backed_run s [] fit h = h
-  backed_run s (event ∷ events) fit h =
-      backed_run (after_disk_event step taken e.address s event) events fit.1 (backed_disk_event s event fit.0 h)
+      (acts ++ history_on_disks step taken e.address s events)
+  backed_run s acts [] fit h = with_nothing s acts h
+  backed_run s acts (event ∷ events) fit h =
+      let next : Station V = after_disk_event step taken e.address s event in
+      let brought : List Act = brought_by step taken e.address s event in
+      subst (λ (x : List Act). Backed (run_on_disks step taken e.address next events) x)
+      (append_assoc acts brought (history_on_disks step taken e.address next events))
+      (backed_run next (acts ++ brought) events fit.1 (backed_disk_event s acts event fit.0 h))
 
-  backed_from : Backed (station_from e)
+  backed_from : Backed (station_from e) []
   backed_from =
-      let at_first : Reached step taken e (start_from e) = record { events = []; fits = tt; same = refl } in
+      let at_first : Reached step taken e (start_from e) [] = record {
+        events = [];
+        fits = tt;
+        same = refl;
+        acts_are = refl;
+      } in
       record {
         now = at_first;
         server = idle_at e.address;
@@ -365,4 +420,5 @@ module _ {V : Type 0} (step : Step V) (taken : Taken V) (e : EncoderState V) (re
 
   pub backed : (events : List DiskEvent) → AllByRecursion FitsOnDisks events
       → Backed (run_on_disks step taken e.address (station_from e) events)
-  backed events fit = backed_run (station_from e) events fit backed_from
+      (history_on_disks step taken e.address (station_from e) events)
+  backed events fit = backed_run (station_from e) [] events fit backed_from

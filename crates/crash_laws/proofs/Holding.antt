@@ -9,8 +9,9 @@ use Rattle.std.proofs.lemmas.Option.{slice_get-get_or, slice_get_past}
 use Rattle.uecp_elements.specs.declared.code.Code.{Code}
 use Rattle.uecp_elements.specs.declared.code.Code.TheVariants.{Applied}
 use Rattle.uecp_frame.specs.Frame.{spelling}
+use Rattle.uecp_frame.specs.Findings.{Closed}
 use Rattle.uecp_encoder.specs.Target.{Step, Taken}
-use Rattle.uecp_encoder.specs.State.{fed}
+use Rattle.uecp_encoder.specs.State.{EncoderState, fed}
 use Rattle.uecp_link.specs.Counters.{counter_of}
 use Rattle.uecp_link.specs.Frames.{frame_under}
 use Rattle.uecp_link.specs.Server.{waiting_among, waiting, frames_waiting}
@@ -18,6 +19,7 @@ use Rattle.uecp_link.specs.Once.{FrameComes, message_at, missing, at_first}
 use Rattle.uecp_link.specs.History.{Act, numbers_below, history}
 use Rattle.uecp_link.specs.Fold.{codes_after}
 use Rattle.uecp_link.specs.Law.{World, frame_of}
+use Rattle.uecp_link.specs.Kept.{IsReady}
 use Rattle.uecp_link.specs.Holds.{LineState, is_acknowledged, Holds}
 use Rattle.uecp_link.specs.Headline.{IsHeadline}
 use Rattle.uecp_link.proofs.Steps.{sent_le, acknowledged_are}
@@ -26,10 +28,11 @@ use Rattle.uecp_link.proofs.Played.{same_bound}
 use Rattle.kept_serving.specs.Keeping.{kept_of as encoder_kept}
 use Rattle.crash_laws.specs.Station.{Station, run_on_disks, station_from}
 use Rattle.crash_laws.specs.Station.{encoder_took, station_after}
-use Rattle.crash_laws.specs.Laws.{HeadlineHoldsOnDisks, WhatIsLeftIsACut}
+use Rattle.crash_laws.specs.Acts.{history_on_disks}
+use Rattle.crash_laws.specs.Laws.{FilesHold, HeadlineHoldsOnDisks, WhatIsLeftIsACut}
 use Rattle.crash_laws.proofs.Fronts.{saved_is}
 use Rattle.crash_laws.proofs.Reaching.{lawful_of, with_server}
-use Rattle.crash_laws.proofs.Backing.{shown, backed}
+use Rattle.crash_laws.proofs.Backing.{Backed, shown, backed}
 
 -- a list has an entry at each place below its length
 has_entry : (cs : List Code) (k : ℕ) → is_some (slice_get cs k) ≡ nat_lt k (length cs)
@@ -100,35 +103,45 @@ module _ {V : Type 0} (step : Step V) (taken : Taken V) (address : ℕ) (opening
         outstanding = lent;
       }
 
-pub headline_lem : {V : Type 0} (step : Step V) (taken : Taken V) → HeadlineHoldsOnDisks step taken
-headline_lem {V} step taken e ready shut disk_events fit =
-    let s : Station V = run_on_disks step taken e.address (station_from e) disk_events in
-    let h = backed step taken e ready shut disk_events fit in
-    let acts : List Act = history step taken (at_first e.value) h.now.events in
-    let law = lawful_of step taken e ready shut s.world h.now in
+-- what its files hold
+files_hold : {V : Type 0} (step : Step V) (taken : Taken V) (e : EncoderState V) (ready : IsReady e.ring)
+    (shut : e.part ≡ Closed) (s : Station V) (acts : List Act) → Backed step taken e ready shut s acts → FilesHold s
+files_hold {V} step taken e ready shut s acts h =
     let file : World V = with_server s.world h.server h.acknowledged h.noise in
-    let in_file = lawful_of step taken e ready shut file h.saved in
-    let shows = shown step taken e ready shut s h in
-    let holds = holds_on step taken e.address e.value s.world acts law in (
-      h.now.events,
-      line_of step taken e.address e.value s.world acts law,
-      record {
-        is_a_line = record { fits = h.now.fits; same = h.now.same };
-        encoder = refl;
-        server = refl;
-        holds = holds;
-        headline = headline_on step taken e.address e.value s.world acts law;
-        told = λ k t. holds.acknowledged k ∙ h.told_now k t;
-        encoder_file = h.encoder_file_is_kept;
-        outstanding_in_file =
-            ap waiting_among h.held_is
-            ∙ waiting_is e.address file.encoder file.server file.once in_file.p in_file.q in_file.kept
-            ∙ ap (λ (f : ℕ → Bool). map (λ k. (counter_of k, message_at s.world.once.sent k))
-            (missing f (length s.world.once.sent))) (sym shows);
-        told_in_file = λ k t. ap (λ (f : ℕ → Bool). f k) shows ∙ h.told_saved k t;
-        taken_from_input = h.input;
-      },
-    )
+    let law = lawful_of step taken e ready shut file acts h.saved in
+    let shows = shown step taken e ready shut s acts h in
+    record {
+      encoder = h.encoder_file_is_kept;
+      outstanding = ap waiting_among h.held_is
+          ∙ waiting_is e.address file.encoder file.server file.once law.p law.q law.kept
+          ∙ ap (λ (f : ℕ → Bool). map (λ k. (counter_of k, message_at s.world.once.sent k))
+          (missing f (length s.world.once.sent))) (sym shows);
+      told = λ k t. ap (λ (f : ℕ → Bool). f k) shows ∙ h.told_saved k t;
+      taken = h.input;
+    }
+
+pub headline_lem : {V : Type 0} (step : Step V) (taken : Taken V) → HeadlineHoldsOnDisks step taken
+headline_lem {V} step taken e ready shut events fit =
+    let s : Station V = run_on_disks step taken e.address (station_from e) events in
+    let acts : List Act = history_on_disks step taken e.address (station_from e) events in
+    let h = backed step taken e ready shut events fit in
+    let law = lawful_of step taken e ready shut s.world acts h.now in
+    let holds = holds_on step taken e.address e.value s.world acts law in
+    record {
+      is_a_line = record {
+        events = h.now.events;
+        fits = h.now.fits;
+        same = h.now.same;
+        acts_are = h.now.acts_are;
+      };
+      line = line_of step taken e.address e.value s.world acts law;
+      encoder = refl;
+      server = refl;
+      holds = holds;
+      headline = headline_on step taken e.address e.value s.world acts law;
+      told = λ k t. holds.acknowledged k ∙ h.told_now k t;
+      files = files_hold step taken e ready shut s acts h;
+    }
 
 -- ---- what may be left of an encoder
 
@@ -162,4 +175,8 @@ what_is_left_lem step taken address s is = record {
     saved_is step s.world.encoder s.encoder_file (take (length survives.taken) x) is
         ∙ (ap (λ (y : List ℕ). encoder_kept (fed step s.world.encoder y)) survives.beginning ∙ sym survives.state),
   );
+  take = λ left which. elim which [
+    | inl before ↦ (false, is ∙ sym before)
+    | inr after ↦ (true, sym after)
+  ];
 }

@@ -1,6 +1,6 @@
 -- What a line comes to by events, and what of it the server's end has no part in.
 use Rattle.std.proofs.Common.{◌≡◌, ℕ, Bool, true, false, cond, List, [], ◌∷◌, ◌++◌, Option, Some, None, length, refl, ap}
-use Rattle.std.proofs.Common.{subst, ◌∙◌}
+use Rattle.std.proofs.Common.{sym, subst, ◌∙◌, append_assoc, append-nil}
 use Rattle.std.specs.Prelude.{is_none}
 use Rattle.std.specs.List.{AllByRecursion}
 use Rattle.uecp_elements.specs.declared.code.Code.{Code}
@@ -10,8 +10,8 @@ use Rattle.uecp_encoder.specs.State.{EncoderState}
 use Rattle.uecp_link.specs.Server.{ServerState}
 use Rattle.uecp_link.specs.Once.{Event, Submit, FrameComes, ReplyComes, NoiseToEncoder, NoiseToServer, EncoderLost}
 use Rattle.uecp_link.specs.Once.{ServerLost, EncoderRestart, ServerRestart, Take, Once, refusal_of, applied_once}
-use Rattle.uecp_link.specs.Once.{is_next, delivered, after, at_first}
-use Rattle.uecp_link.specs.History.{history}
+use Rattle.uecp_link.specs.Once.{is_next, delivered, delivery, after, answer_of, at_first}
+use Rattle.uecp_link.specs.History.{Act, act_of, history}
 use Rattle.uecp_link.specs.Law.{World, happens, run, start_from, Fits}
 use Rattle.uecp_link.specs.Kept.{IsReady}
 use Rattle.uecp_link.proofs.Lawful.{Lawful, lawful_run, lawful_from}
@@ -20,47 +20,93 @@ use Rattle.crash_laws.specs.Station.{world_after}
 
 -- ---- what a line comes to
 
--- These events lead there.
-pub record Reached {V : Type 0} (step : Step V) (taken : Taken V) (e : EncoderState V) (w : World V) : Type 0 where
+-- These events lead there, with this history.
+pub record Reached {V : Type 0} (step : Step V) (taken : Taken V) (e : EncoderState V) (w : World V) (acts : List Act)
+    : Type 0 where
   pub events : List Event
   pub fits : AllByRecursion Fits events
   pub same : run step taken e.address (start_from e) events ≡ w
-
-run-append : {V : Type 0} (step : Step V) (taken : Taken V) (address : ℕ) (w : World V) (xs ys : List Event)
-    → run step taken address w (xs ++ ys) ≡ run step taken address (run step taken address w xs) ys
-run-append step taken address w [] ys = refl
-run-append step taken address w (x ∷ xs) ys = run-append step taken address (happens step taken address w x) xs ys
+  pub acts_are : history step taken (at_first e.value) events ≡ acts
 
 fits_push : (events : List Event) (event : Event) → AllByRecursion Fits events → Fits event
     → AllByRecursion Fits (events ++ event ∷ [])
 fits_push [] event all one = (one, tt)
 fits_push (x ∷ events) event all one = (all.0, fits_push events event all.1 one)
 
-happens_is : {V : Type 0} (step : Step V) (taken : Taken V) (address : ℕ) (w : World V) (event : Event)
-    → is_none (refusal_of w.once event) ≡ true
-    → happens step taken address w event ≡ world_after step taken address w event
-happens_is step taken address w event open_ = rw open_ refl
+module _ {V : Type 0} (step : Step V) (taken : Taken V) (address : ℕ) where
+  run-append : (w : World V) (xs ys : List Event)
+      → run step taken address w (xs ++ ys) ≡ run step taken address (run step taken address w xs) ys
+  run-append w [] ys = refl
+  run-append w (x ∷ xs) ys = run-append (happens step taken address w x) xs ys
+
+  happens_is : (w : World V) (event : Event) → is_none (refusal_of w.once event) ≡ true
+      → happens step taken address w event ≡ world_after step taken address w event
+  happens_is w event open_ = rw open_ refl
+
+  -- what an event brings to a history that has come so far
+  abbrev brings : World V → Event → List Act
+  brings w event = act_of event (answer_of step taken w.once event)
+
+  -- an event that is not refused after others
+  abbrev IsPushed : World V → List Event → Event → Type 0
+  IsPushed w events event =
+      is_none (refusal_of (run step taken address w events).once event) ≡ true
+      → history step taken w.once (events ++ event ∷ [])
+      ≡ history step taken w.once events ++ brings (run step taken address w events) event
+
+  pushed_on : (w w1 : World V) (brought : List Act) (events : List Event) (event : Event) (b : Bool)
+      → IsPushed w1 events event → IsPushed w events event
+      → is_none (refusal_of (run step taken address (cond b w1 w) events).once event) ≡ true
+      → cond b (brought ++ history step taken w1.once (events ++ event ∷ []))
+      (history step taken w.once (events ++ event ∷ []))
+      ≡ cond b (brought ++ history step taken w1.once events) (history step taken w.once events)
+      ++ brings (run step taken address (cond b w1 w) events) event
+  pushed_on w w1 brought events event true first second open_ =
+      ap (λ (h : List Act). brought ++ h) (first open_)
+      ∙ sym (append_assoc brought (history step taken w1.once events) (brings (run step taken address w1 events) event))
+  pushed_on w w1 brought events event false first second open_ = second open_
+
+  history-push : (w : World V) (events : List Event) (event : Event) → IsPushed w events event
+  history-push w [] event = λ open_. rw open_ (append-nil (brings w event))
+  history-push w (x ∷ events) event =
+      let w1 : World V = world_after step taken address w x in
+      pushed_on w w1 (brings w x) events event (is_none (refusal_of w.once x)) (history-push w1 events event)
+      (history-push w events event)
 
 -- one event more
-pub reached_on : {V : Type 0} (step : Step V) (taken : Taken V) (e : EncoderState V) (w : World V) (event : Event)
-    → Fits event → is_none (refusal_of w.once event) ≡ true → Reached step taken e w
+pub reached_on : {V : Type 0} (step : Step V) (taken : Taken V) (e : EncoderState V) (w : World V) (acts : List Act)
+    (event : Event) → Fits event → is_none (refusal_of w.once event) ≡ true → Reached step taken e w acts
     → Reached step taken e (world_after step taken e.address w event)
-reached_on step taken e w event fit open_ r = record {
-  events = r.events ++ event ∷ [];
-  fits = fits_push r.events event r.fits fit;
-  same = run-append step taken e.address (start_from e) r.events (event ∷ [])
-      ∙ (ap (λ (v : World _). happens step taken e.address v event) r.same
-      ∙ happens_is step taken e.address w event open_);
-}
+    (acts ++ act_of event (answer_of step taken w.once event))
+reached_on {V} step taken e w acts event fit open_ r =
+    let came : World V = run step taken e.address (start_from e) r.events in
+    let there : is_none (refusal_of came.once event) ≡ true =
+    ap (λ (v : World V). is_none (refusal_of v.once event)) r.same ∙ open_ in
+    record {
+      events = r.events ++ event ∷ [];
+      fits = fits_push r.events event r.fits fit;
+      same = run-append step taken e.address (start_from e) r.events (event ∷ [])
+          ∙ (ap (λ (v : World V). happens step taken e.address v event) r.same
+          ∙ happens_is step taken e.address w event open_);
+      acts_are = history-push step taken e.address (start_from e) r.events event there
+          ∙ ap (λ (h : List Act). h ++ act_of event (answer_of step taken came.once event)) r.acts_are
+          ∙ ap (λ (v : World V). acts ++ act_of event (answer_of step taken v.once event)) r.same;
+    }
+
+-- the same by another name
+pub reached_as : {V : Type 0} (step : Step V) (taken : Taken V) (e : EncoderState V) (w w' : World V)
+    (acts acts' : List Act) → w ≡ w' → acts ≡ acts' → Reached step taken e w acts → Reached step taken e w' acts'
+reached_as step taken e w w' acts acts' w_is acts_is r =
+    record { events = r.events; fits = r.fits; same = r.same ∙ w_is; acts_are = r.acts_are ∙ acts_is }
 
 -- what holds of every line holds there
 pub lawful_of : {V : Type 0} (step : Step V) (taken : Taken V) (e : EncoderState V) → IsReady e.ring → e.part ≡ Closed
-    → (w : World V) (r : Reached step taken e w)
-    → Lawful step taken e.address e.value w (history step taken (at_first e.value) r.events)
-lawful_of step taken e ready shut w r =
-    subst (λ (v : World _). Lawful step taken e.address e.value v (history step taken (at_first e.value) r.events))
+    → (w : World V) (acts : List Act) → Reached step taken e w acts → Lawful step taken e.address e.value w acts
+lawful_of step taken e ready shut w acts r =
+    subst (λ (h : List Act). Lawful step taken e.address e.value w h) r.acts_are
+    (subst (λ (v : World _). Lawful step taken e.address e.value v (history step taken (at_first e.value) r.events))
     r.same
-    (lawful_run step taken e.address e.value (start_from e) [] r.events r.fits (lawful_from step taken e ready shut))
+    (lawful_run step taken e.address e.value (start_from e) [] r.events r.fits (lawful_from step taken e ready shut)))
 
 -- ---- another server beside the same encoder
 
@@ -140,6 +186,26 @@ module _ {V : Type 0} (step : Step V) (taken : Taken V) (address : ℕ) (acknowl
   refused_beside o ServerRestart at = absurd at
   refused_beside o Take at = refl
 
+  delivery_beside : (o : Once V) (k : ℕ) (code : Option Code)
+      → delivery step (beside o acknowledged noise) k code ≡ delivery step o k code
+  delivery_beside o k (Some code) = refl
+  delivery_beside o k None = refl
+
+  -- and it brings the same
+  pub brought_beside : (o : Once V) (event : Event) → OfEncoder event
+      → act_of event (answer_of step taken (beside o acknowledged noise) event)
+      ≡ act_of event (answer_of step taken o event)
+  brought_beside o (Submit m) at = absurd at
+  brought_beside o (FrameComes k) at = ap (act_of (FrameComes k)) (delivery_beside o k (o.codes k))
+  brought_beside o (ReplyComes k) at = absurd at
+  brought_beside o (NoiseToEncoder x) at = refl
+  brought_beside o (NoiseToServer x) at = absurd at
+  brought_beside o EncoderLost at = refl
+  brought_beside o ServerLost at = absurd at
+  brought_beside o EncoderRestart at = refl
+  brought_beside o ServerRestart at = absurd at
+  brought_beside o Take at = refl
+
 -- what of the once-machine an event at the encoder's end leaves
 pub record Leaves {V : Type 0} (o o' : Once V) : Type 0 where
   pub sent : o'.sent ≡ o.sent
@@ -196,3 +262,17 @@ stays_acknowledged step taken o ServerLost at k h = h
 stays_acknowledged step taken o EncoderRestart at k h = absurd at
 stays_acknowledged step taken o ServerRestart at k h = h
 stays_acknowledged step taken o Take at k h = absurd at
+
+-- and nothing is brought
+pub server_brings : {V : Type 0} (step : Step V) (taken : Taken V) (o : Once V) (event : Event) → OfServer event
+    → act_of event (answer_of step taken o event) ≡ []
+server_brings step taken o (Submit m) at = absurd at
+server_brings step taken o (FrameComes k) at = absurd at
+server_brings step taken o (ReplyComes k) at = refl
+server_brings step taken o (NoiseToEncoder x) at = absurd at
+server_brings step taken o (NoiseToServer x) at = refl
+server_brings step taken o EncoderLost at = absurd at
+server_brings step taken o ServerLost at = refl
+server_brings step taken o EncoderRestart at = absurd at
+server_brings step taken o ServerRestart at = refl
+server_brings step taken o Take at = absurd at
