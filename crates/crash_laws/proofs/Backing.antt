@@ -164,7 +164,7 @@ module _ {V : Type 0} (step : Step V) (taken : Taken V) (e : EncoderState V) (re
   }
 
   -- a message that is submitted is in the file, with what the server was by then
-  backed_submit : (s : Station V) (acts : List Act) (m : List ℕ) → Fits (Submit m)
+  pub backed_submit : (s : Station V) (acts : List Act) (m : List ℕ) → Fits (Submit m)
       → is_none (refusal_of s.world.once (Submit m)) ≡ true → Backed s acts
       → Backed (station_after step taken e.address s (Submit m)) (acts ++ [])
   backed_submit s acts m fit open_ h =

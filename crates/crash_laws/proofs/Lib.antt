@@ -2,3 +2,4 @@ pub mod Fronts
 pub mod Reaching
 pub mod Backing
 pub mod Holding
+pub mod Submitting

@@ -1,5 +1,5 @@
 -- What holds of both ends with their files, over every list of events and crashes. Source: profile.
-use Rattle.std.specs.Prelude.{◌≡◌, ◌⊎◌, ℕ, Bool, true, List, length, map}
+use Rattle.std.specs.Prelude.{◌≡◌, ◌⊎◌, ℕ, ◌+◌, ◌≤◌, Bool, true, List, length, map}
 use Rattle.std.specs.List.{AllByRecursion}
 use Rattle.uecp_frame.specs.Frame.{spelling}
 use Rattle.uecp_frame.specs.Findings.{Closed}
@@ -7,7 +7,7 @@ use Rattle.uecp_encoder.specs.Target.{Step, Taken}
 use Rattle.uecp_encoder.specs.State.{EncoderState}
 use Rattle.uecp_link.specs.Counters.{counter_of}
 use Rattle.uecp_link.specs.Server.{waiting_among}
-use Rattle.uecp_link.specs.Once.{Event, FrameComes, NoiseToEncoder, Take, message_at, missing, at_first}
+use Rattle.uecp_link.specs.Once.{Event, FrameComes, Submit, NoiseToEncoder, Take, message_at, missing, at_first}
 use Rattle.uecp_link.specs.History.{Act, history}
 use Rattle.uecp_link.specs.Law.{frame_of, encoder_after, run, start_from, Fits}
 use Rattle.uecp_link.specs.Kept.{IsReady}
@@ -15,8 +15,14 @@ use Rattle.uecp_link.specs.Holds.{LineState, is_acknowledged, Holds}
 use Rattle.uecp_link.specs.Headline.{IsHeadline}
 use Rattle.kept_serving.specs.Keeping.{Kept, Outlives}
 use Rattle.kept_serving.specs.Keeping.{kept_of as encoder_kept}
+use Rattle.uecp_net.specs.Sending.{SenderOver, submitted_all}
+use Rattle.kept_sending.specs.declared.keep.Progress.{Progress}
+use Rattle.kept_sending.specs.Keeping.{KeptServer, taking}
+use Rattle.kept_sending.specs.Keeping.{kept_of as server_kept}
+use Rattle.kept_sending.specs.Sending.{OutlivesBatch}
+use Rattle.kept_sending.specs.Sending.{Outlives as OutlivesSettling}
 use Rattle.crash_laws.specs.Station.{Station, DiskEvent, FitsOnDisks, acknowledged_by, cut_off, run_on_disks}
-use Rattle.crash_laws.specs.Station.{station_from}
+use Rattle.crash_laws.specs.Station.{station_from, server_saves, Happens}
 use Rattle.crash_laws.specs.Acts.{history_on_disks}
 
 -- ---- A crash is an event of a line.
@@ -81,3 +87,38 @@ pub record LeavesACut {V : Type 0} (step : Step V) (taken : Taken V) (address : 
 abbrev pub WhatIsLeftIsACut : {V : Type 0} → Step V → Taken V → Type 0
 WhatIsLeftIsACut {V} step taken = (address : ℕ) (s : Station V) → s.encoder_file ≡ encoder_kept s.world.encoder
     → LeavesACut step taken address s
+
+-- ---- What `kept_sending` says is a crash here.
+
+-- The messages of a batch are submitted, one after another.
+abbrev pub submissions : List (List ℕ) → List DiskEvent
+submissions batch = map (λ m. Happens (Submit m)) batch
+
+-- The server is that of a sender, its file is what is to be kept of it, and it has come so far. A batch is submitted
+-- that finds room, and then this happens, while the messages are on their way: the server is not saved, and becomes
+-- that of another state of the sender. Whatever `kept_sending` says that a crash may leave of this is the file as it
+-- was, or with the batch submitted, or after one more save; and so it is where there is no batch, as after a start.
+pub record LeavesAFile {V C I O : Type 0} (step : Step V) (taken : Taken V) (address : ℕ) (s : Station V)
+    (progress : Progress) (old new : SenderOver C I O) (batch : List (List ℕ)) (hearing : List DiskEvent) : Type 0 where
+  pub sends : (left : KeptServer)
+      → let between = run_on_disks step taken address s (submissions batch) in
+      let after = run_on_disks step taken address between hearing in
+      after.server_file ≡ between.server_file → after.world.server ≡ new.sender.server
+      → OutlivesBatch progress (taking progress (length batch)) old (submitted_all old batch) new left
+      → (left ≡ s.server_file) ⊎ (left ≡ between.server_file) ⊎ (left ≡ (server_saves after).server_file)
+  pub settles : (left : KeptServer)
+      → let after = run_on_disks step taken address s hearing in
+      after.server_file ≡ s.server_file → after.world.server ≡ new.sender.server
+      → OutlivesSettling progress old.sender.server new.sender.server left
+      → (left ≡ s.server_file) ⊎ (left ≡ (server_saves after).server_file)
+
+-- From whatever events and crashes have led to.
+abbrev pub WhatIsLeftIsAFile : {V : Type 0} → (C I O : Type 0) → Step V → Taken V → Type 0
+WhatIsLeftIsAFile {V} C I O step taken =
+    (e : EncoderState V) → IsReady e.ring → e.part ≡ Closed → (events : List DiskEvent)
+    → AllByRecursion FitsOnDisks events
+    → let s = run_on_disks step taken e.address (station_from e) events in
+    (progress : Progress) (old new : SenderOver C I O) (batch : List (List ℕ)) (hearing : List DiskEvent)
+    → old.sender.server ≡ s.world.server → s.server_file ≡ server_kept progress s.world.server
+    → AllByRecursion FitsOnDisks (submissions batch) → length s.world.server.held + length batch ≤ 8
+    → LeavesAFile step taken e.address s progress old new batch hearing
