@@ -3,3 +3,4 @@ pub mod Reaching
 pub mod Backing
 pub mod Holding
 pub mod Submitting
+pub mod Streaming

@@ -1,5 +1,6 @@
 -- What holds of both ends with their files, over every list of events and crashes. Source: profile.
-use Rattle.std.specs.Prelude.{◌≡◌, ◌⊎◌, ℕ, ◌+◌, ◌≤◌, Bool, true, List, length, map}
+use Rattle.std.specs.Prelude.{◌≡◌, ◌⊎◌, ℕ, zero, suc, ◌+◌, ◌≤◌, Bool, true, List, [], ◌∷◌, ◌++◌, length, map, is_none}
+use Rattle.std.specs.Prelude.{if◌then◌else◌}
 use Rattle.std.specs.List.{AllByRecursion}
 use Rattle.uecp_frame.specs.Frame.{spelling}
 use Rattle.uecp_frame.specs.Findings.{Closed}
@@ -7,7 +8,7 @@ use Rattle.uecp_encoder.specs.Target.{Step, Taken}
 use Rattle.uecp_encoder.specs.State.{EncoderState}
 use Rattle.uecp_link.specs.Counters.{counter_of}
 use Rattle.uecp_link.specs.Server.{waiting_among}
-use Rattle.uecp_link.specs.Once.{Event, FrameComes, Submit, NoiseToEncoder, Take, message_at, missing, at_first}
+use Rattle.uecp_link.specs.Once.{Once, refusal_of, EncoderLost, EncoderRestart, Event, FrameComes, Submit, NoiseToEncoder, Take, message_at, missing, at_first}
 use Rattle.uecp_link.specs.History.{Act, history}
 use Rattle.uecp_link.specs.Law.{frame_of, encoder_after, run, start_from, Fits}
 use Rattle.uecp_link.specs.Kept.{IsReady}
@@ -22,7 +23,7 @@ use Rattle.kept_sending.specs.Keeping.{kept_of as server_kept}
 use Rattle.kept_sending.specs.Sending.{OutlivesBatch}
 use Rattle.kept_sending.specs.Sending.{Outlives as OutlivesSettling}
 use Rattle.crash_laws.specs.Station.{Station, DiskEvent, FitsOnDisks, acknowledged_by, cut_off, run_on_disks}
-use Rattle.crash_laws.specs.Station.{station_from, server_saves, Happens}
+use Rattle.crash_laws.specs.Station.{station_from, server_saves, happens_on_disks, Happens, CutOff}
 use Rattle.crash_laws.specs.Acts.{history_on_disks}
 
 -- ---- A crash is an event of a line.
@@ -72,18 +73,53 @@ HeadlineHoldsOnDisks {V} step taken =
 
 -- ---- What `kept_serving` says is a crash here.
 
--- Where an encoder's file is what is to be kept of it, whatever `kept_serving` says that a crash may leave once a frame
--- came, or noise, or a group was taken, is the encoder's file after a crash within that event.
-pub record LeavesACut {V : Type 0} (step : Step V) (taken : Taken V) (address : ℕ) (s : Station V) : Type 0 where
-  pub frame : (k : ℕ) (sent : List ℕ) (left : Kept V)
-      → Outlives step s.world.encoder (spelling (frame_of address s.world.once k)) sent left
-      → (came : ℕ) × ((cut_off step taken address s (FrameComes k) came true).encoder_file ≡ left)
-  pub noise : (x sent : List ℕ) (left : Kept V) → Outlives step s.world.encoder x sent left
-      → (came : ℕ) × ((cut_off step taken address s (NoiseToEncoder x) came true).encoder_file ≡ left)
-  pub take : (left : Kept V) → (left ≡ encoder_kept s.world.encoder)
-      ⊎ (left ≡ encoder_kept (encoder_after step taken address s.world.once s.world.encoder Take))
-      → (saved : Bool) × ((cut_off step taken address s Take 0 saved).encoder_file ≡ left)
+-- The bytes that an event brings to the encoder.
+abbrev pub bytes_to_encoder : {V : Type 0} → ℕ → Once V → Event → List ℕ
+bytes_to_encoder address o (FrameComes k) = if is_none (refusal_of o (FrameComes k)) then spelling (frame_of address o k)
+    else []
+bytes_to_encoder address o (NoiseToEncoder x) = if is_none (refusal_of o (NoiseToEncoder x)) then x else []
+bytes_to_encoder address o _ = []
 
+-- What events bring to the encoder, one after another.
+abbrev pub stream_of : {V : Type 0} → Step V → Taken V → ℕ → Station V → List Event → List ℕ
+stream_of step taken address s [] = []
+stream_of step taken address s (event ∷ events) =
+    bytes_to_encoder address s.world.once event
+    ++ stream_of step taken address (happens_on_disks step taken address s event) events
+
+-- An event goes on while the encoder serves one connection: it neither ends that nor takes a group.
+abbrev pub GoesOnServing : Event → Type 0
+GoesOnServing EncoderLost = ⊥
+GoesOnServing EncoderRestart = ⊥
+GoesOnServing Take = ⊥
+GoesOnServing _ = Unit {0}
+
+-- The encoder crashes within an event, once so many of its bytes came, and before one that brings it none.
+abbrev pub crash_within : Event → (came : ℕ) → DiskEvent
+crash_within (FrameComes k) came = CutOff (FrameComes k) came true
+crash_within (NoiseToEncoder x) came = CutOff (NoiseToEncoder x) came true
+crash_within _ came = Happens EncoderRestart
+
+-- The first n of these events happen, and within the next, if there is one, the encoder crashes.
+abbrev pub crash_after : List Event → (n came : ℕ) → List DiskEvent
+crash_after [] n came = Happens EncoderRestart ∷ []
+crash_after (event ∷ events) zero came = crash_within event came ∷ []
+crash_after (event ∷ events) (suc n) came = Happens event ∷ crash_after events n came
+
+-- An encoder's file is what is to be kept of it. Whatever `kept_serving` says that a crash may leave while the encoder
+-- serves a connection over which events bring what comes, is its file after a crash within one of them; and so it is of
+-- a take.
+pub record LeavesACut {V : Type 0} (step : Step V) (taken : Taken V) (address : ℕ) (s : Station V) : Type 0 where
+  pub serves : (events : List Event) (sent : List ℕ) (left : Kept V) → AllByRecursion GoesOnServing events
+      → Outlives step s.world.encoder (stream_of step taken address s events) sent left
+      → (n : ℕ) × (came : ℕ)
+      × ((run_on_disks step taken address s (crash_after events n came)).encoder_file ≡ left)
+  pub takes : (left : Kept V) → (left ≡ encoder_kept s.world.encoder)
+      ⊎ (left ≡ encoder_kept (encoder_after step taken address s.world.once s.world.encoder Take))
+      → (saved : Bool)
+      × ((run_on_disks step taken address s (CutOff Take 0 saved ∷ [])).encoder_file ≡ left)
+
+-- From every station.
 abbrev pub WhatIsLeftIsACut : {V : Type 0} → Step V → Taken V → Type 0
 WhatIsLeftIsACut {V} step taken = (address : ℕ) (s : Station V) → s.encoder_file ≡ encoder_kept s.world.encoder
     → LeavesACut step taken address s

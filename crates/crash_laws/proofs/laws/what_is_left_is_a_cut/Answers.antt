@@ -1,4 +1,4 @@
-use Rattle.crash_laws.proofs.Holding.{what_is_left_lem}
+use Rattle.crash_laws.proofs.Streaming.{what_is_left_lem}
 use Rattle.crash_laws.proofs.laws.what_is_left_is_a_cut.Goals as goal
 
 pub returns : goal.returns
