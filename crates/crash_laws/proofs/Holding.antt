@@ -1,36 +1,32 @@
 -- What is backed by a line holds the headline.
 use mathlib.Core.Path.{fun_ext}
-use Rattle.std.proofs.Common.{◌≡◌, ℕ, Bool, true, false, List, [], ◌∷◌, length, map, take, nat_lt, refl, ap, sym}
-use Rattle.std.proofs.Common.{◌∙◌, arith, inl, inr, cond}
+use Rattle.std.proofs.Common.{◌≡◌, ℕ, Bool, List, [], ◌∷◌, length, map, nat_lt, refl, ap, sym}
+use Rattle.std.proofs.Common.{◌∙◌, arith, inl, inr}
 use Rattle.std.specs.Prelude.{is_some, slice_get}
-use Rattle.std.proofs.lemmas.Bool.{cases_order, lt-ltb, le-ltb, ltb-false}
-use Rattle.std.proofs.lemmas.List.{take_all}
+use Rattle.std.proofs.lemmas.Bool.{cases_order, lt-ltb, le-ltb}
 use Rattle.std.proofs.lemmas.Option.{slice_get-get_or, slice_get_past}
 use Rattle.uecp_elements.specs.declared.code.Code.{Code}
 use Rattle.uecp_elements.specs.declared.code.Code.TheVariants.{Applied}
 use Rattle.uecp_frame.specs.Frame.{spelling}
 use Rattle.uecp_frame.specs.Findings.{Closed}
 use Rattle.uecp_encoder.specs.Target.{Step, Taken}
-use Rattle.uecp_encoder.specs.State.{EncoderState, fed}
+use Rattle.uecp_encoder.specs.State.{EncoderState}
 use Rattle.uecp_link.specs.Counters.{counter_of}
 use Rattle.uecp_link.specs.Frames.{frame_under}
 use Rattle.uecp_link.specs.Server.{waiting_among, waiting, frames_waiting}
-use Rattle.uecp_link.specs.Once.{FrameComes, message_at, missing, at_first}
-use Rattle.uecp_link.specs.History.{Act, numbers_below, history}
+use Rattle.uecp_link.specs.Once.{message_at, missing}
+use Rattle.uecp_link.specs.History.{Act, numbers_below}
 use Rattle.uecp_link.specs.Fold.{codes_after}
-use Rattle.uecp_link.specs.Law.{World, frame_of}
+use Rattle.uecp_link.specs.Law.{World}
 use Rattle.uecp_link.specs.Kept.{IsReady}
 use Rattle.uecp_link.specs.Holds.{LineState, is_acknowledged, Holds}
 use Rattle.uecp_link.specs.Headline.{IsHeadline}
 use Rattle.uecp_link.proofs.Steps.{sent_le, acknowledged_are}
 use Rattle.uecp_link.proofs.Lawful.{Lawful, waiting_is}
 use Rattle.uecp_link.proofs.Played.{same_bound}
-use Rattle.kept_serving.specs.Keeping.{kept_of as encoder_kept}
 use Rattle.crash_laws.specs.Station.{Station, run_on_disks, station_from}
-use Rattle.crash_laws.specs.Station.{encoder_took, station_after}
 use Rattle.crash_laws.specs.Acts.{history_on_disks}
-use Rattle.crash_laws.specs.Laws.{FilesHold, HeadlineHoldsOnDisks, WhatIsLeftIsACut}
-use Rattle.crash_laws.proofs.Fronts.{saved_is}
+use Rattle.crash_laws.specs.Laws.{FilesHold, HeadlineHoldsOnDisks}
 use Rattle.crash_laws.proofs.Reaching.{lawful_of, with_server}
 use Rattle.crash_laws.proofs.Backing.{Backed, shown, backed}
 

@@ -4,3 +4,4 @@ pub mod Backing
 pub mod Holding
 pub mod Submitting
 pub mod Streaming
+pub mod Ending

@@ -1,12 +1,12 @@
 -- What may be left of an encoder is its file after a crash within an event.
-use Rattle.std.proofs.Common.{◌≡◌, ℕ, zero, suc, ◌+◌, ◌-◌, ◌≤◌, ◌<◌, ◌⊎◌, Bool, true, false, cond, List, [], ◌∷◌, ◌++◌}
-use Rattle.std.proofs.Common.{length, take, drop, nat_lt, refl, ap, sym, subst, ◌∙◌, arith, inl, inr, take-append-drop}
-use Rattle.std.proofs.Common.{length-drop, length-append}
+use Rattle.std.proofs.Common.{◌≡◌, ℕ, suc, ◌+◌, Bool, true, false, cond, List, [], ◌∷◌, ◌++◌}
+use Rattle.std.proofs.Common.{length, take, drop, nat_lt, refl, ap, sym, ◌∙◌, arith, inl, inr}
+use Rattle.std.proofs.Common.{length-drop}
 use Rattle.std.proofs.Math.Seq.{take-append-add}
 use Rattle.std.specs.Prelude.{is_none}
 use Rattle.std.specs.Io.{StartsWith}
 use Rattle.std.specs.List.{AllByRecursion}
-use Rattle.std.proofs.lemmas.Bool.{cases_Bool, cases_lt, ltb-false}
+use Rattle.std.proofs.lemmas.Bool.{cases_lt, ltb-false}
 use Rattle.std.proofs.lemmas.List.{take_all, take-append-le}
 use Rattle.uecp_frame.specs.Frame.{spelling}
 use Rattle.uecp_encoder.specs.Target.{Step, Taken}
@@ -16,9 +16,8 @@ use Rattle.uecp_encoder.proofs.InParts.{fed_none}
 use Rattle.uecp_link.specs.Once.{Event, Submit, FrameComes, ReplyComes, NoiseToEncoder, NoiseToServer, EncoderLost}
 use Rattle.uecp_link.specs.Once.{ServerLost, EncoderRestart, ServerRestart, Take, refusal_of}
 use Rattle.uecp_link.specs.Law.{frame_of}
-use Rattle.kept_serving.specs.Keeping.{Kept, Outlives}
 use Rattle.kept_serving.specs.Keeping.{kept_of as encoder_kept}
-use Rattle.crash_laws.specs.Station.{Station, Happens, saved_for, station_after, encoder_took, happens_on_disks}
+use Rattle.crash_laws.specs.Station.{Station, station_after, encoder_took, happens_on_disks}
 use Rattle.crash_laws.specs.Station.{run_on_disks, cut_off}
 use Rattle.crash_laws.specs.Laws.{bytes_to_encoder, stream_of, GoesOnServing, crash_within, crash_after}
 use Rattle.crash_laws.specs.Laws.{WhatIsLeftIsACut}

@@ -1,6 +1,6 @@
 -- What may be left of a server is its file.
-use Rattle.std.proofs.Common.{◌≡◌, ℕ, zero, suc, ◌+◌, ◌≤◌, ◌<◌, ◌⊎◌, Bool, true, false, cond, List, [], ◌∷◌, ◌++◌, length}
-use Rattle.std.proofs.Common.{map, refl, ap, sym, subst, ◌∙◌, arith, inl, inr, length-append, Some, None}
+use Rattle.std.proofs.Common.{◌≡◌, ℕ, suc, ◌+◌, ◌≤◌, ◌<◌, Bool, true, false, cond, List, [], ◌∷◌, ◌++◌, length}
+use Rattle.std.proofs.Common.{refl, ap, sym, ◌∙◌, arith, inl, inr, length-append, Some, None}
 use Rattle.std.specs.Prelude.{is_none}
 use Rattle.std.specs.List.{AllByRecursion}
 use Rattle.std.proofs.lemmas.Bool.{lt-ltb}
@@ -17,10 +17,10 @@ use Rattle.uecp_link.proofs.Steps.{least_acknowledged, let_go_is, sent_le}
 use Rattle.uecp_net.specs.Sending.{SenderOver, submitted_to, submitted_all}
 use Rattle.kept_sending.specs.declared.keep.Progress.{Progress}
 use Rattle.kept_sending.specs.Keeping.{KeptServer, kept_of, taking}
-use Rattle.crash_laws.specs.Station.{Station, DiskEvent, Happens, progress_in, station_after, server_saves}
+use Rattle.crash_laws.specs.Station.{Station, Happens, progress_in, station_after, server_saves}
 use Rattle.crash_laws.specs.Station.{after_disk_event, run_on_disks, station_from, FitsOnDisks}
 use Rattle.crash_laws.specs.Acts.{history_on_disks}
-use Rattle.crash_laws.specs.Laws.{submissions, LeavesAFile, WhatIsLeftIsAFile}
+use Rattle.crash_laws.specs.Laws.{submissions, WhatIsLeftIsAFile}
 use Rattle.crash_laws.proofs.Reaching.{lawful_of}
 use Rattle.crash_laws.proofs.Backing.{Backed, backed_submit, backed}
 

@@ -5,7 +5,7 @@ use Rattle.std.specs.List.{AllByRecursion}
 use Rattle.uecp_frame.specs.Frame.{spelling}
 use Rattle.uecp_frame.specs.Findings.{Closed}
 use Rattle.uecp_encoder.specs.Target.{Step, Taken}
-use Rattle.uecp_encoder.specs.State.{EncoderState}
+use Rattle.uecp_encoder.specs.State.{EncoderState, opening}
 use Rattle.uecp_link.specs.Counters.{counter_of}
 use Rattle.uecp_link.specs.Server.{waiting_among}
 use Rattle.uecp_link.specs.Once.{Once, refusal_of, EncoderLost, EncoderRestart, Event, FrameComes, Submit, NoiseToEncoder, Take, message_at, missing, at_first}
@@ -14,6 +14,7 @@ use Rattle.uecp_link.specs.Law.{frame_of, encoder_after, run, start_from, Fits}
 use Rattle.uecp_link.specs.Kept.{IsReady}
 use Rattle.uecp_link.specs.Holds.{LineState, is_acknowledged, Holds}
 use Rattle.uecp_link.specs.Headline.{IsHeadline}
+use Rattle.uecp_link.specs.Using.{all_come, IsDone}
 use Rattle.kept_serving.specs.Keeping.{Kept, Outlives}
 use Rattle.kept_serving.specs.Keeping.{kept_of as encoder_kept}
 use Rattle.uecp_net.specs.Sending.{SenderOver, submitted_all}
@@ -22,7 +23,7 @@ use Rattle.kept_sending.specs.Keeping.{KeptServer, taking}
 use Rattle.kept_sending.specs.Keeping.{kept_of as server_kept}
 use Rattle.kept_sending.specs.Sending.{OutlivesBatch}
 use Rattle.kept_sending.specs.Sending.{Outlives as OutlivesSettling}
-use Rattle.crash_laws.specs.Station.{Station, DiskEvent, FitsOnDisks, acknowledged_by, cut_off, run_on_disks}
+use Rattle.crash_laws.specs.Station.{Station, DiskEvent, FitsOnDisks, acknowledged_by, run_on_disks}
 use Rattle.crash_laws.specs.Station.{station_from, server_saves, happens_on_disks, Happens, CutOff}
 use Rattle.crash_laws.specs.Acts.{history_on_disks}
 
@@ -70,6 +71,17 @@ HeadlineHoldsOnDisks {V} step taken =
     → AllByRecursion FitsOnDisks events
     → HoldsOnDisks step taken e (run_on_disks step taken e.address (station_from e) events)
     (history_on_disks step taken e.address (station_from e) events)
+
+-- ---- No crash stops the line.
+
+-- From two new ends, whatever happened and crashed: where nothing is lost any more, and no end crashes, every message
+-- that was sent is acknowledged once the frame of each that is not came, and the reply to each.
+abbrev pub AcknowledgedAfterAnyCrash : {V : Type 0} → Step V → Taken V → Type 0
+AcknowledgedAfterAnyCrash {V} step taken =
+    (address : ℕ) (value : V) (events : List DiskEvent) → AllByRecursion FitsOnDisks events
+    → let s = run_on_disks step taken address (station_from (opening address value)) events in
+    IsDone (run_on_disks step taken address s
+    (map Happens (all_come (missing s.world.once.acknowledged (length s.world.once.sent))))).world
 
 -- ---- What `kept_serving` says is a crash here.
 

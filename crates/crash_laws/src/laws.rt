@@ -1,5 +1,5 @@
 //! Laws of the definitions, each the contract of a function that does nothing.
-ghost use Rattle.crash_laws.specs.Laws.{HeadlineHoldsOnDisks, WhatIsLeftIsACut, WhatIsLeftIsAFile};
+ghost use Rattle.crash_laws.specs.Laws.{AcknowledgedAfterAnyCrash, HeadlineHoldsOnDisks, WhatIsLeftIsACut, WhatIsLeftIsAFile};
 
 use uecp_encoder::Target;
 use uecp_net::Connect;
@@ -7,6 +7,11 @@ use uecp_net::Connect;
 /// Over every list of line events and of crashes of either end.
 pub fn headline_holds_on_disks<T: Target>()
     ensures { HeadlineHoldsOnDisks T.step T.taken }
+{}
+
+/// No crash stops the line.
+pub fn acknowledged_after_any_crash<T: Target>()
+    ensures { AcknowledgedAfterAnyCrash T.step T.taken }
 {}
 
 /// Whatever a crash may leave of an encoder.
