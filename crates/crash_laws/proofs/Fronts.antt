@@ -77,6 +77,7 @@ pub saved_is : {V : Type 0} (step : Step V) (e : EncoderState V) (file : Kept V)
     → saved_for step e file bytes ≡ kept_of (fed step e bytes)
 saved_is step e file bytes h =
     elim (cases_Bool (fresh_among (responses_to step e bytes) == 0)) [
-      | inl none ↦ rw none (h ∙ sym (unchanged step e bytes (eqb-true (fresh_among (responses_to step e bytes)) 0 none)))
+      | inl none ↦ rw none (h ∙ sym (unchanged step e bytes
+          (eqb-true (fresh_among (responses_to step e bytes)) 0 none)))
       | inr some ↦ rw some refl
     ]

@@ -26,7 +26,7 @@ use Rattle.uecp_link.proofs.Lawful.{Lawful, waiting_is}
 use Rattle.uecp_link.proofs.Played.{same_bound}
 use Rattle.crash_laws.specs.Station.{Station, run_on_disks, station_from}
 use Rattle.crash_laws.specs.Acts.{history_on_disks}
-use Rattle.crash_laws.specs.Laws.{FilesHold, HeadlineHoldsOnDisks}
+use Rattle.crash_laws.specs.Laws.{CrashesAreLineEvents, FilesHold, HeadlineWithDisks}
 use Rattle.crash_laws.proofs.Reaching.{lawful_of, with_server}
 use Rattle.crash_laws.proofs.Backing.{Backed, shown, backed}
 
@@ -116,7 +116,12 @@ files_hold {V} step taken e ready shut s acts h =
       taken = h.input;
     }
 
-pub headline_lem : {V : Type 0} (step : Step V) (taken : Taken V) → HeadlineHoldsOnDisks step taken
+pub crashes_lem : {V : Type 0} (step : Step V) (taken : Taken V) → CrashesAreLineEvents step taken
+crashes_lem step taken e ready shut events fit =
+    let now = (backed step taken e ready shut events fit).now in
+    record { events = now.events; fits = now.fits; same = now.same; acts_are = now.acts_are }
+
+pub headline_lem : {V : Type 0} (step : Step V) (taken : Taken V) → HeadlineWithDisks step taken
 headline_lem {V} step taken e ready shut events fit =
     let s : Station V = run_on_disks step taken e.address (station_from e) events in
     let acts : List Act = history_on_disks step taken e.address (station_from e) events in
@@ -124,12 +129,6 @@ headline_lem {V} step taken e ready shut events fit =
     let law = lawful_of step taken e ready shut s.world acts h.now in
     let holds = holds_on step taken e.address e.value s.world acts law in
     record {
-      is_a_line = record {
-        events = h.now.events;
-        fits = h.now.fits;
-        same = h.now.same;
-        acts_are = h.now.acts_are;
-      };
       line = line_of step taken e.address e.value s.world acts law;
       encoder = refl;
       server = refl;

@@ -2,6 +2,6 @@ pub mod Fronts
 pub mod Reaching
 pub mod Backing
 pub mod Holding
-pub mod Submitting
-pub mod Streaming
 pub mod Ending
+pub mod Streaming
+pub mod Submitting

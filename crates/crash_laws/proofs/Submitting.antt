@@ -36,7 +36,8 @@ none_taken progress s = ap (λ (t : ℕ). kept_of (record progress { taken = t }
     (let e : progress.taken ≡ progress.taken + 0 = omega arith in e)
 
 -- a server that holds fewer than eight takes a message
-room : {V : Type 0} (step : Step V) (taken : Taken V) (e : EncoderState V) (ready : IsReady e.ring) (shut : e.part ≡ Closed)
+room : {V : Type 0} (step : Step V) (taken : Taken V) (e : EncoderState V) (ready : IsReady e.ring)
+    (shut : e.part ≡ Closed)
     (s : Station V) (acts : List Act) (m : List ℕ) → Backed step taken e ready shut s acts
     → length s.world.server.held < 8 → is_none (refusal_of s.world.once (Submit m)) ≡ true
 room {V} step taken e ready shut s acts m h few =
@@ -87,7 +88,8 @@ saved_once_more between after progress server server' file stays becomes =
 
 pub what_is_left_of_server_lem : {V : Type 0} (C I O : Type 0) (step : Step V) (taken : Taken V)
     → WhatIsLeftIsAFile C I O step taken
-what_is_left_of_server_lem {V} C I O step taken e ready shut events fit progress old new batch hearing same file fits few =
+what_is_left_of_server_lem {V} C I O step taken e ready shut events fit progress old new batch hearing same file fits
+    few =
     let s : Station V = run_on_disks step taken e.address (station_from e) events in
     let acts : List Act = history_on_disks step taken e.address (station_from e) events in
     let h = backed step taken e ready shut events fit in

@@ -8,9 +8,10 @@ use Rattle.uecp_encoder.specs.Target.{Step, Taken}
 use Rattle.uecp_encoder.specs.State.{EncoderState, opening}
 use Rattle.uecp_link.specs.Counters.{counter_of}
 use Rattle.uecp_link.specs.Server.{waiting_among}
-use Rattle.uecp_link.specs.Once.{Once, refusal_of, EncoderLost, EncoderRestart, Event, FrameComes, Submit, NoiseToEncoder, Take, message_at, missing, at_first}
+use Rattle.uecp_link.specs.Once.{Event, Submit, FrameComes, NoiseToEncoder, EncoderLost, EncoderRestart, Take}
+use Rattle.uecp_link.specs.Once.{Once, message_at, missing, refusal_of, at_first}
 use Rattle.uecp_link.specs.History.{Act, history}
-use Rattle.uecp_link.specs.Law.{frame_of, encoder_after, run, start_from, Fits}
+use Rattle.uecp_link.specs.Law.{World, frame_of, encoder_after, run, start_from, Fits}
 use Rattle.uecp_link.specs.Kept.{IsReady}
 use Rattle.uecp_link.specs.Holds.{LineState, is_acknowledged, Holds}
 use Rattle.uecp_link.specs.Headline.{IsHeadline}
@@ -29,21 +30,29 @@ use Rattle.crash_laws.specs.Acts.{history_on_disks}
 
 -- ---- A crash is an event of a line.
 
--- Some events of a line, none of which is a crash (where an end starts again, it goes on from all that it kept), lead to
--- this very world: both ends, the messages that were sent, their codes and what is acknowledged; and they have this
--- history.
-pub record IsALine {V : Type 0} (step : Step V) (taken : Taken V) (e : EncoderState V) (s : Station V) (acts : List Act)
+-- Some events of a line lead to this very world: both ends, the messages that were sent, their codes and what is
+-- acknowledged; and they have this history. None of them is a crash: where an end starts again, it goes on from all
+-- that it kept.
+pub record IsALine {V : Type 0} (step : Step V) (taken : Taken V) (e : EncoderState V) (w : World V) (acts : List Act)
     : Type 0 where
   pub events : List Event
   pub fits : AllByRecursion Fits events
-  pub same : run step taken e.address (start_from e) events ≡ s.world
+  pub same : run step taken e.address (start_from e) events ≡ w
   pub acts_are : history step taken (at_first e.value) events ≡ acts
+
+-- So it is of every list of events and crashes, from an encoder that is ready and a new server.
+abbrev pub CrashesAreLineEvents : {V : Type 0} → Step V → Taken V → Type 0
+CrashesAreLineEvents {V} step taken =
+    (e : EncoderState V) → IsReady e.ring → e.part ≡ Closed → (events : List DiskEvent)
+    → AllByRecursion FitsOnDisks events
+    → IsALine step taken e (run_on_disks step taken e.address (station_from e) events).world
+    (history_on_disks step taken e.address (station_from e) events)
 
 -- ---- The headline.
 
 -- What the files hold. The encoder's is what is to be kept of it. Of the messages that were sent the server's has those
--- outstanding that it does not show to be acknowledged, under their counters; it shows to be acknowledged what was told;
--- and it counts each message that was sent as taken from the input, so that the others come next.
+-- outstanding, under their counters, that it does not show to be acknowledged; it shows so what was told; and it counts
+-- as taken from the input each message that was sent, and no other, so that the next one comes next.
 pub record FilesHold {V : Type 0} (s : Station V) : Type 0 where
   pub encoder : s.encoder_file ≡ encoder_kept s.world.encoder
   pub outstanding : waiting_among s.server_file.held ≡ map (λ k. (counter_of k, message_at s.world.once.sent k))
@@ -51,11 +60,10 @@ pub record FilesHold {V : Type 0} (s : Station V) : Type 0 where
   pub told : (k : ℕ) → s.told k ≡ true → acknowledged_by s.server_file.held (length s.world.once.sent) k ≡ true
   pub taken : s.server_file.taken ≡ length s.world.once.sent
 
--- The line of these ends and messages has the headline, with this history; whatever was told is acknowledged, so it is
+-- The line of these ends and messages has the headline, with this history; what was told is acknowledged, so that it is
 -- among the messages that the encoder's store has; and the files hold what they should.
-pub record HoldsOnDisks {V : Type 0} (step : Step V) (taken : Taken V) (e : EncoderState V) (s : Station V)
+pub record HoldsWithDisks {V : Type 0} (step : Step V) (taken : Taken V) (e : EncoderState V) (s : Station V)
     (acts : List Act) : Type 0 where
-  pub is_a_line : IsALine step taken e s acts
   pub line : LineState V
   pub encoder : line.encoder ≡ s.world.encoder
   pub server : line.server ≡ s.world.server
@@ -64,12 +72,12 @@ pub record HoldsOnDisks {V : Type 0} (step : Step V) (taken : Taken V) (e : Enco
   pub told : (k : ℕ) → s.told k ≡ true → is_acknowledged line k ≡ true
   pub files : FilesHold s
 
--- Over every list of events and crashes, from an encoder that is ready and a new server.
-abbrev pub HeadlineHoldsOnDisks : {V : Type 0} → Step V → Taken V → Type 0
-HeadlineHoldsOnDisks {V} step taken =
+-- So it is over every list of events and crashes, from an encoder that is ready and a new server.
+abbrev pub HeadlineWithDisks : {V : Type 0} → Step V → Taken V → Type 0
+HeadlineWithDisks {V} step taken =
     (e : EncoderState V) → IsReady e.ring → e.part ≡ Closed → (events : List DiskEvent)
     → AllByRecursion FitsOnDisks events
-    → HoldsOnDisks step taken e (run_on_disks step taken e.address (station_from e) events)
+    → HoldsWithDisks step taken e (run_on_disks step taken e.address (station_from e) events)
     (history_on_disks step taken e.address (station_from e) events)
 
 -- ---- No crash stops the line.
@@ -87,7 +95,8 @@ AcknowledgedAfterAnyCrash {V} step taken =
 
 -- The bytes that an event brings to the encoder.
 abbrev pub bytes_to_encoder : {V : Type 0} → ℕ → Once V → Event → List ℕ
-bytes_to_encoder address o (FrameComes k) = if is_none (refusal_of o (FrameComes k)) then spelling (frame_of address o k)
+bytes_to_encoder address o (FrameComes k) = if is_none (refusal_of o (FrameComes k)) then spelling
+    (frame_of address o k)
     else []
 bytes_to_encoder address o (NoiseToEncoder x) = if is_none (refusal_of o (NoiseToEncoder x)) then x else []
 bytes_to_encoder address o _ = []

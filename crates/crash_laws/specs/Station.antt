@@ -43,7 +43,8 @@ abbrev pub encoder_file_after : {V : Type 0} → Step V → Taken V → ℕ → 
 encoder_file_after step taken address w file (FrameComes k) = saved_for step w.encoder file
     (spelling (frame_of address w.once k))
 encoder_file_after step taken address w file (NoiseToEncoder x) = saved_for step w.encoder file x
-encoder_file_after step taken address w file Take = encoder_kept (encoder_after step taken address w.once w.encoder Take)
+encoder_file_after step taken address w file Take =
+    encoder_kept (encoder_after step taken address w.once w.encoder Take)
 encoder_file_after step taken address w file _ = file
 
 -- How far a server's file says that it has come.
