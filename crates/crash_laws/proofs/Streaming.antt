@@ -122,6 +122,14 @@ module _ {V : Type 0} (step : Step V) (taken : Taken V) (address : ℕ) where
   cut_file s ServerRestart came is = took_nothing s came is
   cut_file s Take came is = took_nothing s came is
 
+  -- one piece more
+  fed_on : (e e1 : EncoderState V) (bytes more first : List ℕ) → e1 ≡ fed step e bytes → bytes ++ more ≡ first
+      → encoder_kept (fed step e1 more) ≡ encoder_kept (fed step e first)
+  fed_on e e1 bytes more first took split =
+      ap (λ (d : EncoderState V). encoder_kept (fed step d more)) took
+      ∙ (ap encoder_kept (sym (in_pieces_of_encoder step e bytes more).state)
+      ∙ ap (λ (x : List ℕ). encoder_kept (fed step e x)) split)
+
   -- over events, by the first bytes of what they bring that were taken
   crash_file : (s : Station V) (events : List Event) (first : List ℕ) → s.encoder_file ≡ encoder_kept s.world.encoder
       → AllByRecursion GoesOnServing events → StartsWith (stream_of step taken address s events) first
@@ -158,9 +166,7 @@ module _ {V : Type 0} (step : Step V) (taken : Taken V) (address : ℕ) where
               suc n,
               came,
               later
-                  ∙ ap (λ (d : EncoderState V). encoder_kept (fed step d more)) t.took
-                  ∙ ap encoder_kept (sym (in_pieces_of_encoder step s.world.encoder bytes more).state)
-                  ∙ ap (λ (x : List ℕ). encoder_kept (fed step s.world.encoder x))
+                  ∙ fed_on s.world.encoder s1.world.encoder bytes more first t.took
                   (ap (λ (x : List ℕ). bytes ++ x) (sym goes_on) ∙ split),
             )
       ]
