@@ -29,7 +29,7 @@ pub record Station (V : Type 0) : Type 0 where
 pub data DiskEvent : Type 0 where
   Happens : Event → DiskEvent  -- an event of the line; the restart of an end is a crash between two events
   CutOff : Event → (came : ℕ) → (saved : Bool) → DiskEvent  -- within an event the end that it is at crashes
-  ServerSaves : DiskEvent  -- the server is saved, and then it is told what is acknowledged
+  ServerSaves : DiskEvent  -- the server is saved, and then what is acknowledged is told
 
 -- ---- What the files hold.
 
@@ -101,7 +101,7 @@ server_crashes address s = record s {
   };
 }
 
--- The server is saved as it is, and then it is told what is acknowledged.
+-- The server is saved as it is, and then what is acknowledged is told.
 abbrev pub server_saves : {V : Type 0} → Station V → Station V
 server_saves s = record s {
   server_file = server_kept (progress_in s.server_file) s.world.server;
