@@ -1,0 +1,2 @@
+-- What the proofs of batches use.
+pub mod Growing

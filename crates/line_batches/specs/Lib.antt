@@ -1,0 +1,3 @@
+-- The definitions that the contracts of batches cite.
+pub mod Intake
+pub mod Batches

@@ -1,0 +1,241 @@
+//! Lines are taken as they come, and make a batch. Source: profile.
+ghost use Rattle.std.specs.Prelude.{◌≡◌, ◌⊎◌, ◌≤◌, ◌+◌, ◌-◌, ◌^◌, ◌||◌, ◌≢◌, ◌<◌, false, length, min, ℕ, List, []};
+ghost use Rattle.std.specs.Prelude.{◌++◌, IfOk, IfErr, IfSome, IfNone, IsTrue};
+ghost use Rattle.std.specs.Io.KnownBytes.{Keeps};
+ghost use Rattle.line_batches.specs.Intake.{TakesOne, FailsToTake, NextGives, NextFails, SaysOf, is_refusal};
+ghost use Rattle.line_batches.specs.declared.taking.After.TheVariants.{GoesOn};
+ghost use Rattle.line_batches.specs.Batches.{TakesBatch, TakesInto, PutsGiven};
+
+use crate::intake::{Given, read_line};
+use line_feed::{Feed, FeedFault, Next};
+use rds_text::Region;
+use std::alloc::Global;
+use std::io::Write;
+use uecp_frame::Message;
+use uecp_text::{RunFault, TextFault, report};
+
+/// What was taken so far.
+#[derive(Clone, Copy, Debug, PartialEq, Eq)]
+pub struct Tally {
+    /// How many lines; no more are counted than 2^64 - 1.
+    pub lines: usize,
+    /// Whether one of them was refused.
+    pub refused: bool,
+}
+
+/// What comes after a batch.
+#[derive(Debug, Drop)]
+pub enum After {
+    /// The next one.
+    GoesOn,
+    /// Nothing: the run ends so.
+    Ends(Result<(), RunFault>),
+}
+
+/// How lines are read.
+#[derive(Clone, Copy, Debug)]
+pub struct Reading {
+    /// Of which region the programme types are.
+    pub region: Region,
+    /// How many messages a batch has at most, 1 to 8.
+    pub size: usize,
+    /// Whether the run ends at a line that is refused.
+    pub strict: bool,
+}
+
+/// Takes lines up to as many messages as a batch may have: it waits for the first, and then takes those that are there.
+/// The batch is empty at the start.
+pub fn take_batch<F: Feed, E: Write>(
+    alloc: Global,
+    reading: &Reading,
+    feed: &mut F,
+    line: &mut Vec<u8>,
+    errors: &mut E,
+    tally: &mut Tally,
+    batch: &mut Vec<Message>,
+) -> After
+    requires empty { batch.old.items ≡ [] }
+    requires some { 1 ≤ reading.now.size }
+    ensures { TakesBatch reading.now.region reading.now.size reading.now.strict batch.new.items result (record {
+      unread = F.remaining feed.old;
+      lines = tally.old.lines;
+      refused = tally.old.refused;
+      said = E.contents errors.old;
+    }) (record {
+      unread = F.remaining feed.new;
+      lines = tally.new.lines;
+      refused = tally.new.refused;
+      said = E.contents errors.new;
+    }) }
+{
+    for _line in 0..u64::MAX {
+        if let Some(after) = take_one(alloc, reading, feed, line, errors, tally, batch) {
+            return after;
+        }
+    }
+    After::Ends(Err(RunFault::Reading))
+}
+
+/// Takes the next line into the batch, and tells what comes after the batch where it ends there.
+fn take_one<F: Feed, E: Write>(
+    alloc: Global,
+    reading: &Reading,
+    feed: &mut F,
+    line: &mut Vec<u8>,
+    errors: &mut E,
+    tally: &mut Tally,
+    batch: &mut Vec<Message>,
+) -> Option<After>
+    requires room { length batch.old.items < reading.now.size }
+    ensures { TakesInto reading.now.region reading.now.size reading.now.strict (record {
+      unread = F.remaining feed.old;
+      lines = tally.old.lines;
+      refused = tally.old.refused;
+      said = E.contents errors.old;
+    }) (record {
+      unread = F.remaining feed.new;
+      lines = tally.new.lines;
+      refused = tally.new.refused;
+      said = E.contents errors.new;
+    }) batch.old.items batch.new.items result }
+{
+    match take_line(alloc, reading.region, feed, line, errors, tally) {
+        Err(fault) => Some(After::Ends(Err(fault))),
+        Ok(None) => Some(After::Ends(Ok(()))),
+        Ok(Some(given)) => put_given(given, reading, feed, batch),
+    }
+}
+
+/// Puts the message that a line gives into the batch, and tells what comes after the batch where it ends there.
+fn put_given<F: Feed>(
+    given: Given,
+    reading: &Reading,
+    feed: &mut F,
+    batch: &mut Vec<Message>,
+) -> Option<After>
+    requires room { length batch.old.items < reading.now.size }
+    ensures puts { PutsGiven reading.now.size reading.now.strict given batch.old.items batch.new.items result }
+    ensures keeps { Keeps (F.remaining feed.old) (F.remaining feed.new) }
+{
+    match given {
+        Given::Nothing => go_on(reading.size, batch, feed),
+        Given::Gives(message) => match batch.push(message) {
+            Ok(()) => go_on(reading.size, batch, feed),
+            Err(_) => Some(After::Ends(Err(RunFault::OutOfMemory))),
+        },
+        Given::Refused(_) => {
+            if reading.strict {
+                return Some(After::Ends(Ok(())));
+            }
+            go_on(reading.size, batch, feed)
+        }
+    }
+}
+
+/// What comes after a batch that is whole: the next one. It is whole where it has as many messages as it may have, or
+/// one at least and no other line is there.
+fn go_on<F: Feed>(size: usize, batch: &Vec<Message>, feed: &mut F) -> Option<After>
+    requires some { 1 ≤ size }
+    requires most { length batch.now.items ≤ size }
+    ensures none { IfNone result (length batch.now.items < size) }
+    ensures some { IfSome result (λ after. (after ≡ GoesOn) × (batch.now.items ≢ [])) }
+    ensures keeps { Keeps (F.remaining feed.old) (F.remaining feed.new) }
+{
+    if is_whole(size, batch, feed) {
+        Some(After::GoesOn)
+    } else {
+        None
+    }
+}
+
+/// Whether a batch is whole: it has as many messages as it may have, or one at least where no other line is there.
+fn is_whole<F: Feed>(size: usize, batch: &Vec<Message>, feed: &mut F) -> bool
+    requires some { 1 ≤ size }
+    requires most { length batch.now.items ≤ size }
+    ensures some { IsTrue result → batch.now.items ≢ [] }
+    ensures room { result ≡ false → length batch.now.items < size }
+    ensures keeps { Keeps (F.remaining feed.old) (F.remaining feed.new) }
+{
+    if batch.is_empty() {
+        return false;
+    }
+    batch.len() == size || !feed.is_there()
+}
+
+/// Takes a line, and says what is wrong with one that is refused; None at the end of the input.
+///
+/// Errors: `Reading`; `OutOfMemory`, and then the line may be lost.
+fn take_line<F: Feed, E: Write>(
+    alloc: Global,
+    region: Region,
+    feed: &mut F,
+    line: &mut Vec<u8>,
+    errors: &mut E,
+    tally: &mut Tally,
+) -> Result<Option<Given>, RunFault>
+    ensures taken { IfOk result (TakesOne region (record {
+      unread = F.remaining feed.old;
+      lines = tally.old.lines;
+      refused = tally.old.refused;
+      said = E.contents errors.old;
+    }) (record {
+      unread = F.remaining feed.new;
+      lines = tally.new.lines;
+      refused = tally.new.refused;
+      said = E.contents errors.new;
+    })) }
+    ensures failed { IfErr result (FailsToTake (record {
+      unread = F.remaining feed.old;
+      lines = tally.old.lines;
+      refused = tally.old.refused;
+      said = E.contents errors.old;
+    }) (record {
+      unread = F.remaining feed.new;
+      lines = tally.new.lines;
+      refused = tally.new.refused;
+      said = E.contents errors.new;
+    })) }
+{
+    let Some(given) = next_given(alloc, region, feed, line)? else {
+        return Ok(None);
+    };
+    count_line(&given, errors, tally);
+    Ok(Some(given))
+}
+
+/// What the next line gives; None at the end of the input.
+///
+/// Errors: `Reading`; `OutOfMemory`, and then the line may be lost.
+fn next_given<F: Feed>(
+    alloc: Global,
+    region: Region,
+    feed: &mut F,
+    line: &mut Vec<u8>,
+) -> Result<Option<Given>, RunFault>
+    ensures gives { IfOk result (NextGives region (F.remaining feed.old) (F.remaining feed.new)) }
+    ensures failed { IfErr result (NextFails (F.remaining feed.old) (F.remaining feed.new)) }
+{
+    match feed.next(line) {
+        Err(FeedFault::Reading) => Err(RunFault::Reading),
+        Err(FeedFault::OutOfMemory) => Err(RunFault::OutOfMemory),
+        Ok(Next::End) => Ok(None),
+        Ok(Next::TooLong) => Ok(Some(Given::Refused(TextFault::MessageTooLong))),
+        Ok(Next::Line) => match read_line(alloc, region, line.as_slice()) {
+            Ok(given) => Ok(Some(given)),
+            Err(_) => Err(RunFault::OutOfMemory),
+        },
+    }
+}
+
+/// Counts a line, and says what is wrong with one that is refused.
+fn count_line<E: Write>(given: &Given, errors: &mut E, tally: &mut Tally)
+    ensures lines { tally.new.lines ≡ min (tally.old.lines + 1) (2 ^ 64 - 1) }
+    ensures refused { tally.new.refused ≡ tally.old.refused || is_refusal given.now }
+    ensures said { SaysOf given.now tally.new.lines (E.contents errors.old) (E.contents errors.new) }
+{
+    tally.lines = tally.lines.saturating_add(1);
+    if let Given::Refused(fault) = given {
+        tally.refused = true;
+        let _ = report(&fault.at(tally.lines), errors);
+    }
+}

@@ -1,0 +1,4 @@
+-- The definitions that the contracts of lines as they come cite.
+pub mod Lines
+pub mod Laws
+pub mod Parts

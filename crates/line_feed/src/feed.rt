@@ -1,0 +1,48 @@
+//! Where lines come from (profile).
+ghost use Rattle.std.specs.Prelude.{◌≡◌, ℕ, List, [], Option, IfOk, IfErr};
+ghost use Rattle.std.specs.Io.KnownBytes.{Keeps};
+ghost use Rattle.line_feed.specs.Lines.{IsNext, IsUntaken};
+
+use crate::feed_fault::FeedFault;
+
+/// The most bytes of a line, its line feed among them.
+pub const LINE_MAX: usize = 65_536;
+
+/// What came next.
+#[derive(Clone, Copy, Debug, PartialEq, Eq)]
+pub enum Next {
+    /// A line, with its line feed; the last of an input may have none.
+    Line,
+    /// A line of more than [`LINE_MAX`] bytes. It was passed over whole.
+    TooLong,
+    /// The input has ended, and nothing of it is left.
+    End,
+}
+
+/// The lines of an input, taken one after another. Contracts see what of the input is left, as far as that is known.
+pub trait Feed {
+    // What of the input was not taken yet, with what waits in a buffer at its front. None where that is not known.
+    ghost remaining: { Self → Option (List ℕ) };
+
+    /// Waits for the next line, and puts it, with its line feed, in place of what `line` held. A line of more than
+    /// [`LINE_MAX`] bytes is passed over, up to and with its line feed, and `line` is left empty; at the end too.
+    ///
+    /// Errors: `OutOfMemory` for the line, and all is left as it was; `Reading` where a read failed. Then all is left
+    /// as it was too, and the next call goes on with a beginning of a line that was read; but of a line of more than
+    /// [`LINE_MAX`] bytes a beginning may have been passed over, of more than that many bytes, and the next call takes
+    /// the rest of it for a line. `line` is left empty.
+    fn next(&mut self, line: &mut Vec<u8>) -> Result<Next, FeedFault>
+        ensures next { IfOk result (IsNext (remaining self.old) (remaining self.new) line.new.items) }
+        ensures fault { IfErr result (IsUntaken (remaining self.old) (remaining self.new)) }
+        ensures emptied { IfErr result (λ _. line.new.items ≡ []) };
+
+    /// Whether a whole line or the end is there, or a failed read to be told of, so that [`next`](Feed::next) would not
+    /// wait. A line of more than [`LINE_MAX`] bytes is not there while its end has not come. It may read, where that
+    /// does not wait.
+    fn is_there(&mut self) -> bool
+        ensures { Keeps (remaining self.old) (remaining self.new) };
+
+    /// Waits so many milliseconds.
+    fn pause(&mut self, milliseconds: u64)
+        ensures { Keeps (remaining self.old) (remaining self.new) };
+}

@@ -1,0 +1,114 @@
+//! The first line of what is left (profile).
+ghost use Rattle.std.specs.Prelude.{◌≡◌, ◌<◌, ◌≤◌, [], length, take, drop, Ok, IfOk, IfErr, MatchOption};
+ghost use Rattle.std.specs.Io.KnownBytes.{Keeps, prepend_known};
+ghost use Rattle.line_feed.specs.Lines.{HasNoEnd, IsNext, IsUntaken};
+ghost use Rattle.line_feed.specs.Parts.{EndsFirst, IsPut};
+ghost use Rattle.line_feed.specs.declared.feed.Next.TheVariants.{End};
+
+use crate::feed::{LINE_MAX, Next};
+use crate::feed_fault::FeedFault;
+use crate::held::Held;
+use crate::source::Source;
+use memchr::memchr;
+use std::io::Read;
+
+/// How many bytes the first line has, up to and with its line feed; None where there is no line feed.
+pub(crate) fn first_line(bytes: &[u8]) -> Option<usize>
+    ensures { MatchOption result (HasNoEnd bytes.now) (λ count. EndsFirst bytes.now count) }
+{
+    match memchr(b'\n', bytes) {
+        Some(place) => Some(place + 1),
+        None => None,
+    }
+}
+
+/// The next line of what is held and of what the source has left, as [`Feed::next`](crate::Feed::next) says.
+pub(crate) fn take_next<R: Read>(
+    held: &mut Held,
+    source: &mut Source<R>,
+    line: &mut Vec<u8>,
+) -> Result<Next, FeedFault>
+    ensures next { IfOk result (IsNext (prepend_known held.old source.old) (prepend_known held.new source.new)
+        line.new.items) }
+    ensures fault { IfErr result (IsUntaken (prepend_known held.old source.old)
+        (prepend_known held.new source.new)) }
+    ensures emptied { IfErr result (λ _. line.new.items ≡ []) }
+{
+    line.clear();
+    for _turn in 0..u64::MAX {
+        if let Some(count) = first_line(held.as_slice()) {
+            return take_first(held, count, line);
+        }
+        if held.room() == 0 {
+            return pass_over(held, source);
+        }
+        if !source.read_into(held)? {
+            return take_last(held, line);
+        }
+    }
+    Err(FeedFault::Reading)
+}
+
+/// Takes so many bytes, which are a line; nothing where there is no memory for them.
+fn take_first(held: &mut Held, count: usize, line: &mut Vec<u8>) -> Result<Next, FeedFault>
+    requires within { count ≤ length held.old }
+    requires empty { line.old.items ≡ [] }
+    ensures taken { IfOk result (λ next. (held.new ≡ drop count held.old)
+        × IsPut (take count held.old) line.new.items next) }
+    ensures fault { IfErr result (λ fault. (held.new ≡ held.old) × (line.new.items ≡ [])) }
+{
+    if count > LINE_MAX {
+        held.take(count);
+        return Ok(Next::TooLong);
+    }
+    line.extend_from_slice(&held.as_slice()[..count])?;
+    held.take(count);
+    Ok(Next::Line)
+}
+
+/// Takes what is left at the end of the input: a line, or nothing.
+fn take_last(held: &mut Held, line: &mut Vec<u8>) -> Result<Next, FeedFault>
+    requires empty { line.old.items ≡ [] }
+    ensures none { length held.old ≡ 0 → (result ≡ Ok End) × (held.new ≡ []) × (line.new.items ≡ []) }
+    ensures taken { 0 < length held.old → IfOk result (λ next. (held.new ≡ []) × IsPut held.old line.new.items next) }
+    ensures fault { IfErr result (λ fault. (held.new ≡ held.old) × (line.new.items ≡ [])) }
+{
+    let count = held.as_slice().len();
+    if count == 0 {
+        return Ok(Next::End);
+    }
+    take_first(held, count, line)
+}
+
+/// Passes over the first line, of which more than [`LINE_MAX`] bytes are held and no line feed.
+fn pass_over<R: Read>(held: &mut Held, source: &mut Source<R>) -> Result<Next, FeedFault>
+    requires no_end { HasNoEnd held.old }
+    requires long { 65536 < length held.old }
+    ensures next { IfOk result (IsNext (prepend_known held.old source.old) (prepend_known held.new source.new) []) }
+    ensures fault { IfErr result (IsUntaken (prepend_known held.old source.old)
+        (prepend_known held.new source.new)) }
+{
+    for _turn in 0..u64::MAX {
+        held.clear();
+        if !source.read_into(held)? {
+            return Ok(Next::TooLong);
+        }
+        if let Some(count) = first_line(held.as_slice()) {
+            held.take(count);
+            return Ok(Next::TooLong);
+        }
+    }
+    Err(FeedFault::Reading)
+}
+
+/// Makes one read where that does not wait and there is room, so that a line that has come is found.
+pub(crate) fn read_on<R: Read>(held: &mut Held, source: &mut Source<R>)
+    ensures { Keeps (prepend_known held.old source.old) (prepend_known held.new source.new) }
+{
+    if held.room() == 0 {
+        return;
+    }
+    if source.read_into(held).is_err() {
+        source.fail();
+    }
+}
