@@ -1,0 +1,8 @@
+//! The protocol for C, with nothing kept between two calls: checks, frames, the first finding of a stream's bytes.
+#![tactic(auto)]
+
+mod buffer;
+mod check;
+mod encoding;
+
+mod finding;
