@@ -1,6 +1,6 @@
 -- The segment that bytes leave open, as one more byte comes.
 use Rattle.std.proofs.Common.{◌≡◌, ◌≢◌, ◌<◌, ◌+◌, ℕ, List, [], ◌∷◌, ◌++◌, refl, ◌∙◌, ap, sym, subst, arith, Option, Some}
-use Rattle.std.proofs.Common.{None, length, length-append, take}
+use Rattle.std.proofs.Common.{None, length, length-append}
 use Rattle.std.specs.Option.{option_map}
 use Rattle.std.proofs.lemmas.Bool.{ne_eqb}
 use Rattle.uecp_frame.specs.Findings.{open_bytes}

@@ -9,8 +9,8 @@ use Rattle.uecp_frame.specs.declared.fed.Found.TheVariants as it
 use Rattle.uecp_frame.specs.declared.fed.Fed.{Fed}
 use Rattle.uecp_frame.specs.Address.{site_of, encoder_of}
 use Rattle.uecp_frame.specs.Fault.{number_of}
-use Rattle.uecp_frame.specs.Findings.{OpenPart, Closed, open_bytes}
-use Rattle.uecp_frame.specs.Feeding.{Feeds}
+use Rattle.uecp_frame.specs.Findings.{OpenPart, Closed, found, open_bytes}
+use Rattle.uecp_frame.specs.Feeding.{Feeds, findings_of}
 use Rattle.uecp_c.specs.declared.finding.Finding.{Finding}
 
 -- The place of a bad stuffing; 0 of every other fault (profile).
@@ -59,3 +59,4 @@ pub record FindsFirst (bytes : List ℕ) (old new : Finding) (done : ℕ) : Type
   pub feeds : Feeds Closed bytes fed left
   pub told : new ≡ shown old fed.found
   pub kept : done + open_length (take fed.used bytes) ≡ fed.used
+  pub left_finds : (more : List ℕ) → found (bytes ++ more) ≡ findings_of fed.found ++ found (drop done bytes ++ more)

@@ -1,4 +1,4 @@
-use Rattle.std.proofs.Common.{rules, length, arith}
+use Rattle.std.proofs.Common.{rules, arith}
 use Rattle.uecp_frame.specs.declared.frame.Frame.{Frame}
 use Rattle.uecp_frame.proofs.Sending.{length-spelling-le}
 use Rattle.uecp_c.proofs.encoding.uecp_encode.Goals as goal
