@@ -2,3 +2,4 @@
 pub mod Buffers
 pub mod Frames
 pub mod Findings
+pub mod Elements

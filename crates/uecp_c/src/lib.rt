@@ -3,6 +3,7 @@
 
 mod buffer;
 mod check;
+mod elements;
 mod encoding;
-
 mod finding;
+mod plain_element;
