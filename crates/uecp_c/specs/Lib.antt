@@ -3,3 +3,5 @@ pub mod Buffers
 pub mod Frames
 pub mod Findings
 pub mod Elements
+pub mod Names
+pub mod Characters

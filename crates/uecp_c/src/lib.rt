@@ -2,8 +2,10 @@
 #![tactic(auto)]
 
 mod buffer;
+mod characters;
 mod check;
 mod elements;
 mod encoding;
 mod finding;
+mod names;
 mod plain_element;
