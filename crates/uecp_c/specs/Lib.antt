@@ -1,5 +1,4 @@
 -- What the contracts of the library for C cite.
-pub mod Buffers
 pub mod Frames
 pub mod Findings
 pub mod Elements

@@ -1,9 +1,9 @@
 //! A frame as it is sent. Source: RDS Forum SPB 490, frame format and byte stuffing.
 ghost use Rattle.std.specs.Prelude.{◌≡◌, length};
-ghost use Rattle.uecp_c.specs.Buffers.{filled};
+ghost use Rattle.c_buffers.specs.Buffers.{filled};
 ghost use Rattle.uecp_c.specs.Frames.{frame_bytes};
 
-use crate::buffer::put;
+use c_buffers::put;
 use uecp_frame::{Address, FrameBytes, FrameRef, encode_ref};
 
 /// The most bytes of a message.

@@ -1,7 +1,6 @@
 //! The protocol for C, with nothing kept between two calls: checks, frames, the first finding of a stream's bytes.
 #![tactic(auto)]
 
-mod buffer;
 mod characters;
 mod check;
 mod elements;
