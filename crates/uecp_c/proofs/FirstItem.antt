@@ -1,11 +1,11 @@
 -- The first item of a message's one reading.
-use Rattle.std.proofs.Common.{◌≡◌, ◌<◌, ◌+◌, ℕ, List, [], ◌∷◌, ◌++◌, refl, ◌∙◌, ap, sym, subst, arith, Option, Some, None}
+use Rattle.std.proofs.Common.{◌≡◌, ℕ, List, [], ◌∷◌, ◌++◌, refl, ◌∙◌, ap, sym, subst, arith, Option, Some, None}
 use Rattle.std.proofs.Common.{length, length-append, append_assoc, Ok, Err}
 use Rattle.std.specs.Prelude.{flat_map}
 use Rattle.uecp_elements.specs.declared.fault.ElementFault.{ElementFault}
 use Rattle.uecp_elements.specs.Codes.{byte_of}
-use Rattle.uecp_elements.specs.Grammar.{Element, spelling, IsElement, Spells, BeginsWithNone, Reading, Reads}
-use Rattle.uecp_elements.specs.Reading.{Item, items_of, fault_item, IsRead}
+use Rattle.uecp_elements.specs.Grammar.{Element, spelling, IsElement, Spells, BeginsWithNone, Reads}
+use Rattle.uecp_elements.specs.Reading.{Item, items_of, IsRead}
 use Rattle.uecp_elements.proofs.Items.{spelling_some}
 use Rattle.uecp_c.specs.Elements.{fault_byte}
 

@@ -7,8 +7,8 @@ ghost use Rattle.uecp_elements.specs.View.{element_of};
 ghost use Rattle.c_buffers.specs.Buffers.{filled};
 ghost use Rattle.uecp_c.specs.Elements.{element_bytes, fault_byte, ReadsFirst};
 
-use c_buffers::put;
 use crate::plain_element::{PlainElement, show_element, told_element};
+use c_buffers::put;
 use uecp_elements::{Code, Element, elements, push_element};
 use uecp_frame::Message;
 

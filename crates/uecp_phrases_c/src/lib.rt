@@ -2,5 +2,7 @@
 //! the message that a line says, or why it says none. Memory is taken within a call and given back before it ends.
 #![tactic(auto)]
 
+mod outcome;
 mod region;
+mod telling;
 mod writing;

@@ -9,5 +9,5 @@ returns-in-None c =
     inr (
       refl,
       λ (byte : ℕ) (is : character_of byte ≡ Some c.args.character).
-      let below = small byte c.args.character is in absurd (omega (arith, below, c.in-None.ensures.cases)),
+          let below = small byte c.args.character is in absurd (omega (arith, below, c.in-None.ensures.cases)),
     )
