@@ -1,0 +1,6 @@
+-- What the contracts of the library for C cite.
+pub mod Frames
+pub mod Findings
+pub mod Elements
+pub mod Names
+pub mod Characters

@@ -1,0 +1,10 @@
+//! The protocol for C, with nothing kept between two calls: checks, frames, the first finding of a stream's bytes.
+#![tactic(auto)]
+
+mod characters;
+mod check;
+mod elements;
+mod encoding;
+mod finding;
+mod names;
+mod plain_element;
