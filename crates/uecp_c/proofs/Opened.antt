@@ -1,5 +1,6 @@
 -- The segment that bytes leave open, as one more byte comes.
-use Rattle.std.proofs.Common.{◌≡◌, ◌≢◌, ◌<◌, ◌+◌, ℕ, List, [], ◌∷◌, ◌++◌, refl, ◌∙◌, ap, sym, subst, arith, Option, Some}
+use Rattle.std.proofs.Common.{◌≡◌, ◌≢◌, ◌<◌, ◌+◌, ℕ, List, [], ◌∷◌, ◌++◌, refl, ◌∙◌, ap, sym, subst, arith, Option}
+use Rattle.std.proofs.Common.{Some}
 use Rattle.std.proofs.Common.{None, length, length-append}
 use Rattle.std.specs.Option.{option_map}
 use Rattle.std.proofs.lemmas.Bool.{ne_eqb}
@@ -23,7 +24,8 @@ pub open_length-end : (s : List ℕ) (b : ℕ) → b ≡ 255 → open_length (s 
 open_length-end s b e =
     let P : ℕ → Type 0 = λ n. open_length (s ++ n ∷ []) ≡ 0 in
     subst P (sym e)
-    (ap segment_length (open_bytes-append_one s (255 ∷ []) refl ∙ open_bytes-other 255 [] refl (λ k. absurd (omega arith))))
+    (ap segment_length (open_bytes-append_one s (255 ∷ []) refl
+    ∙ open_bytes-other 255 [] refl (λ k. absurd (omega arith))))
 
 -- each other byte goes on with it
 abbrev grown : Option (List ℕ) → ℕ → ℕ

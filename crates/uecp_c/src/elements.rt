@@ -61,8 +61,8 @@ pub extern "C" fn uecp_read_element(
 }
 
 /// Puts the spelling of the element at the start of `out`, and tells how many bytes it has, 2 to 69. Where `out` is
-/// shorter than that, nothing is written. 0, and nothing is written, where no element begins with the byte of `code`, or
-/// a RadioText is longer than 64 bytes.
+/// shorter than that, nothing is written. 0, and nothing is written, where no element begins with the byte of `code`,
+/// or a RadioText is longer than 64 bytes.
 #[unsafe(no_mangle)]
 pub extern "C" fn uecp_write_element(element: &PlainElement, out: &mut [u8]) -> usize
     ensures length { result ≡ length (element_bytes element.now) }

@@ -9,9 +9,9 @@ use uecp_frame::{Address, FrameBytes, FrameRef, encode_ref};
 /// The most bytes of a message.
 const MESSAGE_MAX: usize = 255;
 
-/// Puts the frame of the message, as it is sent, at the start of `out`, and tells how many bytes it has, 8 to 524. Where
-/// `out` is shorter than that, nothing is written. 0, and nothing is written, where there is no such frame: the site is
-/// above 1023, the encoder above 63, or the message longer than 255 bytes.
+/// Puts the frame of the message, as it is sent, at the start of `out`, and tells how many bytes it has, 8 to 524.
+/// Where `out` is shorter than that, nothing is written. 0, and nothing is written, where there is no such frame: the
+/// site is above 1023, the encoder above 63, or the message longer than 255 bytes.
 #[unsafe(no_mangle)]
 pub extern "C" fn uecp_encode(
     site: u16,

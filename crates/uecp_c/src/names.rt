@@ -39,9 +39,9 @@ fn code_name(code: Code) -> &'static str
     }
 }
 
-/// Puts the name of a segment's fault at the start of `out`, letters of ASCII with no byte 00 behind them, and tells how
-/// many there are. Where `out` is shorter than that, nothing is written. 0, and nothing is written, where no fault has
-/// this number.
+/// Puts the name of a segment's fault at the start of `out`, letters of ASCII with no byte 00 behind them, and tells
+/// how many there are. Where `out` is shorter than that, nothing is written. 0, and nothing is written, where no fault
+/// has this number.
 #[unsafe(no_mangle)]
 pub extern "C" fn uecp_fault_name(number: u8, out: &mut [u8]) -> usize
     ensures length { result ≡ length (fault_name number) }

@@ -15,8 +15,8 @@ region_of false = Europe
 abbrev pub words_of : Region → (message : List ℕ) → List ℕ
 words_of region message = encode_utf8_all (written_tokens (line_of region message))
 
--- The bytes were put into the buffer where they fit, and counted; or memory was refused, which the greatest number of 64
--- bits says, and the buffer is as it was (profile).
+-- The bytes were put into the buffer where they fit, and counted; or memory was refused, which the greatest number of
+-- 64 bits says, and the buffer is as it was (profile).
 abbrev pub IsPutOrRefused : (bytes old new : List ℕ) → (answer : ℕ) → Type 0
 IsPutOrRefused bytes old new answer =
     ((answer ≡ length bytes) × (new ≡ filled bytes old)) ⊎ ((answer ≡ 2 ^ 64 - 1) × (new ≡ old))

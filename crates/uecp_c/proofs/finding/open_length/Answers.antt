@@ -1,7 +1,8 @@
 use Rattle.std.proofs.Common.{◌≡◌, ◌+◌, sym, ◌∙◌, ap, arith, get_or, take}
 use Rattle.std.proofs.lemmas.List.{take_more}
 use Rattle.uecp_c.specs.Findings.{open_length}
-use Rattle.uecp_c.proofs.Opened.{open_length-nil, open_length-start, open_length-end, open_length-none, open_length-more}
+use Rattle.uecp_c.proofs.Opened.{open_length-nil, open_length-start, open_length-end, open_length-none}
+use Rattle.uecp_c.proofs.Opened.{open_length-more}
 use Rattle.uecp_c.proofs.finding.open_length.Goals as goal
 use Rattle.uecp_c.proofs.finding.open_length.Goals.{then-byte, else-byte+then-byte-2}
 use Rattle.uecp_c.proofs.finding.open_length.Goals.{else-byte+else-byte-2+then-open-gt0}
