@@ -80,8 +80,8 @@ typedef struct {
  * The law to build on: whatever bytes come behind these, the findings of all are the one that was told, if any, and then
  * those of what is left (from the answer on) with what comes. So a stream is decoded by calls on what is left, with
  * what came meanwhile put behind it; where nothing was found, what is left is the segment that has not ended, or
- * nothing. The answer is the greatest that leaves no byte of such a segment out: of a segment that a new FE ends, that
- * FE is left. */
+ * nothing. Done with are the bytes up to and with the one at which the finding is judged, or all where nothing is found,
+ * but for a segment that these leave open: of a segment that a new FE ends, that FE is left. */
 size_t uecp_find(const uint8_t *bytes, size_t length, uecp_finding *finding);
 
 /* ---- Elements (no memory is taken) ---- */
@@ -178,10 +178,10 @@ enum {
 
 /* Why a character can't be read. */
 enum {
-    UECP_NO_WORD = 1,  /* no word begins here: 1 to 16 printable characters of ASCII */
-    UECP_NOT_IN_SET = 2, /* between quotes, and not in the basic character set */
-    UECP_NO_ESCAPE = 3,  /* a backslash between quotes that begins no escape */
-    UECP_UNCLOSED = 4,   /* a quote that is not closed */
+    UECP_NO_WORD = 1,      /* no word begins here: 1 to 16 printable characters of ASCII */
+    UECP_NOT_IN_SET = 2,   /* between quotes, and not in the basic character set */
+    UECP_NO_ESCAPE = 3,    /* a backslash between quotes that begins no escape */
+    UECP_UNCLOSED = 4,     /* a quote that is not closed */
     UECP_TEXT_TOO_LONG = 5 /* a quote with more than 64 bytes behind it */
 };
 

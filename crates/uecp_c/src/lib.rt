@@ -1,4 +1,5 @@
-//! The protocol for C, with nothing kept between two calls: checks, frames, the first finding of a stream's bytes.
+//! The protocol for C, with nothing kept between two calls: checks, frames, the first finding of a stream's bytes,
+//! elements, names and characters.
 #![tactic(auto)]
 
 mod characters;
