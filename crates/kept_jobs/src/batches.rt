@@ -19,7 +19,7 @@ use uecp_net::{Connect, Outstanding, Sender, Settled};
 use uecp_text::{Output, RunFault};
 
 /// Joins the encoder where that is due, and tells it once it is kept.
-pub(crate) fn join_if<K: KeepServer, W: Write, C: Connect>(
+pub fn join_if<K: KeepServer, W: Write, C: Connect>(
     alloc: Global,
     due: bool,
     sender: &mut Sender<'_, C>,
@@ -197,7 +197,7 @@ fn tell_line<W: Write>(alloc: Global, line: &str, writer: &mut W) -> Result<(), 
 }
 
 /// Why a run stops whose messages are outstanding for this reason, where the server counted so much.
-fn stop_for(reason: Outstanding, counts: ServerCounts) -> KeptStop
+pub fn stop_for(reason: Outstanding, counts: ServerCounts) -> KeptStop
     ensures { result ≡ stop_for counts reason }
 {
     match reason {

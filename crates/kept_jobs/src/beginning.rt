@@ -14,7 +14,7 @@ use uecp_link::Server;
 use uecp_text::Output;
 
 /// Tells how far the server has come, and begins anew where its encoder is to be joined.
-pub(crate) fn begin<K: KeepServer, W: Write>(
+pub fn begin<K: KeepServer, W: Write>(
     alloc: Global,
     due: bool,
     server: &mut Server,

@@ -16,6 +16,9 @@ mod server_run;
 mod stop;
 mod telling;
 
+pub use batches::{join_if, stop_for};
+pub use beginning::begin;
 pub use encoder_run::run_encoder_kept;
 pub use server_run::{ServerOptions, run_server_kept};
-pub use stop::{KeptStop, fail_state};
+pub use stop::{KeptStop, fail_run, fail_state};
+pub use telling::write_told;

@@ -30,7 +30,7 @@ impl From<RunFault> for KeptStop {
 
 /// Says on the writer of errors why a run stopped, and answers its status. A text that can't be written changes
 /// nothing.
-pub(crate) fn fail_run<E: Write>(stop: &KeptStop, errors: &mut E) -> u8
+pub fn fail_run<E: Write>(stop: &KeptStop, errors: &mut E) -> u8
     ensures status { result ≡ stop_status stop.now }
     ensures said { Begins (E.contents errors.old) (E.contents errors.new) (stop_lines stop.now) }
 {

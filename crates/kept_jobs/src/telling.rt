@@ -67,7 +67,7 @@ fn put_ended(ended: Result<Served, KeptFault>, output: &mut Output)
 }
 
 /// Writes out what was put down, if there was memory for all of it.
-pub(crate) fn write_told<W: Write>(output: &mut Output, writer: &mut W) -> Result<(), KeptStop>
+pub fn write_told<W: Write>(output: &mut Output, writer: &mut W) -> Result<(), KeptStop>
     ensures tells { (lines : List ℕ) → (IsTrue output.old.is_whole → output.old.bytes ≡ lines)
         → TellsKept lines (Ok tt) (W.contents writer.old) (W.contents writer.new) result }
 {

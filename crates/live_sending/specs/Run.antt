@@ -1,0 +1,177 @@
+-- What a server does whose lines come as they like, with its state kept, and how it ends (profile).
+use Rattle.std.specs.Prelude.{◌≡◌, ◌≢◌, ◌⊎◌, ℕ, zero, suc, ◌+◌, ◌-◌, ◌^◌, Bool, true, false, ◌&&◌, List, []}
+use Rattle.std.specs.Prelude.{length, Option, Result, Ok, Err, if◌then◌else◌}
+use Rattle.std.specs.List.{list_all}
+use Rattle.rds_text.specs.declared.programme_type.Region.{Region}
+use Rattle.uecp_elements.specs.declared.code.Code.{Code}
+use Rattle.uecp_elements.specs.declared.code.Code.TheVariants.{Applied}
+use Rattle.uecp_text.specs.declared.run_fault.RunFault.{RunFault}
+use Rattle.uecp_text.specs.declared.run_fault.RunFault.TheVariants as run
+use Rattle.uecp_text.specs.Written.{Begins}
+use Rattle.uecp_link.specs.declared.counts.ServerCounts.{ServerCounts}
+use Rattle.uecp_link.specs.Server.{ServerState}
+use Rattle.uecp_net.specs.declared.sending.Limits.{Limits}
+use Rattle.uecp_net.specs.Sending.{SenderOver}
+use Rattle.uecp_jobs.specs.ServerRun.{Finishes}
+use Rattle.kept_sending.specs.declared.sending.KeptOutstanding.TheVariants as kept
+use Rattle.kept_sending.specs.Keeping.{KeptServer}
+use Rattle.kept_sending.specs.Sending.{Ended}
+use Rattle.kept_jobs.specs.declared.stop.KeptStop.{KeptStop}
+use Rattle.kept_jobs.specs.declared.stop.KeptStop.TheVariants.{Run, StateFailed}
+use Rattle.kept_jobs.specs.Stops.{Went, TellsKept, Then, stop_for, stop_status, stop_lines}
+use Rattle.kept_jobs.specs.ServerRun.{Standing, TellsTaken, BeginsAnewIf, JoinsIf, SettlesOne, SendsOne, sending}
+use Rattle.kept_jobs.specs.ServerRun.{is_due}
+use Rattle.live_sending.specs.Lines.{reply_lines}
+use Rattle.line_batches.specs.declared.taking.After.{After}
+use Rattle.line_batches.specs.declared.taking.After.TheVariants.{GoesOn, Ends}
+use Rattle.line_batches.specs.Intake.{Intake}
+use Rattle.line_batches.specs.Batches.{TakesBatch}
+
+-- ---- Where a run stands: what it sends, and where that is kept and told; what it takes; and whether all messages that
+-- were answered were applied.
+pub record Live (S K : Type 0) : Type 0 where
+  pub sends : Standing S K
+  pub takes : Intake
+  pub applied : Bool
+
+-- how a run went that ends so
+abbrev pub ended_as : Result (Unit {0}) RunFault → Went
+ended_as (Ok done) = Ok tt
+ended_as (Err fault) = Err (Run fault)
+
+-- ---- One batch is sent.
+
+-- whether this code says that a message was applied
+abbrev pub is_applied : Code → Bool
+is_applied Applied = true
+is_applied code = false
+
+-- What is told of messages that were settled so, the last of which has this number, and how the run goes on: the line
+-- of each, by its own reply, where they are acknowledged. Where they are not nothing is told, and the run stops.
+abbrev pub RepliesTold : (last : ℕ) → ServerCounts → Ended → (held held' : Option (List ℕ)) → Went → Type 0
+RepliesTold last counts (Ok settled) held held' went =
+    TellsKept (reply_lines (last + 1 - length settled.codes.items) settled.codes.items) (Ok tt) held held' went
+RepliesTold last counts (Err (kept.Outstanding reason)) held held' went =
+    (held' ≡ held) × (went ≡ Err (stop_for counts reason))
+RepliesTold last counts (Err kept.StateFailed) held held' went = (held' ≡ held) × (went ≡ Err StateFailed)
+
+-- whether all messages that were settled so were applied, as far as they were answered
+abbrev pub are_applied : Ended → Bool
+are_applied (Ok settled) = list_all is_applied settled.codes.items
+are_applied (Err stopped) = true
+
+-- the exit status of a run that came to its end
+abbrev pub tally_status : (refused applied : Bool) → ℕ
+tally_status refused applied = if refused then 1 else if applied then 0 else 4
+
+module _ {C I O K : Type 0} (opens : C → Option (I × O) → C → Type 0) (closes : C → I → O → C → Type 0)
+    (remaining : I → Option (List ℕ)) (contents : O → Option (List ℕ)) (leaves : K → KeptServer → Type 0)
+    (is_clean : K → Type 0) (saves fails : K → KeptServer → K → Type 0) where
+  -- These messages were sent, as `send_kept` says, and then that was told.
+  abbrev pub SendsBatch : (messages : List (List ℕ)) → (x x' : Standing (SenderOver C I O) K)
+      → (applied applied' : Bool) → Went → Type 0
+  SendsBatch messages x x' applied applied' went =
+      (ended : Ended) × SendsOne opens closes remaining contents leaves is_clean saves fails messages ended x x'
+      × RepliesTold x'.progress.taken x'.runs.sender.server.counts ended x.held x'.held went
+      × (applied' ≡ applied && are_applied ended)
+
+  -- They were sent so where there are some, and else nothing was done.
+  abbrev pub SendsSome : (messages : List (List ℕ)) → (x x' : Standing (SenderOver C I O) K)
+      → (applied applied' : Bool) → Went → Type 0
+  SendsSome messages x x' applied applied' went =
+      ((messages ≡ []) × (x' ≡ x) × (applied' ≡ applied) × (went ≡ Ok tt))
+      ⊎ ((messages ≢ []) × SendsBatch messages x x' applied applied' went)
+
+  -- Where messages wait they were settled, as `settle_kept` says, and then that was told; else nothing was done.
+  abbrev pub SettlesLive : (x x' : Standing (SenderOver C I O) K) → (applied applied' : Bool) → Went → Type 0
+  SettlesLive x x' applied applied' went =
+      ((x.runs.sender.server.held ≡ []) × (x' ≡ x) × (applied' ≡ applied) × (went ≡ Ok tt))
+      ⊎ ((x.runs.sender.server.held ≢ []) × ((ended : Ended)
+      × SettlesOne opens closes remaining contents leaves is_clean saves fails ended x x'
+      × RepliesTold x'.progress.taken x'.runs.sender.server.counts ended x.held x'.held went
+      × (applied' ≡ applied && are_applied ended)))
+
+  -- One turn: a batch was taken, and then sent where it has a message; and this comes after it.
+  pub record Turn (region : Region) (size : ℕ) (strict : Bool) (x x' : Live (SenderOver C I O) K) (after : After)
+      (went : Went) : Type 0 where
+    pub messages : List (List ℕ)
+    pub takes : TakesBatch region size strict messages after x.takes x'.takes
+    pub sends : SendsSome messages x.sends x'.sends x.applied x'.applied went
+
+  -- So many turns were made, one after another, each from where the one before ended, and the run goes on.
+  abbrev pub GoesOnFor : Region → (size : ℕ) → (strict : Bool) → (turns : ℕ) → (x x' : Live (SenderOver C I O) K)
+      → Type 0
+  GoesOnFor region size strict zero x x' = x' ≡ x
+  GoesOnFor region size strict (suc n) x x' =
+      (y : Live (SenderOver C I O) K) × GoesOnFor region size strict n x y × Turn region size strict y x' GoesOn (Ok tt)
+
+  -- The last turn, after which the run ends so: for what comes after its batch; or the batch could not be sent, or what
+  -- came of it not be told.
+  abbrev pub LastTurn : Region → (size : ℕ) → (strict : Bool) → (x x' : Live (SenderOver C I O) K) → Went → Type 0
+  LastTurn region size strict x x' went =
+      ((end : Result (Unit {0}) RunFault) × Turn region size strict x x' (Ends end) (Ok tt) × (went ≡ ended_as end))
+      ⊎ ((after : After) × (stop : KeptStop) × Turn region size strict x x' after (Err stop) × (went ≡ Err stop))
+
+  -- Turns were made up to the last one. Or 2^59 were made, and no more are.
+  abbrev pub RunsTurns : Region → (size : ℕ) → (strict : Bool) → (x x' : Live (SenderOver C I O) K) → Went → Type 0
+  RunsTurns region size strict x x' went =
+      (turns : ℕ) × (y : Live (SenderOver C I O) K) × GoesOnFor region size strict turns x y
+      × (LastTurn region size strict y x' went
+      ⊎ ((turns ≡ 2 ^ 59) × (x' ≡ y) × (went ≡ Err (Run run.Reading))))
+
+  -- ---- A whole run.
+
+  -- A thing was done with what is sent, and nothing else was.
+  abbrev pub OnSends : (does : (s s' : Standing (SenderOver C I O) K) → Went → Type 0)
+      → (x x' : Live (SenderOver C I O) K) → Went → Type 0
+  OnSends does x x' went = does x.sends x'.sends went × (x' ≡ record x { sends = x'.sends })
+
+  -- What waits was settled.
+  abbrev pub SettlesOnce : (x x' : Live (SenderOver C I O) K) → Went → Type 0
+  SettlesOnce x x' went =
+      SettlesLive x.sends x'.sends x.applied x'.applied went × (x'.takes ≡ x.takes)
+
+  -- what a sender does that was given a server so: it joins its encoder where that is due, settles what waits, and then
+  -- makes its turns
+  abbrev pub RunsLive : (due : Bool) → Region → (size : ℕ) → (strict : Bool) → (x x' : Live (SenderOver C I O) K)
+      → Went → Type 0
+  RunsLive due region size strict = Then (OnSends (JoinsIf opens closes remaining contents leaves is_clean saves fails
+      due)) (Then SettlesOnce (RunsTurns region size strict))
+
+  -- The writer got the line of how far the server has come; it began anew where its encoder is to be joined; and then
+  -- one sender ran so, over connections that came from there, and this is left of that. Or the run stopped before a
+  -- connection was opened and a line taken.
+  abbrev pub LivesFrom : (join : Bool) → Region → (size : ℕ) → (strict : Bool) → Limits → (c c' : C)
+      → (x : Live ServerState K) → (k' : K) → (held' : Option (List ℕ)) → (taken : Intake) → (applied : Bool) → Went
+      → Type 0
+  LivesFrom join region size strict limits c c' x k' held' taken applied went =
+      ((y : Standing ServerState K) × (loan : ℕ) × (z : Live (SenderOver C I O) K)
+      × Then TellsTaken (BeginsAnewIf leaves is_clean saves fails (is_due join x.sends.progress)) x.sends y (Ok tt)
+      × RunsLive (is_due join x.sends.progress) region size strict (record {
+        sends = sending opens closes remaining contents leaves is_clean saves fails c loan limits y;
+        takes = x.takes;
+        applied = x.applied;
+      }) z went
+      × Finishes closes c' z.sends.runs × (k' ≡ z.sends.keeper) × (held' ≡ z.sends.held) × (taken ≡ z.takes)
+      × (applied ≡ z.applied))
+      ⊎ ((y : Standing ServerState K) × (stop : KeptStop)
+      × Then TellsTaken (BeginsAnewIf leaves is_clean saves fails (is_due join x.sends.progress)) x.sends y (Err stop)
+      × (went ≡ Err stop) × (c' ≡ c) × (k' ≡ y.keeper) × (held' ≡ y.held) × (taken ≡ x.takes)
+      × (applied ≡ x.applied))
+
+  -- It ran so from a server of which no line was taken. Where it came to its end the status tells whether a line was
+  -- refused, or else a message by the encoder; where it stopped, why was said, or begun to be said.
+  abbrev pub Lives : (join : Bool) → Region → (size : ℕ) → (strict : Bool) → Limits → (c c' : C)
+      → (x : Standing ServerState K) → (k' : K) → (held' unread unread' said said' : Option (List ℕ)) → (status : ℕ)
+      → Type 0
+  Lives join region size strict limits c c' x k' held' unread unread' said said' status =
+      (went : Went) × (taken : Intake) × (applied : Bool)
+      × LivesFrom join region size strict limits c c' (record {
+        sends = x;
+        takes = record { unread = unread; lines = 0; refused = false; said = said };
+        applied = true;
+      }) k' held' taken applied went
+      × (unread' ≡ taken.unread)
+      × (((went ≡ Ok tt) × (status ≡ tally_status taken.refused applied) × (said' ≡ taken.said))
+      ⊎ ((stop : KeptStop) × (went ≡ Err stop) × (status ≡ stop_status stop)
+      × Begins taken.said said' (stop_lines stop)))

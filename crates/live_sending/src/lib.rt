@@ -1,0 +1,9 @@
+//! A studio's server whose lines come as they like: each message is kept before its frame leaves, and its reply is told
+//! as soon as it is there, for every feed of lines, writer, source of connections and keeper.
+#![tactic(auto)]
+
+mod lines;
+mod run;
+mod turn;
+
+pub use run::{LiveOptions, run_live};

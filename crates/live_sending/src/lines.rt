@@ -1,0 +1,57 @@
+//! What is told of messages (profile).
+ghost use Rattle.std.specs.Prelude.{◌+◌, ◌^◌, ◌<◌, length, decimal};
+ghost use Rattle.uecp_text.specs.Written.{Adds};
+ghost use Rattle.live_sending.specs.Lines.{code_words, refusal_words, reply_line, reply_lines};
+
+use itoa::Buffer;
+use uecp_elements::Code;
+use uecp_json::meaning;
+use uecp_text::Output;
+
+/// Puts down the lines of messages that were answered with these codes, the first of which has this number.
+pub(crate) fn put_replies(first: u64, codes: &[Code], output: &mut Output)
+    requires { first + length codes.now < 2 ^ 64 }
+    ensures { Adds output.old output.new (reply_lines first codes.now) }
+{
+    if let Some((code, rest)) = codes.split_first() {
+        put_reply(first, *code, output);
+        put_replies(first + 1, rest, output);
+    }
+}
+
+/// Puts down the line of the message of this number.
+fn put_reply(number: u64, code: Code, output: &mut Output)
+    ensures { Adds output.old output.new (reply_line number code) }
+{
+    put_decimal(number, output);
+    put_code(code, output);
+    output.end();
+}
+
+/// Puts down a number.
+fn put_decimal(number: u64, output: &mut Output)
+    ensures { Adds output.old output.new (decimal number) }
+{
+    let mut buffer = Buffer::new();
+    output.text(buffer.format(number));
+}
+
+/// Puts down what the encoder did with a message that it answered so.
+fn put_code(code: Code, output: &mut Output)
+    ensures { Adds output.old output.new (code_words code) }
+{
+    match code {
+        Code::Applied => output.text(" applied"),
+        _ => put_refusal(code, output),
+    }
+}
+
+/// Puts down that the encoder refused a message, and why.
+fn put_refusal(code: Code, output: &mut Output)
+    ensures { Adds output.old output.new (refusal_words code) }
+{
+    output.text(" refused");
+    output.byte(code.byte());
+    output.text(" ");
+    output.text(meaning(code));
+}

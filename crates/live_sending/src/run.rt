@@ -1,0 +1,403 @@
+//! A server whose lines come as they like, with its state kept. Source: profile.
+ghost use Rattle.std.specs.Prelude.{◌≡◌, ◌⊎◌, ◌≤◌, ◌<◌, ◌+◌, ◌-◌, ◌^◌, [], ℕ, false, length, IsTrue, IfOk, IfErr, Ok};
+ghost use Rattle.std.specs.Prelude.{Err};
+ghost use Rattle.uecp_frame.specs.Address.{is_exact};
+ghost use Rattle.kept_jobs.specs.Stops.{Went};
+ghost use Rattle.kept_jobs.specs.ServerRun.{is_due};
+ghost use Rattle.line_batches.specs.declared.taking.After.{After as Next};
+ghost use Rattle.live_sending.specs.Run.{Turn, ended_as, RunsTurns, RunsLive, LivesFrom, Lives, tally_status};
+
+use crate::turn::{send_some, settle_first};
+use kept_jobs::{KeptStop, begin, fail_run, join_if};
+use kept_sending::{KeepServer, Progress};
+use line_batches::{After, Reading, Tally, take_batch};
+use line_feed::Feed;
+use std::alloc::Global;
+use std::io::Write;
+use uecp_link::Server;
+use uecp_net::{Connect, Limits, Sender};
+use uecp_text::RunFault;
+
+/// How a server sends whose lines come as they like.
+#[derive(Clone, Copy, Debug)]
+pub struct LiveOptions {
+    /// What its sender may spend.
+    pub limits: Limits,
+    /// How its lines are read.
+    pub reading: Reading,
+    /// Whether its encoder is joined even where it was joined before. What waits is then given up.
+    pub join: bool,
+}
+
+/// How many batches are taken at most.
+const TURNS_MAX: u64 = 1 << 59;
+
+/// Sends the messages of the lines that come to this server's encoder, with the server's state kept, and answers the
+/// exit status: 0 all were applied, 1 a line was refused, 3 a message is outstanding, the server could not be saved, or
+/// memory, reading or writing failed, 4 the encoder refused a message.
+///
+/// It is told how many messages were taken before, and how many of them wait; a server that is not joined joins its
+/// encoder; those that wait are settled; and then the lines are taken as they come: it waits for one, and those that
+/// are there already go with it, up to as many messages as are on their way at once. A line that is refused is told on
+/// `errors`, and the others go on. Of each message the encoder's answer is told before the next line is taken.
+pub fn run_live<K: KeepServer, F: Feed, W: Write, E: Write, C: Connect>(
+    alloc: Global,
+    options: &LiveOptions,
+    server: Server,
+    progress: Progress,
+    keeper: &mut K,
+    feed: &mut F,
+    writer: &mut W,
+    errors: &mut E,
+    connect: &mut C,
+) -> u8
+    requires exact { IsTrue (is_exact server.address) }
+    requires countable { progress.taken < 2 ^ 63 }
+    requires some { 1 ≤ options.now.reading.size }
+    requires most { options.now.reading.size ≤ 8 }
+    ensures runs { Lives C.opens C.closes C.Input.remaining C.Output.contents K.leaves K.is_clean K.saves K.fails
+        options.now.join options.now.reading.region options.now.reading.size options.now.reading.strict
+        options.now.limits connect.old connect.new (record {
+          runs = server;
+          keeper = keeper.old;
+          progress = progress;
+          held = W.contents writer.old;
+        }) keeper.new (W.contents writer.new) (F.remaining feed.old) (F.remaining feed.new)
+        (E.contents errors.old) (E.contents errors.new) result }
+{
+    let mut tally = Tally {
+        lines: 0,
+        refused: false,
+    };
+    let mut applied = true;
+    let ran = live(
+        alloc,
+        options,
+        server,
+        progress,
+        keeper,
+        feed,
+        writer,
+        errors,
+        connect,
+        &mut tally,
+        &mut applied,
+    );
+    match ran {
+        Ok(()) => status_of(tally.refused, applied),
+        Err(stop) => fail_run(&stop, errors),
+    }
+}
+
+/// Whether the encoder is to be joined: where that is asked for, or it was not yet.
+fn is_due(join: bool, progress: Progress) -> bool
+    ensures { result ≡ is_due join progress }
+{
+    join || !progress.joined
+}
+
+/// The exit status of a run that came to the end of its input.
+fn status_of(refused: bool, applied: bool) -> u8
+    ensures { result ≡ tally_status refused applied }
+{
+    if refused {
+        1
+    } else if applied {
+        0
+    } else {
+        4
+    }
+}
+
+/// Tells how far the server has come, begins anew where its encoder is to be joined, and sends by one sender.
+fn live<K: KeepServer, F: Feed, W: Write, E: Write, C: Connect>(
+    alloc: Global,
+    options: &LiveOptions,
+    server: Server,
+    progress: Progress,
+    keeper: &mut K,
+    feed: &mut F,
+    writer: &mut W,
+    errors: &mut E,
+    connect: &mut C,
+    tally: &mut Tally,
+    applied: &mut bool,
+) -> Result<(), KeptStop>
+    requires exact { IsTrue (is_exact server.address) }
+    requires countable { progress.taken < 2 ^ 63 }
+    requires some { 1 ≤ options.now.reading.size }
+    requires most { options.now.reading.size ≤ 8 }
+    ensures lives { LivesFrom C.opens C.closes C.Input.remaining C.Output.contents K.leaves K.is_clean K.saves K.fails
+        options.now.join options.now.reading.region options.now.reading.size options.now.reading.strict
+        options.now.limits connect.old connect.new (record {
+          sends = record {
+            runs = server;
+            keeper = keeper.old;
+            progress = progress;
+            held = W.contents writer.old;
+          };
+          takes = record {
+            unread = F.remaining feed.old;
+            lines = tally.old.lines;
+            refused = tally.old.refused;
+            said = E.contents errors.old;
+          };
+          applied = applied.old;
+        }) keeper.new (W.contents writer.new) (record {
+          unread = F.remaining feed.new;
+          lines = tally.new.lines;
+          refused = tally.new.refused;
+          said = E.contents errors.new;
+        }) applied.new result }
+{
+    let mut server = server;
+    let mut progress = progress;
+    let due = is_due(options.join, progress);
+    begin(alloc, due, &mut server, &mut progress, keeper, writer)?;
+    let mut sender = Sender::new(connect, server, options.limits);
+    let ran = run_sender(
+        alloc,
+        due,
+        &options.reading,
+        &mut sender,
+        keeper,
+        &mut progress,
+        feed,
+        writer,
+        errors,
+        tally,
+        applied,
+    );
+    let _connect = sender.finish();
+    ran
+}
+
+/// Joins the encoder where that is due, settles what waits, and then takes and sends batch after batch.
+fn run_sender<K: KeepServer, F: Feed, W: Write, E: Write, C: Connect>(
+    alloc: Global,
+    due: bool,
+    reading: &Reading,
+    sender: &mut Sender<'_, C>,
+    keeper: &mut K,
+    progress: &mut Progress,
+    feed: &mut F,
+    writer: &mut W,
+    errors: &mut E,
+    tally: &mut Tally,
+    applied: &mut bool,
+) -> Result<(), KeptStop>
+    requires some { 1 ≤ reading.now.size }
+    requires most { reading.now.size ≤ 8 }
+    requires idle { IsTrue due → sender.old.sender.server.held ≡ [] }
+    requires not_joined { IsTrue due → progress.old.joined ≡ false }
+    requires countable { progress.old.taken < 2 ^ 63 }
+    ensures runs { RunsLive C.opens C.closes C.Input.remaining C.Output.contents K.leaves K.is_clean K.saves K.fails due
+        reading.now.region reading.now.size reading.now.strict (record {
+          sends = record {
+            runs = sender.old;
+            keeper = keeper.old;
+            progress = progress.old;
+            held = W.contents writer.old;
+          };
+          takes = record {
+            unread = F.remaining feed.old;
+            lines = tally.old.lines;
+            refused = tally.old.refused;
+            said = E.contents errors.old;
+          };
+          applied = applied.old;
+        }) (record {
+          sends = record {
+            runs = sender.new;
+            keeper = keeper.new;
+            progress = progress.new;
+            held = W.contents writer.new;
+          };
+          takes = record {
+            unread = F.remaining feed.new;
+            lines = tally.new.lines;
+            refused = tally.new.refused;
+            said = E.contents errors.new;
+          };
+          applied = applied.new;
+        }) result }
+    ensures loan { sender.new.loan ≡ sender.old.loan }
+{
+    join_if(alloc, due, sender, keeper, progress, writer)?;
+    settle_first(alloc, sender, keeper, *progress, writer, applied)?;
+    run_turns(
+        alloc, reading, sender, keeper, progress, feed, writer, errors, tally, applied,
+    )
+}
+
+/// Takes and sends one batch after another.
+fn run_turns<K: KeepServer, F: Feed, W: Write, E: Write, C: Connect>(
+    alloc: Global,
+    reading: &Reading,
+    sender: &mut Sender<'_, C>,
+    keeper: &mut K,
+    progress: &mut Progress,
+    feed: &mut F,
+    writer: &mut W,
+    errors: &mut E,
+    tally: &mut Tally,
+    applied: &mut bool,
+) -> Result<(), KeptStop>
+    requires some { 1 ≤ reading.now.size }
+    requires most { reading.now.size ≤ 8 }
+    requires idle { sender.old.sender.server.held ≡ [] }
+    requires countable { progress.old.taken < 2 ^ 63 }
+    ensures runs { RunsTurns C.opens C.closes C.Input.remaining C.Output.contents K.leaves K.is_clean K.saves K.fails
+        reading.now.region reading.now.size reading.now.strict (record {
+          sends = record {
+            runs = sender.old;
+            keeper = keeper.old;
+            progress = progress.old;
+            held = W.contents writer.old;
+          };
+          takes = record {
+            unread = F.remaining feed.old;
+            lines = tally.old.lines;
+            refused = tally.old.refused;
+            said = E.contents errors.old;
+          };
+          applied = applied.old;
+        }) (record {
+          sends = record {
+            runs = sender.new;
+            keeper = keeper.new;
+            progress = progress.new;
+            held = W.contents writer.new;
+          };
+          takes = record {
+            unread = F.remaining feed.new;
+            lines = tally.new.lines;
+            refused = tally.new.refused;
+            said = E.contents errors.new;
+          };
+          applied = applied.new;
+        }) result }
+    ensures loan { sender.new.loan ≡ sender.old.loan }
+{
+    let mut line = Vec::new(alloc);
+    for _turn in 0..TURNS_MAX {
+        match make_turn(
+            alloc, reading, sender, keeper, progress, feed, writer, errors, tally, applied,
+            &mut line,
+        ) {
+            Err(stop) => return Err(stop),
+            Ok(After::Ends(ended)) => return ended_as(ended),
+            Ok(After::GoesOn) => {}
+        }
+    }
+    Err(KeptStop::Run(RunFault::Reading))
+}
+
+/// How a run went that ends so.
+fn ended_as(ended: Result<(), RunFault>) -> Result<(), KeptStop>
+    ensures { result ≡ ended_as ended }
+{
+    match ended {
+        Ok(()) => Ok(()),
+        Err(fault) => Err(KeptStop::Run(fault)),
+    }
+}
+
+/// Takes one batch and sends it, and tells what comes after it.
+fn make_turn<K: KeepServer, F: Feed, W: Write, E: Write, C: Connect>(
+    alloc: Global,
+    reading: &Reading,
+    sender: &mut Sender<'_, C>,
+    keeper: &mut K,
+    progress: &mut Progress,
+    feed: &mut F,
+    writer: &mut W,
+    errors: &mut E,
+    tally: &mut Tally,
+    applied: &mut bool,
+    line: &mut Vec<u8>,
+) -> Result<After, KeptStop>
+    requires some { 1 ≤ reading.now.size }
+    requires most { reading.now.size ≤ 8 }
+    requires idle { sender.old.sender.server.held ≡ [] }
+    requires countable { progress.old.taken + 8 < 2 ^ 64 - 1 }
+    ensures made { IfOk result (λ after. Turn C.opens C.closes C.Input.remaining C.Output.contents K.leaves K.is_clean
+        K.saves K.fails reading.now.region reading.now.size reading.now.strict (record {
+          sends = record {
+            runs = sender.old;
+            keeper = keeper.old;
+            progress = progress.old;
+            held = W.contents writer.old;
+          };
+          takes = record {
+            unread = F.remaining feed.old;
+            lines = tally.old.lines;
+            refused = tally.old.refused;
+            said = E.contents errors.old;
+          };
+          applied = applied.old;
+        }) (record {
+          sends = record {
+            runs = sender.new;
+            keeper = keeper.new;
+            progress = progress.new;
+            held = W.contents writer.new;
+          };
+          takes = record {
+            unread = F.remaining feed.new;
+            lines = tally.new.lines;
+            refused = tally.new.refused;
+            said = E.contents errors.new;
+          };
+          applied = applied.new;
+        }) after (Ok tt)) }
+    ensures stopped { IfErr result (λ stop. (after : Next)
+        × Turn C.opens C.closes C.Input.remaining C.Output.contents K.leaves K.is_clean
+        K.saves K.fails reading.now.region reading.now.size reading.now.strict (record {
+          sends = record {
+            runs = sender.old;
+            keeper = keeper.old;
+            progress = progress.old;
+            held = W.contents writer.old;
+          };
+          takes = record {
+            unread = F.remaining feed.old;
+            lines = tally.old.lines;
+            refused = tally.old.refused;
+            said = E.contents errors.old;
+          };
+          applied = applied.old;
+        }) (record {
+          sends = record {
+            runs = sender.new;
+            keeper = keeper.new;
+            progress = progress.new;
+            held = W.contents writer.new;
+          };
+          takes = record {
+            unread = F.remaining feed.new;
+            lines = tally.new.lines;
+            refused = tally.new.refused;
+            said = E.contents errors.new;
+          };
+          applied = applied.new;
+        }) after (Err stop)) }
+    ensures taken { progress.new.taken ≤ progress.old.taken + 8 }
+    ensures idle { IfOk result (λ _. sender.new.sender.server.held ≡ []) }
+    ensures loan { sender.new.loan ≡ sender.old.loan }
+{
+    let mut batch = Vec::new(alloc);
+    let after = take_batch(alloc, reading, feed, line, errors, tally, &mut batch);
+    match send_some(
+        alloc,
+        batch.as_slice(),
+        sender,
+        keeper,
+        progress,
+        writer,
+        applied,
+    ) {
+        Err(stop) => Err(stop),
+        Ok(()) => Ok(after),
+    }
+}

@@ -1,0 +1,179 @@
+//! A batch is sent, and the reply to each message told. Source: profile.
+ghost use Rattle.std.specs.Prelude.{◌≡◌, ◌≢◌, ◌≤◌, ◌<◌, ◌+◌, ◌-◌, ◌^◌, [], length, IfOk, Ok};
+ghost use Rattle.std.specs.List.{list_all};
+ghost use Rattle.kept_sending.specs.Keeping.{taking};
+ghost use Rattle.live_sending.specs.Run.{SendsBatch, SendsSome, SettlesLive, RepliesTold, are_applied, is_applied};
+
+use crate::lines::put_replies;
+use kept_jobs::{KeptStop, stop_for, write_told};
+use kept_sending::{KeepServer, KeptOutstanding, Progress, send_kept, settle_kept};
+use std::alloc::Global;
+use std::io::Write;
+use uecp_elements::Code;
+use uecp_frame::Message;
+use uecp_link::ServerCounts;
+use uecp_net::{Connect, Sender, Settled};
+use uecp_text::Output;
+
+/// Sends these messages, and tells what the encoder answered to each once that is kept.
+pub(crate) fn send_batch<K: KeepServer, W: Write, C: Connect>(
+    alloc: Global,
+    batch: &[Message],
+    sender: &mut Sender<'_, C>,
+    keeper: &mut K,
+    progress: &mut Progress,
+    writer: &mut W,
+    applied: &mut bool,
+) -> Result<(), KeptStop>
+    requires some { batch.now ≢ [] }
+    requires most { length batch.now ≤ 8 }
+    requires idle { sender.old.sender.server.held ≡ [] }
+    requires countable { progress.old.taken + length batch.now < 2 ^ 64 - 1 }
+    ensures sends { SendsBatch C.opens C.closes C.Input.remaining C.Output.contents K.leaves K.is_clean K.saves K.fails
+        batch.now (record {
+          runs = sender.old;
+          keeper = keeper.old;
+          progress = progress.old;
+          held = W.contents writer.old;
+        }) (record {
+          runs = sender.new;
+          keeper = keeper.new;
+          progress = progress.new;
+          held = W.contents writer.new;
+        }) applied.old applied.new result }
+    ensures progress { progress.new ≡ taking progress.old (length batch.now) }
+    ensures idle { IfOk result (λ _. sender.new.sender.server.held ≡ []) }
+    ensures loan { sender.new.loan ≡ sender.old.loan }
+{
+    let ended = send_kept(sender, keeper, progress, batch);
+    *applied = *applied && are_applied(&ended);
+    tell_replies(
+        alloc,
+        progress.taken,
+        &ended,
+        sender.server().counts(),
+        writer,
+    )
+}
+
+/// Sends these messages so, where there are some.
+pub(crate) fn send_some<K: KeepServer, W: Write, C: Connect>(
+    alloc: Global,
+    batch: &[Message],
+    sender: &mut Sender<'_, C>,
+    keeper: &mut K,
+    progress: &mut Progress,
+    writer: &mut W,
+    applied: &mut bool,
+) -> Result<(), KeptStop>
+    requires most { length batch.now ≤ 8 }
+    requires idle { sender.old.sender.server.held ≡ [] }
+    requires countable { progress.old.taken + length batch.now < 2 ^ 64 - 1 }
+    ensures sends { SendsSome C.opens C.closes C.Input.remaining C.Output.contents K.leaves K.is_clean K.saves K.fails
+        batch.now (record {
+          runs = sender.old;
+          keeper = keeper.old;
+          progress = progress.old;
+          held = W.contents writer.old;
+        }) (record {
+          runs = sender.new;
+          keeper = keeper.new;
+          progress = progress.new;
+          held = W.contents writer.new;
+        }) applied.old applied.new result }
+    ensures progress { progress.new.taken ≤ progress.old.taken + 8 }
+    ensures idle { IfOk result (λ _. sender.new.sender.server.held ≡ []) }
+    ensures loan { sender.new.loan ≡ sender.old.loan }
+{
+    if batch.is_empty() {
+        return Ok(());
+    }
+    send_batch(alloc, batch, sender, keeper, progress, writer, applied)
+}
+
+/// Settles what waits, where messages wait, and tells what the encoder answered to each once that is kept.
+pub(crate) fn settle_first<K: KeepServer, W: Write, C: Connect>(
+    alloc: Global,
+    sender: &mut Sender<'_, C>,
+    keeper: &mut K,
+    progress: Progress,
+    writer: &mut W,
+    applied: &mut bool,
+) -> Result<(), KeptStop>
+    requires countable { progress.taken < 2 ^ 64 - 1 }
+    ensures settles { SettlesLive C.opens C.closes C.Input.remaining C.Output.contents K.leaves K.is_clean K.saves
+        K.fails (record { runs = sender.old; keeper = keeper.old; progress = progress; held = W.contents writer.old })
+        (record { runs = sender.new; keeper = keeper.new; progress = progress; held = W.contents writer.new })
+        applied.old applied.new result }
+    ensures idle { IfOk result (λ _. sender.new.sender.server.held ≡ []) }
+    ensures loan { sender.new.loan ≡ sender.old.loan }
+{
+    if sender.server().is_idle() {
+        return Ok(());
+    }
+    let ended = settle_kept(sender, keeper, progress);
+    *applied = *applied && are_applied(&ended);
+    tell_replies(
+        alloc,
+        progress.taken,
+        &ended,
+        sender.server().counts(),
+        writer,
+    )
+}
+
+/// Tells what the encoder answered to messages that were settled so, the last of which has this number, and says how
+/// the run goes on. Nothing is told of messages that are outstanding, or where a save failed.
+fn tell_replies<W: Write>(
+    alloc: Global,
+    last: u64,
+    ended: &Result<Settled, KeptOutstanding>,
+    counts: ServerCounts,
+    writer: &mut W,
+) -> Result<(), KeptStop>
+    requires countable { last < 2 ^ 64 - 1 }
+    ensures tells { RepliesTold last counts ended.now (W.contents writer.old) (W.contents writer.new) result }
+{
+    match ended {
+        Ok(settled) => {
+            let codes = settled.codes.as_slice();
+            let mut output = Output::new(alloc);
+            put_replies(first_of(last, codes.len()), codes, &mut output);
+            write_told(&mut output, writer)
+        }
+        Err(KeptOutstanding::Outstanding(reason)) => Err(stop_for(*reason, counts)),
+        Err(KeptOutstanding::StateFailed) => Err(KeptStop::StateFailed),
+    }
+}
+
+/// The number of the first of so many messages, the last of which has this number.
+fn first_of(last: u64, count: usize) -> u64
+    requires { last < 2 ^ 64 - 1 }
+    ensures { result ≡ last + 1 - count }
+{
+    (last + 1).saturating_sub(count as u64)
+}
+
+/// Whether all messages that were settled so were applied, as far as they were answered.
+fn are_applied(ended: &Result<Settled, KeptOutstanding>) -> bool
+    ensures { result ≡ are_applied ended.now }
+{
+    match ended {
+        Ok(settled) => all_applied(settled.codes.as_slice()),
+        Err(_) => true,
+    }
+}
+
+/// Whether each of these codes says that a message was applied.
+fn all_applied(codes: &[Code]) -> bool
+    ensures { result ≡ list_all is_applied codes.now }
+{
+    codes.iter().all(|&code| is_applied(code))
+}
+
+/// Whether this code says that a message was applied.
+fn is_applied(code: Code) -> bool
+    ensures { result ≡ is_applied code }
+{
+    matches!(code, Code::Applied)
+}
