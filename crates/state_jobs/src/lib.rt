@@ -22,3 +22,4 @@ pub use files::{MachineEncoder, MachineServer};
 pub use open_states::OpenStates;
 pub use server_job::run_server_in;
 pub use telling::tell_state;
+pub use texts::state_text;

@@ -7,7 +7,7 @@ use state_files::StateFault;
 use std::io::Write;
 
 /// What is said of a state that can't be opened, read or closed, behind `uecp: `.
-pub(crate) fn state_text(fault: StateFault) -> &'static str
+pub fn state_text(fault: StateFault) -> &'static str
     ensures { result.now ≡ state_text fault }
 {
     match fault {

@@ -15,12 +15,13 @@ use Rattle.clap.proofs.OnLiterals.{clap_on_literals}
 use Rattle.uecp_jobs.specs.declared.job.Job.{Job}
 use Rattle.uecp_jobs.specs.declared.job.Job.TheVariants.{Answer, AnswerAs, Show, ShowAs, Make, MakeWords}
 use Rattle.uecp_jobs.specs.declared.job.Job.TheVariants.{Line, LineAs, Encoder, Server, Watch}
+use Rattle.send_jobs.specs.declared.job.SendJob.{SendJob}
 use Rattle.uecp_cli.specs.declared.task.Task.{Task}
-use Rattle.uecp_cli.specs.declared.task.Task.TheVariants.{Plain, Kept, State}
+use Rattle.uecp_cli.specs.declared.task.Task.TheVariants.{Plain, Kept, Send, State}
 use Rattle.uecp_cli.specs.declared.usage.Usage.{Usage}
-use Rattle.uecp_cli.specs.Ranges.{AreInRange, IsInRange, IsPlaceInRange, IsSetupInRange, Lies}
+use Rattle.uecp_cli.specs.Ranges.{AreInRange, IsInRange, IsLiveInRange, IsPlaceInRange, IsSetupInRange, Lies}
 use Rattle.uecp_cli.specs.Usages.{SaysError}
-use Rattle.uecp_cli.specs.CommandLine.{AreOptions, Asks, IsEnd, IsJobOf, IsKeptAs, IsOption, IsPlace}
+use Rattle.uecp_cli.specs.CommandLine.{AreOptions, Asks, IsEnd, IsJobOf, IsKeptAs, IsLive, IsOption, IsPlace}
 use Rattle.uecp_cli.specs.CommandLine.{IsTaskOf, RefusesList, RefusesWords}
 use Rattle.uecp_cli.specs.CommandLine.{services_text, uecp_app}
 use Rattle.uecp_cli.proofs.Helps.{one_named}
@@ -75,13 +76,20 @@ asks words m name rows task e f met none is = record {
   is_task = is;
 }
 
--- the words with no fault name one of the eight commands
+-- the words with no fault name one of the nine commands
 pub no_other : (words : List Text) (m : ArgMatches) (o : Option Text) → o ≡ subcommand_name_of m
     → subcommand_rows_of m ≡ subcommand_of uecp_app words → fault_of uecp_app words ≡ []
-    → (o ≡ Some (codes "answer") → ⊥) → (o ≡ Some (codes "line") → ⊥) → (o ≡ Some (codes "make") → ⊥)
-    → (o ≡ Some (codes "show") → ⊥) → (o ≡ Some (codes "encoder") → ⊥) → (o ≡ Some (codes "server") → ⊥)
-    → (o ≡ Some (codes "watch") → ⊥) → (o ≡ Some (codes "state") → ⊥) → ⊥
-no_other words m o e met none no_answer no_line no_make no_show no_encoder no_server no_watch no_state =
+    → (o ≡ Some (codes "answer") → ⊥)
+    → (o ≡ Some (codes "line") → ⊥)
+    → (o ≡ Some (codes "make") → ⊥)
+    → (o ≡ Some (codes "show") → ⊥)
+    → (o ≡ Some (codes "encoder") → ⊥)
+    → (o ≡ Some (codes "server") → ⊥)
+    → (o ≡ Some (codes "send") → ⊥)
+    → (o ≡ Some (codes "watch") → ⊥)
+    → (o ≡ Some (codes "state") → ⊥)
+    → ⊥
+no_other words m o e met none no_answer no_line no_make no_show no_encoder no_server no_send no_watch no_state =
     let n = one_named words none in
     let name : o ≡ Some n.0.0 = e ∙ name_met (out-ArgMatches m).subcommand ∙ ap (option_map (λ p. p.0)) (met ∙ n.1) in
     elim n.2 [
@@ -91,8 +99,9 @@ no_other words m o e met none no_answer no_line no_make no_show no_encoder no_se
       | inr (inr (inr (inl is))) ↦ no_line (name ∙ ap Some is)
       | inr (inr (inr (inr (inl is)))) ↦ no_encoder (name ∙ ap Some is)
       | inr (inr (inr (inr (inr (inl is))))) ↦ no_server (name ∙ ap Some is)
-      | inr (inr (inr (inr (inr (inr (inl is)))))) ↦ no_watch (name ∙ ap Some is)
-      | inr (inr (inr (inr (inr (inr (inr is)))))) ↦ no_state (name ∙ ap Some is)
+      | inr (inr (inr (inr (inr (inr (inl is)))))) ↦ no_send (name ∙ ap Some is)
+      | inr (inr (inr (inr (inr (inr (inr (inl is))))))) ↦ no_watch (name ∙ ap Some is)
+      | inr (inr (inr (inr (inr (inr (inr (inr (is)))))))) ↦ no_state (name ∙ ap Some is)
     ]
 
 pub gives_no_list : (words : List Text) (m : ArgMatches) (name : Text) (rows : List Row) (why : Usage)
@@ -169,9 +178,23 @@ is_in_range name rows (Watch form time) h = tt
 is_in_range name rows Make h = tt
 is_in_range name rows (MakeWords region) h = tt
 
+live_in_range : (rows : List Row) (job : SendJob) → IsLive rows job → IsLiveInRange job
+live_in_range rows job o = (
+  place_in_range rows job.site job.encoder o.is_place,
+  in_range _ _ _ _ o.is_port,
+  in_range _ _ _ _ o.is_tries,
+  in_range _ _ _ _ o.is_timeout,
+  in_range _ _ _ _ o.is_turns,
+  in_range _ _ _ _ o.is_window,
+  in_range _ _ _ _ o.is_retry_every,
+  in_range _ _ _ _ o.is_give_up,
+  in_range _ _ _ _ o.is_silent,
+)
+
 pub are_in_range : (name : Text) (rows : List Row) (task : Task) → IsTaskOf name rows task → AreInRange task
 are_in_range name rows (Plain job) is = is_in_range name rows job is.0
 are_in_range name rows (Kept job path) is = is_in_range name rows job is.0
+are_in_range name rows (Send job) is = live_in_range rows job is.1
 are_in_range name rows (State path) is = tt
 
 -- ---- with its state in a file or without
@@ -181,6 +204,7 @@ kept_job : (name : Text) (rows : List Row) (job : Job) (task : Task) → IsJobOf
 kept_job name rows job (Plain same) is end unkept how = unkept same how.0 how.1
 kept_job name rows job (Kept same path) is end unkept how =
     (subst (IsJobOf name rows) (sym how.0) is, subst IsEnd (sym how.0) end, how.1)
+kept_job name rows job (Send send) is end unkept how = absurd how
 kept_job name rows job (State path) is end unkept how = absurd how
 
 pub kept_encoder : (name : Text) (rows : List Row) (site encoder sets : ℕ) (services : _) (port connections turns : ℕ)

@@ -1,5 +1,5 @@
 -- The command line that the program takes, and what it asks for (profile).
-use Rattle.std.specs.Prelude.{◌≡◌, ◌⊎◌, ℕ, ◌≤◌, ◌==◌, Bool, true, false, not, List, [], ◌∷◌, ◌++◌, codes, map, Option}
+use Rattle.std.specs.Prelude.{◌≡◌, ◌⊎◌, ℕ, ◌≤◌, ◌==◌, Bool, true, false, not, ◌||◌, is_some, List, [], ◌∷◌, ◌++◌, codes, map, Option}
 use Rattle.std.specs.Prelude.{Some, None, Ok, is_none, option_map, unwrap_or, pos, if◌then◌else◌}
 use Rattle.std.specs.List.{slice_split}
 use Rattle.std.specs.String.{string_bytes}
@@ -15,10 +15,12 @@ use Rattle.clap.specs.declared.builder.value_parser.ValueParser.TheVariants.{Sig
 use Rattle.uecp_jobs.specs.declared.job.Job.{Job}
 use Rattle.uecp_jobs.specs.declared.job.Job.TheVariants.{Answer, AnswerAs, Show, ShowAs, Make, MakeWords}
 use Rattle.uecp_jobs.specs.declared.job.Job.TheVariants.{Line, LineAs, Encoder, Server, Watch}
+use Rattle.send_jobs.specs.declared.job.SendJob.{SendJob}
 use Rattle.uecp_cli.specs.declared.task.Task.{Task}
-use Rattle.uecp_cli.specs.declared.task.Task.TheVariants.{Plain, Kept, State}
+use Rattle.uecp_cli.specs.declared.task.Task.TheVariants.{Plain, Kept, Send, State}
 use Rattle.output_forms.specs.declared.form.Form.{Form}
 use Rattle.output_forms.specs.declared.form.Form.TheVariants.{Lines, Words, Json}
+use Rattle.rds_text.specs.declared.programme_type.Region.{Region}
 use Rattle.rds_text.specs.declared.programme_type.Region.TheVariants.{Europe, NorthAmerica}
 use Rattle.uecp_cli.specs.declared.numbers.NumberOption.{NumberOption}
 use Rattle.uecp_cli.specs.declared.usage.Usage.{Usage}
@@ -146,6 +148,35 @@ IsJobOf name rows Show = (name ≡ codes "show") × IsForm rows Lines
 IsJobOf name rows (ShowAs form) = (name ≡ codes "show") × IsForm rows form
 IsJobOf name rows (Watch form time) = (name ≡ codes "watch") × IsForm rows form × IsTimed rows time
 
+-- The region is North America's where a flag asks for it.
+abbrev pub IsRegion : (rows : List Row) → Region → Type 0
+IsRegion rows region =
+    (rbds : Bool) × IsFlag (one_of (codes "rbds") rows) rbds × (region ≡ (if rbds then NorthAmerica else Europe))
+
+-- An encoder is joined anew where a flag asks for it, or a station's file is given.
+abbrev pub IsRejoin : (rows : List Row) → (rejoin : Bool) → Type 0
+IsRejoin rows rejoin = (asked : Bool) × IsFlag (one_of (codes "rejoin") rows) asked
+    × (rejoin ≡ asked || is_some (first_of (codes "station") rows))
+
+-- What is sent for as long as lines come is sent as the matches of the command have it.
+pub record IsLive (rows : List Row) (job : SendJob) : Type 0 where
+  pub is_place : IsPlace rows job.site job.encoder
+  pub is_host : string_bytes job.host ≡ host_text rows
+  pub is_port : IsPort rows job.port
+  pub is_tries : IsOption (one_of (codes "tries") rows) 1 100 job.tries
+  pub is_timeout : IsOption (one_of (codes "timeout") rows) 1 60000 job.timeout
+  pub is_turns : IsOption (one_of (codes "turns") rows) 1 1000 job.turns
+  pub is_window : IsOption (one_of (codes "window") rows) 1 8 job.window
+  pub is_retry_every : IsOption (one_of (codes "retry-every") rows) 1 3600 job.retry_every
+  pub is_give_up : IsOption (one_of (codes "give-up") rows) 0 1000000 job.give_up
+  pub is_silent : IsOption (one_of (codes "silent") rows) 1 86400 job.silent
+  pub is_region : IsRegion rows job.region
+  pub is_strict : IsFlag (one_of (codes "strict") rows) job.strict
+  pub is_join : IsFlag (one_of (codes "join") rows) job.join
+  pub is_rejoin : IsRejoin rows job.rejoin
+  pub is_state : option_map string_bytes job.state ≡ first_of (codes "state") rows
+  pub is_station : option_map string_bytes job.station ≡ first_of (codes "station") rows
+
 -- The job is that of one of the two ends, which have a state.
 abbrev pub IsEnd : Job → Type 0
 IsEnd (Encoder site encoder sets services port connections turns) = Unit {0}
@@ -163,14 +194,16 @@ IsUnkept rows job = Unit {0}
 abbrev pub IsKeptAs : List Row → Job → Task → Type 0
 IsKeptAs rows job (Plain same) = (same ≡ job) × (first_of (codes "state") rows ≡ None)
 IsKeptAs rows job (Kept same path) = (same ≡ job) × (first_of (codes "state") rows ≡ Some (string_bytes path))
+IsKeptAs rows job (Send send) = ⊥
 IsKeptAs rows job (State path) = ⊥
 
 -- The task is that of the command of this name: its job, with the file for the state of its end where one is given; or
--- what is in the file that is named.
+-- to send for as long as lines come; or what is in the file that is named.
 abbrev pub IsTaskOf : (name : List ℕ) → List Row → Task → Type 0
 IsTaskOf name rows (Plain job) = IsJobOf name rows job × IsUnkept rows job
 IsTaskOf name rows (Kept job path) =
     IsJobOf name rows job × IsEnd job × (first_of (codes "state") rows ≡ Some (string_bytes path))
+IsTaskOf name rows (Send job) = (name ≡ codes "send") × IsLive rows job
 IsTaskOf name rows (State path) =
     (name ≡ codes "state") × (string_bytes path ≡ word_text (codes "file") [] rows)
 
@@ -204,6 +237,10 @@ rule_for option = number_option option.name.now option.least option.most (option
 -- The option with the file for the state of an end, which may be left out.
 abbrev pub state_option : Rule
 state_option = record (word_option (codes "state") None) { required = false }
+
+-- The option with the file of a station's lines, which may be left out.
+abbrev pub station_option : Rule
+station_option = record (word_option (codes "station") None) { required = false }
 
 -- The file to look at, which has to be named.
 abbrev pub file_argument : Rule
@@ -279,16 +316,30 @@ abbrev pub sending_command : Shape
 sending_command = command_with (codes "server") (place_options ++ word_option (codes "host") (Some (codes "127.0.0.1"))
     ∷ port_option ∷ bound_options ++ flag (codes "join") ∷ state_option ∷ [])
 
+-- The command `send`.
+abbrev pub live_command : Shape
+live_command = command_with (codes "send") (place_options ++ word_option (codes "host") (Some (codes "127.0.0.1"))
+    ∷ port_option ∷ number_option (codes "tries") 1 100 (Some (codes "3"))
+    ∷ number_option (codes "timeout") 1 60000 (Some (codes "1000"))
+    ∷ number_option (codes "turns") 1 1000 (Some (codes "16"))
+    ∷ number_option (codes "window") 1 8 (Some (codes "1"))
+    ∷ number_option (codes "retry-every") 1 3600 (Some (codes "30"))
+    ∷ number_option (codes "give-up") 0 1000000 (Some (codes "0"))
+    ∷ number_option (codes "silent") 1 86400 (Some (codes "60"))
+    ∷ flag (codes "rbds") ∷ flag (codes "strict") ∷ flag (codes "join") ∷ flag (codes "rejoin")
+    ∷ state_option ∷ station_option ∷ [])
+
 -- The command `state`.
 abbrev pub looking_command : Shape
 looking_command = command_with (codes "state") (file_argument ∷ [])
 
--- The program: it has a version, and one of eight commands has to be named.
+-- The program: it has a version, and one of nine commands has to be named.
 abbrev pub uecp_app : App
 uecp_app = record {
   top = record (new_shape (codes "uecp")) { is_leaf = false; has_version = true; subcommand_required = true };
   subs = store_command (codes "answer") ∷ showing_command ∷ making_command
-      ∷ store_command (codes "line") ∷ listening_command ∷ sending_command ∷ watching_command ∷ looking_command ∷ [];
+      ∷ store_command (codes "line") ∷ listening_command ∷ sending_command ∷ live_command ∷ watching_command
+      ∷ looking_command ∷ [];
 }
 
 -- The words have no fault, and ask for this: they name its command, and give its options.

@@ -3,8 +3,9 @@ use Rattle.std.specs.Prelude.{ℕ, ◌≤◌}
 use Rattle.uecp_jobs.specs.declared.job.Job.{Job}
 use Rattle.uecp_jobs.specs.declared.job.Job.TheVariants.{Answer, AnswerAs, Show, ShowAs, Make, MakeWords}
 use Rattle.uecp_jobs.specs.declared.job.Job.TheVariants.{Line, LineAs, Encoder, Server, Watch}
+use Rattle.send_jobs.specs.declared.job.SendJob.{SendJob}
 use Rattle.uecp_cli.specs.declared.task.Task.{Task}
-use Rattle.uecp_cli.specs.declared.task.Task.TheVariants.{Plain, Kept, State}
+use Rattle.uecp_cli.specs.declared.task.Task.TheVariants.{Plain, Kept, Send, State}
 
 -- A number lies from the least to the greatest.
 abbrev pub Lies : (least greatest number : ℕ) → Type 0
@@ -35,8 +36,15 @@ IsInRange (Watch form time) = Unit {0}
 IsInRange Make = Unit {0}
 IsInRange (MakeWords region) = Unit {0}
 
+-- Each number of what is sent for as long as lines come.
+abbrev pub IsLiveInRange : SendJob → Type 0
+IsLiveInRange job = IsPlaceInRange job.site job.encoder × Lies 1 65535 job.port × Lies 1 100 job.tries
+    × Lies 1 60000 job.timeout × Lies 1 1000 job.turns × Lies 1 8 job.window × Lies 1 3600 job.retry_every
+    × Lies 0 1000000 job.give_up × Lies 1 86400 job.silent
+
 -- Each number of what is asked for is in its range.
 abbrev pub AreInRange : Task → Type 0
 AreInRange (Plain job) = IsInRange job
 AreInRange (Kept job path) = IsInRange job
+AreInRange (Send job) = IsLiveInRange job
 AreInRange (State path) = Unit {0}

@@ -2,7 +2,7 @@
 ghost use Rattle.std.specs.Prelude.{◌≡◌, false, codes, Some};
 ghost use Rattle.clap.specs.Words.{rule_of};
 ghost use Rattle.uecp_cli.specs.CommandLine.{rule_for, word_option, services_option, state_option};
-ghost use Rattle.uecp_cli.specs.CommandLine.{file_argument, flag};
+ghost use Rattle.uecp_cli.specs.CommandLine.{file_argument, flag, station_option};
 
 use crate::numbers::NumberOption;
 use clap::{Arg, ArgAction, value_parser};
@@ -74,6 +74,18 @@ pub fn state<'a>(alloc: Global) -> Arg<'a>
         .long("state")
         .value_name("FILE")
         .help("The file in which this end is kept, so that the next run goes on from it")
+        .action(ArgAction::Set)
+}
+
+/// The option `station`.
+pub fn station<'a>(alloc: Global) -> Arg<'a>
+    ensures rule { rule_of result ≡ station_option }
+    ensures own { result.global ≡ false }
+{
+    Arg::new(alloc, "station")
+        .long("station")
+        .value_name("FILE")
+        .help("The file with the lines that make the station, sent behind each join; it asks for --rejoin too")
         .action(ArgAction::Set)
 }
 

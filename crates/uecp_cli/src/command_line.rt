@@ -7,15 +7,15 @@ ghost use Rattle.uecp_cli.specs.Ranges.{AreInRange};
 ghost use Rattle.uecp_cli.specs.CommandLine.{uecp_app, Asks, RefusesWords, command_with, place_options};
 ghost use Rattle.uecp_cli.specs.CommandLine.{encoder_options};
 ghost use Rattle.uecp_cli.specs.CommandLine.{store_command, showing_command, making_command, listening_command};
-ghost use Rattle.uecp_cli.specs.CommandLine.{sending_command, watching_command, looking_command, flag};
+ghost use Rattle.uecp_cli.specs.CommandLine.{sending_command, live_command, watching_command, looking_command, flag};
 
-use crate::arguments::{file, flag, host, number, services, state};
+use crate::arguments::{file, flag, host, number, services, state, station};
 use crate::matched::{
-    answer_of, encoder_of, line_of, make_of, server_of, show_of, state_of, watch_of,
+    answer_of, encoder_of, line_of, make_of, send_of, server_of, show_of, state_of, watch_of,
 };
 use crate::numbers::{
-    CONNECTIONS, ENCODER, PORT, RECONNECTS, SERVE_TURNS, SETS, SITE, TIMEOUT, TRIES, TRY_TURNS,
-    WINDOW,
+    CONNECTIONS, ENCODER, GIVE_UP, PORT, RECONNECTS, RETRY_EVERY, SERVE_TURNS, SETS, SILENT, SITE,
+    TIMEOUT, TRIES, TRY_TURNS, WINDOW,
 };
 use crate::task::Task;
 use crate::usage::Usage;
@@ -26,7 +26,7 @@ const VERSION: &str = "0.1.0";
 
 /// What the exit statuses say, below the list of commands.
 const STATUSES: &str =
-    "Each command but encoder and state reads standard input to its end, at most 1 MiB (1,048,576 bytes);\nwatch tells what comes at once, and has no limit.\n'uecp COMMAND --help' has its options and an example.\nExit status: 0 done, 1 an input line was refused, 2 the command line or the services were refused,\n3 memory, reading, writing, a connection or a state failed.";
+    "Each command but encoder and state reads standard input to its end, at most 1 MiB (1,048,576 bytes);\nwatch and send go on as it comes, and have no limit.\n'uecp COMMAND --help' has its options and an example.\nExit status: 0 done, 1 an input line was refused, 2 the command line or the services were refused,\n3 memory, reading, writing, a connection or a state failed.";
 
 /// Reads the words of a command line, the first being the program's name.
 pub fn parse(alloc: Global, words: &[String]) -> Result<Task, Usage>
@@ -44,6 +44,7 @@ pub fn parse(alloc: Global, words: &[String]) -> Result<Task, Usage>
         Some(("server", found)) => server_of(alloc, found),
         Some(("make", found)) => Ok(make_of(found)),
         Some(("show", found)) => Ok(show_of(found)),
+        Some(("send", found)) => send_of(alloc, found),
         Some(("watch", found)) => Ok(watch_of(found)),
         Some(("state", found)) => state_of(alloc, found),
         _ => unreachable!(),
@@ -66,6 +67,7 @@ pub fn program<'a>(alloc: Global) -> Result<Command<'a>, AllocError>
         .subcommand(line_command(alloc)?)?
         .subcommand(encoder_command(alloc)?)?
         .subcommand(server_command(alloc)?)?
+        .subcommand(send_command(alloc)?)?
         .subcommand(watch_command(alloc)?)?
         .subcommand(state_command(alloc)?)
 }
@@ -166,6 +168,44 @@ fn server_command<'a>(alloc: Global) -> Result<Command<'a>, AllocError>
             "Begin whatever the encoder has kept: always, but with one that was just started. With --state it gives up what waits",
         ))?
         .arg(state(alloc))
+}
+
+fn send_command<'a>(alloc: Global) -> Result<Command<'a>, AllocError>
+    ensures { IfOk result (λ command. shape_of command ≡ live_command) }
+{
+    let command = Command::new(alloc, "send")
+        .about("Send messages in words, one a line, to an encoder as they come, for as long as they come")
+        .after_help(
+            "A line is phrases between semicolons. Each is answered by a line: its number, and applied, refused or unknown.\nA connection that is lost is made again; standard error says so, with the time.\nExit status 4: the encoder refused a message, or did not tell whether it applied it.\nExample: uecp send --port 4001 --state studio.db",
+        );
+    with_place(alloc, command)?
+        .arg(host(alloc))?
+        .arg(number(alloc, &PORT))?
+        .arg(number(alloc, &TRIES))?
+        .arg(number(alloc, &TIMEOUT))?
+        .arg(number(alloc, &TRY_TURNS))?
+        .arg(number(alloc, &WINDOW))?
+        .arg(number(alloc, &RETRY_EVERY))?
+        .arg(number(alloc, &GIVE_UP))?
+        .arg(number(alloc, &SILENT))?
+        .arg(flag(
+            alloc,
+            "rbds",
+            "With North America's names of programme types",
+        ))?
+        .arg(flag(alloc, "strict", "End at a line that is refused"))?
+        .arg(flag(
+            alloc,
+            "join",
+            "Begin anew with an encoder that was joined before. With --state it gives up what waits",
+        ))?
+        .arg(flag(
+            alloc,
+            "rejoin",
+            "Join an encoder anew that answers nothing, and tell what was outstanding as unknown",
+        ))?
+        .arg(state(alloc))?
+        .arg(station(alloc))
 }
 
 fn state_command<'a>(alloc: Global) -> Result<Command<'a>, AllocError>

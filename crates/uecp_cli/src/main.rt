@@ -6,8 +6,10 @@
 //!
 //! `parse` reads the command line into a `Task`. `run_job`, `run_encoder` and `run_server`, and with a state in a file
 //! `run_encoder_in` and `run_server_in`, do the job and answer the exit status, which is 0 to 3 whatever the input is.
-//! `run_words` is all of that; `main` gives it the machine's words, streams and network.
+//! `run_words` is all of that; `main` gives it the machine's words, streams and network, and where the words ask for it
+//! sends for as long as lines come, by `run_send_over_tcp`.
 #![tactic(auto)]
+ghost use Rattle.uecp_cli.specs.Ranges.{IsLiveInRange};
 
 mod arguments;
 mod command_line;
@@ -21,12 +23,17 @@ mod unreached;
 mod usage;
 
 use crate::command_line::program;
-use crate::program::{refuse, run_words};
+use crate::program::{Ran, refuse, run_words};
 use crate::usage::Usage;
 use clap::error;
+use live_edges::Polled;
+use send_jobs::{SendJob, run_send_over_tcp};
 use std::env;
-use std::io::{ErrorKind, Input, Lock};
+use std::io::{ErrorKind, Input, Lock, Read, Write};
 use std::process::ExitCode;
+
+/// The descriptor of standard input.
+const STANDARD_INPUT: i32 = 0;
 
 fn main(rt: HostRuntime) -> ExitCode {
     let mut reader = rt.stdin().lock();
@@ -35,7 +42,7 @@ fn main(rt: HostRuntime) -> ExitCode {
     let status = match words_of(&rt) {
         Ok(words) => {
             let words = words.as_slice();
-            run_words(
+            let ran = run_words(
                 rt.alloc(),
                 words,
                 &mut reader,
@@ -43,11 +50,40 @@ fn main(rt: HostRuntime) -> ExitCode {
                 &mut errors,
                 &rt,
                 &rt,
-            )
+            );
+            match ran {
+                Ran::Ended(status) => status,
+                Ran::Sends(job) => send(&rt, &job, &mut reader, &mut writer, &mut errors),
+            }
         }
         Err(usage) => refuse(&usage, &mut writer, &mut errors),
     };
     ExitCode::from(status)
+}
+
+/// Sends messages over TCP for as long as lines come, and answers the exit status.
+fn send<R: Read, W: Write, E: Write>(
+    rt: &HostRuntime,
+    job: &SendJob,
+    reader: &mut R,
+    writer: &mut W,
+    errors: &mut E,
+) -> u8
+    requires { IsLiveInRange job.now }
+{
+    let mut notices = rt.stderr().lock();
+    let arrival = Polled::new(rt.alloc(), rt, STANDARD_INPUT);
+    run_send_over_tcp(
+        rt.alloc(),
+        job,
+        reader,
+        arrival,
+        writer,
+        errors,
+        &mut notices,
+        rt,
+        rt,
+    )
 }
 
 /// The words of the command line as the machine gives them.

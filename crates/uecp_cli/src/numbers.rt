@@ -105,6 +105,33 @@ pub const RECONNECTS: NumberOption = NumberOption {
     help: "How many connections may be opened in all after the first, 0 to 100",
 };
 
+/// How long the pauses of `send` between two tries to connect may grow.
+pub const RETRY_EVERY: NumberOption = NumberOption {
+    name: "retry-every",
+    least: 1,
+    most: 3600,
+    default: Some("30"),
+    help: "The longest pause between two tries to connect, in seconds, 1 to 3600",
+};
+
+/// After how long with nothing heard `send` ends.
+pub const GIVE_UP: NumberOption = NumberOption {
+    name: "give-up",
+    least: 0,
+    most: 1_000_000,
+    default: Some("0"),
+    help: "After how many seconds with nothing heard the run ends, 0 for never, up to 1000000",
+};
+
+/// After how long `send` tells that its encoder answers nothing.
+pub const SILENT: NumberOption = NumberOption {
+    name: "silent",
+    least: 1,
+    most: 86_400,
+    default: Some("60"),
+    help: "After how many seconds on connections with no answer that is told, 1 to 86400",
+};
+
 /// How many messages of `server` are on their way at once.
 pub const WINDOW: NumberOption = NumberOption {
     name: "window",

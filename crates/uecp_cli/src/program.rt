@@ -17,13 +17,18 @@ ghost use Rattle.uecp_cli.specs.Kept.{IsKeptDone, IsKeptRefused, IsKeptStopped, 
 ghost use Rattle.kept_jobs.specs.ServerKept.{IsReadWith};
 ghost use Rattle.uecp_cli.specs.Unreached.{MaySayUnreached};
 ghost use Rattle.state_jobs.specs.Kept.{HasServedKept, HasSentKept, SaysWhy};
-ghost use Rattle.uecp_cli.specs.CommandLine.{IsEnd};
+ghost use Rattle.send_jobs.specs.declared.job.SendJob.{SendJob};
+ghost use Rattle.uecp_cli.specs.declared.program.Ran.TheVariants.{Ended, Sends};
+ghost use Rattle.uecp_cli.specs.declared.task.Task.TheVariants.{Send};
+ghost use Rattle.uecp_cli.specs.Ranges.{IsLiveInRange};
+ghost use Rattle.uecp_cli.specs.CommandLine.{Asks, IsEnd};
 
 use crate::command_line::parse;
 use crate::task::Task;
 use crate::unreached::say_unreached;
 use crate::usage::Usage;
 use clap::Error;
+use send_jobs::SendJob;
 use state_jobs::{OpenStates, run_encoder_in, run_server_in, tell_state};
 use std::alloc::Global;
 use std::io::{Read, Write};
@@ -34,9 +39,18 @@ use uecp_net::{Dialing, Local};
 use uecp_text::RunFault;
 use uecp_watch::watch;
 
+/// What came of the words of a command line.
+#[derive(Debug, Drop)]
+pub enum Ran {
+    /// What they ask for was done, or they were refused, with this exit status.
+    Ended(u8),
+    /// They ask to send messages for as long as lines come. Nothing was done yet.
+    Sends(SendJob),
+}
+
 /// Does what the words of a command line ask for, the first being the program's name, and answers the exit status: 0
 /// done, 1 a line of input was refused, 2 the words or the services were refused, 3 memory, reading, writing or a
-/// connection failed.
+/// connection failed. Where they ask to send messages for as long as lines come that is answered, and nothing is done.
 pub fn run_words<
     R: Read,
     W: Write,
@@ -51,30 +65,34 @@ pub fn run_words<
     errors: &mut E,
     net: &N,
     states: &S,
-) -> u8
-    ensures status { result ≤ 3 }
+) -> Ran
+    ensures status { (status : ℕ) → result ≡ Ended status → status ≤ 3 }
+    // To send was asked for so. Nothing was read, written or said.
+    ensures sends { (job : SendJob) → result ≡ Sends job → Asks (map string_bytes words.now) (Send job)
+        × IsLiveInRange job × (reader.new ≡ reader.old) × (writer.new ≡ writer.old) × (errors.new ≡ errors.old) }
     // 0: what the words ask for was done; or they ask for a text, and nothing was read. Nothing was said on `errors`.
-    ensures done { result ≡ 0 → (HasDone (S.finds states.now) (map string_bytes words.now) (R.remaining reader.old)
+    ensures done { result ≡ Ended 0 → (HasDone (S.finds states.now) (map string_bytes words.now) (R.remaining reader.old)
         (R.remaining reader.new) (W.contents writer.old) (W.contents writer.new)
         ⊎ (AskForText (map string_bytes words.now) × (reader.new ≡ reader.old))) × (errors.new ≡ errors.old) }
     // 1: the words ask for a job, and a line was refused.
-    ensures refused { result ≡ 1 → HasRefused (map string_bytes words.now) (R.remaining reader.old)
+    ensures refused { result ≡ Ended 1 → HasRefused (map string_bytes words.now) (R.remaining reader.old)
         (R.remaining reader.new) (W.contents writer.old) (W.contents writer.new) (E.contents errors.old)
         (E.contents errors.new) }
     // 2: the words ask for nothing that can be done. Nothing was read or written.
-    ensures mistaken { result ≡ 2 → HasRefusedWords (map string_bytes words.now) (E.contents errors.old)
+    ensures mistaken { result ≡ Ended 2 → HasRefusedWords (map string_bytes words.now) (E.contents errors.old)
         (E.contents errors.new) × (reader.new ≡ reader.old) × (writer.new ≡ writer.old) }
     // 3: memory, reading, writing, a connection or a state failed: of what the words ask for, and what was written is a
     // beginning of what it writes; or before there was a job, and nothing was read, and but for the text that was asked
     // for nothing was written.
-    ensures failed { result ≡ 3 → HasBrokenOff (S.finds states.now) (map string_bytes words.now)
+    ensures failed { result ≡ Ended 3 → HasBrokenOff (S.finds states.now) (map string_bytes words.now)
         (R.remaining reader.old) (R.remaining reader.new) (W.contents writer.old) (W.contents writer.new)
         (E.contents errors.old) (E.contents errors.new) ⊎ (SaysFailure (E.contents errors.old) (E.contents errors.new)
         × (reader.new ≡ reader.old) × (AskForText (map string_bytes words.now) ⊎ (writer.new ≡ writer.old))) }
 {
     match parse(alloc, words) {
-        Ok(task) => run_task(alloc, &task, reader, writer, errors, net, states),
-        Err(usage) => refuse(&usage, writer, errors),
+        Ok(Task::Send(job)) => Ran::Sends(job),
+        Ok(task) => Ran::Ended(run_task(alloc, &task, reader, writer, errors, net, states)),
+        Err(usage) => Ran::Ended(refuse(&usage, writer, errors)),
     }
 }
 
@@ -117,6 +135,7 @@ fn run_task<
             let path = path.as_str();
             run_kept(alloc, job, path, reader, writer, errors, net, states)
         }
+        Task::Send(_) => unreachable!(),
         Task::State(path) => tell_state(alloc, path.as_str(), states, writer, errors),
     }
 }

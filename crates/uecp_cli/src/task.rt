@@ -1,5 +1,6 @@
 //! What the words of a command line ask for (profile).
 
+use send_jobs::SendJob;
 use uecp_jobs::Job;
 
 /// What the words of a command line ask for.
@@ -9,6 +10,8 @@ pub enum Task {
     Plain(Job),
     /// The job of `encoder` or of `server` with its state in the file at this path.
     Kept(Job, String),
+    /// The job of `send`.
+    Send(SendJob),
     /// What is in the state file at this path.
     State(String),
 }

@@ -13,7 +13,7 @@ use std::time::Clock;
 use uecp_text::Output;
 
 /// How many characters a stamp has at most.
-const STAMP_MAX: usize = 33;
+pub const STAMP_MAX: usize = 33;
 
 /// The line of the time that the clock tells.
 pub(crate) fn put_time<C: Clock>(form: Form, clock: &C, output: &mut Output)
@@ -47,7 +47,7 @@ fn put_object(stamp: &str, output: &mut Output)
 }
 
 /// What the clock shows in UTC, to the millisecond; `-` where it tells no time.
-fn stamp_of<C: Clock>(clock: &C) -> ArrayString<STAMP_MAX>
+pub fn stamp_of<C: Clock>(clock: &C) -> ArrayString<STAMP_MAX>
     ensures { IsStamp result.bytes }
 {
     let Ok(now) = Timestamp::now(clock) else {

@@ -1,6 +1,6 @@
 //! What the words of a command line come to.
 use super::{Ends, NOT_HEX, PIECES};
-use crate::program::run_words;
+use crate::program::{Ran, run_words};
 use faulty_devices::FaultyWriter;
 use state_jobs::OpenStates;
 use std::alloc::Global;
@@ -20,7 +20,7 @@ fn run(
     for word in words {
         given.push(String::from_str(alloc, word)?)?;
     }
-    let status = run_words(
+    let ran = run_words(
         alloc,
         given.as_slice(),
         &mut ends.reader,
@@ -29,6 +29,10 @@ fn run(
         rt,
         rt,
     );
+    let status = match ran {
+        Ran::Ended(status) => status,
+        Ran::Sends(_) => u8::MAX,
+    };
     Ok((status, ends.reader.reads()))
 }
 

@@ -117,6 +117,27 @@ returns-in-Some-server-default-clause-refused c =
     IfErr-weaker c.server_of.result _ _ (λ why is. subst (RefusesWords (map string_bytes c.args.words.now)) (sym is) tt)
     c.server_of.ensures.refused
 
+pub returns-in-Some-send-default-clause-range : goal.returns-in-Some-send-default-clause-range
+returns-in-Some-send-default-clause-range c =
+    IfOk-weaker c.send_of.result _ _ (λ job is. are_in_range _ _ job is) c.send_of.ensures.job
+
+pub returns-in-Some-send-default-clause-asked : goal.returns-in-Some-send-default-clause-asked
+returns-in-Some-send-default-clause-asked c =
+    let words = map string_bytes c.args.words.now in
+    let now = c.in-Some-send-default in
+    let rows = rows_of (found_of now.found.now) in
+    let met = met_of _ words c.in_ok-matches.matches c.in_ok-program.ensures c.in_ok-matches.ensures.matches in
+    let none = faultless_of _ words c.in_ok-program.ensures c.in_ok-matches.ensures.kinds in
+    IfOk-weaker c.send_of.result _ _
+    (λ job is. asks words c.in_ok-matches.matches now.field-0-0.now rows job now.ensures.name now.ensures.rows met none
+    (subst (λ name. IsTaskOf name rows job) (sym now.is-send) is))
+    c.send_of.ensures.job
+
+pub returns-in-Some-send-default-clause-refused : goal.returns-in-Some-send-default-clause-refused
+returns-in-Some-send-default-clause-refused c =
+    IfErr-weaker c.send_of.result _ _ (λ why is. subst (RefusesWords (map string_bytes c.args.words.now)) (sym is) tt)
+    c.send_of.ensures.refused
+
 pub returns-in-Some-make-default-clause-range : goal.returns-in-Some-make-default-clause-range
 returns-in-Some-make-default-clause-range c = are_in_range _ _ c.make_of.result c.make_of.ensures
 
@@ -190,7 +211,7 @@ unreachable-requires c =
       | goal.in_default-via-in-Some+in_default w ↦
           no_other words c.in_ok-matches.matches name c.subcommand.ensures.name met none
           (λ e. search rules) (λ e. search rules) (λ e. search rules) (λ e. search rules) (λ e. search rules)
-          (λ e. search rules) (λ e. search rules) (λ e. search rules)
+          (λ e. search rules) (λ e. search rules) (λ e. search rules) (λ e. search rules)
       | goal.in_default-via-in_default w ↦
           no_other words c.in_ok-matches.matches name c.subcommand.ensures.name met none
           (none_named _ c.subcommand.result (codes "answer") w.in_default.is)
@@ -199,6 +220,7 @@ unreachable-requires c =
           (none_named _ c.subcommand.result (codes "show") w.in_default.is)
           (none_named _ c.subcommand.result (codes "encoder") w.in_default.is)
           (none_named _ c.subcommand.result (codes "server") w.in_default.is)
+          (none_named _ c.subcommand.result (codes "send") w.in_default.is)
           (none_named _ c.subcommand.result (codes "watch") w.in_default.is)
           (none_named _ c.subcommand.result (codes "state") w.in_default.is)
     ]

@@ -18,6 +18,7 @@ returns c =
     let four = sub_added _ _ _ _ _ c.in_ok-subcommand-4.ensures refl three c.in_ok-line_command.ensures in
     let five = sub_added _ _ _ _ _ c.in_ok-subcommand-5.ensures refl four c.in_ok-encoder_command.ensures in
     let six = sub_added _ _ _ _ _ c.in_ok-subcommand-6.ensures refl five c.in_ok-server_command.ensures in
-    let seven = sub_added _ _ _ _ _ c.in_ok-subcommand-7.ensures refl six c.in_ok-watch_command.ensures in
-    IfOk-weaker c.subcommand-8.result _ _ (λ whole added.
-    sub_added _ _ whole _ _ added refl seven c.in_ok-state_command.ensures) c.subcommand-8.ensures
+    let seven = sub_added _ _ _ _ _ c.in_ok-subcommand-7.ensures refl six c.in_ok-send_command.ensures in
+    let eight = sub_added _ _ _ _ _ c.in_ok-subcommand-8.ensures refl seven c.in_ok-watch_command.ensures in
+    IfOk-weaker c.subcommand-9.result _ _ (λ whole added.
+    sub_added _ _ whole _ _ added refl eight c.in_ok-state_command.ensures) c.subcommand-9.ensures

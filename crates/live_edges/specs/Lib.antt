@@ -1,0 +1,2 @@
+-- The definitions that the contracts of the edges of a run that goes on for days cite.
+pub mod Patience

@@ -1,0 +1,110 @@
+//! What is said of a line (profile).
+ghost use Rattle.std.specs.Prelude.{ℕ, List};
+ghost use Rattle.std.specs.Io.KnownBytes.{Appends};
+
+use itoa::Buffer;
+use std::io::Write;
+use std::time::Clock;
+use uecp_net::DialFault;
+use uecp_text::write_parts;
+use uecp_watch::stamp_of;
+
+/// What was said last of a line.
+#[derive(Clone, Copy, Debug, PartialEq, Eq)]
+pub(crate) enum Said {
+    /// Nothing yet, or that it was lost.
+    Nothing,
+    /// That it is there.
+    There,
+    /// That there is no connection to be had.
+    Away,
+}
+
+/// Says that there is a connection to this host and port.
+pub(crate) fn say_there<C: Clock, W: Write>(clock: &C, host: &str, port: u16, notices: &mut W)
+    ensures { (lines : List ℕ) × Appends (W.contents notices.old) (W.contents notices.new) lines }
+{
+    say_place(clock, b"connected to ", host, port, b"", notices);
+}
+
+/// Says that none can be made, and why.
+pub(crate) fn say_away<C: Clock, W: Write>(
+    clock: &C,
+    host: &str,
+    port: u16,
+    fault: Option<DialFault>,
+    notices: &mut W,
+)
+    ensures { (lines : List ℕ) × Appends (W.contents notices.old) (W.contents notices.new) lines }
+{
+    let why = words_of(fault);
+    say_place(
+        clock,
+        b"no connection to ",
+        host,
+        port,
+        why.as_bytes(),
+        notices,
+    );
+}
+
+/// Says that the connection was lost.
+pub(crate) fn say_lost<C: Clock, W: Write>(clock: &C, notices: &mut W)
+    ensures { (lines : List ℕ) × Appends (W.contents notices.old) (W.contents notices.new) lines }
+{
+    say(clock, &[b"the connection is lost\n"], notices);
+}
+
+/// Says that nothing is heard.
+pub(crate) fn say_silent<C: Clock, W: Write>(clock: &C, notices: &mut W)
+    ensures { (lines : List ℕ) × Appends (W.contents notices.old) (W.contents notices.new) lines }
+{
+    say(
+        clock,
+        &[b"the encoder answers nothing: new, or deaf\n"],
+        notices,
+    );
+}
+
+/// Says this of a host and a port, and then that.
+fn say_place<C: Clock, W: Write>(
+    clock: &C,
+    what: &[u8],
+    host: &str,
+    port: u16,
+    then: &[u8],
+    notices: &mut W,
+)
+    ensures { (lines : List ℕ) × Appends (W.contents notices.old) (W.contents notices.new) lines }
+{
+    let mut buffer = Buffer::new();
+    let port = buffer.format(port).as_bytes();
+    say(
+        clock,
+        &[what, host.as_bytes(), b" port ", port, then, b"\n"],
+        notices,
+    );
+}
+
+/// Says this behind the time. What can't be written changes nothing.
+fn say<C: Clock, W: Write>(clock: &C, parts: &[&[u8]], notices: &mut W)
+    ensures { (lines : List ℕ) × Appends (W.contents notices.old) (W.contents notices.new) lines }
+{
+    let stamp = stamp_of(clock);
+    let before: [&[u8]; 3] = [b"uecp: ", stamp.as_str().as_bytes(), b" "];
+    if write_parts(&before, notices).is_ok() {
+        let _ = write_parts(parts, notices);
+    }
+}
+
+/// Why a connection could not be made, behind a colon.
+fn words_of(fault: Option<DialFault>) -> &'static str {
+    match fault {
+        Some(DialFault::NoSuchHost) => ": no such host",
+        Some(DialFault::Refused) => ": refused",
+        Some(DialFault::TimedOut) => ": timed out",
+        Some(DialFault::Unreachable) => ": unreachable",
+        Some(DialFault::Failed) => ": failed",
+        None => "",
+    }
+}

@@ -1,0 +1,4 @@
+-- The definitions that the contracts of the job `send` cite.
+pub mod LiveIn
+pub mod Job
+pub mod OverTcp
