@@ -10,7 +10,6 @@ use Rattle.uecp_text.specs.declared.run_fault.RunFault.TheVariants as run
 use Rattle.uecp_text.specs.Written.{Begins}
 use Rattle.uecp_link.specs.declared.counts.ServerCounts.{ServerCounts}
 use Rattle.uecp_link.specs.Server.{ServerState}
-use Rattle.uecp_net.specs.declared.sending.Limits.{Limits}
 use Rattle.uecp_net.specs.Sending.{SenderOver}
 use Rattle.uecp_jobs.specs.ServerRun.{Finishes}
 use Rattle.kept_sending.specs.declared.sending.KeptOutstanding.TheVariants as kept
@@ -21,6 +20,7 @@ use Rattle.kept_jobs.specs.declared.stop.KeptStop.TheVariants.{Run, StateFailed}
 use Rattle.kept_jobs.specs.Stops.{Went, TellsKept, Then, stop_for, stop_status, stop_lines}
 use Rattle.kept_jobs.specs.ServerRun.{Standing, TellsTaken, BeginsAnewIf, JoinsIf, SettlesOne, SendsOne, sending}
 use Rattle.kept_jobs.specs.ServerRun.{is_due}
+use Rattle.live_sending.specs.declared.options.LiveOptions.{LiveOptions}
 use Rattle.live_sending.specs.Lines.{reply_lines}
 use Rattle.line_batches.specs.declared.taking.After.{After}
 use Rattle.line_batches.specs.declared.taking.After.TheVariants.{GoesOn, Ends}
@@ -141,32 +141,32 @@ module _ {C I O K : Type 0} (opens : C → Option (I × O) → C → Type 0) (cl
   -- The writer got the line of how far the server has come; it began anew where its encoder is to be joined; and then
   -- one sender ran so, over connections that came from there, and this is left of that. Or the run stopped before a
   -- connection was opened and a line taken.
-  abbrev pub LivesFrom : (join : Bool) → Region → (size : ℕ) → (strict : Bool) → Limits → (c c' : C)
+  abbrev pub LivesFrom : LiveOptions → (c c' : C)
       → (x : Live ServerState K) → (k' : K) → (held' : Option (List ℕ)) → (taken : Intake) → (applied : Bool) → Went
       → Type 0
-  LivesFrom join region size strict limits c c' x k' held' taken applied went =
+  LivesFrom options c c' x k' held' taken applied went =
       ((y : Standing ServerState K) × (loan : ℕ) × (z : Live (SenderOver C I O) K)
-      × Then TellsTaken (BeginsAnewIf leaves is_clean saves fails (is_due join x.sends.progress)) x.sends y (Ok tt)
-      × RunsLive (is_due join x.sends.progress) region size strict (record {
-        sends = sending opens closes remaining contents leaves is_clean saves fails c loan limits y;
+      × Then TellsTaken (BeginsAnewIf leaves is_clean saves fails (is_due options.join x.sends.progress)) x.sends y (Ok tt)
+      × RunsLive (is_due options.join x.sends.progress) options.reading.region options.reading.size options.reading.strict (record {
+        sends = sending opens closes remaining contents leaves is_clean saves fails c loan options.limits y;
         takes = x.takes;
         applied = x.applied;
       }) z went
       × Finishes closes c' z.sends.runs × (k' ≡ z.sends.keeper) × (held' ≡ z.sends.held) × (taken ≡ z.takes)
       × (applied ≡ z.applied))
       ⊎ ((y : Standing ServerState K) × (stop : KeptStop)
-      × Then TellsTaken (BeginsAnewIf leaves is_clean saves fails (is_due join x.sends.progress)) x.sends y (Err stop)
+      × Then TellsTaken (BeginsAnewIf leaves is_clean saves fails (is_due options.join x.sends.progress)) x.sends y (Err stop)
       × (went ≡ Err stop) × (c' ≡ c) × (k' ≡ y.keeper) × (held' ≡ y.held) × (taken ≡ x.takes)
       × (applied ≡ x.applied))
 
   -- It ran so from a server of which no line was taken. Where it came to its end the status tells whether a line was
   -- refused, or else a message by the encoder; where it stopped, why was said, or begun to be said.
-  abbrev pub Lives : (join : Bool) → Region → (size : ℕ) → (strict : Bool) → Limits → (c c' : C)
+  abbrev pub Lives : LiveOptions → (c c' : C)
       → (x : Standing ServerState K) → (k' : K) → (held' unread unread' said said' : Option (List ℕ)) → (status : ℕ)
       → Type 0
-  Lives join region size strict limits c c' x k' held' unread unread' said said' status =
+  Lives options c c' x k' held' unread unread' said said' status =
       (went : Went) × (taken : Intake) × (applied : Bool)
-      × LivesFrom join region size strict limits c c' (record {
+      × LivesFrom options c c' (record {
         sends = x;
         takes = record { unread = unread; lines = 0; refused = false; said = said };
         applied = true;

@@ -3,7 +3,11 @@
 #![tactic(auto)]
 
 mod lines;
+mod not_kept;
+mod options;
 mod run;
 mod turn;
 
-pub use run::{LiveOptions, run_live};
+pub use not_kept::NotKept;
+pub use options::LiveOptions;
+pub use run::run_live;

@@ -7,6 +7,7 @@ ghost use Rattle.kept_jobs.specs.ServerRun.{is_due};
 ghost use Rattle.line_batches.specs.declared.taking.After.{After as Next};
 ghost use Rattle.live_sending.specs.Run.{Turn, ended_as, RunsTurns, RunsLive, LivesFrom, Lives, tally_status};
 
+use crate::options::LiveOptions;
 use crate::turn::{send_some, settle_first};
 use kept_jobs::{KeptStop, begin, fail_run, join_if};
 use kept_sending::{KeepServer, Progress};
@@ -15,19 +16,8 @@ use line_feed::Feed;
 use std::alloc::Global;
 use std::io::Write;
 use uecp_link::Server;
-use uecp_net::{Connect, Limits, Sender};
+use uecp_net::{Connect, Sender};
 use uecp_text::RunFault;
-
-/// How a server sends whose lines come as they like.
-#[derive(Clone, Copy, Debug)]
-pub struct LiveOptions {
-    /// What its sender may spend.
-    pub limits: Limits,
-    /// How its lines are read.
-    pub reading: Reading,
-    /// Whether its encoder is joined even where it was joined before. What waits is then given up.
-    pub join: bool,
-}
 
 /// How many batches are taken at most.
 const TURNS_MAX: u64 = 1 << 59;
@@ -42,7 +32,7 @@ const TURNS_MAX: u64 = 1 << 59;
 /// `errors`, and the others go on. Of each message the encoder's answer is told before the next line is taken.
 pub fn run_live<K: KeepServer, F: Feed, W: Write, E: Write, C: Connect>(
     alloc: Global,
-    options: &LiveOptions,
+    options: &LiveOptions<'_>,
     server: Server,
     progress: Progress,
     keeper: &mut K,
@@ -56,8 +46,7 @@ pub fn run_live<K: KeepServer, F: Feed, W: Write, E: Write, C: Connect>(
     requires some { 1 ≤ options.now.reading.size }
     requires most { options.now.reading.size ≤ 8 }
     ensures runs { Lives C.opens C.closes C.Input.remaining C.Output.contents K.leaves K.is_clean K.saves K.fails
-        options.now.join options.now.reading.region options.now.reading.size options.now.reading.strict
-        options.now.limits connect.old connect.new (record {
+        options.now connect.old connect.new (record {
           runs = server;
           keeper = keeper.old;
           progress = progress;
@@ -112,7 +101,7 @@ fn status_of(refused: bool, applied: bool) -> u8
 /// Tells how far the server has come, begins anew where its encoder is to be joined, and sends by one sender.
 fn live<K: KeepServer, F: Feed, W: Write, E: Write, C: Connect>(
     alloc: Global,
-    options: &LiveOptions,
+    options: &LiveOptions<'_>,
     server: Server,
     progress: Progress,
     keeper: &mut K,
@@ -128,8 +117,7 @@ fn live<K: KeepServer, F: Feed, W: Write, E: Write, C: Connect>(
     requires some { 1 ≤ options.now.reading.size }
     requires most { options.now.reading.size ≤ 8 }
     ensures lives { LivesFrom C.opens C.closes C.Input.remaining C.Output.contents K.leaves K.is_clean K.saves K.fails
-        options.now.join options.now.reading.region options.now.reading.size options.now.reading.strict
-        options.now.limits connect.old connect.new (record {
+        options.now connect.old connect.new (record {
           sends = record {
             runs = server;
             keeper = keeper.old;

@@ -1,0 +1,20 @@
+//! How a server sends whose lines come as they like. Source: profile.
+use line_batches::Reading;
+use uecp_frame::Message;
+use uecp_net::Limits;
+
+/// How a server sends whose lines come as they like.
+#[derive(Clone, Copy, Debug)]
+pub struct LiveOptions<'a> {
+    /// What its sender may spend.
+    pub limits: Limits,
+    /// How its lines are read.
+    pub reading: Reading,
+    /// Whether its encoder is joined even where it was joined before. What waits is then given up.
+    pub join: bool,
+    /// Whether an encoder that answers nothing is taken for a new one: it is joined, made the station, and what was
+    /// outstanding is told as unknown. Else the run stops.
+    pub rejoin: bool,
+    /// The messages that make the station what it is, sent after each join.
+    pub station: &'a [Message],
+}
