@@ -28,9 +28,11 @@ use crate::task::Task;
 use crate::unreached::say_unreached;
 use crate::usage::Usage;
 use clap::Error;
-use send_jobs::SendJob;
+use line_feed::Arrival;
+use send_jobs::{SendJob, run_send_over_tcp};
 use state_jobs::{OpenStates, run_encoder_in, run_server_in, tell_state};
 use std::alloc::Global;
+use std::fs::Files;
 use std::io::{Read, Write};
 use std::net::{Net, TcpListener, TcpStream};
 use std::time::Clock;
@@ -94,6 +96,34 @@ pub fn run_words<
         Ok(task) => Ran::Ended(run_task(alloc, &task, reader, writer, errors, net, states)),
         Err(usage) => Ran::Ended(refuse(&usage, writer, errors)),
     }
+}
+
+/// Sends messages over TCP for as long as lines come, as `run_send_over_tcp` says, and answers the exit status. Its
+/// promise is not said again here: at the machine's files the statement alone is more than the checker takes at once.
+pub fn send<
+    R: Read,
+    A: Arrival + Drop,
+    W: Write,
+    E: Write,
+    M: Write,
+    N: Net<Stream = TcpStream> + Clock + Files,
+    S: OpenStates,
+>(
+    alloc: Global,
+    job: &SendJob,
+    reader: &mut R,
+    arrival: A,
+    writer: &mut W,
+    errors: &mut E,
+    notices: &mut M,
+    net: &N,
+    states: &S,
+) -> u8
+    requires { IsLiveInRange job.now }
+{
+    run_send_over_tcp(
+        alloc, job, reader, arrival, writer, errors, notices, net, states,
+    )
 }
 
 /// Does what is asked for, and answers the exit status.
