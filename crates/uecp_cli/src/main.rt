@@ -13,6 +13,7 @@
 mod arguments;
 mod command_line;
 mod forms;
+mod live_job;
 mod matched;
 mod numbers;
 mod program;

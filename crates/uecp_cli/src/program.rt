@@ -73,7 +73,8 @@ pub fn run_words<
     ensures sends { (job : SendJob) → result ≡ Sends job → Asks (map string_bytes words.now) (Send job)
         × IsLiveInRange job × (reader.new ≡ reader.old) × (writer.new ≡ writer.old) × (errors.new ≡ errors.old) }
     // 0: what the words ask for was done; or they ask for a text, and nothing was read. Nothing was said on `errors`.
-    ensures done { result ≡ Ended 0 → (HasDone (S.finds states.now) (map string_bytes words.now) (R.remaining reader.old)
+    ensures done { result ≡ Ended 0
+        → (HasDone (S.finds states.now) (map string_bytes words.now) (R.remaining reader.old)
         (R.remaining reader.new) (W.contents writer.old) (W.contents writer.new)
         ⊎ (AskForText (map string_bytes words.now) × (reader.new ≡ reader.old))) × (errors.new ≡ errors.old) }
     // 1: the words ask for a job, and a line was refused.
