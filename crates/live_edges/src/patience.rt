@@ -56,7 +56,10 @@ impl Wait {
         let since = self.since.unwrap_or(now);
         self.since = Some(since);
         let waited = now.saturating_sub(since);
-        if patience.give_up.is_some_and(|limit| waited >= limit && self.pause > 0) {
+        if patience
+            .give_up
+            .is_some_and(|limit| waited >= limit && self.pause > 0)
+        {
             return Step::GiveUp;
         }
         if self.is_silent(patience, now) {

@@ -4,11 +4,10 @@ use line_feed::Arrival;
 use mio::unix::SourceFd;
 use mio::{Events, Interest, Poll, Token};
 use std::alloc::Global;
-use std::io;
 use std::net::Net;
 use std::os::fd::RawFd;
-use std::thread;
 use std::time::{Clock, Duration};
+use std::{io, thread};
 
 /// The token of the one source.
 const SOURCE: Token = Token(0);

@@ -146,8 +146,10 @@ module _ {C I O K : Type 0} (opens : C → Option (I × O) → C → Type 0) (cl
       → Type 0
   LivesFrom options c c' x k' held' taken applied went =
       ((y : Standing ServerState K) × (loan : ℕ) × (z : Live (SenderOver C I O) K)
-      × Then TellsTaken (BeginsAnewIf leaves is_clean saves fails (is_due options.join x.sends.progress)) x.sends y (Ok tt)
-      × RunsLive (is_due options.join x.sends.progress) options.reading.region options.reading.size options.reading.strict (record {
+      × Then TellsTaken (BeginsAnewIf leaves is_clean saves fails (is_due options.join x.sends.progress)) x.sends y
+          (Ok tt)
+      × RunsLive (is_due options.join x.sends.progress) options.reading.region options.reading.size
+          options.reading.strict (record {
         sends = sending opens closes remaining contents leaves is_clean saves fails c loan options.limits y;
         takes = x.takes;
         applied = x.applied;
@@ -155,7 +157,8 @@ module _ {C I O K : Type 0} (opens : C → Option (I × O) → C → Type 0) (cl
       × Finishes closes c' z.sends.runs × (k' ≡ z.sends.keeper) × (held' ≡ z.sends.held) × (taken ≡ z.takes)
       × (applied ≡ z.applied))
       ⊎ ((y : Standing ServerState K) × (stop : KeptStop)
-      × Then TellsTaken (BeginsAnewIf leaves is_clean saves fails (is_due options.join x.sends.progress)) x.sends y (Err stop)
+      × Then TellsTaken (BeginsAnewIf leaves is_clean saves fails (is_due options.join x.sends.progress)) x.sends y
+          (Err stop)
       × (went ≡ Err stop) × (c' ≡ c) × (k' ≡ y.keeper) × (held' ≡ y.held) × (taken ≡ x.takes)
       × (applied ≡ x.applied))
 

@@ -33,9 +33,9 @@ module _ {K C I O : Type 0} (gives : (path : List ℕ) → ServerState → Progr
     (ends : K → Result (Unit {0}) StateFault → Type 0) (leaves : K → KeptServer → Type 0) (is_clean : K → Type 0)
     (saves fails : K → KeptServer → K → Type 0) (opens : C → Option (I × O) → C → Type 0)
     (closes : C → I → O → C → Type 0) (remaining : I → Option (List ℕ)) (contents : O → Option (List ℕ)) where
-  -- The state at the path was opened, its server is one to the encoder that is asked for, and a crash would leave of it
-  -- what is to be kept; the run was made from there, as `run_live` says, and ended with a status; and then the state was
-  -- closed.
+  -- The state at the path was opened, its server is one to the encoder that is asked for, and a crash would leave of
+  -- it what is to be kept; the run was made from there, as `run_live` says, and ended with a status; and then the state
+  -- was closed.
   pub record LivesIn (path : List ℕ) (address : ℕ) (options : LiveOptions) (c c' : C)
       (unread unread' held held' said said' : Option (List ℕ)) (status' : ℕ) : Type 0 where
     pub server : ServerState

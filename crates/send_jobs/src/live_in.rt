@@ -19,8 +19,8 @@ const TAKEN_MAX: u64 = 1 << 63;
 
 /// Sends the messages of the lines that come, from where the state at this path has come, and answers the exit status,
 /// as [`run_live`] does: 0 all were applied, 1 a line was refused, 3 the run stopped, or the state can't be opened,
-/// saved or closed, 4 the encoder refused a message. The state is opened before a line is taken and a connection opened,
-/// and closed at the end.
+/// saved or closed, 4 the encoder refused a message. The state is opened before a line is taken and before any
+/// connection is, and closed at the end.
 pub fn run_live_in<S: OpenStates, F: Feed, W: Write, E: Write, C: Connect>(
     alloc: Global,
     options: &LiveOptions<'_>,

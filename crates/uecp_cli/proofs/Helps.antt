@@ -124,7 +124,9 @@ walk_stop s names (word ∷ rest) w off e f =
 
 -- ---- the program's commands
 pick : {X : Type 0} (a b c d e f g i j h s : X) (t u v w x y z r q end : Bool) → end ≡ false
-    → cond t (Some a) (cond u (Some b) (cond v (Some c) (cond w (Some d) (cond x (Some e) (cond y (Some f) (cond z (Some g) (cond r (Some i) (cond q (Some j) (cond end (Some h) None))))))))) ≡ Some s
+    → cond t (Some a) (cond u (Some b) (cond v (Some c)
+    (cond w (Some d) (cond x (Some e) (cond y (Some f)
+    (cond z (Some g) (cond r (Some i) (cond q (Some j) (cond end (Some h) None))))))))) ≡ Some s
     → (s ≡ a) ⊎ ((s ≡ b) ⊎ ((s ≡ c) ⊎ ((s ≡ d) ⊎ ((s ≡ e) ⊎ ((s ≡ f) ⊎ ((s ≡ g) ⊎ ((s ≡ i) ⊎ (s ≡ j))))))))
 pick a b c d e f g i j h s true u v w x y z r q end off is = inl (cc)
 pick a b c d e f g i j h s false true v w x y z r q end off is = inr (inl (cc))
@@ -132,9 +134,12 @@ pick a b c d e f g i j h s false false true w x y z r q end off is = inr (inr (i
 pick a b c d e f g i j h s false false false true x y z r q end off is = inr (inr (inr (inl (cc))))
 pick a b c d e f g i j h s false false false false true y z r q end off is = inr (inr (inr (inr (inl (cc)))))
 pick a b c d e f g i j h s false false false false false true z r q end off is = inr (inr (inr (inr (inr (inl (cc))))))
-pick a b c d e f g i j h s false false false false false false true r q end off is = inr (inr (inr (inr (inr (inr (inl (cc)))))))
-pick a b c d e f g i j h s false false false false false false false true q end off is = inr (inr (inr (inr (inr (inr (inr (inl (cc))))))))
-pick a b c d e f g i j h s false false false false false false false false true end off is = inr (inr (inr (inr (inr (inr (inr (inr (cc))))))))
+pick a b c d e f g i j h s false false false false false false true r q end off is =
+    inr (inr (inr (inr (inr (inr (inl (cc)))))))
+pick a b c d e f g i j h s false false false false false false false true q end off is =
+    inr (inr (inr (inr (inr (inr (inr (inl (cc))))))))
+pick a b c d e f g i j h s false false false false false false false false true end off is =
+    inr (inr (inr (inr (inr (inr (inr (inr (cc))))))))
 pick a b c d e f g i j h s false false false false false false false false false true off is = cc
 pick a b c d e f g i j h s false false false false false false false false false false off is = cc
 
@@ -152,16 +157,22 @@ not_help name e = go (bytes_eq (codes "help") name) refl
 pick_in : {X : Type 0} (test : X → Bool) (a b c d e f g i j h s : X) → test h ≡ false
     → find test (a ∷ b ∷ c ∷ d ∷ e ∷ f ∷ g ∷ i ∷ j ∷ h ∷ []) ≡ Some s
     → (s ≡ a) ⊎ ((s ≡ b) ⊎ ((s ≡ c) ⊎ ((s ≡ d) ⊎ ((s ≡ e) ⊎ ((s ≡ f) ⊎ ((s ≡ g) ⊎ ((s ≡ i) ⊎ (s ≡ j))))))))
-pick_in test a b c d e f g i j h s off is = pick a b c d e f g i j h s (test a) (test b) (test c) (test d) (test e) (test f) (test g) (test i) (test j) (test h) off is
+pick_in test a b c d e f g i j h s off is = pick a b c d e f g i j h s (test a) (test b) (test c) (test d) (test e)
+    (test f) (test g) (test i) (test j) (test h) off is
 
 abbrev place : ℕ → Shape
 place i = get_or (built uecp_app).subs i help_shape
 
 -- the name is one of the nine
 abbrev pub IsCommand : Text → Type 0
-IsCommand name = (name ≡ codes "answer") ⊎ ((name ≡ codes "show") ⊎ ((name ≡ codes "make") ⊎ ((name ≡ codes "line") ⊎ ((name ≡ codes "encoder") ⊎ ((name ≡ codes "server") ⊎ ((name ≡ codes "send") ⊎ ((name ≡ codes "watch") ⊎ (name ≡ codes "state"))))))))
+IsCommand name = (name ≡ codes "answer") ⊎ ((name ≡ codes "show")
+    ⊎ ((name ≡ codes "make") ⊎ ((name ≡ codes "line")
+    ⊎ ((name ≡ codes "encoder") ⊎ ((name ≡ codes "server")
+    ⊎ ((name ≡ codes "send") ⊎ ((name ≡ codes "watch") ⊎ (name ≡ codes "state"))))))))
 
-name_of : (s : Shape) → (s ≡ place 0) ⊎ ((s ≡ place 1) ⊎ ((s ≡ place 2) ⊎ ((s ≡ place 3) ⊎ ((s ≡ place 4) ⊎ ((s ≡ place 5) ⊎ ((s ≡ place 6) ⊎ ((s ≡ place 7) ⊎ (s ≡ place 8))))))))
+name_of : (s : Shape) → (s ≡ place 0) ⊎ ((s ≡ place 1)
+    ⊎ ((s ≡ place 2) ⊎ ((s ≡ place 3) ⊎ ((s ≡ place 4)
+    ⊎ ((s ≡ place 5) ⊎ ((s ≡ place 6) ⊎ ((s ≡ place 7) ⊎ (s ≡ place 8))))))))
     → IsCommand s.name
 name_of s h = elim h [
   | inl e ↦ inl (ap (λ (x : Shape). x.name) e)
@@ -171,8 +182,10 @@ name_of s h = elim h [
   | inr (inr (inr (inr (inl e)))) ↦ inr (inr (inr (inr (inl (ap (λ (x : Shape). x.name) e)))))
   | inr (inr (inr (inr (inr (inl e))))) ↦ inr (inr (inr (inr (inr (inl (ap (λ (x : Shape). x.name) e))))))
   | inr (inr (inr (inr (inr (inr (inl e)))))) ↦ inr (inr (inr (inr (inr (inr (inl (ap (λ (x : Shape). x.name) e)))))))
-  | inr (inr (inr (inr (inr (inr (inr (inl e))))))) ↦ inr (inr (inr (inr (inr (inr (inr (inl (ap (λ (x : Shape). x.name) e))))))))
-  | inr (inr (inr (inr (inr (inr (inr (inr (e)))))))) ↦ inr (inr (inr (inr (inr (inr (inr (inr (ap (λ (x : Shape). x.name) e))))))))
+  | inr (inr (inr (inr (inr (inr (inr (inl e))))))) ↦ inr
+      (inr (inr (inr (inr (inr (inr (inl (ap (λ (x : Shape). x.name) e))))))))
+  | inr (inr (inr (inr (inr (inr (inr (inr (e)))))))) ↦ inr
+      (inr (inr (inr (inr (inr (inr (inr (ap (λ (x : Shape). x.name) e))))))))
 ]
 
 entered_one : (stop : Option (Text × List Text)) → is_some (entered (built uecp_app) stop) ≡ true → is_help stop ≡ false

@@ -85,7 +85,9 @@ pub fn station<'a>(alloc: Global) -> Arg<'a>
     Arg::new(alloc, "station")
         .long("station")
         .value_name("FILE")
-        .help("The file with the lines that make the station, sent behind each join; it asks for --rejoin too")
+        .help(
+            "The file with the lines that make the station, sent behind each join; it asks for --rejoin too",
+        )
         .action(ArgAction::Set)
 }
 

@@ -10,8 +10,9 @@ ghost use Rattle.uecp_cli.specs.CommandLine.{store_command, showing_command, mak
 ghost use Rattle.uecp_cli.specs.CommandLine.{sending_command, live_command, watching_command, looking_command, flag};
 
 use crate::arguments::{file, flag, host, number, services, state, station};
+use crate::live_job::send_of;
 use crate::matched::{
-    answer_of, encoder_of, line_of, make_of, send_of, server_of, show_of, state_of, watch_of,
+    answer_of, encoder_of, line_of, make_of, server_of, show_of, state_of, watch_of,
 };
 use crate::numbers::{
     CONNECTIONS, ENCODER, GIVE_UP, PORT, RECONNECTS, RETRY_EVERY, SERVE_TURNS, SETS, SILENT, SITE,
@@ -174,7 +175,9 @@ fn send_command<'a>(alloc: Global) -> Result<Command<'a>, AllocError>
     ensures { IfOk result (λ command. shape_of command ≡ live_command) }
 {
     let command = Command::new(alloc, "send")
-        .about("Send messages in words, one a line, to an encoder as they come, for as long as they come")
+        .about(
+            "Send messages in words, one a line, to an encoder as they come, for as long as they come",
+        )
         .after_help(
             "A line is phrases between semicolons. Each is answered by a line: its number, and applied, refused or unknown.\nA connection that is lost is made again; standard error says so, with the time.\nExit status 4: the encoder refused a message, or did not tell whether it applied it.\nExample: uecp send --port 4001 --state studio.db",
         );

@@ -9,11 +9,11 @@
 //! `run_words` is all of that; `main` gives it the machine's words, streams and network, and where the words ask for it
 //! sends for as long as lines come, by `run_send_over_tcp`.
 #![tactic(auto)]
-ghost use Rattle.uecp_cli.specs.Ranges.{IsLiveInRange};
 
 mod arguments;
 mod command_line;
 mod forms;
+mod live_job;
 mod matched;
 mod numbers;
 mod program;
@@ -23,13 +23,12 @@ mod unreached;
 mod usage;
 
 use crate::command_line::program;
-use crate::program::{Ran, refuse, run_words};
+use crate::program::{Ran, refuse, run_words, send};
 use crate::usage::Usage;
 use clap::error;
 use live_edges::Polled;
-use send_jobs::{SendJob, run_send_over_tcp};
 use std::env;
-use std::io::{ErrorKind, Input, Lock, Read, Write};
+use std::io::{ErrorKind, Input, Lock};
 use std::process::ExitCode;
 
 /// The descriptor of standard input.
@@ -53,37 +52,26 @@ fn main(rt: HostRuntime) -> ExitCode {
             );
             match ran {
                 Ran::Ended(status) => status,
-                Ran::Sends(job) => send(&rt, &job, &mut reader, &mut writer, &mut errors),
+                Ran::Sends(job) => {
+                    let arrival = Polled::new(rt.alloc(), &rt, STANDARD_INPUT);
+                    let mut notices = rt.stderr().lock();
+                    send(
+                        rt.alloc(),
+                        &job,
+                        &mut reader,
+                        arrival,
+                        &mut writer,
+                        &mut errors,
+                        &mut notices,
+                        &rt,
+                        &rt,
+                    )
+                }
             }
         }
         Err(usage) => refuse(&usage, &mut writer, &mut errors),
     };
     ExitCode::from(status)
-}
-
-/// Sends messages over TCP for as long as lines come, and answers the exit status.
-fn send<R: Read, W: Write, E: Write>(
-    rt: &HostRuntime,
-    job: &SendJob,
-    reader: &mut R,
-    writer: &mut W,
-    errors: &mut E,
-) -> u8
-    requires { IsLiveInRange job.now }
-{
-    let mut notices = rt.stderr().lock();
-    let arrival = Polled::new(rt.alloc(), rt, STANDARD_INPUT);
-    run_send_over_tcp(
-        rt.alloc(),
-        job,
-        reader,
-        arrival,
-        writer,
-        errors,
-        &mut notices,
-        rt,
-        rt,
-    )
 }
 
 /// The words of the command line as the machine gives them.

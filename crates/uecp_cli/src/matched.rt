@@ -1,28 +1,25 @@
 //! The jobs that the matches of the program's commands ask for (profile).
-ghost use Rattle.std.specs.Prelude.{◌≡◌, ◌≤◌, codes, IfOk, IfErr, option_map};
+ghost use Rattle.std.specs.Prelude.{◌≡◌, ◌≤◌, codes, IfOk, IfErr};
 ghost use Rattle.std.specs.String.{string_bytes};
-ghost use Rattle.clap.specs.Walk.{first_of};
 ghost use Rattle.clap.specs.Words.{found_of, one_of, rows_of};
 ghost use Rattle.uecp_cli.specs.CommandLine.{IsOption, IsList, IsTaskOf, RefusesList, services_text, host_text};
-ghost use Rattle.uecp_cli.specs.CommandLine.{IsEnd, IsKeptAs, IsRegion};
+ghost use Rattle.uecp_cli.specs.CommandLine.{IsEnd, IsKeptAs};
 ghost use Rattle.uecp_cli.specs.declared.usage.Usage.TheVariants.{OutOfMemory};
 
 use crate::forms::{flag_of, form_of, wording_of};
 use crate::numbers::{
-    CONNECTIONS, ENCODER, GIVE_UP, NumberOption, PORT, RECONNECTS, RETRY_EVERY, SERVE_TURNS, SETS,
-    SILENT, SITE, TIMEOUT, TRIES, TRY_TURNS, WINDOW,
+    CONNECTIONS, ENCODER, NumberOption, PORT, RECONNECTS, SERVE_TURNS, SETS, SITE, TIMEOUT, TRIES,
+    TRY_TURNS, WINDOW,
 };
 use crate::services::services_of;
 use crate::task::Task;
 use crate::usage::Usage;
 use clap::ArgMatches;
-use rds_text::Region;
 use std::alloc::{AllocError, Global};
-use send_jobs::SendJob;
 use uecp_jobs::{Form, Job};
 
 /// The number of an option.
-fn number_of(found: &ArgMatches<'_>, option: &NumberOption) -> u32
+pub(crate) fn number_of(found: &ArgMatches<'_>, option: &NumberOption) -> u32
     requires { option.now.least ≤ option.now.most }
     ensures { IsOption (one_of option.now.name.now (rows_of (found_of found.now))) option.now.least option.now.most
         result }
@@ -34,7 +31,7 @@ fn number_of(found: &ArgMatches<'_>, option: &NumberOption) -> u32
 }
 
 /// The number of an option that is 65535 at most.
-fn short_of(found: &ArgMatches<'_>, option: &NumberOption) -> u16
+pub(crate) fn short_of(found: &ArgMatches<'_>, option: &NumberOption) -> u16
     requires range { option.now.least ≤ option.now.most }
     requires short { option.now.most ≤ 65535 }
     ensures { IsOption (one_of option.now.name.now (rows_of (found_of found.now))) option.now.least option.now.most
@@ -44,7 +41,7 @@ fn short_of(found: &ArgMatches<'_>, option: &NumberOption) -> u16
 }
 
 /// The number of an option that is 255 at most.
-fn small_of(found: &ArgMatches<'_>, option: &NumberOption) -> u8
+pub(crate) fn small_of(found: &ArgMatches<'_>, option: &NumberOption) -> u8
     requires range { option.now.least ≤ option.now.most }
     requires small { option.now.most ≤ 255 }
     ensures { IsOption (one_of option.now.name.now (rows_of (found_of found.now))) option.now.least option.now.most
@@ -62,7 +59,7 @@ fn list_of(alloc: Global, found: &ArgMatches<'_>) -> Result<Vec<u8>, Usage>
 }
 
 /// The host, `127.0.0.1` where it is not given.
-fn host_of(alloc: Global, found: &ArgMatches<'_>) -> Result<String, AllocError>
+pub(crate) fn host_of(alloc: Global, found: &ArgMatches<'_>) -> Result<String, AllocError>
     ensures { IfOk result (λ host. string_bytes host ≡ host_text (rows_of (found_of found.now))) }
 {
     String::from_str(alloc, found.get_str("host").unwrap_or("127.0.0.1"))
@@ -200,58 +197,6 @@ fn task_of(alloc: Global, found: &ArgMatches<'_>, job: Job) -> Result<Task, Allo
     match found.get_str("state") {
         Some(path) => Ok(Task::Kept(job, String::from_str(alloc, path)?)),
         None => Ok(Task::Plain(job)),
-    }
-}
-
-/// The job of the command `send`.
-pub fn send_of(alloc: Global, found: &ArgMatches<'_>) -> Result<Task, Usage>
-    ensures job { IfOk result (IsTaskOf (codes "send") (rows_of (found_of found.now))) }
-    ensures refused { IfErr result (λ why. why ≡ OutOfMemory) }
-{
-    let station = word_of(alloc, found, "station")?;
-    Ok(Task::Send(SendJob {
-        site: short_of(found, &SITE),
-        encoder: small_of(found, &ENCODER),
-        host: host_of(alloc, found)?,
-        port: short_of(found, &PORT),
-        tries: number_of(found, &TRIES),
-        timeout: number_of(found, &TIMEOUT),
-        turns: number_of(found, &TRY_TURNS),
-        window: small_of(found, &WINDOW),
-        region: region_of(found),
-        strict: flag_of(found, "strict"),
-        join: flag_of(found, "join"),
-        rejoin: flag_of(found, "rejoin") || station.is_some(),
-        retry_every: number_of(found, &RETRY_EVERY),
-        give_up: number_of(found, &GIVE_UP),
-        silent: number_of(found, &SILENT),
-        state: word_of(alloc, found, "state")?,
-        station,
-    }))
-}
-
-/// Of which region the names of programme types are.
-fn region_of(found: &ArgMatches<'_>) -> Region
-    ensures { IsRegion (rows_of (found_of found.now)) result }
-{
-    if flag_of(found, "rbds") {
-        Region::NorthAmerica
-    } else {
-        Region::Europe
-    }
-}
-
-/// The text of an option, if it is given.
-fn word_of(
-    alloc: Global,
-    found: &ArgMatches<'_>,
-    name: &str,
-) -> Result<Option<String>, AllocError>
-    ensures { IfOk result (λ word. option_map string_bytes word ≡ first_of name.now (rows_of (found_of found.now))) }
-{
-    match found.get_str(name) {
-        Some(word) => Ok(Some(String::from_str(alloc, word)?)),
-        None => Ok(None),
     }
 }
 

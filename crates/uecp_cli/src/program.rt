@@ -28,9 +28,11 @@ use crate::task::Task;
 use crate::unreached::say_unreached;
 use crate::usage::Usage;
 use clap::Error;
-use send_jobs::SendJob;
+use line_feed::Arrival;
+use send_jobs::{SendJob, run_send_over_tcp};
 use state_jobs::{OpenStates, run_encoder_in, run_server_in, tell_state};
 use std::alloc::Global;
+use std::fs::Files;
 use std::io::{Read, Write};
 use std::net::{Net, TcpListener, TcpStream};
 use std::time::Clock;
@@ -71,7 +73,8 @@ pub fn run_words<
     ensures sends { (job : SendJob) → result ≡ Sends job → Asks (map string_bytes words.now) (Send job)
         × IsLiveInRange job × (reader.new ≡ reader.old) × (writer.new ≡ writer.old) × (errors.new ≡ errors.old) }
     // 0: what the words ask for was done; or they ask for a text, and nothing was read. Nothing was said on `errors`.
-    ensures done { result ≡ Ended 0 → (HasDone (S.finds states.now) (map string_bytes words.now) (R.remaining reader.old)
+    ensures done { result ≡ Ended 0
+        → (HasDone (S.finds states.now) (map string_bytes words.now) (R.remaining reader.old)
         (R.remaining reader.new) (W.contents writer.old) (W.contents writer.new)
         ⊎ (AskForText (map string_bytes words.now) × (reader.new ≡ reader.old))) × (errors.new ≡ errors.old) }
     // 1: the words ask for a job, and a line was refused.
@@ -94,6 +97,34 @@ pub fn run_words<
         Ok(task) => Ran::Ended(run_task(alloc, &task, reader, writer, errors, net, states)),
         Err(usage) => Ran::Ended(refuse(&usage, writer, errors)),
     }
+}
+
+/// Sends messages over TCP for as long as lines come, as `run_send_over_tcp` says, and answers the exit status. Its
+/// promise is not said again here: at the machine's files the statement alone is more than the checker takes at once.
+pub fn send<
+    R: Read,
+    A: Arrival + Drop,
+    W: Write,
+    E: Write,
+    M: Write,
+    N: Net<Stream = TcpStream> + Clock + Files,
+    S: OpenStates,
+>(
+    alloc: Global,
+    job: &SendJob,
+    reader: &mut R,
+    arrival: A,
+    writer: &mut W,
+    errors: &mut E,
+    notices: &mut M,
+    net: &N,
+    states: &S,
+) -> u8
+    requires { IsLiveInRange job.now }
+{
+    run_send_over_tcp(
+        alloc, job, reader, arrival, writer, errors, notices, net, states,
+    )
 }
 
 /// Does what is asked for, and answers the exit status.

@@ -9,7 +9,8 @@ returns c =
     let is_new : shape_of c.after_help-command.result ≡ new_shape (codes "send") =
     ap shape_of_fields c.after_help-command.ensures ∙ ap shape_of_fields c.about.ensures
     ∙ ap (λ (a : App). a.top) c.new.ensures.app in
-    let one = arg_added _ _ c.host.result _ _ c.in_ok-arg.ensures c.host.ensures.own (c.in_ok-with_place.ensures (codes "send") is_new)
+    let one = arg_added _ _ c.host.result _ _ c.in_ok-arg.ensures c.host.ensures.own
+    (c.in_ok-with_place.ensures (codes "send") is_new)
     c.host.ensures.rule in
     let two = arg_added _ _ c.number.result _ _ c.in_ok-arg-2.ensures c.number.ensures.own one
     c.number.ensures.rule in

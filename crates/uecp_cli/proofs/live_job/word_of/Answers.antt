@@ -1,7 +1,7 @@
 use Rattle.std.proofs.Common.{◌≡◌, refl, sym, ap, ◌∙◌, option_map, Some, None}
 use Rattle.clap.specs.Words.{found_of}
 use Rattle.clap.proofs.WalkLemmas.{first_value-rows}
-use Rattle.uecp_cli.proofs.matched.word_of.Goals as goal
+use Rattle.uecp_cli.proofs.live_job.word_of.Goals as goal
 
 pub returns-in_ok-from_str-in-Some : goal.returns-in_ok-from_str-in-Some
 returns-in_ok-from_str-in-Some c =
