@@ -220,6 +220,42 @@ class Send:
             return int(re.search(r"VmHWM:\s+([0-9]+) kB", status.read())[1])
 
 
+class Modelled(threading.Thread):
+    """An encoder as tests/model.py has it, which answers one connection after another; its store can be looked at."""
+
+    def __init__(self):
+        super().__init__(daemon=True)
+        self.encoder = model.Encoder(model.Setup())
+        self.listener = socket.create_server(("127.0.0.1", 0), backlog=100)
+        self.port = self.listener.getsockname()[1]
+        self.start()
+
+    def run(self):
+        with contextlib.suppress(OSError):
+            while True:
+                with self.listener.accept()[0] as near, contextlib.suppress(ConnectionError):
+                    self.answer(near)
+
+    def answer(self, near):
+        stream = b""
+        while data := near.recv(4096):
+            stream += data
+            for found in model.findings(stream):
+                if isinstance(found, model.Frame) and self.encoder.take(found) in ("new", "kept"):
+                    near.sendall(self.encoder.reply(found.counter))
+            # what has not ended yet
+            at = stream.rfind(b"\xfe")
+            stream = stream[at:] if at >= 0 and b"\xff" not in stream[at:] else b""
+
+    def __enter__(self):
+        return self
+
+    def __exit__(self, *_):
+        with contextlib.suppress(OSError):
+            self.listener.shutdown(socket.SHUT_RDWR)
+        self.listener.close()
+
+
 class Relay(threading.Thread):
     """A line to an encoder, which is bad for its first connections (tests/bad_line.py) and good for those after them."""
 
