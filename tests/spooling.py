@@ -88,8 +88,8 @@ class Spool(kept_state.Seed):
         super().fault(text)
 
     def state(self, end):
-        """The lines of `uecp state`; what was killed may not be gone yet."""
-        return state_of(self.program, self.files[end])
+        """The lines of `uecp state`; what was killed may not be gone yet, or not have made its file."""
+        return state_of(self.program, self.files[end]) if os.path.exists(self.files[end]) else ["empty"]
 
     def run_server_once(self, before):
         settings = {**os.environ, "PATH": f"{self.folder}:{os.environ['PATH']}"}
