@@ -24,6 +24,7 @@ TOP = os.path.dirname(os.path.dirname(os.path.abspath(__file__)))
 LIMITS = "--tries 100 --retry-every 1"
 IN_USE = "uecp: state in use\n"
 SECONDS = 200  # after which no end is killed any more
+LEAST_GONE_ON = 5  # runs, or nothing was tried
 ALL_APPLIED, SOME_REFUSED, STOPPED = 0, 4, 3
 
 
@@ -67,7 +68,7 @@ class Spool(kept_state.Seed):
 
     def __init__(self, program, number, folder, sizes):
         super().__init__(program, number, folder, sizes)
-        self.folder, self.pairs = folder, spoken(self.chance, sizes.messages)
+        self.folder, self.went_on, self.pairs = folder, 0, spoken(self.chance, sizes.messages)
         self.messages = [message for _, message in self.pairs]
         self.codes, self.stores = folded(self.pairs)
         self.files["server"] = f"{folder}/studio.db"
@@ -124,6 +125,7 @@ class Spool(kept_state.Seed):
         line = lines[-1]
         if len(lines) == 1:
             assert line == f"taken {taken} outstanding {waiting}\n", f"uecp state had said {before}, and the run begins with {line!r}"
+            self.went_on += taken > 0
             return
         self.has_joined()
         if line == "joined\n":
@@ -132,6 +134,14 @@ class Spool(kept_state.Seed):
         wanted = told(self.told + 1, self.codes[self.told])
         assert line == f"{wanted}\n", f"{line!r} in place of {wanted!r}"
         self.told += 1
+
+
+    def finish(self):
+        super().finish()
+        assert self.went_on >= min(LEAST_GONE_ON, self.sizes.kills // 10), f"only {self.went_on} runs went on from messages that were taken"
+
+    def said(self):
+        return f"{self.count_runs} runs of the script, {self.went_on} of them behind the first message, {super().said()}"
 
 
 def try_seed(program, number, messages, kills):
@@ -148,4 +158,4 @@ def try_seed(program, number, messages, kills):
                 seed.faults.append(str(fault))
         if seed.faults:
             return False, f"FAILED {'; '.join(seed.faults)} (after {seed.server.killed} and {seed.encoder.killed} kills, {seed.told} were told)"
-        return True, f"{seed.count_runs} runs of the script, {seed.said()}"
+        return True, seed.said()
