@@ -18,6 +18,7 @@ MEMORY = "/dev/shm" if os.access("/dev/shm", os.W_OK) else None  # where files s
 SECONDS = 120  # of one wait, however busy the machine is
 PORTS = range(20000, 32000)  # below those that the system gives to a connection of its own, so that none is its own peer
 NOTICE = re.compile(r"uecp: \d{4}-\d\d-\d\dT\d\d:\d\d:\d\d\.\d{3}Z (.*)\n")
+ENDS = (4000, 12000)  # bytes after which a connection over a bad line ends at the latest; a pass has 2600
 TRAFFIC = ("none", "eon", "programme", "announcement")
 MEANINGS = {0x03: "unknown element", 0x0B: "the buffer is full"}
 
@@ -257,7 +258,7 @@ class Modelled(threading.Thread):
 
 
 class Relay(threading.Thread):
-    """A line to an encoder, which is bad for its first connections (tests/bad_line.py) and good for those after them."""
+    """A line to an encoder, which is bad for its first connections (tests/bad_line.py), each of which ends some day, and good after them."""
 
     def __init__(self, name, port, bad):
         super().__init__(daemon=True)
@@ -272,8 +273,11 @@ class Relay(threading.Thread):
                 near = self.listener.accept()[0]
                 far = socket.create_connection(("127.0.0.1", self.far_port), SECONDS)
                 chance = random.Random(f"{self.name_of_line} {len(self.connections)}")
-                self.connections.append(Connection(chance, lambda count: None, near, far, len(self.connections) >= self.bad, True))
-                self.connections[-1].run()
+                connection = Connection(chance, lambda count: None, near, far, len(self.connections) >= self.bad, True)
+                if len(self.connections) < self.bad:
+                    connection.forth.end = connection.forth.end or chance.randrange(*ENDS)
+                self.connections.append(connection)
+                connection.run()
 
     def __enter__(self):
         return self
