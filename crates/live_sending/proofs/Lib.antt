@@ -1,1 +1,2 @@
+pub mod Stationing
 pub mod Turning

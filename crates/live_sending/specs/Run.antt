@@ -18,10 +18,10 @@ use Rattle.kept_sending.specs.Sending.{Ended}
 use Rattle.kept_jobs.specs.declared.stop.KeptStop.{KeptStop}
 use Rattle.kept_jobs.specs.declared.stop.KeptStop.TheVariants.{Run, StateFailed}
 use Rattle.kept_jobs.specs.Stops.{Went, TellsKept, Then, stop_for, stop_status, stop_lines}
-use Rattle.kept_jobs.specs.ServerRun.{Standing, TellsTaken, BeginsAnewIf, JoinsIf, SettlesOne, SendsOne, sending}
-use Rattle.kept_jobs.specs.ServerRun.{is_due}
+use Rattle.kept_jobs.specs.ServerRun.{Standing, TellsTaken, BeginsAnewIf, SettlesOne, SendsOne, sending, is_due}
 use Rattle.live_sending.specs.declared.options.LiveOptions.{LiveOptions}
-use Rattle.live_sending.specs.Lines.{reply_lines}
+use Rattle.live_sending.specs.Lines.{reply_lines, is_applied}
+use Rattle.live_sending.specs.Station.{MakesIf}
 use Rattle.line_batches.specs.declared.taking.After.{After}
 use Rattle.line_batches.specs.declared.taking.After.TheVariants.{GoesOn, Ends}
 use Rattle.line_batches.specs.Intake.{Intake}
@@ -40,11 +40,6 @@ ended_as (Ok done) = Ok tt
 ended_as (Err fault) = Err (Run fault)
 
 -- ---- One batch is sent.
-
--- whether this code says that a message was applied
-abbrev pub is_applied : Code → Bool
-is_applied Applied = true
-is_applied code = false
 
 -- What is told of messages that were settled so, the last of which has this number, and how the run goes on: the line
 -- of each, by its own reply, where they are acknowledged. Where they are not nothing is told, and the run stops.
@@ -121,22 +116,23 @@ module _ {C I O K : Type 0} (opens : C → Option (I × O) → C → Type 0) (cl
 
   -- ---- A whole run.
 
-  -- A thing was done with what is sent, and nothing else was.
-  abbrev pub OnSends : (does : (s s' : Standing (SenderOver C I O) K) → Went → Type 0)
-      → (x x' : Live (SenderOver C I O) K) → Went → Type 0
-  OnSends does x x' went = does x.sends x'.sends went × (x' ≡ record x { sends = x'.sends })
+  -- The encoder was joined and the station made, where the encoder is to be joined.
+  abbrev pub MakesOnce : LiveOptions → (due : Bool) → (x x' : Live (SenderOver C I O) K) → Went → Type 0
+  MakesOnce options due x x' went =
+      MakesIf opens closes remaining contents leaves is_clean saves fails options.reading.size options.station.now due
+      x.sends x'.sends x.applied x'.applied went
+      × (x'.takes ≡ x.takes)
 
   -- What waits was settled.
   abbrev pub SettlesOnce : (x x' : Live (SenderOver C I O) K) → Went → Type 0
   SettlesOnce x x' went =
       SettlesLive x.sends x'.sends x.applied x'.applied went × (x'.takes ≡ x.takes)
 
-  -- what a sender does that was given a server so: it joins its encoder where that is due, settles what waits, and then
-  -- makes its turns
-  abbrev pub RunsLive : (due : Bool) → Region → (size : ℕ) → (strict : Bool) → (x x' : Live (SenderOver C I O) K)
-      → Went → Type 0
-  RunsLive due region size strict = Then (OnSends (JoinsIf opens closes remaining contents leaves is_clean saves fails
-      due)) (Then SettlesOnce (RunsTurns region size strict))
+  -- what a sender does that was given a server so: it joins its encoder and makes the station where that is due,
+  -- settles what waits, and then makes its turns
+  abbrev pub RunsLive : LiveOptions → (due : Bool) → (x x' : Live (SenderOver C I O) K) → Went → Type 0
+  RunsLive options due = Then (MakesOnce options due)
+      (Then SettlesOnce (RunsTurns options.reading.region options.reading.size options.reading.strict))
 
   -- The writer got the line of how far the server has come; it began anew where its encoder is to be joined; and then
   -- one sender ran so, over connections that came from there, and this is left of that. Or the run stopped before a
@@ -147,7 +143,7 @@ module _ {C I O K : Type 0} (opens : C → Option (I × O) → C → Type 0) (cl
   LivesFrom options c c' x k' held' taken applied went =
       ((y : Standing ServerState K) × (loan : ℕ) × (z : Live (SenderOver C I O) K)
       × Then TellsTaken (BeginsAnewIf leaves is_clean saves fails (is_due options.join x.sends.progress)) x.sends y (Ok tt)
-      × RunsLive (is_due options.join x.sends.progress) options.reading.region options.reading.size options.reading.strict (record {
+      × RunsLive options (is_due options.join x.sends.progress) (record {
         sends = sending opens closes remaining contents leaves is_clean saves fails c loan options.limits y;
         takes = x.takes;
         applied = x.applied;

@@ -6,6 +6,7 @@ mod lines;
 mod not_kept;
 mod options;
 mod run;
+mod station;
 mod turn;
 
 pub use not_kept::NotKept;

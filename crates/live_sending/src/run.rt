@@ -8,8 +8,9 @@ ghost use Rattle.line_batches.specs.declared.taking.After.{After as Next};
 ghost use Rattle.live_sending.specs.Run.{Turn, ended_as, RunsTurns, RunsLive, LivesFrom, Lives, tally_status};
 
 use crate::options::LiveOptions;
+use crate::station::make_if;
 use crate::turn::{send_some, settle_first};
-use kept_jobs::{KeptStop, begin, fail_run, join_if};
+use kept_jobs::{KeptStop, begin, fail_run};
 use kept_sending::{KeepServer, Progress};
 use line_batches::{After, Reading, Tally, take_batch};
 use line_feed::Feed;
@@ -27,7 +28,8 @@ const TURNS_MAX: u64 = 1 << 59;
 /// memory, reading or writing failed, 4 the encoder refused a message.
 ///
 /// It is told how many messages were taken before, and how many of them wait; a server that is not joined joins its
-/// encoder; those that wait are settled; and then the lines are taken as they come: it waits for one, and those that
+/// encoder, sends the messages of the station, and is then saved as joined; those that wait are settled; and then the
+/// lines are taken as they come: it waits for one, and those that
 /// are there already go with it, up to as many messages as are on their way at once. A line that is refused is told on
 /// `errors`, and the others go on. Of each message the encoder's answer is told before the next line is taken.
 pub fn run_live<K: KeepServer, F: Feed, W: Write, E: Write, C: Connect>(
@@ -146,7 +148,7 @@ fn live<K: KeepServer, F: Feed, W: Write, E: Write, C: Connect>(
     let ran = run_sender(
         alloc,
         due,
-        &options.reading,
+        options,
         &mut sender,
         keeper,
         &mut progress,
@@ -160,11 +162,12 @@ fn live<K: KeepServer, F: Feed, W: Write, E: Write, C: Connect>(
     ran
 }
 
-/// Joins the encoder where that is due, settles what waits, and then takes and sends batch after batch.
+/// Joins the encoder and makes the station where that is due, settles what waits, and then takes and sends batch after
+/// batch.
 fn run_sender<K: KeepServer, F: Feed, W: Write, E: Write, C: Connect>(
     alloc: Global,
     due: bool,
-    reading: &Reading,
+    options: &LiveOptions<'_>,
     sender: &mut Sender<'_, C>,
     keeper: &mut K,
     progress: &mut Progress,
@@ -174,13 +177,13 @@ fn run_sender<K: KeepServer, F: Feed, W: Write, E: Write, C: Connect>(
     tally: &mut Tally,
     applied: &mut bool,
 ) -> Result<(), KeptStop>
-    requires some { 1 ≤ reading.now.size }
-    requires most { reading.now.size ≤ 8 }
+    requires some { 1 ≤ options.now.reading.size }
+    requires most { options.now.reading.size ≤ 8 }
     requires idle { IsTrue due → sender.old.sender.server.held ≡ [] }
     requires not_joined { IsTrue due → progress.old.joined ≡ false }
     requires countable { progress.old.taken < 2 ^ 63 }
-    ensures runs { RunsLive C.opens C.closes C.Input.remaining C.Output.contents K.leaves K.is_clean K.saves K.fails due
-        reading.now.region reading.now.size reading.now.strict (record {
+    ensures runs { RunsLive C.opens C.closes C.Input.remaining C.Output.contents K.leaves K.is_clean K.saves K.fails
+        options.now due (record {
           sends = record {
             runs = sender.old;
             keeper = keeper.old;
@@ -211,7 +214,18 @@ fn run_sender<K: KeepServer, F: Feed, W: Write, E: Write, C: Connect>(
         }) result }
     ensures loan { sender.new.loan ≡ sender.old.loan }
 {
-    join_if(alloc, due, sender, keeper, progress, writer)?;
+    let reading = &options.reading;
+    make_if(
+        alloc,
+        due,
+        reading.size,
+        options.station,
+        sender,
+        keeper,
+        progress,
+        writer,
+        applied,
+    )?;
     settle_first(alloc, sender, keeper, *progress, writer, applied)?;
     run_turns(
         alloc, reading, sender, keeper, progress, feed, writer, errors, tally, applied,

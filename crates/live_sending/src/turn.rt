@@ -1,15 +1,13 @@
 //! A batch is sent, and the reply to each message told. Source: profile.
 ghost use Rattle.std.specs.Prelude.{◌≡◌, ◌≢◌, ◌≤◌, ◌<◌, ◌+◌, ◌-◌, ◌^◌, [], length, IfOk, Ok};
-ghost use Rattle.std.specs.List.{list_all};
 ghost use Rattle.kept_sending.specs.Keeping.{taking};
-ghost use Rattle.live_sending.specs.Run.{SendsBatch, SendsSome, SettlesLive, RepliesTold, are_applied, is_applied};
+ghost use Rattle.live_sending.specs.Run.{SendsBatch, SendsSome, SettlesLive, RepliesTold, are_applied};
 
-use crate::lines::put_replies;
+use crate::lines::{all_applied, put_replies};
 use kept_jobs::{KeptStop, stop_for, write_told};
 use kept_sending::{KeepServer, KeptOutstanding, Progress, send_kept, settle_kept};
 use std::alloc::Global;
 use std::io::Write;
-use uecp_elements::Code;
 use uecp_frame::Message;
 use uecp_link::ServerCounts;
 use uecp_net::{Connect, Sender, Settled};
@@ -162,18 +160,4 @@ fn are_applied(ended: &Result<Settled, KeptOutstanding>) -> bool
         Ok(settled) => all_applied(settled.codes.as_slice()),
         Err(_) => true,
     }
-}
-
-/// Whether each of these codes says that a message was applied.
-fn all_applied(codes: &[Code]) -> bool
-    ensures { result ≡ list_all is_applied codes.now }
-{
-    codes.iter().all(|&code| is_applied(code))
-}
-
-/// Whether this code says that a message was applied.
-fn is_applied(code: Code) -> bool
-    ensures { result ≡ is_applied code }
-{
-    matches!(code, Code::Applied)
 }

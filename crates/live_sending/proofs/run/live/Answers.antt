@@ -77,8 +77,7 @@ returns g c =
         }) (record { runs = now.server; keeper = now.keeper; progress = now.progress; held = held now.writer }) (Ok tt))
             c.is_due-due.ensures c.in_ok-begin.ensures.begins,
         subst (λ due. RunsLive g.C.Connect.opens g.C.Connect.closes g.C.Input.Read.remaining g.C.Output.Write.contents
-            k.leaves k.is_clean k.saves k.fails due c.args.options.now.reading.region c.args.options.now.reading.size
-            c.args.options.now.reading.strict (record {
+            k.leaves k.is_clean k.saves k.fails c.args.options.now due (record {
               sends = record {
                 runs = record {
                   sender = d;
@@ -114,9 +113,7 @@ returns g c =
             }) sent.result) c.is_due-due.ensures
             (subst (λ s. RunsLive g.C.Connect.opens g.C.Connect.closes g.C.Input.Read.remaining
             g.C.Output.Write.contents
-            k.leaves k.is_clean k.saves k.fails c.is_due-due.result c.args.options.now.reading.region
-            c.args.options.now.reading.size
-            c.args.options.now.reading.strict (record {
+            k.leaves k.is_clean k.saves k.fails c.args.options.now c.is_due-due.result (record {
               sends = record { runs = s; keeper = now.keeper; progress = now.progress; held = held now.writer };
               takes = record {
                 unread = g.F.Feed.remaining c.args.feed.now;
