@@ -74,7 +74,8 @@ module _ {C I O : Type 0} (opens : C → Option (I × O) → C → Type 0) (clos
       pub lines : Adds before after (refused_lines 1 told)
       pub all : is ≡ was && list_all is_applied told
 
-  abbrev pub Told : (size : ℕ) → (messages : List (List ℕ)) → (start now : SenderOver C I O) → Result (Unit {0}) Outstanding
+  abbrev pub Told : (size : ℕ) → (messages : List (List ℕ)) → (start now : SenderOver C I O)
+      → Result (Unit {0}) Outstanding
       → (before after : Kept) → (was is : Bool) → Type 0
   Told size messages start now result before after was is =
       (told : List Code) × SendsStation opens closes remaining contents size messages told start now result
@@ -109,7 +110,8 @@ module _ {C I O : Type 0} (opens : C → Option (I × O) → C → Type 0) (clos
       lines = subst (λ l. Adds before after' l) (sym (refused_append 1 so.told more))
           (adds_on before after after' (refused_lines 1 so.told) (refused_lines (1 + length so.told) more) so.lines
           (subst (λ n. Adds after after' (refused_lines n more))
-          (let b = so.count in let same : number + 1 ≡ 1 + length so.told = omega (arith, b, number_is) in same) lines));
+          (let b = so.count in let same : number + 1 ≡ 1 + length so.told = omega (arith, b, number_is) in same)
+          lines));
       all = all ∙ ap (λ b. b && list_all is_applied more) so.all
           ∙ and_assoc was (list_all is_applied so.told) (list_all is_applied more)
           ∙ ap (λ b. was && b) (sym (list_all-append is_applied so.told more));
@@ -129,8 +131,11 @@ module _ {C I O : Type 0} (opens : C → Option (I × O) → C → Type 0) (clos
     pub ends : left ≡ [] → Told size messages start now (Ok tt) before after was is
     ends none = (
       so.told,
-      (so.batches, subst (λ l. SentFor opens closes remaining contents size messages so.batches so.told l start now) none
-      so.sent),
+      (
+        so.batches,
+        subst (λ l. SentFor opens closes remaining contents size messages so.batches so.told l start now) none
+            so.sent,
+      ),
       so.lines,
       so.all,
     )

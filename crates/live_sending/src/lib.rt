@@ -3,6 +3,7 @@
 #![tactic(auto)]
 
 mod lines;
+mod lives;
 mod not_kept;
 mod options;
 mod run;

@@ -3,7 +3,7 @@ ghost use Rattle.std.specs.Prelude.{◌≡◌, ◌+◌, ◌^◌, ◌<◌, length
 ghost use Rattle.std.specs.List.{list_all};
 ghost use Rattle.uecp_text.specs.Written.{Adds};
 ghost use Rattle.live_sending.specs.Lines.{code_words, refusal_words, reply_line, reply_lines, is_applied};
-ghost use Rattle.live_sending.specs.Lines.{station_line, refused_line, refused_lines, applied_line};
+ghost use Rattle.live_sending.specs.Lines.{unknown_lines, station_line, refused_line, refused_lines, applied_line};
 
 use itoa::Buffer;
 use uecp_elements::Code;
@@ -71,6 +71,19 @@ fn is_applied(code: Code) -> bool
     ensures { result ≡ is_applied code }
 {
     matches!(code, Code::Applied)
+}
+
+/// Puts down the lines of so many messages of which can't be known whether they were applied, the first of which has
+/// this number.
+pub(crate) fn put_unknown(first: u64, count: usize, output: &mut Output)
+    requires { first + count < 2 ^ 64 }
+    ensures { Adds output.old output.new (unknown_lines first count) }
+{
+    if count > 0 {
+        put_decimal(first, output);
+        output.text(" unknown\n");
+        put_unknown(first + 1, count - 1, output);
+    }
 }
 
 /// Puts down the lines of messages of the station that the encoder refused, among those that it answered with these

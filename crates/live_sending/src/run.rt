@@ -7,6 +7,7 @@ ghost use Rattle.kept_jobs.specs.ServerRun.{is_due};
 ghost use Rattle.line_batches.specs.declared.taking.After.{After as Next};
 ghost use Rattle.live_sending.specs.Run.{Turn, ended_as, RunsTurns, RunsLive, LivesFrom, Lives, tally_status};
 
+use crate::lives::run_all;
 use crate::options::LiveOptions;
 use crate::station::make_if;
 use crate::turn::{send_some, settle_first};
@@ -25,13 +26,16 @@ const TURNS_MAX: u64 = 1 << 59;
 
 /// Sends the messages of the lines that come to this server's encoder, with the server's state kept, and answers the
 /// exit status: 0 all were applied, 1 a line was refused, 3 a message is outstanding, the server could not be saved, or
-/// memory, reading or writing failed, 4 the encoder refused a message.
+/// memory, reading or writing failed, 4 the encoder refused a message, or can't be known to have applied it.
 ///
 /// It is told how many messages were taken before, and how many of them wait; a server that is not joined joins its
 /// encoder, sends the messages of the station, and is then saved as joined; those that wait are settled; and then the
-/// lines are taken as they come: it waits for one, and those that
-/// are there already go with it, up to as many messages as are on their way at once. A line that is refused is told on
-/// `errors`, and the others go on. Of each message the encoder's answer is told before the next line is taken.
+/// lines are taken as they come: it waits for one, and those that are there already go with it, up to as many messages
+/// as are on their way at once. A line that is refused is told on `errors`, and the others go on. Of each message the
+/// encoder's answer is told before the next line is taken.
+///
+/// Where messages are outstanding the run stops; or, with `rejoin`, a new server is saved in place of this one, they
+/// are told as unknown and not sent again, and it goes on with that as with one that is not joined.
 pub fn run_live<K: KeepServer, F: Feed, W: Write, E: Write, C: Connect>(
     alloc: Global,
     options: &LiveOptions<'_>,
@@ -100,7 +104,8 @@ fn status_of(refused: bool, applied: bool) -> u8
     }
 }
 
-/// Tells how far the server has come, begins anew where its encoder is to be joined, and sends by one sender.
+/// Tells how far the server has come, begins anew where its encoder is to be joined, and sends by one
+/// sender after another.
 fn live<K: KeepServer, F: Feed, W: Write, E: Write, C: Connect>(
     alloc: Global,
     options: &LiveOptions<'_>,
@@ -133,6 +138,7 @@ fn live<K: KeepServer, F: Feed, W: Write, E: Write, C: Connect>(
             said = E.contents errors.old;
           };
           applied = applied.old;
+          unknown = 0;
         }) keeper.new (W.contents writer.new) (record {
           unread = F.remaining feed.new;
           lines = tally.new.lines;
@@ -143,28 +149,28 @@ fn live<K: KeepServer, F: Feed, W: Write, E: Write, C: Connect>(
     let mut server = server;
     let mut progress = progress;
     let due = is_due(options.join, progress);
-    begin(alloc, due, &mut server, &mut progress, keeper, writer)?;
-    let mut sender = Sender::new(connect, server, options.limits);
-    let ran = run_sender(
-        alloc,
-        due,
-        options,
-        &mut sender,
-        keeper,
-        &mut progress,
-        feed,
-        writer,
-        errors,
-        tally,
-        applied,
-    );
-    let _connect = sender.finish();
-    ran
+    match begin(alloc, due, &mut server, &mut progress, keeper, writer) {
+        Err(stop) => Err(stop),
+        Ok(()) => run_all(
+            alloc,
+            due,
+            options,
+            server,
+            keeper,
+            &mut progress,
+            feed,
+            writer,
+            errors,
+            connect,
+            tally,
+            applied,
+        ),
+    }
 }
 
 /// Joins the encoder and makes the station where that is due, settles what waits, and then takes and sends batch after
 /// batch.
-fn run_sender<K: KeepServer, F: Feed, W: Write, E: Write, C: Connect>(
+pub(crate) fn run_sender<K: KeepServer, F: Feed, W: Write, E: Write, C: Connect>(
     alloc: Global,
     due: bool,
     options: &LiveOptions<'_>,
@@ -176,6 +182,7 @@ fn run_sender<K: KeepServer, F: Feed, W: Write, E: Write, C: Connect>(
     errors: &mut E,
     tally: &mut Tally,
     applied: &mut bool,
+    unknown: &mut usize,
 ) -> Result<(), KeptStop>
     requires some { 1 ≤ options.now.reading.size }
     requires most { options.now.reading.size ≤ 8 }
@@ -197,6 +204,7 @@ fn run_sender<K: KeepServer, F: Feed, W: Write, E: Write, C: Connect>(
             said = E.contents errors.old;
           };
           applied = applied.old;
+          unknown = unknown.old;
         }) (record {
           sends = record {
             runs = sender.new;
@@ -211,6 +219,7 @@ fn run_sender<K: KeepServer, F: Feed, W: Write, E: Write, C: Connect>(
             said = E.contents errors.new;
           };
           applied = applied.new;
+          unknown = unknown.new;
         }) result }
     ensures loan { sender.new.loan ≡ sender.old.loan }
 {
@@ -226,9 +235,9 @@ fn run_sender<K: KeepServer, F: Feed, W: Write, E: Write, C: Connect>(
         writer,
         applied,
     )?;
-    settle_first(alloc, sender, keeper, *progress, writer, applied)?;
+    settle_first(alloc, sender, keeper, *progress, writer, applied, unknown)?;
     run_turns(
-        alloc, reading, sender, keeper, progress, feed, writer, errors, tally, applied,
+        alloc, reading, sender, keeper, progress, feed, writer, errors, tally, applied, unknown,
     )
 }
 
@@ -244,6 +253,7 @@ fn run_turns<K: KeepServer, F: Feed, W: Write, E: Write, C: Connect>(
     errors: &mut E,
     tally: &mut Tally,
     applied: &mut bool,
+    unknown: &mut usize,
 ) -> Result<(), KeptStop>
     requires some { 1 ≤ reading.now.size }
     requires most { reading.now.size ≤ 8 }
@@ -264,6 +274,7 @@ fn run_turns<K: KeepServer, F: Feed, W: Write, E: Write, C: Connect>(
             said = E.contents errors.old;
           };
           applied = applied.old;
+          unknown = unknown.old;
         }) (record {
           sends = record {
             runs = sender.new;
@@ -278,6 +289,7 @@ fn run_turns<K: KeepServer, F: Feed, W: Write, E: Write, C: Connect>(
             said = E.contents errors.new;
           };
           applied = applied.new;
+          unknown = unknown.new;
         }) result }
     ensures loan { sender.new.loan ≡ sender.old.loan }
 {
@@ -285,7 +297,7 @@ fn run_turns<K: KeepServer, F: Feed, W: Write, E: Write, C: Connect>(
     for _turn in 0..TURNS_MAX {
         match make_turn(
             alloc, reading, sender, keeper, progress, feed, writer, errors, tally, applied,
-            &mut line,
+            unknown, &mut line,
         ) {
             Err(stop) => return Err(stop),
             Ok(After::Ends(ended)) => return ended_as(ended),
@@ -317,6 +329,7 @@ fn make_turn<K: KeepServer, F: Feed, W: Write, E: Write, C: Connect>(
     errors: &mut E,
     tally: &mut Tally,
     applied: &mut bool,
+    unknown: &mut usize,
     line: &mut Vec<u8>,
 ) -> Result<After, KeptStop>
     requires some { 1 ≤ reading.now.size }
@@ -338,6 +351,7 @@ fn make_turn<K: KeepServer, F: Feed, W: Write, E: Write, C: Connect>(
             said = E.contents errors.old;
           };
           applied = applied.old;
+          unknown = unknown.old;
         }) (record {
           sends = record {
             runs = sender.new;
@@ -352,6 +366,7 @@ fn make_turn<K: KeepServer, F: Feed, W: Write, E: Write, C: Connect>(
             said = E.contents errors.new;
           };
           applied = applied.new;
+          unknown = unknown.new;
         }) after (Ok tt)) }
     ensures stopped { IfErr result (λ stop. (after : Next)
         × Turn C.opens C.closes C.Input.remaining C.Output.contents K.leaves K.is_clean
@@ -369,6 +384,7 @@ fn make_turn<K: KeepServer, F: Feed, W: Write, E: Write, C: Connect>(
             said = E.contents errors.old;
           };
           applied = applied.old;
+          unknown = unknown.old;
         }) (record {
           sends = record {
             runs = sender.new;
@@ -383,6 +399,7 @@ fn make_turn<K: KeepServer, F: Feed, W: Write, E: Write, C: Connect>(
             said = E.contents errors.new;
           };
           applied = applied.new;
+          unknown = unknown.new;
         }) after (Err stop)) }
     ensures taken { progress.new.taken ≤ progress.old.taken + 8 }
     ensures idle { IfOk result (λ _. sender.new.sender.server.held ≡ []) }
@@ -398,6 +415,7 @@ fn make_turn<K: KeepServer, F: Feed, W: Write, E: Write, C: Connect>(
         progress,
         writer,
         applied,
+        unknown,
     ) {
         Err(stop) => Err(stop),
         Ok(()) => Ok(after),

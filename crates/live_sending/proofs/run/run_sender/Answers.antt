@@ -21,8 +21,13 @@ returns-in_err-settle_first-clause-runs g c =
         said = g.E.Write.contents c.args.errors.now;
       };
       applied = c.make_if.new.applied;
+      unknown = c.args.unknown.now;
     } in
-    inl (y, (c.in_ok-make_if.ensures.makes, refl), inr (stop, (c.in_err-settle_first.ensures.settles, refl), same))
+    inl (
+      y,
+      (c.in_ok-make_if.ensures.makes, refl, refl),
+      inr (stop, (c.in_err-settle_first.ensures.settles, refl), same),
+    )
 
 pub returns-clause-runs : goal.returns-clause-runs
 returns-clause-runs g c =
@@ -40,6 +45,7 @@ returns-clause-runs g c =
         said = g.E.Write.contents c.args.errors.now;
       };
       applied = c.make_if.new.applied;
+      unknown = c.args.unknown.now;
     } in
     let z : Live (SenderOver g.row.C.Denot g.row.C-Input.Denot g.row.C-Output.Denot) g.row.K.Denot = record {
       sends = record {
@@ -55,10 +61,11 @@ returns-clause-runs g c =
         said = g.E.Write.contents c.args.errors.now;
       };
       applied = c.settle_first.new.applied;
+      unknown = c.settle_first.new.unknown;
     } in
     inl (
       y,
-      (c.in_ok-make_if.ensures.makes, refl),
+      (c.in_ok-make_if.ensures.makes, refl, refl),
       inl (
         z,
         (c.in_ok-settle_first.ensures.settles, refl),
