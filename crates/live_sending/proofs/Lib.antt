@@ -1,1 +1,3 @@
+pub mod Again
+pub mod Stationing
 pub mod Turning

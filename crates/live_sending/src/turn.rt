@@ -1,15 +1,13 @@
 //! A batch is sent, and the reply to each message told. Source: profile.
 ghost use Rattle.std.specs.Prelude.{◌≡◌, ◌≢◌, ◌≤◌, ◌<◌, ◌+◌, ◌-◌, ◌^◌, [], length, IfOk, Ok};
-ghost use Rattle.std.specs.List.{list_all};
 ghost use Rattle.kept_sending.specs.Keeping.{taking};
-ghost use Rattle.live_sending.specs.Run.{SendsBatch, SendsSome, SettlesLive, RepliesTold, are_applied, is_applied};
+ghost use Rattle.live_sending.specs.Run.{SendsBatch, SendsSome, SettlesLive, RepliesTold, are_applied, unknown_of};
 
-use crate::lines::put_replies;
+use crate::lines::{all_applied, put_replies};
 use kept_jobs::{KeptStop, stop_for, write_told};
 use kept_sending::{KeepServer, KeptOutstanding, Progress, send_kept, settle_kept};
 use std::alloc::Global;
 use std::io::Write;
-use uecp_elements::Code;
 use uecp_frame::Message;
 use uecp_link::ServerCounts;
 use uecp_net::{Connect, Sender, Settled};
@@ -24,6 +22,7 @@ pub(crate) fn send_batch<K: KeepServer, W: Write, C: Connect>(
     progress: &mut Progress,
     writer: &mut W,
     applied: &mut bool,
+    unknown: &mut usize,
 ) -> Result<(), KeptStop>
     requires some { batch.now ≢ [] }
     requires most { length batch.now ≤ 8 }
@@ -40,13 +39,14 @@ pub(crate) fn send_batch<K: KeepServer, W: Write, C: Connect>(
           keeper = keeper.new;
           progress = progress.new;
           held = W.contents writer.new;
-        }) applied.old applied.new result }
+        }) applied.old applied.new unknown.new result }
     ensures progress { progress.new ≡ taking progress.old (length batch.now) }
     ensures idle { IfOk result (λ _. sender.new.sender.server.held ≡ []) }
     ensures loan { sender.new.loan ≡ sender.old.loan }
 {
     let ended = send_kept(sender, keeper, progress, batch);
     *applied = *applied && are_applied(&ended);
+    *unknown = unknown_of(batch.len(), &ended);
     tell_replies(
         alloc,
         progress.taken,
@@ -65,6 +65,7 @@ pub(crate) fn send_some<K: KeepServer, W: Write, C: Connect>(
     progress: &mut Progress,
     writer: &mut W,
     applied: &mut bool,
+    unknown: &mut usize,
 ) -> Result<(), KeptStop>
     requires most { length batch.now ≤ 8 }
     requires idle { sender.old.sender.server.held ≡ [] }
@@ -80,7 +81,7 @@ pub(crate) fn send_some<K: KeepServer, W: Write, C: Connect>(
           keeper = keeper.new;
           progress = progress.new;
           held = W.contents writer.new;
-        }) applied.old applied.new result }
+        }) applied.old applied.new unknown.old unknown.new result }
     ensures progress { progress.new.taken ≤ progress.old.taken + 8 }
     ensures idle { IfOk result (λ _. sender.new.sender.server.held ≡ []) }
     ensures loan { sender.new.loan ≡ sender.old.loan }
@@ -88,7 +89,9 @@ pub(crate) fn send_some<K: KeepServer, W: Write, C: Connect>(
     if batch.is_empty() {
         return Ok(());
     }
-    send_batch(alloc, batch, sender, keeper, progress, writer, applied)
+    send_batch(
+        alloc, batch, sender, keeper, progress, writer, applied, unknown,
+    )
 }
 
 /// Settles what waits, where messages wait, and tells what the encoder answered to each once that is kept.
@@ -99,20 +102,23 @@ pub(crate) fn settle_first<K: KeepServer, W: Write, C: Connect>(
     progress: Progress,
     writer: &mut W,
     applied: &mut bool,
+    unknown: &mut usize,
 ) -> Result<(), KeptStop>
     requires countable { progress.taken < 2 ^ 64 - 1 }
     ensures settles { SettlesLive C.opens C.closes C.Input.remaining C.Output.contents K.leaves K.is_clean K.saves
         K.fails (record { runs = sender.old; keeper = keeper.old; progress = progress; held = W.contents writer.old })
         (record { runs = sender.new; keeper = keeper.new; progress = progress; held = W.contents writer.new })
-        applied.old applied.new result }
+        applied.old applied.new unknown.old unknown.new result }
     ensures idle { IfOk result (λ _. sender.new.sender.server.held ≡ []) }
     ensures loan { sender.new.loan ≡ sender.old.loan }
 {
     if sender.server().is_idle() {
         return Ok(());
     }
+    let count = sender.server().held_count();
     let ended = settle_kept(sender, keeper, progress);
     *applied = *applied && are_applied(&ended);
+    *unknown = unknown_of(count, &ended);
     tell_replies(
         alloc,
         progress.taken,
@@ -147,7 +153,7 @@ fn tell_replies<W: Write>(
 }
 
 /// The number of the first of so many messages, the last of which has this number.
-fn first_of(last: u64, count: usize) -> u64
+pub(crate) fn first_of(last: u64, count: usize) -> u64
     requires { last < 2 ^ 64 - 1 }
     ensures { result ≡ last + 1 - count }
 {
@@ -164,16 +170,13 @@ fn are_applied(ended: &Result<Settled, KeptOutstanding>) -> bool
     }
 }
 
-/// Whether each of these codes says that a message was applied.
-fn all_applied(codes: &[Code]) -> bool
-    ensures { result ≡ list_all is_applied codes.now }
+/// How many of so many messages that were settled so are outstanding.
+fn unknown_of(count: usize, ended: &Result<Settled, KeptOutstanding>) -> usize
+    ensures { result ≡ unknown_of count ended.now }
 {
-    codes.iter().all(|&code| is_applied(code))
-}
-
-/// Whether this code says that a message was applied.
-fn is_applied(code: Code) -> bool
-    ensures { result ≡ is_applied code }
-{
-    matches!(code, Code::Applied)
+    match ended {
+        Ok(_) => 0,
+        Err(KeptOutstanding::Outstanding(_)) => count,
+        Err(KeptOutstanding::StateFailed) => 0,
+    }
 }
