@@ -32,6 +32,15 @@ abbrev pub reply_lines : (first : ℕ) → List Code → List ℕ
 reply_lines first [] = []
 reply_lines first (code ∷ told) = reply_line first code ++ reply_lines (first + 1) told
 
+-- The lines of messages that are held, one after another, the first of which has this number, and which are marked or
+-- wait so: of each that waits the line of the next of these codes; of one that is marked, whose reply came before,
+-- nothing.
+abbrev pub held_lines : (first : ℕ) → (marks : List Bool) → List Code → List ℕ
+held_lines first [] told = []
+held_lines first (true ∷ marks) told = held_lines (first + 1) marks told
+held_lines first (false ∷ marks) [] = []
+held_lines first (false ∷ marks) (code ∷ told) = reply_line first code ++ held_lines (first + 1) marks told
+
 -- the line of a message of which can't be known whether it was applied
 abbrev pub unknown_line : (number : ℕ) → List ℕ
 unknown_line number = decimal number ++ codes " unknown\n"

@@ -1,6 +1,6 @@
 -- What a server does whose lines come as they like, with its state kept, and how it ends (profile).
 use Rattle.std.specs.Prelude.{◌≡◌, ◌≢◌, ◌⊎◌, ℕ, zero, suc, ◌+◌, ◌-◌, ◌^◌, ◌≤◌, Bool, true, false, ◌&&◌, List, []}
-use Rattle.std.specs.Prelude.{length, Option, Result, Ok, Err, if◌then◌else◌}
+use Rattle.std.specs.Prelude.{length, map, Option, Result, Ok, Err, if◌then◌else◌}
 use Rattle.std.specs.List.{list_all}
 use Rattle.rds_text.specs.declared.programme_type.Region.{Region}
 use Rattle.uecp_elements.specs.declared.code.Code.{Code}
@@ -21,7 +21,7 @@ use Rattle.kept_jobs.specs.Stops.{Went, TellsKept, Then, stop_for, stop_status, 
 use Rattle.kept_jobs.specs.ServerRun.{Standing, TellsTaken, BeginsAnewIf, SettlesOne, SendsOne, sending, is_due}
 use Rattle.kept_jobs.specs.ServerRun.{not_joined}
 use Rattle.live_sending.specs.declared.options.LiveOptions.{LiveOptions}
-use Rattle.live_sending.specs.Lines.{reply_lines, unknown_lines, is_applied}
+use Rattle.live_sending.specs.Lines.{reply_lines, held_lines, unknown_lines, is_applied}
 use Rattle.live_sending.specs.Station.{MakesIf}
 use Rattle.line_batches.specs.declared.taking.After.{After}
 use Rattle.line_batches.specs.declared.taking.After.TheVariants.{GoesOn, Ends}
@@ -51,6 +51,20 @@ RepliesTold last counts (Ok settled) held held' went =
 RepliesTold last counts (Err (kept.Outstanding reason)) held held' went =
     (held' ≡ held) × (went ≡ Err (stop_for counts reason))
 RepliesTold last counts (Err kept.StateFailed) held held' went = (held' ≡ held) × (went ≡ Err StateFailed)
+
+-- What is told of messages that were held, of which the first has this number and those that waited were settled so,
+-- and how the run goes on: likewise, under its own number.
+abbrev pub HeldTold : (first : ℕ) → (marks : List Bool) → ServerCounts → Ended → (held held' : Option (List ℕ)) → Went
+    → Type 0
+HeldTold first marks counts (Ok settled) held held' went =
+    TellsKept (held_lines first marks settled.codes.items) (Ok tt) held held' went
+HeldTold first marks counts (Err (kept.Outstanding reason)) held held' went =
+    (held' ≡ held) × (went ≡ Err (stop_for counts reason))
+HeldTold first marks counts (Err kept.StateFailed) held held' went = (held' ≡ held) × (went ≡ Err StateFailed)
+
+-- of the messages that a server holds, the oldest first, whether each is marked
+abbrev pub marks_in : ServerState → List Bool
+marks_in s = map (λ h. h.marked) s.held
 
 -- whether all messages that were settled so were applied, as far as they were answered
 abbrev pub are_applied : Ended → Bool
@@ -108,9 +122,10 @@ module _ {C I O K : Type 0} (opens : C → Option (I × O) → C → Type 0) (cl
       ((x.runs.sender.server.held ≡ []) × (x' ≡ x) × (applied' ≡ applied) × (unknown' ≡ unknown) × (went ≡ Ok tt))
       ⊎ ((x.runs.sender.server.held ≢ []) × ((ended : Ended)
       × SettlesOne opens closes remaining contents leaves is_clean saves fails ended x x'
-      × RepliesTold x'.progress.taken x'.runs.sender.server.counts ended x.held x'.held went
+      × HeldTold (x'.progress.taken + 1 - length (marks_in x.runs.sender.server)) (marks_in x.runs.sender.server)
+      x'.runs.sender.server.counts ended x.held x'.held went
       × (applied' ≡ applied && are_applied ended)
-      × (unknown' ≡ unknown_of (length x.runs.sender.server.held) ended)))
+      × (unknown' ≡ unknown_of (length (marks_in x.runs.sender.server)) ended)))
 
   -- One turn: a batch was taken, and then sent where it has a message; and this comes after it.
   pub record Turn (region : Region) (size : ℕ) (strict : Bool) (x x' : Live (SenderOver C I O) K) (after : After)
@@ -159,6 +174,8 @@ module _ {C I O K : Type 0} (opens : C → Option (I × O) → C → Type 0) (cl
   abbrev pub RunsLive : LiveOptions → (due : Bool) → (x x' : Live (SenderOver C I O) K) → Went → Type 0
   RunsLive options due = Then (MakesOnce options due)
       (Then SettlesOnce (RunsTurns options.reading.region options.reading.size options.reading.strict))
+
+  -- ---- A whole run.
 
   -- what is left of a sender that hangs up
   abbrev pub ended_of : Live (SenderOver C I O) K → Live ServerState K

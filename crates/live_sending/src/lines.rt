@@ -3,7 +3,8 @@ ghost use Rattle.std.specs.Prelude.{◌≡◌, ◌+◌, ◌^◌, ◌<◌, length
 ghost use Rattle.std.specs.List.{list_all};
 ghost use Rattle.uecp_text.specs.Written.{Adds};
 ghost use Rattle.live_sending.specs.Lines.{code_words, refusal_words, reply_line, reply_lines, is_applied};
-ghost use Rattle.live_sending.specs.Lines.{unknown_lines, station_line, refused_line, refused_lines, applied_line};
+ghost use Rattle.live_sending.specs.Lines.{held_lines, unknown_lines, station_line, refused_line, refused_lines};
+ghost use Rattle.live_sending.specs.Lines.{applied_line};
 
 use itoa::Buffer;
 use uecp_elements::Code;
@@ -19,6 +20,22 @@ pub(crate) fn put_replies(first: u64, codes: &[Code], output: &mut Output)
     if let Some((code, rest)) = codes.split_first() {
         put_reply(first, *code, output);
         put_replies(first + 1, rest, output);
+    }
+}
+
+/// Puts down the lines of messages that are held, one after another, the first of which has this number: of each that
+/// is not marked, by the next of these codes.
+pub(crate) fn put_held(first: u64, marks: &[bool], codes: &[Code], output: &mut Output)
+    requires { first + length marks.now < 2 ^ 64 }
+    ensures { Adds output.old output.new (held_lines first marks.now codes.now) }
+{
+    if let Some((marked, rest)) = marks.split_first() {
+        if *marked {
+            put_held(first + 1, rest, codes, output);
+        } else if let Some((code, later)) = codes.split_first() {
+            put_reply(first, *code, output);
+            put_held(first + 1, rest, later, output);
+        }
     }
 }
 

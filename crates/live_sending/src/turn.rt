@@ -1,15 +1,18 @@
 //! A batch is sent, and the reply to each message told. Source: profile.
 ghost use Rattle.std.specs.Prelude.{◌≡◌, ◌≢◌, ◌≤◌, ◌<◌, ◌+◌, ◌-◌, ◌^◌, [], length, IfOk, Ok};
 ghost use Rattle.kept_sending.specs.Keeping.{taking};
-ghost use Rattle.live_sending.specs.Run.{SendsBatch, SendsSome, SettlesLive, RepliesTold, are_applied, unknown_of};
+ghost use Rattle.live_sending.specs.Run.{SendsBatch, SendsSome, SettlesLive, RepliesTold, HeldTold, are_applied};
+ghost use Rattle.live_sending.specs.Run.{unknown_of};
+ghost use Rattle.live_sending.specs.Run.{marks_in};
 
-use crate::lines::{all_applied, put_replies};
+use crate::lines::{all_applied, put_held, put_replies};
+use arrayvec::ArrayVec;
 use kept_jobs::{KeptStop, stop_for, write_told};
 use kept_sending::{KeepServer, KeptOutstanding, Progress, send_kept, settle_kept};
 use std::alloc::Global;
 use std::io::Write;
 use uecp_frame::Message;
-use uecp_link::ServerCounts;
+use uecp_link::{Server, ServerCounts, WINDOW_MAX};
 use uecp_net::{Connect, Sender, Settled};
 use uecp_text::Output;
 
@@ -115,17 +118,56 @@ pub(crate) fn settle_first<K: KeepServer, W: Write, C: Connect>(
     if sender.server().is_idle() {
         return Ok(());
     }
-    let count = sender.server().held_count();
+    let marks = marks_of(sender.server());
     let ended = settle_kept(sender, keeper, progress);
     *applied = *applied && are_applied(&ended);
-    *unknown = unknown_of(count, &ended);
-    tell_replies(
+    *unknown = unknown_of(marks.len(), &ended);
+    tell_held(
         alloc,
-        progress.taken,
+        first_of(progress.taken, marks.len()),
+        marks.as_slice(),
         &ended,
         sender.server().counts(),
         writer,
     )
+}
+
+/// Of the messages that a server holds, the oldest first, whether each is marked.
+fn marks_of(server: &Server) -> ArrayVec<bool, WINDOW_MAX>
+    ensures { result.items ≡ marks_in server.now }
+{
+    let mut marks = ArrayVec::new();
+    for place in 0..server.held_count() {
+        let Some(held) = server.held(place) else {
+            unreachable!();
+        };
+        marks.push(held.marked);
+    }
+    marks
+}
+
+/// Tells what the encoder answered to messages that were held, of which the first has this number and those that are
+/// not marked were settled so, and says how the run goes on.
+fn tell_held<W: Write>(
+    alloc: Global,
+    first: u64,
+    marks: &[bool],
+    ended: &Result<Settled, KeptOutstanding>,
+    counts: ServerCounts,
+    writer: &mut W,
+) -> Result<(), KeptStop>
+    requires countable { first + length marks.now < 2 ^ 64 }
+    ensures tells { HeldTold first marks.now counts ended.now (W.contents writer.old) (W.contents writer.new) result }
+{
+    match ended {
+        Ok(settled) => {
+            let mut output = Output::new(alloc);
+            put_held(first, marks, settled.codes.as_slice(), &mut output);
+            write_told(&mut output, writer)
+        }
+        Err(KeptOutstanding::Outstanding(why)) => Err(stop_for(*why, counts)),
+        Err(KeptOutstanding::StateFailed) => Err(KeptStop::StateFailed),
+    }
 }
 
 /// Tells what the encoder answered to messages that were settled so, the last of which has this number, and says how
