@@ -10,6 +10,7 @@ use Rattle.uecp_text.specs.declared.run_fault.RunFault.TheVariants as run
 use Rattle.uecp_text.specs.Written.{Begins}
 use Rattle.uecp_link.specs.declared.counts.ServerCounts.{ServerCounts}
 use Rattle.uecp_link.specs.Server.{ServerState, idle_at}
+use Rattle.uecp_net.specs.declared.sending.Outstanding.TheVariants.{TriesSpent, ConnectionFailed}
 use Rattle.uecp_net.specs.Sending.{SenderOver}
 use Rattle.uecp_jobs.specs.ServerRun.{Finishes}
 use Rattle.kept_sending.specs.declared.sending.KeptOutstanding.TheVariants as kept
@@ -71,10 +72,13 @@ abbrev pub are_applied : Ended → Bool
 are_applied (Ok settled) = list_all is_applied settled.codes.items
 are_applied (Err stopped) = true
 
--- how many of so many messages that were settled so are outstanding: all or none, as they are told
+-- How many of so many messages that were settled so are unknown where the encoder is taken for a new one: all of them
+-- where each try was spent, so that connections were there and not all replies came; else none, as where there was no
+-- connection.
 abbrev pub unknown_of : (count : ℕ) → Ended → ℕ
 unknown_of count (Ok settled) = 0
-unknown_of count (Err (kept.Outstanding reason)) = count
+unknown_of count (Err (kept.Outstanding TriesSpent)) = count
+unknown_of count (Err (kept.Outstanding ConnectionFailed)) = 0
 unknown_of count (Err kept.StateFailed) = 0
 
 -- the exit status of a run that came to its end
@@ -228,8 +232,8 @@ module _ {C I O K : Type 0} (opens : C → Option (I × O) → C → Type 0) (cl
       (d : C) × (y : Live ServerState K) × (stopped : Went) × RunsFor options due n c d x y stopped
       × (options.rejoin ≡ true) × (1 ≤ y.unknown) × RunsAgain options x.sends.runs.address d c' y x' went
 
-  -- No sender runs after these: no message is outstanding, or an encoder is not taken for a new one, or 2^63 messages
-  -- were taken, or 2^59 ran.
+  -- No sender runs after these: no message is outstanding with each try spent, or an encoder is not taken for a new one,
+  -- or 2^63 messages were taken, or 2^59 ran.
   abbrev pub IsLast : LiveOptions → (again : ℕ) → Live ServerState K → Type 0
   IsLast options again x =
       (x.unknown ≡ 0) ⊎ (options.rejoin ≡ false) ⊎ (2 ^ 63 ≤ x.sends.progress.taken) ⊎ (again ≡ 2 ^ 59)

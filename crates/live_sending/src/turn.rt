@@ -13,7 +13,7 @@ use std::alloc::Global;
 use std::io::Write;
 use uecp_frame::Message;
 use uecp_link::{Server, ServerCounts, WINDOW_MAX};
-use uecp_net::{Connect, Sender, Settled};
+use uecp_net::{Connect, Outstanding, Sender, Settled};
 use uecp_text::Output;
 
 /// Sends these messages, and tells what the encoder answered to each once that is kept.
@@ -212,13 +212,14 @@ fn are_applied(ended: &Result<Settled, KeptOutstanding>) -> bool
     }
 }
 
-/// How many of so many messages that were settled so are outstanding.
+/// How many of so many messages that were settled so are unknown where the encoder is taken for a new one.
 fn unknown_of(count: usize, ended: &Result<Settled, KeptOutstanding>) -> usize
     ensures { result ≡ unknown_of count ended.now }
 {
     match ended {
         Ok(_) => 0,
-        Err(KeptOutstanding::Outstanding(_)) => count,
+        Err(KeptOutstanding::Outstanding(Outstanding::TriesSpent)) => count,
+        Err(KeptOutstanding::Outstanding(Outstanding::ConnectionFailed)) => 0,
         Err(KeptOutstanding::StateFailed) => 0,
     }
 }
