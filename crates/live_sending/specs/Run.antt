@@ -232,8 +232,8 @@ module _ {C I O K : Type 0} (opens : C → Option (I × O) → C → Type 0) (cl
       (d : C) × (y : Live ServerState K) × (stopped : Went) × RunsFor options due n c d x y stopped
       × (options.rejoin ≡ true) × (1 ≤ y.unknown) × RunsAgain options x.sends.runs.address d c' y x' went
 
-  -- No sender runs after these: no message is outstanding with each try spent, or an encoder is not taken for a new one,
-  -- or 2^63 messages were taken, or 2^59 ran.
+  -- No sender runs after these: no message is outstanding with each try spent, or an encoder is not taken for a new
+  -- one, or 2^63 messages were taken, or 2^59 ran.
   abbrev pub IsLast : LiveOptions → (again : ℕ) → Live ServerState K → Type 0
   IsLast options again x =
       (x.unknown ≡ 0) ⊎ (options.rejoin ≡ false) ⊎ (2 ^ 63 ≤ x.sends.progress.taken) ⊎ (again ≡ 2 ^ 59)
