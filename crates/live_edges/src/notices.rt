@@ -79,11 +79,21 @@ fn say_place<C: Clock, W: Write>(
 {
     let mut buffer = Buffer::new();
     let port = buffer.format(port).as_bytes();
-    say(
-        clock,
-        &[what, host.as_bytes(), b" port ", port, then, b"\n"],
-        notices,
-    );
+    say_parts(clock, what, host.as_bytes(), port, then, notices);
+}
+
+/// Says this of a host and a port in digits, and then that.
+fn say_parts<'a, C: Clock, W: Write>(
+    clock: &C,
+    what: &'a [u8],
+    host: &'a [u8],
+    port: &'a [u8],
+    then: &'a [u8],
+    notices: &mut W,
+)
+    ensures { (lines : List ℕ) × Appends (W.contents notices.old) (W.contents notices.new) lines }
+{
+    say(clock, &[what, host, b" port ", port, then, b"\n"], notices);
 }
 
 /// Says this behind the time. What can't be written changes nothing.

@@ -34,7 +34,7 @@ impl<'a, N: Net + Clock> Polled<'a, N> {
         Polled {
             net,
             fd,
-            waiting: waiting(alloc, net, fd).ok(),
+            waiting: make_waiting(alloc, net, fd).ok(),
         }
     }
 }
@@ -54,7 +54,7 @@ impl<'a, N: Net + Clock> Arrival for Polled<'a, N> {
 }
 
 /// A poll that tells when the descriptor may be read.
-fn waiting<N: Net>(alloc: Global, net: &N, fd: RawFd) -> io::Result<Waiting> {
+fn make_waiting<N: Net>(alloc: Global, net: &N, fd: RawFd) -> io::Result<Waiting> {
     let poll = Poll::new(net)?;
     poll.registry()
         .register(&mut SourceFd(&fd), SOURCE, Interest::READABLE)?;

@@ -1,1 +1,4 @@
+pub mod Again
+pub mod Marking
+pub mod Stationing
 pub mod Turning

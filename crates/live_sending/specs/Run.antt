@@ -1,6 +1,6 @@
 -- What a server does whose lines come as they like, with its state kept, and how it ends (profile).
-use Rattle.std.specs.Prelude.{◌≡◌, ◌≢◌, ◌⊎◌, ℕ, zero, suc, ◌+◌, ◌-◌, ◌^◌, Bool, true, false, ◌&&◌, List, []}
-use Rattle.std.specs.Prelude.{length, Option, Result, Ok, Err, if◌then◌else◌}
+use Rattle.std.specs.Prelude.{◌≡◌, ◌≢◌, ◌⊎◌, ℕ, zero, suc, ◌+◌, ◌-◌, ◌^◌, ◌≤◌, Bool, true, false, ◌&&◌, List, []}
+use Rattle.std.specs.Prelude.{length, map, Option, Result, Ok, Err, if◌then◌else◌}
 use Rattle.std.specs.List.{list_all}
 use Rattle.rds_text.specs.declared.programme_type.Region.{Region}
 use Rattle.uecp_elements.specs.declared.code.Code.{Code}
@@ -9,30 +9,33 @@ use Rattle.uecp_text.specs.declared.run_fault.RunFault.{RunFault}
 use Rattle.uecp_text.specs.declared.run_fault.RunFault.TheVariants as run
 use Rattle.uecp_text.specs.Written.{Begins}
 use Rattle.uecp_link.specs.declared.counts.ServerCounts.{ServerCounts}
-use Rattle.uecp_link.specs.Server.{ServerState}
+use Rattle.uecp_link.specs.Server.{ServerState, idle_at}
+use Rattle.uecp_net.specs.declared.sending.Outstanding.TheVariants.{TriesSpent, ConnectionFailed}
 use Rattle.uecp_net.specs.Sending.{SenderOver}
 use Rattle.uecp_jobs.specs.ServerRun.{Finishes}
 use Rattle.kept_sending.specs.declared.sending.KeptOutstanding.TheVariants as kept
-use Rattle.kept_sending.specs.Keeping.{KeptServer}
+use Rattle.kept_sending.specs.Keeping.{KeptServer, kept_of, IsKept}
 use Rattle.kept_sending.specs.Sending.{Ended}
 use Rattle.kept_jobs.specs.declared.stop.KeptStop.{KeptStop}
 use Rattle.kept_jobs.specs.declared.stop.KeptStop.TheVariants.{Run, StateFailed}
 use Rattle.kept_jobs.specs.Stops.{Went, TellsKept, Then, stop_for, stop_status, stop_lines}
-use Rattle.kept_jobs.specs.ServerRun.{Standing, TellsTaken, BeginsAnewIf, JoinsIf, SettlesOne, SendsOne, sending}
-use Rattle.kept_jobs.specs.ServerRun.{is_due}
+use Rattle.kept_jobs.specs.ServerRun.{Standing, TellsTaken, BeginsAnewIf, SettlesOne, SendsOne, sending, is_due}
+use Rattle.kept_jobs.specs.ServerRun.{not_joined}
 use Rattle.live_sending.specs.declared.options.LiveOptions.{LiveOptions}
-use Rattle.live_sending.specs.Lines.{reply_lines}
+use Rattle.live_sending.specs.Lines.{reply_lines, held_lines, unknown_lines, is_applied}
+use Rattle.live_sending.specs.Station.{MakesIf}
 use Rattle.line_batches.specs.declared.taking.After.{After}
 use Rattle.line_batches.specs.declared.taking.After.TheVariants.{GoesOn, Ends}
 use Rattle.line_batches.specs.Intake.{Intake}
 use Rattle.line_batches.specs.Batches.{TakesBatch}
 
--- ---- Where a run stands: what it sends, and where that is kept and told; what it takes; and whether all messages that
--- were answered were applied.
+-- ---- Where a run stands: what it sends, and where that is kept and told; what it takes; whether all messages that
+-- were told were applied; and how many messages are outstanding, of which nothing was told yet.
 pub record Live (S K : Type 0) : Type 0 where
   pub sends : Standing S K
   pub takes : Intake
   pub applied : Bool
+  pub unknown : ℕ
 
 -- how a run went that ends so
 abbrev pub ended_as : Result (Unit {0}) RunFault → Went
@@ -41,13 +44,8 @@ ended_as (Err fault) = Err (Run fault)
 
 -- ---- One batch is sent.
 
--- whether this code says that a message was applied
-abbrev pub is_applied : Code → Bool
-is_applied Applied = true
-is_applied code = false
-
 -- What is told of messages that were settled so, the last of which has this number, and how the run goes on: the line
--- of each, by its own reply, where they are acknowledged. Where they are not nothing is told, and the run stops.
+-- of each, by its own reply, where they are acknowledged. Where they are not nothing is told, and it stops.
 abbrev pub RepliesTold : (last : ℕ) → ServerCounts → Ended → (held held' : Option (List ℕ)) → Went → Type 0
 RepliesTold last counts (Ok settled) held held' went =
     TellsKept (reply_lines (last + 1 - length settled.codes.items) settled.codes.items) (Ok tt) held held' went
@@ -55,48 +53,90 @@ RepliesTold last counts (Err (kept.Outstanding reason)) held held' went =
     (held' ≡ held) × (went ≡ Err (stop_for counts reason))
 RepliesTold last counts (Err kept.StateFailed) held held' went = (held' ≡ held) × (went ≡ Err StateFailed)
 
+-- What is told of messages that were held, of which the first has this number and those that waited were settled so,
+-- and how the run goes on: likewise, under its own number.
+abbrev pub HeldTold : (first : ℕ) → (marks : List Bool) → ServerCounts → Ended → (held held' : Option (List ℕ)) → Went
+    → Type 0
+HeldTold first marks counts (Ok settled) held held' went =
+    TellsKept (held_lines first marks settled.codes.items) (Ok tt) held held' went
+HeldTold first marks counts (Err (kept.Outstanding reason)) held held' went =
+    (held' ≡ held) × (went ≡ Err (stop_for counts reason))
+HeldTold first marks counts (Err kept.StateFailed) held held' went = (held' ≡ held) × (went ≡ Err StateFailed)
+
+-- of the messages that a server holds, the oldest first, whether each is marked
+abbrev pub marks_in : ServerState → List Bool
+marks_in s = map (λ h. h.marked) s.held
+
 -- whether all messages that were settled so were applied, as far as they were answered
 abbrev pub are_applied : Ended → Bool
 are_applied (Ok settled) = list_all is_applied settled.codes.items
 are_applied (Err stopped) = true
 
+-- How many of so many messages that were settled so are unknown where the encoder is taken for a new one: all of them
+-- where each try was spent, so that connections were there and not all replies came; else none, as where there was no
+-- connection.
+abbrev pub unknown_of : (count : ℕ) → Ended → ℕ
+unknown_of count (Ok settled) = 0
+unknown_of count (Err (kept.Outstanding TriesSpent)) = count
+unknown_of count (Err (kept.Outstanding ConnectionFailed)) = 0
+unknown_of count (Err kept.StateFailed) = 0
+
 -- the exit status of a run that came to its end
 abbrev pub tally_status : (refused applied : Bool) → ℕ
 tally_status refused applied = if refused then 1 else if applied then 0 else 4
+
+-- ---- What is outstanding is given up.
+
+-- A new server is saved, not joined, in place of one of which so many messages are outstanding; and then each of
+-- these, the last that were taken, is told as unknown, under its number. Or the save fails, and nothing is told.
+pub record Renews {K : Type 0} (leaves : K → KeptServer → Type 0) (is_clean : K → Type 0)
+    (saves fails : K → KeptServer → K → Type 0) (unknown : ℕ) (x x' : Standing ServerState K) (went : Went) : Type
+    0 where
+  pub progress : x'.progress ≡ not_joined x.progress
+  pub saved : (saves x.keeper (kept_of x'.progress x'.runs) x'.keeper
+      × TellsKept (unknown_lines (x.progress.taken + 1 - unknown) unknown) (Ok tt) x.held x'.held went)
+      ⊎ (fails x.keeper (kept_of x'.progress x'.runs) x'.keeper × (x'.held ≡ x.held) × (went ≡ Err StateFailed))
+  pub outlives : is_clean x'.keeper → (left : KeptServer) → leaves x'.keeper left
+      → leaves x.keeper left ⊎ (left ≡ kept_of x'.progress x'.runs)
+  pub settled : is_clean x'.keeper → IsKept (leaves x'.keeper) x'.progress x'.runs ⊎ (went ≡ Err StateFailed)
+  pub clean : is_clean x'.keeper → is_clean x.keeper
 
 module _ {C I O K : Type 0} (opens : C → Option (I × O) → C → Type 0) (closes : C → I → O → C → Type 0)
     (remaining : I → Option (List ℕ)) (contents : O → Option (List ℕ)) (leaves : K → KeptServer → Type 0)
     (is_clean : K → Type 0) (saves fails : K → KeptServer → K → Type 0) where
   -- These messages were sent, as `send_kept` says, and then that was told.
   abbrev pub SendsBatch : (messages : List (List ℕ)) → (x x' : Standing (SenderOver C I O) K)
-      → (applied applied' : Bool) → Went → Type 0
-  SendsBatch messages x x' applied applied' went =
+      → (applied applied' : Bool) → (unknown' : ℕ) → Went → Type 0
+  SendsBatch messages x x' applied applied' unknown' went =
       (ended : Ended) × SendsOne opens closes remaining contents leaves is_clean saves fails messages ended x x'
       × RepliesTold x'.progress.taken x'.runs.sender.server.counts ended x.held x'.held went
-      × (applied' ≡ applied && are_applied ended)
+      × (applied' ≡ applied && are_applied ended) × (unknown' ≡ unknown_of (length messages) ended)
 
   -- They were sent so where there are some, and else nothing was done.
   abbrev pub SendsSome : (messages : List (List ℕ)) → (x x' : Standing (SenderOver C I O) K)
-      → (applied applied' : Bool) → Went → Type 0
-  SendsSome messages x x' applied applied' went =
-      ((messages ≡ []) × (x' ≡ x) × (applied' ≡ applied) × (went ≡ Ok tt))
-      ⊎ ((messages ≢ []) × SendsBatch messages x x' applied applied' went)
+      → (applied applied' : Bool) → (unknown unknown' : ℕ) → Went → Type 0
+  SendsSome messages x x' applied applied' unknown unknown' went =
+      ((messages ≡ []) × (x' ≡ x) × (applied' ≡ applied) × (unknown' ≡ unknown) × (went ≡ Ok tt))
+      ⊎ ((messages ≢ []) × SendsBatch messages x x' applied applied' unknown' went)
 
   -- Where messages wait they were settled, as `settle_kept` says, and then that was told; else nothing was done.
-  abbrev pub SettlesLive : (x x' : Standing (SenderOver C I O) K) → (applied applied' : Bool) → Went → Type 0
-  SettlesLive x x' applied applied' went =
-      ((x.runs.sender.server.held ≡ []) × (x' ≡ x) × (applied' ≡ applied) × (went ≡ Ok tt))
+  abbrev pub SettlesLive : (x x' : Standing (SenderOver C I O) K) → (applied applied' : Bool) → (unknown unknown' : ℕ)
+      → Went → Type 0
+  SettlesLive x x' applied applied' unknown unknown' went =
+      ((x.runs.sender.server.held ≡ []) × (x' ≡ x) × (applied' ≡ applied) × (unknown' ≡ unknown) × (went ≡ Ok tt))
       ⊎ ((x.runs.sender.server.held ≢ []) × ((ended : Ended)
       × SettlesOne opens closes remaining contents leaves is_clean saves fails ended x x'
-      × RepliesTold x'.progress.taken x'.runs.sender.server.counts ended x.held x'.held went
-      × (applied' ≡ applied && are_applied ended)))
+      × HeldTold (x'.progress.taken + 1 - length (marks_in x.runs.sender.server)) (marks_in x.runs.sender.server)
+      x'.runs.sender.server.counts ended x.held x'.held went
+      × (applied' ≡ applied && are_applied ended)
+      × (unknown' ≡ unknown_of (length (marks_in x.runs.sender.server)) ended)))
 
   -- One turn: a batch was taken, and then sent where it has a message; and this comes after it.
   pub record Turn (region : Region) (size : ℕ) (strict : Bool) (x x' : Live (SenderOver C I O) K) (after : After)
       (went : Went) : Type 0 where
     pub messages : List (List ℕ)
     pub takes : TakesBatch region size strict messages after x.takes x'.takes
-    pub sends : SendsSome messages x.sends x'.sends x.applied x'.applied went
+    pub sends : SendsSome messages x.sends x'.sends x.applied x'.applied x.unknown x'.unknown went
 
   -- So many turns were made, one after another, each from where the one before ended, and the run goes on.
   abbrev pub GoesOnFor : Region → (size : ℕ) → (strict : Bool) → (turns : ℕ) → (x x' : Live (SenderOver C I O) K)
@@ -119,46 +159,105 @@ module _ {C I O K : Type 0} (opens : C → Option (I × O) → C → Type 0) (cl
       × (LastTurn region size strict y x' went
       ⊎ ((turns ≡ 2 ^ 59) × (x' ≡ y) × (went ≡ Err (Run run.Reading))))
 
-  -- ---- A whole run.
+  -- ---- One sender.
 
-  -- A thing was done with what is sent, and nothing else was.
-  abbrev pub OnSends : (does : (s s' : Standing (SenderOver C I O) K) → Went → Type 0)
-      → (x x' : Live (SenderOver C I O) K) → Went → Type 0
-  OnSends does x x' went = does x.sends x'.sends went × (x' ≡ record x { sends = x'.sends })
+  -- The encoder was joined and the station made, where the encoder is to be joined.
+  abbrev pub MakesOnce : LiveOptions → (due : Bool) → (x x' : Live (SenderOver C I O) K) → Went → Type 0
+  MakesOnce options due x x' went =
+      MakesIf opens closes remaining contents leaves is_clean saves fails options.reading.size options.station.now due
+      x.sends x'.sends x.applied x'.applied went
+      × (x'.takes ≡ x.takes) × (x'.unknown ≡ x.unknown)
 
   -- What waits was settled.
   abbrev pub SettlesOnce : (x x' : Live (SenderOver C I O) K) → Went → Type 0
   SettlesOnce x x' went =
-      SettlesLive x.sends x'.sends x.applied x'.applied went × (x'.takes ≡ x.takes)
+      SettlesLive x.sends x'.sends x.applied x'.applied x.unknown x'.unknown went × (x'.takes ≡ x.takes)
 
-  -- what a sender does that was given a server so: it joins its encoder where that is due, settles what waits, and then
-  -- makes its turns
-  abbrev pub RunsLive : (due : Bool) → Region → (size : ℕ) → (strict : Bool) → (x x' : Live (SenderOver C I O) K)
-      → Went → Type 0
-  RunsLive due region size strict = Then (OnSends (JoinsIf opens closes remaining contents leaves is_clean saves fails
-      due)) (Then SettlesOnce (RunsTurns region size strict))
+  -- what a sender does that was given a server so: it joins its encoder and makes the station where that is due,
+  -- settles what waits, and then makes its turns
+  abbrev pub RunsLive : LiveOptions → (due : Bool) → (x x' : Live (SenderOver C I O) K) → Went → Type 0
+  RunsLive options due = Then (MakesOnce options due)
+      (Then SettlesOnce (RunsTurns options.reading.region options.reading.size options.reading.strict))
 
-  -- The writer got the line of how far the server has come; it began anew where its encoder is to be joined; and then
-  -- one sender ran so, over connections that came from there, and this is left of that. Or the run stopped before a
-  -- connection was opened and a line taken.
-  abbrev pub LivesFrom : LiveOptions → (c c' : C)
-      → (x : Live ServerState K) → (k' : K) → (held' : Option (List ℕ)) → (taken : Intake) → (applied : Bool) → Went
-      → Type 0
-  LivesFrom options c c' x k' held' taken applied went =
-      ((y : Standing ServerState K) × (loan : ℕ) × (z : Live (SenderOver C I O) K)
-      × Then TellsTaken (BeginsAnewIf leaves is_clean saves fails (is_due options.join x.sends.progress)) x.sends y
-          (Ok tt)
-      × RunsLive (is_due options.join x.sends.progress) options.reading.region options.reading.size
-          options.reading.strict (record {
-        sends = sending opens closes remaining contents leaves is_clean saves fails c loan options.limits y;
+  -- ---- A whole run.
+
+  -- what is left of a sender that hangs up
+  abbrev pub ended_of : Live (SenderOver C I O) K → Live ServerState K
+  ended_of z = record {
+    sends = record {
+      runs = z.sends.runs.sender.server;
+      keeper = z.sends.keeper;
+      progress = z.sends.progress;
+      held = z.sends.held;
+    };
+    takes = z.takes;
+    applied = z.applied;
+    unknown = z.unknown;
+  }
+
+  -- One sender ran so with a server, over connections that came from there, and hung up; and this is left.
+  abbrev pub RunsOne : LiveOptions → (due : Bool) → (c c' : C) → (x x' : Live ServerState K) → Went → Type 0
+  RunsOne options due c c' x x' went =
+      (loan : ℕ) × (z : Live (SenderOver C I O) K)
+      × RunsLive options due (record {
+        sends = sending opens closes remaining contents leaves is_clean saves fails c loan options.limits x.sends;
         takes = x.takes;
         applied = x.applied;
+        unknown = x.unknown;
       }) z went
-      × Finishes closes c' z.sends.runs × (k' ≡ z.sends.keeper) × (held' ≡ z.sends.held) × (taken ≡ z.takes)
-      × (applied ≡ z.applied))
+      × Finishes closes c' z.sends.runs × (x' ≡ ended_of z)
+
+  -- where a run stands with a new server: its messages that were outstanding count as not applied
+  abbrev pub from_anew : Live ServerState K → Standing ServerState K → Live ServerState K
+  from_anew x y = record { sends = y; takes = x.takes; applied = false; unknown = 0 }
+
+  -- It did so with a server to the encoder at this address that holds nothing, and then another sender ran with that,
+  -- which joins its encoder and makes the station first. Or the save failed, or a line could not be written, and no
+  -- sender ran.
+  abbrev pub RunsAgain : LiveOptions → (address : ℕ) → (c c' : C) → (x x' : Live ServerState K) → Went → Type 0
+  RunsAgain options address c c' x x' went =
+      (y : Standing ServerState K) × (y.runs ≡ idle_at address)
+      × ((Renews leaves is_clean saves fails x.unknown x.sends y (Ok tt)
+      × RunsOne options true c c' (from_anew x y) x' went)
+      ⊎ ((stop : KeptStop) × Renews leaves is_clean saves fails x.unknown x.sends y (Err stop) × (went ≡ Err stop)
+      × (c' ≡ c)
+      × (x' ≡ from_anew x y)))
+
+  -- One sender ran so, and after it so many more, one after another, each from where the one before stopped: there
+  -- messages were outstanding, and the encoder is taken for a new one.
+  abbrev pub RunsFor : LiveOptions → (due : Bool) → (again : ℕ) → (c c' : C) → (x x' : Live ServerState K) → Went
+      → Type 0
+  RunsFor options due zero c c' x x' went = RunsOne options due c c' x x' went
+  RunsFor options due (suc n) c c' x x' went =
+      (d : C) × (y : Live ServerState K) × (stopped : Went) × RunsFor options due n c d x y stopped
+      × (options.rejoin ≡ true) × (1 ≤ y.unknown) × RunsAgain options x.sends.runs.address d c' y x' went
+
+  -- No sender runs after these: no message is outstanding with each try spent, or an encoder is not taken for a new
+  -- one, or 2^63 messages were taken, or 2^59 ran.
+  abbrev pub IsLast : LiveOptions → (again : ℕ) → Live ServerState K → Type 0
+  IsLast options again x =
+      (x.unknown ≡ 0) ⊎ (options.rejoin ≡ false) ⊎ (2 ^ 63 ≤ x.sends.progress.taken) ⊎ (again ≡ 2 ^ 59)
+
+  -- The writer got the line of how far the server has come; it began anew where its encoder is to be joined; and then
+  -- one sender after another ran so, over connections that came from there, and this is left of that. Or the run
+  -- stopped before a connection was opened and a line taken.
+  abbrev pub LivesFrom : LiveOptions → (c c' : C) → (x : Live ServerState K) → (k' : K) → (held' : Option (List ℕ))
+      → (taken : Intake) → (applied : Bool) → Went → Type 0
+  LivesFrom options c c' x k' held' taken applied went =
+      ((y : Standing ServerState K) × (again : ℕ) × (z : Live ServerState K)
+      × Then TellsTaken (BeginsAnewIf leaves is_clean saves fails (is_due options.join x.sends.progress)) x.sends y
+      (Ok tt)
+      × RunsFor options (is_due options.join x.sends.progress) again c c' (record {
+        sends = y;
+        takes = x.takes;
+        applied = x.applied;
+        unknown = 0;
+      }) z went
+      × IsLast options again z
+      × (k' ≡ z.sends.keeper) × (held' ≡ z.sends.held) × (taken ≡ z.takes) × (applied ≡ z.applied))
       ⊎ ((y : Standing ServerState K) × (stop : KeptStop)
       × Then TellsTaken (BeginsAnewIf leaves is_clean saves fails (is_due options.join x.sends.progress)) x.sends y
-          (Err stop)
+      (Err stop)
       × (went ≡ Err stop) × (c' ≡ c) × (k' ≡ y.keeper) × (held' ≡ y.held) × (taken ≡ x.takes)
       × (applied ≡ x.applied))
 
@@ -173,6 +272,7 @@ module _ {C I O K : Type 0} (opens : C → Option (I × O) → C → Type 0) (cl
         sends = x;
         takes = record { unread = unread; lines = 0; refused = false; said = said };
         applied = true;
+        unknown = 0;
       }) k' held' taken applied went
       × (unread' ≡ taken.unread)
       × (((went ≡ Ok tt) × (status ≡ tally_status taken.refused applied) × (said' ≡ taken.said))

@@ -3,9 +3,11 @@
 #![tactic(auto)]
 
 mod lines;
+mod lives;
 mod not_kept;
 mod options;
 mod run;
+mod station;
 mod turn;
 
 pub use not_kept::NotKept;

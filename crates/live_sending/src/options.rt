@@ -12,8 +12,9 @@ pub struct LiveOptions<'a> {
     pub reading: Reading,
     /// Whether its encoder is joined even where it was joined before. What waits is then given up.
     pub join: bool,
-    /// Whether an encoder that answers nothing is taken for a new one: it is joined, made the station, and what was
-    /// outstanding is told as unknown. Else the run stops.
+    /// Whether an encoder is taken for a new one where messages are outstanding and each try was spent: it is joined,
+    /// made the station, and these messages are told as unknown. Else the run stops, as it does where there is no
+    /// connection to be had.
     pub rejoin: bool,
     /// The messages that make the station what it is, sent after each join.
     pub station: &'a [Message],

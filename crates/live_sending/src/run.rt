@@ -7,9 +7,11 @@ ghost use Rattle.kept_jobs.specs.ServerRun.{is_due};
 ghost use Rattle.line_batches.specs.declared.taking.After.{After as Next};
 ghost use Rattle.live_sending.specs.Run.{Turn, ended_as, RunsTurns, RunsLive, LivesFrom, Lives, tally_status};
 
+use crate::lives::run_all;
 use crate::options::LiveOptions;
+use crate::station::make_if;
 use crate::turn::{send_some, settle_first};
-use kept_jobs::{KeptStop, begin, fail_run, join_if};
+use kept_jobs::{KeptStop, begin, fail_run};
 use kept_sending::{KeepServer, Progress};
 use line_batches::{After, Reading, Tally, take_batch};
 use line_feed::Feed;
@@ -24,12 +26,16 @@ const TURNS_MAX: u64 = 1 << 59;
 
 /// Sends the messages of the lines that come to this server's encoder, with the server's state kept, and answers the
 /// exit status: 0 all were applied, 1 a line was refused, 3 a message is outstanding, the server could not be saved, or
-/// memory, reading or writing failed, 4 the encoder refused a message.
+/// memory, reading or writing failed, 4 the encoder refused a message, or can't be known to have applied it.
 ///
 /// It is told how many messages were taken before, and how many of them wait; a server that is not joined joins its
-/// encoder; those that wait are settled; and then the lines are taken as they come: it waits for one, and those that
-/// are there already go with it, up to as many messages as are on their way at once. A line that is refused is told on
-/// `errors`, and the others go on. Of each message the encoder's answer is told before the next line is taken.
+/// encoder, sends the messages of the station, and is then saved as joined; those that wait are settled; and then the
+/// lines are taken as they come: it waits for one, and those that are there already go with it, up to as many messages
+/// as are on their way at once. A line that is refused is told on `errors`, and the others go on. Of each message the
+/// encoder's answer is told before the next line is taken.
+///
+/// Where messages are outstanding the run stops; or, with `rejoin`, a new server is saved in place of this one, they
+/// are told as unknown and not sent again, and it goes on with that as with one that is not joined.
 pub fn run_live<K: KeepServer, F: Feed, W: Write, E: Write, C: Connect>(
     alloc: Global,
     options: &LiveOptions<'_>,
@@ -98,7 +104,8 @@ fn status_of(refused: bool, applied: bool) -> u8
     }
 }
 
-/// Tells how far the server has come, begins anew where its encoder is to be joined, and sends by one sender.
+/// Tells how far the server has come, begins anew where its encoder is to be joined, and sends by one
+/// sender after another.
 fn live<K: KeepServer, F: Feed, W: Write, E: Write, C: Connect>(
     alloc: Global,
     options: &LiveOptions<'_>,
@@ -131,6 +138,7 @@ fn live<K: KeepServer, F: Feed, W: Write, E: Write, C: Connect>(
             said = E.contents errors.old;
           };
           applied = applied.old;
+          unknown = 0;
         }) keeper.new (W.contents writer.new) (record {
           unread = F.remaining feed.new;
           lines = tally.new.lines;
@@ -141,30 +149,31 @@ fn live<K: KeepServer, F: Feed, W: Write, E: Write, C: Connect>(
     let mut server = server;
     let mut progress = progress;
     let due = is_due(options.join, progress);
-    begin(alloc, due, &mut server, &mut progress, keeper, writer)?;
-    let mut sender = Sender::new(connect, server, options.limits);
-    let ran = run_sender(
-        alloc,
-        due,
-        &options.reading,
-        &mut sender,
-        keeper,
-        &mut progress,
-        feed,
-        writer,
-        errors,
-        tally,
-        applied,
-    );
-    let _connect = sender.finish();
-    ran
+    match begin(alloc, due, &mut server, &mut progress, keeper, writer) {
+        Err(stop) => Err(stop),
+        Ok(()) => run_all(
+            alloc,
+            due,
+            options,
+            server,
+            keeper,
+            &mut progress,
+            feed,
+            writer,
+            errors,
+            connect,
+            tally,
+            applied,
+        ),
+    }
 }
 
-/// Joins the encoder where that is due, settles what waits, and then takes and sends batch after batch.
-fn run_sender<K: KeepServer, F: Feed, W: Write, E: Write, C: Connect>(
+/// Joins the encoder and makes the station where that is due, settles what waits, and then takes and sends batch after
+/// batch.
+pub(crate) fn run_sender<K: KeepServer, F: Feed, W: Write, E: Write, C: Connect>(
     alloc: Global,
     due: bool,
-    reading: &Reading,
+    options: &LiveOptions<'_>,
     sender: &mut Sender<'_, C>,
     keeper: &mut K,
     progress: &mut Progress,
@@ -173,14 +182,15 @@ fn run_sender<K: KeepServer, F: Feed, W: Write, E: Write, C: Connect>(
     errors: &mut E,
     tally: &mut Tally,
     applied: &mut bool,
+    unknown: &mut usize,
 ) -> Result<(), KeptStop>
-    requires some { 1 ≤ reading.now.size }
-    requires most { reading.now.size ≤ 8 }
+    requires some { 1 ≤ options.now.reading.size }
+    requires most { options.now.reading.size ≤ 8 }
     requires idle { IsTrue due → sender.old.sender.server.held ≡ [] }
     requires not_joined { IsTrue due → progress.old.joined ≡ false }
     requires countable { progress.old.taken < 2 ^ 63 }
-    ensures runs { RunsLive C.opens C.closes C.Input.remaining C.Output.contents K.leaves K.is_clean K.saves K.fails due
-        reading.now.region reading.now.size reading.now.strict (record {
+    ensures runs { RunsLive C.opens C.closes C.Input.remaining C.Output.contents K.leaves K.is_clean K.saves K.fails
+        options.now due (record {
           sends = record {
             runs = sender.old;
             keeper = keeper.old;
@@ -194,6 +204,7 @@ fn run_sender<K: KeepServer, F: Feed, W: Write, E: Write, C: Connect>(
             said = E.contents errors.old;
           };
           applied = applied.old;
+          unknown = unknown.old;
         }) (record {
           sends = record {
             runs = sender.new;
@@ -208,13 +219,25 @@ fn run_sender<K: KeepServer, F: Feed, W: Write, E: Write, C: Connect>(
             said = E.contents errors.new;
           };
           applied = applied.new;
+          unknown = unknown.new;
         }) result }
     ensures loan { sender.new.loan ≡ sender.old.loan }
 {
-    join_if(alloc, due, sender, keeper, progress, writer)?;
-    settle_first(alloc, sender, keeper, *progress, writer, applied)?;
+    let reading = &options.reading;
+    make_if(
+        alloc,
+        due,
+        reading.size,
+        options.station,
+        sender,
+        keeper,
+        progress,
+        writer,
+        applied,
+    )?;
+    settle_first(alloc, sender, keeper, *progress, writer, applied, unknown)?;
     run_turns(
-        alloc, reading, sender, keeper, progress, feed, writer, errors, tally, applied,
+        alloc, reading, sender, keeper, progress, feed, writer, errors, tally, applied, unknown,
     )
 }
 
@@ -230,6 +253,7 @@ fn run_turns<K: KeepServer, F: Feed, W: Write, E: Write, C: Connect>(
     errors: &mut E,
     tally: &mut Tally,
     applied: &mut bool,
+    unknown: &mut usize,
 ) -> Result<(), KeptStop>
     requires some { 1 ≤ reading.now.size }
     requires most { reading.now.size ≤ 8 }
@@ -250,6 +274,7 @@ fn run_turns<K: KeepServer, F: Feed, W: Write, E: Write, C: Connect>(
             said = E.contents errors.old;
           };
           applied = applied.old;
+          unknown = unknown.old;
         }) (record {
           sends = record {
             runs = sender.new;
@@ -264,6 +289,7 @@ fn run_turns<K: KeepServer, F: Feed, W: Write, E: Write, C: Connect>(
             said = E.contents errors.new;
           };
           applied = applied.new;
+          unknown = unknown.new;
         }) result }
     ensures loan { sender.new.loan ≡ sender.old.loan }
 {
@@ -271,7 +297,7 @@ fn run_turns<K: KeepServer, F: Feed, W: Write, E: Write, C: Connect>(
     for _turn in 0..TURNS_MAX {
         match make_turn(
             alloc, reading, sender, keeper, progress, feed, writer, errors, tally, applied,
-            &mut line,
+            unknown, &mut line,
         ) {
             Err(stop) => return Err(stop),
             Ok(After::Ends(ended)) => return ended_as(ended),
@@ -303,6 +329,7 @@ fn make_turn<K: KeepServer, F: Feed, W: Write, E: Write, C: Connect>(
     errors: &mut E,
     tally: &mut Tally,
     applied: &mut bool,
+    unknown: &mut usize,
     line: &mut Vec<u8>,
 ) -> Result<After, KeptStop>
     requires some { 1 ≤ reading.now.size }
@@ -324,6 +351,7 @@ fn make_turn<K: KeepServer, F: Feed, W: Write, E: Write, C: Connect>(
             said = E.contents errors.old;
           };
           applied = applied.old;
+          unknown = unknown.old;
         }) (record {
           sends = record {
             runs = sender.new;
@@ -338,6 +366,7 @@ fn make_turn<K: KeepServer, F: Feed, W: Write, E: Write, C: Connect>(
             said = E.contents errors.new;
           };
           applied = applied.new;
+          unknown = unknown.new;
         }) after (Ok tt)) }
     ensures stopped { IfErr result (λ stop. (after : Next)
         × Turn C.opens C.closes C.Input.remaining C.Output.contents K.leaves K.is_clean
@@ -355,6 +384,7 @@ fn make_turn<K: KeepServer, F: Feed, W: Write, E: Write, C: Connect>(
             said = E.contents errors.old;
           };
           applied = applied.old;
+          unknown = unknown.old;
         }) (record {
           sends = record {
             runs = sender.new;
@@ -369,6 +399,7 @@ fn make_turn<K: KeepServer, F: Feed, W: Write, E: Write, C: Connect>(
             said = E.contents errors.new;
           };
           applied = applied.new;
+          unknown = unknown.new;
         }) after (Err stop)) }
     ensures taken { progress.new.taken ≤ progress.old.taken + 8 }
     ensures idle { IfOk result (λ _. sender.new.sender.server.held ≡ []) }
@@ -384,6 +415,7 @@ fn make_turn<K: KeepServer, F: Feed, W: Write, E: Write, C: Connect>(
         progress,
         writer,
         applied,
+        unknown,
     ) {
         Err(stop) => Err(stop),
         Ok(()) => Ok(after),

@@ -1,18 +1,19 @@
 //! A batch is sent, and the reply to each message told. Source: profile.
 ghost use Rattle.std.specs.Prelude.{◌≡◌, ◌≢◌, ◌≤◌, ◌<◌, ◌+◌, ◌-◌, ◌^◌, [], length, IfOk, Ok};
-ghost use Rattle.std.specs.List.{list_all};
 ghost use Rattle.kept_sending.specs.Keeping.{taking};
-ghost use Rattle.live_sending.specs.Run.{SendsBatch, SendsSome, SettlesLive, RepliesTold, are_applied, is_applied};
+ghost use Rattle.live_sending.specs.Run.{SendsBatch, SendsSome, SettlesLive, RepliesTold, HeldTold, are_applied};
+ghost use Rattle.live_sending.specs.Run.{unknown_of};
+ghost use Rattle.live_sending.specs.Run.{marks_in};
 
-use crate::lines::put_replies;
+use crate::lines::{all_applied, put_held, put_replies};
+use arrayvec::ArrayVec;
 use kept_jobs::{KeptStop, stop_for, write_told};
 use kept_sending::{KeepServer, KeptOutstanding, Progress, send_kept, settle_kept};
 use std::alloc::Global;
 use std::io::Write;
-use uecp_elements::Code;
 use uecp_frame::Message;
-use uecp_link::ServerCounts;
-use uecp_net::{Connect, Sender, Settled};
+use uecp_link::{Server, ServerCounts, WINDOW_MAX};
+use uecp_net::{Connect, Outstanding, Sender, Settled};
 use uecp_text::Output;
 
 /// Sends these messages, and tells what the encoder answered to each once that is kept.
@@ -24,6 +25,7 @@ pub(crate) fn send_batch<K: KeepServer, W: Write, C: Connect>(
     progress: &mut Progress,
     writer: &mut W,
     applied: &mut bool,
+    unknown: &mut usize,
 ) -> Result<(), KeptStop>
     requires some { batch.now ≢ [] }
     requires most { length batch.now ≤ 8 }
@@ -40,13 +42,14 @@ pub(crate) fn send_batch<K: KeepServer, W: Write, C: Connect>(
           keeper = keeper.new;
           progress = progress.new;
           held = W.contents writer.new;
-        }) applied.old applied.new result }
+        }) applied.old applied.new unknown.new result }
     ensures progress { progress.new ≡ taking progress.old (length batch.now) }
     ensures idle { IfOk result (λ _. sender.new.sender.server.held ≡ []) }
     ensures loan { sender.new.loan ≡ sender.old.loan }
 {
     let ended = send_kept(sender, keeper, progress, batch);
     *applied = *applied && are_applied(&ended);
+    *unknown = unknown_of(batch.len(), &ended);
     tell_replies(
         alloc,
         progress.taken,
@@ -65,6 +68,7 @@ pub(crate) fn send_some<K: KeepServer, W: Write, C: Connect>(
     progress: &mut Progress,
     writer: &mut W,
     applied: &mut bool,
+    unknown: &mut usize,
 ) -> Result<(), KeptStop>
     requires most { length batch.now ≤ 8 }
     requires idle { sender.old.sender.server.held ≡ [] }
@@ -80,7 +84,7 @@ pub(crate) fn send_some<K: KeepServer, W: Write, C: Connect>(
           keeper = keeper.new;
           progress = progress.new;
           held = W.contents writer.new;
-        }) applied.old applied.new result }
+        }) applied.old applied.new unknown.old unknown.new result }
     ensures progress { progress.new.taken ≤ progress.old.taken + 8 }
     ensures idle { IfOk result (λ _. sender.new.sender.server.held ≡ []) }
     ensures loan { sender.new.loan ≡ sender.old.loan }
@@ -88,7 +92,9 @@ pub(crate) fn send_some<K: KeepServer, W: Write, C: Connect>(
     if batch.is_empty() {
         return Ok(());
     }
-    send_batch(alloc, batch, sender, keeper, progress, writer, applied)
+    send_batch(
+        alloc, batch, sender, keeper, progress, writer, applied, unknown,
+    )
 }
 
 /// Settles what waits, where messages wait, and tells what the encoder answered to each once that is kept.
@@ -99,27 +105,69 @@ pub(crate) fn settle_first<K: KeepServer, W: Write, C: Connect>(
     progress: Progress,
     writer: &mut W,
     applied: &mut bool,
+    unknown: &mut usize,
 ) -> Result<(), KeptStop>
     requires countable { progress.taken < 2 ^ 64 - 1 }
     ensures settles { SettlesLive C.opens C.closes C.Input.remaining C.Output.contents K.leaves K.is_clean K.saves
         K.fails (record { runs = sender.old; keeper = keeper.old; progress = progress; held = W.contents writer.old })
         (record { runs = sender.new; keeper = keeper.new; progress = progress; held = W.contents writer.new })
-        applied.old applied.new result }
+        applied.old applied.new unknown.old unknown.new result }
     ensures idle { IfOk result (λ _. sender.new.sender.server.held ≡ []) }
     ensures loan { sender.new.loan ≡ sender.old.loan }
 {
     if sender.server().is_idle() {
         return Ok(());
     }
+    let marks = marks_of(sender.server());
     let ended = settle_kept(sender, keeper, progress);
     *applied = *applied && are_applied(&ended);
-    tell_replies(
+    *unknown = unknown_of(marks.len(), &ended);
+    tell_held(
         alloc,
-        progress.taken,
+        first_of(progress.taken, marks.len()),
+        marks.as_slice(),
         &ended,
         sender.server().counts(),
         writer,
     )
+}
+
+/// Of the messages that a server holds, the oldest first, whether each is marked.
+fn marks_of(server: &Server) -> ArrayVec<bool, WINDOW_MAX>
+    ensures { result.items ≡ marks_in server.now }
+{
+    let mut marks = ArrayVec::new();
+    for place in 0..server.held_count() {
+        let Some(held) = server.held(place) else {
+            unreachable!();
+        };
+        marks.push(held.marked);
+    }
+    marks
+}
+
+/// Tells what the encoder answered to messages that were held, of which the first has this number and those that are
+/// not marked were settled so, and says how the run goes on.
+fn tell_held<W: Write>(
+    alloc: Global,
+    first: u64,
+    marks: &[bool],
+    ended: &Result<Settled, KeptOutstanding>,
+    counts: ServerCounts,
+    writer: &mut W,
+) -> Result<(), KeptStop>
+    requires countable { first + length marks.now < 2 ^ 64 }
+    ensures tells { HeldTold first marks.now counts ended.now (W.contents writer.old) (W.contents writer.new) result }
+{
+    match ended {
+        Ok(settled) => {
+            let mut output = Output::new(alloc);
+            put_held(first, marks, settled.codes.as_slice(), &mut output);
+            write_told(&mut output, writer)
+        }
+        Err(KeptOutstanding::Outstanding(why)) => Err(stop_for(*why, counts)),
+        Err(KeptOutstanding::StateFailed) => Err(KeptStop::StateFailed),
+    }
 }
 
 /// Tells what the encoder answered to messages that were settled so, the last of which has this number, and says how
@@ -147,7 +195,7 @@ fn tell_replies<W: Write>(
 }
 
 /// The number of the first of so many messages, the last of which has this number.
-fn first_of(last: u64, count: usize) -> u64
+pub(crate) fn first_of(last: u64, count: usize) -> u64
     requires { last < 2 ^ 64 - 1 }
     ensures { result ≡ last + 1 - count }
 {
@@ -164,16 +212,14 @@ fn are_applied(ended: &Result<Settled, KeptOutstanding>) -> bool
     }
 }
 
-/// Whether each of these codes says that a message was applied.
-fn all_applied(codes: &[Code]) -> bool
-    ensures { result ≡ list_all is_applied codes.now }
+/// How many of so many messages that were settled so are unknown where the encoder is taken for a new one.
+fn unknown_of(count: usize, ended: &Result<Settled, KeptOutstanding>) -> usize
+    ensures { result ≡ unknown_of count ended.now }
 {
-    codes.iter().all(|&code| is_applied(code))
-}
-
-/// Whether this code says that a message was applied.
-fn is_applied(code: Code) -> bool
-    ensures { result ≡ is_applied code }
-{
-    matches!(code, Code::Applied)
+    match ended {
+        Ok(_) => 0,
+        Err(KeptOutstanding::Outstanding(Outstanding::TriesSpent)) => count,
+        Err(KeptOutstanding::Outstanding(Outstanding::ConnectionFailed)) => 0,
+        Err(KeptOutstanding::StateFailed) => 0,
+    }
 }

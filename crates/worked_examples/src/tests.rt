@@ -1,5 +1,7 @@
+mod asserting;
 mod elements;
 mod encoder;
 mod frame;
+mod making;
 mod ring;
 mod store;

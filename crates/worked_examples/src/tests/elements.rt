@@ -1,3 +1,4 @@
+use crate::tests::asserting::{holds, same};
 use std::test::Fail;
 use uecp_elements::{Code, Element, ElementFault, Elements, RtPart, elements, push_element};
 use uecp_frame::Message;
@@ -37,78 +38,33 @@ fn is_spelling(message: &[u8], element: Element<'_>) -> bool {
 }
 
 #[test]
-fn each_line_of_the_table(rt: HostRuntime) -> Result<(), Fail> {
+fn each_line_of_the_table(rt: HostRuntime) {
     let named = [2, 0, 1, 0x52, 0x41, 0x44, 0x49, 0x4f, 0x20, 0x31, 0x20];
     let name = b"RADIO 1 ";
-    assert!(rt; is_spelling(&[1, 0, 0, 0x12, 0x34], PI));
-    assert!(rt;
-        is_spelling(
-            &named,
-            Element::Ps {
-                dsn: 0,
-                psn: 1,
-                name
-            }
-        )
-    );
-    assert!(rt;
-        is_spelling(
-            &[3, 1, 2, 0xfd],
-            Element::TaTp {
-                dsn: 1,
-                psn: 2,
-                raw: 0xfd
-            }
-        )
-    );
-    assert!(rt;
-        is_spelling(
-            &[5, 1, 2, 0xfe],
-            Element::Ms {
-                dsn: 1,
-                psn: 2,
-                raw: 0xfe
-            }
-        )
-    );
-    assert!(rt;
-        is_spelling(
-            &[7, 1, 2, 0x20],
-            Element::Pty {
-                dsn: 1,
-                psn: 2,
-                raw: 0x20
-            }
-        )
-    );
-    assert!(rt;
-        is_spelling(
-            &[0x18, 3, 0xff],
-            Element::Ack {
-                code: 3,
-                counter: 0xff
-            }
-        )
-    );
-    assert!(rt; is_spelling(&[0x1c, 2], Element::Select { dsn: 2 }));
+    holds!(rt; is_spelling(&[1, 0, 0, 0x12, 0x34], PI));
+    holds!(rt; is_spelling(&named, Element::Ps { dsn: 0, psn: 1, name }));
+    holds!(rt; is_spelling(&[3, 1, 2, 0xfd], Element::TaTp { dsn: 1, psn: 2, raw: 0xfd }));
+    holds!(rt; is_spelling(&[5, 1, 2, 0xfe], Element::Ms { dsn: 1, psn: 2, raw: 0xfe }));
+    holds!(rt; is_spelling(&[7, 1, 2, 0x20], Element::Pty { dsn: 1, psn: 2, raw: 0x20 }));
+    holds!(rt; is_spelling(&[0x18, 3, 0xff], Element::Ack { code: 3, counter: 0xff }));
+    holds!(rt; is_spelling(&[0x1c, 2], Element::Select { dsn: 2 }));
     let group = Element::Group {
         kind: 0x1f,
         mode: 0xc1,
         block3: 0x1234,
         block4: 0xabcd,
     };
-    assert!(rt; is_spelling(&[0x24, 0x1f, 0xc1, 0x12, 0x34, 0xab, 0xcd], group));
-    Ok(())
+    holds!(rt; is_spelling(&[0x24, 0x1f, 0xc1, 0x12, 0x34, 0xab, 0xcd], group));
 }
 
 #[test]
-fn texts_of_none_no_and_most_characters(rt: HostRuntime) -> Result<(), Fail> {
-    assert!(rt; is_spelling(&[0x0a, 0xff, 7, 0], radio_text(RtPart::Empty)));
+fn texts_of_none_no_and_most_characters(rt: HostRuntime) {
+    holds!(rt; is_spelling(&[0x0a, 0xff, 7, 0], radio_text(RtPart::Empty)));
     let headed = RtPart::Text {
         head: 0x80,
         text: &[],
     };
-    assert!(rt; is_spelling(&[0x0a, 0xff, 7, 1, 0x80], radio_text(headed)));
+    holds!(rt; is_spelling(&[0x0a, 0xff, 7, 1, 0x80], radio_text(headed)));
     let mut message = [0x55; 69];
     message[0] = 0x0a;
     message[1] = 0xff;
@@ -119,21 +75,20 @@ fn texts_of_none_no_and_most_characters(rt: HostRuntime) -> Result<(), Fail> {
         head: 0x40,
         text: &[0x55; 64],
     };
-    assert!(rt; is_spelling(&message, radio_text(longest)));
-    Ok(())
+    holds!(rt; is_spelling(&message, radio_text(longest)));
 }
 
 #[test]
 fn an_unknown_code_behind_an_element(rt: HostRuntime) -> Result<(), Fail> {
     let mut read = elements(&[0x01, 0x00, 0x00, 0x12, 0x34, 0x99]);
-    assert_eq!(rt; read.next(), Some(Ok(PI)));
+    same!(rt; read.next(), Some(Ok(PI)));
     let fault = ElementFault {
         place: 5,
         code: Code::UnknownElement,
     };
-    assert_eq!(rt; read.next(), Some(Err(fault)));
-    assert!(rt; ends(read));
-    assert!(rt; ends(elements(&[])));
+    same!(rt; read.next(), Some(Err(fault)));
+    holds!(rt; ends(read));
+    holds!(rt; ends(elements(&[])));
     Ok(())
 }
 
@@ -145,18 +100,18 @@ fn a_text_that_is_too_long_behind_an_element(rt: HostRuntime) -> Result<(), Fail
     message[2] = 0x0a;
     message[5] = 0x42;
     let mut read = elements(&message);
-    assert_eq!(rt; read.next(), Some(Ok(Element::Select { dsn: 1 })));
+    same!(rt; read.next(), Some(Ok(Element::Select { dsn: 1 })));
     let fault = ElementFault {
         place: 2,
         code: Code::ElementLength,
     };
-    assert_eq!(rt; read.next(), Some(Err(fault)));
-    assert!(rt; ends(read));
+    same!(rt; read.next(), Some(Err(fault)));
+    holds!(rt; ends(read));
     Ok(())
 }
 
 #[test]
-fn a_message_that_ends_inside_an_element(rt: HostRuntime) -> Result<(), Fail> {
+fn a_message_that_ends_inside_an_element(rt: HostRuntime) {
     let whole: [&[u8]; 10] = [
         &[0x01, 0, 0, 0xc2, 0x01],
         &[0x02, 0, 0, 1, 2, 3, 4, 5, 6, 7, 8],
@@ -171,27 +126,25 @@ fn a_message_that_ends_inside_an_element(rt: HostRuntime) -> Result<(), Fail> {
     ];
     for spelling in whole {
         for end in 1..spelling.len() {
-            assert!(rt; is_only_fault(&spelling[..end], 0, Code::ElementLength));
+            holds!(rt; is_only_fault(&spelling[..end], 0, Code::ElementLength));
         }
     }
-    Ok(())
 }
 
 #[test]
 fn room_for_an_element(rt: HostRuntime) -> Result<(), Fail> {
     let mut fits = Message::from_bytes(&[0; 250]).ok_or("long")?;
-    assert!(rt; push_element(&mut fits, &PI).is_ok());
-    assert_eq!(rt; fits.bytes().len(), 255);
+    holds!(rt; push_element(&mut fits, &PI).is_ok());
+    same!(rt; fits.bytes().len(), 255);
     let mut full = Message::from_bytes(&[0; 251]).ok_or("long")?;
-    assert!(rt; push_element(&mut full, &PI).is_err());
-    assert_eq!(rt; full.bytes(), [0; 251].as_slice());
+    holds!(rt; push_element(&mut full, &PI).is_err());
+    same!(rt; full.bytes(), [0; 251].as_slice());
     Ok(())
 }
 
 #[test]
-fn reply_codes_and_their_bytes(rt: HostRuntime) -> Result<(), Fail> {
-    assert_eq!(rt; Code::default().byte(), 0x00);
-    assert_eq!(rt; Code::from_byte(0x0b), Some(Code::BufferFull));
-    assert_eq!(rt; Code::from_byte(0x08), None);
-    Ok(())
+fn reply_codes_and_their_bytes(rt: HostRuntime) {
+    same!(rt; Code::default().byte(), 0x00);
+    same!(rt; Code::from_byte(0x0b), Some(Code::BufferFull));
+    same!(rt; Code::from_byte(0x08), None);
 }

@@ -4,9 +4,11 @@ mod memory;
 mod order;
 mod serving;
 
+use crate::tests::asserting::{holds, same};
+use crate::tests::making::store_encoder;
 use faulty_devices::{
-    APPLIED_1, APPLIED_2, CountTarget, EMPTY_1, EMPTY_2, comes_to, new_store_encoder, own_address,
-    pi_of, replies, texts_of,
+    APPLIED_1, APPLIED_2, CountTarget, EMPTY_1, EMPTY_2, comes_to, own_address, pi_of, replies,
+    texts_of,
 };
 use rds_store::RdsStore;
 use std::process::Abort;
@@ -26,33 +28,31 @@ const EMPTY_0: [u8; 8] = *b"\xFE\x00\x41\x00\x00\x51\xA2\xFF";
 const EMPTY_1_FOR_ANOTHER: [u8; 8] = *b"\xFE\x00\x42\x01\x00\x3B\xC3\xFF";
 
 #[test]
-fn a_new_encoder_applies_a_message_and_answers_its_code(rt: HostRuntime) -> Result<(), Fail> {
+fn a_new_encoder_applies_a_message_and_answers_its_code(rt: HostRuntime) {
     // An unknown element follows the last of them, so nothing of its message is kept.
     let unknown = b"\xFE\x00\x41\x01\x06\x01\x00\x00\x12\x34\x99\xFD\x02\xA8\xFF";
     let refusal = b"\xFE\x00\x41\x00\x03\x18\x03\x01\x15\xED\xFF";
     let rows: [(&[u8], &[u8], u16); 2] = [(&PI_1, &APPLIED_1, 0xc201), (unknown, refusal, 0x0000)];
     for (frame, reply, pi) in rows {
-        let mut encoder = new_store_encoder(rt.alloc(), 1)?;
-        assert!(rt; replies(&mut encoder, frame, reply, true));
-        assert_eq!(rt; pi_of(encoder.target(), 1), Some(pi));
+        let mut encoder = store_encoder(&rt, rt.alloc(), 1);
+        holds!(rt; replies(&mut encoder, frame, reply, true));
+        same!(rt; pi_of(encoder.target(), 1), Some(pi));
     }
-    Ok(())
 }
 
 /// The second message comes before and after the first.
 fn waits_for_the_first(rt: &impl Abort, encoder: &mut Encoder<RdsStore>) {
-    assert!(rt; matches!(encoder.feed(&PI_2).what, What::NotNext));
-    assert_eq!(rt; pi_of(encoder.target(), 1), Some(0));
-    assert!(rt; replies(encoder, &EMPTY_1, &APPLIED_1, true));
-    assert!(rt; replies(encoder, &PI_2, &APPLIED_2, true));
-    assert_eq!(rt; pi_of(encoder.target(), 1), Some(0xfeff));
+    holds!(rt; matches!(encoder.feed(&PI_2).what, What::NotNext));
+    same!(rt; pi_of(encoder.target(), 1), Some(0));
+    holds!(rt; replies(encoder, &EMPTY_1, &APPLIED_1, true));
+    holds!(rt; replies(encoder, &PI_2, &APPLIED_2, true));
+    same!(rt; pi_of(encoder.target(), 1), Some(0xfeff));
 }
 
 #[test]
-fn a_second_message_waits_for_the_first(rt: HostRuntime) -> Result<(), Fail> {
-    let mut encoder = new_store_encoder(rt.alloc(), 1)?;
+fn a_second_message_waits_for_the_first(rt: HostRuntime) {
+    let mut encoder = store_encoder(&rt, rt.alloc(), 1);
     waits_for_the_first(&rt, &mut encoder);
-    Ok(())
 }
 
 /// Five damaged frames come, and then two whole ones.
@@ -70,56 +70,48 @@ fn drops_what_is_damaged(rt: &impl Abort, encoder: &mut Encoder<RdsStore>) {
     ];
     for (bytes, fault) in rows {
         let answer = encoder.feed(bytes);
-        assert!(rt; matches!(answer.what, What::Dropped(found) if found == fault));
+        holds!(rt; matches!(answer.what, What::Dropped(found) if found == fault));
     }
-    assert_eq!(rt; encoder.counts().dropped, 5);
-    assert_eq!(rt; pi_of(encoder.target(), 1), Some(0));
+    same!(rt; encoder.counts().dropped, 5);
+    same!(rt; pi_of(encoder.target(), 1), Some(0));
     // Nothing was kept for the counters that stood in them.
-    assert!(rt; replies(encoder, &PI_1, &APPLIED_1, true));
-    assert!(rt; replies(encoder, &PI_2, &APPLIED_2, true));
+    holds!(rt; replies(encoder, &PI_1, &APPLIED_1, true));
+    holds!(rt; replies(encoder, &PI_2, &APPLIED_2, true));
 }
 
 #[test]
-fn damaged_frames_are_dropped_and_counted(rt: HostRuntime) -> Result<(), Fail> {
-    let mut encoder = new_store_encoder(rt.alloc(), 1)?;
+fn damaged_frames_are_dropped_and_counted(rt: HostRuntime) {
+    let mut encoder = store_encoder(&rt, rt.alloc(), 1);
     drops_what_is_damaged(&rt, &mut encoder);
-    Ok(())
 }
 
 /// A segment is open when a frame begins, and the frame comes in pieces of one byte.
 fn comes_byte_by_byte(rt: &impl Abort, encoder: &mut Encoder<RdsStore>) {
     for byte in [0xfe, 0x00, 0x41] {
-        assert!(rt; matches!(encoder.feed(&[byte]).what, What::Nothing));
+        holds!(rt; matches!(encoder.feed(&[byte]).what, What::Nothing));
     }
-    assert!(rt;
-        matches!(
-            encoder.feed(&[0xfe]).what,
-            What::Dropped(FrameFault::Unended)
-        )
-    );
+    holds!(rt; matches!(encoder.feed(&[0xfe]).what, What::Dropped(FrameFault::Unended)));
     for place in 1..12 {
-        assert!(rt; matches!(encoder.feed(&[PI_1[place]]).what, What::Nothing));
+        holds!(rt; matches!(encoder.feed(&[PI_1[place]]).what, What::Nothing));
     }
-    assert!(rt; replies(encoder, &[0xff], &APPLIED_1, true));
-    assert_eq!(rt; pi_of(encoder.target(), 1), Some(0xc201));
+    holds!(rt; replies(encoder, &[0xff], &APPLIED_1, true));
+    same!(rt; pi_of(encoder.target(), 1), Some(0xc201));
 }
 
 #[test]
-fn a_frame_begun_in_an_open_segment_comes_byte_by_byte(rt: HostRuntime) -> Result<(), Fail> {
-    let mut encoder = new_store_encoder(rt.alloc(), 1)?;
+fn a_frame_begun_in_an_open_segment_comes_byte_by_byte(rt: HostRuntime) {
+    let mut encoder = store_encoder(&rt, rt.alloc(), 1);
     comes_byte_by_byte(&rt, &mut encoder);
-    Ok(())
 }
 
 #[test]
-fn out_of_order_unnumbered_for_another_and_for_all(rt: HostRuntime) -> Result<(), Fail> {
-    let mut encoder = new_store_encoder(rt.alloc(), 1)?;
+fn out_of_order_unnumbered_for_another_and_for_all(rt: HostRuntime) {
+    let mut encoder = store_encoder(&rt, rt.alloc(), 1);
     let seventh = b"\xFE\x00\x41\x07\x00\xC8\x35\xFF";
-    assert!(rt; matches!(encoder.feed(seventh).what, What::NotNext));
-    assert!(rt; matches!(encoder.feed(&EMPTY_0).what, What::Unnumbered));
-    assert!(rt; matches!(encoder.feed(&EMPTY_1_FOR_ANOTHER).what, What::NotForMe));
-    assert!(rt; replies(&mut encoder, &EMPTY_1_FOR_ALL, &APPLIED_1, true));
-    Ok(())
+    holds!(rt; matches!(encoder.feed(seventh).what, What::NotNext));
+    holds!(rt; matches!(encoder.feed(&EMPTY_0).what, What::Unnumbered));
+    holds!(rt; matches!(encoder.feed(&EMPTY_1_FOR_ANOTHER).what, What::NotForMe));
+    holds!(rt; replies(&mut encoder, &EMPTY_1_FOR_ALL, &APPLIED_1, true));
 }
 
 /// An encoder of two data sets with nothing kept answers each code, and its store is as the messages make it.
@@ -141,21 +133,17 @@ fn gives_each_code(rt: &impl Abort, encoder: &mut Encoder<RdsStore>) {
         (14, &[0x18, 0x00, 0x01], 0x09),
     ];
     for (counter, message, code) in rows {
-        assert!(rt; comes_to(encoder, counter, message, code));
+        holds!(rt; comes_to(encoder, counter, message, code));
     }
     let store = encoder.target();
-    assert_eq!(rt;
-        (pi_of(store, 1), pi_of(store, 2)),
-        (Some(0x1111), Some(0xabcd))
-    );
-    assert_eq!(rt; (store.current(), texts_of(store, 1)), (2, Some(0)));
+    same!(rt; (pi_of(store, 1), pi_of(store, 2)), (Some(0x1111), Some(0xabcd)));
+    same!(rt; (store.current(), texts_of(store, 1)), (2, Some(0)));
 }
 
 #[test]
-fn each_code_comes_in_the_reply(rt: HostRuntime) -> Result<(), Fail> {
-    let mut encoder = new_store_encoder(rt.alloc(), 2)?;
+fn each_code_comes_in_the_reply(rt: HostRuntime) {
+    let mut encoder = store_encoder(&rt, rt.alloc(), 2);
     gives_each_code(&rt, &mut encoder);
-    Ok(())
 }
 
 #[test]
@@ -164,20 +152,20 @@ fn any_target_is_given_each_message_once(rt: HostRuntime) -> Result<(), Fail> {
     let mut encoder = match Encoder::new(rt.alloc(), own_address(), target) {
         Ok(encoder) => encoder,
         Err(fault) => {
-            assert_eq!(rt; fault.target, target);
+            same!(rt; fault.target, target);
             return Err("no memory".into());
         }
     };
-    assert_eq!(rt; encoder.counts(), Counts::default());
+    same!(rt; encoder.counts(), Counts::default());
     for fresh in [true, false, false] {
-        assert!(rt; replies(&mut encoder, &PI_1, &APPLIED_1, fresh));
+        holds!(rt; replies(&mut encoder, &PI_1, &APPLIED_1, fresh));
     }
-    assert!(rt; replies(&mut encoder, &EMPTY_2, &APPLIED_2, true));
+    holds!(rt; replies(&mut encoder, &EMPTY_2, &APPLIED_2, true));
     for frame in [EMPTY_0, EMPTY_1_FOR_ANOTHER, EMPTY_1_FOR_ANOTHER] {
-        assert_eq!(rt; encoder.feed(&frame).used, 8);
+        same!(rt; encoder.feed(&frame).used, 8);
     }
     let target = *encoder.target();
-    assert_eq!(rt; (target.messages, target.bytes), (2, 5));
+    same!(rt; (target.messages, target.bytes), (2, 5));
     let counts = Counts {
         fresh: 2,
         repeats: 2,
@@ -185,6 +173,6 @@ fn any_target_is_given_each_message_once(rt: HostRuntime) -> Result<(), Fail> {
         unnumbered: 1,
         dropped: 0,
     };
-    assert_eq!(rt; encoder.counts(), counts);
+    same!(rt; encoder.counts(), counts);
     Ok(())
 }

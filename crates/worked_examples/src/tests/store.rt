@@ -1,9 +1,10 @@
 mod memory;
 
+use crate::tests::asserting::{holds, same};
+use crate::tests::making::store_of;
 use faulty_devices::{ADD, pi_of, texts_of};
 use rds_store::{Group, RdsStore, StoreFault};
 use std::process::Abort;
-use std::test::Fail;
 use uecp_elements::{Code, Element};
 
 /// A message, and the code with which it is answered.
@@ -12,83 +13,78 @@ type Exchange<'a> = (&'a [u8], Code);
 /// The store answers each message with its code.
 fn answers(rt: &impl Abort, store: &mut RdsStore, exchanges: &[Exchange<'_>]) {
     for (message, code) in exchanges {
-        assert_eq!(rt; store.apply(message), *code);
+        same!(rt; store.apply(message), *code);
     }
 }
 
 #[test]
-fn one_full_set_refuses_a_text_for_all_sets(rt: HostRuntime) -> Result<(), Fail> {
-    let mut store = RdsStore::new(rt.alloc(), 2, &[0x01])?;
+fn one_full_set_refuses_a_text_for_all_sets(rt: HostRuntime) {
+    let mut store = store_of(&rt, rt.alloc(), 2, &[0x01]);
     let to_set_2 = [0x0a, 0x02, 0x00, 0x03, 0x40, 0x48, 0x49];
     for _ in 0..8 {
         answers(&rt, &mut store, &[(&to_set_2, Code::Applied)]);
     }
-    assert_eq!(rt; texts_of(&store, 2), Some(8));
+    same!(rt; texts_of(&store, 2), Some(8));
     let to_all = [0x0a, 0xff, 0x00, 0x03, 0x40, 0x48, 0x49];
     answers(&rt, &mut store, &[(&to_all, Code::BufferFull)]);
-    assert_eq!(rt; texts_of(&store, 1), Some(0));
-    assert_eq!(rt; texts_of(&store, 2), Some(8));
-    Ok(())
+    same!(rt; texts_of(&store, 1), Some(0));
+    same!(rt; texts_of(&store, 2), Some(8));
 }
 
 #[test]
-fn all_but_the_current_of_one_set_is_no_set_and_no_refusal(rt: HostRuntime) -> Result<(), Fail> {
-    let mut store = RdsStore::new(rt.alloc(), 1, &[0x01])?;
+fn all_but_the_current_of_one_set_is_no_set_and_no_refusal(rt: HostRuntime) {
+    let mut store = store_of(&rt, rt.alloc(), 1, &[0x01]);
     let exchanges: [Exchange<'_>; 3] = [
         (&[0x01, 0xfe, 0x00, 0x12, 0x34], Code::Applied),
         (&[0x01, 0xfe, 0x05, 0x12, 0x34], Code::Service),
         (&[0x07, 0xfe, 0x00, 0x20], Code::OutOfRange),
     ];
     answers(&rt, &mut store, &exchanges);
-    assert_eq!(rt; pi_of(&store, 1), Some(0));
-    Ok(())
+    same!(rt; pi_of(&store, 1), Some(0));
 }
 
 #[test]
-fn what_came_before_an_unknown_element_is_not_kept(rt: HostRuntime) -> Result<(), Fail> {
-    let mut store = RdsStore::new(rt.alloc(), 1, &[0x01])?;
+fn what_came_before_an_unknown_element_is_not_kept(rt: HostRuntime) {
+    let mut store = store_of(&rt, rt.alloc(), 1, &[0x01]);
     let message = [0x01, 0x00, 0x00, 0x12, 0x34, 0x99];
     answers(&rt, &mut store, &[(&message, Code::UnknownElement)]);
-    assert_eq!(rt; pi_of(&store, 1), Some(0));
-    Ok(())
+    same!(rt; pi_of(&store, 1), Some(0));
 }
 
 #[test]
-fn a_selection_acts_with_its_whole_message_or_not_at_all(rt: HostRuntime) -> Result<(), Fail> {
-    let mut store = RdsStore::new(rt.alloc(), 2, &[0x01])?;
+fn a_selection_acts_with_its_whole_message_or_not_at_all(rt: HostRuntime) {
+    let mut store = store_of(&rt, rt.alloc(), 2, &[0x01]);
     let refused = [
         0x1c, 0x02, 0x01, 0x00, 0x00, 0xab, 0xcd, 0x24, 0x20, 0x40, 0x00, 0x00, 0x00, 0x00,
     ];
     answers(&rt, &mut store, &[(&refused, Code::OutOfRange)]);
-    assert_eq!(rt; (store.current(), pi_of(&store, 2)), (1, Some(0)));
+    same!(rt; (store.current(), pi_of(&store, 2)), (1, Some(0)));
     let applied = [0x1c, 0x02, 0x01, 0x00, 0x00, 0x12, 0x34];
     answers(&rt, &mut store, &[(&applied, Code::Applied)]);
-    assert_eq!(rt; (store.current(), pi_of(&store, 2)), (2, Some(0x1234)));
+    same!(rt; (store.current(), pi_of(&store, 2)), (2, Some(0x1234)));
     answers(&rt, &mut store, &[(&refused, Code::OutOfRange)]);
-    assert_eq!(rt; (store.current(), pi_of(&store, 2)), (2, Some(0x1234)));
-    Ok(())
+    same!(rt; (store.current(), pi_of(&store, 2)), (2, Some(0x1234)));
 }
 
 #[test]
-fn texts_of_one_message_are_added_all_or_none(rt: HostRuntime) -> Result<(), Fail> {
-    let mut store = RdsStore::new(rt.alloc(), 1, &[0x01])?;
+fn texts_of_one_message_are_added_all_or_none(rt: HostRuntime) {
+    let mut store = store_of(&rt, rt.alloc(), 1, &[0x01]);
     let nine = [ADD; 9];
     let eight = [ADD; 8];
     answers(&rt, &mut store, &[(nine.as_flattened(), Code::BufferFull)]);
-    assert_eq!(rt; texts_of(&store, 1), Some(0));
+    same!(rt; texts_of(&store, 1), Some(0));
     answers(&rt, &mut store, &[(eight.as_flattened(), Code::Applied)]);
-    assert_eq!(rt; texts_of(&store, 1), Some(8));
+    same!(rt; texts_of(&store, 1), Some(8));
     let empty_and_add = [
         0x0a, 0x00, 0x00, 0x00, 0x0a, 0x00, 0x00, 0x03, 0x40, 0x48, 0x49,
     ];
     answers(&rt, &mut store, &[(&empty_and_add, Code::Applied)]);
-    assert_eq!(rt; texts_of(&store, 1), Some(1));
-    Ok(())
+    same!(rt; texts_of(&store, 1), Some(1));
 }
 
 #[test]
-fn groups_of_a_refused_message_leave_the_queue(rt: HostRuntime) -> Result<(), Fail> {
-    let mut store = RdsStore::new(rt.alloc(), 1, &[0x01])?;
+fn groups_of_a_refused_message_leave_the_queue(rt: HostRuntime) {
+    let mut store = store_of(&rt, rt.alloc(), 1, &[0x01]);
     let add = [0x24, 0x04, 0x41, 0x12, 0x34, 0x56, 0x78];
     let add_replace_and_fail = [
         0x24, 0x06, 0x40, 0x00, 0x01, 0x00, 0x02, 0x24, 0x06, 0x00, 0x00, 0x03, 0x00, 0x04, 0x99,
@@ -104,8 +100,7 @@ fn groups_of_a_refused_message_leave_the_queue(rt: HostRuntime) -> Result<(), Fa
         block3: 0x1234,
         block4: 0x5678,
     };
-    assert_eq!(rt; store.groups(), [group].as_slice());
-    Ok(())
+    same!(rt; store.groups(), [group].as_slice());
 }
 
 /// Texts that a set takes, and texts that it refuses.
@@ -124,15 +119,14 @@ fn takes_and_refuses_texts(rt: &impl Abort, store: &mut RdsStore) {
     ];
     for (exchange, texts) in exchanges {
         answers(rt, store, &[exchange]);
-        assert_eq!(rt; texts_of(store, 1), Some(texts));
+        same!(rt; texts_of(store, 1), Some(texts));
     }
 }
 
 #[test]
-fn texts_that_are_empty_removed_cut_or_of_a_wrong_rule(rt: HostRuntime) -> Result<(), Fail> {
-    let mut store = RdsStore::new(rt.alloc(), 1, &[0x01])?;
+fn texts_that_are_empty_removed_cut_or_of_a_wrong_rule(rt: HostRuntime) {
+    let mut store = store_of(&rt, rt.alloc(), 1, &[0x01]);
     takes_and_refuses_texts(&rt, &mut store);
-    Ok(())
 }
 
 /// Groups fill the queue, and then one that stands alone takes the place of all.
@@ -146,9 +140,9 @@ fn fills_its_queue(rt: &impl Abort, store: &mut RdsStore) {
     };
     for count in 1..33 {
         answers(rt, store, &[(&add, Code::Applied)]);
-        assert_eq!(rt; store.groups().len(), count);
+        same!(rt; store.groups().len(), count);
     }
-    assert_eq!(rt; store.groups().first().copied(), Some(group));
+    same!(rt; store.groups().first().copied(), Some(group));
     let late: [Exchange<'_>; 2] = [
         (&add, Code::BufferFull),
         (
@@ -157,31 +151,30 @@ fn fills_its_queue(rt: &impl Abort, store: &mut RdsStore) {
         ),
     ];
     answers(rt, store, &late);
-    assert_eq!(rt; store.groups().len(), 32);
+    same!(rt; store.groups().len(), 32);
     let alone = [0x24, 0x00, 0x03, 0x12, 0x34, 0x56, 0x78];
     answers(rt, store, &[(&alone, Code::Applied)]);
-    assert_eq!(rt; store.groups(), [group].as_slice());
+    same!(rt; store.groups(), [group].as_slice());
 }
 
 #[test]
-fn groups_up_to_the_last_that_there_is_room_for(rt: HostRuntime) -> Result<(), Fail> {
-    let mut store = RdsStore::new(rt.alloc(), 1, &[0x01])?;
+fn groups_up_to_the_last_that_there_is_room_for(rt: HostRuntime) {
+    let mut store = store_of(&rt, rt.alloc(), 1, &[0x01]);
     fills_its_queue(&rt, &mut store);
-    Ok(())
 }
 
 #[test]
-fn sets_that_are_selected_named_or_not_there(rt: HostRuntime) -> Result<(), Fail> {
-    let mut store = RdsStore::new(rt.alloc(), 2, &[0x01])?;
+fn sets_that_are_selected_named_or_not_there(rt: HostRuntime) {
+    let mut store = store_of(&rt, rt.alloc(), 2, &[0x01]);
     let named: [Exchange<'_>; 3] = [
         (&[0x1c, 0x02], Code::Applied),
         (&[0x01, 0x00, 0x00, 0xab, 0xcd], Code::Applied),
         (&[0x01, 0xfe, 0x00, 0x11, 0x11], Code::Applied),
     ];
     answers(&rt, &mut store, &named);
-    assert_eq!(rt; store.current(), 2);
-    assert_eq!(rt; pi_of(&store, 2), Some(0xabcd));
-    assert_eq!(rt; pi_of(&store, 1), Some(0x1111));
+    same!(rt; store.current(), 2);
+    same!(rt; pi_of(&store, 2), Some(0xabcd));
+    same!(rt; pi_of(&store, 1), Some(0x1111));
     let refused: [Exchange<'_>; 7] = [
         (&[0x1c, 0x03], Code::DataSet),
         (&[0x1c, 0xfe], Code::DataSet),
@@ -192,12 +185,11 @@ fn sets_that_are_selected_named_or_not_there(rt: HostRuntime) -> Result<(), Fail
         (&[0x18, 0x00, 0x01], Code::NotHere),
     ];
     answers(&rt, &mut store, &refused);
-    assert_eq!(rt; store.current(), 2);
-    Ok(())
+    same!(rt; store.current(), 2);
 }
 
 #[test]
-fn sets_and_services_that_make_no_store(rt: HostRuntime) -> Result<(), Fail> {
+fn sets_and_services_that_make_no_store(rt: HostRuntime) {
     let faults: [(u8, &[u8], StoreFault, u8, &str); 4] = [
         (9, &[], StoreFault::SetCount, 1, "SetCount"),
         (1, &[], StoreFault::ServiceCount, 2, "ServiceCount"),
@@ -205,37 +197,29 @@ fn sets_and_services_that_make_no_store(rt: HostRuntime) -> Result<(), Fail> {
         (1, &[1, 1], StoreFault::ServiceTwice, 4, "ServiceTwice"),
     ];
     for (sets, services, fault, number, name) in faults {
-        assert_eq!(rt;
-            RdsStore::new(rt.alloc(), sets, services).err(),
-            Some(fault)
-        );
-        assert_eq!(rt; fault.number(), number);
-        assert_eq!(rt; fault.name(), name);
+        same!(rt; RdsStore::new(rt.alloc(), sets, services).err(), Some(fault));
+        same!(rt; fault.number(), number);
+        same!(rt; fault.name(), name);
     }
-    Ok(())
 }
 
 /// A new store of eight sets with services 05 and 02.
 fn is_new(rt: &impl Abort, store: &RdsStore) {
-    assert_eq!(rt; store.set_count(), 8);
-    assert_eq!(rt;
-        (store.service_number(0), store.service_number(1)),
-        (Some(0x05), Some(0x02))
-    );
-    assert_eq!(rt; store.service_number(2), None);
-    assert!(rt; store.service(1, 0x00).is_none() && store.service(9, 0x02).is_none());
+    same!(rt; store.set_count(), 8);
+    same!(rt; (store.service_number(0), store.service_number(1)), (Some(0x05), Some(0x02)));
+    same!(rt; store.service_number(2), None);
+    holds!(rt; store.service(1, 0x00).is_none() && store.service(9, 0x02).is_none());
     let new = store.service(8, 0x02).expect(rt, "service 02 of set 8");
-    assert_eq!(rt; (new.pi(), new.pty(), new.texts().len()), (0, 0, 0));
-    assert_eq!(rt; new.ps(), b"        ");
-    assert!(rt; !new.tp() && !new.ta() && !new.music() && store.groups().is_empty());
-    assert_eq!(rt; store.current(), 1);
+    same!(rt; (new.pi(), new.pty(), new.texts().len()), (0, 0, 0));
+    same!(rt; new.ps(), b"        ");
+    holds!(rt; !new.tp() && !new.ta() && !new.music() && store.groups().is_empty());
+    same!(rt; store.current(), 1);
 }
 
 #[test]
-fn a_new_store_shows_its_sets_and_services(rt: HostRuntime) -> Result<(), Fail> {
-    let store = RdsStore::new(rt.alloc(), 8, &[0x05, 0x02])?;
+fn a_new_store_shows_its_sets_and_services(rt: HostRuntime) {
+    let store = store_of(&rt, rt.alloc(), 8, &[0x05, 0x02]);
     is_new(&rt, &store);
-    Ok(())
 }
 
 /// Elements for service 02 of set 8 tell its attributes.
@@ -251,29 +235,25 @@ fn shows_what_was_told(rt: &impl Abort, store: &mut RdsStore) {
     ];
     answers(rt, store, &exchanges);
     let select = Element::Select { dsn: 0x08 };
-    assert_eq!(rt; store.apply_element(&select), Code::Applied);
-    assert_eq!(rt; store.current(), 8);
+    same!(rt; store.apply_element(&select), Code::Applied);
+    same!(rt; store.current(), 8);
     let shown = store.service(8, 0x02).expect(rt, "service 02 of set 8");
-    assert_eq!(rt; shown.ps(), b"RADIO 1 ");
-    assert_eq!(rt;
-        (shown.tp(), shown.ta(), shown.music(), shown.pty()),
-        (false, true, true, 0x1f)
-    );
+    same!(rt; shown.ps(), b"RADIO 1 ");
+    same!(rt; (shown.tp(), shown.ta(), shown.music(), shown.pty()), (false, true, true, 0x1f));
     let text = shown.texts().first().expect(rt, "a text");
-    assert_eq!(rt; (text.toggle(), text.transmissions()), (true, 15));
-    assert_eq!(rt; text.text(), b"HI".as_slice());
+    same!(rt; (text.toggle(), text.transmissions()), (true, 15));
+    same!(rt; text.text(), b"HI".as_slice());
 }
 
 #[test]
-fn a_service_shows_what_its_elements_told(rt: HostRuntime) -> Result<(), Fail> {
-    let mut store = RdsStore::new(rt.alloc(), 8, &[0x05, 0x02])?;
+fn a_service_shows_what_its_elements_told(rt: HostRuntime) {
+    let mut store = store_of(&rt, rt.alloc(), 8, &[0x05, 0x02]);
     shows_what_was_told(&rt, &mut store);
-    Ok(())
 }
 
 /// Groups are queued and taken, and some are undone.
 fn gives_its_groups(rt: &impl Abort, store: &mut RdsStore) {
-    assert_eq!(rt; store.take_group(), None);
+    same!(rt; store.take_group(), None);
     for kind in 0..3u8 {
         answers(
             rt,
@@ -281,23 +261,20 @@ fn gives_its_groups(rt: &impl Abort, store: &mut RdsStore) {
             &[(&[0x24, kind, 0x40, 0, 0, 0, 0], Code::Applied)],
         );
     }
-    assert_eq!(rt; store.take_group().map(|group| group.kind), Some(0));
+    same!(rt; store.take_group().map(|group| group.kind), Some(0));
     // A group that stands alone, and then an unknown element: the message is undone, up to the take before it.
     let refused: &[u8] = &[0x24, 0x05, 0x00, 0, 0, 0, 0, 0x99];
     answers(rt, store, &[(refused, Code::UnknownElement)]);
-    assert_eq!(rt; store.groups().len(), 2);
-    assert_eq!(rt; store.take_group().map(|group| group.kind), Some(1));
-    assert_eq!(rt; store.take_group().map(|group| group.kind), Some(2));
-    assert_eq!(rt; store.take_group(), None);
+    same!(rt; store.groups().len(), 2);
+    same!(rt; store.take_group().map(|group| group.kind), Some(1));
+    same!(rt; store.take_group().map(|group| group.kind), Some(2));
+    same!(rt; store.take_group(), None);
     answers(rt, store, &[(refused, Code::UnknownElement)]);
-    assert!(rt; store.groups().is_empty());
+    holds!(rt; store.groups().is_empty());
 }
 
 #[test]
-fn groups_are_taken_one_by_one_and_a_refused_message_brings_none_back(
-    rt: HostRuntime,
-) -> Result<(), Fail> {
-    let mut store = RdsStore::new(rt.alloc(), 1, &[0x01])?;
+fn groups_are_taken_one_by_one_and_a_refused_message_brings_none_back(rt: HostRuntime) {
+    let mut store = store_of(&rt, rt.alloc(), 1, &[0x01]);
     gives_its_groups(&rt, &mut store);
-    Ok(())
 }

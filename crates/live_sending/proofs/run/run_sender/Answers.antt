@@ -9,10 +9,10 @@ returns-in_err-settle_first-clause-runs g c =
     let same : c.from_residual-in_err-settle_first.result ≡ Err stop = search rules in
     let y : Live (SenderOver g.row.C.Denot g.row.C-Input.Denot g.row.C-Output.Denot) g.row.K.Denot = record {
       sends = record {
-        runs = c.join_if.new.sender;
-        keeper = c.join_if.new.keeper;
-        progress = c.join_if.new.progress;
-        held = g.W.Write.contents c.join_if.new.writer;
+        runs = c.make_if.new.sender;
+        keeper = c.make_if.new.keeper;
+        progress = c.make_if.new.progress;
+        held = g.W.Write.contents c.make_if.new.writer;
       };
       takes = record {
         unread = g.F.Feed.remaining c.args.feed.now;
@@ -20,18 +20,23 @@ returns-in_err-settle_first-clause-runs g c =
         refused = c.args.tally.now.refused;
         said = g.E.Write.contents c.args.errors.now;
       };
-      applied = c.args.applied.now;
+      applied = c.make_if.new.applied;
+      unknown = c.args.unknown.now;
     } in
-    inl (y, (c.in_ok-join_if.ensures.joins, refl), inr (stop, (c.in_err-settle_first.ensures.settles, refl), same))
+    inl (
+      y,
+      (c.in_ok-make_if.ensures.makes, refl, refl),
+      inr (stop, (c.in_err-settle_first.ensures.settles, refl), same),
+    )
 
 pub returns-clause-runs : goal.returns-clause-runs
 returns-clause-runs g c =
     let y : Live (SenderOver g.row.C.Denot g.row.C-Input.Denot g.row.C-Output.Denot) g.row.K.Denot = record {
       sends = record {
-        runs = c.join_if.new.sender;
-        keeper = c.join_if.new.keeper;
-        progress = c.join_if.new.progress;
-        held = g.W.Write.contents c.join_if.new.writer;
+        runs = c.make_if.new.sender;
+        keeper = c.make_if.new.keeper;
+        progress = c.make_if.new.progress;
+        held = g.W.Write.contents c.make_if.new.writer;
       };
       takes = record {
         unread = g.F.Feed.remaining c.args.feed.now;
@@ -39,13 +44,14 @@ returns-clause-runs g c =
         refused = c.args.tally.now.refused;
         said = g.E.Write.contents c.args.errors.now;
       };
-      applied = c.args.applied.now;
+      applied = c.make_if.new.applied;
+      unknown = c.args.unknown.now;
     } in
     let z : Live (SenderOver g.row.C.Denot g.row.C-Input.Denot g.row.C-Output.Denot) g.row.K.Denot = record {
       sends = record {
         runs = c.settle_first.new.sender;
         keeper = c.settle_first.new.keeper;
-        progress = c.join_if.new.progress;
+        progress = c.make_if.new.progress;
         held = g.W.Write.contents c.settle_first.new.writer;
       };
       takes = record {
@@ -55,10 +61,11 @@ returns-clause-runs g c =
         said = g.E.Write.contents c.args.errors.now;
       };
       applied = c.settle_first.new.applied;
+      unknown = c.settle_first.new.unknown;
     } in
     inl (
       y,
-      (c.in_ok-join_if.ensures.joins, refl),
+      (c.in_ok-make_if.ensures.makes, refl, refl),
       inl (
         z,
         (c.in_ok-settle_first.ensures.settles, refl),

@@ -25,6 +25,7 @@ invariant-loop-turn g l =
               said = g.E.Write.contents l.fn.errors;
             };
             applied = l.fn.applied;
+            unknown = l.fn.unknown;
           }) (record {
             sends = record {
               runs = l.sender;
@@ -39,5 +40,6 @@ invariant-loop-turn g l =
               said = g.E.Write.contents l.errors;
             };
             applied = l.applied;
+            unknown = l.unknown;
           });
     }

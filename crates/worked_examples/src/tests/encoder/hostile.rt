@@ -1,8 +1,9 @@
 //! Bytes in which no frame stands.
 use super::PI_1;
+use crate::tests::asserting::{holds, same};
+use crate::tests::making::count_encoder;
 use faulty_devices::{
-    APPLIED_1, CountTarget, KNOWN_FRAMES, altered, comes_to, holds_no_frame, new_encoder, replies,
-    spelling_of,
+    APPLIED_1, CountTarget, KNOWN_FRAMES, altered, comes_to, holds_no_frame, replies, spelling_of,
 };
 use std::alloc::Global;
 use std::process::Abort;
@@ -19,10 +20,10 @@ fn hears<T: Target>(encoder: &mut Encoder<T>, bytes: &[u8]) {
 }
 
 /// An encoder that counts, which has applied one message, under counter 01.
-fn with_one_message(rt: &impl Abort, alloc: Global) -> Result<Encoder<CountTarget>, Fail> {
-    let mut encoder = new_encoder(alloc, CountTarget::default())?;
-    assert!(rt; replies(&mut encoder, &PI_1, &APPLIED_1, true));
-    Ok(encoder)
+fn with_one_message(rt: &impl Abort, alloc: Global) -> Encoder<CountTarget> {
+    let mut encoder = count_encoder(rt, alloc);
+    holds!(rt; replies(&mut encoder, &PI_1, &APPLIED_1, true));
+    encoder
 }
 
 /// Hears one place of the bytes with each value, where that leaves no frame, and then loses the line. Its target stays.
@@ -39,7 +40,7 @@ fn hears_altered(
         if holds_no_frame(alloc, hostile.as_slice())? {
             hears(encoder, hostile.as_slice());
             encoder.line_lost();
-            assert_eq!(rt; *encoder.target(), before, "{place} {value}");
+            same!(rt; *encoder.target(), before, (place, value));
         }
     }
     Ok(())
@@ -49,7 +50,7 @@ fn hears_altered(
 fn bytes_without_a_frame_change_neither_target_nor_kept_replies(
     rt: HostRuntime,
 ) -> Result<(), Fail> {
-    let mut encoder = with_one_message(&rt, rt.alloc())?;
+    let mut encoder = with_one_message(&rt, rt.alloc());
     for line in KNOWN_FRAMES.lines() {
         let bytes = spelling_of(line).ok_or("no spelling")?;
         for place in 0..bytes.len() {
@@ -62,11 +63,11 @@ fn bytes_without_a_frame_change_neither_target_nor_kept_replies(
         dropped: counts.dropped,
         ..Counts::default()
     };
-    assert_eq!(rt; counts, expected);
+    same!(rt; counts, expected);
     // One kept reply more, and the first would be gone after these.
     for counter in 0x02..0x80 {
-        assert!(rt; comes_to(&mut encoder, counter, &[], 0x00));
+        holds!(rt; comes_to(&mut encoder, counter, &[], 0x00));
     }
-    assert!(rt; replies(&mut encoder, &PI_1, &APPLIED_1, false));
+    holds!(rt; replies(&mut encoder, &PI_1, &APPLIED_1, false));
     Ok(())
 }

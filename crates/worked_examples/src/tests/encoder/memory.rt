@@ -1,8 +1,9 @@
 //! An encoder where memory is wanting.
 use super::{PI_1, gives_each_code};
+use crate::tests::asserting::{holds, same};
+use crate::tests::making::store_encoder;
 use faulty_devices::{
-    APPLIED_1, CountTarget, FaultyReader, FaultyWriter, ScarceMemory, new_store_encoder,
-    own_address, replies,
+    APPLIED_1, CountTarget, FaultyReader, FaultyWriter, ScarceMemory, own_address, replies,
 };
 use rds_store::RdsStore;
 use std::process::Abort;
@@ -21,11 +22,11 @@ fn a_new_encoder_hands_the_target_back_where_memory_is_wanting(
     for refused in 0..128 {
         match Encoder::new(rt.alloc(), own_address(), target) {
             Ok(mut encoder) => {
-                assert!(rt; replies(&mut encoder, &PI_1, &APPLIED_1, true));
-                assert!(rt; refused > 0, "never refused");
+                holds!(rt; replies(&mut encoder, &PI_1, &APPLIED_1, true));
+                holds!(rt; refused > 0);
                 return Ok(());
             }
-            Err(fault) => assert_eq!(rt; fault.target, target),
+            Err(fault) => same!(rt; fault.target, target),
         }
         memory.give();
     }
@@ -35,14 +36,14 @@ fn a_new_encoder_hands_the_target_back_where_memory_is_wanting(
 /// A repeat comes many times, and behind each a segment that is dropped.
 fn comes_again(rt: &impl Abort, encoder: &mut Encoder<RdsStore>) {
     for _ in 0..10_000 {
-        assert!(rt; replies(encoder, &PI_1, &APPLIED_1, false));
-        assert_eq!(rt; encoder.feed(b"\xFE\x00\xFF\xFE").used, 3);
+        holds!(rt; replies(encoder, &PI_1, &APPLIED_1, false));
+        same!(rt; encoder.feed(b"\xFE\x00\xFF\xFE").used, 3);
     }
 }
 
 #[test]
 fn an_encoder_takes_no_memory_for_what_it_hears(rt: HostRuntime) -> Result<(), Fail> {
-    let mut encoder = new_store_encoder(rt.alloc(), 2)?;
+    let mut encoder = store_encoder(&rt, rt.alloc(), 2);
     let mut input = Meter::new(FaultyReader::new(&PI_1));
     let mut output = Meter::new(FaultyWriter::new());
     let _memory = ScarceMemory::take_all(rt.alloc(), 0)?;
@@ -53,6 +54,6 @@ fn an_encoder_takes_no_memory_for_what_it_hears(rt: HostRuntime) -> Result<(), F
         read: 13,
         replies: 1,
     };
-    assert_eq!(rt; served, Ok(one));
+    same!(rt; served, Ok(one));
     Ok(())
 }

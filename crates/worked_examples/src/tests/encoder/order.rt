@@ -1,10 +1,9 @@
 //! Messages that come in the order of their counters, and out of it.
 use super::EMPTY_0;
-use faulty_devices::{
-    ADD, CountTarget, comes_to, framed, new_encoder, new_store_encoder, texts_of,
-};
+use crate::tests::asserting::{holds, same};
+use crate::tests::making::{count_encoder, store_encoder};
+use faulty_devices::{ADD, comes_to, framed, texts_of};
 use std::process::Abort;
-use std::test::Fail;
 use uecp_encoder::{Counts, Encoder, Target, What};
 
 /// Sends a text under a counter that is not the next: there is no reply, and nothing is counted.
@@ -12,9 +11,9 @@ fn is_not_next<T: Target>(rt: &impl Abort, encoder: &mut Encoder<T>, counter: u8
     let frame = framed(counter, &ADD);
     let before = encoder.counts();
     let answer = encoder.feed(frame.as_slice());
-    assert_eq!(rt; answer.used, frame.len());
-    assert!(rt; matches!(answer.what, What::NotNext));
-    assert_eq!(rt; encoder.counts(), before);
+    same!(rt; answer.used, frame.len());
+    holds!(rt; matches!(answer.what, What::NotNext));
+    same!(rt; encoder.counts(), before);
 }
 
 /// Whatever comes first, and however often, counter 01 is the first that is taken.
@@ -23,7 +22,7 @@ fn begins_with_01<T: Target>(rt: &impl Abort, encoder: &mut Encoder<T>) {
         is_not_next(rt, encoder, counter);
         is_not_next(rt, encoder, counter);
     }
-    assert!(rt; comes_to(encoder, 1, &ADD, 0x00));
+    holds!(rt; comes_to(encoder, 1, &ADD, 0x00));
 }
 
 /// After 01, whatever is ahead of 02 is not taken, and no reply to it is kept: it is applied later, in its turn.
@@ -33,66 +32,56 @@ fn waits_for_02<T: Target>(rt: &impl Abort, encoder: &mut Encoder<T>) {
         is_not_next(rt, encoder, counter);
     }
     for counter in 2..=4 {
-        assert!(rt; comes_to(encoder, counter, &ADD, 0x00));
+        holds!(rt; comes_to(encoder, counter, &ADD, 0x00));
     }
 }
 
 #[test]
-fn a_store_waits_for_each_message_in_its_turn(rt: HostRuntime) -> Result<(), Fail> {
-    let mut encoder = new_store_encoder(rt.alloc(), 1)?;
+fn a_store_waits_for_each_message_in_its_turn(rt: HostRuntime) {
+    let mut encoder = store_encoder(&rt, rt.alloc(), 1);
     begins_with_01(&rt, &mut encoder);
-    assert_eq!(rt; texts_of(encoder.target(), 1), Some(1));
+    same!(rt; texts_of(encoder.target(), 1), Some(1));
     waits_for_02(&rt, &mut encoder);
-    assert_eq!(rt; texts_of(encoder.target(), 1), Some(4));
+    same!(rt; texts_of(encoder.target(), 1), Some(4));
     let fresh = Counts {
         fresh: 4,
         ..Counts::default()
     };
-    assert_eq!(rt; encoder.counts(), fresh);
-    Ok(())
+    same!(rt; encoder.counts(), fresh);
 }
 
 #[test]
-fn any_target_waits_for_each_message_in_its_turn(rt: HostRuntime) -> Result<(), Fail> {
-    let mut encoder = new_encoder(rt.alloc(), CountTarget::default())?;
+fn any_target_waits_for_each_message_in_its_turn(rt: HostRuntime) {
+    let mut encoder = count_encoder(&rt, rt.alloc());
     begins_with_01(&rt, &mut encoder);
-    assert_eq!(rt; encoder.target().messages, 1);
+    same!(rt; encoder.target().messages, 1);
     waits_for_02(&rt, &mut encoder);
-    assert_eq!(rt;
-        (encoder.target().messages, encoder.target().bytes),
-        (4, 28)
-    );
-    Ok(())
+    same!(rt; (encoder.target().messages, encoder.target().bytes), (4, 28));
 }
 
 /// The counters 01 to FF in turn are the next each, and after FF comes 01: neither 00 nor 02.
 fn counts_to_ff_and_on<T: Target>(rt: &impl Abort, encoder: &mut Encoder<T>) {
     for counter in 1..=255 {
-        assert!(rt; comes_to(encoder, counter, &[], 0x00));
+        holds!(rt; comes_to(encoder, counter, &[], 0x00));
     }
-    assert!(rt; matches!(encoder.feed(&EMPTY_0).what, What::Unnumbered));
+    holds!(rt; matches!(encoder.feed(&EMPTY_0).what, What::Unnumbered));
     is_not_next(rt, encoder, 2);
     for counter in 1..=255 {
-        assert!(rt; comes_to(encoder, counter, &[], 0x00));
+        holds!(rt; comes_to(encoder, counter, &[], 0x00));
     }
     is_not_next(rt, encoder, 2);
 }
 
 #[test]
-fn after_ff_comes_01_for_a_store(rt: HostRuntime) -> Result<(), Fail> {
-    let mut encoder = new_store_encoder(rt.alloc(), 1)?;
+fn after_ff_comes_01_for_a_store(rt: HostRuntime) {
+    let mut encoder = store_encoder(&rt, rt.alloc(), 1);
     counts_to_ff_and_on(&rt, &mut encoder);
-    assert_eq!(rt; texts_of(encoder.target(), 1), Some(0));
-    Ok(())
+    same!(rt; texts_of(encoder.target(), 1), Some(0));
 }
 
 #[test]
-fn after_ff_comes_01_for_any_target(rt: HostRuntime) -> Result<(), Fail> {
-    let mut encoder = new_encoder(rt.alloc(), CountTarget::default())?;
+fn after_ff_comes_01_for_any_target(rt: HostRuntime) {
+    let mut encoder = count_encoder(&rt, rt.alloc());
     counts_to_ff_and_on(&rt, &mut encoder);
-    assert_eq!(rt;
-        (encoder.target().messages, encoder.target().bytes),
-        (510, 0)
-    );
-    Ok(())
+    same!(rt; (encoder.target().messages, encoder.target().bytes), (510, 0));
 }

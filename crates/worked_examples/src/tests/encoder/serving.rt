@@ -1,39 +1,35 @@
 //! `serve` and its meters, over a reader and a writer that fail where they are told to.
 use super::PI_2;
-use faulty_devices::{
-    ADD_1, APPLIED_1, APPLIED_2, FaultyReader, FaultyWriter, new_store_encoder, pi_of, texts_of,
-};
+use crate::tests::asserting::same;
+use crate::tests::making::store_encoder;
+use faulty_devices::{ADD_1, APPLIED_1, APPLIED_2, FaultyReader, FaultyWriter, pi_of, texts_of};
 use rds_store::RdsStore;
 use std::alloc::Global;
 use std::process::Abort;
-use std::test::Fail;
 use uecp_encoder::{Encoder, Failed, Meter, ServeFault, Served, serve};
 
 #[test]
 fn a_meter_counts_calls_failures_and_empty_reads(rt: HostRuntime) {
     let mut reader = Meter::new(FaultyReader::new(b"abc").failing_at(&[1]));
     let mut buffer = [0u8; 8];
-    assert_eq!(rt; reader.read(&mut buffer), Err(Failed));
-    assert_eq!(rt; reader.read(&mut buffer), Ok(3));
-    assert_eq!(rt; reader.read(&mut buffer), Ok(0));
-    assert_eq!(rt;
-        (reader.calls(), reader.failures(), reader.empty()),
-        (3, 1, 1)
-    );
-    assert_eq!(rt; reader.into_inner().reads(), 3);
+    same!(rt; reader.read(&mut buffer), Err(Failed));
+    same!(rt; reader.read(&mut buffer), Ok(3));
+    same!(rt; reader.read(&mut buffer), Ok(0));
+    same!(rt; (reader.calls(), reader.failures(), reader.empty()), (3, 1, 1));
+    same!(rt; reader.into_inner().reads(), 3);
     let mut writer = Meter::new(
         FaultyWriter::new()
             .taking(2)
             .taking_none_at(&[2])
             .failing_at(&[3]),
     );
-    assert_eq!(rt; writer.write(b"abc"), Ok(2));
-    assert_eq!(rt; writer.write(b"abc"), Err(Failed));
-    assert_eq!(rt; writer.write(b"abc"), Err(Failed));
-    assert_eq!(rt; (writer.calls(), writer.failures()), (3, 2));
+    same!(rt; writer.write(b"abc"), Ok(2));
+    same!(rt; writer.write(b"abc"), Err(Failed));
+    same!(rt; writer.write(b"abc"), Err(Failed));
+    same!(rt; (writer.calls(), writer.failures()), (3, 2));
     let device = writer.into_inner();
-    assert_eq!(rt; (device.writes(), device.flushes()), (3, 0));
-    assert_eq!(rt; device.taken(), b"ab".as_slice());
+    same!(rt; (device.writes(), device.flushes()), (3, 0));
+    same!(rt; device.taken(), b"ab".as_slice());
 }
 
 #[test]
@@ -46,9 +42,9 @@ fn a_counted_read_is_one_read_of_the_device(rt: HostRuntime) {
     ];
     for (device, comes_to) in rows {
         let mut reader = Meter::new(device);
-        assert_eq!(rt; reader.read(&mut [0u8; 8]), comes_to);
+        same!(rt; reader.read(&mut [0u8; 8]), comes_to);
         let calls = reader.calls();
-        assert_eq!(rt; (calls, reader.into_inner().reads()), (1, 1));
+        same!(rt; (calls, reader.into_inner().reads()), (1, 1));
     }
 }
 
@@ -62,23 +58,23 @@ fn a_counted_write_is_one_write_of_the_device(rt: HostRuntime) {
     ];
     for (device, comes_to) in rows {
         let mut writer = Meter::new(device);
-        assert_eq!(rt; writer.write(b"abc"), comes_to);
+        same!(rt; writer.write(b"abc"), comes_to);
         let calls = writer.calls();
         let device = writer.into_inner();
-        assert_eq!(rt; (calls, device.writes(), device.flushes()), (1, 1, 0));
+        same!(rt; (calls, device.writes(), device.flushes()), (1, 1, 0));
     }
 }
 
 #[test]
 fn a_whole_write_says_where_it_stopped(rt: HostRuntime) {
     let mut writer = Meter::new(FaultyWriter::new().taking(2).failing_at(&[5]));
-    assert_eq!(rt; writer.write_whole(b""), Ok(()));
-    assert_eq!(rt; writer.write_whole(b"abc"), Ok(()));
-    assert_eq!(rt; writer.write_whole(b"defgh"), Err(4));
-    assert_eq!(rt; (writer.calls(), writer.failures()), (5, 1));
+    same!(rt; writer.write_whole(b""), Ok(()));
+    same!(rt; writer.write_whole(b"abc"), Ok(()));
+    same!(rt; writer.write_whole(b"defgh"), Err(4));
+    same!(rt; (writer.calls(), writer.failures()), (5, 1));
     let device = writer.into_inner();
-    assert_eq!(rt; (device.writes(), device.flushes()), (5, 0));
-    assert_eq!(rt; device.taken(), b"abcdefg".as_slice());
+    same!(rt; (device.writes(), device.flushes()), (5, 0));
+    same!(rt; device.taken(), b"abcdefg".as_slice());
 }
 
 /// A text is applied while its reply is cut short, and comes again.
@@ -86,32 +82,22 @@ fn replies_in_full(rt: &impl Abort, encoder: &mut Encoder<RdsStore>) {
     let mut narrow = Meter::new(FaultyWriter::new().taking(3).failing_at(&[2]));
     let mut input = Meter::new(FaultyReader::new(&ADD_1));
     let served = serve(encoder, &mut input, &mut narrow, 64);
-    assert_eq!(rt; served, Err(ServeFault::WriteFailed { written: 3 }));
-    assert_eq!(rt; texts_of(encoder.target(), 1), Some(1));
+    same!(rt; served, Err(ServeFault::WriteFailed { written: 3 }));
+    same!(rt; texts_of(encoder.target(), 1), Some(1));
     encoder.line_lost();
     let mut whole = Meter::new(FaultyWriter::new());
     let mut input = Meter::new(FaultyReader::new(&ADD_1).giving(4));
     let served = serve(encoder, &mut input, &mut whole, 64);
-    assert_eq!(rt;
-        served,
-        Ok(Served {
-            read: 15,
-            replies: 1
-        })
-    );
-    assert_eq!(rt;
-        serve(encoder, &mut input, &mut whole, 0),
-        Err(ServeFault::TurnsSpent)
-    );
-    assert_eq!(rt; whole.into_inner().taken(), APPLIED_1.as_slice());
-    assert_eq!(rt; texts_of(encoder.target(), 1), Some(1));
+    same!(rt; served, Ok(Served { read: 15, replies: 1 }));
+    same!(rt; serve(encoder, &mut input, &mut whole, 0), Err(ServeFault::TurnsSpent));
+    same!(rt; whole.into_inner().taken(), APPLIED_1.as_slice());
+    same!(rt; texts_of(encoder.target(), 1), Some(1));
 }
 
 #[test]
-fn a_reply_that_was_cut_short_is_given_again(rt: HostRuntime) -> Result<(), Fail> {
-    let mut encoder = new_store_encoder(rt.alloc(), 1)?;
+fn a_reply_that_was_cut_short_is_given_again(rt: HostRuntime) {
+    let mut encoder = store_encoder(&rt, rt.alloc(), 1);
     replies_in_full(&rt, &mut encoder);
-    Ok(())
 }
 
 /// The first read fails, and the second brings a text.
@@ -119,17 +105,16 @@ fn fails_to_read(rt: &impl Abort, encoder: &mut Encoder<RdsStore>) {
     let mut output = Meter::new(FaultyWriter::new());
     let mut input = Meter::new(FaultyReader::new(&ADD_1).failing_at(&[1]));
     let served = serve(encoder, &mut input, &mut output, 1);
-    assert_eq!(rt; served, Err(ServeFault::ReadFailed));
+    same!(rt; served, Err(ServeFault::ReadFailed));
     let served = serve(encoder, &mut input, &mut output, 1);
-    assert_eq!(rt; served, Err(ServeFault::TurnsSpent));
-    assert_eq!(rt; output.into_inner().taken(), APPLIED_1.as_slice());
+    same!(rt; served, Err(ServeFault::TurnsSpent));
+    same!(rt; output.into_inner().taken(), APPLIED_1.as_slice());
 }
 
 #[test]
-fn a_failed_read_ends_the_call_and_loses_nothing(rt: HostRuntime) -> Result<(), Fail> {
-    let mut encoder = new_store_encoder(rt.alloc(), 1)?;
+fn a_failed_read_ends_the_call_and_loses_nothing(rt: HostRuntime) {
+    let mut encoder = store_encoder(&rt, rt.alloc(), 1);
     fails_to_read(&rt, &mut encoder);
-    Ok(())
 }
 
 /// The second message comes before and after the first.
@@ -143,20 +128,16 @@ fn comes_out_of_its_turn(rt: &impl Abort, encoder: &mut Encoder<RdsStore>) {
             read: 15,
             replies: if reply.is_empty() { 0 } else { 1 },
         };
-        assert_eq!(rt; served, Ok(all));
-        assert_eq!(rt; output.into_inner().taken(), reply);
+        same!(rt; served, Ok(all));
+        same!(rt; output.into_inner().taken(), reply);
     }
-    assert_eq!(rt;
-        (texts_of(encoder.target(), 1), pi_of(encoder.target(), 1)),
-        (Some(1), Some(0xfeff))
-    );
+    same!(rt; (texts_of(encoder.target(), 1), pi_of(encoder.target(), 1)), (Some(1), Some(0xfeff)));
 }
 
 #[test]
-fn a_frame_out_of_its_turn_gets_no_reply(rt: HostRuntime) -> Result<(), Fail> {
-    let mut encoder = new_store_encoder(rt.alloc(), 1)?;
+fn a_frame_out_of_its_turn_gets_no_reply(rt: HostRuntime) {
+    let mut encoder = store_encoder(&rt, rt.alloc(), 1);
     comes_out_of_its_turn(&rt, &mut encoder);
-    Ok(())
 }
 
 /// Adds the text "HI" under counter 01, and then sets PI FEFF under counter 02.
@@ -173,47 +154,34 @@ fn serves_both(rt: &impl Abort, encoder: &mut Encoder<RdsStore>, repeats: u64) {
         read: 30,
         replies: 2,
     };
-    assert_eq!(rt; served, Ok(both));
+    same!(rt; served, Ok(both));
     let counts = encoder.counts();
-    assert_eq!(rt;
-        (counts.fresh, counts.repeats, counts.dropped),
-        (2, repeats, 0)
-    );
-    assert_eq!(rt;
-        (texts_of(encoder.target(), 1), pi_of(encoder.target(), 1)),
-        (Some(1), Some(0xfeff))
-    );
+    same!(rt; (counts.fresh, counts.repeats, counts.dropped), (2, repeats, 0));
+    same!(rt; (texts_of(encoder.target(), 1), pi_of(encoder.target(), 1)), (Some(1), Some(0xfeff)));
 }
 
 /// Reads give one byte, and this one fails: so much was written before, and so many frames come again.
-fn a_read_fails(
-    rt: &impl Abort,
-    alloc: Global,
-    failing: u32,
-    (written, repeats): (usize, u64),
-) -> Result<(), Fail> {
-    let mut encoder = new_store_encoder(alloc, 1)?;
+fn a_read_fails(rt: &impl Abort, alloc: Global, failing: u32, (written, repeats): (usize, u64)) {
+    let mut encoder = store_encoder(rt, alloc, 1);
     let calls = [failing];
     let mut input = Meter::new(FaultyReader::new(&BOTH).giving(1).failing_at(&calls));
     let mut output = Meter::new(FaultyWriter::new());
     let served = serve(&mut encoder, &mut input, &mut output, 64);
-    assert_eq!(rt; served, Err(ServeFault::ReadFailed));
-    assert_eq!(rt; output.into_inner().taken().len(), written);
+    same!(rt; served, Err(ServeFault::ReadFailed));
+    same!(rt; output.into_inner().taken().len(), written);
     serves_both(rt, &mut encoder, repeats);
-    Ok(())
 }
 
 #[test]
-fn whichever_read_fails_each_frame_acts_once(rt: HostRuntime) -> Result<(), Fail> {
+fn whichever_read_fails_each_frame_acts_once(rt: HostRuntime) {
     for failing in 1..=31 {
         let row = match failing {
             1..=15 => (0, 0),
             16..=30 => (11, 1),
             _ => (22, 2),
         };
-        a_read_fails(&rt, rt.alloc(), failing, row)?;
+        a_read_fails(&rt, rt.alloc(), failing, row);
     }
-    Ok(())
 }
 
 /// The writer takes so many bytes, one at a call, and then fails; so many messages were applied before.
@@ -222,26 +190,24 @@ fn writes_end(
     alloc: Global,
     (output, written): (FaultyWriter<'_>, u64),
     fresh: u64,
-) -> Result<(), Fail> {
-    let mut encoder = new_store_encoder(alloc, 1)?;
+) {
+    let mut encoder = store_encoder(rt, alloc, 1);
     let mut input = Meter::new(FaultyReader::new(&BOTH));
     let mut output = Meter::new(output.taking(1));
     let served = serve(&mut encoder, &mut input, &mut output, 64);
-    assert_eq!(rt; served, Err(ServeFault::WriteFailed { written }));
-    assert_eq!(rt; encoder.counts().fresh, fresh);
+    same!(rt; served, Err(ServeFault::WriteFailed { written }));
+    same!(rt; encoder.counts().fresh, fresh);
     serves_both(rt, &mut encoder, fresh);
-    Ok(())
 }
 
 #[test]
-fn wherever_writes_end_each_frame_acts_once(rt: HostRuntime) -> Result<(), Fail> {
+fn wherever_writes_end_each_frame_acts_once(rt: HostRuntime) {
     for written in 0..=21_u32 {
         let calls = [written + 1];
         let fresh = if written <= 10 { 1 } else { 2 };
         let failing = FaultyWriter::new().failing_at(&calls);
-        writes_end(&rt, rt.alloc(), (failing, u64::from(written)), fresh)?;
+        writes_end(&rt, rt.alloc(), (failing, u64::from(written)), fresh);
         let empty = FaultyWriter::new().taking_none_at(&calls);
-        writes_end(&rt, rt.alloc(), (empty, u64::from(written)), fresh)?;
+        writes_end(&rt, rt.alloc(), (empty, u64::from(written)), fresh);
     }
-    Ok(())
 }

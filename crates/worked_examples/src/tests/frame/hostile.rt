@@ -1,6 +1,7 @@
 //! Each known frame begun and left, and with each byte altered to each other value, beside a finder that is slow and
 //! plain.
 use super::{Finding, bytes_of, finds_in, finds_one_by_one, frame_of, pi};
+use crate::tests::asserting::holds;
 use faulty_devices::{KNOWN_FRAMES, SlowFinding, altered, slow_findings, spelling_of};
 use std::alloc::Global;
 use std::process::Abort;
@@ -38,7 +39,7 @@ fn agrees(alloc: Global, bytes: &[u8]) -> Result<bool, Fail> {
 fn agrees_at(rt: &impl Abort, alloc: Global, bytes: &[u8], place: usize) -> Result<(), Fail> {
     for value in 0..=255 {
         let hostile = altered(bytes, place, value);
-        assert!(rt; agrees(alloc, hostile.as_slice())?, "{place} {value}");
+        holds!(rt; agrees(alloc, hostile.as_slice())?, (place, value));
     }
     Ok(())
 }
@@ -74,10 +75,7 @@ fn a_frame_that_is_begun_before_another_is_unended(rt: HostRuntime) -> Result<()
         let bytes = spelling_of(line).ok_or("no spelling")?;
         for end in 1..bytes.len() {
             let (begun, _) = bytes.split_at(end);
-            assert!(rt;
-                finds_in(rt.alloc(), &[begun, whole.as_slice()], &want)?,
-                "{line}"
-            );
+            holds!(rt; finds_in(rt.alloc(), &[begun, whole.as_slice()], &want)?, line);
         }
     }
     Ok(())

@@ -1,5 +1,7 @@
 //! A store where memory is wanting.
 use super::answers;
+use crate::tests::asserting::{holds, same};
+use crate::tests::making::store_of;
 use faulty_devices::ScarceMemory;
 use rds_store::{RdsStore, StoreFault};
 use std::test::Fail;
@@ -15,12 +17,12 @@ fn a_new_store_answers_want_of_memory(rt: HostRuntime) -> Result<(), Fail> {
     for refused in 0..1 << 14 {
         match RdsStore::new(rt.alloc(), 8, &[1, 2, 3, 4, 5, 6, 7, 8]) {
             Ok(store) => {
-                assert_eq!(rt; (store.set_count(), store.service_number(7)), (8, Some(8)));
+                same!(rt; (store.set_count(), store.service_number(7)), (8, Some(8)));
                 // It has many more bytes than requests.
-                assert!(rt; refused > 100, "refused {refused}");
+                holds!(rt; refused > 100, refused);
                 return Ok(());
             }
-            Err(fault) => assert_eq!(rt; fault, StoreFault::OutOfMemory),
+            Err(fault) => same!(rt; fault, StoreFault::OutOfMemory),
         }
         memory.give();
     }
@@ -29,7 +31,7 @@ fn a_new_store_answers_want_of_memory(rt: HostRuntime) -> Result<(), Fail> {
 
 #[test]
 fn a_store_takes_no_memory_for_messages(rt: HostRuntime) -> Result<(), Fail> {
-    let mut store = RdsStore::new(rt.alloc(), 8, &[1, 2, 3, 4, 5, 6, 7, 8])?;
+    let mut store = store_of(&rt, rt.alloc(), 8, &[1, 2, 3, 4, 5, 6, 7, 8]);
     let _memory = ScarceMemory::take_all(rt.alloc(), 0)?;
     for _ in 0..8 {
         answers(&rt, &mut store, &[(&ALL, Code::Applied)]);
@@ -38,9 +40,6 @@ fn a_store_takes_no_memory_for_messages(rt: HostRuntime) -> Result<(), Fail> {
     let Some(shown) = store.service(8, 8) else {
         return Err("no service".into());
     };
-    assert_eq!(rt;
-        (shown.pi(), shown.texts().len(), store.groups().len()),
-        (0x1234, 8, 8)
-    );
+    same!(rt; (shown.pi(), shown.texts().len(), store.groups().len()), (0x1234, 8, 8));
     Ok(())
 }
