@@ -35,7 +35,8 @@ pub(crate) fn must_be_in<T: PartialEq + Debug>(
     assert_eq!(rt; *found, *wanted, "{text} in {row:?}");
 }
 
-/// `assert!` by a call: where the condition does not hold, the test stops and prints its text, and the row that follows.
+/// `assert!` by a call: where the condition does not hold, the test stops and prints its text, and the row that
+/// follows.
 macro_rules! holds {
     ($rt:expr; $condition:expr) => {
         $crate::tests::asserting::must_hold(&$rt, $condition, stringify!($condition))
