@@ -9,6 +9,7 @@ use Rattle.uecp_jobs.specs.Setups.{IsOneEncoder, address_of}
 use Rattle.kept_sending.specs.declared.keep.Progress.{Progress}
 use Rattle.kept_sending.specs.Keeping.{KeptServer}
 use Rattle.state_files.specs.declared.fault.StateFault.{StateFault}
+use Rattle.live_sending.specs.declared.not_kept.NotKept.{NotKept}
 use Rattle.live_sending.specs.declared.options.LiveOptions.{LiveOptions}
 use Rattle.live_sending.specs.Run.{Lives}
 use Rattle.send_jobs.specs.declared.job.SendJob.{SendJob}
@@ -25,7 +26,7 @@ pub record IsFor (job : SendJob) (station : List (List ℕ)) (options : LiveOpti
   pub reading : options.reading ≡ record { region = job.region; size = job.window; strict = job.strict }
   pub join : options.join ≡ job.join
   pub rejoin : options.rejoin ≡ job.rejoin
-  pub station : options.station.now ≡ station
+  pub sends_station : options.station.now ≡ station
 
 -- The site and the encoder's number are not those of one encoder, and that was said, or begun to be said.
 abbrev pub IsOfNobody : SendJob → (said said' : Option (List ℕ)) → (status : ℕ) → Type 0
@@ -39,10 +40,14 @@ module _ {C I O : Type 0} (opens : C → Option (I × O) → C → Type 0) (clos
   abbrev pub SendsTo : (address : ℕ) → LiveOptions → (c c' : C)
       → (unread unread' held held' said said' : Option (List ℕ)) → (status : ℕ) → Type 0
   SendsTo address options c c' unread unread' held held' said said' status =
-      Lives {K = Unit {0}} opens closes remaining contents (λ k left. Unit {0}) (λ k. ⊥) (λ k left k'. k' ≡ k)
-      (λ k left k'. ⊥) options c c'
-      (record { runs = idle_at address; keeper = tt; progress = record { taken = 0; joined = false }; held = held }) tt
-      held' unread unread' said said' status
+      (keeper : NotKept) × (keeper' : NotKept)
+      × Lives opens closes remaining contents (λ k left. Unit {0}) (λ k. ⊥) (λ k left k'. k' ≡ k) (λ k left k'. ⊥)
+      options c c' (record {
+        runs = idle_at address;
+        keeper = keeper;
+        progress = record { taken = 0; joined = false };
+        held = held;
+      }) keeper' held' unread unread' said said' status
 
   module _ {K : Type 0} (gives : (path : List ℕ) → ServerState → Progress → K → Type 0)
       (refuses : List ℕ → StateFault → Type 0) (ends : K → Result (Unit {0}) StateFault → Type 0)

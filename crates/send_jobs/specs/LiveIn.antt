@@ -51,5 +51,5 @@ module _ {K C I O : Type 0} (gives : (path : List ℕ) → ServerState → Progr
     pub lives : Lives opens closes remaining contents leaves is_clean saves fails options c c'
         (record { runs = server; keeper = keeper; progress = progress; held = held }) keeper_after held' unread unread'
         said between status
-    pub ends : ends keeper_after closed
+    pub closes_so : ends keeper_after closed
     pub is_closed : IsClosedLive status closed status' between said'

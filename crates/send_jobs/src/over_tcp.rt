@@ -8,7 +8,7 @@ use crate::sending::run_send;
 use crate::station::{StationFault, read_station};
 use kept_jobs::fail_state;
 use line_feed::{Arrival, LineFeed};
-use live_edges::{Patience, Patient};
+use live_edges::{Heard, Patience, Patient};
 use state_jobs::OpenStates;
 use std::alloc::Global;
 use std::fs::Files;
@@ -45,7 +45,7 @@ pub fn run_send_over_tcp<
 ) -> u8
     requires { IsSendable job.now }
     ensures { HasSentOver ⟦<Patient<'a, N, M> as Connect>⟧.opens ⟦<Patient<'a, N, M> as Connect>⟧.closes
-        ⟦<Patient<'a, N, M> as Connect>⟧.Input.remaining ⟦<Patient<'a, N, M> as Connect>⟧.Output.contents
+        ⟦<Heard<TcpStream> as Read>⟧.remaining ⟦<TcpStream as Write>⟧.contents
         (S.gives_server states.now) (S.refuses_server states.now) (S.closes_server states.now)
         S.ServerKeeper.leaves S.ServerKeeper.is_clean S.ServerKeeper.saves S.ServerKeeper.fails job.now
         (M.contents notices.old) (R.remaining reader.old) (W.contents writer.old) (W.contents writer.new)
