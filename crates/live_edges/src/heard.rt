@@ -1,14 +1,15 @@
-//! Whether anything was read (profile).
+//! Whether anything was read, and whether the connection holds (profile).
 ghost use Rattle.std.specs.Prelude.{◌≡◌, false};
 
 use std::io;
-use std::io::Read;
+use std::io::{ErrorKind, Read};
 
-/// A reader, and whether anything was read of it.
+/// A reader, whether anything was read of it, and whether it ended or failed otherwise than by its limit of time.
 #[derive(Drop)]
 pub struct Heard<R> {
     reader: R,
     heard: bool,
+    broken: bool,
 }
 
 impl<R> Heard<R> {
@@ -16,10 +17,12 @@ impl<R> Heard<R> {
     pub fn new(reader: R) -> Heard<R>
         ensures reader { result.reader ≡ reader }
         ensures heard { result.heard ≡ false }
+        ensures broken { result.broken ≡ false }
     {
         Heard {
             reader,
             heard: false,
+            broken: false,
         }
     }
 
@@ -29,6 +32,13 @@ impl<R> Heard<R> {
     {
         self.heard
     }
+
+    /// Whether a read found the end, or failed otherwise than by its limit of time.
+    pub fn is_broken(&self) -> bool
+        ensures { result ≡ self.now.broken }
+    {
+        self.broken
+    }
 }
 
 impl<R: Read> Read for Heard<R> {
@@ -36,9 +46,19 @@ impl<R: Read> Read for Heard<R> {
 
     fn read(&mut self, buf: &mut [u8]) -> io::Result<usize> {
         let read = self.reader.read(buf);
-        if let Ok(count) = &read {
-            self.heard = self.heard || *count > 0;
+        match &read {
+            Ok(0) => self.broken = true,
+            Ok(_) => self.heard = true,
+            Err(error) => self.broken = self.broken || !is_late(error),
         }
         read
     }
+}
+
+/// Whether a read was given up for its limit of time, or interrupted.
+fn is_late(error: &io::Error) -> bool {
+    matches!(
+        error.kind(),
+        ErrorKind::WouldBlock | ErrorKind::TimedOut | ErrorKind::Interrupted
+    )
 }

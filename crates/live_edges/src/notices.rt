@@ -2,12 +2,16 @@
 ghost use Rattle.std.specs.Prelude.{ℕ, List};
 ghost use Rattle.std.specs.Io.KnownBytes.{Appends};
 
+use arrayvec::ArrayVec;
 use itoa::Buffer;
 use std::io::Write;
 use std::time::Clock;
 use uecp_net::DialFault;
 use uecp_text::write_parts;
 use uecp_watch::stamp_of;
+
+/// How many bytes a notice has at most; a name of a host has 253.
+const LINE_MAX: usize = 512;
 
 /// What was said last of a line.
 #[derive(Clone, Copy, Debug, PartialEq, Eq)]
@@ -18,6 +22,8 @@ pub(crate) enum Said {
     There,
     /// That there is no connection to be had.
     Away,
+    /// That it was lost with nothing heard; so it may be again and again.
+    Broken,
 }
 
 /// Says that there is a connection to this host and port.
@@ -66,6 +72,13 @@ pub(crate) fn say_silent<C: Clock, W: Write>(clock: &C, notices: &mut W)
     );
 }
 
+/// Says that the line is given up.
+pub(crate) fn say_given_up<C: Clock, W: Write>(clock: &C, notices: &mut W)
+    ensures { (lines : List ℕ) × Appends (W.contents notices.old) (W.contents notices.new) lines }
+{
+    say(clock, &[b"given up\n"], notices);
+}
+
 /// Says this of a host and a port, and then that.
 fn say_place<C: Clock, W: Write>(
     clock: &C,
@@ -96,14 +109,25 @@ fn say_parts<'a, C: Clock, W: Write>(
     say(clock, &[what, host, b" port ", port, then, b"\n"], notices);
 }
 
-/// Says this behind the time. What can't be written changes nothing.
+/// Says this behind the time, in one write where it is short enough. What can't be written changes nothing.
 fn say<C: Clock, W: Write>(clock: &C, parts: &[&[u8]], notices: &mut W)
     ensures { (lines : List ℕ) × Appends (W.contents notices.old) (W.contents notices.new) lines }
 {
     let stamp = stamp_of(clock);
-    let before: [&[u8]; 3] = [b"uecp: ", stamp.as_str().as_bytes(), b" "];
-    if write_parts(&before, notices).is_ok() {
-        let _ = write_parts(parts, notices);
+    let mut line: ArrayVec<u8, LINE_MAX> = ArrayVec::new();
+    put(b"uecp: ", &mut line);
+    put(stamp.as_str().as_bytes(), &mut line);
+    put(b" ", &mut line);
+    for part in parts {
+        put(part, &mut line);
+    }
+    let _ = write_parts(&[line.as_slice()], notices);
+}
+
+/// Puts this behind what a line holds, as far as there is room.
+fn put(part: &[u8], line: &mut ArrayVec<u8, LINE_MAX>) {
+    for byte in part {
+        let _ = line.try_push(*byte);
     }
 }
 

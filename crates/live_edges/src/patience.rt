@@ -26,8 +26,8 @@ pub(crate) enum Step {
     GiveUp,
 }
 
-/// How a line stands that is waited for: since when, and after which pause the next try is made. Times are seconds of a
-/// clock that never goes back.
+/// How a line stands that is waited for: since when, and after which pause the next try is made. Times are milliseconds
+/// of a clock that never goes back; a pause is in seconds.
 #[derive(Clone, Copy, Debug)]
 pub(crate) struct Wait {
     /// The pause before the next try.
@@ -38,6 +38,8 @@ pub(crate) struct Wait {
     silent_since: Option<u64>,
     /// Whether it was said that the encoder is silent.
     is_told: bool,
+    /// Whether the last connection broke, and nothing was heard on it.
+    is_broken: bool,
 }
 
 impl Wait {
@@ -48,6 +50,7 @@ impl Wait {
             since: None,
             silent_since: None,
             is_told: false,
+            is_broken: false,
         }
     }
 
@@ -58,7 +61,7 @@ impl Wait {
         let waited = now.saturating_sub(since);
         if patience
             .give_up
-            .is_some_and(|limit| waited >= limit && self.pause > 0)
+            .is_some_and(|limit| waited >= thousandfold(limit) && self.pause > 0)
         {
             return Step::GiveUp;
         }
@@ -67,7 +70,7 @@ impl Wait {
             return Step::Silent;
         }
         Step::Try(match patience.give_up {
-            Some(limit) => self.pause.min(limit.saturating_sub(waited)),
+            Some(limit) => self.pause.min(seconds_left(limit, waited)),
             None => self.pause,
         })
     }
@@ -75,7 +78,8 @@ impl Wait {
     /// Whether it is to be said now that the encoder is silent.
     fn is_silent(&self, patience: &Patience, now: u64) -> bool {
         match self.silent_since {
-            Some(since) => !self.is_told && now.saturating_sub(since) >= patience.silent,
+            Some(since) => !self.is_told
+                && now.saturating_sub(since) >= thousandfold(patience.silent),
             None => false,
         }
     }
@@ -85,8 +89,14 @@ impl Wait {
         self.pause == 0
     }
 
+    /// Whether the last connection broke, and nothing was heard on it.
+    pub(crate) fn is_broken(&self) -> bool {
+        self.is_broken
+    }
+
     /// A connection was made.
     pub(crate) fn opened(&mut self, now: u64) {
+        self.is_broken = false;
         self.silent_since = Some(self.silent_since.unwrap_or(now));
     }
 
@@ -96,14 +106,28 @@ impl Wait {
         self.pause = next_pause(self.pause, longest);
     }
 
-    /// A connection is done with, on which something was heard or not.
-    pub(crate) fn closed(&mut self, is_heard: bool, longest: u64) {
+    /// A connection is done with, on which something was heard or not, and which was broken or held to the end. One that
+    /// broke with nothing heard is like none: whoever takes it and lets it go is no silent encoder.
+    pub(crate) fn closed(&mut self, is_heard: bool, is_broken: bool, longest: u64) {
         if is_heard {
             *self = Wait::new();
+        } else if is_broken {
+            self.refused(longest);
+            self.is_broken = true;
         } else {
             self.pause = next_pause(self.pause, longest);
         }
     }
+}
+
+/// So many seconds in milliseconds.
+fn thousandfold(seconds: u64) -> u64 {
+    seconds.saturating_mul(1000)
+}
+
+/// How many seconds are left of a limit of so many, where so many milliseconds have passed; a part of one counts as one.
+fn seconds_left(limit: u64, passed: u64) -> u64 {
+    thousandfold(limit).saturating_sub(passed).div_ceil(1000)
 }
 
 /// The pause after a try that fails, where there was one of so many seconds before it: 1, 2, 4 .. up to the longest.

@@ -3,7 +3,7 @@ ghost use Rattle.std.specs.Prelude.{◌≡◌};
 ghost use Rattle.live_edges.specs.Patience.{Dialled, DialsOn};
 
 use crate::heard::Heard;
-use crate::notices::{Said, say_away, say_lost, say_silent, say_there};
+use crate::notices::{Said, say_away, say_given_up, say_lost, say_silent, say_there};
 use crate::patience::{Patience, Step, Wait};
 use std::io::Write;
 use std::marker::Model;
@@ -70,9 +70,15 @@ impl<'a, N: Net<Stream = TcpStream> + Clock, W: Write> Patient<'a, N, W> {
     fn tell_lost(&mut self)
         ensures { DialsOn self.old self.new }
     {
-        if self.said == Said::There && self.wait.is_fresh() {
+        if self.said != Said::There {
+            return;
+        }
+        if self.wait.is_fresh() {
             say_lost(self.net, self.notices);
             self.said = Said::Nothing;
+        } else if self.wait.is_broken() {
+            say_lost(self.net, self.notices);
+            self.said = Said::Broken;
         }
     }
 
@@ -81,6 +87,13 @@ impl<'a, N: Net<Stream = TcpStream> + Clock, W: Write> Patient<'a, N, W> {
         ensures { DialsOn self.old self.new }
     {
         say_silent(self.net, self.notices);
+    }
+
+    /// Says that the line is given up.
+    fn tell_given_up(&mut self)
+        ensures { DialsOn self.old self.new }
+    {
+        say_given_up(self.net, self.notices);
     }
 
     /// Makes one try after a pause, and says what came of it where that is new.
@@ -104,7 +117,7 @@ impl<'a, N: Net<Stream = TcpStream> + Clock, W: Write> Patient<'a, N, W> {
     fn found(&mut self)
         ensures { DialsOn self.old self.new }
     {
-        if self.said != Said::There {
+        if matches!(self.said, Said::Nothing | Said::Away) {
             say_there(self.net, self.host, self.port, self.notices);
             self.said = Said::There;
         }
@@ -144,7 +157,10 @@ impl<'a, N: Net<Stream = TcpStream> + Clock, W: Write> Connect for Patient<'a, N
         self.tell_lost();
         for _try in 0..TRIES_MAX {
             match self.next() {
-                Step::GiveUp => return None,
+                Step::GiveUp => {
+                    self.tell_given_up();
+                    return None;
+                }
                 Step::Silent => {
                     self.tell_silent();
                     if self.patience.stop_when_silent {
@@ -163,15 +179,24 @@ impl<'a, N: Net<Stream = TcpStream> + Clock, W: Write> Connect for Patient<'a, N
     }
 
     fn close(&mut self, input: Heard<TcpStream>, _output: TcpStream) {
-        self.wait
-            .closed(input.is_heard(), self.patience.retry_every);
+        if input.is_heard() && self.said == Said::Broken {
+            self.said = Said::There;
+        }
+        self.wait.closed(
+            input.is_heard(),
+            input.is_broken(),
+            self.patience.retry_every,
+        );
     }
 }
 
-/// The seconds of a clock that never goes back; 0 where it tells no time.
+/// The milliseconds of a clock that never goes back; 0 where it tells no time.
 fn now<C: Clock>(clock: &C) -> u64 {
     match clock.monotonic() {
-        Ok(time) => time.as_secs(),
+        Ok(time) => time
+            .as_secs()
+            .saturating_mul(1000)
+            .saturating_add(u64::from(time.subsec_millis())),
         Err(_) => 0,
     }
 }

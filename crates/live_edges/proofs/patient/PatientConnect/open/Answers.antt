@@ -9,7 +9,9 @@ pub loop-try-init : goal.loop-try-init
 loop-try-init g c = c.tell_lost.ensures
 
 pub returns-in-GiveUp : goal.returns-in-GiveUp
-returns-in-GiveUp g c = dials_then _ _ _ c.loop-try.invariant (dials_same _ _ c.next.ensures)
+returns-in-GiveUp g c =
+    let next = dials_then _ _ _ c.loop-try.invariant (dials_same _ _ c.next.ensures) in
+    dials_then _ _ _ next c.tell_given_up.ensures
 
 pub returns-then-self : goal.returns-then-self
 returns-then-self g c =
