@@ -106,8 +106,8 @@ impl Wait {
         self.pause = next_pause(self.pause, longest);
     }
 
-    /// A connection is done with, on which something was heard or not, and which was broken or held to the end. One that
-    /// broke with nothing heard is like none: whoever takes it and lets it go is no silent encoder.
+    /// A connection is done with, on which something was heard or not, and which was broken or held to the end. One
+    /// that broke with nothing heard is like none: whoever takes it and lets it go is no silent encoder.
     pub(crate) fn closed(&mut self, is_heard: bool, is_broken: bool, longest: u64) {
         if is_heard {
             *self = Wait::new();
@@ -125,7 +125,8 @@ fn thousandfold(seconds: u64) -> u64 {
     seconds.saturating_mul(1000)
 }
 
-/// How many seconds are left of a limit of so many, where so many milliseconds have passed; a part of one counts as one.
+/// How many seconds are left of a limit of so many, where so many milliseconds have passed; a part of one counts as
+/// one.
 fn seconds_left(limit: u64, passed: u64) -> u64 {
     thousandfold(limit).saturating_sub(passed).div_ceil(1000)
 }
