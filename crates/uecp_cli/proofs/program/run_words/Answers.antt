@@ -1,10 +1,11 @@
-use Rattle.std.proofs.Common.{map, refl, inl, inr}
+use Rattle.std.proofs.Common.{◌≡◌, map, refl, inl, inr}
 use Rattle.std.specs.String.{string_bytes}
 use Rattle.uecp_cli.proofs.Ending.{mistaken_by, asked_by}
 use Rattle.uecp_cli.proofs.program.run_words.Goals as goal
 
 pub returns-in-Err-clause-mistaken : goal.returns-in-Err-clause-mistaken
-returns-in-Err-clause-mistaken g c = λ two.
+returns-in-Err-clause-mistaken g c = λ ended.
+    let two : c.refuse.result ≡ 2 = cc in
     let held = g.E.Write.contents in
     let says = c.refuse.ensures.mistaken two in (
       mistaken_by (map string_bytes c.args.words.now) c.in-Err.usage (held c.args.errors.now) (held c.refuse.new.errors)
@@ -14,7 +15,8 @@ returns-in-Err-clause-mistaken g c = λ two.
     )
 
 pub returns-in-Err-clause-failed : goal.returns-in-Err-clause-failed
-returns-in-Err-clause-failed g c = λ three.
+returns-in-Err-clause-failed g c = λ ended.
+    let three : c.refuse.result ≡ 3 = cc in
     let says = c.refuse.ensures.failed three in
     inr (
       says.0,
