@@ -1,0 +1,82 @@
+-- The exit statuses of runs that stop.
+use Rattle.std.proofs.Common.{◌≡◌, ◌⊎◌, ℕ, Bool, true, false, List, Option, Ok, Err, if◌then◌else◌, refl, sym, ap}
+use Rattle.std.proofs.Common.{inl, inr}
+use Rattle.rds_text.specs.declared.programme_type.Region.{Region}
+use Rattle.uecp_text.specs.declared.run_fault.RunFault.{RunFault}
+use Rattle.uecp_text.specs.declared.run_fault.RunFault.TheVariants as run
+use Rattle.uecp_text.specs.Faults.{status_of}
+use Rattle.uecp_link.specs.declared.counts.ServerCounts.{ServerCounts}
+use Rattle.uecp_net.specs.declared.sending.Outstanding.{Outstanding}
+use Rattle.uecp_net.specs.declared.sending.Outstanding.TheVariants.{TriesSpent, ConnectionFailed}
+use Rattle.uecp_jobs.specs.Batches.{fault_of}
+use Rattle.uecp_jobs.specs.JoiningFirst.{not_joined_line}
+use Rattle.kept_sending.specs.declared.sending.KeptOutstanding.TheVariants as kept
+use Rattle.kept_sending.specs.Sending.{Ended}
+use Rattle.kept_sending.specs.Joining.{Joined}
+use Rattle.kept_jobs.specs.declared.stop.KeptStop.{KeptStop}
+use Rattle.kept_jobs.specs.declared.stop.KeptStop.TheVariants.{Run, Unanswered, StateFailed}
+use Rattle.kept_jobs.specs.Stops.{TellsKept, stop_status, stop_for, heard_nothing}
+use Rattle.kept_jobs.proofs.Outliving.{goes, stopped, goes_not_stopped, same_status, told_status}
+use Rattle.line_batches.specs.Intake.{Intake, FailsToTake}
+use Rattle.line_batches.specs.Batches.{LosesMessage}
+use Rattle.live_sending.specs.Run.{RepliesTold, HeldTold, tally_status}
+use Rattle.live_sending.specs.Station.{JoinedTold}
+
+-- a run that goes on did not stop
+pub not_so : (stop : KeptStop) → stopped stop ≡ goes → stop_status stop ≡ 3
+not_so stop is = absurd (goes_not_stopped stop (sym is))
+
+-- what is told of a run that goes on stops it with status 3 alone
+pub telling_status : (lines : List ℕ) (held held' : Option (List ℕ)) (stop : KeptStop)
+    → TellsKept lines goes held held' (stopped stop) → stop_status stop ≡ 3
+telling_status lines held held' stop tells = told_status lines goes held held' stop (not_so stop) tells
+
+stop_for_status : (counts : ServerCounts) (reason : Outstanding) → stop_status (stop_for counts reason) ≡ 3
+stop_for_status counts TriesSpent = by (heard_nothing counts)
+  where
+    by : (b : Bool) → stop_status (if b then Unanswered else Run run.Outstanding) ≡ 3
+    by true = refl
+    by false = refl
+stop_for_status counts ConnectionFailed = refl
+
+fault_status : (reason : Outstanding) → stop_status (Run (fault_of reason)) ≡ 3
+fault_status TriesSpent = refl
+fault_status ConnectionFailed = refl
+
+pub replies_status : (last : ℕ) (counts : ServerCounts) (ended : Ended) (held held' : Option (List ℕ))
+    (stop : KeptStop) → RepliesTold last counts ended held held' (stopped stop) → stop_status stop ≡ 3
+replies_status last counts (Ok settled) held held' stop tells = telling_status _ held held' stop tells
+replies_status last counts (Err (kept.Outstanding reason)) held held' stop (same, is) =
+    same_status stop (stop_for counts reason) (stop_for_status counts reason) is
+replies_status last counts (Err kept.StateFailed) held held' stop (same, is) = same_status stop StateFailed refl is
+
+pub held_status : (first : ℕ) (marks : List Bool) (counts : ServerCounts) (ended : Ended)
+    (held held' : Option (List ℕ)) (stop : KeptStop) → HeldTold first marks counts ended held held' (stopped stop)
+    → stop_status stop ≡ 3
+held_status first marks counts (Ok settled) held held' stop tells = telling_status _ held held' stop tells
+held_status first marks counts (Err (kept.Outstanding reason)) held held' stop (same, is) =
+    same_status stop (stop_for counts reason) (stop_for_status counts reason) is
+held_status first marks counts (Err kept.StateFailed) held held' stop (same, is) =
+    same_status stop StateFailed refl is
+
+pub joined_status : (lines : List ℕ) (joined : Joined) (held held' : Option (List ℕ)) (stop : KeptStop)
+    → JoinedTold lines joined held held' (stopped stop) → stop_status stop ≡ 3
+joined_status lines (Ok done) held held' stop tells = telling_status lines held held' stop tells
+joined_status lines (Err (kept.Outstanding reason)) held held' stop tells =
+    told_status not_joined_line (stopped (Run (fault_of reason))) held held' stop
+    (same_status stop (Run (fault_of reason)) (fault_status reason)) tells
+joined_status lines (Err kept.StateFailed) held held' stop (same, is) = same_status stop StateFailed refl is
+
+-- a read that fails, and want of memory, have status 3
+pub taking_status : (region : Region) (x x' : Intake) (fault : RunFault)
+    → FailsToTake x x' fault ⊎ LosesMessage region x x' fault → stop_status (Run fault) ≡ 3
+taking_status region x x' fault (inr (is, lost)) = ap status_of is
+taking_status region x x' run.Reading (inl fails) = refl
+taking_status region x x' run.OutOfMemory (inl fails) = refl
+taking_status region x x' fault (inl (stays, fails)) = absurd fails
+
+-- a run that came to its end has not the status 3
+pub tally_not : (refused applied : Bool) → tally_status refused applied ≡ 3 → ⊥
+tally_not true applied is = cc
+tally_not false true is = cc
+tally_not false false is = cc

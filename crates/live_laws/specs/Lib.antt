@@ -1,0 +1,4 @@
+-- What holds of whole runs of a server whose lines come as they like.
+pub mod Taken
+pub mod Left
+pub mod Laws

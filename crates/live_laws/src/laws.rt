@@ -1,0 +1,25 @@
+//! Laws of the definitions, each the contract of a function that does nothing.
+ghost use Rattle.live_laws.specs.Laws.{DoneIsKept, WhatACrashLeaves};
+
+use kept_sending::KeepServer;
+use uecp_net::Connect;
+
+/// A run that ended with status 0, 1 or 4 took all lines of its input, or with `strict` all up to one that was refused,
+/// and all that they gave is kept: whatever a crash leaves of the server is joined, counts as taken each message of
+/// these lines and those that were taken before, and no other, and none waits.
+///
+/// Its premises: what was kept at the start is the server, and that of the keeper holds up to the end.
+pub fn done_is_kept<K: KeepServer, C: Connect>()
+    ensures { DoneIsKept C.opens C.closes C.Input.remaining C.Output.contents K.leaves K.is_clean K.saves K.fails }
+{}
+
+/// However a run ended, or was cut within, a crash leaves the server as it was; or a new one that is not joined and
+/// holds nothing, where it began anew; or one that came from such a beginning by calls of `settle_kept` and `send_kept`
+/// alone, each from what the one before left, so that the laws of those hold of it. It counts as taken some of the
+/// messages of the lines that were taken, besides those that were taken before.
+///
+/// Its premises: what was kept at the start is the server, and that of the keeper holds up to the end.
+pub fn what_a_crash_leaves<K: KeepServer, C: Connect>()
+    ensures { WhatACrashLeaves C.opens C.closes C.Input.remaining C.Output.contents K.leaves K.is_clean K.saves
+        K.fails }
+{}
