@@ -43,7 +43,8 @@ module _ {C I O K : Type 0} (opens : C → Option (I × O) → C → Type 0) (cl
   pub done_is_kept_lem : DoneIsKept opens closes remaining contents leaves is_clean saves fails
   done_is_kept_lem options c c' x k' held' unread unread' said said' status
       (went, end, applied, lives, unread_is, ended) done =
-      let w = whole opens closes remaining contents leaves is_clean saves fails options c c' (begins_at x unread said) k' held'
+      let w = whole opens closes remaining contents leaves is_clean saves fails options c c' (begins_at x unread said)
+      k' held'
       end applied went lives in
       let on : goes ≡ went = on_where_done went end applied said' status done w.status ended in (
         w.lines,
@@ -62,7 +63,8 @@ module _ {C I O K : Type 0} (opens : C → Option (I × O) → C → Type 0) (cl
   pub what_a_crash_leaves_lem : WhatACrashLeaves opens closes remaining contents leaves is_clean saves fails
   what_a_crash_leaves_lem options c c' x k' held' unread unread' said said' status
       (went, end, applied, lives, unread_is, ended) =
-      let w = whole opens closes remaining contents leaves is_clean saves fails options c c' (begins_at x unread said) k' held'
+      let w = whole opens closes remaining contents leaves is_clean saves fails options c c' (begins_at x unread said)
+      k' held'
       end applied went lives in (
         w.lines,
         record {
