@@ -46,8 +46,8 @@ module _ {C I O K : Type 0} (opens : C → Option (I × O) → C → Type 0) (cl
     -- lines were taken up to there, and what they gave was sent
     pub record Part (lines : List (List ℕ × Given)) (x : LiveAt) (mid : Intake) (x' : At) (went : Went) : Type 0 where
       pub takes : TakesLines region lines x.takes mid
-      pub called : Called opens closes remaining contents leaves is_clean saves fails (length (messages_in lines)) x.sends
-          x' went
+      pub called : Called opens closes remaining contents leaves is_clean saves fails
+          (length (messages_in lines)) x.sends x' went
 
     part_none : (x : LiveAt) → Part [] x x.takes x.sends goes
     part_none x = record {
