@@ -44,7 +44,8 @@ module _ {C I O K : Type 0} (opens : C → Option (I × O) → C → Type 0) (cl
   pub done_is_kept_lem : DoneIsKept opens closes remaining contents leaves is_clean saves fails
   done_is_kept_lem options c c' x k' held' unread unread' said said' status
       (went, end, applied, lives, unread_is, ended) done =
-      let w = whole opens closes remaining contents leaves is_clean saves fails options c c' (begins_at x unread said) k' held'
+      let w = whole opens closes remaining contents leaves is_clean saves fails options c c' (begins_at x unread said)
+      k' held'
       end applied went lives in
       let on : goes ≡ went = on_where_done went end applied said' status done w.status ended in (
         w.lines,
@@ -63,7 +64,8 @@ module _ {C I O K : Type 0} (opens : C → Option (I × O) → C → Type 0) (cl
   pub what_a_crash_leaves_lem : WhatACrashLeaves opens closes remaining contents leaves is_clean saves fails
   what_a_crash_leaves_lem options c c' x k' held' unread unread' said said' status
       (went, end, applied, lives, unread_is, ended) =
-      let w = whole opens closes remaining contents leaves is_clean saves fails options c c' (begins_at x unread said) k' held'
+      let w = whole opens closes remaining contents leaves is_clean saves fails options c c' (begins_at x unread said)
+      k' held'
       end applied went lives in (
         w.lines,
         record {
@@ -81,7 +83,8 @@ module _ {C I O K : Type 0} (opens : C → Option (I × O) → C → Type 0) (cl
   pub told_is_taken_lem : ToldIsTaken opens closes remaining contents leaves is_clean saves fails
   told_is_taken_lem options c c' x k' held' unread unread' said said' status
       (went, end, applied, lives, unread_is, ended) done =
-      let w = whole opens closes remaining contents leaves is_clean saves fails options c c' (begins_at x unread said) k'
+      let w = whole opens closes remaining contents leaves is_clean saves fails options c c' (begins_at x unread said)
+      k'
       held' end applied went lives in
       let on : goes ≡ went = on_where_done went end applied said' status done w.status ended in
       let t = whole_told opens closes remaining contents leaves is_clean saves fails options c c'

@@ -1,5 +1,6 @@
 -- What a crash leaves of senders that run one after another, and of a whole run.
-use Rattle.std.proofs.Common.{arith, ◌≡◌, ◌⊎◌, ℕ, zero, suc, ◌+◌, ◌-◌, ◌≤◌, Bool, true, false, ◌||◌, not, List, [], ◌++◌}
+use Rattle.std.proofs.Common.{arith, ◌≡◌, ◌⊎◌, ℕ, zero, suc, ◌+◌, ◌-◌, ◌≤◌, Bool, true, false, ◌||◌, not, List, []}
+use Rattle.std.proofs.Common.{◌++◌}
 use Rattle.std.proofs.Common.{length, Option, Ok, refl, sym, ap, subst, ◌∙◌, inl, inr, append-nil}
 use Rattle.uecp_link.specs.Server.{ServerState, idle_at, waiting}
 use Rattle.kept_sending.specs.declared.keep.Progress.{Progress}
@@ -177,7 +178,7 @@ module _ {C I O K : Type 0} (opens : C → Option (I × O) → C → Type 0) (cl
     left_again w earlier rejoin runs taken not_yet most loan c left
         (inr (first, (made, told, makes, is_first), chain)) =
         let first_is : first ≡ kept_of (record { taken = x0.progress.taken + earlier; joined = true })
-            made.sender.server =
+        made.sender.server =
         is_first ∙ joined_is made.sender.server w.progress.taken (x0.progress.taken + earlier) taken in
         inr (inr (record {
           earlier = earlier;
@@ -356,8 +357,16 @@ module _ {C I O K : Type 0} (opens : C → Option (I × O) → C → Type 0) (cl
         subst (λ (v : LiveWas). Senders (suc n) x v went) (sym same) (record {
           lines = before.lines;
           mid = y.takes;
-          takes = (before.lines, [], before.mid, y.takes, before.takes, before.pauses, refl,
-              sym (append-nil before.lines));
+          takes = (
+            before.lines,
+            [],
+            before.mid,
+            y.takes,
+            before.takes,
+            before.pauses,
+            refl,
+            sym (append-nil before.lines),
+          );
           once = not_once n rejoin;
           pauses = inl refl;
           done = λ on. absurd (goes_not_stopped stop (on ∙ is));
@@ -387,7 +396,8 @@ module _ {C I O K : Type 0} (opens : C → Option (I × O) → C → Type 0) (cl
                   (ap (λ (p : Progress). p.joined) renews.progress),
             ))
 
-    pub senders : (n : ℕ) (c c' : C) (x x' : LiveWas) (went : Went) → HasBegun leaves is_clean saves fails due x0 x.sends
+    pub senders : (n : ℕ) (c c' : C) (x x' : LiveWas) (went : Went)
+        → HasBegun leaves is_clean saves fails due x0 x.sends
         → RunsFor opens closes remaining contents leaves is_clean saves fails options due n c c' x x' went
         → Senders n x x' went
     senders zero c c' x x' went has runs = first_sender c c' x x' went has runs

@@ -161,7 +161,7 @@ module _ {C I O K : Type 0} (opens : C → Option (I × O) → C → Type 0) (cl
         let replies : reply_lines (w.progress.taken + 1) codes ≡ lines =
         ap (λ n. reply_lines n codes) place ∙ replied_lines (first + length earlier) codes in
         let all : (before ++ front) ++ (rest ++ reply_lines (w.progress.taken + 1) codes)
-            ≡ before ++ (between ++ lines) =
+        ≡ before ++ (between ++ lines) =
         append_assoc before front (rest ++ reply_lines (w.progress.taken + 1) codes)
         ∙ ap (λ l. before ++ l) (sym (append_assoc front rest (reply_lines (w.progress.taken + 1) codes)))
         ∙ ap (λ l. before ++ (l ++ reply_lines (w.progress.taken + 1) codes)) (sym split)
@@ -234,8 +234,7 @@ module _ {C I O K : Type 0} (opens : C → Option (I × O) → C → Type 0) (cl
     told_again n x y w c loan z so same given_up s (inr (none_is, taken, all)) =
         let waited = unknown_lines (y.sends.progress.taken + 1 - y.unknown) y.unknown in
         let zero_is : length so.answers ≡ 0 = ap length none_is in
-        told_more n x y (ended z) w so.answers so.text (waited ++ s.front) waited s.codes so.tells
-        (
+        told_more n x y (ended z) w so.answers so.text (waited ++ s.front) waited s.codes so.tells (
           waited,
           s.is_front.0,
           inr (ap (λ n. unknown_lines (n + 1 - y.unknown) y.unknown) taken
@@ -274,7 +273,8 @@ module _ {C I O K : Type 0} (opens : C → Option (I × O) → C → Type 0) (cl
         → goes ≡ went → x'.unknown ≡ 0
     one_unknown by c c' x x' went idle none (loan, z, runs, finishes, is) on =
         ap (λ (v : LiveWas). v.unknown) is
-        ∙ spoke_unknown opens closes remaining contents leaves is_clean saves fails options by (sent_from c loan x) z went
+        ∙ spoke_unknown opens closes remaining contents leaves is_clean saves fails options by (sent_from c loan x) z
+        went
         idle none runs on
 
     none_left : (n : ℕ) (c c' : C) (x x' : LiveWas) (went : Went) → HasBegunSo due x.sends → x.unknown ≡ 0
@@ -282,7 +282,8 @@ module _ {C I O K : Type 0} (opens : C → Option (I × O) → C → Type 0) (cl
         → goes ≡ went → x'.unknown ≡ 0
     none_left zero c c' x x' went has none runs on =
         one_unknown due c c' x x' went (begun_idle due x.sends has) none runs on
-    none_left (suc n) c c' x x' went has none (d, y, stopped_so, before, rejoin, some, (w, new, inl (renews, runs))) on =
+    none_left (suc n) c c' x x' went has none (d, y, stopped_so, before, rejoin, some, (w, new, inl (renews, runs)))
+        on =
         one_unknown true d c' (anew_at y w) x' went (λ yes. ap (λ (r : ServerState). r.held) new) refl runs on
     none_left (suc n) c c' x x' went has none
         (d, y, stopped_so, before, rejoin, some, (w, new, inr (stop, renews, is, connect, same))) on =
@@ -312,7 +313,8 @@ module _ {C I O K : Type 0} (opens : C → Option (I × O) → C → Type 0) (cl
       let line = taken_line x.progress.taken (length (waiting x.runs)) in
       appends_then x.held w.held y.held line (given_up_line (length (waiting x.runs)))
       (told_all line x.held w.held goes tells refl)
-      (subst (λ (v : Was). Appends w.held y.held (given_up_line (length (waiting v.runs)))) same (anew_told w y anew_so))
+      (subst (λ (v : Was). Appends w.held y.held (given_up_line (length (waiting v.runs)))) same
+      (anew_told w y anew_so))
   begun_told due x y (inr (stop, told, is)) = absurd (goes_not_stopped stop is)
 
   -- ---- A whole run.

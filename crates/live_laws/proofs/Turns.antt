@@ -19,145 +19,147 @@ use Rattle.line_batches.specs.Intake.{Intake, TakesLines, FailsToTake, messages_
 use Rattle.line_batches.specs.Batches.{IsAfter, LosesMessage}
 use Rattle.live_sending.specs.Run.{Live, Turn, GoesOnFor, RunsTurns, ended_as}
 use Rattle.live_laws.specs.Taken.{Pauses, ComesToEnd}
-use Rattle.live_laws.proofs.Lines.{same_fault, messages_count, lines_on, pauses_after, goes_on_after, ends_on, comes_to_end}
+use Rattle.live_laws.proofs.Lines.{same_fault, messages_count, lines_on, pauses_after, goes_on_after, ends_on}
+use Rattle.live_laws.proofs.Lines.{comes_to_end}
 use Rattle.live_laws.proofs.Statuses.{taking_status}
 use Rattle.live_laws.proofs.Calls.{Called, called_none, called_on, called_stops, sends_some}
 
 module _ {C I O K : Type 0} (opens : C → Option (I × O) → C → Type 0) (closes : C → I → O → C → Type 0)
     (remaining : I → Option (List ℕ)) (contents : O → Option (List ℕ)) (leaves : K → KeptServer → Type 0)
     (is_clean : K → Type 0) (saves fails : K → KeptServer → K → Type 0) (region : Region) (size : ℕ) (strict : Bool)
-    where
-  abbrev At : Type 0
-  At = Standing (SenderOver C I O) K
+  where
+    abbrev At : Type 0
+    At = Standing (SenderOver C I O) K
 
-  abbrev LiveAt : Type 0
-  LiveAt = Live (SenderOver C I O) K
+    abbrev LiveAt : Type 0
+    LiveAt = Live (SenderOver C I O) K
 
-  abbrev IsCalled : (taken : ℕ) → (x x' : At) → Went → Type 0
-  IsCalled = Called opens closes remaining contents leaves is_clean saves fails
+    abbrev IsCalled : (taken : ℕ) → (x x' : At) → Went → Type 0
+    IsCalled = Called opens closes remaining contents leaves is_clean saves fails
 
-  -- why a batch ended
-  abbrev Next : List (List ℕ × Given) → (y z : Intake) → After → Type 0
-  Next taken y z after =
-      IsAfter region strict taken y z after
-      ⊎ ((fault : RunFault) × (after ≡ Ends (Err fault)) × (FailsToTake y z fault ⊎ LosesMessage region y z fault))
+    -- why a batch ended
+    abbrev Next : List (List ℕ × Given) → (y z : Intake) → After → Type 0
+    Next taken y z after =
+        IsAfter region strict taken y z after
+        ⊎ ((fault : RunFault) × (after ≡ Ends (Err fault)) × (FailsToTake y z fault ⊎ LosesMessage region y z fault))
 
-  -- lines were taken up to there, and what they gave was sent
-  pub record Part (lines : List (List ℕ × Given)) (x : LiveAt) (mid : Intake) (x' : At) (went : Went) : Type 0 where
-    pub takes : TakesLines region lines x.takes mid
-    pub called : Called opens closes remaining contents leaves is_clean saves fails (length (messages_in lines)) x.sends
-        x' went
+    -- lines were taken up to there, and what they gave was sent
+    pub record Part (lines : List (List ℕ × Given)) (x : LiveAt) (mid : Intake) (x' : At) (went : Went) : Type 0 where
+      pub takes : TakesLines region lines x.takes mid
+      pub called : Called opens closes remaining contents leaves is_clean saves fails (length (messages_in lines))
+          x.sends
+          x' went
 
-  part_none : (x : LiveAt) → Part [] x x.takes x.sends goes
-  part_none x = record {
-    takes = refl;
-    called = called_none opens closes remaining contents leaves is_clean saves fails x.sends goes refl;
-  }
+    part_none : (x : LiveAt) → Part [] x x.takes x.sends goes
+    part_none x = record {
+      takes = refl;
+      called = called_none opens closes remaining contents leaves is_clean saves fails x.sends goes refl;
+    }
 
-  part_on : (a b : List (List ℕ × Given)) (x y : LiveAt) (mid : Intake) (x' : At) (went : Went)
-      → Part a x y.takes y.sends goes → Part b y mid x' went → Part (a ++ b) x mid x' went
-  part_on a b x y mid x' went one rest = record {
-    takes = lines_on region a b x.takes y.takes mid one.takes rest.takes;
-    called = subst (λ n. IsCalled n x.sends x' went) (sym (messages_count a b))
-        (called_on opens closes remaining contents leaves is_clean saves fails (length (messages_in a))
-        (length (messages_in b)) x.sends y.sends x' went one.called rest.called);
-  }
+    part_on : (a b : List (List ℕ × Given)) (x y : LiveAt) (mid : Intake) (x' : At) (went : Went)
+        → Part a x y.takes y.sends goes → Part b y mid x' went → Part (a ++ b) x mid x' went
+    part_on a b x y mid x' went one rest = record {
+      takes = lines_on region a b x.takes y.takes mid one.takes rest.takes;
+      called = subst (λ n. IsCalled n x.sends x' went) (sym (messages_count a b))
+          (called_on opens closes remaining contents leaves is_clean saves fails (length (messages_in a))
+          (length (messages_in b)) x.sends y.sends x' went one.called rest.called);
+    }
 
-  part_stops : (a : List (List ℕ × Given)) (x : LiveAt) (mid : Intake) (x' : At) (stop : KeptStop)
-      → stop_status stop ≡ 3 → Part a x mid x' goes → Part a x mid x' (stopped stop)
-  part_stops a x mid x' stop three one = record {
-    takes = one.takes;
-    called = called_stops opens closes remaining contents leaves is_clean saves fails (length (messages_in a)) x.sends
-        x' stop three one.called;
-  }
+    part_stops : (a : List (List ℕ × Given)) (x : LiveAt) (mid : Intake) (x' : At) (stop : KeptStop)
+        → stop_status stop ≡ 3 → Part a x mid x' goes → Part a x mid x' (stopped stop)
+    part_stops a x mid x' stop three one = record {
+      takes = one.takes;
+      called = called_stops opens closes remaining contents leaves is_clean saves fails (length (messages_in a)) x.sends
+          x' stop three one.called;
+    }
 
-  pub turn_part : (x x' : LiveAt) (after : After) (went : Went)
-      → Turn opens closes remaining contents leaves is_clean saves fails region size strict x x' after went
-      → (lines : List (List ℕ × Given)) × (mid : Intake) × Part lines x mid x'.sends went
-      × Next lines mid x'.takes after
-  turn_part x x' after went turn =
-      let (taken, mid, takes, is, few, next) = turn.takes in (
-        taken,
-        mid,
+    pub turn_part : (x x' : LiveAt) (after : After) (went : Went)
+        → Turn opens closes remaining contents leaves is_clean saves fails region size strict x x' after went
+        → (lines : List (List ℕ × Given)) × (mid : Intake) × Part lines x mid x'.sends went
+        × Next lines mid x'.takes after
+    turn_part x x' after went turn =
+        let (taken, mid, takes, is, few, next) = turn.takes in (
+          taken,
+          mid,
+          record {
+            takes = takes;
+            called = subst (λ ms. IsCalled (length ms) x.sends x'.sends went) is
+                (sends_some opens closes remaining contents leaves is_clean saves fails turn.messages x.sends x'.sends
+                x.applied x'.applied x.unknown x'.unknown went turn.sends);
+          },
+          next,
+        )
+
+    goes_on_part : (n : ℕ) (x y : LiveAt)
+        → GoesOnFor opens closes remaining contents leaves is_clean saves fails region size strict n x y
+        → (lines : List (List ℕ × Given)) × Part lines x y.takes y.sends goes
+    goes_on_part zero x y same = ([], subst (λ (z : LiveAt). Part [] x z.takes z.sends goes) (sym same) (part_none x))
+    goes_on_part (suc n) x z (y, before, turn) =
+        let (a, one) = goes_on_part n x y before in
+        let (b, mid, part, next) = turn_part y z GoesOn goes turn in (
+          a ++ b,
+          part_on a b x y z.takes z.sends goes one
+              (subst (λ k. Part b y k z.sends goes) (sym (goes_on_after region strict b mid z.takes next)) part),
+        )
+
+    -- turns up to the last
+    pub record Turned (x x' : LiveAt) (went : Went) : Type 0 where
+      pub lines : List (List ℕ × Given)
+      pub mid : Intake
+      pub part : Part lines x mid x'.sends went
+      pub pauses : Pauses region mid x'.takes
+      pub done : goes ≡ went → ComesToEnd region strict lines mid x'.takes
+
+    turns_end : (a b : List (List ℕ × Given)) (x y x' : LiveAt) (mid : Intake) (end : Result (Unit {0}) RunFault)
+        (went : Went) → Part a x y.takes y.sends goes → Part b y mid x'.sends goes → Next b mid x'.takes (Ends end)
+        → went ≡ ended_as end → Turned x x' went
+    turns_end a b x y x' mid (Ok done) went one part next is = record {
+      lines = a ++ b;
+      mid = mid;
+      part = subst (λ w. Part (a ++ b) x mid x'.sends w) (sym is) (part_on a b x y mid x'.sends goes one part);
+      pauses = pauses_after region strict b mid x'.takes (Ends (Ok done)) next;
+      done = λ on. ends_on region strict a b mid x'.takes (comes_to_end region strict b mid x'.takes done next);
+    }
+    turns_end a b x y x' mid (Err fault) went one part (inl never) is = absurd never
+    turns_end a b x y x' mid (Err fault) went one part (inr (other, same, why)) is =
+        let fault_is : other ≡ fault = sym (same_fault fault other same) in
+        let three : stop_status (Run fault) ≡ 3 = subst (λ f. stop_status (Run f) ≡ 3) fault_is
+        (taking_status region mid x'.takes other why) in
         record {
-          takes = takes;
-          called = subst (λ ms. IsCalled (length ms) x.sends x'.sends went) is
-              (sends_some opens closes remaining contents leaves is_clean saves fails turn.messages x.sends x'.sends
-              x.applied x'.applied x.unknown x'.unknown went turn.sends);
-        },
-        next,
-      )
+          lines = a ++ b;
+          mid = mid;
+          part = subst (λ w. Part (a ++ b) x mid x'.sends w) (sym is)
+              (part_stops (a ++ b) x mid x'.sends (Run fault) three (part_on a b x y mid x'.sends goes one part));
+          pauses = inr (inr (other, why));
+          done = λ on. absurd (goes_not_stopped (Run fault) (on ∙ is));
+        }
 
-  goes_on_part : (n : ℕ) (x y : LiveAt)
-      → GoesOnFor opens closes remaining contents leaves is_clean saves fails region size strict n x y
-      → (lines : List (List ℕ × Given)) × Part lines x y.takes y.sends goes
-  goes_on_part zero x y same = ([], subst (λ (z : LiveAt). Part [] x z.takes z.sends goes) (sym same) (part_none x))
-  goes_on_part (suc n) x z (y, before, turn) =
-      let (a, one) = goes_on_part n x y before in
-      let (b, mid, part, next) = turn_part y z GoesOn goes turn in (
-        a ++ b,
-        part_on a b x y z.takes z.sends goes one
-            (subst (λ k. Part b y k z.sends goes) (sym (goes_on_after region strict b mid z.takes next)) part),
-      )
-
-  -- turns up to the last
-  pub record Turned (x x' : LiveAt) (went : Went) : Type 0 where
-    pub lines : List (List ℕ × Given)
-    pub mid : Intake
-    pub part : Part lines x mid x'.sends went
-    pub pauses : Pauses region mid x'.takes
-    pub done : goes ≡ went → ComesToEnd region strict lines mid x'.takes
-
-  turns_end : (a b : List (List ℕ × Given)) (x y x' : LiveAt) (mid : Intake) (end : Result (Unit {0}) RunFault)
-      (went : Went) → Part a x y.takes y.sends goes → Part b y mid x'.sends goes → Next b mid x'.takes (Ends end)
-      → went ≡ ended_as end → Turned x x' went
-  turns_end a b x y x' mid (Ok done) went one part next is = record {
-    lines = a ++ b;
-    mid = mid;
-    part = subst (λ w. Part (a ++ b) x mid x'.sends w) (sym is) (part_on a b x y mid x'.sends goes one part);
-    pauses = pauses_after region strict b mid x'.takes (Ends (Ok done)) next;
-    done = λ on. ends_on region strict a b mid x'.takes (comes_to_end region strict b mid x'.takes done next);
-  }
-  turns_end a b x y x' mid (Err fault) went one part (inl never) is = absurd never
-  turns_end a b x y x' mid (Err fault) went one part (inr (other, same, why)) is =
-      let fault_is : other ≡ fault = sym (same_fault fault other same) in
-      let three : stop_status (Run fault) ≡ 3 = subst (λ f. stop_status (Run f) ≡ 3) fault_is
-      (taking_status region mid x'.takes other why) in
-      record {
-        lines = a ++ b;
-        mid = mid;
-        part = subst (λ w. Part (a ++ b) x mid x'.sends w) (sym is)
-            (part_stops (a ++ b) x mid x'.sends (Run fault) three (part_on a b x y mid x'.sends goes one part));
-        pauses = inr (inr (other, why));
-        done = λ on. absurd (goes_not_stopped (Run fault) (on ∙ is));
-      }
-
-  pub turned : (x x' : LiveAt) (went : Went)
-      → RunsTurns opens closes remaining contents leaves is_clean saves fails region size strict x x' went
-      → Turned x x' went
-  turned x x' went (n, y, before, inl (inl (end, turn, is))) =
-      let (a, one) = goes_on_part n x y before in
-      let (b, mid, part, next) = turn_part y x' (Ends end) goes turn in
-      turns_end a b x y x' mid end went one part next is
-  turned x x' went (n, y, before, inl (inr (after, stop, turn, is))) =
-      let (a, one) = goes_on_part n x y before in
-      let (b, mid, part, next) = turn_part y x' after (stopped stop) turn in
-      record {
-        lines = a ++ b;
-        mid = mid;
-        part = subst (λ w. Part (a ++ b) x mid x'.sends w) (sym is)
-            (part_on a b x y mid x'.sends (stopped stop) one part);
-        pauses = pauses_after region strict b mid x'.takes after next;
-        done = λ on. absurd (goes_not_stopped stop (on ∙ is));
-      }
-  turned x x' went (n, y, before, inr (all, same, is)) =
-      let (a, one) = goes_on_part n x y before in
-      record {
-        lines = a;
-        mid = y.takes;
-        part = subst (λ w. Part a x y.takes x'.sends w) (sym is)
-            (subst (λ (z : LiveAt). Part a x y.takes z.sends (stopped (Run run.Reading))) (sym same)
-            (part_stops a x y.takes y.sends (Run run.Reading) refl one));
-        pauses = inl (ap (λ (z : LiveAt). z.takes) same);
-        done = λ on. absurd (goes_not_stopped (Run run.Reading) (on ∙ is));
-      }
+    pub turned : (x x' : LiveAt) (went : Went)
+        → RunsTurns opens closes remaining contents leaves is_clean saves fails region size strict x x' went
+        → Turned x x' went
+    turned x x' went (n, y, before, inl (inl (end, turn, is))) =
+        let (a, one) = goes_on_part n x y before in
+        let (b, mid, part, next) = turn_part y x' (Ends end) goes turn in
+        turns_end a b x y x' mid end went one part next is
+    turned x x' went (n, y, before, inl (inr (after, stop, turn, is))) =
+        let (a, one) = goes_on_part n x y before in
+        let (b, mid, part, next) = turn_part y x' after (stopped stop) turn in
+        record {
+          lines = a ++ b;
+          mid = mid;
+          part = subst (λ w. Part (a ++ b) x mid x'.sends w) (sym is)
+              (part_on a b x y mid x'.sends (stopped stop) one part);
+          pauses = pauses_after region strict b mid x'.takes after next;
+          done = λ on. absurd (goes_not_stopped stop (on ∙ is));
+        }
+    turned x x' went (n, y, before, inr (all, same, is)) =
+        let (a, one) = goes_on_part n x y before in
+        record {
+          lines = a;
+          mid = y.takes;
+          part = subst (λ w. Part a x y.takes x'.sends w) (sym is)
+              (subst (λ (z : LiveAt). Part a x y.takes z.sends (stopped (Run run.Reading))) (sym same)
+              (part_stops a x y.takes y.sends (Run run.Reading) refl one));
+          pauses = inl (ap (λ (z : LiveAt). z.takes) same);
+          done = λ on. absurd (goes_not_stopped (Run run.Reading) (on ∙ is));
+        }
