@@ -10,8 +10,9 @@ use Rattle.kept_jobs.proofs.Outliving.{goes, stopped}
 use Rattle.line_batches.specs.Intake.{Intake}
 use Rattle.live_sending.specs.Run.{Live, tally_status}
 use Rattle.live_laws.specs.Taken.{at_start}
-use Rattle.live_laws.specs.Laws.{IsDone, DoneIsKept, WhatACrashLeaves}
+use Rattle.live_laws.specs.Laws.{IsDone, DoneIsKept, WhatACrashLeaves, ToldIsTaken}
 use Rattle.live_laws.proofs.Runs.{whole}
+use Rattle.live_laws.proofs.TellingRuns.{whole_told}
 
 not_three : (status : ℕ) → IsDone status → status ≡ 3 → ⊥
 not_three status (inl is) three = absurd (omega arith)
@@ -77,4 +78,30 @@ module _ {C I O K : Type 0} (opens : C → Option (I × O) → C → Type 0) (cl
           is_unread = unread_is;
         },
         w.outlives,
+      )
+
+  pub told_is_taken_lem : ToldIsTaken opens closes remaining contents leaves is_clean saves fails
+  told_is_taken_lem options c c' x k' held' unread unread' said said' status
+      (went, end, applied, lives, unread_is, ended) done =
+      let w = whole opens closes remaining contents leaves is_clean saves fails options c c' (begins_at x unread said)
+      k'
+      held' end applied went lives in
+      let on : goes ≡ went = on_where_done went end applied said' status done w.status ended in
+      let t = whole_told opens closes remaining contents leaves is_clean saves fails options c c'
+      (begins_at x unread said) k' held' end applied went lives on in (
+        t.lines,
+        record {
+          stops = t.again;
+          last = t.mid;
+          end = end;
+          taken = t.takes;
+          once = t.once;
+          ends = t.ends;
+          is_unread = unread_is;
+        },
+        t.answers,
+        t.text,
+        t.number,
+        t.tells,
+        t.appended,
       )

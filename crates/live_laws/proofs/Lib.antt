@@ -6,3 +6,7 @@ pub mod Making
 pub mod Senders
 pub mod Runs
 pub mod Ending
+pub mod Answering
+pub mod Telling
+pub mod Speaking
+pub mod TellingRuns

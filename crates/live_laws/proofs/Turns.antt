@@ -46,8 +46,9 @@ module _ {C I O K : Type 0} (opens : C → Option (I × O) → C → Type 0) (cl
     -- lines were taken up to there, and what they gave was sent
     pub record Part (lines : List (List ℕ × Given)) (x : LiveAt) (mid : Intake) (x' : At) (went : Went) : Type 0 where
       pub takes : TakesLines region lines x.takes mid
-      pub called : Called opens closes remaining contents leaves is_clean saves fails
-          (length (messages_in lines)) x.sends x' went
+      pub called : Called opens closes remaining contents leaves is_clean saves fails (length (messages_in lines))
+          x.sends
+          x' went
 
     part_none : (x : LiveAt) → Part [] x x.takes x.sends goes
     part_none x = record {
@@ -72,7 +73,7 @@ module _ {C I O K : Type 0} (opens : C → Option (I × O) → C → Type 0) (cl
           x' stop three one.called;
     }
 
-    turn_part : (x x' : LiveAt) (after : After) (went : Went)
+    pub turn_part : (x x' : LiveAt) (after : After) (went : Went)
         → Turn opens closes remaining contents leaves is_clean saves fails region size strict x x' after went
         → (lines : List (List ℕ × Given)) × (mid : Intake) × Part lines x mid x'.sends went
         × Next lines mid x'.takes after

@@ -1,6 +1,8 @@
 -- What holds of whole runs of a server whose lines come as they like: which lines it took, and what a crash leaves of
 -- it (profile).
 use Rattle.std.specs.Prelude.{◌≡◌, ◌⊎◌, ℕ, List, length, Option}
+use Rattle.std.specs.Io.KnownBytes.{Appends}
+use Rattle.uecp_elements.specs.declared.code.Code.{Code}
 use Rattle.uecp_link.specs.Server.{ServerState}
 use Rattle.kept_sending.specs.Keeping.{KeptServer, IsKept}
 use Rattle.kept_jobs.specs.ServerRun.{Standing}
@@ -11,6 +13,7 @@ use Rattle.live_sending.specs.declared.options.LiveOptions.{LiveOptions}
 use Rattle.live_sending.specs.Run.{Lives}
 use Rattle.live_laws.specs.Taken.{TakesSome, TakesAll}
 use Rattle.live_laws.specs.Left.{OutlivesLive}
+use Rattle.live_laws.specs.Told.{TellsAll}
 
 -- the status of a run that came to its end
 abbrev pub IsDone : (status : ℕ) → Type 0
@@ -44,3 +47,15 @@ module _ {C I O K : Type 0} (opens : C → Option (I × O) → C → Type 0) (cl
       × (IsKept (leaves x.keeper) x.progress x.runs → is_clean k' → (left : KeptServer) → leaves k' left →
       OutlivesLive opens closes remaining contents saves fails options x.progress x.runs (length (messages_in lines))
       left)
+
+  -- A run that came to its end took all lines up to that of its input; and it told of each message that these gave one
+  -- line, in order and under its number, and nothing else but of the server and its encoder.
+  abbrev pub ToldIsTaken : Type 0
+  ToldIsTaken =
+      (options : LiveOptions) (c c' : C) (x : Standing ServerState K) (k' : K)
+      (held' unread unread' said said' : Option (List ℕ)) (status : ℕ) →
+      Lives opens closes remaining contents leaves is_clean saves fails options c c' x k' held' unread unread' said
+      said' status → IsDone status →
+      (lines : List (List ℕ × Given)) × (takes : TakesAll options unread unread' said lines)
+      × (answers : List (Option Code)) × (text : List ℕ) × (length answers ≡ length (messages_in lines))
+      × TellsAll options x.progress x.runs takes.stops answers text × Appends x.held held' text

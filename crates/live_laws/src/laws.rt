@@ -1,5 +1,5 @@
 //! Laws of the definitions, each the contract of a function that does nothing.
-ghost use Rattle.live_laws.specs.Laws.{DoneIsKept, WhatACrashLeaves};
+ghost use Rattle.live_laws.specs.Laws.{DoneIsKept, WhatACrashLeaves, ToldIsTaken};
 
 use kept_sending::KeepServer;
 use uecp_net::Connect;
@@ -22,4 +22,15 @@ pub fn done_is_kept<K: KeepServer, C: Connect>()
 pub fn what_a_crash_leaves<K: KeepServer, C: Connect>()
     ensures { WhatACrashLeaves C.opens C.closes C.Input.remaining C.Output.contents K.leaves K.is_clean K.saves
         K.fails }
+{}
+
+/// A run that ended with status 0, 1 or 4 took all lines of its input, or with `strict` all up to one that was refused:
+/// each of them gave nothing, or was refused, and that was said, or gave a message. And what it wrote, behind the lines
+/// on the server and on what waited at the start, is one line for each of these messages, in order and under its
+/// number: the code of its reply, or that it is unknown. In between stands at most what is told of an encoder that was
+/// taken for a new one, and then joined.
+///
+/// It has no premise of the keeper.
+pub fn told_is_taken<K: KeepServer, C: Connect>()
+    ensures { ToldIsTaken C.opens C.closes C.Input.remaining C.Output.contents K.leaves K.is_clean K.saves K.fails }
 {}

@@ -1,0 +1,315 @@
+-- What one sender tells, from its first line on.
+use Rattle.std.proofs.Common.{arith, ◌≡◌, ◌≢◌, ◌⊎◌, ℕ, zero, suc, ◌+◌, ◌-◌, ◌≤◌, Bool, true, false, List, [], ◌++◌}
+use Rattle.std.proofs.Common.{length}
+use Rattle.std.proofs.Common.{Option, Ok, Err, refl, sym, ap, subst, ◌∙◌, inl, inr}
+use Rattle.std.specs.Io.KnownBytes.{Appends}
+use Rattle.uecp_elements.specs.declared.code.Code.{Code}
+use Rattle.uecp_text.proofs.Begun.{appends_nothing, appends_then}
+use Rattle.uecp_link.specs.Server.{ServerState}
+use Rattle.uecp_net.specs.declared.sending.Outstanding.{Outstanding}
+use Rattle.uecp_net.specs.declared.sending.Outstanding.TheVariants.{TriesSpent, ConnectionFailed}
+use Rattle.uecp_net.specs.Sending.{SenderOver}
+use Rattle.uecp_jobs.specs.Batches.{fault_of}
+use Rattle.uecp_jobs.specs.JoiningFirst.{not_joined_line}
+use Rattle.kept_sending.specs.declared.keep.Progress.{Progress}
+use Rattle.kept_sending.specs.declared.sending.KeptOutstanding.TheVariants as kept
+use Rattle.kept_sending.specs.Keeping.{KeptServer, kept_of}
+use Rattle.kept_sending.specs.Sending.{Ended}
+use Rattle.kept_sending.specs.Joining.{Joined, Joins}
+use Rattle.kept_sending.proofs.Joined.{begins_anew_lem}
+use Rattle.kept_jobs.specs.declared.stop.KeptStop.{KeptStop}
+use Rattle.kept_jobs.specs.declared.stop.KeptStop.TheVariants.{Run, StateFailed}
+use Rattle.kept_jobs.specs.Stops.{Went, stop_for}
+use Rattle.kept_jobs.specs.ServerRun.{Standing}
+use Rattle.kept_jobs.proofs.Outliving.{goes, stopped, goes_not_stopped, told_stops}
+use Rattle.live_sending.specs.declared.options.LiveOptions.{LiveOptions}
+use Rattle.live_sending.specs.Lines.{reply_lines, held_lines, station_lines}
+use Rattle.live_sending.specs.Station.{SentFor, MakesStation, MakesOne, MakesIf, JoinedTold}
+use Rattle.live_sending.specs.Run.{Live, HeldTold, SettlesLive, MakesOnce, SettlesOnce, RunsLive, marks_in, unknown_of}
+use Rattle.live_laws.proofs.Calls.{settles_idle}
+use Rattle.live_laws.proofs.Telling.{Onward, told_all, goes_with_none, some_where_stopped, told_turns, turns_unknown}
+
+module _ {C I O K : Type 0} (opens : C → Option (I × O) → C → Type 0) (closes : C → I → O → C → Type 0)
+    (remaining : I → Option (List ℕ)) (contents : O → Option (List ℕ)) (leaves : K → KeptServer → Type 0)
+    (is_clean : K → Type 0) (saves fails : K → KeptServer → K → Type 0) where
+  abbrev At : Type 0
+  At = Standing (SenderOver C I O) K
+
+  -- ---- The joining.
+
+  joins_idle : (s s' : SenderOver C I O) → Joins opens closes remaining contents s s' (Ok tt)
+      → s.sender.server.held ≡ [] → s'.sender.server.held ≡ []
+  joins_idle s s' joins idle =
+      let p : Progress = record { taken = 0; joined = false } in
+      let done : Joined = Ok tt in
+      elim (begins_anew_lem opens closes remaining contents p p s s' done (kept_of p s'.sender.server) refl idle
+      (λ has. joins) (inr (refl, tt))) [
+        | inl was ↦ was.1
+        | inr new ↦ new.1
+      ]
+
+  sent_for_idle : (size n : ℕ) (messages : List (List ℕ)) (told : List Code) (left : List (List ℕ))
+      (s s' : SenderOver C I O) → SentFor opens closes remaining contents size messages n told left s s'
+      → s.sender.server.held ≡ [] → s'.sender.server.held ≡ []
+  sent_for_idle size zero messages told left s s' (none, all, same) idle =
+      ap (λ (d : SenderOver C I O). d.sender.server.held) same ∙ idle
+  sent_for_idle size (suc n) messages told left s s'
+      (before, rest, y, more, tries, sent, some, acknowledges, is_told, is_left) idle =
+      ap (λ (d : ServerState). d.held) acknowledges.freed
+
+  station_idle : (size : ℕ) (station : List (List ℕ)) (told : List Code) (s s' : SenderOver C I O)
+      → MakesStation opens closes remaining contents size station told s s' (Ok tt)
+      → s.sender.server.held ≡ [] → s'.sender.server.held ≡ []
+  station_idle size station told s s' (inl (y, joins, (batches, sent))) idle =
+      sent_for_idle size batches station told [] y s' sent (joins_idle s y joins idle)
+  station_idle size station told s s' (inr (reason, joins, none, is)) idle = absurd (no_error reason is)
+    where
+      no_error : (reason : Outstanding) → Ok (tt {0}) ≡ Err reason → ⊥
+      no_error reason is = cc
+
+  -- what was told of an encoder that was joined
+  abbrev MadeText : (station : List (List ℕ)) → (x x' : At) → Type 0
+  MadeText station x x' = (told : List Code) × Appends x.held x'.held (station_lines station told)
+
+  made_told : (size : ℕ) (station : List (List ℕ)) (x x' : At) (applied applied' : Bool)
+      → MakesIf opens closes remaining contents leaves is_clean saves fails size station true x x' applied applied' goes
+      → MadeText station x x'
+  made_told size station x x' applied applied' (told, joined, one, tells, apply) = by joined tells
+    where
+      by : (joined : Joined) → JoinedTold (station_lines station told) joined x.held x'.held goes
+          → MadeText station x x'
+      by (Ok done) tells = (told, told_all (station_lines station told) x.held x'.held goes tells refl)
+      by (Err (kept.Outstanding reason)) tells =
+          absurd (told_stops not_joined_line (Run (fault_of reason)) x.held x'.held goes tells refl)
+      by (Err kept.StateFailed) (same, is) = absurd (goes_not_stopped StateFailed is)
+
+  made_idle : (size : ℕ) (station : List (List ℕ)) (x x' : At) (applied applied' : Bool)
+      → MakesIf opens closes remaining contents leaves is_clean saves fails size station true x x' applied applied' goes
+      → x.runs.sender.server.held ≡ [] → x'.runs.sender.server.held ≡ []
+  made_idle size station x x' applied applied' (told, joined, one, tells, apply) idle = by joined one tells
+    where
+      by : (joined : Joined)
+          → MakesOne opens closes remaining contents leaves is_clean saves fails size station told joined x x'
+          → JoinedTold (station_lines station told) joined x.held x'.held goes → x'.runs.sender.server.held ≡ []
+      by (Ok done) one tells = station_idle size station told x.runs x'.runs one.makes.0 idle
+      by (Err (kept.Outstanding reason)) one tells =
+          absurd (told_stops not_joined_line (Run (fault_of reason)) x.held x'.held goes tells refl)
+      by (Err kept.StateFailed) one (same, is) = absurd (goes_not_stopped StateFailed is)
+
+  made_taken : (size : ℕ) (station : List (List ℕ)) (x x' : At) (applied applied' : Bool)
+      → MakesIf opens closes remaining contents leaves is_clean saves fails size station true x x' applied applied' goes
+      → x'.progress.taken ≡ x.progress.taken
+  made_taken size station x x' applied applied' (told, joined, one, tells, apply) = by joined one
+    where
+      by : (joined : Joined)
+          → MakesOne opens closes remaining contents leaves is_clean saves fails size station told joined x x'
+          → x'.progress.taken ≡ x.progress.taken
+      by (Ok done) one = ap (λ (p : Progress). p.taken) one.progress
+      by (Err (kept.Outstanding reason)) one = ap (λ (p : Progress). p.taken) one.progress
+      by (Err kept.StateFailed) one = ap (λ (p : Progress). p.taken) one.progress
+
+  -- ---- What waited.
+
+  -- what is told of what waited at a server
+  abbrev pub IsHeldText : At → (text : List ℕ) → Type 0
+  IsHeldText x text =
+      (text ≡ []) ⊎ ((told : List Code)
+      × (text ≡ held_lines (x.progress.taken + 1 - length (marks_in x.runs.sender.server))
+      (marks_in x.runs.sender.server) told))
+
+  record Settled (x x' : At) (unknown' : ℕ) : Type 0 where
+    pub text : List ℕ
+    pub is_text : IsHeldText x text
+    pub appended : Appends x.held x'.held text
+    pub taken : x'.progress.taken ≡ x.progress.taken
+    pub none : unknown' ≡ 0
+
+  settled_told : (x x' : At) (applied applied' : Bool) (unknown unknown' : ℕ) → unknown ≡ 0
+      → SettlesLive opens closes remaining contents leaves is_clean saves fails x x' applied applied' unknown unknown'
+      goes → Settled x x' unknown'
+  settled_told x x' applied applied' unknown unknown' zero_is (inl (idle, same, apply, are, is)) =
+      subst (λ y. Settled x y unknown') (sym same) (record {
+        text = [];
+        is_text = inl refl;
+        appended = appends_nothing x.held;
+        taken = refl;
+        none = are ∙ zero_is;
+      })
+  settled_told x x' applied applied' unknown unknown' zero_is (inr (some, (ended, one, tells, apply, are))) =
+      by ended (ap (λ (p : Progress). p.taken) one.progress) tells are
+    where
+      marks : List Bool
+      marks = marks_in x.runs.sender.server
+
+      by : (ended : Ended) → x'.progress.taken ≡ x.progress.taken
+          → HeldTold (x'.progress.taken + 1 - length (marks_in x.runs.sender.server)) (marks_in x.runs.sender.server)
+          x'.runs.sender.server.counts ended x.held x'.held goes
+          → unknown' ≡ unknown_of (length (marks_in x.runs.sender.server)) ended → Settled x x' unknown'
+      by (Ok settled) taken tells are = record {
+        text = held_lines (x'.progress.taken + 1 - length (marks_in x.runs.sender.server))
+            (marks_in x.runs.sender.server) settled.codes.items;
+        is_text = inr (
+          settled.codes.items,
+          ap (λ n. held_lines (n + 1 - length (marks_in x.runs.sender.server)) (marks_in x.runs.sender.server)
+              settled.codes.items) taken,
+        );
+        appended = told_all _ x.held x'.held goes tells refl;
+        taken = taken;
+        none = are;
+      }
+      by (Err (kept.Outstanding reason)) taken (same, is) are =
+          absurd (goes_not_stopped (stop_for x'.runs.sender.server.counts reason) is)
+      by (Err kept.StateFailed) taken (same, is) are = absurd (goes_not_stopped StateFailed is)
+
+  -- what waited is outstanding, with each try spent
+  record Unsettled (x x' : At) (unknown' : ℕ) : Type 0 where
+    pub appended : Appends x.held x'.held []
+    pub taken : x'.progress.taken ≡ x.progress.taken
+    pub all : unknown' ≡ length (marks_in x.runs.sender.server)
+    pub some : x.runs.sender.server.held ≢ []
+
+  unsettled : (x x' : At) (applied applied' : Bool) (unknown unknown' : ℕ) (stop : KeptStop) → 1 ≤ unknown'
+      → SettlesLive opens closes remaining contents leaves is_clean saves fails x x' applied applied' unknown unknown'
+      (stopped stop) → Unsettled x x' unknown'
+  unsettled x x' applied applied' unknown unknown' stop many (inl (idle, same, apply, are, is)) =
+      absurd (goes_not_stopped stop (sym is))
+  unsettled x x' applied applied' unknown unknown' stop many (inr (some, (ended, one, tells, apply, are))) =
+      by ended (ap (λ (p : Progress). p.taken) one.progress) tells are
+    where
+      by : (ended : Ended) → x'.progress.taken ≡ x.progress.taken
+          → HeldTold (x'.progress.taken + 1 - length (marks_in x.runs.sender.server)) (marks_in x.runs.sender.server)
+          x'.runs.sender.server.counts ended x.held x'.held (stopped stop)
+          → unknown' ≡ unknown_of (length (marks_in x.runs.sender.server)) ended → Unsettled x x' unknown'
+      by (Ok settled) taken tells are = absurd (omega (arith, are, many))
+      by (Err (kept.Outstanding TriesSpent)) taken (same, is) are = record {
+        appended = subst (λ h. Appends x.held h []) (sym same) (appends_nothing x.held);
+        taken = taken;
+        all = are;
+        some = some;
+      }
+      by (Err (kept.Outstanding ConnectionFailed)) taken tells are = absurd (omega (arith, are, many))
+      by (Err kept.StateFailed) taken tells are = absurd (omega (arith, are, many))
+
+  none_settled : (x x' : At) (applied applied' : Bool) (unknown unknown' : ℕ) (went : Went)
+      → x.runs.sender.server.held ≡ []
+      → SettlesLive opens closes remaining contents leaves is_clean saves fails x x' applied applied' unknown unknown'
+      went → (x' ≡ x) × (unknown' ≡ unknown) × (went ≡ goes)
+  none_settled x x' applied applied' unknown unknown' went idle (inl (none, same, apply, are, is)) = (same, are, is)
+  none_settled x x' applied applied' unknown unknown' went idle (inr (some, settles)) = absurd (some idle)
+
+  -- ---- One sender.
+
+  module _ (options : LiveOptions) where
+    abbrev LiveAt : Type 0
+    LiveAt = Live (SenderOver C I O) K
+
+    abbrev IsIdle : At → Type 0
+    IsIdle x = x.runs.sender.server.held ≡ []
+
+    abbrev pub IsFront : (by : Bool) → At → (text : List ℕ) → Type 0
+    IsFront false x text = IsHeldText x text
+    IsFront true x text = (told : List Code) × (text ≡ station_lines options.station.now told)
+
+    -- what was told before the turns
+    record Front (by : Bool) (x z : LiveAt) : Type 0 where
+      pub text : List ℕ
+      pub is_text : IsFront by x.sends text
+      pub appended : Appends x.sends.held z.sends.held text
+      pub taken : z.sends.progress.taken ≡ x.sends.progress.taken
+      pub none : z.unknown ≡ 0
+
+    front : (by : Bool) (x y z : LiveAt) → (by ≡ true → IsIdle x.sends) → x.unknown ≡ 0
+        → MakesOnce opens closes remaining contents leaves is_clean saves fails options by x y goes
+        → SettlesOnce opens closes remaining contents leaves is_clean saves fails y z goes → Front by x z
+    front false x y z idle none ((same, apply, is), takes, unknown) (settles, takes_on) =
+        let s = settled_told x.sends z.sends y.applied z.applied y.unknown z.unknown (unknown ∙ none)
+        (subst (λ (v : At). SettlesLive opens closes remaining contents leaves is_clean saves fails v z.sends y.applied
+        z.applied y.unknown z.unknown goes) same settles) in record {
+          text = s.text;
+          is_text = s.is_text;
+          appended = s.appended;
+          taken = s.taken;
+          none = s.none;
+        }
+    front true x y z idle none (made, takes, unknown) (settles, takes_on) =
+        let (told, appended) = made_told options.reading.size options.station.now x.sends y.sends x.applied y.applied
+        made in
+        let still = made_idle options.reading.size options.station.now x.sends y.sends x.applied y.applied made
+        (idle refl) in
+        let (same, are, is) = none_settled y.sends z.sends y.applied z.applied y.unknown z.unknown goes still settles in
+        record {
+          text = station_lines options.station.now told;
+          is_text = (told, refl);
+          appended = subst (λ (v : At). Appends x.sends.held v.held (station_lines options.station.now told)) (sym same)
+              appended;
+          taken = ap (λ (v : At). v.progress.taken) same
+              ∙ made_taken options.reading.size options.station.now x.sends y.sends x.applied y.applied made;
+          none = are ∙ unknown ∙ none;
+        }
+
+    -- what one sender told, and how many messages it took
+    pub record Spoke (by : Bool) (x x' : At) (unknown' : ℕ) : Type 0 where
+      pub front : List ℕ
+      pub codes : List Code
+      pub is_front : IsFront by x front
+      pub appended : Appends x.held x'.held (front ++ reply_lines (x.progress.taken + 1) codes)
+      pub counted : (x'.progress.taken ≡ x.progress.taken + (length codes + unknown'))
+          ⊎ ((by ≡ false) × (codes ≡ []) × (x'.progress.taken ≡ x.progress.taken)
+          × (unknown' ≡ length (marks_in x.runs.sender.server)))
+
+    stopped_settling : (by : Bool) (x y x' : LiveAt) (stop : KeptStop) → (by ≡ true → IsIdle x.sends) → 1 ≤ x'.unknown
+        → MakesOnce opens closes remaining contents leaves is_clean saves fails options by x y goes
+        → SettlesOnce opens closes remaining contents leaves is_clean saves fails y x' (stopped stop)
+        → Spoke by x.sends x'.sends x'.unknown
+    stopped_settling false x y x' stop idle many ((same, apply, is), takes, unknown) (settles, takes_on) =
+        let u = unsettled x.sends x'.sends y.applied x'.applied y.unknown x'.unknown stop many
+        (subst (λ (v : At). SettlesLive opens closes remaining contents leaves is_clean saves fails v x'.sends y.applied
+        x'.applied y.unknown x'.unknown (stopped stop)) same settles) in record {
+          front = [];
+          codes = [];
+          is_front = inl refl;
+          appended = u.appended;
+          counted = inr (refl, refl, u.taken, u.all);
+        }
+    stopped_settling true x y x' stop idle many (made, takes, unknown) (settles, takes_on) =
+        let still = made_idle options.reading.size options.station.now x.sends y.sends x.applied y.applied made
+        (idle refl) in
+        let (same, are, is) = none_settled y.sends x'.sends y.applied x'.applied y.unknown x'.unknown (stopped stop)
+        still settles in absurd (goes_not_stopped stop (sym is))
+
+    pub spoke : (by : Bool) (x x' : LiveAt) (went : Went) → (by ≡ true → IsIdle x.sends) → x.unknown ≡ 0
+        → RunsLive opens closes remaining contents leaves is_clean saves fails options by x x' went
+        → Onward went x'.unknown → Spoke by x.sends x'.sends x'.unknown
+    spoke by x x' went idle none (inl (y, made, inl (z, settles, turns))) onward =
+        let f = front by x y z idle none made settles in
+        let still = settles_idle opens closes remaining contents leaves is_clean saves fails y.sends z.sends y.applied
+        z.applied y.unknown z.unknown goes settles.0 refl in
+        let t = told_turns opens closes remaining contents leaves is_clean saves fails options.reading.region
+        options.reading.size options.reading.strict z x' went still f.none turns onward in
+        let taken = f.taken in record {
+          front = f.text;
+          codes = t.codes;
+          is_front = f.is_text;
+          appended = appends_then x.sends.held z.sends.held x'.sends.held f.text
+              (reply_lines (x.sends.progress.taken + 1) t.codes) f.appended
+              (subst (λ n. Appends z.sends.held x'.sends.held (reply_lines (n + 1) t.codes)) taken t.appended);
+          counted = inl (let a = t.counted in omega (arith, a, taken));
+        }
+    spoke by x x' went idle none (inl (y, made, inr (stop, settles, is))) onward =
+        stopped_settling by x y x' stop idle (some_where_stopped stop went x'.unknown is onward) made settles
+    spoke by x x' went idle none (inr (stop, (made, takes, unknown), is)) onward =
+        absurd (goes_not_stopped stop (goes_with_none went x'.unknown (unknown ∙ none) onward ∙ is))
+
+    -- a run that goes on leaves none outstanding
+    pub spoke_unknown : (by : Bool) (x x' : LiveAt) (went : Went) → (by ≡ true → IsIdle x.sends) → x.unknown ≡ 0
+        → RunsLive opens closes remaining contents leaves is_clean saves fails options by x x' went → goes ≡ went
+        → x'.unknown ≡ 0
+    spoke_unknown by x x' went idle none (inl (y, made, inl (z, settles, turns))) on =
+        let f = front by x y z idle none made settles in
+        let still = settles_idle opens closes remaining contents leaves is_clean saves fails y.sends z.sends y.applied
+        z.applied y.unknown z.unknown goes settles.0 refl in
+        turns_unknown opens closes remaining contents leaves is_clean saves fails options.reading.region
+        options.reading.size options.reading.strict z x' went still f.none turns on
+    spoke_unknown by x x' went idle none (inl (y, made, inr (stop, settles, is))) on =
+        absurd (goes_not_stopped stop (on ∙ is))
+    spoke_unknown by x x' went idle none (inr (stop, made, is)) on = absurd (goes_not_stopped stop (on ∙ is))

@@ -1,0 +1,229 @@
+-- What turns and senders tell.
+use Rattle.std.proofs.Common.{arith, ◌≡◌, ◌⊎◌, ℕ, zero, suc, ◌+◌, ◌-◌, ◌≤◌, Bool, List, [], ◌++◌, length}
+use Rattle.std.proofs.Common.{Option, Ok, Err, refl, sym, ap, subst, ◌∙◌, inl, inr, length-append}
+use Rattle.std.specs.Io.KnownBytes.{Appends}
+use Rattle.rds_text.specs.declared.programme_type.Region.{Region}
+use Rattle.uecp_elements.specs.declared.code.Code.{Code}
+use Rattle.uecp_text.specs.declared.run_fault.RunFault.TheVariants as run
+use Rattle.uecp_text.proofs.Begun.{appends_nothing, appends_then}
+use Rattle.uecp_link.specs.Server.{waiting}
+use Rattle.uecp_net.specs.declared.sending.Outstanding.TheVariants.{TriesSpent, ConnectionFailed}
+use Rattle.uecp_net.specs.declared.sending.Settled.{Settled}
+use Rattle.uecp_net.specs.Sending.{SenderOver, submitted_all}
+use Rattle.uecp_jobs.proofs.BatchLines.{all_wait}
+use Rattle.kept_sending.specs.declared.keep.Progress.{Progress}
+use Rattle.kept_sending.specs.declared.sending.KeptOutstanding.TheVariants as kept
+use Rattle.kept_sending.specs.Keeping.{KeptServer}
+use Rattle.kept_sending.specs.Sending.{Ended, SendsKept}
+use Rattle.kept_jobs.specs.declared.stop.KeptStop.{KeptStop}
+use Rattle.kept_jobs.specs.declared.stop.KeptStop.TheVariants.{Run, StateFailed}
+use Rattle.kept_jobs.specs.Stops.{Went, TellsKept, stop_for}
+use Rattle.kept_jobs.specs.ServerRun.{Standing, SendsOne}
+use Rattle.kept_jobs.proofs.Outliving.{goes, stopped, goes_not_stopped}
+use Rattle.line_batches.specs.declared.taking.After.{After}
+use Rattle.line_batches.specs.declared.taking.After.TheVariants.{GoesOn, Ends}
+use Rattle.live_sending.specs.Lines.{reply_lines}
+use Rattle.live_sending.specs.Run.{Live, RepliesTold, SendsSome, Turn, GoesOnFor, RunsTurns, unknown_of}
+use Rattle.live_laws.proofs.Answering.{replies_append}
+use Rattle.live_laws.proofs.Turns.{turn_part}
+
+-- the run goes on, or it stopped with messages outstanding and each try spent
+abbrev pub Onward : Went → (unknown : ℕ) → Type 0
+Onward went unknown = (goes ≡ went) ⊎ (1 ≤ unknown)
+
+-- what is told of a run that goes on is told whole
+pub told_all : (lines : List ℕ) (held held' : Option (List ℕ)) (went : Went) → TellsKept lines goes held held' went
+    → goes ≡ went → Appends held held' lines
+told_all lines held held' went (inl (appends, is)) on = appends
+told_all lines held held' went (inr (begins, inl is)) on = absurd (goes_not_stopped (Run run.Writing) (on ∙ is))
+told_all lines held held' went (inr (begins, inr is)) on = absurd (goes_not_stopped (Run run.OutOfMemory) (on ∙ is))
+
+-- with none outstanding it goes on
+pub goes_with_none : (went : Went) (unknown : ℕ) → unknown ≡ 0 → Onward went unknown → goes ≡ went
+goes_with_none went unknown none (inl on) = on
+goes_with_none went unknown none (inr some) = absurd (omega (arith, none, some))
+
+-- where it stopped some are outstanding
+pub some_where_stopped : (stop : KeptStop) (went : Went) (unknown : ℕ) → went ≡ stopped stop → Onward went unknown
+    → 1 ≤ unknown
+some_where_stopped stop went unknown is (inl on) = absurd (goes_not_stopped stop (on ∙ is))
+some_where_stopped stop went unknown is (inr some) = some
+
+module _ {C I O K : Type 0} (opens : C → Option (I × O) → C → Type 0) (closes : C → I → O → C → Type 0)
+    (remaining : I → Option (List ℕ)) (contents : O → Option (List ℕ)) (leaves : K → KeptServer → Type 0)
+    (is_clean : K → Type 0) (saves fails : K → KeptServer → K → Type 0) where
+  abbrev At : Type 0
+  At = Standing (SenderOver C I O) K
+
+  -- the codes of messages were told, each under its number, and so many more were taken
+  pub record Told (x x' : At) (unknown' : ℕ) : Type 0 where
+    pub codes : List Code
+    pub appended : Appends x.held x'.held (reply_lines (x.progress.taken + 1) codes)
+    pub counted : x'.progress.taken ≡ x.progress.taken + (length codes + unknown')
+
+  told_none : (x : At) (unknown' : ℕ) → unknown' ≡ 0 → Told x x unknown'
+  told_none x unknown' none = record {
+    codes = [];
+    appended = appends_nothing x.held;
+    counted = omega (arith, none);
+  }
+
+  told_on : (x y z : At) (unknown' : ℕ) → Told x y 0 → Told y z unknown' → Told x z unknown'
+  told_on x y z unknown' one rest =
+      let counted = one.counted in
+      let place : y.progress.taken + 1 ≡ x.progress.taken + 1 + length one.codes = omega (arith, counted) in
+      record {
+        codes = one.codes ++ rest.codes;
+        appended = subst (λ l. Appends x.held z.held l)
+            (sym (replies_append (x.progress.taken + 1) one.codes rest.codes))
+            (appends_then x.held y.held z.held (reply_lines (x.progress.taken + 1) one.codes)
+            (reply_lines (x.progress.taken + 1 + length one.codes) rest.codes) one.appended
+            (subst (λ n. Appends y.held z.held (reply_lines n rest.codes)) place rest.appended));
+        counted = (let a = rest.counted in let b = length-append one.codes rest.codes in
+            omega (arith, a, b, counted));
+      }
+
+  -- ---- A batch.
+
+  all_told : (batch : List (List ℕ)) (settled : Settled) (x x' : At) → x.runs.sender.server.held ≡ []
+      → SendsKept opens closes remaining contents saves fails x'.progress (submitted_all x.runs batch) x'.runs x.keeper
+      x'.keeper (Ok settled) → length settled.codes.items ≡ length batch
+  all_told batch settled x x' idle (inl (between, saved, (acknowledges, again))) =
+      let number = acknowledges.all in let wait = all_wait x.runs batch in
+      let none : length (waiting x.runs.sender.server) ≡ 0 =
+      ap (λ hs. length (waiting (record x.runs.sender.server { held = hs }))) idle in
+      omega (arith, number, wait, none)
+  all_told batch settled x x' idle (inr (is, same, failed)) =
+      absurd (let no : Ok settled ≡ Err kept.StateFailed = is in cc)
+
+  told_batch : (batch : List (List ℕ)) (ended : Ended) (x x' : At) (unknown' : ℕ) (went : Went)
+      → x.runs.sender.server.held ≡ []
+      → SendsOne opens closes remaining contents leaves is_clean saves fails batch ended x x'
+      → RepliesTold x'.progress.taken x'.runs.sender.server.counts ended x.held x'.held went
+      → unknown' ≡ unknown_of (length batch) ended → Onward went unknown' → Told x x' unknown'
+  told_batch batch (Ok settled) x x' unknown' went idle one tells are onward =
+      let number : length settled.codes.items ≡ length batch = all_told batch settled x x' idle one.sends in
+      let taken : x'.progress.taken ≡ x.progress.taken + length batch =
+      ap (λ (p : Progress). p.taken) one.progress in
+      let first : x'.progress.taken + 1 - length settled.codes.items ≡ x.progress.taken + 1 =
+      omega (arith, number, taken) in
+      record {
+        codes = settled.codes.items;
+        appended = subst (λ n. Appends x.held x'.held (reply_lines n settled.codes.items)) first
+            (told_all _ x.held x'.held went tells (goes_with_none went unknown' are onward));
+        counted = omega (arith, number, taken, are);
+      }
+  told_batch batch (Err (kept.Outstanding TriesSpent)) x x' unknown' went idle one (same, is) are onward =
+      let taken : x'.progress.taken ≡ x.progress.taken + length batch =
+      ap (λ (p : Progress). p.taken) one.progress in
+      record {
+        codes = [];
+        appended = subst (λ h. Appends x.held h []) (sym same) (appends_nothing x.held);
+        counted = omega (arith, taken, are);
+      }
+  told_batch batch (Err (kept.Outstanding ConnectionFailed)) x x' unknown' went idle one (same, is) are onward =
+      absurd (goes_not_stopped (stop_for x'.runs.sender.server.counts ConnectionFailed)
+      (goes_with_none went unknown' are onward ∙ is))
+  told_batch batch (Err kept.StateFailed) x x' unknown' went idle one (same, is) are onward =
+      absurd (goes_not_stopped StateFailed (goes_with_none went unknown' are onward ∙ is))
+
+  told_some : (batch : List (List ℕ)) (x x' : At) (applied applied' : Bool) (unknown unknown' : ℕ) (went : Went)
+      → x.runs.sender.server.held ≡ [] → unknown ≡ 0
+      → SendsSome opens closes remaining contents leaves is_clean saves fails batch x x' applied applied' unknown
+      unknown' went → Onward went unknown' → Told x x' unknown'
+  told_some batch x x' applied applied' unknown unknown' went idle zero_is (inl (none, same, apply, are, is)) onward =
+      subst (λ y. Told x y unknown') (sym same) (told_none x unknown' (are ∙ zero_is))
+  told_some batch x x' applied applied' unknown unknown' went idle zero_is
+      (inr (some, (ended, one, tells, apply, are))) onward =
+      told_batch batch ended x x' unknown' went idle one tells are onward
+
+  none_unknown : (batch : List (List ℕ)) (x x' : At) (applied applied' : Bool) (unknown unknown' : ℕ) (went : Went)
+      → unknown ≡ 0
+      → SendsSome opens closes remaining contents leaves is_clean saves fails batch x x' applied applied' unknown
+      unknown' went → goes ≡ went → unknown' ≡ 0
+  none_unknown batch x x' applied applied' unknown unknown' went zero_is (inl (none, same, apply, are, is)) on =
+      are ∙ zero_is
+  none_unknown batch x x' applied applied' unknown unknown' went zero_is
+      (inr (some, (ended, one, tells, apply, are))) on = by ended tells are
+    where
+      by : (ended : Ended) → RepliesTold x'.progress.taken x'.runs.sender.server.counts ended x.held x'.held went
+          → unknown' ≡ unknown_of (length batch) ended → unknown' ≡ 0
+      by (Ok settled) tells are = are
+      by (Err (kept.Outstanding reason)) (same, is) are =
+          absurd (goes_not_stopped (stop_for x'.runs.sender.server.counts reason) (on ∙ is))
+      by (Err kept.StateFailed) (same, is) are = absurd (goes_not_stopped StateFailed (on ∙ is))
+
+  -- ---- Turns.
+
+  module _ (region : Region) (size : ℕ) (strict : Bool) where
+    abbrev LiveAt : Type 0
+    LiveAt = Live (SenderOver C I O) K
+
+    abbrev OneTurn : (x x' : LiveAt) → After → Went → Type 0
+    OneTurn = Turn opens closes remaining contents leaves is_clean saves fails region size strict
+
+    told_turn : (x x' : LiveAt) (after : After) (went : Went) → x.sends.runs.sender.server.held ≡ [] → x.unknown ≡ 0
+        → OneTurn x x' after went → Onward went x'.unknown → Told x.sends x'.sends x'.unknown
+    told_turn x x' after went idle none turn onward =
+        told_some turn.messages x.sends x'.sends x.applied x'.applied x.unknown x'.unknown went idle none turn.sends
+        onward
+
+    turn_unknown : (x x' : LiveAt) (after : After) → x.unknown ≡ 0 → OneTurn x x' after goes → x'.unknown ≡ 0
+    turn_unknown x x' after none turn =
+        none_unknown turn.messages x.sends x'.sends x.applied x'.applied x.unknown x'.unknown goes none turn.sends refl
+
+    turn_idle : (x x' : LiveAt) (after : After) → x.sends.runs.sender.server.held ≡ [] → OneTurn x x' after goes
+        → x'.sends.runs.sender.server.held ≡ []
+    turn_idle x x' after idle turn =
+        let (taken, mid, part, next) = turn_part opens closes remaining contents leaves is_clean saves fails region size
+        strict x x' after goes turn in part.called.idle refl idle
+
+    -- where a run stands after some turns
+    record Going (x y : LiveAt) : Type 0 where
+      pub told : Told x.sends y.sends 0
+      pub idle : y.sends.runs.sender.server.held ≡ []
+      pub none : y.unknown ≡ 0
+
+    told_going : (n : ℕ) (x y : LiveAt) → x.sends.runs.sender.server.held ≡ [] → x.unknown ≡ 0
+        → GoesOnFor opens closes remaining contents leaves is_clean saves fails region size strict n x y → Going x y
+    told_going zero x y idle none same = subst (λ (z : LiveAt). Going x z) (sym same) (record {
+      told = told_none x.sends 0 refl;
+      idle = idle;
+      none = none;
+    })
+    told_going (suc n) x z idle none (y, before, turn) =
+        let so = told_going n x y idle none before in
+        let zero_is = turn_unknown y z GoesOn so.none turn in record {
+          told = told_on x.sends y.sends z.sends 0 so.told
+              (subst (λ u. Told y.sends z.sends u) zero_is (told_turn y z GoesOn goes so.idle so.none turn (inl refl)));
+          idle = turn_idle y z GoesOn so.idle turn;
+          none = zero_is;
+        }
+
+    pub told_turns : (x x' : LiveAt) (went : Went) → x.sends.runs.sender.server.held ≡ [] → x.unknown ≡ 0
+        → RunsTurns opens closes remaining contents leaves is_clean saves fails region size strict x x' went
+        → Onward went x'.unknown → Told x.sends x'.sends x'.unknown
+    told_turns x x' went idle none (n, y, before, inl (inl (end, turn, is))) onward =
+        let so = told_going n x y idle none before in
+        told_on x.sends y.sends x'.sends x'.unknown so.told
+        (told_turn y x' (Ends end) goes so.idle so.none turn (inl refl))
+    told_turns x x' went idle none (n, y, before, inl (inr (after, stop, turn, is))) onward =
+        let so = told_going n x y idle none before in
+        told_on x.sends y.sends x'.sends x'.unknown so.told
+        (told_turn y x' after (stopped stop) so.idle so.none turn
+        (inr (some_where_stopped stop went x'.unknown is onward)))
+    told_turns x x' went idle none (n, y, before, inr (all, same, is)) onward =
+        let so = told_going n x y idle none before in
+        subst (λ (z : LiveAt). Told x.sends z.sends z.unknown) (sym same)
+        (subst (λ u. Told x.sends y.sends u) (sym so.none) so.told)
+
+    -- a run that goes on leaves none outstanding
+    pub turns_unknown : (x x' : LiveAt) (went : Went) → x.sends.runs.sender.server.held ≡ [] → x.unknown ≡ 0
+        → RunsTurns opens closes remaining contents leaves is_clean saves fails region size strict x x' went
+        → goes ≡ went → x'.unknown ≡ 0
+    turns_unknown x x' went idle none (n, y, before, inl (inl (end, turn, is))) on =
+        let so = told_going n x y idle none before in turn_unknown y x' (Ends end) so.none turn
+    turns_unknown x x' went idle none (n, y, before, inl (inr (after, stop, turn, is))) on =
+        absurd (goes_not_stopped stop (on ∙ is))
+    turns_unknown x x' went idle none (n, y, before, inr (all, same, is)) on =
+        absurd (goes_not_stopped (Run run.Reading) (on ∙ is))

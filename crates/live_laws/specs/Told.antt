@@ -1,0 +1,60 @@
+-- What a whole run told of the messages of its lines (profile).
+use Rattle.std.specs.Prelude.{◌≡◌, ◌⊎◌, ℕ, zero, suc, ◌+◌, ◌-◌, Bool, true, false, List, [], ◌∷◌, ◌++◌, length}
+use Rattle.std.specs.Prelude.{Option, Some, None}
+use Rattle.uecp_elements.specs.declared.code.Code.{Code}
+use Rattle.uecp_link.specs.Server.{ServerState, waiting}
+use Rattle.kept_sending.specs.declared.keep.Progress.{Progress}
+use Rattle.kept_jobs.specs.ServerRun.{taken_line, given_up_line, is_due}
+use Rattle.live_sending.specs.declared.options.LiveOptions.{LiveOptions}
+use Rattle.live_sending.specs.Lines.{reply_line, held_lines, unknown_line, unknown_lines, station_lines}
+use Rattle.live_sending.specs.Run.{marks_in}
+
+-- What was told of the message of this number: the code of the reply to it; or that it is unknown.
+abbrev pub answer_line : (number : ℕ) → Option Code → List ℕ
+answer_line number (Some code) = reply_line number code
+answer_line number None = unknown_line number
+
+-- so of messages one after another, the first of which has this number
+abbrev pub answer_lines : (first : ℕ) → List (Option Code) → List ℕ
+answer_lines first [] = []
+answer_lines first (answer ∷ answers) = answer_line first answer ++ answer_lines (first + 1) answers
+
+-- how many messages are given up by a server that begins anew, where it does
+abbrev pub anew_lines : (due : Bool) → ServerState → List ℕ
+anew_lines false s = []
+anew_lines true s = given_up_line (length (waiting s))
+
+module _ (options : LiveOptions) (before : Progress) (s : ServerState) where
+  -- What was told before a first line was taken: of a server that goes on, of the messages that waited, where there
+  -- were some; and of one that begins anew, of the encoder that was joined and of the station.
+  abbrev pub IsToldFirst : (due : Bool) → (text : List ℕ) → Type 0
+  IsToldFirst false text =
+      (text ≡ []) ⊎ ((told : List Code)
+      × (text ≡ held_lines (before.taken + 1 - length (marks_in s)) (marks_in s) told))
+  IsToldFirst true text = (told : List Code) × (text ≡ station_lines options.station.now told)
+
+  -- What was told in between, of no message of the lines, where the encoder was taken for a new one: that the messages
+  -- are unknown which waited at the start, where it was these that were outstanding; and then of the encoder that was
+  -- joined and of the station.
+  abbrev pub IsToldBetween : (text : List ℕ) → Type 0
+  IsToldBetween text =
+      (waited : List ℕ) × (told : List Code)
+      × ((waited ≡ []) ⊎ (waited ≡ unknown_lines (before.taken + 1 - length (marks_in s)) (length (marks_in s))))
+      × (text ≡ waited ++ station_lines options.station.now told)
+
+  -- What was told by a run behind its first line: first that; and then of each message of its lines one line, in order
+  -- and under its number, with so many times something else in between.
+  abbrev pub TellsFor : (stops : ℕ) → (answers : List (Option Code)) → (text : List ℕ) → Type 0
+  TellsFor zero answers text =
+      (begin : List ℕ) × IsToldFirst (is_due options.join before) begin
+      × (text ≡ begin ++ answer_lines (before.taken + 1) answers)
+  TellsFor (suc n) answers text =
+      (earlier : List (Option Code)) × (more : List (Option Code)) × (told : List ℕ) × (between : List ℕ)
+      × TellsFor n earlier told × IsToldBetween between × (answers ≡ earlier ++ more)
+      × (text ≡ told ++ (between ++ answer_lines (before.taken + 1 + length earlier) more))
+
+  -- What was told by a whole run: how far the server had come, how many messages are given up, and then that.
+  abbrev pub TellsAll : (stops : ℕ) → (answers : List (Option Code)) → (text : List ℕ) → Type 0
+  TellsAll stops answers text =
+      (told : List ℕ) × TellsFor stops answers told
+      × (text ≡ (taken_line before.taken (length (waiting s)) ++ anew_lines (is_due options.join before) s) ++ told)
