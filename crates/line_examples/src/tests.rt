@@ -1,3 +1,4 @@
+mod asserting;
 mod joining;
 mod line;
 mod sockets;

@@ -6,8 +6,10 @@ use super::line::{
     acknowledged, delivered, frame, goes_over, heard_applied, is_taken, message, new_line, reply,
     steps,
 };
+use crate::tests::asserting::{holds, same};
 use faulty_devices::{FaultyReader, FaultyWriter, new_encoder, own_address, replies, reply_made};
 use rds_store::Group;
+use std::alloc::Global;
 use std::ops::Range;
 use std::process::Abort;
 use std::test::Fail;
@@ -72,13 +74,13 @@ fn act_once(
     for number in numbers {
         counter = counter % 255 + 1;
         let reply = reply_made(0x00, counter);
-        assert!(rt; server.has_room());
+        holds!(rt; server.has_room());
         server.submit(&message(rt, bytes_of(number)));
         for fresh in [true, false] {
             let frame = server.outgoing().expect(rt, "outstanding");
-            assert!(rt; replies(encoder, frame, reply.as_slice(), fresh));
+            holds!(rt; replies(encoder, frame, reply.as_slice(), fresh));
         }
-        assert_eq!(rt; server.hear(reply.as_slice()).what, heard_applied(counter));
+        same!(rt; server.hear(reply.as_slice()).what, heard_applied(counter));
     }
 }
 
@@ -94,20 +96,20 @@ fn answers(
     let before = u64::from(count);
     let (fresh, repeats) = (255 - before % 255, (before % 255).min(127));
     let mut reader = Meter::new(FaultyReader::new(pass));
-    assert!(rt; serve(encoder, &mut reader, writer, 64).is_ok());
+    holds!(rt; serve(encoder, &mut reader, writer, 64).is_ok());
     let counts = (encoder.counts().fresh, encoder.counts().repeats);
-    assert_eq!(rt; counts, (before + fresh, before + repeats));
-    assert_eq!(rt; *encoder.target(), made(count));
+    same!(rt; counts, (before + fresh, before + repeats));
+    same!(rt; *encoder.target(), made(count));
 }
 
 /// The server writes the pass and reads these replies.
 fn joins(rt: &impl Abort, server: &mut Server, pass: &[u8], replies: &[u8]) {
     let mut reader = Meter::new(FaultyReader::new(replies));
     let mut writer = Meter::new(FaultyWriter::new());
-    assert!(rt; server.is_idle());
+    holds!(rt; server.is_idle());
     let joined = join(server, &mut reader, &mut writer, 4096);
-    assert_eq!(rt; joined, Ok(Joining::Joined));
-    assert!(rt; writer.into_inner().taken() == pass);
+    same!(rt; joined, Ok(Joining::Joined));
+    holds!(rt; writer.into_inner().taken() == pass);
 }
 
 /// After so many messages of one server another joins, and two messages of this one follow.
@@ -120,7 +122,7 @@ fn is_joined(rt: &impl Abort, encoder: &mut Encoder<BytesTarget>, pass: &[u8], c
     joins(rt, &mut server, pass, writer.into_inner().taken());
     let after = count.saturating_add(2);
     act_once(rt, &mut server, encoder, count..after);
-    assert_eq!(rt; *encoder.target(), made(after));
+    same!(rt; *encoder.target(), made(after));
 }
 
 /// A server writes its pass, and makes no read.
@@ -128,19 +130,23 @@ fn write_pass(rt: &impl Abort, writer: &mut Meter<FaultyWriter<'_>>) {
     let mut server = Server::new(own_address());
     let mut reader = Meter::new(FaultyReader::new(b""));
     let joined = join(&mut server, &mut reader, writer, 0);
-    assert_eq!(rt; joined, Ok(Joining::Spent));
+    same!(rt; joined, Ok(Joining::Spent));
+}
+
+/// A new encoder over a target that counts bytes.
+fn bytes_encoder(rt: &impl Abort, alloc: Global) -> Encoder<BytesTarget> {
+    new_encoder(alloc, BytesTarget::default()).expect(rt, "an encoder")
 }
 
 #[test]
-fn a_server_joins_from_every_state(rt: HostRuntime) -> Result<(), Fail> {
+fn a_server_joins_from_every_state(rt: HostRuntime) {
     let mut writer = Meter::new(FaultyWriter::new());
     write_pass(&rt, &mut writer);
     let pass = writer.into_inner();
     for count in (0..256).chain([256, 300, 510, 1000]) {
-        let mut encoder = new_encoder(rt.alloc(), BytesTarget::default())?;
+        let mut encoder = bytes_encoder(&rt, rt.alloc());
         is_joined(&rt, &mut encoder, pass.taken(), count);
     }
-    Ok(())
 }
 
 /// The messages of these numbers go over a line.
@@ -165,29 +171,33 @@ fn three_more(rt: &impl Abort, line: &mut Line<BytesTarget>, count: u16) {
 /// The server of a line on which so many messages were applied is started again, and gives up those that wait, which
 /// are so many. Two messages of the new one go over, from number 0 on.
 fn starts_again(rt: &impl Abort, line: &mut Line<BytesTarget>, count: u16, waiting: usize) {
-    assert_eq!(rt; line.replace_server(), waiting);
-    assert!(rt; line.sent().is_empty() && line.codes().is_empty());
-    assert_eq!(rt; *line.encoder().target(), made(count));
+    same!(rt; line.replace_server(), waiting);
+    holds!(rt; line.sent().is_empty() && line.codes().is_empty());
+    same!(rt; *line.encoder().target(), made(count));
     let after = count.saturating_add(2);
     go_over(rt, line, count..after);
-    assert_eq!(rt; (line.sent().len(), line.acknowledged()), (2, 2));
-    assert_eq!(rt; *line.encoder().target(), made(after));
+    same!(rt; (line.sent().len(), line.acknowledged()), (2, 2));
+    same!(rt; *line.encoder().target(), made(after));
+}
+
+/// A new line on which so many messages went over.
+fn with_messages(rt: &impl Abort, alloc: Global, count: u16) -> Line<BytesTarget> {
+    let mut line = new_line(rt, alloc, BytesTarget::default());
+    go_over(rt, &mut line, 0..count);
+    line
 }
 
 #[test]
-fn a_server_is_started_again_in_every_state(rt: HostRuntime) -> Result<(), Fail> {
+fn a_server_is_started_again_in_every_state(rt: HostRuntime) {
     for count in (0..256).chain([256, 300, 510, 1000]) {
-        let mut line = new_line(rt.alloc(), BytesTarget::default())?;
-        go_over(&rt, &mut line, 0..count);
+        let mut line = with_messages(&rt, rt.alloc(), count);
         starts_again(&rt, &mut line, count, 0);
     }
     for count in [0, 1, 124, 125, 252, 253, 254, 255, 300, 510, 1000] {
-        let mut line = new_line(rt.alloc(), BytesTarget::default())?;
-        go_over(&rt, &mut line, 0..count);
+        let mut line = with_messages(&rt, rt.alloc(), count);
         three_more(&rt, &mut line, count);
         starts_again(&rt, &mut line, count.saturating_add(3), 2);
     }
-    Ok(())
 }
 
 #[test]
@@ -196,6 +206,6 @@ fn a_line_of_a_new_encoder_is_as_a_new_line(rt: HostRuntime) -> Result<(), Fail>
     let encoder = Encoder::new(rt.alloc(), address, BytesTarget::default());
     let mut line = Line::of_encoder(rt.alloc(), address, encoder.ok().ok_or("no memory")?);
     go_over(&rt, &mut line, 0..1);
-    assert_eq!(rt; *line.encoder().target(), made(1));
+    same!(rt; *line.encoder().target(), made(1));
     Ok(())
 }

@@ -13,13 +13,13 @@ mod takes;
 mod turns;
 mod window;
 
-use faulty_devices::{ADD, CountTarget, EMPTY_1, own_address, texts_of};
+use crate::tests::asserting::{holds, same};
+use faulty_devices::{ADD, CountTarget, EMPTY_1, new_store_encoder, own_address, texts_of};
 use rds_store::RdsStore;
 use std::alloc::Global;
 use std::process::Abort;
-use std::test::Fail;
 use uecp_elements::Code;
-use uecp_encoder::Target;
+use uecp_encoder::{Encoder, Target};
 use uecp_frame::Message;
 use uecp_link::{DriveFault, Driven, HeardWhat, Line, LineEvent, LineRefusal, Side, Stepped};
 
@@ -32,16 +32,24 @@ pub(crate) fn message(rt: &impl Abort, bytes: &[u8]) -> Message {
 }
 
 /// A new line of site 1, encoder 1.
-pub(crate) fn new_line<T: Target + Drop>(
-    alloc: Global,
-    target: T,
-) -> Result<Line<T>, &'static str> {
-    Line::new(alloc, own_address(), target).or(Err("no memory"))
+pub(crate) fn new_line<T: Target + Drop>(rt: &impl Abort, alloc: Global, target: T) -> Line<T> {
+    let line = Line::new(alloc, own_address(), target).or(Err("no memory"));
+    line.expect(rt, "a line")
 }
 
-/// A new line whose store has one data set and service 01.
-fn new_store_line(alloc: Global) -> Result<Line<RdsStore>, Fail> {
-    Ok(new_line(alloc, RdsStore::new(alloc, 1, &[0x01])?)?)
+/// A new store with one data set and service 01.
+fn new_store(rt: &impl Abort, alloc: Global) -> RdsStore {
+    RdsStore::new(alloc, 1, &[0x01]).expect(rt, "a store")
+}
+
+/// A new line over such a store.
+fn new_store_line(rt: &impl Abort, alloc: Global) -> Line<RdsStore> {
+    new_line(rt, alloc, new_store(rt, alloc))
+}
+
+/// A new encoder over such a store.
+pub(crate) fn store_encoder(rt: &impl Abort, alloc: Global) -> Encoder<RdsStore> {
+    new_store_encoder(alloc, 1).expect(rt, "an encoder")
 }
 
 /// The whole frame of a number.
@@ -87,16 +95,18 @@ pub(crate) fn steps<T: Target>(
     event: &LineEvent<'_>,
     stepped: Result<Stepped, LineRefusal>,
 ) {
-    assert_eq!(rt; line.step(event), stepped);
+    same!(rt; line.step(event), stepped);
 }
 
 /// A new line of site 1, encoder 1, after these events, and how many it refused.
 fn played<T: Target + Drop>(
+    rt: &impl Abort,
     alloc: Global,
     target: T,
     events: &[LineEvent<'_>],
-) -> Result<(Line<T>, usize), &'static str> {
-    Line::play(alloc, own_address(), target, events).or(Err("no memory"))
+) -> (Line<T>, usize) {
+    let played = Line::play(alloc, own_address(), target, events).or(Err("no memory"));
+    played.expect(rt, "a line")
 }
 
 /// This end loses the line.
@@ -121,7 +131,7 @@ pub(crate) fn goes_over<T: Target>(rt: &impl Abort, line: &mut Line<T>, code: Co
     let number = line.applied();
     steps(rt, line, &frame(number), delivered(true, code));
     steps(rt, line, &reply(number), acknowledged(code));
-    assert!(rt; line.server().is_idle());
+    holds!(rt; line.server().is_idle());
 }
 
 /// The frame that the line's server lends.
@@ -130,32 +140,29 @@ fn lent<'a, T: Target>(rt: &impl Abort, line: &'a Line<T>) -> &'a [u8] {
 }
 
 #[test]
-fn with_memory_a_new_line_takes_its_first_message(rt: HostRuntime) -> Result<(), Fail> {
-    let mut line = new_store_line(rt.alloc())?;
+fn with_memory_a_new_line_takes_its_first_message(rt: HostRuntime) {
+    let mut line = new_store_line(&rt, rt.alloc());
     is_taken(&rt, &mut line, &[]);
-    assert!(rt; lent(&rt, &line) == EMPTY_1.as_slice());
-    Ok(())
+    holds!(rt; lent(&rt, &line) == EMPTY_1.as_slice());
 }
 
 #[test]
-fn with_memory_a_line_is_played(rt: HostRuntime) -> Result<(), Fail> {
+fn with_memory_a_line_is_played(rt: HostRuntime) {
     let empty = Message::new();
     let submit = [LineEvent::Submit(&empty)];
-    let store = RdsStore::new(rt.alloc(), 1, &[0x01])?;
-    let (line, refused) = played(rt.alloc(), store, &submit)?;
-    assert_eq!(rt; (line.sent().len(), refused), (1, 0));
-    Ok(())
+    let store = new_store(&rt, rt.alloc());
+    let (line, refused) = played(&rt, rt.alloc(), store, &submit);
+    same!(rt; (line.sent().len(), refused), (1, 0));
 }
 
 #[test]
-fn with_memory_a_line_runs(rt: HostRuntime) -> Result<(), Fail> {
+fn with_memory_a_line_runs(rt: HostRuntime) {
     let empty = Message::new();
     let submit = [LineEvent::Submit(&empty)];
-    let mut line = new_store_line(rt.alloc())?;
-    assert_eq!(rt; line.run(&submit), 0);
+    let mut line = new_store_line(&rt, rt.alloc());
+    same!(rt; line.run(&submit), 0);
     let numbers = (line.sent().len(), line.applied(), line.acknowledged());
-    assert_eq!(rt; numbers, (1, 0, 0));
-    Ok(())
+    same!(rt; numbers, (1, 0, 0));
 }
 
 /// The frame of a text and the reply to it come in pieces, cut in five ways.
@@ -168,21 +175,20 @@ fn comes_in_pieces(rt: &impl Abort, line: &mut Line<RdsStore>) {
         steps(rt, line, &event, delivered(fresh, Code::Applied));
         fresh = false;
     }
-    assert_eq!(rt; texts_of(line.encoder().target(), 1), Some(1));
+    same!(rt; texts_of(line.encoder().target(), 1), Some(1));
     let mut stepped = Stepped::Acknowledged(Code::Applied);
     for cut in cuts {
         let event = LineEvent::Reply { number: 0, cut };
         steps(rt, line, &event, Ok(stepped));
         stepped = Stepped::Stray;
     }
-    assert_eq!(rt; line.encoder().counts().repeats, 4);
+    same!(rt; line.encoder().counts().repeats, 4);
 }
 
 #[test]
-fn however_it_is_cut_a_frame_is_the_same(rt: HostRuntime) -> Result<(), Fail> {
-    let mut line = new_store_line(rt.alloc())?;
+fn however_it_is_cut_a_frame_is_the_same(rt: HostRuntime) {
+    let mut line = new_store_line(&rt, rt.alloc());
     comes_in_pieces(&rt, &mut line);
-    Ok(())
 }
 
 /// Two messages, the frame of the second too early, that of the first twice and its reply twice, and what a third would
@@ -205,17 +211,16 @@ fn script<'a>(message: &'a Message) -> [LineEvent<'a>; 9] {
 }
 
 #[test]
-fn a_run_passes_over_the_refused_events(rt: HostRuntime) -> Result<(), Fail> {
+fn a_run_passes_over_the_refused_events(rt: HostRuntime) {
     let add = message(&rt, &ADD);
     let events = script(&add);
     let target = CountTarget::default();
-    let (line, refused) = played(rt.alloc(), target, &events)?;
+    let (line, refused) = played(&rt, rt.alloc(), target, &events);
     let sent = (line.sent().len(), line.applied(), line.acknowledged());
-    assert_eq!(rt; (sent, refused), ((2, 1, 1), 2));
+    same!(rt; (sent, refused), ((2, 1, 1), 2));
     let target = line.encoder().target();
-    assert_eq!(rt; (target.messages, target.bytes), (1, 7));
-    assert_eq!(rt; line.encoder().counts().repeats, 1);
-    Ok(())
+    same!(rt; (target.messages, target.bytes), (1, 7));
+    same!(rt; line.encoder().counts().repeats, 1);
 }
 
 #[test]
@@ -228,6 +233,6 @@ fn refusals_have_numbers_and_names(rt: HostRuntime) {
         (LineRefusal::OutOfMemory, 5, "OutOfMemory"),
     ];
     for (refusal, number, name) in rows {
-        assert_eq!(rt; (refusal.number(), refusal.name()), (number, name));
+        same!(rt; (refusal.number(), refusal.name()), (number, name));
     }
 }

@@ -1,7 +1,8 @@
 //! Both ends over real sockets, in one process and one thread: what is written waits in the socket until the other end
 //! reads it.
-use super::line::{driven_in, message};
-use faulty_devices::{ADD, new_store_encoder, own_address};
+use super::line::{driven_in, message, store_encoder};
+use crate::tests::asserting::{holds, same};
+use faulty_devices::{ADD, own_address};
 use rds_store::RdsStore;
 use std::net::{TcpListener, TcpStream};
 use std::process::Abort;
@@ -45,42 +46,42 @@ fn serve_until(
         }
         let _ = serve(encoder, &mut end.input, &mut end.output, 1);
     }
-    assert!(rt; false, "not served");
+    holds!(rt; false, "not served");
 }
 
 /// Sends the text "HI" once, and hears nothing.
 fn sends_first(rt: &impl Abort, server: &mut Server, end: &mut End) {
-    assert!(rt; server.is_idle());
+    holds!(rt; server.is_idle());
     let message = message(rt, &ADD);
     let driven = drive(server, &mut end.input, &mut end.output, &message, 1, 1);
-    assert_eq!(rt; driven, Err(DriveFault::TriesSpent));
+    same!(rt; driven, Err(DriveFault::TriesSpent));
 }
 
 /// Sends it again, and hears the reply to the first.
 fn sends_again(rt: &impl Abort, server: &mut Server, end: &mut End) {
-    assert_eq!(rt; server.waiting(), 1);
+    assert!(rt; server.waiting() == 1);
     let driven = resend(server, &mut end.input, &mut end.output, 1, 16);
-    assert_eq!(rt; driven, driven_in(1));
+    same!(rt; driven, driven_in(1));
 }
 
 /// Sends the text "HI" on a connection on which nothing is answered.
 fn is_outstanding<C: Connect>(rt: &impl Abort, sender: &mut Sender<'_, C>) {
-    assert!(rt; sender.has_room());
+    holds!(rt; sender.has_room());
     let message = message(rt, &ADD);
     sender.submit(&message);
     let Err(reason) = sender.settle() else {
-        assert!(rt; false, "acknowledged");
+        holds!(rt; false, "acknowledged");
         return;
     };
-    assert_eq!(rt; reason, Outstanding::TriesSpent);
+    same!(rt; reason, Outstanding::TriesSpent);
 }
 
 /// Service 01 has the text "HI" once, and no other.
 fn has_one_text(rt: &impl Abort, encoder: &Encoder<RdsStore>) {
     let service = encoder.target().service(1, 0x01).expect(rt, "service 01");
-    assert_eq!(rt; service.texts().len(), 1);
+    same!(rt; service.texts().len(), 1);
     for text in service.texts() {
-        assert_eq!(rt; text.text(), b"HI".as_slice());
+        same!(rt; text.text(), b"HI".as_slice());
     }
 }
 
@@ -102,7 +103,7 @@ fn acts_once(
 /// Serves one connection for one turn.
 fn serves_one_turn(rt: &impl Abort, encoder: &mut Encoder<RdsStore>, listening: &mut Listening) {
     let served = serve_connection(encoder, 1, listening);
-    assert_eq!(rt; served, Some(Err(ServeFault::TurnsSpent)));
+    same!(rt; served, Some(Err(ServeFault::TurnsSpent)));
     has_one_text(rt, encoder);
 }
 
@@ -112,7 +113,7 @@ fn a_message_sent_twice_over_sockets_acts_once(rt: HostRuntime) -> Result<(), Fa
     let port = listener.local_addr()?.port();
     let mut client = open(&mut Dialing::new(&rt, "127.0.0.1", port, TIMEOUT))?;
     let mut accepted = open(&mut Listening::new(listener))?;
-    let mut encoder = new_store_encoder(rt.alloc(), 1)?;
+    let mut encoder = store_encoder(&rt, rt.alloc());
     acts_once(&rt, &mut client, &mut accepted, &mut encoder);
     Ok(())
 }
@@ -130,7 +131,7 @@ fn a_sender_and_an_encoder_over_one_connection(rt: HostRuntime) -> Result<(), Fa
     };
     let mut sender = Sender::new(&mut dialing, Server::new(own_address()), limits);
     is_outstanding(&rt, &mut sender);
-    let mut encoder = new_store_encoder(rt.alloc(), 1)?;
+    let mut encoder = store_encoder(&rt, rt.alloc());
     serves_one_turn(&rt, &mut encoder, &mut Listening::new(listener));
     Ok(())
 }

@@ -1,4 +1,5 @@
 //! What a server counts.
+use crate::tests::asserting::{holds, same};
 use faulty_devices::{APPLIED_1, EMPTY_1, own_address, reply_made};
 use std::process::Abort;
 use uecp_frame::Message;
@@ -12,8 +13,8 @@ fn counts(rt: &impl Abort, server: &mut Server, bytes: &[u8], counts: (u64, u64,
         stray,
         dropped,
     };
-    assert_eq!(rt; server.hear(bytes).used, bytes.len());
-    assert_eq!(rt; server.counts(), wanted);
+    same!(rt; server.hear(bytes).used, bytes.len());
+    same!(rt; server.counts(), wanted);
 }
 
 #[test]
@@ -22,9 +23,9 @@ fn each_segment_raises_one_count(rt: HostRuntime) {
     let unknown = reply_made(0x08, 0x01);
     let earlier = reply_made(0x00, 0xff);
     let mut server = Server::new(own_address());
-    assert_eq!(rt; server.counts(), ServerCounts::default());
+    same!(rt; server.counts(), ServerCounts::default());
     counts(&rt, &mut server, &APPLIED_1, (0, 1, 0));
-    assert!(rt; server.is_idle());
+    holds!(rt; server.is_idle());
     server.submit(&Message::new());
     counts(&rt, &mut server, by_another, (0, 2, 0));
     counts(&rt, &mut server, unknown.as_slice(), (0, 3, 0));

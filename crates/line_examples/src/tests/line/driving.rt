@@ -1,20 +1,57 @@
 //! `drive` and `resend`, over a reader and a writer that fail where they are told to.
 use super::driven_in;
+use crate::tests::asserting::{holds, same};
 use faulty_devices::{APPLIED_1, APPLIED_2, EMPTY_1, FaultyReader, FaultyWriter, own_address};
+use std::process::Abort;
 use uecp_encoder::Meter;
 use uecp_frame::Message;
-use uecp_link::{DriveFault, Server, drive, resend};
+use uecp_link::{DriveFault, Driven, Server, drive, resend};
+
+/// What a message is read and written over.
+type Ends<'a, 'b> = (
+    &'a mut Meter<FaultyReader<'b>>,
+    &'a mut Meter<FaultyWriter<'b>>,
+);
+
+/// A new message in so many tries of four turns comes to this.
+fn drives(
+    rt: &impl Abort,
+    server: &mut Server,
+    (reader, writer): Ends<'_, '_>,
+    tries: u32,
+    driven: Result<Driven, DriveFault>,
+) {
+    holds!(rt; server.is_idle());
+    same!(rt; drive(server, reader, writer, &Message::new(), tries, 4), driven);
+}
+
+/// The message that waits is sent again, in so many tries and turns, and is acknowledged in the first.
+fn sends_again(
+    rt: &impl Abort,
+    server: &mut Server,
+    (reader, writer): Ends<'_, '_>,
+    tries: u32,
+    turns: u32,
+) {
+    assert!(rt; server.waiting() == 1);
+    same!(rt; resend(server, reader, writer, tries, turns), driven_in(1));
+}
 
 #[test]
 fn acknowledged_at_once(rt: HostRuntime) {
     let mut server = Server::new(own_address());
     let mut reader = Meter::new(FaultyReader::new(&APPLIED_1));
     let mut writer = Meter::new(FaultyWriter::new());
-    let driven = drive(&mut server, &mut reader, &mut writer, &Message::new(), 2, 4);
-    assert_eq!(rt; driven, driven_in(1));
-    assert!(rt; server.is_idle());
-    assert_eq!(rt; (reader.calls(), reader.failures()), (1, 0));
-    assert_eq!(rt; writer.into_inner().taken(), EMPTY_1.as_slice());
+    drives(
+        &rt,
+        &mut server,
+        (&mut reader, &mut writer),
+        2,
+        driven_in(1),
+    );
+    holds!(rt; server.is_idle());
+    same!(rt; (reader.calls(), reader.failures()), (1, 0));
+    same!(rt; writer.into_inner().taken(), EMPTY_1.as_slice());
 }
 
 #[test]
@@ -25,13 +62,18 @@ fn acknowledged_after_a_failed_read_and_another_reply(rt: HostRuntime) {
     bytes[11..].copy_from_slice(&APPLIED_1);
     let mut reader = Meter::new(FaultyReader::new(&bytes).giving(6).failing_at(&[1]));
     let mut writer = Meter::new(FaultyWriter::new().taking(3));
-    let driven = drive(&mut server, &mut reader, &mut writer, &Message::new(), 2, 4);
-    assert_eq!(rt; driven, driven_in(2));
-    assert_eq!(rt; (reader.calls(), reader.failures()), (5, 1));
+    drives(
+        &rt,
+        &mut server,
+        (&mut reader, &mut writer),
+        2,
+        driven_in(2),
+    );
+    same!(rt; (reader.calls(), reader.failures()), (5, 1));
     let output = writer.into_inner();
-    assert_eq!(rt; output.taken().len(), 16);
-    assert!(rt; output.taken().starts_with(&EMPTY_1));
-    assert!(rt; output.taken().ends_with(&EMPTY_1));
+    same!(rt; output.taken().len(), 16);
+    holds!(rt; output.taken().starts_with(&EMPTY_1));
+    holds!(rt; output.taken().ends_with(&EMPTY_1));
 }
 
 #[test]
@@ -39,21 +81,18 @@ fn outstanding_after_the_end_of_input(rt: HostRuntime) {
     let mut server = Server::new(own_address());
     let mut nothing = Meter::new(FaultyReader::new(b""));
     let mut writer = Meter::new(FaultyWriter::new());
-    let driven = drive(
+    drives(
+        &rt,
         &mut server,
-        &mut nothing,
-        &mut writer,
-        &Message::new(),
+        (&mut nothing, &mut writer),
         2,
-        4,
+        Err(DriveFault::Closed),
     );
-    assert_eq!(rt; driven, Err(DriveFault::Closed));
-    assert_eq!(rt; server.waiting(), 1);
+    holds!(rt; server.waiting() == 1);
     server.line_lost();
     let mut reader = Meter::new(FaultyReader::new(&APPLIED_1));
-    let driven = resend(&mut server, &mut reader, &mut writer, 2, 4);
-    assert_eq!(rt; driven, driven_in(1));
-    assert!(rt; server.is_idle());
+    sends_again(&rt, &mut server, (&mut reader, &mut writer), 2, 4);
+    holds!(rt; server.is_idle());
 }
 
 #[test]
@@ -61,11 +100,16 @@ fn no_try_writes_nothing(rt: HostRuntime) {
     let mut server = Server::new(own_address());
     let mut reader = Meter::new(FaultyReader::new(&APPLIED_1));
     let mut writer = Meter::new(FaultyWriter::new());
-    let driven = drive(&mut server, &mut reader, &mut writer, &Message::new(), 0, 4);
-    assert_eq!(rt; driven, Err(DriveFault::TriesSpent));
-    assert_eq!(rt; server.waiting(), 1);
-    assert_eq!(rt; writer.calls(), 0);
-    assert_eq!(rt; reader.calls(), 0);
+    drives(
+        &rt,
+        &mut server,
+        (&mut reader, &mut writer),
+        0,
+        Err(DriveFault::TriesSpent),
+    );
+    holds!(rt; server.waiting() == 1);
+    same!(rt; writer.calls(), 0);
+    same!(rt; reader.calls(), 0);
 }
 
 #[test]
@@ -73,11 +117,15 @@ fn a_failed_write_says_how_much_was_written(rt: HostRuntime) {
     let mut server = Server::new(own_address());
     let mut reader = Meter::new(FaultyReader::new(&APPLIED_1).failing_at(&[1]));
     let mut writer = Meter::new(FaultyWriter::new().taking(5).taking_none_at(&[4]));
-    let driven = drive(&mut server, &mut reader, &mut writer, &Message::new(), 3, 4);
-    assert_eq!(rt; driven, Err(DriveFault::WriteFailed { written: 13 }));
-    assert_eq!(rt; server.waiting(), 1);
-    let driven = resend(&mut server, &mut reader, &mut writer, 1, 1);
-    assert_eq!(rt; driven, driven_in(1));
+    drives(
+        &rt,
+        &mut server,
+        (&mut reader, &mut writer),
+        3,
+        Err(DriveFault::WriteFailed { written: 13 }),
+    );
+    holds!(rt; server.waiting() == 1);
+    sends_again(&rt, &mut server, (&mut reader, &mut writer), 1, 1);
 }
 
 #[test]
@@ -85,7 +133,12 @@ fn all_tries_are_made(rt: HostRuntime) {
     let mut server = Server::new(own_address());
     let mut reader = Meter::new(FaultyReader::new(&APPLIED_2).giving(1));
     let mut writer = Meter::new(FaultyWriter::new());
-    let driven = drive(&mut server, &mut reader, &mut writer, &Message::new(), 2, 4);
-    assert_eq!(rt; driven, Err(DriveFault::TriesSpent));
-    assert_eq!(rt; (reader.calls(), writer.calls()), (8, 2));
+    drives(
+        &rt,
+        &mut server,
+        (&mut reader, &mut writer),
+        2,
+        Err(DriveFault::TriesSpent),
+    );
+    same!(rt; (reader.calls(), writer.calls()), (8, 2));
 }

@@ -1,5 +1,6 @@
 //! A message that is driven where no read succeeds and writes end somewhere, and then sent again over good ends.
 use super::driven_in;
+use crate::tests::asserting::{holds, same};
 use faulty_devices::{APPLIED_1, FaultyReader, FaultyWriter, own_address};
 use std::process::Abort;
 use uecp_encoder::Meter;
@@ -15,13 +16,13 @@ fn drives(rt: &impl Abort, failing: &[u32], fault: DriveFault) {
     ]));
     let mut narrow = Meter::new(FaultyWriter::new().taking(1).failing_at(failing));
     let driven = drive(&mut server, &mut silent, &mut narrow, &Message::new(), 2, 4);
-    assert_eq!(rt; driven, Err(fault));
-    assert_eq!(rt; server.waiting(), 1);
+    same!(rt; driven, Err(fault));
+    assert!(rt; server.waiting() == 1);
     let mut reader = Meter::new(FaultyReader::new(&APPLIED_1));
     let mut writer = Meter::new(FaultyWriter::new());
     let driven = resend(&mut server, &mut reader, &mut writer, 2, 4);
-    assert_eq!(rt; driven, driven_in(1));
-    assert!(rt; server.is_idle());
+    same!(rt; driven, driven_in(1));
+    holds!(rt; server.is_idle());
 }
 
 #[test]

@@ -1,5 +1,6 @@
 //! Bytes in which no frame stands.
 use super::heard_applied;
+use crate::tests::asserting::{holds, same};
 use faulty_devices::{
     APPLIED_1, EMPTY_1, KNOWN_FRAMES, altered, holds_no_frame, own_address, spelling_of,
 };
@@ -27,10 +28,7 @@ fn hears_altered(
                 rest = &rest[used..];
             }
             server.line_lost();
-            assert!(rt;
-                server.outgoing() == Some(EMPTY_1.as_slice()),
-                "{place} {value}"
-            );
+            holds!(rt; server.outgoing() == Some(EMPTY_1.as_slice()), (place, value));
         }
     }
     Ok(())
@@ -46,6 +44,6 @@ fn bytes_without_a_frame_leave_the_message_outstanding(rt: HostRuntime) -> Resul
             hears_altered(&rt, rt.alloc(), &mut server, bytes.as_slice(), place)?;
         }
     }
-    assert_eq!(rt; server.hear(&APPLIED_1).what, heard_applied(0x01));
+    same!(rt; server.hear(&APPLIED_1).what, heard_applied(0x01));
     Ok(())
 }

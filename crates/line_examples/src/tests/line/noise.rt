@@ -1,9 +1,9 @@
 //! Noise on a line, which is judged with what is open before it.
 use super::{acknowledged, delivered, frame, is_lost, is_taken, new_store_line, reply, steps};
+use crate::tests::asserting::same;
 use faulty_devices::pi_of;
 use rds_store::RdsStore;
 use std::process::Abort;
-use std::test::Fail;
 use uecp_elements::Code;
 use uecp_link::{Line, LineEvent, LineRefusal, Side, Stepped};
 
@@ -23,22 +23,21 @@ fn noise_to_the_encoder(rt: &impl Abort, line: &mut Line<RdsStore>) {
     steps(rt, line, &begun, noise(0));
     steps(rt, line, &ended, Err(LineRefusal::HoldsAFrame));
     steps(rt, line, &frame(0), delivered(true, Code::Applied));
-    assert_eq!(rt; line.encoder().counts().dropped, 1);
+    same!(rt; line.encoder().counts().dropped, 1);
     steps(rt, line, &ended, noise(0));
     steps(rt, line, &begun, noise(0));
     is_lost(rt, line, Side::Server);
     steps(rt, line, &ended, Err(LineRefusal::HoldsAFrame));
     is_lost(rt, line, Side::Encoder);
     steps(rt, line, &ended, noise(0));
-    assert_eq!(rt; line.encoder().counts().dropped, 1);
-    assert_eq!(rt; pi_of(line.encoder().target(), 1), Some(0xc201));
+    same!(rt; line.encoder().counts().dropped, 1);
+    same!(rt; pi_of(line.encoder().target(), 1), Some(0xc201));
 }
 
 #[test]
-fn noise_is_judged_with_what_is_open_before_it(rt: HostRuntime) -> Result<(), Fail> {
-    let mut line = new_store_line(rt.alloc())?;
+fn noise_is_judged_with_what_is_open_before_it(rt: HostRuntime) {
+    let mut line = new_store_line(&rt, rt.alloc());
     noise_to_the_encoder(&rt, &mut line);
-    Ok(())
 }
 
 /// A frame of another encoder begins in one piece of noise and ends in another.
@@ -60,8 +59,7 @@ fn noise_to_the_server(rt: &impl Abort, line: &mut Line<RdsStore>) {
 }
 
 #[test]
-fn noise_to_the_server_is_its_own(rt: HostRuntime) -> Result<(), Fail> {
-    let mut line = new_store_line(rt.alloc())?;
+fn noise_to_the_server_is_its_own(rt: HostRuntime) {
+    let mut line = new_store_line(&rt, rt.alloc());
     noise_to_the_server(&rt, &mut line);
-    Ok(())
 }

@@ -2,10 +2,10 @@
 use super::{
     acknowledged, delivered, frame, is_taken, message, new_line, new_store_line, reply, steps,
 };
+use crate::tests::asserting::{holds, same};
 use faulty_devices::{ADD, CountTarget, texts_of};
 use rds_store::RdsStore;
 use std::process::Abort;
-use std::test::Fail;
 use uecp_elements::Code;
 use uecp_encoder::Target;
 use uecp_link::{Line, LineEvent, LineRefusal, Stepped};
@@ -27,32 +27,30 @@ fn opens_with_the_oldest<T: Target>(rt: &impl Abort, line: &mut Line<T>) {
     steps(rt, line, &frame(0), delivered(true, Code::Applied));
     steps(rt, line, &frame(1), delivered(true, Code::Applied));
     steps(rt, line, &reply(1), acknowledged(Code::Applied));
-    assert_eq!(rt; (line.acknowledged(), line.is_acknowledged(1)), (0, true));
+    same!(rt; (line.acknowledged(), line.is_acknowledged(1)), (0, true));
     is_busy(rt, line);
     steps(rt, line, &reply(0), acknowledged(Code::Applied));
-    assert_eq!(rt; (line.acknowledged(), line.server().waiting()), (2, 6));
+    same!(rt; (line.acknowledged(), line.server().waiting()), (2, 6));
     steps(rt, line, &reply(1), Ok(Stepped::Stray));
     is_taken(rt, line, &[]);
     is_taken(rt, line, &[]);
-    assert_eq!(rt; line.sent().len(), 10);
+    same!(rt; line.sent().len(), 10);
     is_busy(rt, line);
-    assert!(rt; !line.is_acknowledged(2) && !line.is_acknowledged(10));
+    holds!(rt; !line.is_acknowledged(2) && !line.is_acknowledged(10));
 }
 
 #[test]
-fn a_window_opens_with_its_oldest_message(rt: HostRuntime) -> Result<(), Fail> {
-    let mut line = new_line(rt.alloc(), CountTarget::default())?;
+fn a_window_opens_with_its_oldest_message(rt: HostRuntime) {
+    let mut line = new_line(&rt, rt.alloc(), CountTarget::default());
     opens_with_the_oldest(&rt, &mut line);
-    assert_eq!(rt; line.encoder().target().messages, 2);
-    Ok(())
+    same!(rt; line.encoder().target().messages, 2);
 }
 
 #[test]
-fn a_window_over_a_store_opens_with_its_oldest_message(rt: HostRuntime) -> Result<(), Fail> {
-    let mut line = new_store_line(rt.alloc())?;
+fn a_window_over_a_store_opens_with_its_oldest_message(rt: HostRuntime) {
+    let mut line = new_store_line(&rt, rt.alloc());
     opens_with_the_oldest(&rt, &mut line);
-    assert_eq!(rt; line.encoder().counts().fresh, 2);
-    Ok(())
+    same!(rt; line.encoder().counts().fresh, 2);
 }
 
 /// The frames of eight texts come from the last to the second, and then in order.
@@ -64,7 +62,7 @@ fn comes_before_its_turn(rt: &impl Abort, line: &mut Line<RdsStore>) {
         steps(rt, line, &frame(number), Ok(Stepped::NotNext));
     }
     let counts = line.encoder().counts();
-    assert_eq!(rt; (counts.fresh, counts.repeats, counts.dropped), (0, 0, 0));
+    same!(rt; (counts.fresh, counts.repeats, counts.dropped), (0, 0, 0));
     // Noise before a frame is over with it, also where that frame is passed over.
     let open = LineEvent::NoiseToEncoder(&[0xfe, 0x00]);
     steps(rt, line, &open, Ok(Stepped::Noise { dropped: 0 }));
@@ -76,17 +74,16 @@ fn comes_before_its_turn(rt: &impl Abort, line: &mut Line<RdsStore>) {
     }
     for number in (0..8).rev() {
         steps(rt, line, &reply(number), acknowledged(Code::Applied));
-        assert_eq!(rt; line.acknowledged(), if number == 0 { 8 } else { 0 });
+        same!(rt; line.acknowledged(), if number == 0 { 8 } else { 0 });
     }
-    assert_eq!(rt; texts_of(line.encoder().target(), 1), Some(8));
-    assert!(rt; line.server().is_idle());
+    same!(rt; texts_of(line.encoder().target(), 1), Some(8));
+    holds!(rt; line.server().is_idle());
 }
 
 #[test]
-fn a_message_before_its_turn_is_passed_over_and_applied_later(rt: HostRuntime) -> Result<(), Fail> {
-    let mut line = new_store_line(rt.alloc())?;
+fn a_message_before_its_turn_is_passed_over_and_applied_later(rt: HostRuntime) {
+    let mut line = new_store_line(&rt, rt.alloc());
     comes_before_its_turn(&rt, &mut line);
-    Ok(())
 }
 
 /// One number that is outstanding: its frame comes, and by chance its reply. What comes of both is told by how many
@@ -111,7 +108,7 @@ fn comes<T: Target>(rt: &impl Abort, line: &mut Line<T>, number: usize, replied:
             acknowledged(Code::Applied)
         };
         steps(rt, line, &reply(number), wanted);
-        assert_eq!(rt; line.is_acknowledged(number), number <= applied);
+        same!(rt; line.is_acknowledged(number), number <= applied);
     }
 }
 
@@ -136,32 +133,28 @@ fn goes_round<T: Target>(rt: &impl Abort, line: &mut Line<T>, window: usize, see
     }
     // Nothing is lost any more: each frame once, and each reply once, and no message is outstanding.
     for number in line.acknowledged()..line.sent().len() {
-        assert!(rt; line.step(&frame(number)).is_ok());
-        assert!(rt; line.step(&reply(number)).is_ok());
+        holds!(rt; line.step(&frame(number)).is_ok());
+        holds!(rt; line.step(&reply(number)).is_ok());
     }
     let sent = line.sent().len();
-    assert!(rt; line.server().is_idle() && sent >= 770);
-    assert_eq!(rt; (line.applied(), line.acknowledged()), (sent, sent));
+    holds!(rt; line.server().is_idle() && sent >= 770);
+    same!(rt; (line.applied(), line.acknowledged()), (sent, sent));
 }
 
 #[test]
-fn windows_of_1_to_8_over_three_turns_of_the_counter(rt: HostRuntime) -> Result<(), Fail> {
+fn windows_of_1_to_8_over_three_turns_of_the_counter(rt: HostRuntime) {
     for window in 1..=8u32 {
-        let mut line = new_line(rt.alloc(), CountTarget::default())?;
+        let mut line = new_line(&rt, rt.alloc(), CountTarget::default());
         goes_round(&rt, &mut line, window as usize, window);
-        assert_eq!(rt; line.encoder().target().messages, line.sent().len() as u64);
+        same!(rt; line.encoder().target().messages, line.sent().len() as u64);
     }
-    Ok(())
 }
 
 #[test]
-fn windows_of_1_to_8_over_a_store_and_three_turns_of_the_counter(
-    rt: HostRuntime,
-) -> Result<(), Fail> {
+fn windows_of_1_to_8_over_a_store_and_three_turns_of_the_counter(rt: HostRuntime) {
     for window in 1..=8u32 {
-        let mut line = new_store_line(rt.alloc())?;
+        let mut line = new_store_line(&rt, rt.alloc());
         goes_round(&rt, &mut line, window as usize, window + 8);
-        assert_eq!(rt; line.encoder().counts().fresh, line.sent().len() as u64);
+        same!(rt; line.encoder().counts().fresh, line.sent().len() as u64);
     }
-    Ok(())
 }

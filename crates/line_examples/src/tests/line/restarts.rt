@@ -1,8 +1,8 @@
 //! Ends that start again, and go on from what they kept.
 use super::{acknowledged, delivered, frame, is_taken, new_store_line, reply, steps};
+use crate::tests::asserting::same;
 use rds_store::RdsStore;
 use std::process::Abort;
-use std::test::Fail;
 use uecp_elements::Code;
 use uecp_encoder::Counts;
 use uecp_link::{Line, LineEvent, ServerCounts, Stepped};
@@ -13,19 +13,18 @@ fn goes_on(rt: &impl Abort, line: &mut Line<RdsStore>) {
     is_taken(rt, line, &[]);
     steps(rt, line, &frame(0), delivered(true, Code::UnknownElement));
     steps(rt, line, &LineEvent::EncoderRestart, Ok(Stepped::Restarted));
-    assert_eq!(rt; line.encoder().counts(), Counts::default());
+    same!(rt; line.encoder().counts(), Counts::default());
     steps(rt, line, &frame(0), delivered(false, Code::UnknownElement));
     steps(rt, line, &reply(0), acknowledged(Code::UnknownElement));
     steps(rt, line, &LineEvent::ServerRestart, Ok(Stepped::Restarted));
-    assert_eq!(rt; line.server().counts(), ServerCounts::default());
-    assert_eq!(rt; line.server().waiting(), 1);
+    same!(rt; line.server().counts(), ServerCounts::default());
+    same!(rt; line.server().waiting(), 1);
     steps(rt, line, &frame(1), delivered(true, Code::Applied));
     steps(rt, line, &reply(1), acknowledged(Code::Applied));
 }
 
 #[test]
-fn an_end_that_starts_again_goes_on_from_what_it_kept(rt: HostRuntime) -> Result<(), Fail> {
-    let mut line = new_store_line(rt.alloc())?;
+fn an_end_that_starts_again_goes_on_from_what_it_kept(rt: HostRuntime) {
+    let mut line = new_store_line(&rt, rt.alloc());
     goes_on(&rt, &mut line);
-    Ok(())
 }

@@ -1,12 +1,12 @@
 //! Groups that the modulator takes between the messages.
 use super::{
-    acknowledged, delivered, frame, goes_over, is_lost, is_taken, message, new_line,
+    acknowledged, delivered, frame, goes_over, is_lost, is_taken, message, new_line, new_store,
     new_store_line, played, reply, steps,
 };
+use crate::tests::asserting::{holds, same};
 use faulty_devices::{ADD, CountTarget, texts_of};
 use rds_store::{Group, RdsStore};
 use std::process::Abort;
-use std::test::Fail;
 use uecp_elements::Code;
 use uecp_encoder::Target;
 use uecp_link::{Line, LineEvent, Side, Stepped};
@@ -40,18 +40,17 @@ fn is_taken_once(rt: &impl Abort, line: &mut Line<RdsStore>) {
     gives(rt, line, Some(QUEUED));
     gives(rt, line, None);
     steps(rt, line, &frame(0), delivered(false, Code::Applied));
-    assert!(rt; line.encoder().target().groups().is_empty());
+    holds!(rt; line.encoder().target().groups().is_empty());
     gives(rt, line, None);
     steps(rt, line, &reply(0), acknowledged(Code::Applied));
     let numbers = (line.sent().len(), line.applied(), line.acknowledged());
-    assert_eq!(rt; numbers, (1, 1, 1));
+    same!(rt; numbers, (1, 1, 1));
 }
 
 #[test]
-fn a_taken_group_does_not_come_back_with_a_retry(rt: HostRuntime) -> Result<(), Fail> {
-    let mut line = new_store_line(rt.alloc())?;
+fn a_taken_group_does_not_come_back_with_a_retry(rt: HostRuntime) {
+    let mut line = new_store_line(&rt, rt.alloc());
     is_taken_once(&rt, &mut line);
-    Ok(())
 }
 
 /// Two groups are queued, and three are taken.
@@ -70,10 +69,9 @@ fn go_out_in_order(rt: &impl Abort, line: &mut Line<RdsStore>) {
 }
 
 #[test]
-fn groups_go_out_in_the_order_in_which_they_were_queued(rt: HostRuntime) -> Result<(), Fail> {
-    let mut line = new_store_line(rt.alloc())?;
+fn groups_go_out_in_the_order_in_which_they_were_queued(rt: HostRuntime) {
+    let mut line = new_store_line(&rt, rt.alloc());
     go_out_in_order(&rt, &mut line);
-    Ok(())
 }
 
 /// One group is taken from a full queue.
@@ -85,17 +83,16 @@ fn makes_room(rt: &impl Abort, line: &mut Line<RdsStore>) {
     steps(rt, line, &frame(32), delivered(true, Code::BufferFull));
     gives(rt, line, Some(QUEUED));
     steps(rt, line, &frame(32), delivered(false, Code::BufferFull));
-    assert_eq!(rt; line.encoder().target().groups().len(), 31);
+    same!(rt; line.encoder().target().groups().len(), 31);
     steps(rt, line, &reply(32), acknowledged(Code::BufferFull));
     is_sent(rt, line, &GROUP, Code::Applied);
-    assert_eq!(rt; line.encoder().target().groups().len(), 32);
+    same!(rt; line.encoder().target().groups().len(), 32);
 }
 
 #[test]
-fn a_take_makes_room_for_one_group(rt: HostRuntime) -> Result<(), Fail> {
-    let mut line = new_store_line(rt.alloc())?;
+fn a_take_makes_room_for_one_group(rt: HostRuntime) {
+    let mut line = new_store_line(&rt, rt.alloc());
     makes_room(&rt, &mut line);
-    Ok(())
 }
 
 /// A group is taken while a segment is open at either end.
@@ -109,12 +106,9 @@ fn changes_the_queue(rt: &impl Abort, line: &mut Line<RdsStore>) {
     steps(rt, line, &open, Ok(Stepped::Noise { dropped: 0 }));
     let counts = (line.encoder().counts(), line.server().counts());
     gives(rt, line, None);
-    assert_eq!(rt; (line.encoder().counts(), line.server().counts()), counts);
-    assert_eq!(rt; texts_of(line.encoder().target(), 1), Some(1));
-    assert_eq!(rt;
-        (line.sent().len(), line.applied(), line.acknowledged()),
-        (2, 1, 1)
-    );
+    same!(rt; (line.encoder().counts(), line.server().counts()), counts);
+    same!(rt; texts_of(line.encoder().target(), 1), Some(1));
+    same!(rt; (line.sent().len(), line.applied(), line.acknowledged()), (2, 1, 1));
     let end = LineEvent::NoiseToEncoder(&[0xff]);
     steps(rt, line, &end, Ok(Stepped::Noise { dropped: 1 }));
     let end = LineEvent::NoiseToServer(&[0xff]);
@@ -126,26 +120,24 @@ fn changes_the_queue(rt: &impl Abort, line: &mut Line<RdsStore>) {
 }
 
 #[test]
-fn a_take_changes_nothing_but_the_queue(rt: HostRuntime) -> Result<(), Fail> {
-    let mut line = new_store_line(rt.alloc())?;
+fn a_take_changes_nothing_but_the_queue(rt: HostRuntime) {
+    let mut line = new_store_line(&rt, rt.alloc());
     changes_the_queue(&rt, &mut line);
-    Ok(())
 }
 
 #[test]
-fn a_target_without_groups_gives_none_and_stays(rt: HostRuntime) -> Result<(), Fail> {
-    let mut line = new_line(rt.alloc(), CountTarget::default())?;
+fn a_target_without_groups_gives_none_and_stays(rt: HostRuntime) {
+    let mut line = new_line(&rt, rt.alloc(), CountTarget::default());
     gives(&rt, &mut line, None);
     is_sent(&rt, &mut line, &GROUP, Code::Applied);
     let target = *line.encoder().target();
     gives(&rt, &mut line, None);
-    assert_eq!(rt; *line.encoder().target(), target);
-    assert_eq!(rt; line.encoder().counts().fresh, 1);
-    Ok(())
+    same!(rt; *line.encoder().target(), target);
+    same!(rt; line.encoder().counts().fresh, 1);
 }
 
 #[test]
-fn a_run_goes_through_takes(rt: HostRuntime) -> Result<(), Fail> {
+fn a_run_goes_through_takes(rt: HostRuntime) {
     let group = message(&rt, &GROUP);
     let events = [
         LineEvent::Take,
@@ -156,9 +148,8 @@ fn a_run_goes_through_takes(rt: HostRuntime) -> Result<(), Fail> {
         LineEvent::Take,
         reply(0),
     ];
-    let store = RdsStore::new(rt.alloc(), 1, &[0x01])?;
-    let (line, refused) = played(rt.alloc(), store, &events)?;
-    assert_eq!(rt; (line.applied(), line.acknowledged(), refused), (1, 1, 0));
-    assert!(rt; line.encoder().target().groups().is_empty());
-    Ok(())
+    let store = new_store(&rt, rt.alloc());
+    let (line, refused) = played(&rt, rt.alloc(), store, &events);
+    same!(rt; (line.applied(), line.acknowledged(), refused), (1, 1, 0));
+    holds!(rt; line.encoder().target().groups().is_empty());
 }

@@ -1,13 +1,12 @@
 //! A line beside a bare encoder that is given the same frames: full sets, late frames and a whole turn of the counter.
 use super::{
     EMPTY_254, delivered, frame, goes_over, is_taken, lent, new_line, new_store_line, reply, steps,
+    store_encoder,
 };
-use faulty_devices::{
-    ADD, ADD_1, APPLIED_1, CountTarget, EMPTY_1, new_store_encoder, replies, reply_made, texts_of,
-};
+use crate::tests::asserting::{holds, same};
+use faulty_devices::{ADD, ADD_1, APPLIED_1, CountTarget, EMPTY_1, replies, reply_made, texts_of};
 use rds_store::RdsStore;
 use std::process::Abort;
-use std::test::Fail;
 use uecp_elements::Code;
 use uecp_encoder::{Encoder, What};
 use uecp_link::{Line, LineRefusal, Stepped};
@@ -24,31 +23,30 @@ fn refuses_the_ninth_text(
     for counter in 1..9 {
         is_taken(rt, line, &ADD);
         let reply = reply_made(0x00, counter);
-        assert!(rt; replies(encoder, lent(rt, line), reply.as_slice(), true));
+        holds!(rt; replies(encoder, lent(rt, line), reply.as_slice(), true));
         goes_over(rt, line, Code::Applied);
     }
     is_taken(rt, line, &ADD);
-    assert!(rt; lent(rt, line) == add_8.as_slice());
-    assert!(rt; replies(encoder, add_8, full_8, true));
+    holds!(rt; lent(rt, line) == add_8.as_slice());
+    holds!(rt; replies(encoder, add_8, full_8, true));
     goes_over(rt, line, Code::BufferFull);
     is_taken(rt, line, &[0x0a, 0x00, 0x00, 0x00]);
-    assert!(rt; replies(encoder, lent(rt, line), applied_9, true));
+    holds!(rt; replies(encoder, lent(rt, line), applied_9, true));
     goes_over(rt, line, Code::Applied);
-    assert_eq!(rt; texts_of(line.encoder().target(), 1), Some(0));
+    same!(rt; texts_of(line.encoder().target(), 1), Some(0));
     steps(rt, line, &frame(8), delivered(false, Code::BufferFull));
-    assert_eq!(rt; texts_of(line.encoder().target(), 1), Some(0));
+    same!(rt; texts_of(line.encoder().target(), 1), Some(0));
     let mut codes = [Code::Applied; 10];
     codes[8] = Code::BufferFull;
-    assert!(rt; line.codes() == codes.as_slice());
-    assert_eq!(rt; (line.applied(), line.acknowledged()), (10, 10));
+    holds!(rt; line.codes() == codes.as_slice());
+    same!(rt; (line.applied(), line.acknowledged()), (10, 10));
 }
 
 #[test]
-fn a_refused_message_is_acknowledged_and_never_applied_late(rt: HostRuntime) -> Result<(), Fail> {
-    let mut line = new_store_line(rt.alloc())?;
-    let mut encoder = new_store_encoder(rt.alloc(), 1)?;
+fn a_refused_message_is_acknowledged_and_never_applied_late(rt: HostRuntime) {
+    let mut line = new_store_line(&rt, rt.alloc());
+    let mut encoder = store_encoder(&rt, rt.alloc());
     refuses_the_ninth_text(&rt, &mut line, &mut encoder);
-    Ok(())
 }
 
 /// A text and 127 empty messages, after 126 of which the frame of the text comes again. The bare encoder is given the
@@ -59,37 +57,36 @@ fn comes_again_for_so_long(
     encoder: &mut Encoder<RdsStore>,
 ) {
     is_taken(rt, line, &ADD);
-    assert!(rt; lent(rt, line) == ADD_1.as_slice());
-    assert!(rt; replies(encoder, &ADD_1, &APPLIED_1, true));
+    holds!(rt; lent(rt, line) == ADD_1.as_slice());
+    holds!(rt; replies(encoder, &ADD_1, &APPLIED_1, true));
     goes_over(rt, line, Code::Applied);
     for counter in 0x02..0x80 {
         is_taken(rt, line, &[]);
         let reply = reply_made(0x00, counter);
-        assert!(rt; replies(encoder, lent(rt, line), reply.as_slice(), true));
+        holds!(rt; replies(encoder, lent(rt, line), reply.as_slice(), true));
         goes_over(rt, line, Code::Applied);
     }
-    assert_eq!(rt; line.sent().len(), 127);
-    assert!(rt; replies(encoder, &ADD_1, &APPLIED_1, false));
+    same!(rt; line.sent().len(), 127);
+    holds!(rt; replies(encoder, &ADD_1, &APPLIED_1, false));
     steps(rt, line, &frame(0), delivered(false, Code::Applied));
     steps(rt, line, &reply(0), Ok(Stepped::Stray));
     is_taken(rt, line, &[]);
     steps(rt, line, &frame(0), Err(LineRefusal::TooLate));
     steps(rt, line, &reply(0), Err(LineRefusal::TooLate));
-    assert_eq!(rt; texts_of(line.encoder().target(), 1), Some(1));
+    same!(rt; texts_of(line.encoder().target(), 1), Some(1));
     // A bare encoder knows no numbers: after one more message it has no reply to the frame, which is not the next
     // either.
     let reply = reply_made(0x00, 0x80);
-    assert!(rt; replies(encoder, lent(rt, line), reply.as_slice(), true));
-    assert!(rt; matches!(encoder.feed(&ADD_1).what, What::NotNext));
-    assert_eq!(rt; texts_of(encoder.target(), 1), Some(1));
+    holds!(rt; replies(encoder, lent(rt, line), reply.as_slice(), true));
+    holds!(rt; matches!(encoder.feed(&ADD_1).what, What::NotNext));
+    same!(rt; texts_of(encoder.target(), 1), Some(1));
 }
 
 #[test]
-fn a_frame_comes_again_after_126_messages_and_no_later(rt: HostRuntime) -> Result<(), Fail> {
-    let mut line = new_store_line(rt.alloc())?;
-    let mut encoder = new_store_encoder(rt.alloc(), 1)?;
+fn a_frame_comes_again_after_126_messages_and_no_later(rt: HostRuntime) {
+    let mut line = new_store_line(&rt, rt.alloc());
+    let mut encoder = store_encoder(&rt, rt.alloc());
     comes_again_for_so_long(&rt, &mut line, &mut encoder);
-    Ok(())
 }
 
 /// Messages for each counter and one more. The bare encoder is given the same frames.
@@ -99,28 +96,27 @@ fn goes_once_round(rt: &impl Abort, line: &mut Line<CountTarget>, encoder: &mut 
         is_taken(rt, line, &[]);
         match number {
             0 | 255 => {
-                assert!(rt; lent(rt, line) == EMPTY_1.as_slice());
-                assert!(rt; replies(encoder, &EMPTY_1, &APPLIED_1, true));
+                holds!(rt; lent(rt, line) == EMPTY_1.as_slice());
+                holds!(rt; replies(encoder, &EMPTY_1, &APPLIED_1, true));
             }
             254 => {
-                assert!(rt; lent(rt, line) == EMPTY_254.as_slice());
-                assert!(rt; replies(encoder, &EMPTY_254, applied_254, true));
+                holds!(rt; lent(rt, line) == EMPTY_254.as_slice());
+                holds!(rt; replies(encoder, &EMPTY_254, applied_254, true));
             }
-            _ => assert_eq!(rt; encoder.feed(lent(rt, line)).used, lent(rt, line).len()),
+            _ => same!(rt; encoder.feed(lent(rt, line)).used, lent(rt, line).len()),
         }
         goes_over(rt, line, Code::Applied);
     }
     steps(rt, line, &frame(0), Err(LineRefusal::TooLate));
     steps(rt, line, &reply(0), Err(LineRefusal::TooLate));
-    assert_eq!(rt; line.encoder().counts(), encoder.counts());
+    same!(rt; line.encoder().counts(), encoder.counts());
     let target = line.encoder().target();
-    assert_eq!(rt; (target.messages, target.bytes), (256, 0));
+    same!(rt; (target.messages, target.bytes), (256, 0));
 }
 
 #[test]
-fn the_256th_message_is_spelled_as_the_first_and_is_fresh(rt: HostRuntime) -> Result<(), Fail> {
-    let mut line = new_line(rt.alloc(), CountTarget::default())?;
-    let mut encoder = new_store_encoder(rt.alloc(), 1)?;
+fn the_256th_message_is_spelled_as_the_first_and_is_fresh(rt: HostRuntime) {
+    let mut line = new_line(&rt, rt.alloc(), CountTarget::default());
+    let mut encoder = store_encoder(&rt, rt.alloc());
     goes_once_round(&rt, &mut line, &mut encoder);
-    Ok(())
 }
