@@ -28,7 +28,8 @@ pub fn what_a_crash_leaves<K: KeepServer, C: Connect>()
 /// each of them gave nothing, or was refused, and that was said, or gave a message. And what it wrote, behind the lines
 /// on the server and on what waited at the start, is one line for each of these messages, in order and under its
 /// number: the code of its reply, or that it is unknown. In between stands at most what is told of an encoder that was
-/// taken for a new one, and then joined.
+/// taken for a new one, and then joined. The status is 1 where a line was refused; else 0, and then each message was
+/// applied; or 4.
 ///
 /// It has no premise of the keeper.
 pub fn told_is_taken<K: KeepServer, C: Connect>()
