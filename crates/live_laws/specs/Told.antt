@@ -12,7 +12,7 @@ use Rattle.live_sending.specs.declared.options.LiveOptions.{LiveOptions}
 use Rattle.live_sending.specs.Lines.{is_applied, reply_line, held_lines, unknown_line, unknown_lines, station_lines}
 use Rattle.live_sending.specs.Run.{marks_in}
 
--- What was told of the message of this number: the code of the reply to it; or that it is unknown.
+-- What was told of the message of this number: that it was answered with this code; or that it is unknown.
 abbrev pub answer_line : (number : ℕ) → Option Code → List ℕ
 answer_line number (Some code) = reply_line number code
 answer_line number None = unknown_line number
@@ -33,7 +33,7 @@ has_refused [] = false
 has_refused ((line, given) ∷ more) = is_refusal given || has_refused more
 
 -- What a status says of a run that came to its end with these lines and answers: 1 that a line was refused; 0 that none
--- was, and each message was applied; 4 that none was.
+-- was, and each message was told to be applied; 4 that none was.
 abbrev pub IsStatusOf : List (List ℕ × Given) → (answers : List (Option Code)) → (status : ℕ) → Type 0
 IsStatusOf lines answers status =
     ((status ≡ 1) × (has_refused lines ≡ true))
