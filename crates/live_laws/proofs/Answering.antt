@@ -1,12 +1,13 @@
 -- Lines that tell of messages one after another.
-use Rattle.std.proofs.Common.{arith, ◌≡◌, ℕ, zero, suc, ◌+◌, List, [], ◌∷◌, ◌++◌, length}
+use Rattle.std.proofs.Common.{◌&&◌, arith, ◌≡◌, ℕ, zero, suc, ◌+◌, List, [], ◌∷◌, ◌++◌, length}
 use Rattle.std.proofs.Common.{Option, Some, None, refl, sym, ap, ◌∙◌, append_assoc, length-append}
+use Rattle.std.specs.List.{list_all}
 use Rattle.uecp_elements.specs.declared.code.Code.{Code}
 use Rattle.uecp_link.specs.Server.{ServerState}
 use Rattle.kept_sending.specs.declared.keep.Progress.{Progress}
 use Rattle.live_sending.specs.declared.options.LiveOptions.{LiveOptions}
-use Rattle.live_sending.specs.Lines.{reply_line, reply_lines, unknown_line, unknown_lines}
-use Rattle.live_laws.specs.Told.{answer_line, answer_lines, TellsFor}
+use Rattle.live_sending.specs.Lines.{is_applied, reply_line, reply_lines, unknown_line, unknown_lines}
+use Rattle.live_laws.specs.Told.{was_applied, answer_line, answer_lines, TellsFor}
 
 pub replies_append : (first : ℕ) (a b : List Code)
     → reply_lines first (a ++ b) ≡ reply_lines first a ++ reply_lines (first + length a) b
@@ -39,6 +40,10 @@ replied_count (code ∷ codes) = ap suc (replied_count codes)
 pub replied_lines : (first : ℕ) (codes : List Code) → reply_lines first codes ≡ answer_lines first (replied codes)
 replied_lines first [] = refl
 replied_lines first (code ∷ codes) = ap (λ l. reply_line first code ++ l) (replied_lines (first + 1) codes)
+
+pub replied_applied : (codes : List Code) → list_all was_applied (replied codes) ≡ list_all is_applied codes
+replied_applied [] = refl
+replied_applied (code ∷ codes) = ap (λ b. is_applied code && b) (replied_applied codes)
 
 -- so many messages that are unknown, as answers
 abbrev pub unknown : ℕ → List (Option Code)

@@ -1,16 +1,21 @@
 -- What a whole run took, and what a crash leaves of it.
-use Rattle.std.proofs.Common.{arith, ◌≡◌, ◌⊎◌, ℕ, Bool, true, List, Option, sym, ◌∙◌, inl, inr}
+use Rattle.std.proofs.Common.{arith, ◌≡◌, ◌⊎◌, ℕ, Bool, true, List, Option, refl, sym, ◌∙◌, inl, inr}
+use Rattle.std.specs.List.{list_all}
+use Rattle.uecp_elements.specs.declared.code.Code.{Code}
 use Rattle.uecp_text.specs.Written.{Begins}
 use Rattle.uecp_link.specs.Server.{ServerState}
 use Rattle.kept_sending.specs.Keeping.{KeptServer}
 use Rattle.kept_jobs.specs.declared.stop.KeptStop.{KeptStop}
 use Rattle.kept_jobs.specs.Stops.{Went, stop_status, stop_lines}
 use Rattle.kept_jobs.specs.ServerRun.{Standing}
-use Rattle.kept_jobs.proofs.Outliving.{goes, stopped}
+use Rattle.kept_jobs.proofs.Outliving.{goes, stopped, goes_not_stopped}
+use Rattle.line_batches.specs.declared.intake.Given.{Given}
 use Rattle.line_batches.specs.Intake.{Intake}
 use Rattle.live_sending.specs.Run.{Live, tally_status}
 use Rattle.live_laws.specs.Taken.{at_start}
+use Rattle.live_laws.specs.Told.{was_applied, has_refused, IsStatusOf}
 use Rattle.live_laws.specs.Laws.{IsDone, DoneIsKept, WhatACrashLeaves, ToldIsTaken}
+use Rattle.live_laws.proofs.Refusing.{refused_in_all, status_so}
 use Rattle.live_laws.proofs.Runs.{whole}
 use Rattle.live_laws.proofs.TellingRuns.{whole_told}
 
@@ -33,6 +38,16 @@ on_where_done : (went : Went) (taken : Intake) (applied : Bool) (said' : Option 
 on_where_done went taken applied said' status done three (inl (is, status_is, said_is)) = sym is
 on_where_done went taken applied said' status done three (inr (stop, is, status_is, begins)) =
     absurd (not_three status done (status_is ∙ three stop is))
+
+-- what the status of one that did not stop says
+status_where_done : (went : Went) (taken : Intake) (applied : Bool) (said' : Option (List ℕ)) (status : ℕ)
+    (lines : List (List ℕ × Given)) (answers : List (Option Code)) → goes ≡ went
+    → has_refused lines ≡ taken.refused → (applied ≡ true → list_all was_applied answers ≡ true)
+    → EndedSo went taken applied said' status → IsStatusOf lines answers status
+status_where_done went taken applied said' status lines answers on refused all (inl (is, status_is, said_is)) =
+    status_so lines answers status taken.refused applied refused all status_is
+status_where_done went taken applied said' status lines answers on refused all (inr (stop, is, status_is, begins)) =
+    absurd (goes_not_stopped stop (on ∙ is))
 
 module _ {C I O K : Type 0} (opens : C → Option (I × O) → C → Type 0) (closes : C → I → O → C → Type 0)
     (remaining : I → Option (List ℕ)) (contents : O → Option (List ℕ)) (leaves : K → KeptServer → Type 0)
@@ -104,4 +119,7 @@ module _ {C I O K : Type 0} (opens : C → Option (I × O) → C → Type 0) (cl
         t.number,
         t.tells,
         t.appended,
+        status_where_done went end applied said' status t.lines t.answers on
+            (refused_in_all options.reading.region options.reading.strict t.again t.lines (at_start unread said) t.mid
+            end refl t.takes t.ends) t.applied ended,
       )

@@ -10,3 +10,4 @@ pub mod Answering
 pub mod Telling
 pub mod Speaking
 pub mod TellingRuns
+pub mod Refusing

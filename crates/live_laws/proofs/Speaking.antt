@@ -3,6 +3,7 @@ use Rattle.std.proofs.Common.{arith, ◌≡◌, ◌≢◌, ◌⊎◌, ℕ, zero,
 use Rattle.std.proofs.Common.{length}
 use Rattle.std.proofs.Common.{Option, Ok, Err, refl, sym, ap, subst, ◌∙◌, inl, inr}
 use Rattle.std.specs.Io.KnownBytes.{Appends}
+use Rattle.std.specs.List.{list_all}
 use Rattle.uecp_elements.specs.declared.code.Code.{Code}
 use Rattle.uecp_text.proofs.Begun.{appends_nothing, appends_then}
 use Rattle.uecp_link.specs.Server.{ServerState}
@@ -23,11 +24,13 @@ use Rattle.kept_jobs.specs.Stops.{Went, stop_for}
 use Rattle.kept_jobs.specs.ServerRun.{Standing}
 use Rattle.kept_jobs.proofs.Outliving.{goes, stopped, goes_not_stopped, told_stops}
 use Rattle.live_sending.specs.declared.options.LiveOptions.{LiveOptions}
-use Rattle.live_sending.specs.Lines.{reply_lines, held_lines, station_lines}
+use Rattle.live_sending.specs.Lines.{is_applied, reply_lines, held_lines, station_lines}
 use Rattle.live_sending.specs.Station.{SentFor, MakesStation, MakesOne, MakesIf, JoinedTold}
 use Rattle.live_sending.specs.Run.{Live, HeldTold, SettlesLive, MakesOnce, SettlesOnce, RunsLive, marks_in, unknown_of}
+use Rattle.live_sending.specs.Run.{are_applied}
 use Rattle.live_laws.proofs.Calls.{settles_idle}
-use Rattle.live_laws.proofs.Telling.{Onward, told_all, goes_with_none, some_where_stopped, told_turns, turns_unknown}
+use Rattle.live_laws.proofs.Telling.{both, Onward, told_all, goes_with_none, some_where_stopped, told_turns}
+use Rattle.live_laws.proofs.Telling.{turns_unknown}
 
 module _ {C I O K : Type 0} (opens : C → Option (I × O) → C → Type 0) (closes : C → I → O → C → Type 0)
     (remaining : I → Option (List ℕ)) (contents : O → Option (List ℕ)) (leaves : K → KeptServer → Type 0)
@@ -197,6 +200,23 @@ module _ {C I O K : Type 0} (opens : C → Option (I × O) → C → Type 0) (cl
   none_settled x x' applied applied' unknown unknown' went idle (inl (none, same, apply, are, is)) = (same, are, is)
   none_settled x x' applied applied' unknown unknown' went idle (inr (some, settles)) = absurd (some idle)
 
+  -- ---- Whether all was applied.
+
+  made_applied : (size : ℕ) (station : List (List ℕ)) (due : Bool) (x x' : At) (applied applied' : Bool) (went : Went)
+      → MakesIf opens closes remaining contents leaves is_clean saves fails size station due x x' applied applied' went
+      → applied' ≡ true → applied ≡ true
+  made_applied size station false x x' applied applied' went (same, apply, is) all_so = sym apply ∙ all_so
+  made_applied size station true x x' applied applied' went (told, joined, one, tells, apply) all_so =
+      (both applied (list_all is_applied told) (sym apply ∙ all_so)).0
+
+  settled_applied : (x x' : At) (applied applied' : Bool) (unknown unknown' : ℕ) (went : Went)
+      → SettlesLive opens closes remaining contents leaves is_clean saves fails x x' applied applied' unknown unknown'
+      went → applied' ≡ true → applied ≡ true
+  settled_applied x x' applied applied' unknown unknown' went (inl (idle, same, apply, are, is)) all_so =
+      sym apply ∙ all_so
+  settled_applied x x' applied applied' unknown unknown' went (inr (some, (ended, one, tells, apply, are))) all_so =
+      (both applied (are_applied ended) (sym apply ∙ all_so)).0
+
   -- ---- One sender.
 
   module _ (options : LiveOptions) where
@@ -248,7 +268,7 @@ module _ {C I O K : Type 0} (opens : C → Option (I × O) → C → Type 0) (cl
         }
 
     -- what one sender told, and how many messages it took
-    pub record Spoke (by : Bool) (x x' : At) (unknown' : ℕ) : Type 0 where
+    pub record Spoke (by : Bool) (x x' : At) (was is : Bool) (unknown' : ℕ) : Type 0 where
       pub front : List ℕ
       pub codes : List Code
       pub is_front : IsFront by x front
@@ -256,11 +276,12 @@ module _ {C I O K : Type 0} (opens : C → Option (I × O) → C → Type 0) (cl
       pub counted : (x'.progress.taken ≡ x.progress.taken + (length codes + unknown'))
           ⊎ ((by ≡ false) × (codes ≡ []) × (x'.progress.taken ≡ x.progress.taken)
           × (unknown' ≡ length (marks_in x.runs.sender.server)))
+      pub applied : is ≡ true → (was ≡ true) × (list_all is_applied codes ≡ true)
 
     stopped_settling : (by : Bool) (x y x' : LiveAt) (stop : KeptStop) → (by ≡ true → IsIdle x.sends) → 1 ≤ x'.unknown
         → MakesOnce opens closes remaining contents leaves is_clean saves fails options by x y goes
         → SettlesOnce opens closes remaining contents leaves is_clean saves fails y x' (stopped stop)
-        → Spoke by x.sends x'.sends x'.unknown
+        → Spoke by x.sends x'.sends x.applied x'.applied x'.unknown
     stopped_settling false x y x' stop idle many ((same, apply, is), takes, unknown) (settles, takes_on) =
         let u = unsettled x.sends x'.sends y.applied x'.applied y.unknown x'.unknown stop many
         (subst (λ (v : At). SettlesLive opens closes remaining contents leaves is_clean saves fails v x'.sends y.applied
@@ -270,6 +291,11 @@ module _ {C I O K : Type 0} (opens : C → Option (I × O) → C → Type 0) (cl
           is_front = inl refl;
           appended = u.appended;
           counted = inr (refl, refl, u.taken, u.all);
+          applied = λ all_so. (
+            sym apply ∙ settled_applied y.sends x'.sends y.applied x'.applied y.unknown x'.unknown (stopped stop)
+                settles all_so,
+            refl,
+          );
         }
     stopped_settling true x y x' stop idle many (made, takes, unknown) (settles, takes_on) =
         let still = made_idle options.reading.size options.station.now x.sends y.sends x.applied y.applied made
@@ -279,7 +305,7 @@ module _ {C I O K : Type 0} (opens : C → Option (I × O) → C → Type 0) (cl
 
     pub spoke : (by : Bool) (x x' : LiveAt) (went : Went) → (by ≡ true → IsIdle x.sends) → x.unknown ≡ 0
         → RunsLive opens closes remaining contents leaves is_clean saves fails options by x x' went
-        → Onward went x'.unknown → Spoke by x.sends x'.sends x'.unknown
+        → Onward went x'.unknown → Spoke by x.sends x'.sends x.applied x'.applied x'.unknown
     spoke by x x' went idle none (inl (y, made, inl (z, settles, turns))) onward =
         let f = front by x y z idle none made settles in
         let still = settles_idle opens closes remaining contents leaves is_clean saves fails y.sends z.sends y.applied
@@ -294,6 +320,12 @@ module _ {C I O K : Type 0} (opens : C → Option (I × O) → C → Type 0) (cl
               (reply_lines (x.sends.progress.taken + 1) t.codes) f.appended
               (subst (λ n. Appends z.sends.held x'.sends.held (reply_lines (n + 1) t.codes)) taken t.appended);
           counted = inl (let a = t.counted in omega (arith, a, taken));
+          applied = λ all_so. (
+            made_applied options.reading.size options.station.now by x.sends y.sends x.applied y.applied goes
+                made.0 (settled_applied y.sends z.sends y.applied z.applied y.unknown z.unknown goes settles.0
+                (t.applied all_so).0),
+            (t.applied all_so).1,
+          );
         }
     spoke by x x' went idle none (inl (y, made, inr (stop, settles, is))) onward =
         stopped_settling by x y x' stop idle (some_where_stopped stop went x'.unknown is onward) made settles

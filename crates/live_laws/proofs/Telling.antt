@@ -1,7 +1,10 @@
 -- What turns and senders tell.
-use Rattle.std.proofs.Common.{arith, ◌≡◌, ◌⊎◌, ℕ, zero, suc, ◌+◌, ◌-◌, ◌≤◌, Bool, List, [], ◌++◌, length}
+use Rattle.std.proofs.Common.{arith, ◌≡◌, ◌⊎◌, ℕ, zero, suc, ◌+◌, ◌-◌, ◌≤◌, Bool, true, false, ◌&&◌, List, [], ◌++◌}
+use Rattle.std.proofs.Common.{length}
 use Rattle.std.proofs.Common.{Option, Ok, Err, refl, sym, ap, subst, ◌∙◌, inl, inr, length-append}
 use Rattle.std.specs.Io.KnownBytes.{Appends}
+use Rattle.std.specs.List.{list_all}
+use Rattle.std.proofs.lemmas.List.Folds.{list_all-append}
 use Rattle.rds_text.specs.declared.programme_type.Region.{Region}
 use Rattle.uecp_elements.specs.declared.code.Code.{Code}
 use Rattle.uecp_text.specs.declared.run_fault.RunFault.TheVariants as run
@@ -22,8 +25,8 @@ use Rattle.kept_jobs.specs.ServerRun.{Standing, SendsOne}
 use Rattle.kept_jobs.proofs.Outliving.{goes, stopped, goes_not_stopped}
 use Rattle.line_batches.specs.declared.taking.After.{After}
 use Rattle.line_batches.specs.declared.taking.After.TheVariants.{GoesOn, Ends}
-use Rattle.live_sending.specs.Lines.{reply_lines}
-use Rattle.live_sending.specs.Run.{Live, RepliesTold, SendsSome, Turn, GoesOnFor, RunsTurns, unknown_of}
+use Rattle.live_sending.specs.Lines.{reply_lines, is_applied}
+use Rattle.live_sending.specs.Run.{Live, RepliesTold, SendsSome, Turn, GoesOnFor, RunsTurns, unknown_of, are_applied}
 use Rattle.live_laws.proofs.Answering.{replies_append}
 use Rattle.live_laws.proofs.Turns.{turn_part}
 
@@ -49,6 +52,11 @@ pub some_where_stopped : (stop : KeptStop) (went : Went) (unknown : ℕ) → wen
 some_where_stopped stop went unknown is (inl on) = absurd (goes_not_stopped stop (on ∙ is))
 some_where_stopped stop went unknown is (inr some) = some
 
+-- both hold
+pub both : (a b : Bool) → (a && b) ≡ true → (a ≡ true) × (b ≡ true)
+both true b is = (refl, is)
+both false b is = absurd (let not_so : false ≡ true = is in cc)
+
 module _ {C I O K : Type 0} (opens : C → Option (I × O) → C → Type 0) (closes : C → I → O → C → Type 0)
     (remaining : I → Option (List ℕ)) (contents : O → Option (List ℕ)) (leaves : K → KeptServer → Type 0)
     (is_clean : K → Type 0) (saves fails : K → KeptServer → K → Type 0) where
@@ -56,20 +64,23 @@ module _ {C I O K : Type 0} (opens : C → Option (I × O) → C → Type 0) (cl
   At = Standing (SenderOver C I O) K
 
   -- the codes of messages were told, each under its number, and so many more were taken
-  pub record Told (x x' : At) (unknown' : ℕ) : Type 0 where
+  pub record Told (x x' : At) (was is : Bool) (unknown' : ℕ) : Type 0 where
     pub codes : List Code
     pub appended : Appends x.held x'.held (reply_lines (x.progress.taken + 1) codes)
     pub counted : x'.progress.taken ≡ x.progress.taken + (length codes + unknown')
+    pub applied : is ≡ true → (was ≡ true) × (list_all is_applied codes ≡ true)
 
-  told_none : (x : At) (unknown' : ℕ) → unknown' ≡ 0 → Told x x unknown'
-  told_none x unknown' none = record {
+  told_none : (x : At) (is : Bool) (unknown' : ℕ) → unknown' ≡ 0 → Told x x is is unknown'
+  told_none x is unknown' none = record {
     codes = [];
     appended = appends_nothing x.held;
     counted = omega (arith, none);
+    applied = λ all_so. (all_so, refl);
   }
 
-  told_on : (x y z : At) (unknown' : ℕ) → Told x y 0 → Told y z unknown' → Told x z unknown'
-  told_on x y z unknown' one rest =
+  told_on : (x y z : At) (a b c : Bool) (unknown' : ℕ) → Told x y a b 0 → Told y z b c unknown'
+      → Told x z a c unknown'
+  told_on x y z a b c unknown' one rest =
       let counted = one.counted in
       let place : y.progress.taken + 1 ≡ x.progress.taken + 1 + length one.codes = omega (arith, counted) in
       record {
@@ -81,6 +92,12 @@ module _ {C I O K : Type 0} (opens : C → Option (I × O) → C → Type 0) (cl
             (subst (λ n. Appends y.held z.held (reply_lines n rest.codes)) place rest.appended));
         counted = (let a = rest.counted in let b = length-append one.codes rest.codes in
             omega (arith, a, b, counted));
+        applied = λ all_so.
+            (let later = rest.applied all_so in let before = one.applied later.0 in (
+              before.0,
+              list_all-append is_applied one.codes rest.codes
+                  ∙ ap (λ d. d && list_all is_applied rest.codes) before.1 ∙ later.1,
+            ));
       }
 
   -- ---- A batch.
@@ -96,12 +113,12 @@ module _ {C I O K : Type 0} (opens : C → Option (I × O) → C → Type 0) (cl
   all_told batch settled x x' idle (inr (is, same, failed)) =
       absurd (let no : Ok settled ≡ Err kept.StateFailed = is in cc)
 
-  told_batch : (batch : List (List ℕ)) (ended : Ended) (x x' : At) (unknown' : ℕ) (went : Went)
-      → x.runs.sender.server.held ≡ []
+  told_batch : (batch : List (List ℕ)) (ended : Ended) (x x' : At) (was is : Bool) (unknown' : ℕ) (went : Went)
+      → is ≡ was && are_applied ended → x.runs.sender.server.held ≡ []
       → SendsOne opens closes remaining contents leaves is_clean saves fails batch ended x x'
       → RepliesTold x'.progress.taken x'.runs.sender.server.counts ended x.held x'.held went
-      → unknown' ≡ unknown_of (length batch) ended → Onward went unknown' → Told x x' unknown'
-  told_batch batch (Ok settled) x x' unknown' went idle one tells are onward =
+      → unknown' ≡ unknown_of (length batch) ended → Onward went unknown' → Told x x' was is unknown'
+  told_batch batch (Ok settled) x x' was is unknown' went apply idle one tells are onward =
       let number : length settled.codes.items ≡ length batch = all_told batch settled x x' idle one.sends in
       let taken : x'.progress.taken ≡ x.progress.taken + length batch =
       ap (λ (p : Progress). p.taken) one.progress in
@@ -112,30 +129,35 @@ module _ {C I O K : Type 0} (opens : C → Option (I × O) → C → Type 0) (cl
         appended = subst (λ n. Appends x.held x'.held (reply_lines n settled.codes.items)) first
             (told_all _ x.held x'.held went tells (goes_with_none went unknown' are onward));
         counted = omega (arith, number, taken, are);
+        applied = λ all_so. both was (list_all is_applied settled.codes.items) (sym apply ∙ all_so);
       }
-  told_batch batch (Err (kept.Outstanding TriesSpent)) x x' unknown' went idle one (same, is) are onward =
+  told_batch batch (Err (kept.Outstanding TriesSpent)) x x' was is unknown' went apply idle one (same, stops) are
+      onward =
       let taken : x'.progress.taken ≡ x.progress.taken + length batch =
       ap (λ (p : Progress). p.taken) one.progress in
       record {
         codes = [];
         appended = subst (λ h. Appends x.held h []) (sym same) (appends_nothing x.held);
         counted = omega (arith, taken, are);
+        applied = λ all_so. ((both was true (sym apply ∙ all_so)).0, refl);
       }
-  told_batch batch (Err (kept.Outstanding ConnectionFailed)) x x' unknown' went idle one (same, is) are onward =
+  told_batch batch (Err (kept.Outstanding ConnectionFailed)) x x' was is unknown' went apply idle one (same, stops) are
+      onward =
       absurd (goes_not_stopped (stop_for x'.runs.sender.server.counts ConnectionFailed)
-      (goes_with_none went unknown' are onward ∙ is))
-  told_batch batch (Err kept.StateFailed) x x' unknown' went idle one (same, is) are onward =
-      absurd (goes_not_stopped StateFailed (goes_with_none went unknown' are onward ∙ is))
+      (goes_with_none went unknown' are onward ∙ stops))
+  told_batch batch (Err kept.StateFailed) x x' was is unknown' went apply idle one (same, stops) are onward =
+      absurd (goes_not_stopped StateFailed (goes_with_none went unknown' are onward ∙ stops))
 
   told_some : (batch : List (List ℕ)) (x x' : At) (applied applied' : Bool) (unknown unknown' : ℕ) (went : Went)
       → x.runs.sender.server.held ≡ [] → unknown ≡ 0
       → SendsSome opens closes remaining contents leaves is_clean saves fails batch x x' applied applied' unknown
-      unknown' went → Onward went unknown' → Told x x' unknown'
+      unknown' went → Onward went unknown' → Told x x' applied applied' unknown'
   told_some batch x x' applied applied' unknown unknown' went idle zero_is (inl (none, same, apply, are, is)) onward =
-      subst (λ y. Told x y unknown') (sym same) (told_none x unknown' (are ∙ zero_is))
+      subst (λ y. Told x y applied applied' unknown') (sym same)
+      (subst (λ b. Told x x b applied' unknown') apply (told_none x applied' unknown' (are ∙ zero_is)))
   told_some batch x x' applied applied' unknown unknown' went idle zero_is
       (inr (some, (ended, one, tells, apply, are))) onward =
-      told_batch batch ended x x' unknown' went idle one tells are onward
+      told_batch batch ended x x' applied applied' unknown' went apply idle one tells are onward
 
   none_unknown : (batch : List (List ℕ)) (x x' : At) (applied applied' : Bool) (unknown unknown' : ℕ) (went : Went)
       → unknown ≡ 0
@@ -163,7 +185,8 @@ module _ {C I O K : Type 0} (opens : C → Option (I × O) → C → Type 0) (cl
     OneTurn = Turn opens closes remaining contents leaves is_clean saves fails region size strict
 
     told_turn : (x x' : LiveAt) (after : After) (went : Went) → x.sends.runs.sender.server.held ≡ [] → x.unknown ≡ 0
-        → OneTurn x x' after went → Onward went x'.unknown → Told x.sends x'.sends x'.unknown
+        → OneTurn x x' after went → Onward went x'.unknown
+        → Told x.sends x'.sends x.applied x'.applied x'.unknown
     told_turn x x' after went idle none turn onward =
         told_some turn.messages x.sends x'.sends x.applied x'.applied x.unknown x'.unknown went idle none turn.sends
         onward
@@ -180,42 +203,43 @@ module _ {C I O K : Type 0} (opens : C → Option (I × O) → C → Type 0) (cl
 
     -- where a run stands after some turns
     record Going (x y : LiveAt) : Type 0 where
-      pub told : Told x.sends y.sends 0
+      pub told : Told x.sends y.sends x.applied y.applied 0
       pub idle : y.sends.runs.sender.server.held ≡ []
       pub none : y.unknown ≡ 0
 
     told_going : (n : ℕ) (x y : LiveAt) → x.sends.runs.sender.server.held ≡ [] → x.unknown ≡ 0
         → GoesOnFor opens closes remaining contents leaves is_clean saves fails region size strict n x y → Going x y
     told_going zero x y idle none same = subst (λ (z : LiveAt). Going x z) (sym same) (record {
-      told = told_none x.sends 0 refl;
+      told = told_none x.sends x.applied 0 refl;
       idle = idle;
       none = none;
     })
     told_going (suc n) x z idle none (y, before, turn) =
         let so = told_going n x y idle none before in
         let zero_is = turn_unknown y z GoesOn so.none turn in record {
-          told = told_on x.sends y.sends z.sends 0 so.told
-              (subst (λ u. Told y.sends z.sends u) zero_is (told_turn y z GoesOn goes so.idle so.none turn (inl refl)));
+          told = told_on x.sends y.sends z.sends x.applied y.applied z.applied 0 so.told
+              (subst (λ u. Told y.sends z.sends y.applied z.applied u) zero_is
+              (told_turn y z GoesOn goes so.idle so.none turn (inl refl)));
           idle = turn_idle y z GoesOn so.idle turn;
           none = zero_is;
         }
 
     pub told_turns : (x x' : LiveAt) (went : Went) → x.sends.runs.sender.server.held ≡ [] → x.unknown ≡ 0
         → RunsTurns opens closes remaining contents leaves is_clean saves fails region size strict x x' went
-        → Onward went x'.unknown → Told x.sends x'.sends x'.unknown
+        → Onward went x'.unknown → Told x.sends x'.sends x.applied x'.applied x'.unknown
     told_turns x x' went idle none (n, y, before, inl (inl (end, turn, is))) onward =
         let so = told_going n x y idle none before in
-        told_on x.sends y.sends x'.sends x'.unknown so.told
+        told_on x.sends y.sends x'.sends x.applied y.applied x'.applied x'.unknown so.told
         (told_turn y x' (Ends end) goes so.idle so.none turn (inl refl))
     told_turns x x' went idle none (n, y, before, inl (inr (after, stop, turn, is))) onward =
         let so = told_going n x y idle none before in
-        told_on x.sends y.sends x'.sends x'.unknown so.told
+        told_on x.sends y.sends x'.sends x.applied y.applied x'.applied x'.unknown so.told
         (told_turn y x' after (stopped stop) so.idle so.none turn
         (inr (some_where_stopped stop went x'.unknown is onward)))
     told_turns x x' went idle none (n, y, before, inr (all, same, is)) onward =
         let so = told_going n x y idle none before in
-        subst (λ (z : LiveAt). Told x.sends z.sends z.unknown) (sym same)
-        (subst (λ u. Told x.sends y.sends u) (sym so.none) so.told)
+        subst (λ (z : LiveAt). Told x.sends z.sends x.applied z.applied z.unknown) (sym same)
+        (subst (λ u. Told x.sends y.sends x.applied y.applied u) (sym so.none) so.told)
 
     -- a run that goes on leaves none outstanding
     pub turns_unknown : (x x' : LiveAt) (went : Went) → x.sends.runs.sender.server.held ≡ [] → x.unknown ≡ 0

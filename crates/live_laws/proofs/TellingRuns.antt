@@ -2,6 +2,7 @@
 use Rattle.std.proofs.Common.{arith, ◌≡◌, ◌⊎◌, ℕ, zero, suc, ◌+◌, ◌-◌, Bool, true, false, List, [], ◌++◌, length}
 use Rattle.std.proofs.Common.{Option, Ok, refl, sym, ap, subst, ◌∙◌, inl, inr, append_assoc, append-nil, length-append}
 use Rattle.std.specs.Io.KnownBytes.{Appends}
+use Rattle.std.specs.List.{list_all}
 use Rattle.uecp_elements.specs.declared.code.Code.{Code}
 use Rattle.uecp_text.proofs.Begun.{appends_nothing, appends_then}
 use Rattle.uecp_link.specs.Server.{ServerState, waiting}
@@ -20,9 +21,9 @@ use Rattle.live_sending.specs.declared.options.LiveOptions.{LiveOptions}
 use Rattle.live_sending.specs.Lines.{reply_lines, held_lines, unknown_lines}
 use Rattle.live_sending.specs.Run.{Live, Renews, RunsOne, RunsAgain, RunsFor, LivesFrom, marks_in}
 use Rattle.live_laws.specs.Taken.{TakesFor, ComesToEnd}
-use Rattle.live_laws.specs.Told.{answer_lines, anew_lines, IsToldFirst, IsToldBetween, TellsFor, TellsAll}
+use Rattle.live_laws.specs.Told.{was_applied, answer_lines, anew_lines, IsToldFirst, IsToldBetween, TellsFor, TellsAll}
 use Rattle.live_laws.proofs.Answering.{replied, replied_count, replied_lines, unknown, unknown_count, unknown_same}
-use Rattle.live_laws.proofs.Answering.{tells_more}
+use Rattle.live_laws.proofs.Answering.{tells_more, replied_applied}
 use Rattle.live_laws.proofs.Telling.{Onward, told_all, goes_with_none}
 use Rattle.live_laws.proofs.Speaking.{IsFront, Spoke, spoke, spoke_unknown}
 use Rattle.live_laws.proofs.Runs.{senders}
@@ -70,6 +71,7 @@ module _ {C I O K : Type 0} (opens : C → Option (I × O) → C → Type 0) (cl
       pub counted : (x'.sends.progress.taken ≡ x0.progress.taken + (length answers + x'.unknown))
           ⊎ ((answers ≡ []) × (x'.sends.progress.taken ≡ x0.progress.taken)
           × (x'.unknown ≡ length (marks_in x0.runs)))
+      pub applied : x'.applied ≡ true → list_all was_applied answers ≡ true
 
     -- ---- The first sender.
 
@@ -119,6 +121,7 @@ module _ {C I O K : Type 0} (opens : C → Option (I × O) → C → Type 0) (cl
           );
           appended = s.appended;
           counted = by s.codes (same_taken due x.sends has) s.counted;
+          applied = λ all_so. replied_applied s.codes ∙ (s.applied all_so).1;
         })
       where
         by : (codes : List Code) → x.sends.progress.taken ≡ x0.progress.taken
@@ -154,8 +157,10 @@ module _ {C I O K : Type 0} (opens : C → Option (I × O) → C → Type 0) (cl
         → w.progress.taken ≡ x0.progress.taken + length earlier
         → Appends x.sends.held w.held (before ++ front) → (rest : List ℕ) → between ≡ front ++ rest
         → Appends w.held x'.sends.held (rest ++ reply_lines (w.progress.taken + 1) codes)
-        → x'.sends.progress.taken ≡ w.progress.taken + (length codes + x'.unknown) → ToldFor (suc n) x x'
-    told_more n x y x' w earlier before between front codes tells is_between taken so_far rest split then counted =
+        → x'.sends.progress.taken ≡ w.progress.taken + (length codes + x'.unknown) → (x'.applied ≡ true → ⊥)
+        → ToldFor (suc n) x x'
+    told_more n x y x' w earlier before between front codes tells is_between taken so_far rest split then counted
+        never =
         let lines = answer_lines (first + length earlier) (replied codes) in
         let place : w.progress.taken + 1 ≡ first + length earlier = omega (arith, taken) in
         let replies : reply_lines (w.progress.taken + 1) codes ≡ lines =
@@ -175,6 +180,7 @@ module _ {C I O K : Type 0} (opens : C → Option (I × O) → C → Type 0) (cl
               (rest ++ reply_lines (w.progress.taken + 1) codes) so_far then);
           counted = inl (let number = replied_count codes in let sum = length-append earlier (replied codes) in
               omega (arith, counted, taken, number, sum));
+          applied = λ all_so. absurd (never all_so);
         }
 
     -- what is left of a sender that hangs up
@@ -194,7 +200,9 @@ module _ {C I O K : Type 0} (opens : C → Option (I × O) → C → Type 0) (cl
     abbrev SpokeOf : C → (loan : ℕ) → Was → Live (SenderOver C I O) K → Type 0
     SpokeOf c loan w z =
         Spoke opens closes remaining contents leaves is_clean saves fails options true
-        (sending opens closes remaining contents leaves is_clean saves fails c loan options.limits w) z.sends z.unknown
+        (sending opens closes remaining contents leaves is_clean saves fails c loan options.limits w) z.sends false
+        z.applied
+        z.unknown
 
     spoke_counted : (c : C) (loan : ℕ) (w : Was) (z : Live (SenderOver C I O) K) (s : SpokeOf c loan w z)
         → z.sends.progress.taken ≡ w.progress.taken + (length s.codes + z.unknown)
@@ -206,6 +214,10 @@ module _ {C I O K : Type 0} (opens : C → Option (I × O) → C → Type 0) (cl
             → z.sends.progress.taken ≡ w.progress.taken + (length s.codes + z.unknown)
         by (inl a) = a
         by (inr (is, none_is, taken, all)) = absurd (let never : true ≡ false = is in cc)
+
+    never_applied : (c : C) (loan : ℕ) (w : Was) (z : Live (SenderOver C I O) K) → SpokeOf c loan w z
+        → z.applied ≡ true → ⊥
+    never_applied c loan w z s all_so = absurd (let never : false ≡ true = (s.applied all_so).0 in cc)
 
     told_again : (n : ℕ) (x y : LiveWas) (w : Was) (c : C) (loan : ℕ) (z : Live (SenderOver C I O) K)
         (so : ToldFor n x y) → w.progress.taken ≡ y.sends.progress.taken
@@ -230,7 +242,7 @@ module _ {C I O K : Type 0} (opens : C → Option (I × O) → C → Type 0) (cl
         (omega (arith, same, a, number, sum))
         (subst (λ l. Appends x.sends.held w.held l) (sym (append-nil (so.text ++ lines)))
         (appends_then x.sends.held y.sends.held w.held so.text lines so.appended told))
-        s.front refl s.appended (spoke_counted c loan w z s)
+        s.front refl s.appended (spoke_counted c loan w z s) (never_applied c loan w z s)
     told_again n x y w c loan z so same given_up s (inr (none_is, taken, all)) =
         let waited = unknown_lines (y.sends.progress.taken + 1 - y.unknown) y.unknown in
         let zero_is : length so.answers ≡ 0 = ap length none_is in
@@ -243,7 +255,7 @@ module _ {C I O K : Type 0} (opens : C → Option (I × O) → C → Type 0) (cl
         )
         (omega (arith, same, taken, zero_is))
         (appends_then x.sends.held y.sends.held w.held so.text waited so.appended given_up) s.front refl s.appended
-        (spoke_counted c loan w z s)
+        (spoke_counted c loan w z s) (never_applied c loan w z s)
 
     told_next : (n : ℕ) (address : ℕ) (d c' : C) (x y x' : LiveWas) (went : Went) → ToldFor n x y
         → RunsAgain opens closes remaining contents leaves is_clean saves fails options address d c' y x' went
@@ -257,7 +269,7 @@ module _ {C I O K : Type 0} (opens : C → Option (I × O) → C → Type 0) (cl
         (renewed_told y.unknown y.sends w renews)
         (spoke opens closes remaining contents leaves is_clean saves fails options true
         (sent_from d loan (anew_at y w)) z went
-        (λ yes. ap (λ (r : ServerState). r.held) new) refl runs
+        (λ all_so. ap (λ (r : ServerState). r.held) new) refl runs
         (subst (λ (v : LiveWas). Onward went v.unknown) is onward)) so.counted)
 
     told_senders : (n : ℕ) (c c' : C) (x x' : LiveWas) (went : Went) → HasBegunSo due x.sends → x.unknown ≡ 0
@@ -284,7 +296,7 @@ module _ {C I O K : Type 0} (opens : C → Option (I × O) → C → Type 0) (cl
         one_unknown due c c' x x' went (begun_idle due x.sends has) none runs on
     none_left (suc n) c c' x x' went has none (d, y, stopped_so, before, rejoin, some, (w, new, inl (renews, runs)))
         on =
-        one_unknown true d c' (anew_at y w) x' went (λ yes. ap (λ (r : ServerState). r.held) new) refl runs on
+        one_unknown true d c' (anew_at y w) x' went (λ all_so. ap (λ (r : ServerState). r.held) new) refl runs on
     none_left (suc n) c c' x x' went has none
         (d, y, stopped_so, before, rejoin, some, (w, new, inr (stop, renews, is, connect, same))) on =
         absurd (goes_not_stopped stop (on ∙ is))
@@ -320,7 +332,8 @@ module _ {C I O K : Type 0} (opens : C → Option (I × O) → C → Type 0) (cl
   -- ---- A whole run.
 
   -- what a run took that came to its end, and what it told
-  pub record WholeTold (options : LiveOptions) (x : LiveWas) (held' : Option (List ℕ)) (end : Intake) : Type 0 where
+  pub record WholeTold (options : LiveOptions) (x : LiveWas) (held' : Option (List ℕ)) (end : Intake) (is : Bool) : Type
+      0 where
     pub lines : List (List ℕ × Given)
     pub again : ℕ
     pub mid : Intake
@@ -332,11 +345,12 @@ module _ {C I O K : Type 0} (opens : C → Option (I × O) → C → Type 0) (cl
     pub number : length answers ≡ length (messages_in lines)
     pub tells : TellsAll options x.sends.progress x.sends.runs again answers text
     pub appended : Appends x.sends.held held' text
+    pub applied : is ≡ true → list_all was_applied answers ≡ true
 
   pub whole_told : (options : LiveOptions) (c c' : C) (x : LiveWas) (k' : K) (held' : Option (List ℕ)) (end : Intake)
       (applied : Bool) (went : Went)
       → LivesFrom opens closes remaining contents leaves is_clean saves fails options c c' x k' held' end applied went
-      → goes ≡ went → WholeTold options x held' end
+      → goes ≡ went → WholeTold options x held' end applied
   whole_told options c c' x k' held' end applied went
       (inl (y, again, z, begins, runs, last, keeper, held, takes, apply)) on =
       let due = is_due options.join x.sends.progress in
@@ -346,8 +360,8 @@ module _ {C I O K : Type 0} (opens : C → Option (I × O) → C → Type 0) (cl
       let t = told_senders options x.sends due refl again c c' _ z went has refl runs (inl on) in
       let none = none_left options x.sends due refl again c c' _ z went has refl runs on in
       let begun = taken_line x.sends.progress.taken (length (waiting x.sends.runs)) ++ anew_lines due x.sends.runs in
-      subst (λ i. WholeTold options x held' i) (sym takes)
-      (subst (λ h. WholeTold options x h z.takes) (sym held) (record {
+      subst (λ i. WholeTold options x held' i applied) (sym takes)
+      (subst (λ h. WholeTold options x h z.takes applied) (sym held) (record {
         lines = r.lines;
         again = again;
         mid = r.mid;
@@ -360,6 +374,7 @@ module _ {C I O K : Type 0} (opens : C → Option (I × O) → C → Type 0) (cl
         tells = (t.text, t.tells, refl);
         appended = appends_then x.sends.held y.held z.sends.held begun t.text
             (begun_told due x.sends y begins) t.appended;
+        applied = λ all_so. t.applied (sym apply ∙ all_so);
       }))
     where
       by : (answers : List (Option Code)) (lines : List (List ℕ × Given)) → z.unknown ≡ 0

@@ -13,7 +13,7 @@ use Rattle.live_sending.specs.declared.options.LiveOptions.{LiveOptions}
 use Rattle.live_sending.specs.Run.{Lives}
 use Rattle.live_laws.specs.Taken.{TakesSome, TakesAll}
 use Rattle.live_laws.specs.Left.{OutlivesLive}
-use Rattle.live_laws.specs.Told.{TellsAll}
+use Rattle.live_laws.specs.Told.{TellsAll, IsStatusOf}
 
 -- the status of a run that came to its end
 abbrev pub IsDone : (status : ℕ) → Type 0
@@ -49,7 +49,8 @@ module _ {C I O K : Type 0} (opens : C → Option (I × O) → C → Type 0) (cl
       left)
 
   -- A run that came to its end took all lines up to that of its input; and it told of each message that these gave one
-  -- line, in order and under its number, and nothing else but of the server and its encoder.
+  -- line, in order and under its number, and nothing else but of the server and its encoder; and its status says how
+  -- that went.
   abbrev pub ToldIsTaken : Type 0
   ToldIsTaken =
       (options : LiveOptions) (c c' : C) (x : Standing ServerState K) (k' : K)
@@ -59,3 +60,4 @@ module _ {C I O K : Type 0} (opens : C → Option (I × O) → C → Type 0) (cl
       (lines : List (List ℕ × Given)) × (takes : TakesAll options unread unread' said lines)
       × (answers : List (Option Code)) × (text : List ℕ) × (length answers ≡ length (messages_in lines))
       × TellsAll options x.progress x.runs takes.stops answers text × Appends x.held held' text
+      × IsStatusOf lines answers status

@@ -1,15 +1,18 @@
 -- What a whole run told of the messages of its lines (profile).
-use Rattle.std.specs.Prelude.{◌≡◌, ◌⊎◌, ℕ, zero, suc, ◌+◌, ◌-◌, Bool, true, false, List, [], ◌∷◌, ◌++◌, length}
-use Rattle.std.specs.Prelude.{Option, Some, None}
+use Rattle.std.specs.Prelude.{◌≡◌, ◌⊎◌, ℕ, zero, suc, ◌+◌, ◌-◌, Bool, true, false, ◌||◌, List, [], ◌∷◌, ◌++◌}
+use Rattle.std.specs.Prelude.{length, Option, Some, None}
+use Rattle.std.specs.List.{list_all}
 use Rattle.uecp_elements.specs.declared.code.Code.{Code}
 use Rattle.uecp_link.specs.Server.{ServerState, waiting}
 use Rattle.kept_sending.specs.declared.keep.Progress.{Progress}
 use Rattle.kept_jobs.specs.ServerRun.{taken_line, given_up_line, is_due}
+use Rattle.line_batches.specs.declared.intake.Given.{Given}
+use Rattle.line_batches.specs.Intake.{is_refusal}
 use Rattle.live_sending.specs.declared.options.LiveOptions.{LiveOptions}
-use Rattle.live_sending.specs.Lines.{reply_line, held_lines, unknown_line, unknown_lines, station_lines}
+use Rattle.live_sending.specs.Lines.{is_applied, reply_line, held_lines, unknown_line, unknown_lines, station_lines}
 use Rattle.live_sending.specs.Run.{marks_in}
 
--- What was told of the message of this number: the code of the reply to it; or that it is unknown.
+-- What was told of the message of this number: that it was answered with this code; or that it is unknown.
 abbrev pub answer_line : (number : ℕ) → Option Code → List ℕ
 answer_line number (Some code) = reply_line number code
 answer_line number None = unknown_line number
@@ -18,6 +21,23 @@ answer_line number None = unknown_line number
 abbrev pub answer_lines : (first : ℕ) → List (Option Code) → List ℕ
 answer_lines first [] = []
 answer_lines first (answer ∷ answers) = answer_line first answer ++ answer_lines (first + 1) answers
+
+-- whether a message was told to be applied
+abbrev pub was_applied : Option Code → Bool
+was_applied (Some code) = is_applied code
+was_applied None = false
+
+-- whether one of these lines was refused
+abbrev pub has_refused : List (List ℕ × Given) → Bool
+has_refused [] = false
+has_refused ((line, given) ∷ more) = is_refusal given || has_refused more
+
+-- What a status says of a run that came to its end with these lines and answers: 1 that a line was refused; 0 that none
+-- was, and each message was told to be applied; 4 that none was.
+abbrev pub IsStatusOf : List (List ℕ × Given) → (answers : List (Option Code)) → (status : ℕ) → Type 0
+IsStatusOf lines answers status =
+    ((status ≡ 1) × (has_refused lines ≡ true))
+    ⊎ ((has_refused lines ≡ false) × (((status ≡ 0) × (list_all was_applied answers ≡ true)) ⊎ (status ≡ 4)))
 
 -- how many messages are given up by a server that begins anew, where it does
 abbrev pub anew_lines : (due : Bool) → ServerState → List ℕ
