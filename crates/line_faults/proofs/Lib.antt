@@ -1,2 +1,3 @@
 pub mod Wording
 pub mod Refusing
+pub mod Coming

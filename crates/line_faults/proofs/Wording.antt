@@ -2,6 +2,8 @@
 use Rattle.std.proofs.Common.{◌≡◌, ◌≢◌, ℕ, zero, suc, ◌+◌, ◌-◌, ◌<◌, ◌≤◌, ◌==◌, Bool, true, false, not, cond, List, [], ◌∷◌, ◌++◌}
 use Rattle.std.proofs.Common.{length, take, drop, get_or, filter, refl, sym, ap, ◌∙◌, subst, arith, inl, inr, add-one}
 use Rattle.std.proofs.Common.{length-drop, length-take-le, get_or-take, take-append-drop, drop-cons}
+use Rattle.std.proofs.Common.{length-append}
+use Rattle.std.proofs.Math.Seq.{drop-append_seam}
 use Rattle.std.specs.List.{All, slice_split}
 use Rattle.std.proofs.lemmas.Bool.{eqb-true, eq-eqb, ne_eqb, cases_Bool}
 use Rattle.std.proofs.lemmas.List.{take_all, drop_all}
@@ -133,3 +135,24 @@ rest_words text place = ap words (rest_of text place)
 
 pub words_at_end : (text : List ℕ) (place : ℕ) → length text ≤ place → words text ≡ words (drop place text) → words text ≡ []
 words_at_end text place past same = same ∙ ap words (drop_all place text past) ∙ no_words
+
+-- ---- A word that ends so.
+
+-- what stands before its end
+pub front_of : (end word : List ℕ) → take (length word - (length word - length end)) (drop (length word - length end) word)
+    ≡ end → word ≡ take (length word - length end) word ++ end
+front_of end word same =
+    sym (take-append-drop (length word - length end) word)
+    ∙ ap (λ l. take (length word - length end) word ++ l) (sym (rest_of word (length word - length end)) ∙ same)
+
+-- a word with another end does not end so
+pub no_front : (end word : List ℕ)
+    → (take (length word - (length word - length end)) (drop (length word - length end) word) ≡ end → ⊥)
+    → (front : List ℕ) → word ≡ front ++ end → ⊥
+no_front end word other front is = other (rest_of word (length word - length end) ∙ at_end)
+  where
+    long : length front ≡ length word - length end
+    long = omega (arith, ap length is, length-append front end)
+
+    at_end : drop (length word - length end) word ≡ end
+    at_end = ap (λ n. drop n word) (sym long) ∙ ap (drop (length front)) is ∙ drop-append_seam front end

@@ -1,8 +1,7 @@
 -- What comes of a segment (profile).
-use Rattle.std.specs.Prelude.{◌≡◌, ◌≤◌, ℕ, ◌==◌, nat_le, Bool, true, false, ◌&&◌, ◌||◌, if◌then◌else◌, List, Option, Some}
-use Rattle.std.specs.Prelude.{None, IfSome, find}
+use Rattle.std.specs.Prelude.{◌≡◌, ◌≤◌, ℕ, ◌==◌, nat_le, Bool, true, false, ◌&&◌, ◌||◌, if◌then◌else◌, List, [], ◌∷◌}
+use Rattle.std.specs.Prelude.{Option, Some, None, IfSome}
 use Rattle.std.specs.List.{list_any}
-use Rattle.std.specs.Option.{option_and_then}
 use Rattle.line_faults.specs.declared.rule.Way.{Way}
 use Rattle.line_faults.specs.declared.rule.Way.TheVariants.{Frame, Reply}
 use Rattle.line_faults.specs.declared.rule.Span.{Span}
@@ -37,11 +36,11 @@ abbrev pub repeats : Way → (number : ℕ) → Rule → Bool
 repeats way number (Repeat of_way span) = same_way of_way way && is_within span number
 repeats way number rule = false
 
--- Whether the rule says that a byte of it is damaged, and it has that byte.
-abbrev pub damages : Way → (number length : ℕ) → Rule → Bool
-damages way number length (Damage of_way segment place) =
-    same_way of_way way && segment == number && nat_le 1 place && nat_le place length
-damages way number length rule = false
+-- The place of the byte of it that the rule damages, counted from 1, where it has that byte.
+abbrev pub place_of : Way → (number length : ℕ) → Rule → Option ℕ
+place_of way number length (Damage of_way segment place) =
+    if same_way of_way way && segment == number && nat_le 1 place && nat_le place length then Some place else None
+place_of way number length rule = None
 
 -- Whether the rule says that the connection breaks behind it.
 abbrev pub breaks : Way → (number : ℕ) → Rule → Bool
@@ -58,14 +57,16 @@ abbrev pub may_damage : Rule → Bool
 may_damage (DamageByChance percent) = true
 may_damage rule = false
 
--- The place of a byte that the rule damages.
-abbrev pub place_in : Rule → Option ℕ
-place_in (Damage way number place) = Some place
-place_in rule = None
+-- The first place of two, if there is one.
+abbrev pub first_place : (named drawn : Option ℕ) → Option ℕ
+first_place None drawn = drawn
+first_place (Some place) drawn = Some place
 
--- The place of the byte that is damaged by the first rule that says so.
+-- The place that the first rule names that damages a byte of it.
 abbrev pub named_place : List Rule → Way → (number length : ℕ) → Option ℕ
-named_place rules way number length = option_and_then place_in (find (damages way number length) rules)
+named_place [] way number length = None
+named_place (rule ∷ rules) way number length =
+    first_place (place_of way number length rule) (named_place rules way number length)
 
 -- What chance does to a segment: whether it is lost, and the place of the byte that is damaged, if one is.
 pub record Chance : Type 0 where
@@ -76,11 +77,6 @@ pub record Chance : Type 0 where
 pub record MayDo (rules : List Rule) (length : ℕ) (chance : Chance) : Type 0 where
   pub lost : chance.lost ≡ true → list_any may_lose rules ≡ true
   pub place : IfSome chance.place (λ place. (list_any may_damage rules ≡ true) × (1 ≤ place) × (place ≤ length))
-
--- The first place of two, if there is one.
-abbrev pub first_place : (named drawn : Option ℕ) → Option ℕ
-first_place None drawn = drawn
-first_place (Some place) drawn = Some place
 
 -- What comes of a segment of so many bytes where chance does this. One that is lost is neither repeated nor damaged; the
 -- connection breaks behind it all the same.

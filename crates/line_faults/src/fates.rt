@@ -1,7 +1,7 @@
 //! What the rules say of a segment (profile).
-ghost use Rattle.std.specs.Prelude.{◌≡◌, if◌then◌else◌};
+ghost use Rattle.std.specs.Prelude.{◌≡◌, None, if◌then◌else◌};
 ghost use Rattle.std.specs.List.{list_any};
-ghost use Rattle.line_faults.specs.Fates.{loses, repeats, damages, breaks, may_lose, may_damage, named_place};
+ghost use Rattle.line_faults.specs.Fates.{loses, repeats, breaks, place_of, named_place};
 ghost use Rattle.line_faults.specs.Fates.{first_place, is_within, same_way, fate_of};
 
 use crate::fate::Fate;
@@ -18,13 +18,12 @@ pub(crate) fn fate_in(
 ) -> Fate
     ensures { result ≡ fate_of rules.now way number length (record { lost = lost; place = place }) }
 {
-    let breaks = rules.iter().any(|rule| is_broken(way, number, rule));
-    if lost || rules.iter().any(|rule| is_lost(way, number, rule)) {
-        return Fate {
-            copies: 0,
-            damaged: None,
-            breaks,
-        };
+    let breaks = breaks_behind(rules, way, number);
+    if loses_by_number(rules, way, number) {
+        return gone(breaks);
+    }
+    if lost {
+        return gone(breaks);
     }
     Fate {
         copies: copies_in(rules, way, number),
@@ -33,29 +32,59 @@ pub(crate) fn fate_in(
     }
 }
 
+/// What comes of a segment that is lost.
+fn gone(breaks: bool) -> Fate
+    ensures { result ≡ record { copies = 0; damaged = None; breaks = breaks } }
+{
+    Fate {
+        copies: 0,
+        damaged: None,
+        breaks,
+    }
+}
+
+/// Whether some rule says that the segment is lost.
+fn loses_by_number(rules: &[Rule], way: Way, number: u64) -> bool
+    ensures { result ≡ list_any (loses way number) rules.now }
+{
+    rules.iter().any(|rule| is_lost(way, number, rule))
+}
+
+/// Whether some rule says that the segment comes twice.
+fn repeats_by_number(rules: &[Rule], way: Way, number: u64) -> bool
+    ensures { result ≡ list_any (repeats way number) rules.now }
+{
+    rules.iter().any(|rule| is_repeated(way, number, rule))
+}
+
+/// Whether some rule says that the connection breaks behind the segment.
+fn breaks_behind(rules: &[Rule], way: Way, number: u64) -> bool
+    ensures { result ≡ list_any (breaks way number) rules.now }
+{
+    rules.iter().any(|rule| is_broken(way, number, rule))
+}
+
 /// How often a segment comes that is not lost.
 fn copies_in(rules: &[Rule], way: Way, number: u64) -> u8
     ensures { result ≡ (if list_any (repeats way number) rules.now then 2 else 1) }
 {
-    if rules.iter().any(|rule| is_repeated(way, number, rule)) {
+    if repeats_by_number(rules, way, number) {
         2
     } else {
         1
     }
 }
 
-/// The place of the byte that the first rule damages that damages one.
+/// The place that the first rule names that damages a byte of the segment.
 fn place_named(rules: &[Rule], way: Way, number: u64, length: usize) -> Option<usize>
     ensures { result ≡ named_place rules.now way number length }
 {
-    match rules
-        .iter()
-        .find(|rule| is_damaged(way, number, length, rule))
-    {
-        Some(Rule::Damage(_, _, place)) => Some(*place as usize),
-        Some(_) => None,
-        None => None,
+    for rule in rules {
+        if let Some(place) = place_in(way, number, length, rule) {
+            return Some(place);
+        }
     }
+    None
 }
 
 /// The first of two places, if there is one.
@@ -88,18 +117,23 @@ fn is_repeated(way: Way, number: u64, rule: &Rule) -> bool
     }
 }
 
-/// Whether the rule says that a byte of the segment is damaged that it has.
-fn is_damaged(way: Way, number: u64, length: usize, rule: &Rule) -> bool
-    ensures { result ≡ damages way number length rule.now }
+/// The place of the byte of the segment that the rule damages, where it has that byte.
+fn place_in(way: Way, number: u64, length: usize, rule: &Rule) -> Option<usize>
+    ensures { result ≡ place_of way number length rule.now }
 {
     match rule {
         Rule::Damage(of_way, segment, place) => {
-            is_same(*of_way, way)
+            if is_same(*of_way, way)
                 && u64::from(*segment) == number
                 && 1 <= *place
                 && *place as usize <= length
+            {
+                Some(*place as usize)
+            } else {
+                None
+            }
         }
-        _ => false,
+        _ => None,
     }
 }
 
