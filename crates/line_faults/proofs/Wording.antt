@@ -32,9 +32,9 @@ none_before : (sought : ℕ) (text : List ℕ) (place : ℕ)
 none_before sought text place first =
     let long : length (take place text) ≡ place = length-take-le place text (let h = first.high in omega arith) in
     All-from_get_or (λ b. (b == sought) ≡ false) (take place text) 0 (λ k below.
-        let under : k < place = omega (arith, long, below) in
-        subst (λ b. (b == sought) ≡ false) (sym (get_or-take place text k 0 under))
-        (other_at sought text k (first.before k (omega arith) under)))
+    let under : k < place = omega (arith, long, below) in
+    subst (λ b. (b == sought) ≡ false) (sym (get_or-take place text k 0 under))
+    (other_at sought text k (first.before k (omega arith) under)))
   where
     other_at : (sought : ℕ) (text : List ℕ) (k : ℕ) → (Passes (is_byte sought) text k → ⊥)
         → (get_or text k 0 == sought) ≡ false
@@ -46,10 +46,10 @@ none_at_all : (sought : ℕ) (text : List ℕ) → Nowhere (Passes (is_byte soug
     → All (λ b. (b == sought) ≡ false) text
 none_at_all sought text nowhere =
     All-from_get_or (λ b. (b == sought) ≡ false) text 0 (λ k below.
-        elim (cases_Bool (get_or text k 0 == sought)) [
-          | inl same ↦ absurd (nowhere k (omega arith) below same)
-          | inr differs ↦ differs
-        ])
+    elim (cases_Bool (get_or text k 0 == sought)) [
+      | inl same ↦ absurd (nowhere k (omega arith) below same)
+      | inr differs ↦ differs
+    ])
 
 -- what is taken of the rest of a text is the rest
 pub rest_of : (text : List ℕ) (n : ℕ) → take (length text - n) (drop n text) ≡ drop n text

@@ -26,13 +26,7 @@ pub(crate) fn count_of(word: &[u8]) -> Option<u32>
         return None;
     }
     match decimal_of(word, NUMBER_MAX) {
-        Some(number) => {
-            if number == 0 {
-                None
-            } else {
-                Some(number)
-            }
-        }
+        Some(number) => { if number == 0 { None } else { Some(number) } }
         None => None,
     }
 }
@@ -131,13 +125,7 @@ pub(crate) fn chance_of(word: &[u8]) -> Option<u32>
     ensures other { IfNone result ((percent : ℕ) → IsChance word.now percent → ⊥) }
 {
     match count_before(b"%", word) {
-        Some(percent) => {
-            if percent <= 100 {
-                Some(percent)
-            } else {
-                None
-            }
-        }
+        Some(percent) => { if percent <= 100 { Some(percent) } else { None } }
         None => None,
     }
 }

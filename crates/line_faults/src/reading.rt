@@ -235,13 +235,7 @@ fn behind<'a>(name: &[u8], text: &'a [u8]) -> Option<&'a [u8]>
     ensures other { IfNone result ((word : List ℕ) → words text.now ≡ name.now ∷ word ∷ [] → ⊥) }
 {
     match two_words(text) {
-        Some((first, word)) => {
-            if first == name {
-                Some(word)
-            } else {
-                None
-            }
-        }
+        Some((first, word)) => { if first == name { Some(word) } else { None } }
         None => None,
     }
 }
