@@ -1,5 +1,6 @@
 -- Words that say no rule.
-use Rattle.std.proofs.Common.{◌≡◌, ℕ, ◌⊎◌, inl, inr, List, [], ◌∷◌, ◌++◌, ◌+◌, ◌*◌, codes, refl, sym, ap, ◌∙◌, subst, length}
+use Rattle.std.proofs.Common.{◌≡◌, ℕ, ◌⊎◌, inl, inr, List, [], ◌∷◌, ◌++◌, ◌+◌, ◌*◌, codes, refl, sym, ap, ◌∙◌, subst}
+use Rattle.std.proofs.Common.{length}
 use Rattle.std.proofs.Common.{get_or, eqb, eq-eqb, false, arith, Option, Some, None, IfNone}
 use Rattle.std.specs.List.{slice_split}
 use Rattle.std.proofs.lemmas.Bool.{false≢true}
@@ -9,7 +10,8 @@ use Rattle.line_faults.specs.declared.rule.Span.{Span}
 use Rattle.line_faults.specs.declared.rule.Rule.{Rule}
 use Rattle.line_faults.specs.declared.rule.Rule.TheVariants.{Lose, Repeat, Damage, BreakAfter, Delay}
 use Rattle.line_faults.specs.declared.rule.Rule.TheVariants.{RefuseConnections, LoseByChance, DamageByChance}
-use Rattle.line_faults.specs.Rules.{name_of, Say, Tell, TellSpan, TellByte, TellBreak, TellChance, IsCount, IsCountBefore}
+use Rattle.line_faults.specs.Rules.{name_of, Say, Tell, TellSpan, TellByte, TellBreak, TellChance, IsCount}
+use Rattle.line_faults.specs.Rules.{IsCountBefore}
 use Rattle.line_faults.specs.Rules.{IsSpan, IsLongSpan, IsTime, IsChance, between_dots}
 
 -- What follows where there is nothing, follows from what holds there.
@@ -110,7 +112,8 @@ no_ending words none rule said = apart (codes "break") (name_of rule) words said
 pub no_delay : (words : List (List ℕ)) (word : List ℕ) → words ≡ word ∷ [] → ((time : ℕ) → IsTime word time → ⊥)
     → (rule : Rule) → Say (codes "delay" ∷ words) rule → ⊥
 no_delay words word is none (Delay time) said =
-    let told = subst (λ ws. Tell ws (Delay time)) (same_rest (codes "delay") (codes "delay") words said.0 said.1) said.2 in
+    let told = subst (λ ws. Tell ws (Delay time)) (same_rest (codes "delay") (codes "delay") words said.0 said.1)
+    said.2 in
     none time (subst (λ w. IsTime w time) (first_same told.0 word (sym told.1 ∙ is)) told.2)
 no_delay words word is none rule said = apart (codes "delay") (name_of rule) words said.0 refl said.1
 

@@ -1,5 +1,6 @@
 -- The words of a text one after another, and its parts between dots.
-use Rattle.std.proofs.Common.{◌≡◌, ◌≢◌, ℕ, zero, suc, ◌+◌, ◌-◌, ◌<◌, ◌≤◌, ◌==◌, Bool, true, false, not, cond, List, [], ◌∷◌, ◌++◌}
+use Rattle.std.proofs.Common.{◌≡◌, ◌≢◌, ℕ, zero, suc, ◌+◌, ◌-◌, ◌<◌, ◌≤◌, ◌==◌, Bool, true, false, not, cond, List, []}
+use Rattle.std.proofs.Common.{◌∷◌, ◌++◌}
 use Rattle.std.proofs.Common.{length, take, drop, get_or, filter, refl, sym, ap, ◌∙◌, subst, arith, inl, inr, add-one}
 use Rattle.std.proofs.Common.{length-drop, length-take-le, get_or-take, take-append-drop, drop-cons}
 use Rattle.std.proofs.Common.{length-append}
@@ -20,7 +21,8 @@ use Rattle.line_faults.specs.Parts.{BeginsWord}
 around : (sought : ℕ) (text : List ℕ) (place : ℕ) → place < length text → Passes (is_byte sought) text place
     → text ≡ take place text ++ (sought ∷ drop (place + 1) text)
 around sought text place within at =
-    let at_place : drop place text ≡ get_or text place 0 ∷ drop (place + 1) text = rw add-one (drop-cons text place 0 within) in
+    let at_place : drop place text ≡ get_or text place 0 ∷ drop (place + 1) text =
+    rw add-one (drop-cons text place 0 within) in
     sym (take-append-drop place text)
     ∙ ap (λ l. take place text ++ l)
     (at_place ∙ ap (λ b. b ∷ drop (place + 1) text) (eqb-true (get_or text place 0) sought at))
@@ -120,26 +122,31 @@ after_space rest = refl
 pub past_space : (text : List ℕ) (place : ℕ) → place < length text → get_or text place 0 ≡ 0x20
     → words (drop place text) ≡ words (drop (place + 1) text)
 past_space text place within space =
-    let at_place : drop place text ≡ get_or text place 0 ∷ drop (place + 1) text = rw add-one (drop-cons text place 0 within) in
+    let at_place : drop place text ≡ get_or text place 0 ∷ drop (place + 1) text =
+    rw add-one (drop-cons text place 0 within) in
     ap words at_place ∙ ap (λ b. words (b ∷ drop (place + 1) text)) space ∙ after_space (drop (place + 1) text)
 
 -- at a byte that is no space a word begins
 pub word_at : (text : List ℕ) (place : ℕ) → place < length text → get_or text place 0 ≢ 0x20
     → BeginsWord (take (length text - place) (drop place text))
 word_at text place within other =
-    let at_place : drop place text ≡ get_or text place 0 ∷ drop (place + 1) text = rw add-one (drop-cons text place 0 within) in
+    let at_place : drop place text ≡ get_or text place 0 ∷ drop (place + 1) text =
+    rw add-one (drop-cons text place 0 within) in
     subst BeginsWord (sym (rest_of text place ∙ at_place)) other
 
-pub rest_words : (text : List ℕ) (place : ℕ) → words (take (length text - place) (drop place text)) ≡ words (drop place text)
+pub rest_words : (text : List ℕ) (place : ℕ) → words (take (length text - place) (drop place text))
+    ≡ words (drop place text)
 rest_words text place = ap words (rest_of text place)
 
-pub words_at_end : (text : List ℕ) (place : ℕ) → length text ≤ place → words text ≡ words (drop place text) → words text ≡ []
+pub words_at_end : (text : List ℕ) (place : ℕ) → length text ≤ place → words text ≡ words (drop place text)
+    → words text ≡ []
 words_at_end text place past same = same ∙ ap words (drop_all place text past) ∙ no_words
 
 -- ---- A word that ends so.
 
 -- what stands before its end
-pub front_of : (end word : List ℕ) → take (length word - (length word - length end)) (drop (length word - length end) word)
+pub front_of : (end word : List ℕ) → take (length word - (length word - length end))
+    (drop (length word - length end) word)
     ≡ end → word ≡ take (length word - length end) word ++ end
 front_of end word same =
     sym (take-append-drop (length word - length end) word)

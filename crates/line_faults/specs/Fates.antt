@@ -6,7 +6,8 @@ use Rattle.line_faults.specs.declared.rule.Way.{Way}
 use Rattle.line_faults.specs.declared.rule.Way.TheVariants.{Frame, Reply}
 use Rattle.line_faults.specs.declared.rule.Span.{Span}
 use Rattle.line_faults.specs.declared.rule.Rule.{Rule}
-use Rattle.line_faults.specs.declared.rule.Rule.TheVariants.{Lose, Repeat, Damage, BreakAfter, LoseByChance, DamageByChance}
+use Rattle.line_faults.specs.declared.rule.Rule.TheVariants.{Lose, Repeat, Damage, BreakAfter, LoseByChance}
+use Rattle.line_faults.specs.declared.rule.Rule.TheVariants.{DamageByChance}
 use Rattle.line_faults.specs.declared.fate.Fate.{Fate}
 
 -- The rules of one direction, and how many segments have come in it.
@@ -78,8 +79,8 @@ pub record MayDo (rules : List Rule) (length : ℕ) (chance : Chance) : Type 0 w
   pub lost : chance.lost ≡ true → list_any may_lose rules ≡ true
   pub place : IfSome chance.place (λ place. (list_any may_damage rules ≡ true) × (1 ≤ place) × (place ≤ length))
 
--- What comes of a segment of so many bytes where chance does this. One that is lost is neither repeated nor damaged; the
--- connection breaks behind it all the same.
+-- What comes of a segment of so many bytes where chance does this. One that is lost is neither repeated nor damaged;
+-- the connection breaks behind it all the same.
 abbrev pub fate_of : List Rule → Way → (number length : ℕ) → Chance → Fate
 fate_of rules way number length chance =
     if list_any (loses way number) rules || chance.lost
@@ -90,8 +91,8 @@ fate_of rules way number length chance =
       breaks = list_any (breaks way number) rules;
     }
 
--- That may come of the segment of this number, of so many bytes: what the rules say with numbers, and of what they leave
--- to chance anything.
+-- That may come of the segment of this number, of so many bytes: what the rules say with numbers, and of what they
+-- leave to chance anything.
 abbrev pub MayCome : List Rule → Way → (number length : ℕ) → Fate → Type 0
 MayCome rules way number length fate =
     (chance : Chance) × MayDo rules length chance × (fate ≡ fate_of rules way number length chance)

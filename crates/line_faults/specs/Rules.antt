@@ -7,7 +7,8 @@ use Rattle.line_faults.specs.declared.rule.Way.TheVariants.{Frame, Reply}
 use Rattle.line_faults.specs.declared.rule.Span.{Span}
 use Rattle.line_faults.specs.declared.rule.Rule.{Rule}
 use Rattle.line_faults.specs.declared.rule.Rule.TheVariants.{Lose, Repeat, Damage, BreakAfter, Delay}
-use Rattle.line_faults.specs.declared.rule.Rule.TheVariants.{RefuseConnections, LoseByChance, DamageByChance, RestartAfter}
+use Rattle.line_faults.specs.declared.rule.Rule.TheVariants.{RefuseConnections, LoseByChance, DamageByChance}
+use Rattle.line_faults.specs.declared.rule.Rule.TheVariants.{RestartAfter}
 
 -- The word of a direction.
 abbrev pub way_word : Way → List ℕ

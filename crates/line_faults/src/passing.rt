@@ -11,9 +11,9 @@ use rand_pcg::Pcg32;
 use std::alloc::{AllocError, Global};
 use std::marker::Model;
 
-/// What a line does to the segments of one direction, by rules, as they come one after another. Contracts see the rules,
-/// the direction and how many segments have come; what is drawn for the rules of chance they don't see. The same seed
-/// draws the same.
+/// What a line does to the segments of one direction, by rules, as they come one after another. Contracts see the
+/// rules, the direction and how many segments have come; what is drawn for the rules of chance they don't see. The same
+/// seed draws the same.
 #[derive(Drop)]
 pub struct LineFaults {
     rules: Vec<Rule>,
