@@ -43,13 +43,13 @@ fn chance_takes_about_so_many_and_the_same_again(rt: HostRuntime) -> Result<(), 
     let rules = [Rule::LoseByChance(5), Rule::DamageByChance(50)];
     let mut faults = LineFaults::of(rt.alloc(), &rules, Way::Frame, 7)?;
     let mut again = LineFaults::of(rt.alloc(), &rules, Way::Frame, 7)?;
-    let mut lost = 0;
-    let mut damaged = 0;
+    let mut lost = 0u32;
+    let mut damaged = 0u32;
     for _segment in 0..1000 {
         let fate = faults.pass(8);
         same!(rt; again.pass(8), fate);
-        lost += u32::from(fate.copies == 0);
-        damaged += u32::from(fate.damaged.is_some());
+        lost = lost.saturating_add(u32::from(fate.copies == 0));
+        damaged = damaged.saturating_add(u32::from(fate.damaged.is_some()));
     }
     holds!(rt; (20..100).contains(&lost));
     holds!(rt; (400..560).contains(&damaged));
