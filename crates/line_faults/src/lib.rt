@@ -1,0 +1,21 @@
+//! A bad line on purpose: the rules that say what it does, and what comes of each segment by them.
+//!
+//! - [`read_rule`]: the rule that a line of text spells; [`Rule`], [`Way`] and [`Span`] are what it says.
+//! - [`LineFaults`]: what a line does to the segments of one direction as they come; [`Fate`] is what comes of one.
+#![tactic(auto)]
+
+mod chances;
+mod fate;
+mod fates;
+mod numbers;
+mod passing;
+mod reading;
+mod rule;
+#[cfg(test)]
+mod tests;
+mod words;
+
+pub use fate::Fate;
+pub use passing::LineFaults;
+pub use reading::read_rule;
+pub use rule::{Rule, RuleFault, Span, Way};

@@ -1,0 +1,3 @@
+mod asserting;
+mod fates;
+mod rules;
