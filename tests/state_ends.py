@@ -2,6 +2,7 @@
 
 import contextlib
 import os
+import random
 import socket
 import subprocess
 import threading
@@ -69,8 +70,12 @@ def put(folder, files):
 
 
 def free_port():
-    with contextlib.closing(socket.create_server(("127.0.0.1", 0))) as kept:
-        return kept.getsockname()[1]
+    """A port on which nobody listens, below those that the system gives the near end of a connection: one that is dialled before anybody
+    listens there could be connected to itself."""
+    while True:
+        port = random.randrange(10000, 32000)
+        with contextlib.suppress(OSError), contextlib.closing(socket.create_server(("127.0.0.1", port))):
+            return port
 
 
 @contextlib.contextmanager
