@@ -1,5 +1,5 @@
 //! The job `send` over TCP, with lines from a reader. Source: profile.
-ghost use Rattle.std.specs.Prelude.{◌≤◌};
+ghost use Rattle.std.specs.Prelude.{◌≡◌, ◌≤◌, [], None, IfOk, IfErr};
 ghost use Rattle.send_jobs.specs.Job.{IsSendable};
 ghost use Rattle.send_jobs.specs.OverTcp.{HasSentOver, DialsLive};
 
@@ -49,7 +49,7 @@ pub fn run_send_over_tcp<
         (S.gives_server states.now) (S.refuses_server states.now) (S.closes_server states.now)
         S.ServerKeeper.leaves S.ServerKeeper.is_clean S.ServerKeeper.saves S.ServerKeeper.fails job.now
         (M.contents notices.old) (R.remaining reader.old) (W.contents writer.old) (W.contents writer.new)
-        (E.contents errors.new) result }
+        (E.contents errors.old) (E.contents errors.new) result }
 {
     match station_of(alloc, job, net, errors) {
         Err(fault) => fail_station(&fault, errors),
@@ -79,7 +79,10 @@ fn station_of<F: Files, E: Write>(
     job: &SendJob,
     files: &F,
     errors: &mut E,
-) -> Result<Vec<Message>, StationFault> {
+) -> Result<Vec<Message>, StationFault>
+    ensures { job.now.station ≡ None → IfOk result (λ station. station.items ≡ []) × IfErr result (λ _. ⊥)
+        × (errors.new ≡ errors.old) }
+{
     match &job.station {
         None => Ok(Vec::new(alloc)),
         Some(path) => read_station(alloc, job.region, path.as_str(), files, errors),
