@@ -221,15 +221,30 @@ class Send:
             return int(re.search(r"VmHWM:\s+([0-9]+) kB", status.read())[1])
 
 
-class Modelled(threading.Thread):
-    """An encoder as tests/model.py has it, which answers one connection after another; its store can be looked at."""
+class Listening(threading.Thread):
+    """Somebody who listens on 127.0.0.1 until it is left."""
 
     def __init__(self):
         super().__init__(daemon=True)
-        self.encoder = model.Encoder(model.Setup())
         self.listener = socket.create_server(("127.0.0.1", 0), backlog=100)
         self.port = self.listener.getsockname()[1]
         self.start()
+
+    def __enter__(self):
+        return self
+
+    def __exit__(self, *_):
+        with contextlib.suppress(OSError):
+            self.listener.shutdown(socket.SHUT_RDWR)
+        self.listener.close()
+
+
+class Modelled(Listening):
+    """An encoder as tests/model.py has it, which answers one connection after another; its store can be looked at."""
+
+    def __init__(self):
+        self.encoder = model.Encoder(model.Setup())
+        super().__init__()
 
     def run(self):
         with contextlib.suppress(OSError):
@@ -248,24 +263,13 @@ class Modelled(threading.Thread):
             at = stream.rfind(b"\xfe")
             stream = stream[at:] if at >= 0 and b"\xff" not in stream[at:] else b""
 
-    def __enter__(self):
-        return self
 
-    def __exit__(self, *_):
-        with contextlib.suppress(OSError):
-            self.listener.shutdown(socket.SHUT_RDWR)
-        self.listener.close()
-
-
-class Relay(threading.Thread):
+class Relay(Listening):
     """A line to an encoder, which is bad for its first connections (tests/bad_line.py), each of which ends some day, and good after them."""
 
     def __init__(self, name, port, bad):
-        super().__init__(daemon=True)
         self.name_of_line, self.far_port, self.bad, self.connections = name, port, bad, []
-        self.listener = socket.create_server(("127.0.0.1", 0), backlog=100)
-        self.port = self.listener.getsockname()[1]
-        self.start()
+        super().__init__()
 
     def run(self):
         with contextlib.suppress(OSError):
@@ -278,14 +282,6 @@ class Relay(threading.Thread):
                     connection.forth.end = connection.forth.end or chance.randrange(*ENDS)
                 self.connections.append(connection)
                 connection.run()
-
-    def __enter__(self):
-        return self
-
-    def __exit__(self, *_):
-        with contextlib.suppress(OSError):
-            self.listener.shutdown(socket.SHUT_RDWR)
-        self.listener.close()
 
 
 def place(port):
