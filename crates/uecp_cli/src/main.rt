@@ -86,6 +86,3 @@ fn words_of(rt: &HostRuntime) -> Result<Vec<String>, Usage> {
         }
     }
 }
-
-#[cfg(test)]
-mod tests;

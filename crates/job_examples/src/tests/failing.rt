@@ -1,4 +1,5 @@
 //! Reads, writes and flushes that are short or fail, and runs that read and write nothing.
+use crate::tests::asserting::same;
 use super::{Comes, Ends, NOT_HEX, PIECES, REPLY, answer, comes_to};
 use faulty_devices::{FaultyReader, FaultyWriter};
 use std::alloc::Global;
@@ -82,6 +83,6 @@ fn refused_services_read_and_write_nothing(rt: HostRuntime) -> Result<(), Fail> 
         ends.writer.writes(),
         ends.writer.flushes(),
     );
-    assert_eq!(rt; calls, (0, 0, 0));
+    same!(rt; calls, (0, 0, 0));
     Ok(())
 }

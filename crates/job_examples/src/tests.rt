@@ -4,14 +4,15 @@ ghost use Rattle.uecp_jobs.specs.EncoderRun.{IsEncoder};
 ghost use Rattle.uecp_jobs.specs.Jobs.{IsLocal};
 ghost use Rattle.uecp_jobs.specs.ServerRun.{IsServer};
 
+mod asserting;
 mod failing;
 mod flushing;
 mod limits;
 mod memory;
 mod network;
 mod order;
-mod words;
 
+use asserting::same;
 use crate::tests::network::Prepared;
 use faulty_devices::{FaultyReader, FaultyWriter};
 use std::alloc::Global;
@@ -85,9 +86,9 @@ impl<'a> Ends<'a> {
 /// The run over these ends ended with this status, and came to this.
 fn came_to(rt: &impl Abort, ends: &Ends<'_>, status: u8, comes: Comes<'_>) {
     let (wanted, written, said) = comes;
-    assert_eq!(rt; status, wanted);
-    assert_eq!(rt; ends.writer.taken(), written.as_bytes());
-    assert_eq!(rt; ends.errors.taken(), said.as_bytes());
+    same!(rt; status, wanted);
+    same!(rt; ends.writer.taken(), written.as_bytes());
+    same!(rt; ends.errors.taken(), said.as_bytes());
 }
 
 /// The job comes to this over these ends.

@@ -1,4 +1,5 @@
 //! When the output is flushed: at the end of a job, and by the jobs with connections after each line.
+use crate::tests::asserting::same;
 use super::network::{APPLIED_BOTH, Given, Prepared, REPLY_SIZE, encoder_job, server_job};
 use super::{Comes, Ends, NOT_HEX, PIECES, REPLY, answer, came_to, comes_to};
 use faulty_devices::{FaultyWriter, Taken};
@@ -12,7 +13,7 @@ const FAILED: &str = "uecp: writing failed\n";
 /// All of the output was flushed, by so many flushes.
 fn is_flushed(rt: &impl Abort, writer: &FaultyWriter<'_>, flushes: u32) {
     let length = writer.taken().len();
-    assert_eq!(rt; (writer.flushes(), writer.flushed()), (flushes, length));
+    same!(rt; (writer.flushes(), writer.flushed()), (flushes, length));
 }
 
 #[test]
@@ -45,7 +46,7 @@ fn encoder_flushes(
         ..Ends::new(b"")
     };
     let status = ends.encode(alloc, &job, &mut prepared);
-    assert_eq!(rt; prepared.opened(), connections as usize);
+    same!(rt; prepared.opened(), connections as usize);
     came_to(rt, &ends, status, comes);
     is_flushed(rt, &ends.writer, connections);
     Ok(())
@@ -78,7 +79,7 @@ fn server_flushes(
         ..Ends::new(b"-\n-\n")
     };
     let status = ends.serve(alloc, &job, &mut prepared);
-    assert_eq!(rt; prepared.opened(), 1);
+    same!(rt; prepared.opened(), 1);
     came_to(rt, &ends, status, comes);
     is_flushed(rt, &ends.writer, flushes);
     Ok(())

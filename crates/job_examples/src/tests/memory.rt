@@ -1,10 +1,8 @@
 //! The program where memory is wanting: each request is refused in turn, until a run has all that it asks for.
 ghost use Rattle.uecp_jobs.specs.Jobs.{IsLocal};
 
+use crate::tests::asserting::holds;
 use super::{Ends, REPLY, answer};
-use crate::command_line::parse;
-use crate::task::Task;
-use crate::usage::Usage;
 use faulty_devices::ScarceMemory;
 use std::alloc::Global;
 use std::process::Abort;
@@ -45,27 +43,6 @@ const SECOND_ALONE: &str =
 const UNPLAYED: &str =
     "refused 5 OutOfMemory\nrefused 5 OutOfMemory\nrefused 2 NotSent\nrefused 2 NotSent\nrefused 2 NotSent\nrefused 2 NotSent\nrefused 2 NotSent\nsent 0 applied 0 acknowledged 0\n";
 
-#[test]
-fn the_words_of_a_command_line(rt: HostRuntime) -> Result<(), Fail> {
-    let mut words = Vec::new(rt.alloc());
-    for word in ["uecp", "answer", "--store"] {
-        words.push(String::from_str(rt.alloc(), word)?)?;
-    }
-    let mut memory = ScarceMemory::take_all(rt.alloc(), ROOM)?;
-    for refused in 0..TIMES {
-        match parse(rt.alloc(), words.as_slice()) {
-            Ok(task) => {
-                let is_answer = matches!(task, Task::Plain(Job::Answer { store: true, .. }));
-                assert!(rt; refused > 0 && is_answer);
-                return Ok(());
-            }
-            Err(usage) => assert!(rt; matches!(usage, Usage::OutOfMemory), "{refused}"),
-        }
-        memory.give();
-    }
-    Err("always refused".into())
-}
-
 /// Which of these outputs a run wrote that had its memory, and said nothing; or none where it was refused memory, and
 /// wrote its text and the beginning of an output.
 pub(crate) fn wrote(
@@ -76,19 +53,19 @@ pub(crate) fn wrote(
 ) -> Option<usize> {
     let written = ends.writer.taken();
     if status == 3 {
-        assert!(rt; ends.errors.taken() == b"uecp: out of memory\n".as_slice());
-        assert!(rt;
+        holds!(rt; ends.errors.taken() == b"uecp: out of memory\n".as_slice());
+        holds!(rt; 
             outputs
                 .iter()
                 .any(|output| output.as_bytes().starts_with(written))
         );
         return None;
     }
-    assert!(rt; status == 0 && ends.errors.taken().is_empty());
+    holds!(rt; status == 0 && ends.errors.taken().is_empty());
     let place = outputs
         .iter()
         .position(|output| output.as_bytes() == written);
-    assert!(rt; place.is_some());
+    holds!(rt; place.is_some());
     place
 }
 
@@ -114,7 +91,7 @@ fn runs_in_the_end(
     let mut memory = ScarceMemory::take_all(alloc, ROOM)?;
     for refused in 0..TIMES {
         if runs(rt, alloc, job, input, outputs) == Some(0) {
-            assert!(rt; refused > 0);
+            holds!(rt; refused > 0);
             return Ok(());
         }
         memory.give();

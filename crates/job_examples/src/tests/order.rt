@@ -1,4 +1,5 @@
 //! When a run of `server` writes: its frames and its lines tell the time by one clock.
+use crate::tests::asserting::same;
 use super::network::{APPLIED_BOTH, REPLY_SIZE, server_job};
 use arrayvec::ArrayVec;
 use faulty_devices::{FaultyReader, FaultyWriter};
@@ -100,8 +101,8 @@ fn each_line_is_written_out_before_the_next_message_is_sent(rt: HostRuntime) -> 
     );
     drop(connection);
     drop(writer);
-    assert_eq!(rt; status, 0);
-    assert_eq!(rt; frames.as_slice(), [0u8, 3].as_slice());
-    assert_eq!(rt; lines.as_slice(), [1, FLUSH | 2, 4, FLUSH | 5].as_slice());
+    same!(rt; status, 0);
+    same!(rt; frames.as_slice(), [0u8, 3].as_slice());
+    same!(rt; lines.as_slice(), [1, FLUSH | 2, 4, FLUSH | 5].as_slice());
     Ok(())
 }

@@ -2,6 +2,7 @@
 ghost use Rattle.uecp_jobs.specs.EncoderRun.{IsEncoder};
 ghost use Rattle.uecp_jobs.specs.ServerRun.{IsServer};
 
+use crate::tests::asserting::holds;
 use super::{APPLIED_BOTH, EMPTY_BOTH, Given, Prepared, REPLY_SIZE, encoder_job, server_job};
 use crate::tests::Ends;
 use crate::tests::memory::{ROOM, TIMES, wrote};
@@ -28,7 +29,7 @@ fn server_runs(
     let mut ends = Ends::new(input);
     let status = ends.serve(alloc, job, &mut prepared);
     let ended = wrote(rt, &ends, status, &[output]).is_some();
-    assert!(rt; !ended || outputs[0].as_slice() == sent);
+    holds!(rt; !ended || outputs[0].as_slice() == sent);
     ended
 }
 
@@ -45,7 +46,7 @@ fn server_in_the_end(
     let mut memory = ScarceMemory::take_all(alloc, ROOM)?;
     for refused in 0..TIMES {
         if server_runs(rt, alloc, job, given, comes) {
-            assert!(rt; refused > 0);
+            holds!(rt; refused > 0);
             return Ok(());
         }
         memory.give();
@@ -87,7 +88,7 @@ fn encoder_runs(rt: &impl Abort, alloc: Global, job: &Job) -> bool
     let lines = "connection 1 read failed\nconnection 2 replies 1\n";
     let ended = wrote(rt, &ends, status, &[lines]).is_some();
     for output in &outputs {
-        assert!(rt; !ended || output.as_slice() == APPLIED_1.as_slice());
+        holds!(rt; !ended || output.as_slice() == APPLIED_1.as_slice());
     }
     ended
 }
@@ -99,7 +100,7 @@ fn encoder_in_the_end(rt: &impl Abort, alloc: Global, job: &Job) -> Result<(), F
     let mut memory = ScarceMemory::take_all(alloc, ROOM)?;
     for refused in 0..TIMES {
         if encoder_runs(rt, alloc, job) {
-            assert!(rt; refused > 0);
+            holds!(rt; refused > 0);
             return Ok(());
         }
         memory.give();

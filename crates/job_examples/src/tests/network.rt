@@ -7,6 +7,7 @@ mod encoder;
 mod memory;
 mod server;
 
+use crate::tests::asserting::same;
 use faulty_devices::{APPLIED_1, FaultyReader, Taken};
 use std::alloc::Global;
 use std::io;
@@ -134,8 +135,8 @@ pub(crate) fn encoder_job(alloc: Global, services: &[u8], connections: u32) -> R
 
 /// Each connection that was opened got this.
 fn have_got(rt: &impl Abort, outputs: &[Taken], opened: usize, got: &[&[u8]]) {
-    assert_eq!(rt; opened, got.len());
+    same!(rt; opened, got.len());
     for (output, bytes) in outputs.iter().zip(got) {
-        assert_eq!(rt; output.as_slice(), *bytes);
+        same!(rt; output.as_slice(), *bytes);
     }
 }
