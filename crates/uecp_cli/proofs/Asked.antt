@@ -1,8 +1,9 @@
 -- What the words of the command line ask for.
-use Rattle.std.proofs.Common.{◌≡◌, ◌⊎◌, ℕ, List, [], refl, ap, ◌∙◌, sym, subst, true, inl, inr, codes}
-use Rattle.std.specs.Prelude.{Option, Some, None, Box, option_map, Result, Ok, Err, IsErrAnd, IfErr}
+use Rattle.std.proofs.Common.{◌≡◌, ◌⊎◌, ℕ, List, [], refl, ap, ◌∙◌, sym, subst, Bool, true, false, ◌||◌, inl, inr, codes}
+use Rattle.std.specs.Prelude.{Option, Some, None, Box, option_map, is_some, IfSome, Result, Ok, Err, IsErrAnd, IfErr, if◌then◌else◌}
 use Rattle.std.specs.Box.{box_value}
-use Rattle.clap.specs.Walk.{Row, Text, first_of}
+use Rattle.clap.specs.Walk.{Row, Text, first_of, one_of}
+use Rattle.std.specs.String.{string_bytes}
 use Rattle.clap.specs.Simple.{App, HasMatchesOf, is_simple, subcommand_of, subcommand_rows, subcommand_rows_of}
 use Rattle.clap.specs.Faults.{fault_of, is_simple_and_free}
 use Rattle.clap.specs.Kinds.{HasKind}
@@ -15,15 +16,19 @@ use Rattle.clap.proofs.OnLiterals.{clap_on_literals}
 use Rattle.uecp_jobs.specs.declared.job.Job.{Job}
 use Rattle.uecp_jobs.specs.declared.job.Job.TheVariants.{Answer, AnswerAs, Show, ShowAs, Make, MakeWords}
 use Rattle.uecp_jobs.specs.declared.job.Job.TheVariants.{Line, LineAs, Encoder, Server, Watch}
+use Rattle.device_jobs.specs.declared.job.DeviceJob.{DeviceJob}
+use Rattle.output_forms.specs.declared.form.Form.{Form}
+use Rattle.output_forms.specs.declared.form.Form.TheVariants.{Lines, Words, Json}
 use Rattle.send_jobs.specs.declared.job.SendJob.{SendJob}
 use Rattle.uecp_cli.specs.declared.task.Task.{Task}
-use Rattle.uecp_cli.specs.declared.task.Task.TheVariants.{Plain, Kept, Send, State}
+use Rattle.uecp_cli.specs.declared.task.Task.TheVariants.{Plain, Kept, Send, Device, State}
 use Rattle.uecp_cli.specs.declared.usage.Usage.{Usage}
-use Rattle.uecp_cli.specs.Ranges.{AreInRange, IsInRange, IsLiveInRange, IsPlaceInRange, IsSetupInRange, Lies}
+use Rattle.uecp_cli.specs.Ranges.{AreInRange, IsInRange, IsDeviceInRange, IsLiveInRange, IsPlaceInRange, IsSetupInRange, Lies}
 use Rattle.uecp_cli.specs.Usages.{SaysError}
 use Rattle.uecp_cli.specs.CommandLine.{AreOptions, Asks, IsEnd, IsJobOf, IsKeptAs, IsLive, IsOption, IsPlace}
 use Rattle.uecp_cli.specs.CommandLine.{IsTaskOf, RefusesList, RefusesWords}
-use Rattle.uecp_cli.specs.CommandLine.{services_text, uecp_app}
+use Rattle.uecp_cli.specs.CommandLine.{services_text, uecp_app, AreListening, IsDevice, IsFlag, IsForm, IsMaybe}
+use Rattle.uecp_cli.specs.CommandLine.{IsPlainTask, IsStore, if_lines, plain_port}
 use Rattle.uecp_cli.proofs.Helps.{one_named}
 
 -- ---- by what clap's clauses say of a parse
@@ -158,7 +163,7 @@ is_in_range name rows (LineAs site encoder sets services store form) h =
 is_in_range name rows (Encoder site encoder sets services port connections turns) h =
     let o = h.2 in (
       setup_in_range rows site encoder sets services.items h.1,
-      in_range _ _ _ _ o.is_port,
+      o.is_port.range,
       in_range _ _ _ _ o.is_connections,
       in_range _ _ _ _ o.is_turns,
     )
@@ -191,10 +196,27 @@ live_in_range rows job o = (
   in_range _ _ _ _ o.is_silent,
 )
 
+some_in_range : (text : Option Text) (least greatest : ℕ) (number : Option ℕ) → IsMaybe text least greatest number
+    → IfSome number (Lies least greatest)
+some_in_range text least greatest None o = tt
+some_in_range text least greatest (Some n) o = o.range
+
+device_in_range : (rows : List Row) (job : DeviceJob) → IsDevice rows job × (plain_port job ≡ None)
+    → IsDeviceInRange job
+device_in_range rows job is = let o = is.0 in (
+  setup_in_range rows job.site job.encoder job.sets job.services.items o.are_options,
+  some_in_range _ _ _ _ o.is_port,
+  in_range _ _ _ _ o.is_connections,
+  in_range _ _ _ _ o.is_turns,
+  in_range _ _ _ _ o.is_idle,
+  in_range _ _ _ _ o.is_seed,
+)
+
 pub are_in_range : (name : Text) (rows : List Row) (task : Task) → IsTaskOf name rows task → AreInRange task
 are_in_range name rows (Plain job) is = is_in_range name rows job is.0
 are_in_range name rows (Kept job path) is = is_in_range name rows job is.0
 are_in_range name rows (Send job) is = live_in_range rows job is.1
+are_in_range name rows (Device job) is = device_in_range rows job is.1
 are_in_range name rows (State path) is = tt
 
 -- ---- with its state in a file or without
@@ -205,14 +227,8 @@ kept_job name rows job (Plain same) is end unkept how = unkept same how.0 how.1
 kept_job name rows job (Kept same path) is end unkept how =
     (subst (IsJobOf name rows) (sym how.0) is, subst IsEnd (sym how.0) end, how.1)
 kept_job name rows job (Send send) is end unkept how = absurd how
+kept_job name rows job (Device device) is end unkept how = absurd how
 kept_job name rows job (State path) is end unkept how = absurd how
-
-pub kept_encoder : (name : Text) (rows : List Row) (site encoder sets : ℕ) (services : _) (port connections turns : ℕ)
-    (task : Task) → IsJobOf name rows (Encoder site encoder sets services port connections turns)
-    → IsKeptAs rows (Encoder site encoder sets services port connections turns) task → IsTaskOf name rows task
-kept_encoder name rows site encoder sets services port connections turns task is how =
-    kept_job name rows (Encoder site encoder sets services port connections turns) task is tt
-    (λ job same none. subst (λ j. IsTaskOf name rows (Plain j)) (sym same) (is, none)) how
 
 pub kept_server : (name : Text) (rows : List Row) (site encoder : ℕ) (host : _)
     (port tries timeout turns reconnects window : ℕ) (join : _) (task : Task)
@@ -222,3 +238,75 @@ pub kept_server : (name : Text) (rows : List Row) (site encoder : ℕ) (host : _
 kept_server name rows site encoder host port tries timeout turns reconnects window join task is how =
     kept_job name rows (Server site encoder host port tries timeout turns reconnects window join) task is tt
     (λ job same none. subst (λ j. IsTaskOf name rows (Plain j)) (sym same) (is, none)) how
+
+-- ---- what a device does, or an encoder that is none
+none_of : {X : Type 0} (o : Option X) → is_some o ≡ false → o ≡ None
+none_of None e = refl
+none_of (Some x) e = absurd (let bad : true ≡ false = e in cc)
+
+-- where neither of two holds
+neither : (a b : Bool) → a || b ≡ false → (a ≡ false) × (b ≡ false)
+neither false b e = (refl, e)
+neither true b e = absurd (let bad : true ≡ false = e in cc)
+
+-- what is not refused
+not_refused : (b : Bool) (other : Option ℕ) (port : ℕ) → (if b then None else other) ≡ Some port
+    → (b ≡ false) × (other ≡ Some port)
+not_refused true other port e = absurd (let bad : None ≡ Some port = e in cc)
+not_refused false other port e = (refl, e)
+
+kept_where : (b : Bool) (other : Option ℕ) (port : ℕ) → (if b then other else None) ≡ Some port
+    → (b ≡ true) × (other ≡ Some port)
+kept_where true other port e = (refl, e)
+kept_where false other port e = absurd (let bad : None ≡ Some port = e in cc)
+
+in_lines_alone : (form : Form) (given : Option ℕ) (port : ℕ) → if_lines form given ≡ Some port
+    → (form ≡ Lines) × (given ≡ Some port)
+in_lines_alone Lines given port e = (refl, e)
+in_lines_alone (Words region) given port e = absurd (let bad : None ≡ Some port = e in cc)
+in_lines_alone Json given port e = absurd (let bad : None ≡ Some port = e in cc)
+
+no_word : {X : Type 0} (f : X → Text) (o : Option X) (text : Option Text) → o ≡ None → option_map f o ≡ text
+    → text ≡ None
+no_word f o text none is = sym is ∙ ap (option_map f) none
+
+-- the options of a device that asks for nothing that only a device does
+pub listening : (rows : List Row) (job : DeviceJob) (port : ℕ) → IsDevice rows job → plain_port job ≡ Some port
+    → AreListening rows port job.connections job.turns
+listening rows job port o plain =
+    let one = not_refused _ _ port plain in
+    let two = kept_where _ _ port one.1 in
+    let three = in_lines_alone job.form job.port port two.1 in
+    let a = neither _ _ one.0 in
+    let b = neither _ _ a.1 in
+    let c = neither _ _ b.1 in
+    let d = neither _ _ c.1 in
+    let idle : job.idle ≡ 0 = search (two.0) in
+    record {
+      is_port = subst (IsMaybe (one_of (codes "port") rows) 1 65535) three.1 o.is_port;
+      is_connections = o.is_connections;
+      is_turns = o.is_turns;
+      are_no_device = record {
+        no_listen = no_word string_bytes job.listen _ (none_of _ a.0) o.is_listen;
+        no_faults = no_word string_bytes job.faults _ (none_of _ b.0) o.is_faults;
+        not_forever = subst (IsFlag (one_of (codes "forever") rows)) c.0 o.is_forever;
+        not_idle = subst (IsOption (one_of (codes "idle") rows) 0 86400) idle o.is_idle;
+        no_log = subst (IsFlag (one_of (codes "log") rows)) d.0 o.is_log;
+        no_store = subst (IsStore rows) d.1 o.is_store;
+        in_lines = subst (IsForm rows) three.0 o.is_form;
+      };
+    }
+
+-- the task of a device that asks for nothing that only a device does
+pub plain_asked : (rows : List Row) (job : DeviceJob) (port : ℕ) (task : Task) → IsDevice rows job
+    → plain_port job ≡ Some port → IsPlainTask job port task → IsTaskOf (codes "encoder") rows task
+plain_asked rows job port (Plain same) o plain is =
+    subst (λ j. IsTaskOf (codes "encoder") rows (Plain j)) (sym is.0)
+    ((refl, o.are_options, listening rows job port o plain), no_word string_bytes job.state _ is.1 o.is_state)
+plain_asked rows job port (Kept same path) o plain is =
+    subst (λ j. IsTaskOf (codes "encoder") rows (Kept j path)) (sym is.0)
+    ((refl, o.are_options, listening rows job port o plain), tt,
+        sym o.is_state ∙ ap (option_map string_bytes) is.1)
+plain_asked rows job port (Send send) o plain is = absurd is
+plain_asked rows job port (Device device) o plain is = absurd is
+plain_asked rows job port (State path) o plain is = absurd is

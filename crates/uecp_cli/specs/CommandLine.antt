@@ -1,7 +1,7 @@
 -- The command line that the program takes, and what it asks for (profile).
 use Rattle.std.specs.Prelude.{◌≡◌, ◌⊎◌, ℕ, ◌≤◌, ◌==◌, Bool, true, false, not, ◌||◌, is_some, List, [], ◌∷◌, ◌++◌, codes}
 use Rattle.std.specs.Prelude.{map, Option}
-use Rattle.std.specs.Prelude.{Some, None, Ok, is_none, option_map, unwrap_or, pos, if◌then◌else◌}
+use Rattle.std.specs.Prelude.{Some, None, IfSome, Ok, is_none, option_map, unwrap_or, pos, if◌then◌else◌}
 use Rattle.std.specs.List.{slice_split}
 use Rattle.std.specs.String.{string_bytes}
 use Rattle.std.specs.Str.Parse.{IsNumeral, without_leading_plus, digits_value}
@@ -18,7 +18,8 @@ use Rattle.uecp_jobs.specs.declared.job.Job.TheVariants.{Answer, AnswerAs, Show,
 use Rattle.uecp_jobs.specs.declared.job.Job.TheVariants.{Line, LineAs, Encoder, Server, Watch}
 use Rattle.send_jobs.specs.declared.job.SendJob.{SendJob}
 use Rattle.uecp_cli.specs.declared.task.Task.{Task}
-use Rattle.uecp_cli.specs.declared.task.Task.TheVariants.{Plain, Kept, Send, State}
+use Rattle.device_jobs.specs.declared.job.DeviceJob.{DeviceJob}
+use Rattle.uecp_cli.specs.declared.task.Task.TheVariants.{Plain, Kept, Send, Device, State}
 use Rattle.output_forms.specs.declared.form.Form.{Form}
 use Rattle.output_forms.specs.declared.form.Form.TheVariants.{Lines, Words, Json}
 use Rattle.rds_text.specs.declared.programme_type.Region.{Region}
@@ -46,6 +47,12 @@ pub record IsOption (text : Option (List ℕ)) (least greatest number : ℕ) : T
   pub at_least : least ≤ number
   pub at_most : number ≤ greatest
   pub spelled : (t : List ℕ) (n : ℕ) → text ≡ Some t → Spells t n → least ≤ n → n ≤ greatest → number ≡ n
+
+-- The number of an option that may be left out: none where it has no text; else it is as above.
+pub record IsMaybe (text : Option (List ℕ)) (least greatest : ℕ) (number : Option ℕ) : Type 0 where
+  pub absent : text ≡ None → number ≡ None
+  pub range : IfSome number (λ n. (least ≤ n) × (n ≤ greatest))
+  pub spelled : (t : List ℕ) (n : ℕ) → text ≡ Some t → Spells t n → least ≤ n → n ≤ greatest → number ≡ Some n
 
 -- A flag is set where its text is "true", and not where it is "false" or where there is none.
 pub record IsFlag (text : Option (List ℕ)) (is_set : Bool) : Type 0 where
@@ -108,11 +115,23 @@ IsTimed rows time = (left_out : Bool) × IsFlag (one_of (codes "no-time") rows) 
 abbrev pub IsPort : (rows : List Row) → (port : ℕ) → Type 0
 IsPort rows port = IsOption (one_of (codes "port") rows) 1 65535 port
 
--- The bounds of an encoder that listens are those that the matches of its command have.
+-- The matches of the command `encoder` ask for nothing that only a device does.
+pub record AreNoDevice (rows : List Row) : Type 0 where
+  pub no_listen : first_of (codes "listen") rows ≡ None
+  pub no_faults : first_of (codes "faults") rows ≡ None
+  pub not_forever : IsFlag (one_of (codes "forever") rows) false
+  pub not_idle : IsOption (one_of (codes "idle") rows) 0 86400 0
+  pub no_log : IsFlag (one_of (codes "log") rows) false
+  pub no_store : IsStore rows false
+  pub in_lines : IsForm rows Lines
+
+-- The bounds of an encoder that listens are those that the matches of its command have; its port is given, and nothing
+-- is asked for that only a device does.
 pub record AreListening (rows : List Row) (port connections turns : ℕ) : Type 0 where
-  pub is_port : IsPort rows port
+  pub is_port : IsMaybe (one_of (codes "port") rows) 1 65535 (Some port)
   pub is_connections : IsOption (one_of (codes "connections") rows) 1 1000 connections
   pub is_turns : IsOption (one_of (codes "turns") rows) 1 1000000 turns
+  pub are_no_device : AreNoDevice rows
 
 -- Where a server finds its encoder, its bounds, and whether it joins first, are those that the matches of its command
 -- have.
@@ -154,6 +173,11 @@ abbrev pub IsRegion : (rows : List Row) → Region → Type 0
 IsRegion rows region =
     (rbds : Bool) × IsFlag (one_of (codes "rbds") rows) rbds × (region ≡ (if rbds then NorthAmerica else Europe))
 
+-- What comes of messages is told in objects of JSON where a flag asks for them.
+abbrev pub IsToldIn : (rows : List Row) → Form → Type 0
+IsToldIn rows form =
+    (json : Bool) × IsFlag (one_of (codes "json") rows) json × (form ≡ (if json then Json else Lines))
+
 -- An encoder is joined anew where a flag asks for it, or a station's file is given.
 abbrev pub IsRejoin : (rows : List Row) → (rejoin : Bool) → Type 0
 IsRejoin rows rejoin = (asked : Bool) × IsFlag (one_of (codes "rejoin") rows) asked
@@ -172,11 +196,52 @@ pub record IsLive (rows : List Row) (job : SendJob) : Type 0 where
   pub is_give_up : IsOption (one_of (codes "give-up") rows) 0 1000000 job.give_up
   pub is_silent : IsOption (one_of (codes "silent") rows) 1 86400 job.silent
   pub is_region : IsRegion rows job.region
+  pub is_form : IsToldIn rows job.form
   pub is_strict : IsFlag (one_of (codes "strict") rows) job.strict
   pub is_join : IsFlag (one_of (codes "join") rows) job.join
   pub is_rejoin : IsRejoin rows job.rejoin
   pub is_state : option_map string_bytes job.state ≡ first_of (codes "state") rows
   pub is_station : option_map string_bytes job.station ≡ first_of (codes "station") rows
+
+-- What a device does is what the matches of the command `encoder` ask for.
+pub record IsDevice (rows : List Row) (job : DeviceJob) : Type 0 where
+  pub are_options : AreOptions rows job.site job.encoder job.sets job.services.items
+  pub is_listen : option_map string_bytes job.listen ≡ first_of (codes "listen") rows
+  pub is_port : IsMaybe (one_of (codes "port") rows) 1 65535 job.port
+  pub is_connections : IsOption (one_of (codes "connections") rows) 1 1000 job.connections
+  pub is_turns : IsOption (one_of (codes "turns") rows) 1 1000000 job.turns
+  pub is_forever : IsFlag (one_of (codes "forever") rows) job.forever
+  pub is_idle : IsOption (one_of (codes "idle") rows) 0 86400 job.idle
+  pub is_log : IsFlag (one_of (codes "log") rows) job.log
+  pub is_form : IsForm rows job.form
+  pub is_time : IsTimed rows job.time
+  pub is_store : IsStore rows job.store
+  pub is_faults : option_map string_bytes job.faults ≡ first_of (codes "faults") rows
+  pub is_seed : IsOption (one_of (codes "seed") rows) 0 1000000000 job.seed
+  pub is_state : option_map string_bytes job.state ≡ first_of (codes "state") rows
+
+-- This, where the form is lines.
+abbrev pub if_lines : Form → Option ℕ → Option ℕ
+if_lines Lines port = port
+if_lines (Words region) port = None
+if_lines Json port = None
+
+-- The port of a job that asks for nothing that only a device does, if it has one.
+abbrev pub plain_port : DeviceJob → Option ℕ
+plain_port job =
+    if is_some job.listen || (is_some job.faults || (job.forever || (job.log || job.store))) then None
+    else if job.idle == 0 then if_lines job.form job.port else None
+
+-- The task is the job of `encoder` with these options, on this port, with the file of its state where one is given.
+abbrev pub IsPlainTask : DeviceJob → (port : ℕ) → Task → Type 0
+IsPlainTask job port (Plain same) =
+    (same ≡ Encoder job.site job.encoder job.sets job.services port job.connections job.turns) × (job.state ≡ None)
+IsPlainTask job port (Kept same path) =
+    (same ≡ Encoder job.site job.encoder job.sets job.services port job.connections job.turns)
+    × (job.state ≡ Some path)
+IsPlainTask job port (Send send) = ⊥
+IsPlainTask job port (Device device) = ⊥
+IsPlainTask job port (State path) = ⊥
 
 -- The job is that of one of the two ends, which have a state.
 abbrev pub IsEnd : Job → Type 0
@@ -196,15 +261,17 @@ abbrev pub IsKeptAs : List Row → Job → Task → Type 0
 IsKeptAs rows job (Plain same) = (same ≡ job) × (first_of (codes "state") rows ≡ None)
 IsKeptAs rows job (Kept same path) = (same ≡ job) × (first_of (codes "state") rows ≡ Some (string_bytes path))
 IsKeptAs rows job (Send send) = ⊥
+IsKeptAs rows job (Device device) = ⊥
 IsKeptAs rows job (State path) = ⊥
 
 -- The task is that of the command of this name: its job, with the file for the state of its end where one is given; or
--- to send for as long as lines come; or what is in the file that is named.
+-- to send for as long as lines come; or what a device does; or what is in the file that is named.
 abbrev pub IsTaskOf : (name : List ℕ) → List Row → Task → Type 0
 IsTaskOf name rows (Plain job) = IsJobOf name rows job × IsUnkept rows job
 IsTaskOf name rows (Kept job path) =
     IsJobOf name rows job × IsEnd job × (first_of (codes "state") rows ≡ Some (string_bytes path))
 IsTaskOf name rows (Send job) = (name ≡ codes "send") × IsLive rows job
+IsTaskOf name rows (Device job) = (name ≡ codes "encoder") × IsDevice rows job × (plain_port job ≡ None)
 IsTaskOf name rows (State path) =
     (name ≡ codes "state") × (string_bytes path ≡ word_text (codes "file") [] rows)
 
@@ -235,13 +302,21 @@ number_option name least greatest default =
 abbrev pub rule_for : NumberOption → Rule
 rule_for option = number_option option.name.now option.least option.most (option_map (λ text. text.now) option.default)
 
+-- An option with a word that may be left out.
+abbrev pub maybe_word : (name : List ℕ) → Rule
+maybe_word name = record (word_option name None) { required = false }
+
+-- An option with a number that may be left out.
+abbrev pub maybe_number : (name : List ℕ) → (least greatest : ℕ) → Rule
+maybe_number name least greatest = record (number_option name least greatest None) { required = false }
+
 -- The option with the file for the state of an end, which may be left out.
 abbrev pub state_option : Rule
-state_option = record (word_option (codes "state") None) { required = false }
+state_option = maybe_word (codes "state")
 
 -- The option with the file of a station's lines, which may be left out.
 abbrev pub station_option : Rule
-station_option = record (word_option (codes "station") None) { required = false }
+station_option = maybe_word (codes "station")
 
 -- The file to look at, which has to be named.
 abbrev pub file_argument : Rule
@@ -300,8 +375,12 @@ making_command = command_with (codes "make") word_flags
 abbrev pub listening_command : Shape
 listening_command =
     command_with (codes "encoder")
-    (encoder_options ++ port_option ∷ number_option (codes "connections") 1 1000 (Some (codes "1"))
-    ∷ number_option (codes "turns") 1 1000000 (Some (codes "100000")) ∷ state_option ∷ [])
+    (encoder_options ++ maybe_word (codes "listen") ∷ maybe_number (codes "port") 1 65535
+    ∷ number_option (codes "connections") 1 1000 (Some (codes "1"))
+    ∷ number_option (codes "turns") 1 1000000 (Some (codes "100000")) ∷ flag (codes "forever")
+    ∷ number_option (codes "idle") 0 86400 (Some (codes "0")) ∷ flag (codes "log") ∷ flag (codes "store")
+    ∷ form_flags ++ flag (codes "no-time") ∷ maybe_word (codes "faults")
+    ∷ number_option (codes "seed") 0 1000000000 (Some (codes "0")) ∷ state_option ∷ [])
 
 -- The options of a server's bounds.
 abbrev pub bound_options : List Rule
@@ -327,7 +406,8 @@ live_command = command_with (codes "send") (place_options ++ word_option (codes 
     ∷ number_option (codes "retry-every") 1 3600 (Some (codes "30"))
     ∷ number_option (codes "give-up") 0 1000000 (Some (codes "0"))
     ∷ number_option (codes "silent") 1 86400 (Some (codes "60"))
-    ∷ flag (codes "rbds") ∷ flag (codes "strict") ∷ flag (codes "join") ∷ flag (codes "rejoin")
+    ∷ flag (codes "rbds") ∷ flag (codes "json") ∷ flag (codes "strict") ∷ flag (codes "join")
+    ∷ flag (codes "rejoin")
     ∷ state_option ∷ station_option ∷ [])
 
 -- The command `state`.

@@ -22,7 +22,7 @@ use Rattle.kept_sending.specs.declared.keep.Progress.{Progress}
 use Rattle.kept_sending.specs.Keeping as sending
 use Rattle.state_files.specs.declared.reading.Found.{Found}
 use Rattle.uecp_cli.specs.declared.task.Task.{Task}
-use Rattle.uecp_cli.specs.declared.task.Task.TheVariants.{Plain, Kept, Send, State}
+use Rattle.uecp_cli.specs.declared.task.Task.TheVariants.{Plain, Kept, Send, Device, State}
 use Rattle.uecp_cli.specs.Kept.{IsKeptDone, IsKeptRefused, IsKeptStopped, IsKeptIn, HasTold, HasNotTold}
 use Rattle.uecp_cli.specs.CommandLine.{uecp_app, Asks, GivesNoList, IsEnd}
 use Rattle.uecp_cli.specs.Unreached.{MaySayUnreached}
@@ -93,11 +93,12 @@ HasNotEnded job unread unread' held held' told told' =
     ⊎ HasStoppedWatching job unread unread' held held' told told'))
 
 -- It is run as a job that comes to an end by itself: one with its state in a file is that of an end. To send for as
--- long as lines come is another matter.
+-- long as lines come, and to be a device, are other matters.
 abbrev pub IsRunnable : Task → Type 0
 IsRunnable (Plain job) = Unit {0}
 IsRunnable (Kept job path) = IsEnd job
 IsRunnable (Send job) = ⊥
+IsRunnable (Device job) = ⊥
 IsRunnable (State path) = Unit {0}
 
 -- The options of what is asked for describe no encoder, or no address of one, and that was said, or begun to be said.
@@ -105,6 +106,7 @@ abbrev pub IsTaskUndescribed : Task → (told told' : Option (List ℕ)) → Typ
 IsTaskUndescribed (Plain job) told told' = IsUndescribed job told told'
 IsTaskUndescribed (Kept job path) told told' = IsUndescribed job told told'
 IsTaskUndescribed (Send job) told told' = ⊥
+IsTaskUndescribed (Device job) told told' = ⊥
 IsTaskUndescribed (State path) told told' = ⊥
 
 -- What is asked for was done.
@@ -114,6 +116,7 @@ abbrev pub IsTaskDone : (finds : (path : List ℕ) → Found → Type 0) → Tas
 IsTaskDone finds (Plain job) unread unread' held held' = IsAllDone job unread unread' held held'
 IsTaskDone finds (Kept job path) unread unread' held held' = IsKeptDone job unread unread' held held'
 IsTaskDone finds (Send job) unread unread' held held' = ⊥
+IsTaskDone finds (Device job) unread unread' held held' = ⊥
 IsTaskDone finds (State path) unread unread' held held' = HasTold finds (string_bytes path) unread unread' held held'
 
 -- A line of its input was refused.
@@ -121,6 +124,7 @@ abbrev pub IsTaskRefused : Task → (unread unread' held held' told told' : Opti
 IsTaskRefused (Plain job) unread unread' held held' told told' = HasLineRefused job unread unread' held held' told told'
 IsTaskRefused (Kept job path) unread unread' held held' told told' = IsKeptRefused unread unread' told told'
 IsTaskRefused (Send job) unread unread' held held' told told' = ⊥
+IsTaskRefused (Device job) unread unread' held held' told told' = ⊥
 IsTaskRefused (State path) unread unread' held held' told told' = ⊥
 
 -- It came to no end, and that was said.
@@ -131,6 +135,7 @@ IsTaskStopped finds (Plain job) unread unread' held held' told told' =
 IsTaskStopped finds (Kept job path) unread unread' held held' told told' =
     IsKeptStopped job unread unread' told told'
 IsTaskStopped finds (Send job) unread unread' held held' told told' = ⊥
+IsTaskStopped finds (Device job) unread unread' held held' told told' = ⊥
 IsTaskStopped finds (State path) unread unread' held held' told told' =
     HasNotTold finds (string_bytes path) unread unread' held held' told told'
 
@@ -147,6 +152,8 @@ IsTaskKept gives_encoder encoder_leaves encoder_clean gives_server server_leaves
     IsKeptIn gives_encoder encoder_leaves encoder_clean gives_server server_leaves server_clean (string_bytes path) job
     unread unread' held held'
 IsTaskKept gives_encoder encoder_leaves encoder_clean gives_server server_leaves server_clean (Send job) unread
+    unread' held held' = ⊥
+IsTaskKept gives_encoder encoder_leaves encoder_clean gives_server server_leaves server_clean (Device job) unread
     unread' held held' = ⊥
 IsTaskKept gives_encoder encoder_leaves encoder_clean gives_server server_leaves server_clean (State path) unread
     unread'

@@ -1,11 +1,12 @@
 -- The ranges of the numbers on the command line (profile).
-use Rattle.std.specs.Prelude.{ℕ, ◌≤◌}
+use Rattle.std.specs.Prelude.{ℕ, ◌≤◌, IfSome}
 use Rattle.uecp_jobs.specs.declared.job.Job.{Job}
 use Rattle.uecp_jobs.specs.declared.job.Job.TheVariants.{Answer, AnswerAs, Show, ShowAs, Make, MakeWords}
 use Rattle.uecp_jobs.specs.declared.job.Job.TheVariants.{Line, LineAs, Encoder, Server, Watch}
 use Rattle.send_jobs.specs.declared.job.SendJob.{SendJob}
+use Rattle.device_jobs.specs.declared.job.DeviceJob.{DeviceJob}
 use Rattle.uecp_cli.specs.declared.task.Task.{Task}
-use Rattle.uecp_cli.specs.declared.task.Task.TheVariants.{Plain, Kept, Send, State}
+use Rattle.uecp_cli.specs.declared.task.Task.TheVariants.{Plain, Kept, Send, Device, State}
 
 -- A number lies from the least to the greatest.
 abbrev pub Lies : (least greatest number : ℕ) → Type 0
@@ -42,9 +43,15 @@ IsLiveInRange job = IsPlaceInRange job.site job.encoder × Lies 1 65535 job.port
     × Lies 1 60000 job.timeout × Lies 1 1000 job.turns × Lies 1 8 job.window × Lies 1 3600 job.retry_every
     × Lies 0 1000000 job.give_up × Lies 1 86400 job.silent
 
+-- Each number of what a device does.
+abbrev pub IsDeviceInRange : DeviceJob → Type 0
+IsDeviceInRange job = IsSetupInRange job.site job.encoder job.sets × IfSome job.port (Lies 1 65535)
+    × Lies 1 1000 job.connections × Lies 1 1000000 job.turns × Lies 0 86400 job.idle × Lies 0 1000000000 job.seed
+
 -- Each number of what is asked for is in its range.
 abbrev pub AreInRange : Task → Type 0
 AreInRange (Plain job) = IsInRange job
 AreInRange (Kept job path) = IsInRange job
 AreInRange (Send job) = IsLiveInRange job
+AreInRange (Device job) = IsDeviceInRange job
 AreInRange (State path) = Unit {0}

@@ -2,7 +2,7 @@
 ghost use Rattle.std.specs.Prelude.{◌≡◌, false, codes, Some};
 ghost use Rattle.clap.specs.Words.{rule_of};
 ghost use Rattle.uecp_cli.specs.CommandLine.{rule_for, word_option, services_option, state_option};
-ghost use Rattle.uecp_cli.specs.CommandLine.{file_argument, flag, station_option};
+ghost use Rattle.uecp_cli.specs.CommandLine.{file_argument, flag, maybe_word, station_option};
 
 use crate::numbers::NumberOption;
 use clap::{Arg, ArgAction, value_parser};
@@ -24,6 +24,26 @@ pub fn number<'a>(alloc: Global, option: &NumberOption) -> Arg<'a>
         Some(text) => arg.default_value(text),
         None => arg.required(true),
     }
+}
+
+/// The argument of an option with a number that may be left out.
+pub fn maybe_number<'a>(alloc: Global, option: &NumberOption) -> Arg<'a>
+    ensures rule { rule_of result ≡ record (rule_for option.now) { required = false } }
+    ensures own { result.global ≡ false }
+{
+    number(alloc, option).required(false)
+}
+
+/// An option with a word that may be left out.
+pub fn maybe_word<'a>(alloc: Global, name: &'a str, value: &'a str, help: &'a str) -> Arg<'a>
+    ensures rule { rule_of result ≡ maybe_word name.now }
+    ensures own { result.global ≡ false }
+{
+    Arg::new(alloc, name)
+        .long(name)
+        .value_name(value)
+        .help(help)
+        .action(ArgAction::Set)
 }
 
 /// The option `services`.

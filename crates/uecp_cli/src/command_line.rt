@@ -9,14 +9,17 @@ ghost use Rattle.uecp_cli.specs.CommandLine.{encoder_options};
 ghost use Rattle.uecp_cli.specs.CommandLine.{store_command, showing_command, making_command, listening_command};
 ghost use Rattle.uecp_cli.specs.CommandLine.{sending_command, live_command, watching_command, looking_command, flag};
 
-use crate::arguments::{file, flag, host, number, services, state, station};
+use crate::arguments::{
+    file, flag, host, maybe_number, maybe_word, number, services, state, station,
+};
+use crate::device_job::encoder_of;
 use crate::live_job::send_of;
 use crate::matched::{
-    answer_of, encoder_of, line_of, make_of, server_of, show_of, state_of, watch_of,
+    answer_of, line_of, make_of, server_of, show_of, state_of, watch_of,
 };
 use crate::numbers::{
-    CONNECTIONS, ENCODER, GIVE_UP, PORT, RECONNECTS, RETRY_EVERY, SERVE_TURNS, SETS, SILENT, SITE,
-    TIMEOUT, TRIES, TRY_TURNS, WINDOW,
+    CONNECTIONS, ENCODER, GIVE_UP, IDLE, PORT, RECONNECTS, RETRY_EVERY, SEED, SERVE_TURNS, SETS,
+    SILENT, SITE, TIMEOUT, TRIES, TRY_TURNS, WINDOW,
 };
 use crate::task::Task;
 use crate::usage::Usage;
@@ -134,14 +137,42 @@ fn encoder_command<'a>(alloc: Global) -> Result<Command<'a>, AllocError>
     ensures { IfOk result (λ command. shape_of command ≡ listening_command) }
 {
     let command = Command::new(alloc, "encoder")
-        .about("Be an encoder on 127.0.0.1 that serves one connection after another")
+        .about("Be an encoder that serves one connection after another")
         .after_help(
-            "Standard input is not read.\nExample: uecp encoder --port 4001 --connections 2 --services 01,02",
+            "Standard input is not read. The protocol has no password: open it to a network behind a firewall or a tunnel alone.\nExample: uecp encoder --port 4001 --forever --log --words",
         );
-    with_encoder(alloc, command)?
-        .arg(number(alloc, &PORT))?
+    let command = with_encoder(alloc, command)?
+        .arg(maybe_word(
+            alloc,
+            "listen",
+            "ADDRESS",
+            "Where it listens, ADDRESS or ADDRESS:PORT, as 0.0.0.0:4001 or [::]:4001; 127.0.0.1 where it is left out",
+        ))?
+        .arg(maybe_number(alloc, &PORT))?
         .arg(number(alloc, &CONNECTIONS))?
         .arg(number(alloc, &SERVE_TURNS))?
+        .arg(flag(
+            alloc,
+            "forever",
+            "Serve one connection after another without end",
+        ))?
+        .arg(number(alloc, &IDLE))?
+        .arg(flag(
+            alloc,
+            "log",
+            "Tell what comes and what becomes of it, a line each, behind the time",
+        ))?
+        .arg(flag(alloc, "store", "Write the encoder's store at the end"))?;
+    with_words(alloc, command)?
+        .arg(json(alloc))?
+        .arg(flag(alloc, "no-time", "Without the time before what is told"))?
+        .arg(maybe_word(
+            alloc,
+            "faults",
+            "FILE",
+            "The file with the rules of a bad line, one a line, as lose reply 5..9",
+        ))?
+        .arg(number(alloc, &SEED))?
         .arg(state(alloc))
 }
 
@@ -196,6 +227,7 @@ fn send_command<'a>(alloc: Global) -> Result<Command<'a>, AllocError>
             "rbds",
             "With North America's names of programme types",
         ))?
+        .arg(json(alloc))?
         .arg(flag(alloc, "strict", "End at a line that is refused"))?
         .arg(flag(
             alloc,

@@ -3,7 +3,7 @@ ghost use Rattle.std.specs.Prelude.{◌≡◌, codes, IfOk, IfErr, option_map};
 ghost use Rattle.std.specs.String.{string_bytes};
 ghost use Rattle.clap.specs.Walk.{first_of};
 ghost use Rattle.clap.specs.Words.{found_of, rows_of};
-ghost use Rattle.uecp_cli.specs.CommandLine.{IsTaskOf, IsRegion};
+ghost use Rattle.uecp_cli.specs.CommandLine.{IsTaskOf, IsRegion, IsToldIn};
 ghost use Rattle.uecp_cli.specs.declared.usage.Usage.TheVariants.{OutOfMemory};
 
 use crate::forms::flag_of;
@@ -17,6 +17,7 @@ use clap::ArgMatches;
 use rds_text::Region;
 use send_jobs::SendJob;
 use std::alloc::{AllocError, Global};
+use uecp_jobs::Form;
 
 /// The job of the command `send`.
 pub fn send_of(alloc: Global, found: &ArgMatches<'_>) -> Result<Task, Usage>
@@ -34,6 +35,7 @@ pub fn send_of(alloc: Global, found: &ArgMatches<'_>) -> Result<Task, Usage>
         turns: number_of(found, &TRY_TURNS),
         window: small_of(found, &WINDOW),
         region: region_of(found),
+        form: told_in(found),
         strict: flag_of(found, "strict"),
         join: flag_of(found, "join"),
         rejoin: flag_of(found, "rejoin") || station.is_some(),
@@ -56,8 +58,19 @@ fn region_of(found: &ArgMatches<'_>) -> Region
     }
 }
 
+/// In which form is told what comes of the messages.
+fn told_in(found: &ArgMatches<'_>) -> Form
+    ensures { IsToldIn (rows_of (found_of found.now)) result }
+{
+    if flag_of(found, "json") {
+        Form::Json
+    } else {
+        Form::Lines
+    }
+}
+
 /// The text of an option, if it is given.
-fn word_of(alloc: Global, found: &ArgMatches<'_>, name: &str) -> Result<Option<String>, AllocError>
+pub(crate) fn word_of(alloc: Global, found: &ArgMatches<'_>, name: &str) -> Result<Option<String>, AllocError>
     ensures { IfOk result (λ word. option_map string_bytes word ≡ first_of name.now (rows_of (found_of found.now))) }
 {
     match found.get_str(name) {

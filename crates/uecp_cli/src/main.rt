@@ -12,6 +12,7 @@
 
 mod arguments;
 mod command_line;
+mod device_job;
 mod forms;
 mod live_job;
 mod matched;

@@ -3,13 +3,12 @@ ghost use Rattle.std.specs.Prelude.{◌≡◌, ◌≤◌, codes, IfOk, IfErr};
 ghost use Rattle.std.specs.String.{string_bytes};
 ghost use Rattle.clap.specs.Words.{found_of, one_of, rows_of};
 ghost use Rattle.uecp_cli.specs.CommandLine.{IsOption, IsList, IsTaskOf, RefusesList, services_text, host_text};
-ghost use Rattle.uecp_cli.specs.CommandLine.{IsEnd, IsKeptAs};
+ghost use Rattle.uecp_cli.specs.CommandLine.{IsEnd, IsKeptAs, IsMaybe};
 ghost use Rattle.uecp_cli.specs.declared.usage.Usage.TheVariants.{OutOfMemory};
 
 use crate::forms::{flag_of, form_of, wording_of};
 use crate::numbers::{
-    CONNECTIONS, ENCODER, NumberOption, PORT, RECONNECTS, SERVE_TURNS, SETS, SITE, TIMEOUT, TRIES,
-    TRY_TURNS, WINDOW,
+    ENCODER, NumberOption, PORT, RECONNECTS, SETS, SITE, TIMEOUT, TRIES, TRY_TURNS, WINDOW,
 };
 use crate::services::services_of;
 use crate::task::Task;
@@ -50,8 +49,21 @@ pub(crate) fn small_of(found: &ArgMatches<'_>, option: &NumberOption) -> u8
     number_of(found, option) as u8
 }
 
+/// The number of an option that may be left out, and is 65535 at most.
+pub(crate) fn given_of(found: &ArgMatches<'_>, option: &NumberOption) -> Option<u16>
+    requires range { option.now.least ≤ option.now.most }
+    requires short { option.now.most ≤ 65535 }
+    ensures { IsMaybe (one_of option.now.name.now (rows_of (found_of found.now))) option.now.least option.now.most
+        result }
+{
+    match found.get_one::<u32>(option.name) {
+        Some(number) => Some(number.clamp(option.least, option.most) as u16),
+        None => None,
+    }
+}
+
 /// The numbers of the services, `01` where they are not given.
-fn list_of(alloc: Global, found: &ArgMatches<'_>) -> Result<Vec<u8>, Usage>
+pub(crate) fn list_of(alloc: Global, found: &ArgMatches<'_>) -> Result<Vec<u8>, Usage>
     ensures list { IfOk result (λ services. IsList (services_text (rows_of (found_of found.now))) services.items) }
     ensures refused { IfErr result (RefusesList (services_text (rows_of (found_of found.now)))) }
 {
@@ -151,23 +163,6 @@ pub fn make_of(found: &ArgMatches<'_>) -> Task
         Form::Words(region) => Task::Plain(Job::MakeWords { region }),
         _ => Task::Plain(Job::Make),
     }
-}
-
-/// The job of the command `encoder`, and the file of its state where one is given.
-pub fn encoder_of(alloc: Global, found: &ArgMatches<'_>) -> Result<Task, Usage>
-    ensures job { IfOk result (IsTaskOf (codes "encoder") (rows_of (found_of found.now))) }
-    ensures refused { IfErr result (RefusesList (services_text (rows_of (found_of found.now)))) }
-{
-    let job = Job::Encoder {
-        site: short_of(found, &SITE),
-        encoder: small_of(found, &ENCODER),
-        sets: small_of(found, &SETS),
-        services: list_of(alloc, found)?,
-        port: short_of(found, &PORT),
-        connections: number_of(found, &CONNECTIONS),
-        turns: number_of(found, &SERVE_TURNS),
-    };
-    Ok(task_of(alloc, found, job)?)
 }
 
 /// The job of the command `server`, and the file of its state where one is given.

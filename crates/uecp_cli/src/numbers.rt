@@ -51,6 +51,24 @@ pub const PORT: NumberOption = NumberOption {
     help: "The encoder's port, 1 to 65535",
 };
 
+/// After how many seconds with nothing read `encoder` closes a connection.
+pub const IDLE: NumberOption = NumberOption {
+    name: "idle",
+    least: 0,
+    most: 86_400,
+    default: Some("0"),
+    help: "After how many seconds with nothing read a connection is closed, 0 for never, up to 86400",
+};
+
+/// What chance begins with on a bad line of `encoder`.
+pub const SEED: NumberOption = NumberOption {
+    name: "seed",
+    least: 0,
+    most: 1_000_000_000,
+    default: Some("0"),
+    help: "The number that chance begins with, 0 to 1000000000: the same gives the same faults",
+};
+
 /// How many connections `encoder` serves.
 pub const CONNECTIONS: NumberOption = NumberOption {
     name: "connections",

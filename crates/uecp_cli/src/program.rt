@@ -18,9 +18,10 @@ ghost use Rattle.kept_jobs.specs.ServerKept.{IsReadWith};
 ghost use Rattle.uecp_cli.specs.Unreached.{MaySayUnreached};
 ghost use Rattle.state_jobs.specs.Kept.{HasServedKept, HasSentKept, SaysWhy};
 ghost use Rattle.send_jobs.specs.declared.job.SendJob.{SendJob};
-ghost use Rattle.uecp_cli.specs.declared.program.Ran.TheVariants.{Ended, Sends};
-ghost use Rattle.uecp_cli.specs.declared.task.Task.TheVariants.{Send};
-ghost use Rattle.uecp_cli.specs.Ranges.{IsLiveInRange};
+ghost use Rattle.uecp_cli.specs.declared.program.Ran.TheVariants.{Ended, Sends, Serves};
+ghost use Rattle.device_jobs.specs.declared.job.DeviceJob.{DeviceJob};
+ghost use Rattle.uecp_cli.specs.declared.task.Task.TheVariants.{Send, Device};
+ghost use Rattle.uecp_cli.specs.Ranges.{IsLiveInRange, IsDeviceInRange};
 ghost use Rattle.uecp_cli.specs.CommandLine.{Asks, IsEnd};
 
 use crate::command_line::parse;
@@ -28,6 +29,7 @@ use crate::task::Task;
 use crate::unreached::say_unreached;
 use crate::usage::Usage;
 use clap::Error;
+use device_jobs::DeviceJob;
 use line_feed::Arrival;
 use send_jobs::{SendJob, run_send_over_tcp};
 use state_jobs::{OpenStates, run_encoder_in, run_server_in, tell_state};
@@ -48,11 +50,14 @@ pub enum Ran {
     Ended(u8),
     /// They ask to send messages for as long as lines come. Nothing was done yet.
     Sends(SendJob),
+    /// They ask for what only a device does. Nothing was done yet.
+    Serves(DeviceJob),
 }
 
 /// Does what the words of a command line ask for, the first being the program's name, and answers the exit status: 0
 /// done, 1 a line of input was refused, 2 the words or the services were refused, 3 memory, reading, writing or a
-/// connection failed. Where they ask to send messages for as long as lines come that is answered, and nothing is done.
+/// connection failed. Where they ask to send messages for as long as lines come, or for what only a device does, that is
+/// answered, and nothing is done.
 pub fn run_words<
     R: Read,
     W: Write,
@@ -72,6 +77,9 @@ pub fn run_words<
     // To send was asked for so. Nothing was read, written or said.
     ensures sends { (job : SendJob) → result ≡ Sends job → Asks (map string_bytes words.now) (Send job)
         × IsLiveInRange job × (reader.new ≡ reader.old) × (writer.new ≡ writer.old) × (errors.new ≡ errors.old) }
+    // What only a device does was asked for so. Nothing was read, written or said.
+    ensures serves { (job : DeviceJob) → result ≡ Serves job → Asks (map string_bytes words.now) (Device job)
+        × IsDeviceInRange job × (reader.new ≡ reader.old) × (writer.new ≡ writer.old) × (errors.new ≡ errors.old) }
     // 0: what the words ask for was done; or they ask for a text, and nothing was read. Nothing was said on `errors`.
     ensures done { result ≡ Ended 0
         → (HasDone (S.finds states.now) (map string_bytes words.now) (R.remaining reader.old)
@@ -94,6 +102,7 @@ pub fn run_words<
 {
     match parse(alloc, words) {
         Ok(Task::Send(job)) => Ran::Sends(job),
+        Ok(Task::Device(job)) => Ran::Serves(job),
         Ok(task) => Ran::Ended(run_task(alloc, &task, reader, writer, errors, net, states)),
         Err(usage) => Ran::Ended(refuse(&usage, writer, errors)),
     }
@@ -166,7 +175,7 @@ fn run_task<
             let path = path.as_str();
             run_kept(alloc, job, path, reader, writer, errors, net, states)
         }
-        Task::Send(_) => unreachable!(),
+        Task::Send(_) | Task::Device(_) => unreachable!(),
         Task::State(path) => tell_state(alloc, path.as_str(), states, writer, errors),
     }
 }

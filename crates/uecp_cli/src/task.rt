@@ -1,5 +1,6 @@
 //! What the words of a command line ask for (profile).
 
+use device_jobs::DeviceJob;
 use send_jobs::SendJob;
 use uecp_jobs::Job;
 
@@ -12,6 +13,8 @@ pub enum Task {
     Kept(Job, String),
     /// The job of `send`.
     Send(SendJob),
+    /// What the command `encoder` asks for with an option that only a device has.
+    Device(DeviceJob),
     /// What is in the state file at this path.
     State(String),
 }

@@ -9,11 +9,30 @@ returns c =
     let is_new : shape_of c.after_help-command.result ≡ new_shape (codes "encoder") =
     ap shape_of_fields c.after_help-command.ensures ∙ ap shape_of_fields c.about.ensures
     ∙ ap (λ (a : App). a.top) c.new.ensures.app in
-    let one = arg_added _ _ c.number.result _ _ c.in_ok-arg.ensures c.number.ensures.own
-    (c.in_ok-with_encoder.ensures (codes "encoder") is_new) c.number.ensures.rule in
-    let two = arg_added _ _ c.number-2.result _ _ c.in_ok-arg-2.ensures c.number-2.ensures.own one
+    let one = arg_added _ _ c.maybe_word.result _ _ c.in_ok-arg.ensures c.maybe_word.ensures.own
+    (c.in_ok-with_encoder.ensures (codes "encoder") is_new) c.maybe_word.ensures.rule in
+    let two = arg_added _ _ c.maybe_number.result _ _ c.in_ok-arg-2.ensures c.maybe_number.ensures.own one
+    c.maybe_number.ensures.rule in
+    let three = arg_added _ _ c.number.result _ _ c.in_ok-arg-3.ensures c.number.ensures.own two
+    c.number.ensures.rule in
+    let four = arg_added _ _ c.number-2.result _ _ c.in_ok-arg-4.ensures c.number-2.ensures.own three
     c.number-2.ensures.rule in
-    let three = arg_added _ _ c.number-3.result _ _ c.in_ok-arg-3.ensures c.number-3.ensures.own two
+    let five = arg_added _ _ c.flag.result _ _ c.in_ok-arg-5.ensures c.flag.ensures.own four
+    c.flag.ensures.rule in
+    let six = arg_added _ _ c.number-3.result _ _ c.in_ok-arg-6.ensures c.number-3.ensures.own five
     c.number-3.ensures.rule in
-    IfOk-weaker c.arg-4.result _ _ (λ whole added. arg_added _ whole c.state.result _ _ added c.state.ensures.own three
-    c.state.ensures.rule) c.arg-4.ensures
+    let seven = arg_added _ _ c.flag-2.result _ _ c.in_ok-arg-7.ensures c.flag-2.ensures.own six
+    c.flag-2.ensures.rule in
+    let eight = arg_added _ _ c.flag-3.result _ _ c.in_ok-command.ensures c.flag-3.ensures.own seven
+    c.flag-3.ensures.rule in
+    let worded = c.in_ok-with_words.ensures _ eight in
+    let nine = arg_added _ _ c.json.result _ _ c.in_ok-arg-8.ensures c.json.ensures.own worded
+    c.json.ensures.rule in
+    let ten = arg_added _ _ c.flag-4.result _ _ c.in_ok-arg-9.ensures c.flag-4.ensures.own nine
+    c.flag-4.ensures.rule in
+    let eleven = arg_added _ _ c.maybe_word-2.result _ _ c.in_ok-arg-10.ensures c.maybe_word-2.ensures.own ten
+    c.maybe_word-2.ensures.rule in
+    let twelve = arg_added _ _ c.number-4.result _ _ c.in_ok-arg-11.ensures c.number-4.ensures.own eleven
+    c.number-4.ensures.rule in
+    IfOk-weaker c.arg-12.result _ _ (λ whole added. arg_added _ whole c.state.result _ _ added c.state.ensures.own twelve
+    c.state.ensures.rule) c.arg-12.ensures

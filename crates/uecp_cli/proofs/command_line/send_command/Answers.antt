@@ -30,13 +30,15 @@ returns c =
     c.number-8.ensures.rule in
     let ten = arg_added _ _ c.flag.result _ _ c.in_ok-arg-10.ensures c.flag.ensures.own nine
     c.flag.ensures.rule in
-    let eleven = arg_added _ _ c.flag-2.result _ _ c.in_ok-arg-11.ensures c.flag-2.ensures.own ten
+    let eleven = arg_added _ _ c.json.result _ _ c.in_ok-arg-11.ensures c.json.ensures.own ten
+    c.json.ensures.rule in
+    let twelve = arg_added _ _ c.flag-2.result _ _ c.in_ok-arg-12.ensures c.flag-2.ensures.own eleven
     c.flag-2.ensures.rule in
-    let twelve = arg_added _ _ c.flag-3.result _ _ c.in_ok-arg-12.ensures c.flag-3.ensures.own eleven
+    let thirteen = arg_added _ _ c.flag-3.result _ _ c.in_ok-arg-13.ensures c.flag-3.ensures.own twelve
     c.flag-3.ensures.rule in
-    let thirteen = arg_added _ _ c.flag-4.result _ _ c.in_ok-arg-13.ensures c.flag-4.ensures.own twelve
+    let fourteen = arg_added _ _ c.flag-4.result _ _ c.in_ok-arg-14.ensures c.flag-4.ensures.own thirteen
     c.flag-4.ensures.rule in
-    let fourteen = arg_added _ _ c.state.result _ _ c.in_ok-arg-14.ensures c.state.ensures.own thirteen
+    let fifteen = arg_added _ _ c.state.result _ _ c.in_ok-arg-15.ensures c.state.ensures.own fourteen
     c.state.ensures.rule in
-    IfOk-weaker c.arg-15.result _ _ (λ whole added. arg_added _ whole c.station.result _ _ added c.station.ensures.own
-    fourteen c.station.ensures.rule) c.arg-15.ensures
+    IfOk-weaker c.arg-16.result _ _ (λ whole added. arg_added _ whole c.station.result _ _ added c.station.ensures.own
+    fifteen c.station.ensures.rule) c.arg-16.ensures

@@ -1,0 +1,1 @@
+-- The definitions that the contracts of the command `encoder` as a device cite.

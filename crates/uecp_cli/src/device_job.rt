@@ -1,0 +1,98 @@
+//! The job that the matches of the command `encoder` ask for (profile).
+ghost use Rattle.std.specs.Prelude.{◌≡◌, codes, IfOk, IfErr, IfSome, IfNone};
+ghost use Rattle.clap.specs.Words.{found_of, one_of, rows_of};
+ghost use Rattle.uecp_cli.specs.CommandLine.{IsTaskOf, IsTimed, RefusesList, services_text, IsDevice, plain_port};
+ghost use Rattle.uecp_cli.specs.CommandLine.{IsPlainTask};
+
+use crate::forms::{flag_of, form_of};
+use crate::live_job::word_of;
+use crate::matched::{given_of, list_of, number_of, short_of, small_of};
+use crate::numbers::{CONNECTIONS, ENCODER, IDLE, PORT, SEED, SERVE_TURNS, SETS, SITE};
+use crate::task::Task;
+use crate::usage::Usage;
+use clap::ArgMatches;
+use device_jobs::DeviceJob;
+use std::alloc::Global;
+use uecp_jobs::{Form, Job};
+
+/// The job of the command `encoder`, and the file of its state where one is given; or that of a device, where an option
+/// of one is given, or no port is.
+pub fn encoder_of(alloc: Global, found: &ArgMatches<'_>) -> Result<Task, Usage>
+    ensures job { IfOk result (IsTaskOf (codes "encoder") (rows_of (found_of found.now))) }
+    ensures refused { IfErr result (RefusesList (services_text (rows_of (found_of found.now)))) }
+{
+    let job = device_of(alloc, found)?;
+    match plain_port(&job) {
+        Some(port) => Ok(plain_task(job, port)),
+        None => Ok(Task::Device(job)),
+    }
+}
+
+/// The job of a device.
+fn device_of(alloc: Global, found: &ArgMatches<'_>) -> Result<DeviceJob, Usage>
+    ensures job { IfOk result (IsDevice (rows_of (found_of found.now))) }
+    ensures refused { IfErr result (RefusesList (services_text (rows_of (found_of found.now)))) }
+{
+    Ok(DeviceJob {
+        site: short_of(found, &SITE),
+        encoder: small_of(found, &ENCODER),
+        sets: small_of(found, &SETS),
+        services: list_of(alloc, found)?,
+        listen: word_of(alloc, found, "listen")?,
+        port: given_of(found, &PORT),
+        connections: number_of(found, &CONNECTIONS),
+        turns: number_of(found, &SERVE_TURNS),
+        forever: flag_of(found, "forever"),
+        idle: number_of(found, &IDLE),
+        log: flag_of(found, "log"),
+        form: form_of(found),
+        time: is_timed(found),
+        store: flag_of(found, "store"),
+        faults: word_of(alloc, found, "faults")?,
+        seed: number_of(found, &SEED),
+        state: word_of(alloc, found, "state")?,
+    })
+}
+
+/// Whether the time stands before what is told.
+fn is_timed(found: &ArgMatches<'_>) -> bool
+    ensures { IsTimed (rows_of (found_of found.now)) result }
+{
+    !flag_of(found, "no-time")
+}
+
+/// The port of a job that asks for nothing that only a device does.
+fn plain_port(job: &DeviceJob) -> Option<u16>
+    ensures { result ≡ plain_port job.now }
+{
+    if job.listen.is_some() || job.faults.is_some() || job.forever || job.log || job.store {
+        return None;
+    }
+    if job.idle != 0 {
+        return None;
+    }
+    match job.form {
+        Form::Lines => job.port,
+        Form::Words(_) => None,
+        Form::Json => None,
+    }
+}
+
+/// The task of a job that asks for nothing that only a device does, with this port.
+fn plain_task(job: DeviceJob, port: u16) -> Task
+    ensures { IsPlainTask job.entry port result }
+{
+    let plain = Job::Encoder {
+        site: job.site,
+        encoder: job.encoder,
+        sets: job.sets,
+        services: job.services,
+        port,
+        connections: job.connections,
+        turns: job.turns,
+    };
+    match job.state {
+        Some(path) => Task::Kept(plain, path),
+        None => Task::Plain(plain),
+    }
+}
