@@ -75,7 +75,7 @@ module _ {C I O K : Type 0} (opens : C → Option (I × O) → C → Type 0) (cl
           x' stop three one.called;
     }
 
-    turn_part : (x x' : LiveAt) (after : After) (went : Went)
+    pub turn_part : (x x' : LiveAt) (after : After) (went : Went)
         → Turn opens closes remaining contents leaves is_clean saves fails form region size strict x x' after went
         → (lines : List (List ℕ × Given)) × (mid : Intake) × Part lines x mid x'.sends went
         × Next lines mid x'.takes after
