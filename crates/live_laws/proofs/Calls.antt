@@ -14,34 +14,28 @@ use Rattle.kept_jobs.specs.Stops.{Went, stop_status, stop_for}
 use Rattle.kept_jobs.specs.ServerRun.{Standing, SettlesOne, SendsOne}
 use Rattle.kept_jobs.proofs.Outliving.{goes, stopped, goes_not_stopped, same_status}
 use Rattle.kept_jobs.proofs.Calls.{Chain, After, after_none, after_on}
-use Rattle.live_sending.specs.Run.{RepliesTold, HeldTold, SendsBatch, SendsSome, SettlesLive, marks_in}
-use Rattle.live_laws.proofs.Statuses.{not_so, replies_status, held_status}
+use Rattle.output_forms.specs.declared.form.Form.{Form}
+use Rattle.live_sending.specs.Run.{AnswersTold, SendsBatch, SendsSome, SettlesLive}
+use Rattle.live_laws.proofs.Statuses.{not_so, answers_status}
 
 -- all were acknowledged
 abbrev pub IsSettled : Ended → Type 0
 IsSettled ended = (settled : Settled) × (ended ≡ Ok settled)
 
-replies_settled : (last : ℕ) (counts : ServerCounts) (ended : Ended) (held held' : Option (List ℕ)) (went : Went)
-    → RepliesTold last counts ended held held' went → goes ≡ went → IsSettled ended
-replies_settled last counts (Ok settled) held held' went tells on = (settled, refl)
-replies_settled last counts (Err (kept.Outstanding reason)) held held' went (same, is) on =
+answers_settled : (are_told : Settled → List ℕ → Type 0) (counts : ServerCounts) (ended : Ended)
+    (held held' : Option (List ℕ)) (went : Went) → AnswersTold are_told counts ended held held' went → goes ≡ went
+    → IsSettled ended
+answers_settled are_told counts (Ok settled) held held' went tells on = (settled, refl)
+answers_settled are_told counts (Err (kept.Outstanding reason)) held held' went (same, is) on =
     absurd (goes_not_stopped (stop_for counts reason) (on ∙ is))
-replies_settled last counts (Err kept.StateFailed) held held' went (same, is) on =
+answers_settled are_told counts (Err kept.StateFailed) held held' went (same, is) on =
     absurd (goes_not_stopped StateFailed (on ∙ is))
 
-held_settled : (first : ℕ) (marks : List Bool) (counts : ServerCounts) (ended : Ended) (held held' : Option (List ℕ))
-    (went : Went) → HeldTold first marks counts ended held held' went → goes ≡ went → IsSettled ended
-held_settled first marks counts (Ok settled) held held' went tells on = (settled, refl)
-held_settled first marks counts (Err (kept.Outstanding reason)) held held' went (same, is) on =
-    absurd (goes_not_stopped (stop_for counts reason) (on ∙ is))
-held_settled first marks counts (Err kept.StateFailed) held held' went (same, is) on =
-    absurd (goes_not_stopped StateFailed (on ∙ is))
-
-held_stops : (first : ℕ) (marks : List Bool) (counts : ServerCounts) (ended : Ended) (held held' : Option (List ℕ))
-    (went : Went) → HeldTold first marks counts ended held held' went → (stop : KeptStop) → went ≡ stopped stop
-    → stop_status stop ≡ 3
-held_stops first marks counts ended held held' went tells stop is =
-    held_status first marks counts ended held held' stop (subst (HeldTold first marks counts ended held held') is tells)
+answers_stop : (are_told : Settled → List ℕ → Type 0) (counts : ServerCounts) (ended : Ended)
+    (held held' : Option (List ℕ)) (went : Went) → AnswersTold are_told counts ended held held' went
+    → (stop : KeptStop) → went ≡ stopped stop → stop_status stop ≡ 3
+answers_stop are_told counts ended held held' went tells stop is =
+    answers_status are_told counts ended held held' stop (subst (AnswersTold are_told counts ended held held') is tells)
 
 module _ {C I O K : Type 0} (opens : C → Option (I × O) → C → Type 0) (closes : C → I → O → C → Type 0)
     (remaining : I → Option (List ℕ)) (contents : O → Option (List ℕ)) (leaves : K → KeptServer → Type 0)
@@ -151,14 +145,14 @@ module _ {C I O K : Type 0} (opens : C → Option (I × O) → C → Type 0) (cl
       by (inl is) = ap (λ (k : KeptServer). k.taken) is
       by (inr is) = ap (λ (k : KeptServer). k.taken) is
 
-  pub settles_call : (x x' : At) (applied applied' : Bool) (unknown unknown' : ℕ) (went : Went)
-      → SettlesLive opens closes remaining contents leaves is_clean saves fails x x' applied applied' unknown unknown'
+  pub settles_call : (form : Form) (x x' : At) (applied applied' : Bool) (unknown unknown' : ℕ) (went : Went)
+      → SettlesLive opens closes remaining contents leaves is_clean saves fails form x x' applied applied' unknown unknown'
       went → Called 0 x x' went
-  settles_call x x' applied applied' unknown unknown' went (inl (idle, same, apply, are, is)) =
+  settles_call form x x' applied applied' unknown unknown' went (inl (idle, same, apply, are, is)) =
       subst (λ y. Called 0 x y went) (sym same) (called_none x went is)
-  settles_call x x' applied applied' unknown unknown' went (inr (some, (ended, one, tells, apply, are))) =
+  settles_call form x x' applied applied' unknown unknown' went (inr (some, (ended, one, tells, apply, are))) =
       let settled_so : goes ≡ went → IsSettled ended =
-      held_settled _ (marks_in x.runs.sender.server) x'.runs.sender.server.counts ended x.held x'.held went tells in
+      answers_settled _ x'.runs.sender.server.counts ended x.held x'.held went tells in
       record {
         after = record {
           clean = one.clean;
@@ -171,19 +165,19 @@ module _ {C I O K : Type 0} (opens : C → Option (I × O) → C → Type 0) (cl
         counted = (let same = ap (λ (p : Progress). p.taken) one.progress in omega (arith, same));
         joined = ap (λ (p : Progress). p.joined) one.progress;
         idle = λ on idle. settled_idle ended x x' one (settled_so on);
-        status = held_stops _ (marks_in x.runs.sender.server) x'.runs.sender.server.counts ended x.held x'.held went
+        status = answers_stop _ x'.runs.sender.server.counts ended x.held x'.held went
             tells;
       }
 
   -- none waits any longer
-  pub settles_idle : (x x' : At) (applied applied' : Bool) (unknown unknown' : ℕ) (went : Went)
-      → SettlesLive opens closes remaining contents leaves is_clean saves fails x x' applied applied' unknown unknown'
+  pub settles_idle : (form : Form) (x x' : At) (applied applied' : Bool) (unknown unknown' : ℕ) (went : Went)
+      → SettlesLive opens closes remaining contents leaves is_clean saves fails form x x' applied applied' unknown unknown'
       went → goes ≡ went → x'.runs.sender.server.held ≡ []
-  settles_idle x x' applied applied' unknown unknown' went (inl (idle, same, apply, are, is)) on =
+  settles_idle form x x' applied applied' unknown unknown' went (inl (idle, same, apply, are, is)) on =
       subst (λ (y : At). y.runs.sender.server.held ≡ []) (sym same) idle
-  settles_idle x x' applied applied' unknown unknown' went (inr (some, (ended, one, tells, apply, are))) on =
+  settles_idle form x x' applied applied' unknown unknown' went (inr (some, (ended, one, tells, apply, are))) on =
       settled_idle ended x x' one
-      (held_settled _ (marks_in x.runs.sender.server) x'.runs.sender.server.counts ended x.held x'.held went tells on)
+      (answers_settled _ x'.runs.sender.server.counts ended x.held x'.held went tells on)
 
   -- ---- A batch is sent.
 
@@ -238,12 +232,12 @@ module _ {C I O K : Type 0} (opens : C → Option (I × O) → C → Type 0) (cl
       by (inr (inl is)) = (length batch, ap (λ (k : KeptServer). k.taken) is ∙ counted, omega arith)
       by (inr (inr is)) = (length batch, ap (λ (k : KeptServer). k.taken) is ∙ counted, omega arith)
 
-  sends_call : (batch : List (List ℕ)) (x x' : At) (applied applied' : Bool) (unknown' : ℕ) (went : Went)
-      → SendsBatch opens closes remaining contents leaves is_clean saves fails batch x x' applied applied' unknown' went
+  sends_call : (form : Form) (batch : List (List ℕ)) (x x' : At) (applied applied' : Bool) (unknown' : ℕ) (went : Went)
+      → SendsBatch opens closes remaining contents leaves is_clean saves fails form batch x x' applied applied' unknown' went
       → Called (length batch) x x' went
-  sends_call batch x x' applied applied' unknown' went (ended, one, tells, apply, are) =
+  sends_call form batch x x' applied applied' unknown' went (ended, one, tells, apply, are) =
       let settled_so : goes ≡ went → IsSettled ended =
-      replies_settled x'.progress.taken x'.runs.sender.server.counts ended x.held x'.held went tells in
+      answers_settled _ x'.runs.sender.server.counts ended x.held x'.held went tells in
       record {
         after = record {
           clean = one.clean;
@@ -255,15 +249,14 @@ module _ {C I O K : Type 0} (opens : C → Option (I × O) → C → Type 0) (cl
         counted = ap (λ (p : Progress). p.taken) one.progress;
         joined = ap (λ (p : Progress). p.joined) one.progress;
         idle = λ on idle. sent_idle batch ended x x' one (settled_so on);
-        status = λ stop is. replies_status x'.progress.taken x'.runs.sender.server.counts ended x.held x'.held stop
-            (subst (λ w. RepliesTold x'.progress.taken x'.runs.sender.server.counts ended x.held x'.held w) is tells);
+        status = answers_stop _ x'.runs.sender.server.counts ended x.held x'.held went tells;
       }
 
-  pub sends_some : (batch : List (List ℕ)) (x x' : At) (applied applied' : Bool) (unknown unknown' : ℕ) (went : Went)
-      → SendsSome opens closes remaining contents leaves is_clean saves fails batch x x' applied applied' unknown
+  pub sends_some : (form : Form) (batch : List (List ℕ)) (x x' : At) (applied applied' : Bool) (unknown unknown' : ℕ) (went : Went)
+      → SendsSome opens closes remaining contents leaves is_clean saves fails form batch x x' applied applied' unknown
       unknown' went → Called (length batch) x x' went
-  sends_some batch x x' applied applied' unknown unknown' went (inl (none, same, apply, are, is)) =
+  sends_some form batch x x' applied applied' unknown unknown' went (inl (none, same, apply, are, is)) =
       subst (λ ms. Called (length ms) x x' went) (sym none)
       (subst (λ y. Called 0 x y went) (sym same) (called_none x went is))
-  sends_some batch x x' applied applied' unknown unknown' went (inr (some, sends)) =
-      sends_call batch x x' applied applied' unknown' went sends
+  sends_some form batch x x' applied applied' unknown unknown' went (inr (some, sends)) =
+      sends_call form batch x x' applied applied' unknown' went sends

@@ -1,3 +1,4 @@
+pub mod Begun
 pub mod Lines
 pub mod Statuses
 pub mod Calls

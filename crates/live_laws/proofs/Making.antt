@@ -4,7 +4,6 @@ use Rattle.std.proofs.Common.{inr}
 use Rattle.uecp_elements.specs.declared.code.Code.{Code}
 use Rattle.uecp_net.specs.Sending.{SenderOver}
 use Rattle.uecp_jobs.specs.Batches.{fault_of}
-use Rattle.uecp_jobs.specs.JoiningFirst.{not_joined_line}
 use Rattle.kept_sending.specs.declared.keep.Progress.{Progress}
 use Rattle.kept_sending.specs.declared.sending.KeptOutstanding.TheVariants as kept
 use Rattle.kept_sending.specs.Keeping.{KeptServer, kept_of, IsKept}
@@ -14,12 +13,15 @@ use Rattle.kept_jobs.specs.declared.stop.KeptStop.TheVariants.{Run, StateFailed}
 use Rattle.kept_jobs.specs.Stops.{Went, stop_status}
 use Rattle.kept_jobs.specs.ServerRun.{Standing}
 use Rattle.kept_jobs.proofs.Outliving.{goes, stopped, goes_not_stopped, told_stops}
+use Rattle.output_forms.specs.declared.form.Form.{Form}
+use Rattle.live_sending.specs.Forms.{not_joined_in}
 use Rattle.live_sending.specs.Station.{MakesStation, MakesOne, MakesIf, JoinedTold}
 use Rattle.live_laws.proofs.Statuses.{not_so, joined_status}
 
 module _ {C I O K : Type 0} (opens : C → Option (I × O) → C → Type 0) (closes : C → I → O → C → Type 0)
     (remaining : I → Option (List ℕ)) (contents : O → Option (List ℕ)) (leaves : K → KeptServer → Type 0)
-    (is_clean : K → Type 0) (saves fails : K → KeptServer → K → Type 0) (size : ℕ) (station : List (List ℕ)) where
+    (is_clean : K → Type 0) (saves fails : K → KeptServer → K → Type 0) (form : Form) (size : ℕ)
+    (station : List (List ℕ)) where
   abbrev At : Type 0
   At = Standing (SenderOver C I O) K
 
@@ -30,7 +32,7 @@ module _ {C I O K : Type 0} (opens : C → Option (I × O) → C → Type 0) (cl
   kept_at x = kept_of x.progress x.runs.sender.server
 
   abbrev One : (told : List Code) → Joined → (x x' : At) → Type 0
-  One = MakesOne opens closes remaining contents leaves is_clean saves fails size station
+  One = MakesOne opens closes remaining contents leaves is_clean saves fails form size station
 
   -- what is kept where a first message may be sent
   abbrev pub First : (due : Bool) → At → KeptServer → Type 0
@@ -50,11 +52,11 @@ module _ {C I O K : Type 0} (opens : C → Option (I × O) → C → Type 0) (cl
     pub status : (stop : KeptStop) → went ≡ stopped stop → stop_status stop ≡ 3
 
   joined_stays : (lines : List ℕ) (joined : Joined) (x' : At) (held held' : Option (List ℕ)) (went : Went)
-      → JoinedTold lines joined held held' went → goes ≡ went
+      → JoinedTold form lines joined held held' went → goes ≡ went
       → StaysKeptJoining (leaves x'.keeper) x'.progress x'.runs.sender.server joined → IsKeptAt x'
   joined_stays lines (Ok done) x' held held' went tells is stays = stays
   joined_stays lines (Err (kept.Outstanding reason)) x' held held' went tells is stays =
-      absurd (told_stops not_joined_line (Run (fault_of reason)) held held' went tells is)
+      absurd (told_stops (not_joined_in form) (Run (fault_of reason)) held held' went tells is)
   joined_stays lines (Err kept.StateFailed) x' held held' went (same, failed) is stays =
       absurd (goes_not_stopped StateFailed (is ∙ failed))
 
@@ -67,10 +69,10 @@ module _ {C I O K : Type 0} (opens : C → Option (I × O) → C → Type 0) (cl
       (x'.runs, told, one.makes.0, ap (λ p. kept_of p x'.runs.sender.server) one.progress)
 
   told_joined : (lines : List ℕ) (joined : Joined) (held held' : Option (List ℕ)) (went : Went)
-      → JoinedTold lines joined held held' went → goes ≡ went → HasJoined joined
+      → JoinedTold form lines joined held held' went → goes ≡ went → HasJoined joined
   told_joined lines (Ok done) held held' went tells is = tt
   told_joined lines (Err (kept.Outstanding reason)) held held' went tells is =
-      absurd (told_stops not_joined_line (Run (fault_of reason)) held held' went tells is)
+      absurd (told_stops (not_joined_in form) (Run (fault_of reason)) held held' went tells is)
   told_joined lines (Err kept.StateFailed) held held' went tells is = tt
 
   made_counted : (told : List Code) (joined : Joined) (x x' : At) → One told joined x x'
@@ -86,12 +88,12 @@ module _ {C I O K : Type 0} (opens : C → Option (I × O) → C → Type 0) (cl
   made_joined told (Err kept.StateFailed) x x' one has = ap (λ (p : Progress). p.joined) one.progress
 
   joined_stops : (lines : List ℕ) (joined : Joined) (held held' : Option (List ℕ)) (went : Went)
-      → JoinedTold lines joined held held' went → (stop : KeptStop) → went ≡ stopped stop → stop_status stop ≡ 3
+      → JoinedTold form lines joined held held' went → (stop : KeptStop) → went ≡ stopped stop → stop_status stop ≡ 3
   joined_stops lines joined held held' went tells stop is =
-      joined_status lines joined held held' stop (subst (JoinedTold lines joined held held') is tells)
+      joined_status form lines joined held held' stop (subst (JoinedTold form lines joined held held') is tells)
 
   making : (lines : List ℕ) (told : List Code) (joined : Joined) (x x' : At) (went : Went) → One told joined x x'
-      → JoinedTold lines joined x.held x'.held went → Making true x x' went
+      → JoinedTold form lines joined x.held x'.held went → Making true x x' went
   making lines told joined x x' went one tells = record {
     clean = one.clean;
     settled = λ is settled clean. joined_stays lines joined x' x.held x'.held went tells is (one.settled clean);
@@ -110,7 +112,7 @@ module _ {C I O K : Type 0} (opens : C → Option (I × O) → C → Type 0) (cl
       by left (inr (is, has)) = inr (subst (λ l. First true x l) (sym is) (made_first told joined x x' one has))
 
   pub making_if : (due : Bool) (x x' : At) (applied applied' : Bool) (went : Went)
-      → MakesIf opens closes remaining contents leaves is_clean saves fails size station due x x' applied applied' went
+      → MakesIf opens closes remaining contents leaves is_clean saves fails form size station due x x' applied applied' went
       → Making due x x' went
   making_if false x x' applied applied' went (same, apply, is) =
       let all : kept_at x' ≡ kept_at x = ap (λ (s : At). kept_of s.progress s.runs.sender.server) same in

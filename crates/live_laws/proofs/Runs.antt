@@ -8,20 +8,22 @@ use Rattle.kept_sending.specs.Keeping.{KeptServer, kept_of, IsKept}
 use Rattle.kept_jobs.specs.declared.stop.KeptStop.{KeptStop}
 use Rattle.kept_jobs.specs.declared.stop.KeptStop.TheVariants.{StateFailed}
 use Rattle.kept_jobs.specs.Stops.{Went, Then, TellsKept, stop_status}
-use Rattle.kept_jobs.specs.ServerRun.{Standing, TellsTaken, BeginsAnew, BeginsAnewIf, sending, is_due}
-use Rattle.kept_jobs.specs.ServerRun.{given_up_line}
+use Rattle.kept_jobs.specs.ServerRun.{Standing, sending, is_due}
 use Rattle.kept_jobs.specs.ServerKept.{HasTaken}
 use Rattle.kept_jobs.proofs.Outliving.{goes, stopped, goes_not_stopped, same_status}
-use Rattle.kept_jobs.proofs.Begun.{HasBegun, LeftBegun, begun_so, has_begun}
+use Rattle.kept_jobs.proofs.Begun.{HasBegun, LeftBegun}
 use Rattle.line_batches.specs.declared.intake.Given.{Given}
 use Rattle.line_batches.specs.Intake.{Intake, TakesLines, messages_in}
 use Rattle.live_sending.specs.declared.options.LiveOptions.{LiveOptions}
-use Rattle.live_sending.specs.Lines.{unknown_lines}
+use Rattle.output_forms.specs.declared.form.Form.{Form}
+use Rattle.live_sending.specs.Beginning.{TellsTaken, BeginsAnew, BeginsAnewIf}
+use Rattle.live_sending.specs.Forms.{given_up_in, unknown_in}
 use Rattle.live_sending.specs.Run.{Live, Renews, RunsOne, RunsAgain, RunsFor, LivesFrom}
 use Rattle.live_laws.specs.Taken.{Pauses, TakesFor, ComesToEnd}
 use Rattle.live_laws.specs.Left.{new_kept, OutlivesLive}
 use Rattle.live_laws.proofs.Lines.{messages_count, ends_on}
 use Rattle.live_laws.proofs.Statuses.{not_so, telling_status}
+use Rattle.live_laws.proofs.Begun.{begun_so, has_begun}
 use Rattle.live_laws.proofs.Senders.{Left, ran}
 
 was_joined : (join joined : Bool) → (join || not joined) ≡ false → joined ≡ true
@@ -64,23 +66,23 @@ module _ {C I O K : Type 0} (opens : C → Option (I × O) → C → Type 0) (cl
 
   -- ---- The beginning.
 
-  anew_status : (x y : Was) (stop : KeptStop) → BeginsAnew leaves is_clean saves fails x y (stopped stop)
+  anew_status : (form : Form) (x y : Was) (stop : KeptStop) → BeginsAnew leaves is_clean saves fails form x y (stopped stop)
       → stop_status stop ≡ 3
-  anew_status x y stop anew_so = by anew_so.saved
+  anew_status form x y stop anew_so = by anew_so.saved
     where
       by : (saves x.keeper (kept_of y.progress y.runs) y.keeper
-          × TellsKept (given_up_line (length (waiting x.runs))) (Ok tt) x.held y.held (stopped stop))
+          × TellsKept (given_up_in form (length (waiting x.runs))) (Ok tt) x.held y.held (stopped stop))
           ⊎ (fails x.keeper (kept_of y.progress y.runs) y.keeper × (y.held ≡ x.held)
           × (stopped stop ≡ stopped StateFailed)) → stop_status stop ≡ 3
       by (inl (saved, tells)) =
-          telling_status (given_up_line (length (waiting x.runs))) x.held y.held stop tells
+          telling_status (given_up_in form (length (waiting x.runs))) x.held y.held stop tells
       by (inr (failed, same, is)) = same_status stop StateFailed refl is
 
-  begin_status : (due : Bool) (x y : Was) (stop : KeptStop)
-      → Then TellsTaken (BeginsAnewIf leaves is_clean saves fails due) x y (stopped stop) → stop_status stop ≡ 3
-  begin_status false x y stop (inl (w, told, (same, is))) = not_so stop is
-  begin_status true x y stop (inl (w, told, anew_so)) = anew_status w y stop anew_so
-  begin_status due x y stop (inr (why, (same, tells), is)) =
+  begin_status : (form : Form) (due : Bool) (x y : Was) (stop : KeptStop)
+      → Then (TellsTaken form) (BeginsAnewIf leaves is_clean saves fails form due) x y (stopped stop) → stop_status stop ≡ 3
+  begin_status form false x y stop (inl (w, told, (same, is))) = not_so stop is
+  begin_status form true x y stop (inl (w, told, anew_so)) = anew_status form w y stop anew_so
+  begin_status form due x y stop (inr (why, (same, tells), is)) =
       same_status stop why (telling_status _ x.held y.held why tells) is
 
   -- ---- Senders.
@@ -295,17 +297,17 @@ module _ {C I O K : Type 0} (opens : C → Option (I × O) → C → Type 0) (cl
         }
 
     renew_status : (unknown : ℕ) (x y : Was) (stop : KeptStop)
-        → Renews leaves is_clean saves fails unknown x y (stopped stop) → stop_status stop ≡ 3
+        → Renews leaves is_clean saves fails options.form unknown x y (stopped stop) → stop_status stop ≡ 3
     renew_status unknown x y stop renews = by renews.saved
       where
         by : (saves x.keeper (kept_of y.progress y.runs) y.keeper
-            × TellsKept (unknown_lines (x.progress.taken + 1 - unknown) unknown) (Ok tt) x.held y.held (stopped stop))
+            × TellsKept (unknown_in options.form (x.progress.taken + 1 - unknown) unknown) (Ok tt) x.held y.held (stopped stop))
             ⊎ (fails x.keeper (kept_of y.progress y.runs) y.keeper × (y.held ≡ x.held)
             × (stopped stop ≡ stopped StateFailed)) → stop_status stop ≡ 3
         by (inl (saved, tells)) = telling_status _ x.held y.held stop tells
         by (inr (failed, same, is)) = same_status stop StateFailed refl is
 
-    renewed : (unknown : ℕ) (x y : Was) → Renews leaves is_clean saves fails unknown x y goes → is_clean y.keeper
+    renewed : (unknown : ℕ) (x y : Was) → Renews leaves is_clean saves fails options.form unknown x y goes → is_clean y.keeper
         → IsKeptOf y
     renewed unknown x y renews clean = by (renews.settled clean)
       where
@@ -378,7 +380,7 @@ module _ {C I O K : Type 0} (opens : C → Option (I × O) → C → Type 0) (cl
           outlives = λ settled clean left leaves_it.
               by now left settled (renews.clean clean) (renews.outlives clean left leaves_it);
           status = λ other stops. renew_status y.unknown y.sends w other
-              (subst (λ v. Renews leaves is_clean saves fails y.unknown y.sends w v) (sym is ∙ stops) renews);
+              (subst (λ v. Renews leaves is_clean saves fails options.form y.unknown y.sends w v) (sym is ∙ stops) renews);
         })
       where
         by : w.progress.taken ≡ x0.progress.taken + length (messages_in before.lines) → (left : KeptServer)
@@ -430,8 +432,8 @@ module _ {C I O K : Type 0} (opens : C → Option (I × O) → C → Type 0) (cl
   whole options c c' x k' held' end applied went
       (inl (y, again, z, begins, runs, last, keeper, held, takes, apply)) =
       let due = is_due options.join x.sends.progress in
-      let begun = begun_so leaves is_clean saves fails due x.sends y goes begins in
-      let has = has_begun leaves is_clean saves fails due x.sends y begins in
+      let begun = begun_so leaves is_clean saves fails options.form due x.sends y goes begins in
+      let has = has_begun leaves is_clean saves fails options.form due x.sends y begins in
       let r = senders options x.sends due refl again c c' _ z went has runs in
       subst (λ i. Whole options x k' i went) (sym takes)
       (subst (λ k. Whole options x k z.takes went) (sym keeper) (record {
@@ -456,7 +458,7 @@ module _ {C I O K : Type 0} (opens : C → Option (I × O) → C → Type 0) (cl
       }))
   whole options c c' x k' held' end applied went (inr (y, stop, begins, is, connect, keeper, held, takes, apply)) =
       let due = is_due options.join x.sends.progress in
-      let begun = begun_so leaves is_clean saves fails due x.sends y (stopped stop) begins in
+      let begun = begun_so leaves is_clean saves fails options.form due x.sends y (stopped stop) begins in
       subst (λ k. Whole options x k end went) (sym keeper) (record {
         lines = [];
         again = 0;
@@ -467,8 +469,8 @@ module _ {C I O K : Type 0} (opens : C → Option (I × O) → C → Type 0) (cl
         done = λ on. absurd (goes_not_stopped stop (on ∙ is));
         has_taken = λ on. absurd (goes_not_stopped stop (on ∙ is));
         outlives = λ settled clean left leaves_it. by left (begun.outlives settled clean left leaves_it);
-        status = λ other stops. begin_status due x.sends y other
-            (subst (λ v. Then TellsTaken (BeginsAnewIf leaves is_clean saves fails due) x.sends y v) (sym is ∙ stops)
+        status = λ other stops. begin_status options.form due x.sends y other
+            (subst (λ v. Then (TellsTaken options.form) (BeginsAnewIf leaves is_clean saves fails options.form due) x.sends y v) (sym is ∙ stops)
             begins);
       })
     where

@@ -6,12 +6,12 @@ use Rattle.std.specs.Io.KnownBytes.{Appends}
 use Rattle.std.specs.List.{list_all}
 use Rattle.uecp_elements.specs.declared.code.Code.{Code}
 use Rattle.uecp_text.proofs.Begun.{appends_nothing, appends_then}
-use Rattle.uecp_link.specs.Server.{ServerState}
+use Rattle.uecp_link.specs.Server.{ServerState, counters_waiting}
 use Rattle.uecp_net.specs.declared.sending.Outstanding.{Outstanding}
 use Rattle.uecp_net.specs.declared.sending.Outstanding.TheVariants.{TriesSpent, ConnectionFailed}
+use Rattle.uecp_net.specs.declared.sending.Settled.{Settled as SettledSo}
 use Rattle.uecp_net.specs.Sending.{SenderOver}
 use Rattle.uecp_jobs.specs.Batches.{fault_of}
-use Rattle.uecp_jobs.specs.JoiningFirst.{not_joined_line}
 use Rattle.kept_sending.specs.declared.keep.Progress.{Progress}
 use Rattle.kept_sending.specs.declared.sending.KeptOutstanding.TheVariants as kept
 use Rattle.kept_sending.specs.Keeping.{KeptServer, kept_of}
@@ -24,10 +24,14 @@ use Rattle.kept_jobs.specs.Stops.{Went, stop_for}
 use Rattle.kept_jobs.specs.ServerRun.{Standing}
 use Rattle.kept_jobs.proofs.Outliving.{goes, stopped, goes_not_stopped, told_stops}
 use Rattle.live_sending.specs.declared.options.LiveOptions.{LiveOptions}
-use Rattle.live_sending.specs.Lines.{is_applied, reply_lines, held_lines, station_lines}
+use Rattle.output_forms.specs.declared.form.Form.{Form}
+use Rattle.live_sending.specs.Lines.{is_applied}
+use Rattle.live_sending.specs.Forms.{AreHeld, station_in, not_joined_in}
 use Rattle.live_sending.specs.Station.{SentFor, MakesStation, MakesOne, MakesIf, JoinedTold}
-use Rattle.live_sending.specs.Run.{Live, HeldTold, SettlesLive, MakesOnce, SettlesOnce, RunsLive, marks_in, unknown_of}
-use Rattle.live_sending.specs.Run.{are_applied}
+use Rattle.live_sending.specs.Run.{Live, AnswersTold, SettlesLive, MakesOnce, SettlesOnce, RunsLive, marks_in}
+use Rattle.live_sending.specs.Run.{are_applied, unknown_of}
+use Rattle.live_laws.specs.Told.{AreAnswers}
+use Rattle.live_laws.proofs.Answering.{replied}
 use Rattle.live_laws.proofs.Calls.{settles_idle}
 use Rattle.live_laws.proofs.Telling.{both, Onward, told_all, goes_with_none, some_where_stopped, told_turns}
 use Rattle.live_laws.proofs.Telling.{turns_unknown}
@@ -71,38 +75,38 @@ module _ {C I O K : Type 0} (opens : C → Option (I × O) → C → Type 0) (cl
       no_error reason is = cc
 
   -- what was told of an encoder that was joined
-  abbrev MadeText : (station : List (List ℕ)) → (x x' : At) → Type 0
-  MadeText station x x' = (told : List Code) × Appends x.held x'.held (station_lines station told)
+  abbrev MadeText : Form → (station : List (List ℕ)) → (x x' : At) → Type 0
+  MadeText form station x x' = (told : List Code) × Appends x.held x'.held (station_in form station told)
 
-  made_told : (size : ℕ) (station : List (List ℕ)) (x x' : At) (applied applied' : Bool)
-      → MakesIf opens closes remaining contents leaves is_clean saves fails size station true x x' applied applied' goes
-      → MadeText station x x'
-  made_told size station x x' applied applied' (told, joined, one, tells, apply) = by joined tells
+  made_told : (form : Form) (size : ℕ) (station : List (List ℕ)) (x x' : At) (applied applied' : Bool)
+      → MakesIf opens closes remaining contents leaves is_clean saves fails form size station true x x' applied applied' goes
+      → MadeText form station x x'
+  made_told form size station x x' applied applied' (told, joined, one, tells, apply) = by joined tells
     where
-      by : (joined : Joined) → JoinedTold (station_lines station told) joined x.held x'.held goes
-          → MadeText station x x'
-      by (Ok done) tells = (told, told_all (station_lines station told) x.held x'.held goes tells refl)
+      by : (joined : Joined) → JoinedTold form (station_in form station told) joined x.held x'.held goes
+          → MadeText form station x x'
+      by (Ok done) tells = (told, told_all (station_in form station told) x.held x'.held goes tells refl)
       by (Err (kept.Outstanding reason)) tells =
-          absurd (told_stops not_joined_line (Run (fault_of reason)) x.held x'.held goes tells refl)
+          absurd (told_stops (not_joined_in form) (Run (fault_of reason)) x.held x'.held goes tells refl)
       by (Err kept.StateFailed) (same, is) = absurd (goes_not_stopped StateFailed is)
 
-  made_idle : (size : ℕ) (station : List (List ℕ)) (x x' : At) (applied applied' : Bool)
-      → MakesIf opens closes remaining contents leaves is_clean saves fails size station true x x' applied applied' goes
+  made_idle : (form : Form) (size : ℕ) (station : List (List ℕ)) (x x' : At) (applied applied' : Bool)
+      → MakesIf opens closes remaining contents leaves is_clean saves fails form size station true x x' applied applied' goes
       → x.runs.sender.server.held ≡ [] → x'.runs.sender.server.held ≡ []
-  made_idle size station x x' applied applied' (told, joined, one, tells, apply) idle = by joined one tells
+  made_idle form size station x x' applied applied' (told, joined, one, tells, apply) idle = by joined one tells
     where
       by : (joined : Joined)
           → MakesOne opens closes remaining contents leaves is_clean saves fails size station told joined x x'
-          → JoinedTold (station_lines station told) joined x.held x'.held goes → x'.runs.sender.server.held ≡ []
+          → JoinedTold form (station_in form station told) joined x.held x'.held goes → x'.runs.sender.server.held ≡ []
       by (Ok done) one tells = station_idle size station told x.runs x'.runs one.makes.0 idle
       by (Err (kept.Outstanding reason)) one tells =
-          absurd (told_stops not_joined_line (Run (fault_of reason)) x.held x'.held goes tells refl)
+          absurd (told_stops (not_joined_in form) (Run (fault_of reason)) x.held x'.held goes tells refl)
       by (Err kept.StateFailed) one (same, is) = absurd (goes_not_stopped StateFailed is)
 
-  made_taken : (size : ℕ) (station : List (List ℕ)) (x x' : At) (applied applied' : Bool)
-      → MakesIf opens closes remaining contents leaves is_clean saves fails size station true x x' applied applied' goes
+  made_taken : (form : Form) (size : ℕ) (station : List (List ℕ)) (x x' : At) (applied applied' : Bool)
+      → MakesIf opens closes remaining contents leaves is_clean saves fails form size station true x x' applied applied' goes
       → x'.progress.taken ≡ x.progress.taken
-  made_taken size station x x' applied applied' (told, joined, one, tells, apply) = by joined one
+  made_taken form size station x x' applied applied' (told, joined, one, tells, apply) = by joined one
     where
       by : (joined : Joined)
           → MakesOne opens closes remaining contents leaves is_clean saves fails size station told joined x x'
@@ -114,49 +118,45 @@ module _ {C I O K : Type 0} (opens : C → Option (I × O) → C → Type 0) (cl
   -- ---- What waited.
 
   -- what is told of what waited at a server
-  abbrev pub IsHeldText : At → (text : List ℕ) → Type 0
-  IsHeldText x text =
-      (text ≡ []) ⊎ ((told : List Code)
-      × (text ≡ held_lines (x.progress.taken + 1 - length (marks_in x.runs.sender.server))
-      (marks_in x.runs.sender.server) told))
+  abbrev pub IsHeldText : Form → At → (text : List ℕ) → Type 0
+  IsHeldText form x text =
+      (text ≡ []) ⊎ ((settled : SettledSo)
+      × AreHeld form (x.progress.taken + 1 - length (marks_in x.runs.sender.server)) (marks_in x.runs.sender.server)
+      (counters_waiting x.runs.sender.server) settled text)
 
-  record Settled (x x' : At) (unknown' : ℕ) : Type 0 where
+  record Settled (form : Form) (x x' : At) (unknown' : ℕ) : Type 0 where
     pub text : List ℕ
-    pub is_text : IsHeldText x text
+    pub is_text : IsHeldText form x text
     pub appended : Appends x.held x'.held text
     pub taken : x'.progress.taken ≡ x.progress.taken
     pub none : unknown' ≡ 0
 
-  settled_told : (x x' : At) (applied applied' : Bool) (unknown unknown' : ℕ) → unknown ≡ 0
-      → SettlesLive opens closes remaining contents leaves is_clean saves fails x x' applied applied' unknown unknown'
-      goes → Settled x x' unknown'
-  settled_told x x' applied applied' unknown unknown' zero_is (inl (idle, same, apply, are, is)) =
-      subst (λ y. Settled x y unknown') (sym same) (record {
+  settled_told : (form : Form) (x x' : At) (applied applied' : Bool) (unknown unknown' : ℕ) → unknown ≡ 0
+      → SettlesLive opens closes remaining contents leaves is_clean saves fails form x x' applied applied' unknown unknown'
+      goes → Settled form x x' unknown'
+  settled_told form x x' applied applied' unknown unknown' zero_is (inl (idle, same, apply, are, is)) =
+      subst (λ y. Settled form x y unknown') (sym same) (record {
         text = [];
         is_text = inl refl;
         appended = appends_nothing x.held;
         taken = refl;
         none = are ∙ zero_is;
       })
-  settled_told x x' applied applied' unknown unknown' zero_is (inr (some, (ended, one, tells, apply, are))) =
+  settled_told form x x' applied applied' unknown unknown' zero_is (inr (some, (ended, one, tells, apply, are))) =
       by ended (ap (λ (p : Progress). p.taken) one.progress) tells are
     where
-      marks : List Bool
-      marks = marks_in x.runs.sender.server
-
       by : (ended : Ended) → x'.progress.taken ≡ x.progress.taken
-          → HeldTold (x'.progress.taken + 1 - length (marks_in x.runs.sender.server)) (marks_in x.runs.sender.server)
-          x'.runs.sender.server.counts ended x.held x'.held goes
-          → unknown' ≡ unknown_of (length (marks_in x.runs.sender.server)) ended → Settled x x' unknown'
-      by (Ok settled) taken tells are = record {
-        text = held_lines (x'.progress.taken + 1 - length (marks_in x.runs.sender.server))
-            (marks_in x.runs.sender.server) settled.codes.items;
+          → AnswersTold (AreHeld form (x'.progress.taken + 1 - length (marks_in x.runs.sender.server))
+          (marks_in x.runs.sender.server) (counters_waiting x.runs.sender.server)) x'.runs.sender.server.counts ended x.held x'.held goes
+          → unknown' ≡ unknown_of (length (marks_in x.runs.sender.server)) ended → Settled form x x' unknown'
+      by (Ok settled) taken (told, is_told, tells) are = record {
+        text = told;
         is_text = inr (
-          settled.codes.items,
-          ap (λ n. held_lines (n + 1 - length (marks_in x.runs.sender.server)) (marks_in x.runs.sender.server)
-              settled.codes.items) taken,
+          settled,
+          subst (λ n. AreHeld form (n + 1 - length (marks_in x.runs.sender.server)) (marks_in x.runs.sender.server)
+              (counters_waiting x.runs.sender.server) settled told) taken is_told,
         );
-        appended = told_all _ x.held x'.held goes tells refl;
+        appended = told_all told x.held x'.held goes tells refl;
         taken = taken;
         none = are;
       }
@@ -171,17 +171,17 @@ module _ {C I O K : Type 0} (opens : C → Option (I × O) → C → Type 0) (cl
     pub all : unknown' ≡ length (marks_in x.runs.sender.server)
     pub some : x.runs.sender.server.held ≢ []
 
-  unsettled : (x x' : At) (applied applied' : Bool) (unknown unknown' : ℕ) (stop : KeptStop) → 1 ≤ unknown'
-      → SettlesLive opens closes remaining contents leaves is_clean saves fails x x' applied applied' unknown unknown'
+  unsettled : (form : Form) (x x' : At) (applied applied' : Bool) (unknown unknown' : ℕ) (stop : KeptStop) → 1 ≤ unknown'
+      → SettlesLive opens closes remaining contents leaves is_clean saves fails form x x' applied applied' unknown unknown'
       (stopped stop) → Unsettled x x' unknown'
-  unsettled x x' applied applied' unknown unknown' stop many (inl (idle, same, apply, are, is)) =
+  unsettled form x x' applied applied' unknown unknown' stop many (inl (idle, same, apply, are, is)) =
       absurd (goes_not_stopped stop (sym is))
-  unsettled x x' applied applied' unknown unknown' stop many (inr (some, (ended, one, tells, apply, are))) =
+  unsettled form x x' applied applied' unknown unknown' stop many (inr (some, (ended, one, tells, apply, are))) =
       by ended (ap (λ (p : Progress). p.taken) one.progress) tells are
     where
       by : (ended : Ended) → x'.progress.taken ≡ x.progress.taken
-          → HeldTold (x'.progress.taken + 1 - length (marks_in x.runs.sender.server)) (marks_in x.runs.sender.server)
-          x'.runs.sender.server.counts ended x.held x'.held (stopped stop)
+          → AnswersTold (AreHeld form (x'.progress.taken + 1 - length (marks_in x.runs.sender.server))
+          (marks_in x.runs.sender.server) (counters_waiting x.runs.sender.server)) x'.runs.sender.server.counts ended x.held x'.held (stopped stop)
           → unknown' ≡ unknown_of (length (marks_in x.runs.sender.server)) ended → Unsettled x x' unknown'
       by (Ok settled) taken tells are = absurd (omega (arith, are, many))
       by (Err (kept.Outstanding TriesSpent)) taken (same, is) are = record {
@@ -193,28 +193,28 @@ module _ {C I O K : Type 0} (opens : C → Option (I × O) → C → Type 0) (cl
       by (Err (kept.Outstanding ConnectionFailed)) taken tells are = absurd (omega (arith, are, many))
       by (Err kept.StateFailed) taken tells are = absurd (omega (arith, are, many))
 
-  none_settled : (x x' : At) (applied applied' : Bool) (unknown unknown' : ℕ) (went : Went)
+  none_settled : (form : Form) (x x' : At) (applied applied' : Bool) (unknown unknown' : ℕ) (went : Went)
       → x.runs.sender.server.held ≡ []
-      → SettlesLive opens closes remaining contents leaves is_clean saves fails x x' applied applied' unknown unknown'
+      → SettlesLive opens closes remaining contents leaves is_clean saves fails form x x' applied applied' unknown unknown'
       went → (x' ≡ x) × (unknown' ≡ unknown) × (went ≡ goes)
-  none_settled x x' applied applied' unknown unknown' went idle (inl (none, same, apply, are, is)) = (same, are, is)
-  none_settled x x' applied applied' unknown unknown' went idle (inr (some, settles)) = absurd (some idle)
+  none_settled form x x' applied applied' unknown unknown' went idle (inl (none, same, apply, are, is)) = (same, are, is)
+  none_settled form x x' applied applied' unknown unknown' went idle (inr (some, settles)) = absurd (some idle)
 
   -- ---- Whether all was applied.
 
-  made_applied : (size : ℕ) (station : List (List ℕ)) (due : Bool) (x x' : At) (applied applied' : Bool) (went : Went)
-      → MakesIf opens closes remaining contents leaves is_clean saves fails size station due x x' applied applied' went
+  made_applied : (form : Form) (size : ℕ) (station : List (List ℕ)) (due : Bool) (x x' : At) (applied applied' : Bool) (went : Went)
+      → MakesIf opens closes remaining contents leaves is_clean saves fails form size station due x x' applied applied' went
       → applied' ≡ true → applied ≡ true
-  made_applied size station false x x' applied applied' went (same, apply, is) all_so = sym apply ∙ all_so
-  made_applied size station true x x' applied applied' went (told, joined, one, tells, apply) all_so =
+  made_applied form size station false x x' applied applied' went (same, apply, is) all_so = sym apply ∙ all_so
+  made_applied form size station true x x' applied applied' went (told, joined, one, tells, apply) all_so =
       (both applied (list_all is_applied told) (sym apply ∙ all_so)).0
 
-  settled_applied : (x x' : At) (applied applied' : Bool) (unknown unknown' : ℕ) (went : Went)
-      → SettlesLive opens closes remaining contents leaves is_clean saves fails x x' applied applied' unknown unknown'
+  settled_applied : (form : Form) (x x' : At) (applied applied' : Bool) (unknown unknown' : ℕ) (went : Went)
+      → SettlesLive opens closes remaining contents leaves is_clean saves fails form x x' applied applied' unknown unknown'
       went → applied' ≡ true → applied ≡ true
-  settled_applied x x' applied applied' unknown unknown' went (inl (idle, same, apply, are, is)) all_so =
+  settled_applied form x x' applied applied' unknown unknown' went (inl (idle, same, apply, are, is)) all_so =
       sym apply ∙ all_so
-  settled_applied x x' applied applied' unknown unknown' went (inr (some, (ended, one, tells, apply, are))) all_so =
+  settled_applied form x x' applied applied' unknown unknown' went (inr (some, (ended, one, tells, apply, are))) all_so =
       (both applied (are_applied ended) (sym apply ∙ all_so)).0
 
   -- ---- One sender.
@@ -227,8 +227,8 @@ module _ {C I O K : Type 0} (opens : C → Option (I × O) → C → Type 0) (cl
     IsIdle x = x.runs.sender.server.held ≡ []
 
     abbrev pub IsFront : (by : Bool) → At → (text : List ℕ) → Type 0
-    IsFront false x text = IsHeldText x text
-    IsFront true x text = (told : List Code) × (text ≡ station_lines options.station.now told)
+    IsFront false x text = IsHeldText options.form x text
+    IsFront true x text = (told : List Code) × (text ≡ station_in options.form options.station.now told)
 
     -- what was told before the turns
     record Front (by : Bool) (x z : LiveAt) : Type 0 where
@@ -242,8 +242,8 @@ module _ {C I O K : Type 0} (opens : C → Option (I × O) → C → Type 0) (cl
         → MakesOnce opens closes remaining contents leaves is_clean saves fails options by x y goes
         → SettlesOnce opens closes remaining contents leaves is_clean saves fails y z goes → Front by x z
     front false x y z idle none ((same, apply, is), takes, unknown) (settles, takes_on) =
-        let s = settled_told x.sends z.sends y.applied z.applied y.unknown z.unknown (unknown ∙ none)
-        (subst (λ (v : At). SettlesLive opens closes remaining contents leaves is_clean saves fails v z.sends y.applied
+        let s = settled_told options.form x.sends z.sends y.applied z.applied y.unknown z.unknown (unknown ∙ none)
+        (subst (λ (v : At). SettlesLive opens closes remaining contents leaves is_clean saves fails options.form v z.sends y.applied
         z.applied y.unknown z.unknown goes) same settles) in record {
           text = s.text;
           is_text = s.is_text;
@@ -252,18 +252,18 @@ module _ {C I O K : Type 0} (opens : C → Option (I × O) → C → Type 0) (cl
           none = s.none;
         }
     front true x y z idle none (made, takes, unknown) (settles, takes_on) =
-        let (told, appended) = made_told options.reading.size options.station.now x.sends y.sends x.applied y.applied
+        let (told, appended) = made_told options.form options.reading.size options.station.now x.sends y.sends x.applied y.applied
         made in
-        let still = made_idle options.reading.size options.station.now x.sends y.sends x.applied y.applied made
+        let still = made_idle options.form options.reading.size options.station.now x.sends y.sends x.applied y.applied made
         (idle refl) in
-        let (same, are, is) = none_settled y.sends z.sends y.applied z.applied y.unknown z.unknown goes still settles in
+        let (same, are, is) = none_settled options.form y.sends z.sends y.applied z.applied y.unknown z.unknown goes still settles in
         record {
-          text = station_lines options.station.now told;
+          text = station_in options.form options.station.now told;
           is_text = (told, refl);
-          appended = subst (λ (v : At). Appends x.sends.held v.held (station_lines options.station.now told)) (sym same)
+          appended = subst (λ (v : At). Appends x.sends.held v.held (station_in options.form options.station.now told)) (sym same)
               appended;
           taken = ap (λ (v : At). v.progress.taken) same
-              ∙ made_taken options.reading.size options.station.now x.sends y.sends x.applied y.applied made;
+              ∙ made_taken options.form options.reading.size options.station.now x.sends y.sends x.applied y.applied made;
           none = are ∙ unknown ∙ none;
         }
 
@@ -271,8 +271,10 @@ module _ {C I O K : Type 0} (opens : C → Option (I × O) → C → Type 0) (cl
     pub record Spoke (by : Bool) (x x' : At) (was is : Bool) (unknown' : ℕ) : Type 0 where
       pub front : List ℕ
       pub codes : List Code
+      pub lines : List ℕ
       pub is_front : IsFront by x front
-      pub appended : Appends x.held x'.held (front ++ reply_lines (x.progress.taken + 1) codes)
+      pub answers : AreAnswers options.form (x.progress.taken + 1) (replied codes) lines
+      pub appended : Appends x.held x'.held (front ++ lines)
       pub counted : (x'.progress.taken ≡ x.progress.taken + (length codes + unknown'))
           ⊎ ((by ≡ false) × (codes ≡ []) × (x'.progress.taken ≡ x.progress.taken)
           × (unknown' ≡ length (marks_in x.runs.sender.server)))
@@ -283,24 +285,26 @@ module _ {C I O K : Type 0} (opens : C → Option (I × O) → C → Type 0) (cl
         → SettlesOnce opens closes remaining contents leaves is_clean saves fails y x' (stopped stop)
         → Spoke by x.sends x'.sends x.applied x'.applied x'.unknown
     stopped_settling false x y x' stop idle many ((same, apply, is), takes, unknown) (settles, takes_on) =
-        let u = unsettled x.sends x'.sends y.applied x'.applied y.unknown x'.unknown stop many
-        (subst (λ (v : At). SettlesLive opens closes remaining contents leaves is_clean saves fails v x'.sends y.applied
+        let u = unsettled options.form x.sends x'.sends y.applied x'.applied y.unknown x'.unknown stop many
+        (subst (λ (v : At). SettlesLive opens closes remaining contents leaves is_clean saves fails options.form v x'.sends y.applied
         x'.applied y.unknown x'.unknown (stopped stop)) same settles) in record {
           front = [];
           codes = [];
+          lines = [];
           is_front = inl refl;
+          answers = refl;
           appended = u.appended;
           counted = inr (refl, refl, u.taken, u.all);
           applied = λ all_so. (
-            sym apply ∙ settled_applied y.sends x'.sends y.applied x'.applied y.unknown x'.unknown (stopped stop)
+            sym apply ∙ settled_applied options.form y.sends x'.sends y.applied x'.applied y.unknown x'.unknown (stopped stop)
                 settles all_so,
             refl,
           );
         }
     stopped_settling true x y x' stop idle many (made, takes, unknown) (settles, takes_on) =
-        let still = made_idle options.reading.size options.station.now x.sends y.sends x.applied y.applied made
+        let still = made_idle options.form options.reading.size options.station.now x.sends y.sends x.applied y.applied made
         (idle refl) in
-        let (same, are, is) = none_settled y.sends x'.sends y.applied x'.applied y.unknown x'.unknown (stopped stop)
+        let (same, are, is) = none_settled options.form y.sends x'.sends y.applied x'.applied y.unknown x'.unknown (stopped stop)
         still settles in absurd (goes_not_stopped stop (sym is))
 
     pub spoke : (by : Bool) (x x' : LiveAt) (went : Went) → (by ≡ true → IsIdle x.sends) → x.unknown ≡ 0
@@ -308,21 +312,21 @@ module _ {C I O K : Type 0} (opens : C → Option (I × O) → C → Type 0) (cl
         → Onward went x'.unknown → Spoke by x.sends x'.sends x.applied x'.applied x'.unknown
     spoke by x x' went idle none (inl (y, made, inl (z, settles, turns))) onward =
         let f = front by x y z idle none made settles in
-        let still = settles_idle opens closes remaining contents leaves is_clean saves fails y.sends z.sends y.applied
+        let still = settles_idle opens closes remaining contents leaves is_clean saves fails options.form y.sends z.sends y.applied
         z.applied y.unknown z.unknown goes settles.0 refl in
-        let t = told_turns opens closes remaining contents leaves is_clean saves fails options.reading.region
+        let t = told_turns opens closes remaining contents leaves is_clean saves fails options.form options.reading.region
         options.reading.size options.reading.strict z x' went still f.none turns onward in
         let taken = f.taken in record {
           front = f.text;
           codes = t.codes;
+          lines = t.lines;
           is_front = f.is_text;
-          appended = appends_then x.sends.held z.sends.held x'.sends.held f.text
-              (reply_lines (x.sends.progress.taken + 1) t.codes) f.appended
-              (subst (λ n. Appends z.sends.held x'.sends.held (reply_lines (n + 1) t.codes)) taken t.appended);
+          answers = subst (λ n. AreAnswers options.form (n + 1) (replied t.codes) t.lines) taken t.answers;
+          appended = appends_then x.sends.held z.sends.held x'.sends.held f.text t.lines f.appended t.appended;
           counted = inl (let a = t.counted in omega (arith, a, taken));
           applied = λ all_so. (
-            made_applied options.reading.size options.station.now by x.sends y.sends x.applied y.applied goes
-                made.0 (settled_applied y.sends z.sends y.applied z.applied y.unknown z.unknown goes settles.0
+            made_applied options.form options.reading.size options.station.now by x.sends y.sends x.applied y.applied goes
+                made.0 (settled_applied options.form y.sends z.sends y.applied z.applied y.unknown z.unknown goes settles.0
                 (t.applied all_so).0),
             (t.applied all_so).1,
           );
@@ -338,9 +342,9 @@ module _ {C I O K : Type 0} (opens : C → Option (I × O) → C → Type 0) (cl
         → x'.unknown ≡ 0
     spoke_unknown by x x' went idle none (inl (y, made, inl (z, settles, turns))) on =
         let f = front by x y z idle none made settles in
-        let still = settles_idle opens closes remaining contents leaves is_clean saves fails y.sends z.sends y.applied
+        let still = settles_idle opens closes remaining contents leaves is_clean saves fails options.form y.sends z.sends y.applied
         z.applied y.unknown z.unknown goes settles.0 refl in
-        turns_unknown opens closes remaining contents leaves is_clean saves fails options.reading.region
+        turns_unknown opens closes remaining contents leaves is_clean saves fails options.form options.reading.region
         options.reading.size options.reading.strict z x' went still f.none turns on
     spoke_unknown by x x' went idle none (inl (y, made, inr (stop, settles, is))) on =
         absurd (goes_not_stopped stop (on ∙ is))

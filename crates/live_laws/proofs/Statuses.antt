@@ -9,7 +9,7 @@ use Rattle.uecp_link.specs.declared.counts.ServerCounts.{ServerCounts}
 use Rattle.uecp_net.specs.declared.sending.Outstanding.{Outstanding}
 use Rattle.uecp_net.specs.declared.sending.Outstanding.TheVariants.{TriesSpent, ConnectionFailed}
 use Rattle.uecp_jobs.specs.Batches.{fault_of}
-use Rattle.uecp_jobs.specs.JoiningFirst.{not_joined_line}
+use Rattle.uecp_net.specs.declared.sending.Settled.{Settled}
 use Rattle.kept_sending.specs.declared.sending.KeptOutstanding.TheVariants as kept
 use Rattle.kept_sending.specs.Sending.{Ended}
 use Rattle.kept_sending.specs.Joining.{Joined}
@@ -19,7 +19,9 @@ use Rattle.kept_jobs.specs.Stops.{TellsKept, stop_status, stop_for, heard_nothin
 use Rattle.kept_jobs.proofs.Outliving.{goes, stopped, goes_not_stopped, same_status, told_status}
 use Rattle.line_batches.specs.Intake.{Intake, FailsToTake}
 use Rattle.line_batches.specs.Batches.{LosesMessage}
-use Rattle.live_sending.specs.Run.{RepliesTold, HeldTold, tally_status}
+use Rattle.output_forms.specs.declared.form.Form.{Form}
+use Rattle.live_sending.specs.Forms.{not_joined_in}
+use Rattle.live_sending.specs.Run.{AnswersTold, tally_status}
 use Rattle.live_sending.specs.Station.{JoinedTold}
 
 -- a run that goes on did not stop
@@ -43,29 +45,23 @@ fault_status : (reason : Outstanding) → stop_status (Run (fault_of reason)) �
 fault_status TriesSpent = refl
 fault_status ConnectionFailed = refl
 
-pub replies_status : (last : ℕ) (counts : ServerCounts) (ended : Ended) (held held' : Option (List ℕ))
-    (stop : KeptStop) → RepliesTold last counts ended held held' (stopped stop) → stop_status stop ≡ 3
-replies_status last counts (Ok settled) held held' stop tells = telling_status _ held held' stop tells
-replies_status last counts (Err (kept.Outstanding reason)) held held' stop (same, is) =
-    same_status stop (stop_for counts reason) (stop_for_status counts reason) is
-replies_status last counts (Err kept.StateFailed) held held' stop (same, is) = same_status stop StateFailed refl is
-
-pub held_status : (first : ℕ) (marks : List Bool) (counts : ServerCounts) (ended : Ended)
-    (held held' : Option (List ℕ)) (stop : KeptStop) → HeldTold first marks counts ended held held' (stopped stop)
+pub answers_status : (are_told : Settled → List ℕ → Type 0) (counts : ServerCounts) (ended : Ended)
+    (held held' : Option (List ℕ)) (stop : KeptStop) → AnswersTold are_told counts ended held held' (stopped stop)
     → stop_status stop ≡ 3
-held_status first marks counts (Ok settled) held held' stop tells = telling_status _ held held' stop tells
-held_status first marks counts (Err (kept.Outstanding reason)) held held' stop (same, is) =
+answers_status are_told counts (Ok settled) held held' stop (told, are, tells) =
+    telling_status told held held' stop tells
+answers_status are_told counts (Err (kept.Outstanding reason)) held held' stop (same, is) =
     same_status stop (stop_for counts reason) (stop_for_status counts reason) is
-held_status first marks counts (Err kept.StateFailed) held held' stop (same, is) =
+answers_status are_told counts (Err kept.StateFailed) held held' stop (same, is) =
     same_status stop StateFailed refl is
 
-pub joined_status : (lines : List ℕ) (joined : Joined) (held held' : Option (List ℕ)) (stop : KeptStop)
-    → JoinedTold lines joined held held' (stopped stop) → stop_status stop ≡ 3
-joined_status lines (Ok done) held held' stop tells = telling_status lines held held' stop tells
-joined_status lines (Err (kept.Outstanding reason)) held held' stop tells =
-    told_status not_joined_line (stopped (Run (fault_of reason))) held held' stop
+pub joined_status : (form : Form) (lines : List ℕ) (joined : Joined) (held held' : Option (List ℕ)) (stop : KeptStop)
+    → JoinedTold form lines joined held held' (stopped stop) → stop_status stop ≡ 3
+joined_status form lines (Ok done) held held' stop tells = telling_status lines held held' stop tells
+joined_status form lines (Err (kept.Outstanding reason)) held held' stop tells =
+    told_status (not_joined_in form) (stopped (Run (fault_of reason))) held held' stop
     (same_status stop (Run (fault_of reason)) (fault_status reason)) tells
-joined_status lines (Err kept.StateFailed) held held' stop (same, is) = same_status stop StateFailed refl is
+joined_status form lines (Err kept.StateFailed) held held' stop (same, is) = same_status stop StateFailed refl is
 
 -- a read that fails, and want of memory, have status 3
 pub taking_status : (region : Region) (x x' : Intake) (fault : RunFault)

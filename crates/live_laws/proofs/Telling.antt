@@ -1,15 +1,16 @@
 -- What turns and senders tell.
 use Rattle.std.proofs.Common.{arith, ◌≡◌, ◌⊎◌, ℕ, zero, suc, ◌+◌, ◌-◌, ◌≤◌, Bool, true, false, ◌&&◌, List, [], ◌++◌}
-use Rattle.std.proofs.Common.{length}
+use Rattle.std.proofs.Common.{length, map}
 use Rattle.std.proofs.Common.{Option, Ok, Err, refl, sym, ap, subst, ◌∙◌, inl, inr, length-append}
 use Rattle.std.specs.Io.KnownBytes.{Appends}
 use Rattle.std.specs.List.{list_all}
+use Rattle.std.proofs.lemmas.List.{length-map}
 use Rattle.std.proofs.lemmas.List.Folds.{list_all-append}
 use Rattle.rds_text.specs.declared.programme_type.Region.{Region}
 use Rattle.uecp_elements.specs.declared.code.Code.{Code}
 use Rattle.uecp_text.specs.declared.run_fault.RunFault.TheVariants as run
 use Rattle.uecp_text.proofs.Begun.{appends_nothing, appends_then}
-use Rattle.uecp_link.specs.Server.{waiting}
+use Rattle.uecp_link.specs.Server.{waiting, waiting_among, counters_waiting, Held}
 use Rattle.uecp_net.specs.declared.sending.Outstanding.TheVariants.{TriesSpent, ConnectionFailed}
 use Rattle.uecp_net.specs.declared.sending.Settled.{Settled}
 use Rattle.uecp_net.specs.Sending.{SenderOver, submitted_all}
@@ -25,9 +26,12 @@ use Rattle.kept_jobs.specs.ServerRun.{Standing, SendsOne}
 use Rattle.kept_jobs.proofs.Outliving.{goes, stopped, goes_not_stopped}
 use Rattle.line_batches.specs.declared.taking.After.{After}
 use Rattle.line_batches.specs.declared.taking.After.TheVariants.{GoesOn, Ends}
-use Rattle.live_sending.specs.Lines.{reply_lines, is_applied}
-use Rattle.live_sending.specs.Run.{Live, RepliesTold, SendsSome, Turn, GoesOnFor, RunsTurns, unknown_of, are_applied}
-use Rattle.live_laws.proofs.Answering.{replies_append}
+use Rattle.output_forms.specs.declared.form.Form.{Form}
+use Rattle.live_sending.specs.Lines.{is_applied}
+use Rattle.live_sending.specs.Run.{Live, AnswersTold, RepliesOf, SendsSome, Turn, GoesOnFor, RunsTurns, unknown_of}
+use Rattle.live_sending.specs.Run.{are_applied}
+use Rattle.live_laws.specs.Told.{AreAnswers}
+use Rattle.live_laws.proofs.Answering.{replied, replied_count, replied_append, replies_told, answers_append}
 use Rattle.live_laws.proofs.Turns.{turn_part}
 
 -- the run goes on, or it stopped with messages outstanding and each try spent
@@ -59,20 +63,24 @@ both false b is = absurd (let not_so : false ≡ true = is in cc)
 
 module _ {C I O K : Type 0} (opens : C → Option (I × O) → C → Type 0) (closes : C → I → O → C → Type 0)
     (remaining : I → Option (List ℕ)) (contents : O → Option (List ℕ)) (leaves : K → KeptServer → Type 0)
-    (is_clean : K → Type 0) (saves fails : K → KeptServer → K → Type 0) where
+    (is_clean : K → Type 0) (saves fails : K → KeptServer → K → Type 0) (form : Form) where
   abbrev At : Type 0
   At = Standing (SenderOver C I O) K
 
   -- the codes of messages were told, each under its number, and so many more were taken
   pub record Told (x x' : At) (was is : Bool) (unknown' : ℕ) : Type 0 where
     pub codes : List Code
-    pub appended : Appends x.held x'.held (reply_lines (x.progress.taken + 1) codes)
+    pub lines : List ℕ
+    pub answers : AreAnswers form (x.progress.taken + 1) (replied codes) lines
+    pub appended : Appends x.held x'.held lines
     pub counted : x'.progress.taken ≡ x.progress.taken + (length codes + unknown')
     pub applied : is ≡ true → (was ≡ true) × (list_all is_applied codes ≡ true)
 
   told_none : (x : At) (is : Bool) (unknown' : ℕ) → unknown' ≡ 0 → Told x x is is unknown'
   told_none x is unknown' none = record {
     codes = [];
+    lines = [];
+    answers = refl;
     appended = appends_nothing x.held;
     counted = omega (arith, none);
     applied = λ all_so. (all_so, refl);
@@ -82,14 +90,17 @@ module _ {C I O K : Type 0} (opens : C → Option (I × O) → C → Type 0) (cl
       → Told x z a c unknown'
   told_on x y z a b c unknown' one rest =
       let counted = one.counted in
-      let place : y.progress.taken + 1 ≡ x.progress.taken + 1 + length one.codes = omega (arith, counted) in
+      let number = replied_count one.codes in
+      let place : y.progress.taken + 1 ≡ x.progress.taken + 1 + length (replied one.codes) =
+      omega (arith, counted, number) in
       record {
         codes = one.codes ++ rest.codes;
-        appended = subst (λ l. Appends x.held z.held l)
-            (sym (replies_append (x.progress.taken + 1) one.codes rest.codes))
-            (appends_then x.held y.held z.held (reply_lines (x.progress.taken + 1) one.codes)
-            (reply_lines (x.progress.taken + 1 + length one.codes) rest.codes) one.appended
-            (subst (λ n. Appends y.held z.held (reply_lines n rest.codes)) place rest.appended));
+        lines = one.lines ++ rest.lines;
+        answers = subst (λ l. AreAnswers form (x.progress.taken + 1) l (one.lines ++ rest.lines))
+            (sym (replied_append one.codes rest.codes))
+            (answers_append form (x.progress.taken + 1) (replied one.codes) (replied rest.codes) one.lines rest.lines
+            one.answers (subst (λ n. AreAnswers form n (replied rest.codes) rest.lines) place rest.answers));
+        appended = appends_then x.held y.held z.held one.lines rest.lines one.appended rest.appended;
         counted = (let a = rest.counted in let b = length-append one.codes rest.codes in
             omega (arith, a, b, counted));
         applied = λ all_so.
@@ -113,12 +124,27 @@ module _ {C I O K : Type 0} (opens : C → Option (I × O) → C → Type 0) (cl
   all_told batch settled x x' idle (inr (is, same, failed)) =
       absurd (let no : Ok settled ≡ Err kept.StateFailed = is in cc)
 
+  count_waiting : (hs : List Held) → length (map (λ w. w.0) (waiting_among hs)) ≡ length (waiting_among hs)
+  count_waiting hs = length-map (waiting_among hs) (λ (w : ℕ × List ℕ). w.0)
+
+  -- as many counters wait as messages of a batch that an idle server takes
+  all_counters : (batch : List (List ℕ)) (x : At) → x.runs.sender.server.held ≡ []
+      → length (counters_waiting (submitted_all x.runs batch).sender.server) ≡ length batch
+  all_counters batch x idle =
+      let wait = all_wait x.runs batch in
+      let none : length (waiting x.runs.sender.server) ≡ 0 =
+      ap (λ hs. length (waiting (record x.runs.sender.server { held = hs }))) idle in
+      let same = count_waiting (submitted_all x.runs batch).sender.server.held in
+      omega (arith, wait, none, same)
+
   told_batch : (batch : List (List ℕ)) (ended : Ended) (x x' : At) (was is : Bool) (unknown' : ℕ) (went : Went)
       → is ≡ was && are_applied ended → x.runs.sender.server.held ≡ []
       → SendsOne opens closes remaining contents leaves is_clean saves fails batch ended x x'
-      → RepliesTold x'.progress.taken x'.runs.sender.server.counts ended x.held x'.held went
+      → AnswersTold (RepliesOf form x'.progress.taken
+      (counters_waiting (submitted_all x.runs batch).sender.server)) x'.runs.sender.server.counts ended x.held x'.held
+      went
       → unknown' ≡ unknown_of (length batch) ended → Onward went unknown' → Told x x' was is unknown'
-  told_batch batch (Ok settled) x x' was is unknown' went apply idle one tells are onward =
+  told_batch batch (Ok settled) x x' was is unknown' went apply idle one (told, is_told, tells) are onward =
       let number : length settled.codes.items ≡ length batch = all_told batch settled x x' idle one.sends in
       let taken : x'.progress.taken ≡ x.progress.taken + length batch =
       ap (λ (p : Progress). p.taken) one.progress in
@@ -126,8 +152,12 @@ module _ {C I O K : Type 0} (opens : C → Option (I × O) → C → Type 0) (cl
       omega (arith, number, taken) in
       record {
         codes = settled.codes.items;
-        appended = subst (λ n. Appends x.held x'.held (reply_lines n settled.codes.items)) first
-            (told_all _ x.held x'.held went tells (goes_with_none went unknown' are onward));
+        lines = told;
+        answers = subst (λ n. AreAnswers form n (replied settled.codes.items) told) first
+            (replies_told form (x'.progress.taken + 1 - length settled.codes.items)
+            (counters_waiting (submitted_all x.runs batch).sender.server) settled told
+            (all_counters batch x idle ∙ sym number) is_told);
+        appended = told_all told x.held x'.held went tells (goes_with_none went unknown' are onward);
         counted = omega (arith, number, taken, are);
         applied = λ all_so. both was (list_all is_applied settled.codes.items) (sym apply ∙ all_so);
       }
@@ -137,6 +167,8 @@ module _ {C I O K : Type 0} (opens : C → Option (I × O) → C → Type 0) (cl
       ap (λ (p : Progress). p.taken) one.progress in
       record {
         codes = [];
+        lines = [];
+        answers = refl;
         appended = subst (λ h. Appends x.held h []) (sym same) (appends_nothing x.held);
         counted = omega (arith, taken, are);
         applied = λ all_so. ((both was true (sym apply ∙ all_so)).0, refl);
@@ -150,7 +182,7 @@ module _ {C I O K : Type 0} (opens : C → Option (I × O) → C → Type 0) (cl
 
   told_some : (batch : List (List ℕ)) (x x' : At) (applied applied' : Bool) (unknown unknown' : ℕ) (went : Went)
       → x.runs.sender.server.held ≡ [] → unknown ≡ 0
-      → SendsSome opens closes remaining contents leaves is_clean saves fails batch x x' applied applied' unknown
+      → SendsSome opens closes remaining contents leaves is_clean saves fails form batch x x' applied applied' unknown
       unknown' went → Onward went unknown' → Told x x' applied applied' unknown'
   told_some batch x x' applied applied' unknown unknown' went idle zero_is (inl (none, same, apply, are, is)) onward =
       subst (λ y. Told x y applied applied' unknown') (sym same)
@@ -161,14 +193,17 @@ module _ {C I O K : Type 0} (opens : C → Option (I × O) → C → Type 0) (cl
 
   none_unknown : (batch : List (List ℕ)) (x x' : At) (applied applied' : Bool) (unknown unknown' : ℕ) (went : Went)
       → unknown ≡ 0
-      → SendsSome opens closes remaining contents leaves is_clean saves fails batch x x' applied applied' unknown
+      → SendsSome opens closes remaining contents leaves is_clean saves fails form batch x x' applied applied' unknown
       unknown' went → goes ≡ went → unknown' ≡ 0
   none_unknown batch x x' applied applied' unknown unknown' went zero_is (inl (none, same, apply, are, is)) on =
       are ∙ zero_is
   none_unknown batch x x' applied applied' unknown unknown' went zero_is
       (inr (some, (ended, one, tells, apply, are))) on = by ended tells are
     where
-      by : (ended : Ended) → RepliesTold x'.progress.taken x'.runs.sender.server.counts ended x.held x'.held went
+      by : (ended : Ended)
+          → AnswersTold (RepliesOf form x'.progress.taken
+          (counters_waiting (submitted_all x.runs batch).sender.server)) x'.runs.sender.server.counts ended x.held
+          x'.held went
           → unknown' ≡ unknown_of (length batch) ended → unknown' ≡ 0
       by (Ok settled) tells are = are
       by (Err (kept.Outstanding reason)) (same, is) are =
@@ -182,7 +217,7 @@ module _ {C I O K : Type 0} (opens : C → Option (I × O) → C → Type 0) (cl
     LiveAt = Live (SenderOver C I O) K
 
     abbrev OneTurn : (x x' : LiveAt) → After → Went → Type 0
-    OneTurn = Turn opens closes remaining contents leaves is_clean saves fails region size strict
+    OneTurn = Turn opens closes remaining contents leaves is_clean saves fails form region size strict
 
     told_turn : (x x' : LiveAt) (after : After) (went : Went) → x.sends.runs.sender.server.held ≡ [] → x.unknown ≡ 0
         → OneTurn x x' after went → Onward went x'.unknown
@@ -198,7 +233,7 @@ module _ {C I O K : Type 0} (opens : C → Option (I × O) → C → Type 0) (cl
     turn_idle : (x x' : LiveAt) (after : After) → x.sends.runs.sender.server.held ≡ [] → OneTurn x x' after goes
         → x'.sends.runs.sender.server.held ≡ []
     turn_idle x x' after idle turn =
-        let (taken, mid, part, next) = turn_part opens closes remaining contents leaves is_clean saves fails region size
+        let (taken, mid, part, next) = turn_part opens closes remaining contents leaves is_clean saves fails form region size
         strict x x' after goes turn in part.called.idle refl idle
 
     -- where a run stands after some turns
@@ -208,7 +243,7 @@ module _ {C I O K : Type 0} (opens : C → Option (I × O) → C → Type 0) (cl
       pub none : y.unknown ≡ 0
 
     told_going : (n : ℕ) (x y : LiveAt) → x.sends.runs.sender.server.held ≡ [] → x.unknown ≡ 0
-        → GoesOnFor opens closes remaining contents leaves is_clean saves fails region size strict n x y → Going x y
+        → GoesOnFor opens closes remaining contents leaves is_clean saves fails form region size strict n x y → Going x y
     told_going zero x y idle none same = subst (λ (z : LiveAt). Going x z) (sym same) (record {
       told = told_none x.sends x.applied 0 refl;
       idle = idle;
@@ -225,7 +260,7 @@ module _ {C I O K : Type 0} (opens : C → Option (I × O) → C → Type 0) (cl
         }
 
     pub told_turns : (x x' : LiveAt) (went : Went) → x.sends.runs.sender.server.held ≡ [] → x.unknown ≡ 0
-        → RunsTurns opens closes remaining contents leaves is_clean saves fails region size strict x x' went
+        → RunsTurns opens closes remaining contents leaves is_clean saves fails form region size strict x x' went
         → Onward went x'.unknown → Told x.sends x'.sends x.applied x'.applied x'.unknown
     told_turns x x' went idle none (n, y, before, inl (inl (end, turn, is))) onward =
         let so = told_going n x y idle none before in
@@ -243,7 +278,7 @@ module _ {C I O K : Type 0} (opens : C → Option (I × O) → C → Type 0) (cl
 
     -- a run that goes on leaves none outstanding
     pub turns_unknown : (x x' : LiveAt) (went : Went) → x.sends.runs.sender.server.held ≡ [] → x.unknown ≡ 0
-        → RunsTurns opens closes remaining contents leaves is_clean saves fails region size strict x x' went
+        → RunsTurns opens closes remaining contents leaves is_clean saves fails form region size strict x x' went
         → goes ≡ went → x'.unknown ≡ 0
     turns_unknown x x' went idle none (n, y, before, inl (inl (end, turn, is))) on =
         let so = told_going n x y idle none before in turn_unknown y x' (Ends end) so.none turn

@@ -5,25 +5,27 @@ use Rattle.std.specs.Io.KnownBytes.{Appends}
 use Rattle.std.specs.List.{list_all}
 use Rattle.uecp_elements.specs.declared.code.Code.{Code}
 use Rattle.uecp_text.proofs.Begun.{appends_nothing, appends_then}
-use Rattle.uecp_link.specs.Server.{ServerState, waiting}
+use Rattle.uecp_link.specs.Server.{ServerState, waiting, counters_waiting}
 use Rattle.uecp_net.specs.Sending.{SenderOver}
 use Rattle.kept_sending.specs.declared.keep.Progress.{Progress}
 use Rattle.kept_sending.specs.Keeping.{KeptServer, kept_of}
 use Rattle.kept_jobs.specs.declared.stop.KeptStop.TheVariants.{StateFailed}
 use Rattle.kept_jobs.specs.Stops.{Went, Then, TellsKept}
-use Rattle.kept_jobs.specs.ServerRun.{Standing, TellsTaken, BeginsAnew, BeginsAnewIf, sending, is_due, taken_line}
-use Rattle.kept_jobs.specs.ServerRun.{given_up_line}
+use Rattle.kept_jobs.specs.ServerRun.{Standing, sending, is_due}
 use Rattle.kept_jobs.proofs.Outliving.{goes, stopped, goes_not_stopped}
-use Rattle.kept_jobs.proofs.Begun.{HasBegun, has_begun}
+use Rattle.kept_jobs.proofs.Begun.{HasBegun}
 use Rattle.line_batches.specs.declared.intake.Given.{Given}
 use Rattle.line_batches.specs.Intake.{Intake, messages_in}
 use Rattle.live_sending.specs.declared.options.LiveOptions.{LiveOptions}
-use Rattle.live_sending.specs.Lines.{reply_lines, held_lines, unknown_lines}
+use Rattle.output_forms.specs.declared.form.Form.{Form}
+use Rattle.live_sending.specs.Beginning.{TellsTaken, BeginsAnew, BeginsAnewIf}
+use Rattle.live_sending.specs.Forms.{AreHeld, taken_in, given_up_in, unknown_in}
 use Rattle.live_sending.specs.Run.{Live, Renews, RunsOne, RunsAgain, RunsFor, LivesFrom, marks_in}
 use Rattle.live_laws.specs.Taken.{TakesFor, ComesToEnd}
-use Rattle.live_laws.specs.Told.{was_applied, answer_lines, anew_lines, IsToldFirst, IsToldBetween, TellsFor, TellsAll}
-use Rattle.live_laws.proofs.Answering.{replied, replied_count, replied_lines, unknown, unknown_count, unknown_same}
-use Rattle.live_laws.proofs.Answering.{tells_more, replied_applied}
+use Rattle.live_laws.specs.Told.{was_applied, AreAnswers, anew_lines, IsToldFirst, IsToldBetween, TellsFor, TellsAll}
+use Rattle.live_laws.proofs.Begun.{has_begun}
+use Rattle.live_laws.proofs.Answering.{replied, replied_count, replied_applied, unknown, unknown_count, unknown_told}
+use Rattle.live_laws.proofs.Answering.{tells_more}
 use Rattle.live_laws.proofs.Telling.{Onward, told_all, goes_with_none}
 use Rattle.live_laws.proofs.Speaking.{IsFront, Spoke, spoke, spoke_unknown}
 use Rattle.live_laws.proofs.Runs.{senders}
@@ -78,13 +80,13 @@ module _ {C I O K : Type 0} (opens : C → Option (I × O) → C → Type 0) (cl
     front_first : (by : Bool) (x : Was) → HasBegunSo by x → (c : C) (loan : ℕ) (text : List ℕ)
         → FrontOf by c loan x text → IsToldFirst options x0.progress x0.runs by text
     front_first false x (runs, progress) c loan text (inl is) = inl is
-    front_first false x (runs, progress) c loan text (inr (told, is)) =
+    front_first false x (runs, progress) c loan text (inr (settled, is)) =
         inr (
-          told,
-          is ∙ ap (λ (p : Progress). held_lines (p.taken + 1 - length (marks_in x.runs)) (marks_in x.runs) told)
-              progress
-              ∙ ap (λ (r : ServerState). held_lines (x0.progress.taken + 1 - length (marks_in r)) (marks_in r) told)
-              runs,
+          settled,
+          subst (λ (r : ServerState). AreHeld options.form (x0.progress.taken + 1 - length (marks_in r)) (marks_in r)
+              (counters_waiting r) settled text) runs
+              (subst (λ (p : Progress). AreHeld options.form (p.taken + 1 - length (marks_in x.runs))
+              (marks_in x.runs) (counters_waiting x.runs) settled text) progress is),
         )
     front_first true x (runs, progress) c loan text told = told
 
@@ -111,13 +113,15 @@ module _ {C I O K : Type 0} (opens : C → Option (I × O) → C → Type 0) (cl
         (subst (λ (v : LiveWas). Onward went v.unknown) is onward) in
         subst (λ (v : LiveWas). ToldFor 0 x v) (sym is) (record {
           answers = replied s.codes;
-          text = s.front ++ reply_lines (x.sends.progress.taken + 1) s.codes;
+          text = s.front ++ s.lines;
           tells = (
             s.front,
+            s.lines,
             subst (λ b. IsToldFirst options x0.progress x0.runs b s.front) (sym due_is)
                 (front_first due x.sends has c loan s.front s.is_front),
-            ap (λ n. s.front ++ reply_lines (n + 1) s.codes) (same_taken due x.sends has)
-                ∙ ap (λ l. s.front ++ l) (replied_lines (x0.progress.taken + 1) s.codes),
+            subst (λ n. AreAnswers options.form (n + 1) (replied s.codes) s.lines) (same_taken due x.sends has)
+                s.answers,
+            refl,
           );
           appended = s.appended;
           counted = by s.codes (same_taken due x.sends has) s.counted;
@@ -138,46 +142,52 @@ module _ {C I O K : Type 0} (opens : C → Option (I × O) → C → Type 0) (cl
 
     -- ---- The senders after it.
 
-    renewed_told : (many : ℕ) (x y : Was) → Renews leaves is_clean saves fails many x y goes
-        → Appends x.held y.held (unknown_lines (x.progress.taken + 1 - many) many)
+    renewed_told : (many : ℕ) (x y : Was) → Renews leaves is_clean saves fails options.form many x y goes
+        → Appends x.held y.held (unknown_in options.form (x.progress.taken + 1 - many) many)
     renewed_told many x y renews = by renews.saved
       where
         by : (saves x.keeper (kept_of y.progress y.runs) y.keeper
-            × TellsKept (unknown_lines (x.progress.taken + 1 - many) many) (Ok tt) x.held y.held goes)
+            × TellsKept (unknown_in options.form (x.progress.taken + 1 - many) many) (Ok tt) x.held y.held goes)
             ⊎ (fails x.keeper (kept_of y.progress y.runs) y.keeper × (y.held ≡ x.held)
             × (goes ≡ stopped StateFailed))
-            → Appends x.held y.held (unknown_lines (x.progress.taken + 1 - many) many)
+            → Appends x.held y.held (unknown_in options.form (x.progress.taken + 1 - many) many)
         by (inl (saved, tells)) = told_all _ x.held y.held goes tells refl
         by (inr (failed, same, is)) = absurd (goes_not_stopped StateFailed is)
 
     -- one sender more, behind what was told before
     told_more : (n : ℕ) (x y x' : LiveWas) (w : Was) (earlier : List (Option Code)) (before between front : List ℕ)
-        (codes : List Code) → TellsFor options x0.progress x0.runs n earlier before
+        (codes : List Code) (lines : List ℕ) → TellsFor options x0.progress x0.runs n earlier before
         → IsToldBetween options x0.progress x0.runs between
         → w.progress.taken ≡ x0.progress.taken + length earlier
         → Appends x.sends.held w.held (before ++ front) → (rest : List ℕ) → between ≡ front ++ rest
-        → Appends w.held x'.sends.held (rest ++ reply_lines (w.progress.taken + 1) codes)
+        → AreAnswers options.form (w.progress.taken + 1) (replied codes) lines
+        → Appends w.held x'.sends.held (rest ++ lines)
         → x'.sends.progress.taken ≡ w.progress.taken + (length codes + x'.unknown) → (x'.applied ≡ true → ⊥)
         → ToldFor (suc n) x x'
-    told_more n x y x' w earlier before between front codes tells is_between taken so_far rest split then counted
-        never =
-        let lines = answer_lines (first + length earlier) (replied codes) in
+    told_more n x y x' w earlier before between front codes lines tells is_between taken so_far rest split are then
+        counted never =
         let place : w.progress.taken + 1 ≡ first + length earlier = omega (arith, taken) in
-        let replies : reply_lines (w.progress.taken + 1) codes ≡ lines =
-        ap (λ n. reply_lines n codes) place ∙ replied_lines (first + length earlier) codes in
-        let all : (before ++ front) ++ (rest ++ reply_lines (w.progress.taken + 1) codes)
-        ≡ before ++ (between ++ lines) =
-        append_assoc before front (rest ++ reply_lines (w.progress.taken + 1) codes)
-        ∙ ap (λ l. before ++ l) (sym (append_assoc front rest (reply_lines (w.progress.taken + 1) codes)))
-        ∙ ap (λ l. before ++ (l ++ reply_lines (w.progress.taken + 1) codes)) (sym split)
-        ∙ ap (λ l. before ++ (between ++ l)) replies in
+        let all : (before ++ front) ++ (rest ++ lines) ≡ before ++ (between ++ lines) =
+        append_assoc before front (rest ++ lines)
+        ∙ ap (λ l. before ++ l) (sym (append_assoc front rest lines))
+        ∙ ap (λ l. before ++ (l ++ lines)) (sym split) in
         record {
           answers = earlier ++ replied codes;
           text = before ++ (between ++ lines);
-          tells = (earlier, replied codes, before, between, tells, is_between, refl, refl);
+          tells = (
+            earlier,
+            replied codes,
+            before,
+            between,
+            lines,
+            tells,
+            is_between,
+            refl,
+            subst (λ m. AreAnswers options.form m (replied codes) lines) place are,
+            refl,
+          );
           appended = subst (λ l. Appends x.sends.held x'.sends.held l) all
-              (appends_then x.sends.held w.held x'.sends.held (before ++ front)
-              (rest ++ reply_lines (w.progress.taken + 1) codes) so_far then);
+              (appends_then x.sends.held w.held x'.sends.held (before ++ front) (rest ++ lines) so_far then);
           counted = inl (let number = replied_count codes in let sum = length-append earlier (replied codes) in
               omega (arith, counted, taken, number, sum));
           applied = λ all_so. absurd (never all_so);
@@ -221,7 +231,7 @@ module _ {C I O K : Type 0} (opens : C → Option (I × O) → C → Type 0) (cl
 
     told_again : (n : ℕ) (x y : LiveWas) (w : Was) (c : C) (loan : ℕ) (z : Live (SenderOver C I O) K)
         (so : ToldFor n x y) → w.progress.taken ≡ y.sends.progress.taken
-        → Appends y.sends.held w.held (unknown_lines (y.sends.progress.taken + 1 - y.unknown) y.unknown)
+        → Appends y.sends.held w.held (unknown_in options.form (y.sends.progress.taken + 1 - y.unknown) y.unknown)
         → (s : SpokeOf c loan w z)
         → (y.sends.progress.taken ≡ x0.progress.taken + (length so.answers + y.unknown))
         ⊎ ((so.answers ≡ []) × (y.sends.progress.taken ≡ x0.progress.taken)
@@ -231,31 +241,31 @@ module _ {C I O K : Type 0} (opens : C → Option (I × O) → C → Type 0) (cl
         let gone = unknown y.unknown in
         let number = unknown_count y.unknown in
         let place : y.sends.progress.taken + 1 - y.unknown ≡ first + length so.answers = omega (arith, a) in
-        let lines = answer_lines (first + length so.answers) gone in
+        let lines = unknown_in options.form (y.sends.progress.taken + 1 - y.unknown) y.unknown in
         let sum : length (so.answers ++ gone) ≡ length so.answers + length gone = length-append so.answers gone in
-        let told : Appends y.sends.held w.held lines =
-        subst (λ l. Appends y.sends.held w.held l)
-        (ap (λ n. unknown_lines n y.unknown) place ∙ unknown_same (first + length so.answers) y.unknown) given_up in
-        told_more n x y (ended z) w (so.answers ++ gone) (so.text ++ lines) s.front [] s.codes
-        (tells_more options x0.progress x0.runs n so.answers gone so.text so.tells)
+        let are : AreAnswers options.form (first + length so.answers) gone lines =
+        subst (λ m. AreAnswers options.form m gone lines) place
+        (unknown_told options.form (y.sends.progress.taken + 1 - y.unknown) y.unknown) in
+        told_more n x y (ended z) w (so.answers ++ gone) (so.text ++ lines) s.front [] s.codes s.lines
+        (tells_more options x0.progress x0.runs n so.answers gone so.text lines so.tells are)
         ([], s.is_front.0, inl refl, s.is_front.1)
         (omega (arith, same, a, number, sum))
         (subst (λ l. Appends x.sends.held w.held l) (sym (append-nil (so.text ++ lines)))
-        (appends_then x.sends.held y.sends.held w.held so.text lines so.appended told))
-        s.front refl s.appended (spoke_counted c loan w z s) (never_applied c loan w z s)
+        (appends_then x.sends.held y.sends.held w.held so.text lines so.appended given_up))
+        s.front refl s.answers s.appended (spoke_counted c loan w z s) (never_applied c loan w z s)
     told_again n x y w c loan z so same given_up s (inr (none_is, taken, all)) =
-        let waited = unknown_lines (y.sends.progress.taken + 1 - y.unknown) y.unknown in
+        let waited = unknown_in options.form (y.sends.progress.taken + 1 - y.unknown) y.unknown in
         let zero_is : length so.answers ≡ 0 = ap length none_is in
-        told_more n x y (ended z) w so.answers so.text (waited ++ s.front) waited s.codes so.tells (
+        told_more n x y (ended z) w so.answers so.text (waited ++ s.front) waited s.codes s.lines so.tells (
           waited,
           s.is_front.0,
-          inr (ap (λ n. unknown_lines (n + 1 - y.unknown) y.unknown) taken
-              ∙ ap (λ m. unknown_lines (x0.progress.taken + 1 - m) m) all),
+          inr (ap (λ n. unknown_in options.form (n + 1 - y.unknown) y.unknown) taken
+              ∙ ap (λ m. unknown_in options.form (x0.progress.taken + 1 - m) m) all),
           ap (λ t. waited ++ t) s.is_front.1,
         )
         (omega (arith, same, taken, zero_is))
-        (appends_then x.sends.held y.sends.held w.held so.text waited so.appended given_up) s.front refl s.appended
-        (spoke_counted c loan w z s) (never_applied c loan w z s)
+        (appends_then x.sends.held y.sends.held w.held so.text waited so.appended given_up) s.front refl s.answers
+        s.appended (spoke_counted c loan w z s) (never_applied c loan w z s)
 
     told_next : (n : ℕ) (address : ℕ) (d c' : C) (x y x' : LiveWas) (went : Went) → ToldFor n x y
         → RunsAgain opens closes remaining contents leaves is_clean saves fails options address d c' y x' went
@@ -303,31 +313,31 @@ module _ {C I O K : Type 0} (opens : C → Option (I × O) → C → Type 0) (cl
 
   -- ---- The beginning.
 
-  anew_told : (x y : Was) → BeginsAnew leaves is_clean saves fails x y goes
-      → Appends x.held y.held (given_up_line (length (waiting x.runs)))
-  anew_told x y anew_so = by anew_so.saved
+  anew_told : (form : Form) (x y : Was) → BeginsAnew leaves is_clean saves fails form x y goes
+      → Appends x.held y.held (given_up_in form (length (waiting x.runs)))
+  anew_told form x y anew_so = by anew_so.saved
     where
       by : (saves x.keeper (kept_of y.progress y.runs) y.keeper
-          × TellsKept (given_up_line (length (waiting x.runs))) (Ok tt) x.held y.held goes)
+          × TellsKept (given_up_in form (length (waiting x.runs))) (Ok tt) x.held y.held goes)
           ⊎ (fails x.keeper (kept_of y.progress y.runs) y.keeper × (y.held ≡ x.held)
-          × (goes ≡ stopped StateFailed)) → Appends x.held y.held (given_up_line (length (waiting x.runs)))
+          × (goes ≡ stopped StateFailed)) → Appends x.held y.held (given_up_in form (length (waiting x.runs)))
       by (inl (saved, tells)) = told_all _ x.held y.held goes tells refl
       by (inr (failed, same, is)) = absurd (goes_not_stopped StateFailed is)
 
-  begun_told : (due : Bool) (x y : Was)
-      → Then TellsTaken (BeginsAnewIf leaves is_clean saves fails due) x y goes
-      → Appends x.held y.held (taken_line x.progress.taken (length (waiting x.runs)) ++ anew_lines due x.runs)
-  begun_told false x y (inl (w, (same, tells), (is_y, is))) =
-      let line = taken_line x.progress.taken (length (waiting x.runs)) in
+  begun_told : (form : Form) (due : Bool) (x y : Was)
+      → Then (TellsTaken form) (BeginsAnewIf leaves is_clean saves fails form due) x y goes
+      → Appends x.held y.held (taken_in form x.progress.taken (length (waiting x.runs)) ++ anew_lines form due x.runs)
+  begun_told form false x y (inl (w, (same, tells), (is_y, is))) =
+      let line = taken_in form x.progress.taken (length (waiting x.runs)) in
       appends_then x.held w.held y.held line [] (told_all line x.held w.held goes tells refl)
       (subst (λ (v : Was). Appends w.held v.held []) (sym is_y) (appends_nothing w.held))
-  begun_told true x y (inl (w, (same, tells), anew_so)) =
-      let line = taken_line x.progress.taken (length (waiting x.runs)) in
-      appends_then x.held w.held y.held line (given_up_line (length (waiting x.runs)))
+  begun_told form true x y (inl (w, (same, tells), anew_so)) =
+      let line = taken_in form x.progress.taken (length (waiting x.runs)) in
+      appends_then x.held w.held y.held line (given_up_in form (length (waiting x.runs)))
       (told_all line x.held w.held goes tells refl)
-      (subst (λ (v : Was). Appends w.held y.held (given_up_line (length (waiting v.runs)))) same
-      (anew_told w y anew_so))
-  begun_told due x y (inr (stop, told, is)) = absurd (goes_not_stopped stop is)
+      (subst (λ (v : Was). Appends w.held y.held (given_up_in form (length (waiting v.runs)))) same
+      (anew_told form w y anew_so))
+  begun_told form due x y (inr (stop, told, is)) = absurd (goes_not_stopped stop is)
 
   -- ---- A whole run.
 
@@ -354,12 +364,13 @@ module _ {C I O K : Type 0} (opens : C → Option (I × O) → C → Type 0) (cl
   whole_told options c c' x k' held' end applied went
       (inl (y, again, z, begins, runs, last, keeper, held, takes, apply)) on =
       let due = is_due options.join x.sends.progress in
-      let has = has_begun leaves is_clean saves fails due x.sends y begins in
+      let has = has_begun leaves is_clean saves fails options.form due x.sends y begins in
       let r = senders opens closes remaining contents leaves is_clean saves fails options x.sends due refl again c c' _
       z went has runs in
       let t = told_senders options x.sends due refl again c c' _ z went has refl runs (inl on) in
       let none = none_left options x.sends due refl again c c' _ z went has refl runs on in
-      let begun = taken_line x.sends.progress.taken (length (waiting x.sends.runs)) ++ anew_lines due x.sends.runs in
+      let begun = taken_in options.form x.sends.progress.taken (length (waiting x.sends.runs))
+      ++ anew_lines options.form due x.sends.runs in
       subst (λ i. WholeTold options x held' i applied) (sym takes)
       (subst (λ h. WholeTold options x h z.takes applied) (sym held) (record {
         lines = r.lines;
@@ -373,7 +384,7 @@ module _ {C I O K : Type 0} (opens : C → Option (I × O) → C → Type 0) (cl
         number = by t.answers r.lines none r.counted t.counted;
         tells = (t.text, t.tells, refl);
         appended = appends_then x.sends.held y.held z.sends.held begun t.text
-            (begun_told due x.sends y begins) t.appended;
+            (begun_told options.form due x.sends y begins) t.appended;
         applied = λ all_so. t.applied (sym apply ∙ all_so);
       }))
     where

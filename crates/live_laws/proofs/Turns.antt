@@ -17,6 +17,7 @@ use Rattle.line_batches.specs.declared.taking.After.{After}
 use Rattle.line_batches.specs.declared.taking.After.TheVariants.{GoesOn, Ends}
 use Rattle.line_batches.specs.Intake.{Intake, TakesLines, FailsToTake, messages_in}
 use Rattle.line_batches.specs.Batches.{IsAfter, LosesMessage}
+use Rattle.output_forms.specs.declared.form.Form.{Form}
 use Rattle.live_sending.specs.Run.{Live, Turn, GoesOnFor, RunsTurns, ended_as}
 use Rattle.live_laws.specs.Taken.{Pauses, ComesToEnd}
 use Rattle.live_laws.proofs.Lines.{same_fault, messages_count, lines_on, pauses_after, goes_on_after, ends_on}
@@ -26,7 +27,8 @@ use Rattle.live_laws.proofs.Calls.{Called, called_none, called_on, called_stops,
 
 module _ {C I O K : Type 0} (opens : C → Option (I × O) → C → Type 0) (closes : C → I → O → C → Type 0)
     (remaining : I → Option (List ℕ)) (contents : O → Option (List ℕ)) (leaves : K → KeptServer → Type 0)
-    (is_clean : K → Type 0) (saves fails : K → KeptServer → K → Type 0) (region : Region) (size : ℕ) (strict : Bool)
+    (is_clean : K → Type 0) (saves fails : K → KeptServer → K → Type 0) (form : Form) (region : Region) (size : ℕ)
+    (strict : Bool)
   where
     abbrev At : Type 0
     At = Standing (SenderOver C I O) K
@@ -74,7 +76,7 @@ module _ {C I O K : Type 0} (opens : C → Option (I × O) → C → Type 0) (cl
     }
 
     pub turn_part : (x x' : LiveAt) (after : After) (went : Went)
-        → Turn opens closes remaining contents leaves is_clean saves fails region size strict x x' after went
+        → Turn opens closes remaining contents leaves is_clean saves fails form region size strict x x' after went
         → (lines : List (List ℕ × Given)) × (mid : Intake) × Part lines x mid x'.sends went
         × Next lines mid x'.takes after
     turn_part x x' after went turn =
@@ -84,14 +86,14 @@ module _ {C I O K : Type 0} (opens : C → Option (I × O) → C → Type 0) (cl
           record {
             takes = takes;
             called = subst (λ ms. IsCalled (length ms) x.sends x'.sends went) is
-                (sends_some opens closes remaining contents leaves is_clean saves fails turn.messages x.sends x'.sends
+                (sends_some opens closes remaining contents leaves is_clean saves fails form turn.messages x.sends x'.sends
                 x.applied x'.applied x.unknown x'.unknown went turn.sends);
           },
           next,
         )
 
     goes_on_part : (n : ℕ) (x y : LiveAt)
-        → GoesOnFor opens closes remaining contents leaves is_clean saves fails region size strict n x y
+        → GoesOnFor opens closes remaining contents leaves is_clean saves fails form region size strict n x y
         → (lines : List (List ℕ × Given)) × Part lines x y.takes y.sends goes
     goes_on_part zero x y same = ([], subst (λ (z : LiveAt). Part [] x z.takes z.sends goes) (sym same) (part_none x))
     goes_on_part (suc n) x z (y, before, turn) =
@@ -135,7 +137,7 @@ module _ {C I O K : Type 0} (opens : C → Option (I × O) → C → Type 0) (cl
         }
 
     pub turned : (x x' : LiveAt) (went : Went)
-        → RunsTurns opens closes remaining contents leaves is_clean saves fails region size strict x x' went
+        → RunsTurns opens closes remaining contents leaves is_clean saves fails form region size strict x x' went
         → Turned x x' went
     turned x x' went (n, y, before, inl (inl (end, turn, is))) =
         let (a, one) = goes_on_part n x y before in

@@ -1,4 +1,5 @@
 pub mod Again
+pub mod Counting
 pub mod Marking
 pub mod Stationing
 pub mod Turning

@@ -15,7 +15,11 @@ use Rattle.uecp_net.specs.Sending.{SenderState, SenderOver, submitted_all}
 use Rattle.uecp_jobs.specs.Batches.{Acknowledges, GivesUp}
 use Rattle.uecp_jobs.proofs.BatchLines.{adds_on, all_wait, all_tries}
 use Rattle.uecp_jobs.proofs.Settling.{SettlesSo}
+use Rattle.output_forms.specs.declared.form.Form.{Form}
+use Rattle.output_forms.specs.declared.form.Form.TheVariants.{Lines, Words, Json}
+use Rattle.live_objects.specs.Objects as objects
 use Rattle.live_sending.specs.Lines.{is_applied, refused_line, refused_lines}
+use Rattle.live_sending.specs.Forms.{refused_in}
 use Rattle.live_sending.specs.Station.{SettlesBatch, SentFor, SendsStation}
 
 -- the lines of two batches are those of one
@@ -36,6 +40,36 @@ and_assoc false b c = refl
 pub and_true : (a : Bool) → (a && true) ≡ a
 and_true true = refl
 and_true false = refl
+
+objects_append : (first : ℕ) (some more : List Code)
+    → objects.refused_lines first (some ++ more)
+    ≡ objects.refused_lines first some ++ objects.refused_lines (first + length some) more
+objects_append first [] more =
+    ap (λ n. objects.refused_lines n more) (let same : first ≡ first + 0 = omega arith in same)
+objects_append first (code ∷ some) more =
+    ap (λ l. objects.refused_line first code ++ l) (objects_append (first + 1) some more)
+    ∙ sym (append_assoc (objects.refused_line first code) (objects.refused_lines (first + 1) some)
+    (objects.refused_lines (first + 1 + length some) more))
+    ∙ ap (λ n. (objects.refused_line first code ++ objects.refused_lines (first + 1) some)
+    ++ objects.refused_lines n more)
+    (let same : first + 1 + length some ≡ first + length (code ∷ some) = omega arith in same)
+
+-- so in each form
+refused_in_append : (form : Form) (first : ℕ) (some more : List Code)
+    → refused_in form first (some ++ more) ≡ refused_in form first some ++ refused_in form (first + length some) more
+refused_in_append Lines first some more = refused_append first some more
+refused_in_append (Words region) first some more = refused_append first some more
+refused_in_append Json first some more = objects_append first some more
+
+refused_in_none : (form : Form) (first : ℕ) → refused_in form first [] ≡ []
+refused_in_none Lines first = refl
+refused_in_none (Words region) first = refl
+refused_in_none Json first = refl
+
+-- of no messages nothing is put down
+pub adds_none : (form : Form) (before : Kept) → Adds before before (refused_in form 1 [])
+adds_none form before = λ whole. (whole,
+  sym (append-nil before.bytes) ∙ ap (λ l. before.bytes ++ l) (sym (refused_in_none form 1)))
 
 module _ {C I O : Type 0} (opens : C → Option (I × O) → C → Type 0) (closes : C → I → O → C → Type 0)
     (remaining : I → Option (List ℕ)) (contents : O → Option (List ℕ)) where
@@ -64,52 +98,54 @@ module _ {C I O : Type 0} (opens : C → Option (I × O) → C → Type 0) (clos
     wait = settles.outstanding;
   }
 
-  module _ (size : ℕ) (messages : List (List ℕ)) (start : SenderOver C I O) (before after : Kept) (was is : Bool) where
+  module _ (form : Form) (size : ℕ) (messages : List (List ℕ)) (start : SenderOver C I O) (before after : Kept)
+      (was is : Bool) where
     -- some first batches were sent, these messages are left, and the lines of those are put down
     pub record SoFar (left : List (List ℕ)) (now : SenderOver C I O) : Type 0 where
       pub batches : ℕ
       pub told : List Code
       pub sent : SentFor opens closes remaining contents size messages batches told left start now
       pub count : length told + length left ≡ length messages
-      pub lines : Adds before after (refused_lines 1 told)
+      pub lines : Adds before after (refused_in form 1 told)
       pub all : is ≡ was && list_all is_applied told
 
-  abbrev pub Told : (size : ℕ) → (messages : List (List ℕ)) → (start now : SenderOver C I O)
+  abbrev pub Told : (form : Form) → (size : ℕ) → (messages : List (List ℕ)) → (start now : SenderOver C I O)
       → Result (Unit {0}) Outstanding
       → (before after : Kept) → (was is : Bool) → Type 0
-  Told size messages start now result before after was is =
+  Told form size messages start now result before after was is =
       (told : List Code) × SendsStation opens closes remaining contents size messages told start now result
-      × Adds before after (refused_lines 1 told) × (is ≡ was && list_all is_applied told)
+      × Adds before after (refused_in form 1 told) × (is ≡ was && list_all is_applied told)
 
-  pub begins : (size : ℕ) (messages : List (List ℕ)) (start : SenderOver C I O) (before : Kept) (was : Bool)
-      → SoFar size messages start before before was was messages start
-  begins size messages start before was = record {
+  pub begins : (form : Form) (size : ℕ) (messages : List (List ℕ)) (start : SenderOver C I O) (before : Kept) (was : Bool)
+      → SoFar form size messages start before before was was messages start
+  begins form size messages start before was = record {
     batches = 0;
     told = [];
     sent = (refl, refl, refl);
     count = omega arith;
-    lines = λ whole. (whole, sym (append-nil before.bytes));
+    lines = adds_none form before;
     all = sym (and_true was);
   }
 
-  module _ (size : ℕ) (messages : List (List ℕ)) (start : SenderOver C I O) (before after : Kept) (was is : Bool)
+  module _ (form : Form) (size : ℕ) (messages : List (List ℕ)) (start : SenderOver C I O) (before after : Kept)
+      (was is : Bool)
       (left : List (List ℕ)) (now : SenderOver C I O)
-      (so : SoFar size messages start before after was is left now) where
+      (so : SoFar form size messages start before after was is left now) where
     pub one_more : 1 ≤ size → left ≢ [] → (next : SenderOver C I O) (more : List Code) (tries : ℕ) (number : ℕ)
         → number ≡ length messages - length left
         → Acknowledges opens closes remaining contents now (take size left) more tries next
-        → (after' : Kept) → Adds after after' (refused_lines (number + 1) more)
+        → (after' : Kept) → Adds after after' (refused_in form (number + 1) more)
         → (is' : Bool) → is' ≡ is && list_all is_applied more
-        → SoFar size messages start before after' was is' (drop size left) next
+        → SoFar form size messages start before after' was is' (drop size left) next
     one_more size_is some next more tries number number_is sent after' lines is' all = record {
       batches = suc so.batches;
       told = so.told ++ more;
       sent = (so.told, left, now, more, tries, so.sent, some, sent, refl, refl);
       count = (let a = length-append so.told more in let b = so.count in let d = length-drop size left in
           let e = sent.all in let f = length-take size left in omega (arith, a, b, d, e, f));
-      lines = subst (λ l. Adds before after' l) (sym (refused_append 1 so.told more))
-          (adds_on before after after' (refused_lines 1 so.told) (refused_lines (1 + length so.told) more) so.lines
-          (subst (λ n. Adds after after' (refused_lines n more))
+      lines = subst (λ l. Adds before after' l) (sym (refused_in_append form 1 so.told more))
+          (adds_on before after after' (refused_in form 1 so.told) (refused_in form (1 + length so.told) more) so.lines
+          (subst (λ n. Adds after after' (refused_in form n more))
           (let b = so.count in let same : number + 1 ≡ 1 + length so.told = omega (arith, b, number_is) in same)
           lines));
       all = all ∙ ap (λ b. b && list_all is_applied more) so.all
@@ -120,15 +156,15 @@ module _ {C I O : Type 0} (opens : C → Option (I × O) → C → Type 0) (clos
     pub stops : left ≢ [] → (end : SenderOver C I O) (reason : Outstanding)
         → GivesUp opens closes remaining contents now (take size left) reason end
         → (after' : Kept) → after' ≡ after → (is' : Bool) → is' ≡ is
-        → Told size messages start end (Err reason) before after' was is'
+        → Told form size messages start end (Err reason) before after' was is'
     stops some end reason gives after' lines is' all = (
       so.told,
       (so.batches, left, now, so.sent, some, gives),
-      subst (λ k. Adds before k (refused_lines 1 so.told)) (sym lines) so.lines,
+      subst (λ k. Adds before k (refused_in form 1 so.told)) (sym lines) so.lines,
       all ∙ so.all,
     )
 
-    pub ends : left ≡ [] → Told size messages start now (Ok tt) before after was is
+    pub ends : left ≡ [] → Told form size messages start now (Ok tt) before after was is
     ends none = (
       so.told,
       (

@@ -11,20 +11,21 @@ use Rattle.kept_jobs.specs.declared.stop.KeptStop.TheVariants.{Run}
 use Rattle.kept_jobs.specs.Stops.{Went}
 use Rattle.line_batches.specs.declared.taking.After.{After}
 use Rattle.line_batches.specs.declared.taking.After.TheVariants.{GoesOn, Ends}
+use Rattle.output_forms.specs.declared.form.Form.{Form}
 use Rattle.live_sending.specs.Run.{Live, Turn, GoesOnFor, RunsTurns, ended_as}
 
 module _ {C I O K : Type 0} (opens : C → Option (I × O) → C → Type 0) (closes : C → I → O → C → Type 0)
     (remaining : I → Option (List ℕ)) (contents : O → Option (List ℕ)) (leaves : K → KeptServer → Type 0)
-    (is_clean : K → Type 0) (saves fails : K → KeptServer → K → Type 0) (region : Region) (size : ℕ) (strict : Bool)
-    (x : Live (SenderOver C I O) K) (n : ℕ) (y : Live (SenderOver C I O) K) where
+    (is_clean : K → Type 0) (saves fails : K → KeptServer → K → Type 0) (form : Form) (region : Region) (size : ℕ)
+    (strict : Bool) (x : Live (SenderOver C I O) K) (n : ℕ) (y : Live (SenderOver C I O) K) where
   abbrev One : (y z : Live (SenderOver C I O) K) → After → Went → Type 0
-  One = Turn opens closes remaining contents leaves is_clean saves fails region size strict
+  One = Turn opens closes remaining contents leaves is_clean saves fails form region size strict
 
   abbrev So : (n : ℕ) → (y : Live (SenderOver C I O) K) → Type 0
-  So n y = GoesOnFor opens closes remaining contents leaves is_clean saves fails region size strict n x y
+  So n y = GoesOnFor opens closes remaining contents leaves is_clean saves fails form region size strict n x y
 
   abbrev All : (z : Live (SenderOver C I O) K) → Went → Type 0
-  All z went = RunsTurns opens closes remaining contents leaves is_clean saves fails region size strict x z went
+  All z went = RunsTurns opens closes remaining contents leaves is_clean saves fails form region size strict x z went
 
   pub one_more : So n y → (z : Live (SenderOver C I O) K) → One y z GoesOn (Ok tt) → So (n + 1) z
   one_more so z turn =

@@ -1,4 +1,7 @@
 -- The definitions that the contracts of a server cite whose lines come as they like.
 pub mod Lines
+pub mod Forms
+pub mod Counters
+pub mod Beginning
 pub mod Station
 pub mod Run

@@ -1,13 +1,11 @@
 -- What is told of the messages of a server whose lines come as they like (profile).
 use Rattle.std.specs.Prelude.{ℕ, zero, suc, ◌+◌, Bool, true, false, List, [], ◌∷◌, ◌++◌, codes, decimal}
 use Rattle.std.specs.Prelude.{if◌then◌else◌}
-use Rattle.std.specs.List.{list_all}
 use Rattle.uecp_elements.specs.declared.code.Code.{Code}
 use Rattle.uecp_elements.specs.declared.code.Code.TheVariants.{Applied}
 use Rattle.uecp_elements.specs.Codes.{byte_of}
 use Rattle.uecp_text.specs.Digits.{byte_word, decimal_word}
 use Rattle.uecp_json.specs.Meanings.{meaning_of}
-use Rattle.uecp_jobs.specs.JoiningFirst.{joined_line}
 
 -- that the encoder refused a message with this code, and why
 abbrev pub refusal_words : Code → List ℕ
@@ -70,8 +68,3 @@ refused_lines first (code ∷ told) = refused_line first code ++ refused_lines (
 abbrev pub applied_line : (station : List (List ℕ)) → (all : Bool) → List ℕ
 applied_line [] all = []
 applied_line (message ∷ station) all = if all then codes "station applied\n" else []
-
--- what is told of an encoder that was joined, and answered the messages of the station with these codes
-abbrev pub station_lines : (station : List (List ℕ)) → (told : List Code) → List ℕ
-station_lines station told =
-    (joined_line true ++ refused_lines 1 told) ++ applied_line station (list_all is_applied told)

@@ -9,9 +9,10 @@ use Rattle.uecp_text.specs.declared.run_fault.RunFault.{RunFault}
 use Rattle.uecp_text.specs.declared.run_fault.RunFault.TheVariants as run
 use Rattle.uecp_text.specs.Written.{Begins}
 use Rattle.uecp_link.specs.declared.counts.ServerCounts.{ServerCounts}
-use Rattle.uecp_link.specs.Server.{ServerState, idle_at}
+use Rattle.uecp_link.specs.Server.{ServerState, idle_at, counters_waiting}
 use Rattle.uecp_net.specs.declared.sending.Outstanding.TheVariants.{TriesSpent, ConnectionFailed}
-use Rattle.uecp_net.specs.Sending.{SenderOver}
+use Rattle.uecp_net.specs.declared.sending.Settled.{Settled}
+use Rattle.uecp_net.specs.Sending.{SenderOver, submitted_all}
 use Rattle.uecp_jobs.specs.ServerRun.{Finishes}
 use Rattle.kept_sending.specs.declared.sending.KeptOutstanding.TheVariants as kept
 use Rattle.kept_sending.specs.Keeping.{KeptServer, kept_of, IsKept}
@@ -19,10 +20,13 @@ use Rattle.kept_sending.specs.Sending.{Ended}
 use Rattle.kept_jobs.specs.declared.stop.KeptStop.{KeptStop}
 use Rattle.kept_jobs.specs.declared.stop.KeptStop.TheVariants.{Run, StateFailed}
 use Rattle.kept_jobs.specs.Stops.{Went, TellsKept, Then, stop_for, stop_status, stop_lines}
-use Rattle.kept_jobs.specs.ServerRun.{Standing, TellsTaken, BeginsAnewIf, SettlesOne, SendsOne, sending, is_due}
+use Rattle.kept_jobs.specs.ServerRun.{Standing, SettlesOne, SendsOne, sending, is_due}
 use Rattle.kept_jobs.specs.ServerRun.{not_joined}
+use Rattle.output_forms.specs.declared.form.Form.{Form}
 use Rattle.live_sending.specs.declared.options.LiveOptions.{LiveOptions}
-use Rattle.live_sending.specs.Lines.{reply_lines, held_lines, unknown_lines, is_applied}
+use Rattle.live_sending.specs.Lines.{is_applied}
+use Rattle.live_sending.specs.Forms.{AreReplies, AreHeld, unknown_in}
+use Rattle.live_sending.specs.Beginning.{TellsTaken, BeginsAnewIf}
 use Rattle.live_sending.specs.Station.{MakesIf}
 use Rattle.line_batches.specs.declared.taking.After.{After}
 use Rattle.line_batches.specs.declared.taking.After.TheVariants.{GoesOn, Ends}
@@ -44,24 +48,21 @@ ended_as (Err fault) = Err (Run fault)
 
 -- ---- One batch is sent.
 
--- What is told of messages that were settled so, the last of which has this number, and how the run goes on: the line
--- of each, by its own reply, where they are acknowledged. Where they are not nothing is told, and it stops.
-abbrev pub RepliesTold : (last : ℕ) → ServerCounts → Ended → (held held' : Option (List ℕ)) → Went → Type 0
-RepliesTold last counts (Ok settled) held held' went =
-    TellsKept (reply_lines (last + 1 - length settled.codes.items) settled.codes.items) (Ok tt) held held' went
-RepliesTold last counts (Err (kept.Outstanding reason)) held held' went =
+-- What is told of messages that were settled so, and how the run goes on: such lines where they are acknowledged. Where
+-- they are not nothing is told, and it stops.
+abbrev pub AnswersTold : (are_told : Settled → List ℕ → Type 0) → ServerCounts → Ended
+    → (held held' : Option (List ℕ)) → Went → Type 0
+AnswersTold are_told counts (Ok settled) held held' went =
+    (told : List ℕ) × are_told settled told × TellsKept told (Ok tt) held held' went
+AnswersTold are_told counts (Err (kept.Outstanding reason)) held held' went =
     (held' ≡ held) × (went ≡ Err (stop_for counts reason))
-RepliesTold last counts (Err kept.StateFailed) held held' went = (held' ≡ held) × (went ≡ Err StateFailed)
+AnswersTold are_told counts (Err kept.StateFailed) held held' went = (held' ≡ held) × (went ≡ Err StateFailed)
 
--- What is told of messages that were held, of which the first has this number and those that waited were settled so,
--- and how the run goes on: likewise, under its own number.
-abbrev pub HeldTold : (first : ℕ) → (marks : List Bool) → ServerCounts → Ended → (held held' : Option (List ℕ)) → Went
-    → Type 0
-HeldTold first marks counts (Ok settled) held held' went =
-    TellsKept (held_lines first marks settled.codes.items) (Ok tt) held held' went
-HeldTold first marks counts (Err (kept.Outstanding reason)) held held' went =
-    (held' ≡ held) × (went ≡ Err (stop_for counts reason))
-HeldTold first marks counts (Err kept.StateFailed) held held' went = (held' ≡ held) × (went ≡ Err StateFailed)
+-- the line of each of these messages, the last of which has this number and which were sent under these counters, by
+-- its own reply
+abbrev pub RepliesOf : Form → (last : ℕ) → (counters : List ℕ) → Settled → (told : List ℕ) → Type 0
+RepliesOf form last counters settled told =
+    AreReplies form (last + 1 - length settled.codes.items) counters settled told
 
 -- of the messages that a server holds, the oldest first, whether each is marked
 abbrev pub marks_in : ServerState → List Bool
@@ -90,11 +91,11 @@ tally_status refused applied = if refused then 1 else if applied then 0 else 4
 -- A new server is saved, not joined, in place of one of which so many messages are outstanding; and then each of
 -- these, the last that were taken, is told as unknown, under its number. Or the save fails, and nothing is told.
 pub record Renews {K : Type 0} (leaves : K → KeptServer → Type 0) (is_clean : K → Type 0)
-    (saves fails : K → KeptServer → K → Type 0) (unknown : ℕ) (x x' : Standing ServerState K) (went : Went) : Type
-    0 where
+    (saves fails : K → KeptServer → K → Type 0) (form : Form) (unknown : ℕ) (x x' : Standing ServerState K)
+    (went : Went) : Type 0 where
   pub progress : x'.progress ≡ not_joined x.progress
   pub saved : (saves x.keeper (kept_of x'.progress x'.runs) x'.keeper
-      × TellsKept (unknown_lines (x.progress.taken + 1 - unknown) unknown) (Ok tt) x.held x'.held went)
+      × TellsKept (unknown_in form (x.progress.taken + 1 - unknown) unknown) (Ok tt) x.held x'.held went)
       ⊎ (fails x.keeper (kept_of x'.progress x'.runs) x'.keeper × (x'.held ≡ x.held) × (went ≡ Err StateFailed))
   pub outlives : is_clean x'.keeper → (left : KeptServer) → leaves x'.keeper left
       → leaves x.keeper left ⊎ (left ≡ kept_of x'.progress x'.runs)
@@ -103,13 +104,14 @@ pub record Renews {K : Type 0} (leaves : K → KeptServer → Type 0) (is_clean 
 
 module _ {C I O K : Type 0} (opens : C → Option (I × O) → C → Type 0) (closes : C → I → O → C → Type 0)
     (remaining : I → Option (List ℕ)) (contents : O → Option (List ℕ)) (leaves : K → KeptServer → Type 0)
-    (is_clean : K → Type 0) (saves fails : K → KeptServer → K → Type 0) where
+    (is_clean : K → Type 0) (saves fails : K → KeptServer → K → Type 0) (form : Form) where
   -- These messages were sent, as `send_kept` says, and then that was told.
   abbrev pub SendsBatch : (messages : List (List ℕ)) → (x x' : Standing (SenderOver C I O) K)
       → (applied applied' : Bool) → (unknown' : ℕ) → Went → Type 0
   SendsBatch messages x x' applied applied' unknown' went =
       (ended : Ended) × SendsOne opens closes remaining contents leaves is_clean saves fails messages ended x x'
-      × RepliesTold x'.progress.taken x'.runs.sender.server.counts ended x.held x'.held went
+      × AnswersTold (RepliesOf form x'.progress.taken (counters_waiting (submitted_all x.runs messages).sender.server))
+      x'.runs.sender.server.counts ended x.held x'.held went
       × (applied' ≡ applied && are_applied ended) × (unknown' ≡ unknown_of (length messages) ended)
 
   -- They were sent so where there are some, and else nothing was done.
@@ -126,7 +128,8 @@ module _ {C I O K : Type 0} (opens : C → Option (I × O) → C → Type 0) (cl
       ((x.runs.sender.server.held ≡ []) × (x' ≡ x) × (applied' ≡ applied) × (unknown' ≡ unknown) × (went ≡ Ok tt))
       ⊎ ((x.runs.sender.server.held ≢ []) × ((ended : Ended)
       × SettlesOne opens closes remaining contents leaves is_clean saves fails ended x x'
-      × HeldTold (x'.progress.taken + 1 - length (marks_in x.runs.sender.server)) (marks_in x.runs.sender.server)
+      × AnswersTold (AreHeld form (x'.progress.taken + 1 - length (marks_in x.runs.sender.server))
+      (marks_in x.runs.sender.server) (counters_waiting x.runs.sender.server))
       x'.runs.sender.server.counts ended x.held x'.held went
       × (applied' ≡ applied && are_applied ended)
       × (unknown' ≡ unknown_of (length (marks_in x.runs.sender.server)) ended)))
@@ -159,25 +162,32 @@ module _ {C I O K : Type 0} (opens : C → Option (I × O) → C → Type 0) (cl
       × (LastTurn region size strict y x' went
       ⊎ ((turns ≡ 2 ^ 59) × (x' ≡ y) × (went ≡ Err (Run run.Reading))))
 
-  -- ---- One sender.
+-- ---- One sender.
+
+module _ {C I O K : Type 0} (opens : C → Option (I × O) → C → Type 0) (closes : C → I → O → C → Type 0)
+    (remaining : I → Option (List ℕ)) (contents : O → Option (List ℕ)) (leaves : K → KeptServer → Type 0)
+    (is_clean : K → Type 0) (saves fails : K → KeptServer → K → Type 0) where
 
   -- The encoder was joined and the station made, where the encoder is to be joined.
   abbrev pub MakesOnce : LiveOptions → (due : Bool) → (x x' : Live (SenderOver C I O) K) → Went → Type 0
   MakesOnce options due x x' went =
-      MakesIf opens closes remaining contents leaves is_clean saves fails options.reading.size options.station.now due
-      x.sends x'.sends x.applied x'.applied went
+      MakesIf opens closes remaining contents leaves is_clean saves fails options.form options.reading.size
+      options.station.now due x.sends x'.sends x.applied x'.applied went
       × (x'.takes ≡ x.takes) × (x'.unknown ≡ x.unknown)
 
   -- What waits was settled.
-  abbrev pub SettlesOnce : (x x' : Live (SenderOver C I O) K) → Went → Type 0
-  SettlesOnce x x' went =
-      SettlesLive x.sends x'.sends x.applied x'.applied x.unknown x'.unknown went × (x'.takes ≡ x.takes)
+  abbrev pub SettlesOnce : LiveOptions → (x x' : Live (SenderOver C I O) K) → Went → Type 0
+  SettlesOnce options x x' went =
+      SettlesLive opens closes remaining contents leaves is_clean saves fails options.form x.sends x'.sends x.applied
+      x'.applied x.unknown x'.unknown went
+      × (x'.takes ≡ x.takes)
 
   -- what a sender does that was given a server so: it joins its encoder and makes the station where that is due,
   -- settles what waits, and then makes its turns
   abbrev pub RunsLive : LiveOptions → (due : Bool) → (x x' : Live (SenderOver C I O) K) → Went → Type 0
   RunsLive options due = Then (MakesOnce options due)
-      (Then SettlesOnce (RunsTurns options.reading.region options.reading.size options.reading.strict))
+      (Then (SettlesOnce options) (RunsTurns opens closes remaining contents leaves is_clean saves fails options.form
+      options.reading.region options.reading.size options.reading.strict))
 
   -- ---- A whole run.
 
@@ -217,9 +227,9 @@ module _ {C I O K : Type 0} (opens : C → Option (I × O) → C → Type 0) (cl
   abbrev pub RunsAgain : LiveOptions → (address : ℕ) → (c c' : C) → (x x' : Live ServerState K) → Went → Type 0
   RunsAgain options address c c' x x' went =
       (y : Standing ServerState K) × (y.runs ≡ idle_at address)
-      × ((Renews leaves is_clean saves fails x.unknown x.sends y (Ok tt)
+      × ((Renews leaves is_clean saves fails options.form x.unknown x.sends y (Ok tt)
       × RunsOne options true c c' (from_anew x y) x' went)
-      ⊎ ((stop : KeptStop) × Renews leaves is_clean saves fails x.unknown x.sends y (Err stop) × (went ≡ Err stop)
+      ⊎ ((stop : KeptStop) × Renews leaves is_clean saves fails options.form x.unknown x.sends y (Err stop) × (went ≡ Err stop)
       × (c' ≡ c)
       × (x' ≡ from_anew x y)))
 
@@ -245,7 +255,8 @@ module _ {C I O K : Type 0} (opens : C → Option (I × O) → C → Type 0) (cl
       → (taken : Intake) → (applied : Bool) → Went → Type 0
   LivesFrom options c c' x k' held' taken applied went =
       ((y : Standing ServerState K) × (again : ℕ) × (z : Live ServerState K)
-      × Then TellsTaken (BeginsAnewIf leaves is_clean saves fails (is_due options.join x.sends.progress)) x.sends y
+      × Then (TellsTaken options.form)
+      (BeginsAnewIf leaves is_clean saves fails options.form (is_due options.join x.sends.progress)) x.sends y
       (Ok tt)
       × RunsFor options (is_due options.join x.sends.progress) again c c' (record {
         sends = y;
@@ -256,7 +267,8 @@ module _ {C I O K : Type 0} (opens : C → Option (I × O) → C → Type 0) (cl
       × IsLast options again z
       × (k' ≡ z.sends.keeper) × (held' ≡ z.sends.held) × (taken ≡ z.takes) × (applied ≡ z.applied))
       ⊎ ((y : Standing ServerState K) × (stop : KeptStop)
-      × Then TellsTaken (BeginsAnewIf leaves is_clean saves fails (is_due options.join x.sends.progress)) x.sends y
+      × Then (TellsTaken options.form)
+      (BeginsAnewIf leaves is_clean saves fails options.form (is_due options.join x.sends.progress)) x.sends y
       (Err stop)
       × (went ≡ Err stop) × (c' ≡ c) × (k' ≡ y.keeper) × (held' ≡ y.held) × (taken ≡ x.takes)
       × (applied ≡ x.applied))

@@ -7,7 +7,6 @@ use Rattle.uecp_net.specs.declared.sending.Outstanding.{Outstanding as Reason}
 use Rattle.uecp_net.specs.declared.sending.Settled.{Settled}
 use Rattle.uecp_net.specs.Sending.{SenderOver}
 use Rattle.uecp_jobs.specs.Batches.{Acknowledges, GivesUp, fault_of}
-use Rattle.uecp_jobs.specs.JoiningFirst.{not_joined_line}
 use Rattle.kept_sending.specs.declared.keep.Progress.{Progress}
 use Rattle.kept_sending.specs.declared.sending.KeptOutstanding.TheVariants as kept
 use Rattle.kept_sending.specs.Keeping.{KeptServer, kept_of, IsKept}
@@ -15,18 +14,20 @@ use Rattle.kept_sending.specs.Joining.{Joined, Joins, OutlivesPass, StaysKeptJoi
 use Rattle.kept_jobs.specs.declared.stop.KeptStop.TheVariants.{Run, StateFailed}
 use Rattle.kept_jobs.specs.Stops.{Went, TellsKept}
 use Rattle.kept_jobs.specs.ServerRun.{Standing}
-use Rattle.live_sending.specs.Lines.{station_lines, is_applied}
+use Rattle.output_forms.specs.declared.form.Form.{Form}
+use Rattle.live_sending.specs.Lines.{is_applied}
+use Rattle.live_sending.specs.Forms.{not_joined_in, station_in}
 
 -- ---- What is told.
 
 -- These lines are told where an encoder was joined and the station made, and that is kept; that it is not joined, where
 -- it could not be or a message of the station is outstanding; and nothing where the save failed. Then the run goes on
 -- or stops so.
-abbrev pub JoinedTold : (lines : List ℕ) → Joined → (held held' : Option (List ℕ)) → Went → Type 0
-JoinedTold lines (Ok done) held held' went = TellsKept lines (Ok tt) held held' went
-JoinedTold lines (Err (kept.Outstanding reason)) held held' went =
-    TellsKept not_joined_line (Err (Run (fault_of reason))) held held' went
-JoinedTold lines (Err kept.StateFailed) held held' went = (held' ≡ held) × (went ≡ Err StateFailed)
+abbrev pub JoinedTold : Form → (lines : List ℕ) → Joined → (held held' : Option (List ℕ)) → Went → Type 0
+JoinedTold form lines (Ok done) held held' went = TellsKept lines (Ok tt) held held' went
+JoinedTold form lines (Err (kept.Outstanding reason)) held held' went =
+    TellsKept (not_joined_in form) (Err (Run (fault_of reason))) held held' went
+JoinedTold form lines (Err kept.StateFailed) held held' went = (held' ≡ held) × (went ≡ Err StateFailed)
 
 -- ---- What is sent.
 
@@ -72,7 +73,8 @@ module _ {C I O : Type 0} (opens : C → Option (I × O) → C → Type 0) (clos
 
 module _ {C I O K : Type 0} (opens : C → Option (I × O) → C → Type 0) (closes : C → I → O → C → Type 0)
     (remaining : I → Option (List ℕ)) (contents : O → Option (List ℕ)) (leaves : K → KeptServer → Type 0)
-    (is_clean : K → Type 0) (saves fails : K → KeptServer → K → Type 0) (size : ℕ) (station : List (List ℕ)) where
+    (is_clean : K → Type 0) (saves fails : K → KeptServer → K → Type 0) (form : Form) (size : ℕ)
+    (station : List (List ℕ)) where
   -- The encoder was joined and the station made, and only then the server was saved, as joined; or it was not, and
   -- nothing was saved; or it was, and then that save failed.
   abbrev pub MakesKept : Progress → (told : List Code) → (s s' : SenderOver C I O) → (k k' : K) → Joined → Type 0
@@ -101,7 +103,7 @@ module _ {C I O K : Type 0} (opens : C → Option (I × O) → C → Type 0) (cl
   abbrev pub MakesTold : (x x' : Standing (SenderOver C I O) K) → (applied applied' : Bool) → Went → Type 0
   MakesTold x x' applied applied' went =
       (told : List Code) × (joined : Joined) × MakesOne told joined x x'
-      × JoinedTold (station_lines station told) joined x.held x'.held went
+      × JoinedTold form (station_in form station told) joined x.held x'.held went
       × (applied' ≡ applied && list_all is_applied told)
 
   -- It was done where the encoder is to be joined, and else nothing.

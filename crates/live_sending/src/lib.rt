@@ -2,14 +2,19 @@
 //! as soon as it is there, for every feed of lines, writer, source of connections and keeper.
 #![tactic(auto)]
 
+mod beginning;
+mod counters;
+mod forms;
 mod lines;
 mod lives;
 mod not_kept;
 mod options;
 mod run;
 mod station;
+mod timing;
 mod turn;
 
 pub use not_kept::NotKept;
 pub use options::LiveOptions;
+pub use output_forms::Form;
 pub use run::run_live;

@@ -3,10 +3,10 @@ ghost use Rattle.std.specs.Prelude.{◌≡◌, ◌⊎◌, ◌≤◌, ◌<◌, �
 ghost use Rattle.uecp_frame.specs.Address.{is_exact};
 ghost use Rattle.uecp_link.specs.Server.{ServerState};
 ghost use Rattle.kept_jobs.specs.Stops.{TellsKept};
-ghost use Rattle.live_sending.specs.Lines.{unknown_lines};
+ghost use Rattle.live_sending.specs.Forms.{unknown_in};
 ghost use Rattle.live_sending.specs.Run.{Renews, RunsOne, RunsAgain, RunsFor, IsLast};
 
-use crate::lines::put_unknown;
+use crate::forms::put_unknown_in;
 use crate::options::LiveOptions;
 use crate::run::run_sender;
 use crate::turn::first_of;
@@ -14,8 +14,10 @@ use kept_jobs::{KeptStop, write_told};
 use kept_sending::{KeepServer, Progress, SaveFailed};
 use line_batches::Tally;
 use line_feed::Feed;
+use output_forms::Form;
 use std::alloc::Global;
 use std::io::Write;
+use std::time::Clock;
 use uecp_frame::Address;
 use uecp_link::Server;
 use uecp_net::{Connect, Sender};
@@ -29,7 +31,7 @@ const TAKEN_MAX: u64 = 1 << 63;
 
 /// Sends by one sender, and by another one as long as messages are outstanding and their encoder is taken for a new
 /// one.
-pub(crate) fn run_all<K: KeepServer, F: Feed, W: Write, E: Write, C: Connect>(
+pub(crate) fn run_all<K: KeepServer, F: Feed, W: Write, E: Write, C: Connect, T: Clock>(
     alloc: Global,
     due: bool,
     options: &LiveOptions<'_>,
@@ -40,6 +42,7 @@ pub(crate) fn run_all<K: KeepServer, F: Feed, W: Write, E: Write, C: Connect>(
     writer: &mut W,
     errors: &mut E,
     connect: &mut C,
+    clock: &T,
     tally: &mut Tally,
     applied: &mut bool,
 ) -> Result<(), KeptStop>
@@ -113,6 +116,7 @@ pub(crate) fn run_all<K: KeepServer, F: Feed, W: Write, E: Write, C: Connect>(
         writer,
         errors,
         connect,
+        clock,
         tally,
         applied,
         &mut unknown,
@@ -131,6 +135,7 @@ pub(crate) fn run_all<K: KeepServer, F: Feed, W: Write, E: Write, C: Connect>(
             writer,
             errors,
             connect,
+            clock,
             tally,
             applied,
             &mut unknown,
@@ -149,7 +154,7 @@ fn goes_on(rejoin: bool, unknown: usize, taken: u64) -> bool
 
 /// Begins anew with a server to the encoder at this address, tells what is outstanding as unknown, and sends by another
 /// sender.
-fn run_again<K: KeepServer, F: Feed, W: Write, E: Write, C: Connect>(
+fn run_again<K: KeepServer, F: Feed, W: Write, E: Write, C: Connect, T: Clock>(
     alloc: Global,
     address: Address,
     options: &LiveOptions<'_>,
@@ -159,6 +164,7 @@ fn run_again<K: KeepServer, F: Feed, W: Write, E: Write, C: Connect>(
     writer: &mut W,
     errors: &mut E,
     connect: &mut C,
+    clock: &T,
     tally: &mut Tally,
     applied: &mut bool,
     unknown: &mut usize,
@@ -205,10 +211,10 @@ fn run_again<K: KeepServer, F: Feed, W: Write, E: Write, C: Connect>(
     let count = *unknown;
     *applied = false;
     *unknown = 0;
-    match renew(alloc, count, &server, keeper, progress, writer) {
+    match renew(alloc, options.form, count, &server, keeper, progress, writer) {
         Err(stop) => Err(stop),
         Ok(()) => run_one(
-            alloc, true, options, server, keeper, progress, feed, writer, errors, connect, tally,
+            alloc, true, options, server, keeper, progress, feed, writer, errors, connect, clock, tally,
             applied, unknown,
         ),
     }
@@ -217,6 +223,7 @@ fn run_again<K: KeepServer, F: Feed, W: Write, E: Write, C: Connect>(
 /// Saves this server, not joined, and tells that so many messages, the last that were taken, are unknown.
 fn renew<K: KeepServer, W: Write>(
     alloc: Global,
+    form: Form,
     count: usize,
     server: &Server,
     keeper: &mut K,
@@ -225,7 +232,7 @@ fn renew<K: KeepServer, W: Write>(
 ) -> Result<(), KeptStop>
     requires countable { progress.old.taken < 2 ^ 64 - 1 }
     ensures renews { (before : ServerState)
-        → Renews K.leaves K.is_clean K.saves K.fails count
+        → Renews K.leaves K.is_clean K.saves K.fails form count
         (record { runs = before; keeper = keeper.old; progress = progress.old; held = W.contents writer.old })
         (record { runs = server.now; keeper = keeper.new; progress = progress.new; held = W.contents writer.new })
         result }
@@ -235,28 +242,29 @@ fn renew<K: KeepServer, W: Write>(
     progress.joined = false;
     match keeper.save(server, *progress) {
         Err(SaveFailed) => Err(KeptStop::StateFailed),
-        Ok(()) => tell_unknown(alloc, progress.taken, count, writer),
+        Ok(()) => tell_unknown(alloc, form, progress.taken, count, writer),
     }
 }
 
 /// Tells that so many messages are unknown, the last of which has this number.
 fn tell_unknown<W: Write>(
     alloc: Global,
+    form: Form,
     last: u64,
     count: usize,
     writer: &mut W,
 ) -> Result<(), KeptStop>
     requires countable { last < 2 ^ 64 - 1 }
-    ensures tells { TellsKept (unknown_lines (last + 1 - count) count) (Ok tt) (W.contents writer.old)
+    ensures tells { TellsKept (unknown_in form (last + 1 - count) count) (Ok tt) (W.contents writer.old)
         (W.contents writer.new) result }
 {
     let mut output = Output::new(alloc);
-    put_unknown(first_of(last, count), count, &mut output);
+    put_unknown_in(form, first_of(last, count), count, &mut output);
     write_told(&mut output, writer)
 }
 
 /// Sends by one sender.
-fn run_one<K: KeepServer, F: Feed, W: Write, E: Write, C: Connect>(
+fn run_one<K: KeepServer, F: Feed, W: Write, E: Write, C: Connect, T: Clock>(
     alloc: Global,
     due: bool,
     options: &LiveOptions<'_>,
@@ -267,6 +275,7 @@ fn run_one<K: KeepServer, F: Feed, W: Write, E: Write, C: Connect>(
     writer: &mut W,
     errors: &mut E,
     connect: &mut C,
+    clock: &T,
     tally: &mut Tally,
     applied: &mut bool,
     unknown: &mut usize,
@@ -321,6 +330,7 @@ fn run_one<K: KeepServer, F: Feed, W: Write, E: Write, C: Connect>(
         feed,
         writer,
         errors,
+        clock,
         tally,
         applied,
         unknown,

@@ -1,5 +1,6 @@
 //! How a server sends whose lines come as they like. Source: profile.
 use line_batches::Reading;
+use output_forms::Form;
 use uecp_frame::Message;
 use uecp_net::Limits;
 
@@ -16,6 +17,8 @@ pub struct LiveOptions<'a> {
     /// made the station, and these messages are told as unknown. Else the run stops, as it does where there is no
     /// connection to be had.
     pub rejoin: bool,
+    /// In which form it is told what comes of them; words make no difference.
+    pub form: Form,
     /// The messages that make the station what it is, sent after each join.
     pub station: &'a [Message],
 }

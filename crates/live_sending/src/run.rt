@@ -7,16 +7,19 @@ ghost use Rattle.kept_jobs.specs.ServerRun.{is_due};
 ghost use Rattle.line_batches.specs.declared.taking.After.{After as Next};
 ghost use Rattle.live_sending.specs.Run.{Turn, ended_as, RunsTurns, RunsLive, LivesFrom, Lives, tally_status};
 
+use crate::beginning::begin;
 use crate::lives::run_all;
 use crate::options::LiveOptions;
 use crate::station::make_if;
 use crate::turn::{send_some, settle_first};
-use kept_jobs::{KeptStop, begin, fail_run};
+use kept_jobs::{KeptStop, fail_run};
 use kept_sending::{KeepServer, Progress};
 use line_batches::{After, Reading, Tally, take_batch};
 use line_feed::Feed;
+use output_forms::Form;
 use std::alloc::Global;
 use std::io::Write;
+use std::time::Clock;
 use uecp_link::Server;
 use uecp_net::{Connect, Sender};
 use uecp_text::RunFault;
@@ -34,9 +37,12 @@ const TURNS_MAX: u64 = 1 << 59;
 /// as are on their way at once. A line that is refused is told on `errors`, and the others go on. Of each message the
 /// encoder's answer is told before the next line is taken.
 ///
+/// What is told is told in the form that the options say; as objects of JSON each answer has its time and how long it
+/// took, as the clock tells.
+///
 /// Where messages are outstanding the run stops; or, with `rejoin`, a new server is saved in place of this one, they
 /// are told as unknown and not sent again, and it goes on with that as with one that is not joined.
-pub fn run_live<K: KeepServer, F: Feed, W: Write, E: Write, C: Connect>(
+pub fn run_live<K: KeepServer, F: Feed, W: Write, E: Write, C: Connect, T: Clock>(
     alloc: Global,
     options: &LiveOptions<'_>,
     server: Server,
@@ -46,6 +52,7 @@ pub fn run_live<K: KeepServer, F: Feed, W: Write, E: Write, C: Connect>(
     writer: &mut W,
     errors: &mut E,
     connect: &mut C,
+    clock: &T,
 ) -> u8
     requires exact { IsTrue (is_exact server.address) }
     requires countable { progress.taken < 2 ^ 63 }
@@ -75,6 +82,7 @@ pub fn run_live<K: KeepServer, F: Feed, W: Write, E: Write, C: Connect>(
         writer,
         errors,
         connect,
+        clock,
         &mut tally,
         &mut applied,
     );
@@ -106,7 +114,7 @@ fn status_of(refused: bool, applied: bool) -> u8
 
 /// Tells how far the server has come, begins anew where its encoder is to be joined, and sends by one
 /// sender after another.
-fn live<K: KeepServer, F: Feed, W: Write, E: Write, C: Connect>(
+fn live<K: KeepServer, F: Feed, W: Write, E: Write, C: Connect, T: Clock>(
     alloc: Global,
     options: &LiveOptions<'_>,
     server: Server,
@@ -116,6 +124,7 @@ fn live<K: KeepServer, F: Feed, W: Write, E: Write, C: Connect>(
     writer: &mut W,
     errors: &mut E,
     connect: &mut C,
+    clock: &T,
     tally: &mut Tally,
     applied: &mut bool,
 ) -> Result<(), KeptStop>
@@ -149,7 +158,7 @@ fn live<K: KeepServer, F: Feed, W: Write, E: Write, C: Connect>(
     let mut server = server;
     let mut progress = progress;
     let due = is_due(options.join, progress);
-    match begin(alloc, due, &mut server, &mut progress, keeper, writer) {
+    match begin(alloc, options.form, due, &mut server, &mut progress, keeper, writer) {
         Err(stop) => Err(stop),
         Ok(()) => run_all(
             alloc,
@@ -162,6 +171,7 @@ fn live<K: KeepServer, F: Feed, W: Write, E: Write, C: Connect>(
             writer,
             errors,
             connect,
+            clock,
             tally,
             applied,
         ),
@@ -170,7 +180,7 @@ fn live<K: KeepServer, F: Feed, W: Write, E: Write, C: Connect>(
 
 /// Joins the encoder and makes the station where that is due, settles what waits, and then takes and sends batch after
 /// batch.
-pub(crate) fn run_sender<K: KeepServer, F: Feed, W: Write, E: Write, C: Connect>(
+pub(crate) fn run_sender<K: KeepServer, F: Feed, W: Write, E: Write, C: Connect, T: Clock>(
     alloc: Global,
     due: bool,
     options: &LiveOptions<'_>,
@@ -180,6 +190,7 @@ pub(crate) fn run_sender<K: KeepServer, F: Feed, W: Write, E: Write, C: Connect>
     feed: &mut F,
     writer: &mut W,
     errors: &mut E,
+    clock: &T,
     tally: &mut Tally,
     applied: &mut bool,
     unknown: &mut usize,
@@ -226,6 +237,7 @@ pub(crate) fn run_sender<K: KeepServer, F: Feed, W: Write, E: Write, C: Connect>
     let reading = &options.reading;
     make_if(
         alloc,
+        options.form,
         due,
         reading.size,
         options.station,
@@ -235,15 +247,19 @@ pub(crate) fn run_sender<K: KeepServer, F: Feed, W: Write, E: Write, C: Connect>
         writer,
         applied,
     )?;
-    settle_first(alloc, sender, keeper, *progress, writer, applied, unknown)?;
+    settle_first(
+        alloc, options.form, clock, sender, keeper, *progress, writer, applied, unknown,
+    )?;
     run_turns(
-        alloc, reading, sender, keeper, progress, feed, writer, errors, tally, applied, unknown,
+        alloc, options.form, reading, sender, keeper, progress, feed, writer, errors, clock, tally,
+        applied, unknown,
     )
 }
 
 /// Takes and sends one batch after another.
-fn run_turns<K: KeepServer, F: Feed, W: Write, E: Write, C: Connect>(
+fn run_turns<K: KeepServer, F: Feed, W: Write, E: Write, C: Connect, T: Clock>(
     alloc: Global,
+    form: Form,
     reading: &Reading,
     sender: &mut Sender<'_, C>,
     keeper: &mut K,
@@ -251,6 +267,7 @@ fn run_turns<K: KeepServer, F: Feed, W: Write, E: Write, C: Connect>(
     feed: &mut F,
     writer: &mut W,
     errors: &mut E,
+    clock: &T,
     tally: &mut Tally,
     applied: &mut bool,
     unknown: &mut usize,
@@ -260,7 +277,7 @@ fn run_turns<K: KeepServer, F: Feed, W: Write, E: Write, C: Connect>(
     requires idle { sender.old.sender.server.held ≡ [] }
     requires countable { progress.old.taken < 2 ^ 63 }
     ensures runs { RunsTurns C.opens C.closes C.Input.remaining C.Output.contents K.leaves K.is_clean K.saves K.fails
-        reading.now.region reading.now.size reading.now.strict (record {
+        form reading.now.region reading.now.size reading.now.strict (record {
           sends = record {
             runs = sender.old;
             keeper = keeper.old;
@@ -296,8 +313,8 @@ fn run_turns<K: KeepServer, F: Feed, W: Write, E: Write, C: Connect>(
     let mut line = Vec::new(alloc);
     for _turn in 0..TURNS_MAX {
         match make_turn(
-            alloc, reading, sender, keeper, progress, feed, writer, errors, tally, applied,
-            unknown, &mut line,
+            alloc, form, reading, sender, keeper, progress, feed, writer, errors, clock, tally,
+            applied, unknown, &mut line,
         ) {
             Err(stop) => return Err(stop),
             Ok(After::Ends(ended)) => return ended_as(ended),
@@ -318,8 +335,9 @@ fn ended_as(ended: Result<(), RunFault>) -> Result<(), KeptStop>
 }
 
 /// Takes one batch and sends it, and tells what comes after it.
-fn make_turn<K: KeepServer, F: Feed, W: Write, E: Write, C: Connect>(
+fn make_turn<K: KeepServer, F: Feed, W: Write, E: Write, C: Connect, T: Clock>(
     alloc: Global,
+    form: Form,
     reading: &Reading,
     sender: &mut Sender<'_, C>,
     keeper: &mut K,
@@ -327,6 +345,7 @@ fn make_turn<K: KeepServer, F: Feed, W: Write, E: Write, C: Connect>(
     feed: &mut F,
     writer: &mut W,
     errors: &mut E,
+    clock: &T,
     tally: &mut Tally,
     applied: &mut bool,
     unknown: &mut usize,
@@ -337,7 +356,7 @@ fn make_turn<K: KeepServer, F: Feed, W: Write, E: Write, C: Connect>(
     requires idle { sender.old.sender.server.held ≡ [] }
     requires countable { progress.old.taken + 8 < 2 ^ 64 - 1 }
     ensures made { IfOk result (λ after. Turn C.opens C.closes C.Input.remaining C.Output.contents K.leaves K.is_clean
-        K.saves K.fails reading.now.region reading.now.size reading.now.strict (record {
+        K.saves K.fails form reading.now.region reading.now.size reading.now.strict (record {
           sends = record {
             runs = sender.old;
             keeper = keeper.old;
@@ -370,7 +389,7 @@ fn make_turn<K: KeepServer, F: Feed, W: Write, E: Write, C: Connect>(
         }) after (Ok tt)) }
     ensures stopped { IfErr result (λ stop. (after : Next)
         × Turn C.opens C.closes C.Input.remaining C.Output.contents K.leaves K.is_clean
-        K.saves K.fails reading.now.region reading.now.size reading.now.strict (record {
+        K.saves K.fails form reading.now.region reading.now.size reading.now.strict (record {
           sends = record {
             runs = sender.old;
             keeper = keeper.old;
@@ -409,6 +428,8 @@ fn make_turn<K: KeepServer, F: Feed, W: Write, E: Write, C: Connect>(
     let after = take_batch(alloc, reading, feed, line, errors, tally, &mut batch);
     match send_some(
         alloc,
+        form,
+        clock,
         batch.as_slice(),
         sender,
         keeper,

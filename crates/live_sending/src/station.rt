@@ -9,15 +9,17 @@ ghost use Rattle.uecp_net.specs.Sending.{submitted_all};
 ghost use Rattle.kept_sending.specs.Keeping.{KeptServer, IsKept};
 ghost use Rattle.kept_sending.specs.Joining.{OutlivesPass, StaysKeptJoining, joined_as};
 ghost use Rattle.uecp_jobs.specs.Batches.{fault_of};
-ghost use Rattle.uecp_jobs.specs.JoiningFirst.{not_joined_line};
 ghost use Rattle.kept_jobs.specs.declared.stop.KeptStop.TheVariants.{Run};
 ghost use Rattle.kept_jobs.specs.Stops.{TellsKept};
-ghost use Rattle.live_sending.specs.Lines.{refused_lines, is_applied};
+ghost use Rattle.live_sending.specs.Lines.{is_applied};
+ghost use Rattle.live_sending.specs.Forms.{refused_in, not_joined_in};
 ghost use Rattle.live_sending.specs.Station.{JoinedTold, SettlesBatch, SendsStation, MakesStation, MakesKept, MakesIf};
 
-use crate::lines::{all_applied, put_applied, put_refused};
+use crate::forms::{put_applied_in, put_joined_in, put_not_joined_in, put_refused_in};
+use crate::lines::all_applied;
 use kept_jobs::{KeptStop, write_told};
 use kept_sending::{KeepServer, KeptOutstanding, Progress, SaveFailed};
+use output_forms::Form;
 use std::alloc::Global;
 use std::io::Write;
 use uecp_frame::Message;
@@ -29,6 +31,7 @@ use uecp_text::Output;
 /// is kept.
 pub(crate) fn make_if<K: KeepServer, W: Write, C: Connect>(
     alloc: Global,
+    form: Form,
     due: bool,
     size: usize,
     station: &[Message],
@@ -43,7 +46,7 @@ pub(crate) fn make_if<K: KeepServer, W: Write, C: Connect>(
     requires idle { IsTrue due → sender.old.sender.server.held ≡ [] }
     requires not_joined { IsTrue due → progress.old.joined ≡ false }
     ensures makes { MakesIf C.opens C.closes C.Input.remaining C.Output.contents K.leaves K.is_clean K.saves K.fails
-        size station.now due
+        form size station.now due
         (record { runs = sender.old; keeper = keeper.old; progress = progress.old; held = W.contents writer.old })
         (record { runs = sender.new; keeper = keeper.new; progress = progress.new; held = W.contents writer.new })
         applied.old applied.new result }
@@ -54,30 +57,31 @@ pub(crate) fn make_if<K: KeepServer, W: Write, C: Connect>(
         return Ok(());
     }
     let mut lines = Output::new(alloc);
-    lines.text("joined\n");
+    put_joined_in(form, &mut lines);
     let mut all = true;
     let joined = make_kept(
-        size, station, sender, keeper, progress, &mut lines, &mut all,
+        form, size, station, sender, keeper, progress, &mut lines, &mut all,
     );
     *applied = *applied && all;
-    put_applied(station, all, &mut lines);
-    tell_joined(alloc, joined, &mut lines, writer)
+    put_applied_in(form, station, all, &mut lines);
+    tell_joined(alloc, form, joined, &mut lines, writer)
 }
 
 /// Tells these lines of an encoder that was joined so, or that it could not be, and says how the run goes on. Nothing
 /// is told where the save failed.
 fn tell_joined<W: Write>(
     alloc: Global,
+    form: Form,
     joined: Result<(), KeptOutstanding>,
     output: &mut Output,
     writer: &mut W,
 ) -> Result<(), KeptStop>
     ensures tells { (lines : List ℕ) → (IsTrue output.old.is_whole → output.old.bytes ≡ lines)
-        → JoinedTold lines joined (W.contents writer.old) (W.contents writer.new) result }
+        → JoinedTold form lines joined (W.contents writer.old) (W.contents writer.new) result }
 {
     match joined {
         Ok(()) => write_told(output, writer),
-        Err(KeptOutstanding::Outstanding(reason)) => tell_not_joined(alloc, reason, writer),
+        Err(KeptOutstanding::Outstanding(reason)) => tell_not_joined(alloc, form, reason, writer),
         Err(KeptOutstanding::StateFailed) => Err(KeptStop::StateFailed),
     }
 }
@@ -85,14 +89,15 @@ fn tell_joined<W: Write>(
 /// Tells that the encoder is not joined, and says that the run stops for this reason.
 fn tell_not_joined<W: Write>(
     alloc: Global,
+    form: Form,
     reason: Outstanding,
     writer: &mut W,
 ) -> Result<(), KeptStop>
-    ensures tells { TellsKept not_joined_line (Err (Run (fault_of reason))) (W.contents writer.old)
+    ensures tells { TellsKept (not_joined_in form) (Err (Run (fault_of reason))) (W.contents writer.old)
         (W.contents writer.new) result }
 {
     let mut output = Output::new(alloc);
-    output.text("not joined\n");
+    put_not_joined_in(form, &mut output);
     match write_told(&mut output, writer) {
         Err(stop) => Err(stop),
         Ok(()) => Err(KeptStop::Run(fault_of(reason))),
@@ -102,6 +107,7 @@ fn tell_not_joined<W: Write>(
 /// Joins the encoder and makes the station, and saves the server as joined then. The lines of the messages that the
 /// encoder refused are put down.
 fn make_kept<K: KeepServer, C: Connect>(
+    form: Form,
     size: usize,
     station: &[Message],
     sender: &mut Sender<'_, C>,
@@ -115,9 +121,9 @@ fn make_kept<K: KeepServer, C: Connect>(
     requires idle { sender.old.sender.server.held ≡ [] }
     requires not_joined { progress.old.joined ≡ false }
     ensures makes { (told : List AnyCode)
-        × MakesKept C.opens C.closes C.Input.remaining C.Output.contents K.leaves K.is_clean K.saves K.fails size
-        station.now progress.new told sender.old sender.new keeper.old keeper.new result
-        × Adds lines.old lines.new (refused_lines 1 told) × (all.new ≡ all.old && list_all is_applied told) }
+        × MakesKept C.opens C.closes C.Input.remaining C.Output.contents K.leaves K.is_clean K.saves K.fails form
+        size station.now progress.new told sender.old sender.new keeper.old keeper.new result
+        × Adds lines.old lines.new (refused_in form 1 told) × (all.new ≡ all.old && list_all is_applied told) }
     ensures progress { progress.new ≡ joined_as result progress.old }
     ensures outlives { IsKept (K.leaves keeper.old) progress.old sender.old.sender.server → K.is_clean keeper.new
         → (left : KeptServer) → K.leaves keeper.new left
@@ -127,7 +133,7 @@ fn make_kept<K: KeepServer, C: Connect>(
     ensures clean { K.is_clean keeper.new → K.is_clean keeper.old }
     ensures loan { sender.new.loan ≡ sender.old.loan }
 {
-    match join_and_send(size, station, sender, lines, all) {
+    match join_and_send(form, size, station, sender, lines, all) {
         Err(reason) => Err(KeptOutstanding::Outstanding(reason)),
         Ok(()) => {
             progress.joined = true;
@@ -141,6 +147,7 @@ fn make_kept<K: KeepServer, C: Connect>(
 
 /// Joins the encoder, and then sends the messages of the station.
 fn join_and_send<C: Connect>(
+    form: Form,
     size: usize,
     station: &[Message],
     sender: &mut Sender<'_, C>,
@@ -152,17 +159,18 @@ fn join_and_send<C: Connect>(
     requires idle { sender.old.sender.server.held ≡ [] }
     ensures makes { (told : List AnyCode)
         × MakesStation C.opens C.closes C.Input.remaining C.Output.contents size station.now told sender.old sender.new
-        result × Adds lines.old lines.new (refused_lines 1 told) × (all.new ≡ all.old && list_all is_applied told) }
+        result × Adds lines.old lines.new (refused_in form 1 told) × (all.new ≡ all.old && list_all is_applied told) }
     ensures loan { sender.new.loan ≡ sender.old.loan }
 {
     match sender.join() {
         Err(reason) => Err(reason),
-        Ok(()) => send_station(size, station, sender, lines, all),
+        Ok(()) => send_station(form, size, station, sender, lines, all),
     }
 }
 
 /// Sends the messages of the station, batch by batch, and puts down the lines of those that the encoder refused.
 fn send_station<C: Connect>(
+    form: Form,
     size: usize,
     station: &[Message],
     sender: &mut Sender<'_, C>,
@@ -174,13 +182,13 @@ fn send_station<C: Connect>(
     requires idle { sender.old.sender.server.held ≡ [] }
     ensures sends { (told : List AnyCode)
         × SendsStation C.opens C.closes C.Input.remaining C.Output.contents size station.now told sender.old sender.new
-        result × Adds lines.old lines.new (refused_lines 1 told) × (all.new ≡ all.old && list_all is_applied told) }
+        result × Adds lines.old lines.new (refused_in form 1 told) × (all.new ≡ all.old && list_all is_applied told) }
     ensures loan { sender.new.loan ≡ sender.old.loan }
 {
     let mut rest = station;
     while !rest.is_empty() {
         let (batch, more) = rest.split_at(size.min(rest.len()));
-        match send_one(station.len() - rest.len(), batch, sender, lines, all) {
+        match send_one(form, station.len() - rest.len(), batch, sender, lines, all) {
             Err(reason) => return Err(reason),
             Ok(()) => {}
         }
@@ -192,6 +200,7 @@ fn send_station<C: Connect>(
 /// Sends these messages of the station, before which so many were sent, and puts down the lines of those that the
 /// encoder refused.
 fn send_one<C: Connect>(
+    form: Form,
     number: usize,
     batch: &[Message],
     sender: &mut Sender<'_, C>,
@@ -204,7 +213,7 @@ fn send_one<C: Connect>(
     requires countable { number + 1 + length batch.now < 2 ^ 64 }
     ensures sent { IfOk result (λ _. (told : List AnyCode) × (tries : ℕ)
         × Acknowledges C.opens C.closes C.Input.remaining C.Output.contents sender.old batch.now told tries sender.new
-        × Adds lines.old lines.new (refused_lines (number + 1) told)
+        × Adds lines.old lines.new (refused_in form (number + 1) told)
         × (all.new ≡ all.old && list_all is_applied told)) }
     ensures outstanding { IfErr result (λ reason.
         GivesUp C.opens C.closes C.Input.remaining C.Output.contents sender.old batch.now reason sender.new
@@ -217,7 +226,7 @@ fn send_one<C: Connect>(
         Ok(settled) => {
             let codes = settled.codes.as_slice();
             *all = *all && all_applied(codes);
-            put_refused(number + 1, codes, lines);
+            put_refused_in(form, number + 1, codes, lines);
             Ok(())
         }
     }

@@ -1,24 +1,34 @@
 //! A batch is sent, and the reply to each message told. Source: profile.
 ghost use Rattle.std.specs.Prelude.{◌≡◌, ◌≢◌, ◌≤◌, ◌<◌, ◌+◌, ◌-◌, ◌^◌, [], length, IfOk, Ok};
+ghost use Rattle.uecp_link.specs.Server.{counters_waiting};
+ghost use Rattle.uecp_net.specs.Sending.{submitted_all};
 ghost use Rattle.kept_sending.specs.Keeping.{taking};
-ghost use Rattle.live_sending.specs.Run.{SendsBatch, SendsSome, SettlesLive, RepliesTold, HeldTold, are_applied};
+ghost use Rattle.live_sending.specs.Run.{SendsBatch, SendsSome, SettlesLive, AnswersTold, RepliesOf, are_applied};
 ghost use Rattle.live_sending.specs.Run.{unknown_of};
 ghost use Rattle.live_sending.specs.Run.{marks_in};
+ghost use Rattle.live_sending.specs.Forms.{AreHeld};
 
-use crate::lines::{all_applied, put_held, put_replies};
+use crate::counters::{counters_after, counters_of};
+use crate::forms::{put_held_in, put_replies_in};
+use crate::lines::all_applied;
+use crate::timing::now;
 use arrayvec::ArrayVec;
 use kept_jobs::{KeptStop, stop_for, write_told};
 use kept_sending::{KeepServer, KeptOutstanding, Progress, send_kept, settle_kept};
+use output_forms::Form;
 use std::alloc::Global;
 use std::io::Write;
+use std::time::Clock;
 use uecp_frame::Message;
 use uecp_link::{Server, ServerCounts, WINDOW_MAX};
 use uecp_net::{Connect, Outstanding, Sender, Settled};
 use uecp_text::Output;
 
 /// Sends these messages, and tells what the encoder answered to each once that is kept.
-pub(crate) fn send_batch<K: KeepServer, W: Write, C: Connect>(
+pub(crate) fn send_batch<K: KeepServer, W: Write, C: Connect, T: Clock>(
     alloc: Global,
+    form: Form,
+    clock: &T,
     batch: &[Message],
     sender: &mut Sender<'_, C>,
     keeper: &mut K,
@@ -32,7 +42,7 @@ pub(crate) fn send_batch<K: KeepServer, W: Write, C: Connect>(
     requires idle { sender.old.sender.server.held ≡ [] }
     requires countable { progress.old.taken + length batch.now < 2 ^ 64 - 1 }
     ensures sends { SendsBatch C.opens C.closes C.Input.remaining C.Output.contents K.leaves K.is_clean K.saves K.fails
-        batch.now (record {
+        form batch.now (record {
           runs = sender.old;
           keeper = keeper.old;
           progress = progress.old;
@@ -47,12 +57,18 @@ pub(crate) fn send_batch<K: KeepServer, W: Write, C: Connect>(
     ensures idle { IfOk result (λ _. sender.new.sender.server.held ≡ []) }
     ensures loan { sender.new.loan ≡ sender.old.loan }
 {
+    let counters = counters_after(sender.server().last(), batch.len());
+    let since = now(clock);
     let ended = send_kept(sender, keeper, progress, batch);
     *applied = *applied && are_applied(&ended);
     *unknown = unknown_of(batch.len(), &ended);
     tell_replies(
         alloc,
+        form,
+        clock,
+        since,
         progress.taken,
+        counters.as_slice(),
         &ended,
         sender.server().counts(),
         writer,
@@ -60,8 +76,10 @@ pub(crate) fn send_batch<K: KeepServer, W: Write, C: Connect>(
 }
 
 /// Sends these messages so, where there are some.
-pub(crate) fn send_some<K: KeepServer, W: Write, C: Connect>(
+pub(crate) fn send_some<K: KeepServer, W: Write, C: Connect, T: Clock>(
     alloc: Global,
+    form: Form,
+    clock: &T,
     batch: &[Message],
     sender: &mut Sender<'_, C>,
     keeper: &mut K,
@@ -74,7 +92,7 @@ pub(crate) fn send_some<K: KeepServer, W: Write, C: Connect>(
     requires idle { sender.old.sender.server.held ≡ [] }
     requires countable { progress.old.taken + length batch.now < 2 ^ 64 - 1 }
     ensures sends { SendsSome C.opens C.closes C.Input.remaining C.Output.contents K.leaves K.is_clean K.saves K.fails
-        batch.now (record {
+        form batch.now (record {
           runs = sender.old;
           keeper = keeper.old;
           progress = progress.old;
@@ -93,13 +111,15 @@ pub(crate) fn send_some<K: KeepServer, W: Write, C: Connect>(
         return Ok(());
     }
     send_batch(
-        alloc, batch, sender, keeper, progress, writer, applied, unknown,
+        alloc, form, clock, batch, sender, keeper, progress, writer, applied, unknown,
     )
 }
 
 /// Settles what waits, where messages wait, and tells what the encoder answered to each once that is kept.
-pub(crate) fn settle_first<K: KeepServer, W: Write, C: Connect>(
+pub(crate) fn settle_first<K: KeepServer, W: Write, C: Connect, T: Clock>(
     alloc: Global,
+    form: Form,
+    clock: &T,
     sender: &mut Sender<'_, C>,
     keeper: &mut K,
     progress: Progress,
@@ -109,7 +129,7 @@ pub(crate) fn settle_first<K: KeepServer, W: Write, C: Connect>(
 ) -> Result<(), KeptStop>
     requires countable { progress.taken < 2 ^ 64 - 1 }
     ensures settles { SettlesLive C.opens C.closes C.Input.remaining C.Output.contents K.leaves K.is_clean K.saves
-        K.fails (record { runs = sender.old; keeper = keeper.old; progress = progress; held = W.contents writer.old })
+        K.fails form (record { runs = sender.old; keeper = keeper.old; progress = progress; held = W.contents writer.old })
         (record { runs = sender.new; keeper = keeper.new; progress = progress; held = W.contents writer.new })
         applied.old applied.new unknown.old unknown.new result }
     ensures idle { IfOk result (λ _. sender.new.sender.server.held ≡ []) }
@@ -119,13 +139,19 @@ pub(crate) fn settle_first<K: KeepServer, W: Write, C: Connect>(
         return Ok(());
     }
     let marks = marks_of(sender.server());
+    let counters = counters_of(sender.server());
+    let since = now(clock);
     let ended = settle_kept(sender, keeper, progress);
     *applied = *applied && are_applied(&ended);
     *unknown = unknown_of(marks.len(), &ended);
     tell_held(
         alloc,
+        form,
+        clock,
+        since,
         first_of(progress.taken, marks.len()),
         marks.as_slice(),
+        counters.as_slice(),
         &ended,
         sender.server().counts(),
         writer,
@@ -146,23 +172,30 @@ fn marks_of(server: &Server) -> ArrayVec<bool, WINDOW_MAX>
     marks
 }
 
-/// Tells what the encoder answered to messages that were held, of which the first has this number and those that are
-/// not marked were settled so, and says how the run goes on.
-fn tell_held<W: Write>(
+/// Tells what the encoder answered to messages that were held, of which the first has this number: those that are not
+/// marked waited under these counters, were sent since then and settled so. Says how the run goes on.
+fn tell_held<W: Write, T: Clock>(
     alloc: Global,
+    form: Form,
+    clock: &T,
+    since: u64,
     first: u64,
     marks: &[bool],
+    counters: &[u8],
     ended: &Result<Settled, KeptOutstanding>,
     counts: ServerCounts,
     writer: &mut W,
 ) -> Result<(), KeptStop>
     requires countable { first + length marks.now < 2 ^ 64 }
-    ensures tells { HeldTold first marks.now counts ended.now (W.contents writer.old) (W.contents writer.new) result }
+    ensures tells { AnswersTold (AreHeld form first marks.now counters.now) counts ended.now (W.contents writer.old)
+        (W.contents writer.new) result }
 {
     match ended {
         Ok(settled) => {
             let mut output = Output::new(alloc);
-            put_held(first, marks, settled.codes.as_slice(), &mut output);
+            put_held_in(
+                form, clock, since, first, marks, counters, settled, &mut output,
+            );
             write_told(&mut output, writer)
         }
         Err(KeptOutstanding::Outstanding(why)) => Err(stop_for(*why, counts)),
@@ -170,23 +203,31 @@ fn tell_held<W: Write>(
     }
 }
 
-/// Tells what the encoder answered to messages that were settled so, the last of which has this number, and says how
-/// the run goes on. Nothing is told of messages that are outstanding, or where a save failed.
-fn tell_replies<W: Write>(
+/// Tells what the encoder answered to messages that were sent under these counters since then and settled so, the last
+/// of which has this number, and says how the run goes on. Nothing is told of messages that are outstanding, or where a
+/// save failed.
+fn tell_replies<W: Write, T: Clock>(
     alloc: Global,
+    form: Form,
+    clock: &T,
+    since: u64,
     last: u64,
+    counters: &[u8],
     ended: &Result<Settled, KeptOutstanding>,
     counts: ServerCounts,
     writer: &mut W,
 ) -> Result<(), KeptStop>
     requires countable { last < 2 ^ 64 - 1 }
-    ensures tells { RepliesTold last counts ended.now (W.contents writer.old) (W.contents writer.new) result }
+    ensures tells { AnswersTold (RepliesOf form last counters.now) counts ended.now (W.contents writer.old)
+        (W.contents writer.new) result }
 {
     match ended {
         Ok(settled) => {
-            let codes = settled.codes.as_slice();
+            let first = first_of(last, settled.codes.len());
             let mut output = Output::new(alloc);
-            put_replies(first_of(last, codes.len()), codes, &mut output);
+            put_replies_in(
+                form, clock, since, first, counters, settled, &mut output,
+            );
             write_told(&mut output, writer)
         }
         Err(KeptOutstanding::Outstanding(reason)) => Err(stop_for(*reason, counts)),

@@ -26,6 +26,7 @@ pub record IsFor (job : SendJob) (station : List (List ℕ)) (options : LiveOpti
   pub reading : options.reading ≡ record { region = job.region; size = job.window; strict = job.strict }
   pub join : options.join ≡ job.join
   pub rejoin : options.rejoin ≡ job.rejoin
+  pub form : options.form ≡ job.form
   pub sends_station : options.station.now ≡ station
 
 -- The site and the encoder's number are not those of one encoder, and that was said, or begun to be said.

@@ -1,5 +1,6 @@
 //! What the command `send` asks for (profile).
 
+use output_forms::Form;
 use rds_text::Region;
 
 /// What the command `send` asks for.
@@ -23,6 +24,8 @@ pub struct SendJob {
     pub window: u8,
     /// Of which region the programme types of its lines are.
     pub region: Region,
+    /// In which form it is told what comes of the messages.
+    pub form: Form,
     /// Whether the run ends at a line that is refused.
     pub strict: bool,
     /// Whether the encoder is joined even where it was joined before.

@@ -11,6 +11,7 @@ use state_files::StateFault;
 use state_jobs::{OpenStates, state_text};
 use std::alloc::Global;
 use std::io::Write;
+use std::time::Clock;
 use uecp_frame::Address;
 use uecp_net::Connect;
 
@@ -21,7 +22,7 @@ const TAKEN_MAX: u64 = 1 << 63;
 /// as [`run_live`] does: 0 all were applied, 1 a line was refused, 3 the run stopped, or the state can't be opened,
 /// saved or closed, 4 the encoder refused a message. The state is opened before a line is taken and before any
 /// connection is, and closed at the end.
-pub fn run_live_in<S: OpenStates, F: Feed, W: Write, E: Write, C: Connect>(
+pub fn run_live_in<S: OpenStates, F: Feed, W: Write, E: Write, C: Connect, T: Clock>(
     alloc: Global,
     options: &LiveOptions<'_>,
     address: Address,
@@ -31,6 +32,7 @@ pub fn run_live_in<S: OpenStates, F: Feed, W: Write, E: Write, C: Connect>(
     writer: &mut W,
     errors: &mut E,
     connect: &mut C,
+    clock: &T,
 ) -> u8
     requires exact { IsTrue (is_exact address) }
     requires some { 1 ≤ options.now.reading.size }
@@ -62,6 +64,7 @@ pub fn run_live_in<S: OpenStates, F: Feed, W: Write, E: Write, C: Connect>(
                 writer,
                 errors,
                 connect,
+                clock,
             );
             closed_live(status, states.close_server(keeper), errors)
         }

@@ -68,6 +68,7 @@ pub fn run_send_over_tcp<
                 writer,
                 errors,
                 &mut patient,
+                net,
             )
         }
     }

@@ -12,6 +12,7 @@ use live_sending::{LiveOptions, NotKept, run_live};
 use state_jobs::OpenStates;
 use std::alloc::Global;
 use std::io::Write;
+use std::time::Clock;
 use uecp_frame::{Address, Message};
 use uecp_jobs::{address_of, fail};
 use uecp_link::Server;
@@ -22,7 +23,7 @@ use uecp_text::RunFault;
 /// the address is not that of one encoder, 3 the state can't be opened, saved or closed, a message is outstanding, or
 /// memory, reading or writing failed, 4 the encoder refused a message. With a state in a file the run goes on from it;
 /// else it begins with a new server, which joins its encoder. The messages of the station are sent behind each join.
-pub fn run_send<S: OpenStates, F: Feed, W: Write, E: Write, C: Connect>(
+pub fn run_send<S: OpenStates, F: Feed, W: Write, E: Write, C: Connect, T: Clock>(
     alloc: Global,
     job: &SendJob,
     station: &[Message],
@@ -31,6 +32,7 @@ pub fn run_send<S: OpenStates, F: Feed, W: Write, E: Write, C: Connect>(
     writer: &mut W,
     errors: &mut E,
     connect: &mut C,
+    clock: &T,
 ) -> u8
     requires { IsSendable job.now }
     ensures { HasSentLive C.opens C.closes C.Input.remaining C.Output.contents (S.gives_server states.now)
@@ -47,10 +49,12 @@ pub fn run_send<S: OpenStates, F: Feed, W: Write, E: Write, C: Connect>(
         Some(path) => {
             let path = path.as_str();
             run_live_in(
-                alloc, &options, address, path, states, feed, writer, errors, connect,
+                alloc, &options, address, path, states, feed, writer, errors, connect, clock,
             )
         }
-        None => run_unkept(alloc, &options, address, feed, writer, errors, connect),
+        None => run_unkept(
+            alloc, &options, address, feed, writer, errors, connect, clock,
+        ),
     }
 }
 
@@ -71,12 +75,13 @@ fn options_of<'a>(job: &SendJob, station: &'a [Message]) -> LiveOptions<'a>
         },
         join: job.join,
         rejoin: job.rejoin,
+        form: job.form,
         station,
     }
 }
 
 /// Sends with no state, from a new server on.
-fn run_unkept<F: Feed, W: Write, E: Write, C: Connect>(
+fn run_unkept<F: Feed, W: Write, E: Write, C: Connect, T: Clock>(
     alloc: Global,
     options: &LiveOptions<'_>,
     address: Address,
@@ -84,6 +89,7 @@ fn run_unkept<F: Feed, W: Write, E: Write, C: Connect>(
     writer: &mut W,
     errors: &mut E,
     connect: &mut C,
+    clock: &T,
 ) -> u8
     requires exact { IsTrue (is_exact address) }
     requires some { 1 ≤ options.now.reading.size }
@@ -106,5 +112,6 @@ fn run_unkept<F: Feed, W: Write, E: Write, C: Connect>(
         writer,
         errors,
         connect,
+        clock,
     )
 }

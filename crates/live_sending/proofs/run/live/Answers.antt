@@ -1,6 +1,6 @@
 use Rattle.std.proofs.Common.{Ok, Err, refl, subst, inl, inr}
 use Rattle.kept_jobs.specs.Stops.{Then}
-use Rattle.kept_jobs.specs.ServerRun.{TellsTaken, BeginsAnewIf}
+use Rattle.live_sending.specs.Beginning.{TellsTaken, BeginsAnewIf}
 use Rattle.live_sending.specs.Run.{RunsFor}
 use Rattle.live_sending.proofs.run.live.Goals as goal
 
@@ -13,7 +13,7 @@ returns-in-Err g c =
       lives = inr (
         record { runs = now.server; keeper = now.keeper; progress = now.progress; held = held now.writer },
         c.in-Err.stop,
-        subst (λ due. Then TellsTaken (BeginsAnewIf k.leaves k.is_clean k.saves k.fails due) (record {
+        subst (λ due. Then (TellsTaken c.args.options.now.form) (BeginsAnewIf k.leaves k.is_clean k.saves k.fails c.args.options.now.form due) (record {
           runs = c.args.server;
           keeper = c.args.keeper.now;
           progress = c.args.progress;
@@ -56,7 +56,7 @@ returns-in-Ok g c =
           applied = ran.new.applied;
           unknown = unknown;
         },
-        subst (λ due. Then TellsTaken (BeginsAnewIf k.leaves k.is_clean k.saves k.fails due) (record {
+        subst (λ due. Then (TellsTaken c.args.options.now.form) (BeginsAnewIf k.leaves k.is_clean k.saves k.fails c.args.options.now.form due) (record {
           runs = c.args.server;
           keeper = c.args.keeper.now;
           progress = c.args.progress;

@@ -11,7 +11,7 @@ invariant-loop-turn g l =
       loan : l.sender.loan ≡ l.fn.sender.loan;
       countable : l.progress.taken ≤ l.fn.progress.taken + 8 * l._turn;
       on : GoesOnFor g.C.Connect.opens g.C.Connect.closes g.C.Input.Read.remaining g.C.Output.Write.contents k.leaves
-          k.is_clean k.saves k.fails l.reading.region l.reading.size l.reading.strict l._turn (record {
+          k.is_clean k.saves k.fails l.form l.reading.region l.reading.size l.reading.strict l._turn (record {
             sends = record {
               runs = l.fn.sender;
               keeper = l.fn.keeper;

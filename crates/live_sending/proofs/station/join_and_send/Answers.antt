@@ -1,12 +1,12 @@
-use Rattle.std.proofs.Common.{[], refl, sym, append-nil, inl, inr}
-use Rattle.live_sending.proofs.Stationing.{and_true}
+use Rattle.std.proofs.Common.{[], refl, sym, inl, inr}
+use Rattle.live_sending.proofs.Stationing.{adds_none, and_true}
 use Rattle.live_sending.proofs.station.join_and_send.Goals as goal
 
 pub returns-in-Err-clause-makes : goal.returns-in-Err-clause-makes
 returns-in-Err-clause-makes g c = (
   [],
   inr (c.in-Err.reason, c.in-Err.ensures.joins, refl, refl),
-  λ whole. (whole, sym (append-nil c.args.lines.now.bytes)),
+  adds_none c.args.form c.args.lines.now,
   sym (and_true c.args.all.now),
 )
 
