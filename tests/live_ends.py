@@ -215,6 +215,12 @@ class Send:
         self.notes(*notes)
         same(self.child.wait(SECONDS), status)
 
+    def worked(self):
+        """The seconds of a processor that it has taken."""
+        with open(f"/proc/{self.child.pid}/stat", encoding="ascii") as status:
+            user, system = status.read().rpartition(")")[2].split()[11:13]
+        return (int(user) + int(system)) / os.sysconf("SC_CLK_TCK")
+
     def peak(self):
         """The most memory that it had, in KB."""
         with open(f"/proc/{self.child.pid}/status", encoding="ascii") as status:
@@ -240,10 +246,10 @@ class Listening(threading.Thread):
 
 
 class Modelled(Listening):
-    """An encoder as tests/model.py has it, which answers one connection after another; its store can be looked at."""
+    """An encoder as tests/model.py has it, which answers one connection after another; its store and the connection can be looked at."""
 
     def __init__(self):
-        self.encoder = model.Encoder(model.Setup())
+        self.encoder, self.near = model.Encoder(model.Setup()), None
         super().__init__()
 
     def run(self):
@@ -253,7 +259,7 @@ class Modelled(Listening):
                     self.answer(near)
 
     def answer(self, near):
-        stream = b""
+        stream, self.near = b"", near
         while data := near.recv(4096):
             stream += data
             for found in model.findings(stream):

@@ -14,8 +14,9 @@ use std::io::Read;
 use std::marker::Model;
 
 /// The lines of a reader. It takes memory for one line when it is made, and none after that. It reads at most 4096
-/// bytes at a time, and only where no whole line is held. Once the reader was at its end it is not read again; a read
-/// that was interrupted is made again. Contracts see what is left: what is held, and then what the reader has left.
+/// bytes at a time, and only where no whole line is held. Before a read that may wait it waits by its arrival. Once the
+/// reader was at its end it is not read again; a read that was interrupted is made again. Contracts see what is left:
+/// what is held, and then what the reader has left.
 #[derive(Drop)]
 pub struct LineFeed<R: Read, A: Arrival> {
     held: Held,
@@ -57,7 +58,7 @@ impl<R: Read, A: Arrival> Feed for LineFeed<R, A> {
     ghost remaining = { λ f. f };
 
     fn next(&mut self, line: &mut Vec<u8>) -> Result<Next, FeedFault> {
-        take_next(&mut self.held, &mut self.source, line)
+        take_next(&mut self.held, &mut self.source, &mut self.arrival, line)
     }
 
     fn is_there(&mut self) -> bool {

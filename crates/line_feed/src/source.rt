@@ -3,6 +3,7 @@ ghost use Rattle.std.specs.Prelude.{◌≡◌, ℕ, ◌<◌, ◌++◌, List, Opt
 ghost use Rattle.std.specs.Io.KnownBytes.{Consumes, Keeps, IsAtEnd};
 ghost use Rattle.line_feed.specs.declared.feed_fault.FeedFault.TheVariants.{Reading};
 
+use crate::arrival::Arrival;
 use crate::feed_fault::FeedFault;
 use crate::held::Held;
 use std::io::{ErrorKind, Read};
@@ -51,6 +52,25 @@ impl<R: Read> Source<R> {
         ensures { self.new ≡ self.old }
     {
         self.failed = true;
+    }
+
+    /// Waits until a read would not wait, where one is to be made, and then does as `read_into`. It reads whatever the
+    /// arrival answers.
+    pub(crate) fn wait_into<A: Arrival>(
+        &mut self,
+        arrival: &mut A,
+        held: &mut Held,
+    ) -> Result<bool, FeedFault>
+        requires room { length held.old < 65537 }
+        ensures read { (bytes : List ℕ) × (held.new ≡ held.old ++ bytes) × Consumes self.old self.new bytes }
+        ensures ended { result ≡ Ok false → Keeps self.old self.new × IsAtEnd self.new × (held.new ≡ held.old) }
+        ensures failed { IfErr result (λ fault. (fault ≡ Reading) × Keeps self.old self.new
+            × (held.new ≡ held.old)) }
+    {
+        if !self.is_done() {
+            let _is_there = arrival.wait(None);
+        }
+        self.read_into(held)
     }
 
     /// Makes one read, and holds what it brought, which may be nothing; whether the reader is not at its end.

@@ -5,6 +5,7 @@ ghost use Rattle.line_feed.specs.Lines.{HasNoEnd, IsNext, IsUntaken};
 ghost use Rattle.line_feed.specs.Parts.{EndsFirst, IsPut};
 ghost use Rattle.line_feed.specs.declared.feed.Next.TheVariants.{End};
 
+use crate::arrival::Arrival;
 use crate::feed::{LINE_MAX, Next};
 use crate::feed_fault::FeedFault;
 use crate::held::Held;
@@ -22,10 +23,12 @@ pub(crate) fn first_line(bytes: &[u8]) -> Option<usize>
     }
 }
 
-/// The next line of what is held and of what the source has left, as [`Feed::next`](crate::Feed::next) says.
-pub(crate) fn take_next<R: Read>(
+/// The next line of what is held and of what the source has left, as [`Feed::next`](crate::Feed::next) says. It is the
+/// arrival that waits.
+pub(crate) fn take_next<R: Read, A: Arrival>(
     held: &mut Held,
     source: &mut Source<R>,
+    arrival: &mut A,
     line: &mut Vec<u8>,
 ) -> Result<Next, FeedFault>
     ensures next { IfOk result (IsNext (prepend_known held.old source.old) (prepend_known held.new source.new)
@@ -40,9 +43,9 @@ pub(crate) fn take_next<R: Read>(
             return take_first(held, count, line);
         }
         if held.room() == 0 {
-            return pass_over(held, source);
+            return pass_over(held, source, arrival);
         }
-        if !source.read_into(held)? {
+        if !source.wait_into(arrival, held)? {
             return take_last(held, line);
         }
     }
@@ -81,7 +84,11 @@ fn take_last(held: &mut Held, line: &mut Vec<u8>) -> Result<Next, FeedFault>
 }
 
 /// Passes over the first line, of which more than [`LINE_MAX`] bytes are held and no line feed.
-fn pass_over<R: Read>(held: &mut Held, source: &mut Source<R>) -> Result<Next, FeedFault>
+fn pass_over<R: Read, A: Arrival>(
+    held: &mut Held,
+    source: &mut Source<R>,
+    arrival: &mut A,
+) -> Result<Next, FeedFault>
     requires no_end { HasNoEnd held.old }
     requires long { 65536 < length held.old }
     ensures next { IfOk result (IsNext (prepend_known held.old source.old) (prepend_known held.new source.new) []) }
@@ -90,7 +97,7 @@ fn pass_over<R: Read>(held: &mut Held, source: &mut Source<R>) -> Result<Next, F
 {
     for _turn in 0..u64::MAX {
         held.clear();
-        if !source.read_into(held)? {
+        if !source.wait_into(arrival, held)? {
             return Ok(Next::TooLong);
         }
         if let Some(count) = first_line(held.as_slice()) {

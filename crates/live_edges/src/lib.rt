@@ -1,19 +1,25 @@
 //! The edges of a run that goes on for days: whether lines of standard input are there, and connections that are tried
 //! again for as long as it takes.
 //!
-//! - [`Polled`]: an [`Arrival`](line_feed::Arrival) that asks the system by a poll.
+//! - [`Polled`]: an [`Arrival`](line_feed::Arrival) that asks the system by a poll, and looks meanwhile after the
+//!   connection that a [`Watch`] has.
 //! - [`Patient`]: a [`Connect`](uecp_net::Connect) that dials again and again, with longer and longer pauses, and says
 //!   when the line is lost, there again, or silent; [`Patience`] is for how long. Its connections are read through
 //!   [`Heard`], which notes whether anything came.
+//! - [`keep_alive`]: has the system ask whether somebody is at the other end of a connection.
 #![tactic(auto)]
 
+mod alive;
 mod heard;
 mod notices;
 mod patience;
 mod patient;
 mod polled;
+mod watch;
 
+pub use alive::keep_alive;
 pub use heard::Heard;
 pub use patience::Patience;
 pub use patient::Patient;
 pub use polled::Polled;
+pub use watch::Watch;

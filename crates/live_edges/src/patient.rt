@@ -2,9 +2,11 @@
 ghost use Rattle.std.specs.Prelude.{◌≡◌};
 ghost use Rattle.live_edges.specs.Patience.{Dialled, DialsOn};
 
+use crate::alive::keep_alive;
 use crate::heard::Heard;
 use crate::notices::{Said, say_away, say_given_up, say_lost, say_silent, say_there};
 use crate::patience::{Patience, Step, Wait};
+use crate::watch::Watch;
 use std::io::Write;
 use std::marker::Model;
 use std::net::{Net, TcpStream};
@@ -17,7 +19,8 @@ const TRIES_MAX: u64 = 1 << 59;
 
 /// Dials a listener until it answers: at once, and then after pauses of 1, 2, 4 .. seconds, and begins with no pause
 /// again once something was heard on a connection. It says when a connection is lost, when there is none to be had and
-/// why, and when there is one again, each once and not at every try; and when nothing is heard for long.
+/// why, and when there is one again, each once and not at every try; and when nothing is heard for long. The system is
+/// asked to look whether the other end is there still, by [`keep_alive`].
 #[derive(Drop)]
 pub struct Patient<'a, N: Net<Stream = TcpStream> + Clock, W: Write> {
     dialing: Dialing<'a, N>,
@@ -25,6 +28,7 @@ pub struct Patient<'a, N: Net<Stream = TcpStream> + Clock, W: Write> {
     host: &'a str,
     port: u16,
     patience: Patience,
+    watch: &'a Watch,
     notices: &'a mut W,
     said: Said,
     wait: Wait,
@@ -43,13 +47,14 @@ impl<'a, N: Net<Stream = TcpStream> + Clock, W: Write> Model for Patient<'a, N, 
 
 impl<'a, N: Net<Stream = TcpStream> + Clock, W: Write> Patient<'a, N, W> {
     /// Dials this host and port, as [`Dialing::new`] has them, with a limit of so many milliseconds for each call, as
-    /// long as its patience lasts, and says what comes of it on `notices`.
+    /// long as its patience lasts, and says what comes of it on `notices`. The watch has the connection that is there.
     pub fn new(
         net: &'a N,
         host: &'a str,
         port: u16,
         timeout: u64,
         patience: Patience,
+        watch: &'a Watch,
         notices: &'a mut W,
     ) -> Patient<'a, N, W>
         ensures { result ≡ record { host = host.now; port = port; timeout = timeout; told = W.contents notices.old } }
@@ -60,16 +65,20 @@ impl<'a, N: Net<Stream = TcpStream> + Clock, W: Write> Patient<'a, N, W> {
             host,
             port,
             patience,
+            watch,
             notices,
             said: Said::Nothing,
             wait: Wait::new(),
         }
     }
 
-    /// Says that the connection is lost that was there last.
+    /// Says that the connection is lost that was there last, if that was not said yet.
     fn tell_lost(&mut self)
         ensures { DialsOn self.old self.new }
     {
+        if self.watch.was_lost() {
+            self.said = Said::Nothing;
+        }
         if self.said != Said::There {
             return;
         }
@@ -103,6 +112,8 @@ impl<'a, N: Net<Stream = TcpStream> + Clock, W: Write> Patient<'a, N, W> {
         thread::sleep(self.net, Duration::from_secs(pause));
         match self.dialing.open() {
             Some((input, output)) => {
+                keep_alive(&output);
+                self.watch.opened(&output);
                 self.found();
                 Some((Heard::new(input), output))
             }
@@ -182,6 +193,7 @@ impl<'a, N: Net<Stream = TcpStream> + Clock, W: Write> Connect for Patient<'a, N
         if input.is_heard() && self.said == Said::Broken {
             self.said = Said::There;
         }
+        self.watch.closed();
         self.wait.closed(
             input.is_heard(),
             input.is_broken(),

@@ -8,7 +8,7 @@ use crate::sending::run_send;
 use crate::station::{StationFault, read_station};
 use kept_jobs::fail_state;
 use line_feed::{Arrival, LineFeed};
-use live_edges::{Heard, Patience, Patient};
+use live_edges::{Heard, Patience, Patient, Watch};
 use state_jobs::OpenStates;
 use std::alloc::Global;
 use std::fs::Files;
@@ -22,7 +22,7 @@ use uecp_text::RunFault;
 
 /// Does the job over TCP with the lines of a reader, and answers the exit status: that of [`run_send`], or 2 where a
 /// line of the station's file is refused, and 3 where that can't be read. What is said of the connection goes to
-/// `notices`.
+/// `notices`, and the watch has the connection that is there, so that the arrival can look after it.
 pub fn run_send_over_tcp<
     'a,
     R: Read,
@@ -39,6 +39,7 @@ pub fn run_send_over_tcp<
     arrival: A,
     writer: &mut W,
     errors: &mut E,
+    watch: &'a Watch,
     notices: &'a mut M,
     net: &'a N,
     states: &S,
@@ -57,7 +58,7 @@ pub fn run_send_over_tcp<
             let Ok(mut feed) = LineFeed::new(alloc, reader, arrival) else {
                 return fail(&RunFault::OutOfMemory, errors);
             };
-            let mut patient = patient_of(net, job, notices);
+            let mut patient = patient_of(net, job, watch, notices);
             let station = station.as_slice();
             run_send(
                 alloc,
@@ -112,6 +113,7 @@ fn fail_station<E: Write>(fault: &StationFault, errors: &mut E) -> u8
 fn patient_of<'a, N: Net<Stream = TcpStream> + Clock, M: Write>(
     net: &'a N,
     job: &'a SendJob,
+    watch: &'a Watch,
     notices: &'a mut M,
 ) -> Patient<'a, N, M>
     ensures { DialsLive job.now (M.contents notices.old) result }
@@ -128,6 +130,7 @@ fn patient_of<'a, N: Net<Stream = TcpStream> + Clock, M: Write>(
         job.port,
         u64::from(job.timeout),
         patience,
+        watch,
         notices,
     )
 }

@@ -27,7 +27,7 @@ use crate::command_line::program;
 use crate::program::{Ran, refuse, run_words, send};
 use crate::usage::Usage;
 use clap::error;
-use live_edges::Polled;
+use live_edges::{Polled, Watch};
 use std::env;
 use std::io::{ErrorKind, Input, Lock};
 use std::process::ExitCode;
@@ -54,7 +54,9 @@ fn main(rt: HostRuntime) -> ExitCode {
             match ran {
                 Ran::Ended(status) => status,
                 Ran::Sends(job) => {
-                    let arrival = Polled::new(rt.alloc(), &rt, STANDARD_INPUT);
+                    let watch = Watch::new();
+                    let mut losses = rt.stderr().lock();
+                    let arrival = Polled::new(rt.alloc(), &rt, STANDARD_INPUT, &watch, &mut losses);
                     let mut notices = rt.stderr().lock();
                     send(
                         rt.alloc(),
@@ -63,6 +65,7 @@ fn main(rt: HostRuntime) -> ExitCode {
                         arrival,
                         &mut writer,
                         &mut errors,
+                        &watch,
                         &mut notices,
                         &rt,
                         &rt,

@@ -31,6 +31,7 @@ use crate::usage::Usage;
 use clap::Error;
 use device_jobs::DeviceJob;
 use line_feed::Arrival;
+use live_edges::Watch;
 use send_jobs::{SendJob, run_send_over_tcp};
 use state_jobs::{OpenStates, run_encoder_in, run_server_in, tell_state};
 use std::alloc::Global;
@@ -125,6 +126,7 @@ pub fn send<
     arrival: A,
     writer: &mut W,
     errors: &mut E,
+    watch: &Watch,
     notices: &mut M,
     net: &N,
     states: &S,
@@ -132,7 +134,7 @@ pub fn send<
     requires { IsLiveInRange job.now }
 {
     run_send_over_tcp(
-        alloc, job, reader, arrival, writer, errors, notices, net, states,
+        alloc, job, reader, arrival, writer, errors, watch, notices, net, states,
     )
 }
 

@@ -17,12 +17,12 @@ returns-in-Some-clause-next g c =
 pub returns-then-not-branch-clause-next : goal.returns-then-not-branch-clause-next
 returns-then-not-branch-clause-next g c =
     let before = prepend_known c.args.held.now c.args.source.now in
-    let read = c.read_into.ensures.read in
-    let held = c.read_into.new.held in
-    let over = c.in_ok-read_into.ensures.ended (ap Ok c.if-not-branch.true) in
-    let kept = keeps_on before c.loop-turn.source c.read_into.new.self c.loop-turn.held held read.0
+    let read = c.wait_into.ensures.read in
+    let held = c.wait_into.new.held in
+    let over = c.in_ok-wait_into.ensures.ended (ap Ok c.if-not-branch.true) in
+    let kept = keeps_on before c.loop-turn.source c.wait_into.new.self c.loop-turn.held held read.0
     c.loop-turn.invariant.0 read.1 read.2 in
     let none : HasNoEnd held =
     subst HasNoEnd (c.as_slice.ensures ∙ sym over.2) c.in_default.ensures in
-    last_taken before c.read_into.new.self held c.take_last.new.held c.take_last.new.line.items c.take_last.result kept
+    last_taken before c.wait_into.new.self held c.take_last.new.held c.take_last.new.line.items c.take_last.result kept
     none over.1 c.take_last.ensures.none c.take_last.ensures.taken

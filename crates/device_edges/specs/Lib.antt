@@ -1,0 +1,2 @@
+-- The definitions that the contracts of the edges of a device cite.
+pub mod Place

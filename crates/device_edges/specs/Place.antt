@@ -1,0 +1,40 @@
+-- Where a device listens (profile).
+use Rattle.std.specs.Prelude.{◌≡◌, ◌≢◌, ℕ, List, Bool, Option, Some, None}
+use Rattle.std.specs.declared.net.ip_addr.IpAddr.{IpAddr}
+use Rattle.std.specs.declared.net.socket_addr.SocketAddr.{SocketAddr}
+use Rattle.std.specs.Net.Grammar.{IsIpText, IsSocketText}
+use Rattle.std.specs.Net.Socket.{socket_ip, socket_port, IsPlainSocket}
+use Rattle.device_edges.specs.declared.address.AddressFault.{AddressFault}
+use Rattle.device_edges.specs.declared.address.AddressFault.TheVariants.{NoAddress, NoPort, TwoPorts, PortZero}
+
+-- What is listened on, and the limit of a connection on which nothing comes, in seconds, if there is one; and whether
+-- the last connection was given up at that limit.
+pub record Listens : Type 0 where
+  pub place : SocketAddr
+  pub idle : Option ℕ
+  pub was_idle : Bool
+
+-- The text writes an IP address with no port (RFC 4291, 2.2, for version 6).
+abbrev pub IsAddress : List ℕ → Type 0
+IsAddress text = (address : IpAddr) × IsIpText text address
+
+-- The text writes an IP address with a port, that of version 6 in brackets (RFC 3986, 3.2.2).
+abbrev pub IsAddressWithPort : List ℕ → Type 0
+IsAddressWithPort text = (place : SocketAddr) × IsSocketText text place
+
+-- The text and the port beside it, if there is one, ask for this address and port: both are in the text; or the text is
+-- an address, and the port is the one beside it. The port is not 0.
+abbrev pub IsPlace : (text : List ℕ) → (port : Option ℕ) → SocketAddr → Type 0
+IsPlace text None place = IsSocketText text place × (socket_port place ≢ 0)
+IsPlace text (Some port) place = IsIpText text (socket_ip place) × IsPlainSocket place port × (port ≢ 0)
+
+-- The text and the port beside it ask for no address and port, for this: the text is no address; there is no port;
+-- there are two; or the port is 0.
+abbrev pub IsNoPlace : (text : List ℕ) → (port : Option ℕ) → AddressFault → Type 0
+IsNoPlace text port NoAddress = ¬ (IsAddress text) × ¬ (IsAddressWithPort text)
+IsNoPlace text None NoPort = IsAddress text × ¬ (IsAddressWithPort text)
+IsNoPlace text (Some port) NoPort = ⊥
+IsNoPlace text None TwoPorts = ⊥
+IsNoPlace text (Some port) TwoPorts = IsAddressWithPort text × ¬ (IsAddress text)
+IsNoPlace text None PortZero = (place : SocketAddr) × IsSocketText text place × (socket_port place ≡ 0)
+IsNoPlace text (Some port) PortZero = IsAddress text × (port ≡ 0)

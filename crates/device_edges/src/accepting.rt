@@ -1,0 +1,130 @@
+//! Connections that are accepted where a device listens. Nothing is claimed of what a socket gives or takes (profile).
+ghost use Rattle.std.specs.Prelude.{◌≡◌, false, IfOk};
+ghost use Rattle.device_edges.specs.Place.{Listens};
+
+use crate::idle::Idle;
+use live_edges::keep_alive;
+use std::io::{Error, ErrorKind};
+use std::marker::Model;
+use std::net::{Net, SocketAddr, TcpListener, TcpStream};
+use std::time::{Clock, Duration};
+use std::{io, thread};
+use uecp_net::Connect;
+
+/// How often a connection is asked for, a second apart, where the system gives none.
+const TRIES_MAX: u64 = 600;
+
+/// Why nobody can listen at an address and a port.
+#[derive(Clone, Copy, Debug, PartialEq, Eq)]
+pub enum BindFault {
+    /// Somebody listens there already.
+    InUse,
+    /// The machine has no such address.
+    NoSuchAddress,
+    /// It is not allowed, as at a port below 1024.
+    NotAllowed,
+    /// The system told another fault.
+    Failed,
+}
+
+/// Listens at an address and a port, and accepts one connection after another.
+#[derive(Drop)]
+pub struct Accepting<'a, N: Net<Listener = TcpListener, Stream = TcpStream> + Clock> {
+    net: &'a N,
+    place: SocketAddr,
+    idle: Option<u32>,
+    listener: TcpListener,
+    was_idle: bool,
+}
+
+impl<'a, N: Net<Listener = TcpListener, Stream = TcpStream> + Clock> Model for Accepting<'a, N> {
+    ghost Value = { Listens };
+
+    ghost view = { λ a. record { place = a.place; idle = a.idle; was_idle = a.was_idle } };
+}
+
+impl<'a, N: Net<Listener = TcpListener, Stream = TcpStream> + Clock> Accepting<'a, N> {
+    /// Listens there from now on. A read of a connection that brings nothing for `idle` seconds, which is not 0, is
+    /// given up, and a write that takes nothing fails; with None there is no limit. Whether the other end is there is
+    /// asked where nothing came for a minute, and a read fails where it is not.
+    ///
+    /// Errors: as [`BindFault`] has them.
+    pub fn new(
+        net: &'a N,
+        place: SocketAddr,
+        idle: Option<u32>,
+    ) -> Result<Accepting<'a, N>, BindFault>
+        ensures { IfOk result (λ accepting. accepting ≡ record { place = place; idle = idle; was_idle = false }) }
+    {
+        match TcpListener::bind(net, place) {
+            Ok(listener) => Ok(Accepting {
+                net,
+                place,
+                idle,
+                listener,
+                was_idle: false,
+            }),
+            Err(error) => Err(fault_of(&error)),
+        }
+    }
+
+    /// Whether the connection that was given back last was given up since nothing came on it.
+    pub fn was_idle(&self) -> bool
+        ensures { result ≡ self.now.was_idle }
+    {
+        self.was_idle
+    }
+
+    /// Accepts a connection.
+    fn accept(&self) -> io::Result<(Idle<TcpStream>, TcpStream)> {
+        let (stream, _) = self.listener.accept()?;
+        two_ends(stream, self.idle)
+    }
+}
+
+impl<'a, N: Net<Listener = TcpListener, Stream = TcpStream> + Clock> Connect for Accepting<'a, N> {
+    type Input = Idle<TcpStream>;
+
+    type Output = TcpStream;
+
+    ghost opens = { λ listens _ listens'. listens' ≡ listens };
+
+    ghost closes = { λ listens input _ listens'. listens' ≡ record listens { was_idle = input.1 } };
+
+    fn open(&mut self) -> Option<(Idle<TcpStream>, TcpStream)> {
+        for _try in 0..TRIES_MAX {
+            match self.accept() {
+                Ok(ends) => return Some(ends),
+                // one that was taken back, or a machine with no descriptor left for now
+                Err(_) => thread::sleep(self.net, Duration::from_secs(1)),
+            }
+        }
+        None
+    }
+
+    fn close(&mut self, input: Idle<TcpStream>, _output: TcpStream) {
+        self.was_idle = input.is_idle();
+    }
+}
+
+/// What the system's fault comes to.
+fn fault_of(error: &Error) -> BindFault {
+    match error.kind() {
+        ErrorKind::AddrInUse => BindFault::InUse,
+        ErrorKind::AddrNotAvailable => BindFault::NoSuchAddress,
+        ErrorKind::PermissionDenied => BindFault::NotAllowed,
+        _ => BindFault::Failed,
+    }
+}
+
+/// The two ends of a stream, with its limits of time. The system is asked to send each reply as soon as it is written;
+/// where that is refused the connection is slower, and no more than that.
+fn two_ends(stream: TcpStream, idle: Option<u32>) -> io::Result<(Idle<TcpStream>, TcpStream)> {
+    let limit = idle.map(|seconds| Duration::from_secs(u64::from(seconds)));
+    stream.set_read_timeout(limit)?;
+    stream.set_write_timeout(limit)?;
+    let _ = stream.set_nodelay(true);
+    keep_alive(&stream);
+    let copy = stream.try_clone()?;
+    Ok((Idle::new(stream), copy))
+}

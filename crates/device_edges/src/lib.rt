@@ -1,0 +1,16 @@
+//! The edges of an encoder that is a device for days: where it listens, and connections that are given up where nothing
+//! comes on them, or where nobody is at their other end.
+//!
+//! - [`listen_address`]: which address and port a text asks for; [`AddressFault`] says why none.
+//! - [`Accepting`]: a [`Connect`](uecp_net::Connect) that listens there and accepts one connection after another;
+//!   [`BindFault`] says why nobody can listen there. Its connections are read through [`Idle`], which notes whether a
+//!   read was given up since nothing came.
+#![tactic(auto)]
+
+mod accepting;
+mod address;
+mod idle;
+
+pub use accepting::{Accepting, BindFault};
+pub use address::{AddressFault, HERE, listen_address};
+pub use idle::Idle;

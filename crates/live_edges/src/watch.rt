@@ -1,0 +1,74 @@
+//! A connection that is looked after while no line comes (profile).
+
+use std::cell::Cell;
+use std::net::TcpStream;
+
+/// The connection that a [`Patient`](crate::Patient) has given out, for a [`Polled`](crate::Polled) that looks after it
+/// while it waits for a line. Both borrow it, and no contract says what it holds.
+#[derive(Drop)]
+pub struct Watch {
+    state: Cell<Watched>,
+}
+
+/// What there is to be looked after.
+#[derive(Default, Drop)]
+enum Watched {
+    /// Nothing.
+    #[default]
+    Nothing,
+    /// A connection, by a handle of its own.
+    Open(TcpStream),
+    /// A connection that is lost, and that was said.
+    Lost,
+}
+
+impl Watch {
+    /// There is no connection yet.
+    pub fn new() -> Watch {
+        Watch {
+            state: Cell::new(Watched::Nothing),
+        }
+    }
+
+    /// This connection was made. Where there is no handle to be had nobody looks after it.
+    pub(crate) fn opened(&self, stream: &TcpStream) {
+        self.state.set(match stream.try_clone() {
+            Ok(stream) => Watched::Open(stream),
+            Err(_) => Watched::Nothing,
+        });
+    }
+
+    /// The connection is done with.
+    pub(crate) fn closed(&self) {
+        if let Watched::Lost = self.state.take() {
+            self.lose();
+        }
+    }
+
+    /// The connection that is to be looked after, if there is one; it is given back, or told to be lost.
+    pub(crate) fn take(&self) -> Option<TcpStream> {
+        match self.state.take() {
+            Watched::Nothing => None,
+            Watched::Open(stream) => Some(stream),
+            Watched::Lost => {
+                self.lose();
+                None
+            }
+        }
+    }
+
+    /// The connection that was taken is there still.
+    pub(crate) fn give_back(&self, stream: TcpStream) {
+        self.state.set(Watched::Open(stream));
+    }
+
+    /// It was said that the connection is lost.
+    pub(crate) fn lose(&self) {
+        self.state.set(Watched::Lost);
+    }
+
+    /// Whether it was said that the connection is lost; that is asked once.
+    pub(crate) fn was_lost(&self) -> bool {
+        matches!(self.state.take(), Watched::Lost)
+    }
+}
