@@ -1,1 +1,3 @@
 -- The definitions that the contracts of the command `encoder` as a device cite.
+pub mod Limits
+pub mod Serving

@@ -71,6 +71,7 @@ fn main(rt: HostRuntime) -> ExitCode {
                         &rt,
                     )
                 }
+                Ran::Serves(_) => 3, // TODO
             }
         }
         Err(usage) => refuse(&usage, &mut writer, &mut errors),

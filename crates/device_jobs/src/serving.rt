@@ -1,0 +1,136 @@
+//! A device with its state in a file or with none. Source: profile.
+ghost use Rattle.std.specs.Prelude.{◌≡◌, ◌⊎◌, IsTrue, Result};
+ghost use Rattle.uecp_frame.specs.Address.{is_exact};
+ghost use Rattle.uecp_jobs.specs.Setups.{IsSetup, options_of as options_in, encoder_at_first};
+ghost use Rattle.state_jobs.specs.Texts.{IsClosed};
+ghost use Rattle.device_jobs.specs.Serving.{HasServedDevice, HasNoState, ServesIn, ServesUnkept};
+
+use crate::job::DeviceJob;
+use crate::limits::{Limits, limits_of};
+use device_serving::{LogLines, NotKept, run_device};
+use kept_jobs::fail_state;
+use rds_store::RdsStore;
+use state_files::StateFault;
+use state_jobs::{OpenStates, state_text};
+use std::alloc::Global;
+use std::io::Write;
+use std::time::Clock;
+use uecp_encoder::Encoder;
+use uecp_frame::Address;
+use uecp_jobs::{Setup, fail, new_encoder};
+use uecp_net::Connect;
+
+/// Is the device that the job asks for, over connections that come from here, and answers the exit status: 0 all
+/// connections were served, 2 the services or the address were refused, 3 the state can't be opened, saved or closed,
+/// there was no connection to be had, or memory or writing failed. With a state in a file it goes on from that; else it
+/// begins with a new encoder. The options are judged before the state is opened, and the state before the first
+/// connection.
+pub fn run_device_from<S: OpenStates, W: Write, T: Clock, E: Write, C: Connect>(
+    alloc: Global,
+    job: &DeviceJob,
+    states: &S,
+    log: &mut LogLines<'_, W, T>,
+    errors: &mut E,
+    connect: &mut C,
+) -> u8
+    ensures { HasServedDevice C.opens C.closes C.Input.remaining C.Output.contents (S.gives_encoder states.now)
+        (S.refuses_encoder states.now) (S.closes_encoder states.now) S.EncoderKeeper.leaves S.EncoderKeeper.is_clean
+        S.EncoderKeeper.saves S.EncoderKeeper.fails job.now connect.old connect.new log.old log.new
+        (E.contents errors.old) (E.contents errors.new) result }
+{
+    let setup = Setup {
+        site: job.site,
+        encoder: job.encoder,
+        sets: job.sets,
+        services: job.services.as_slice(),
+    };
+    let limits = limits_of(job);
+    match new_encoder(alloc, &setup) {
+        Err(fault) => fail(&fault, errors),
+        Ok(mut encoder) => match &job.state {
+            Some(path) => {
+                let address = encoder.address();
+                let path = path.as_str();
+                serve_in(
+                    &setup, address, limits, path, states, log, errors, connect,
+                )
+            }
+            None => serve_unkept(&setup, limits, &mut encoder, log, errors, connect),
+        },
+    }
+}
+
+/// Opens the state, serves, and closes it.
+fn serve_in<S: OpenStates, W: Write, T: Clock, E: Write, C: Connect>(
+    setup: &Setup<'_>,
+    address: Address,
+    limits: Limits,
+    path: &str,
+    states: &S,
+    log: &mut LogLines<'_, W, T>,
+    errors: &mut E,
+    connect: &mut C,
+) -> u8
+    requires { IsTrue (is_exact address) }
+    ensures { ServesIn S.EncoderKeeper.leaves S.EncoderKeeper.is_clean S.EncoderKeeper.saves S.EncoderKeeper.fails
+        C.opens C.closes C.Input.remaining C.Output.contents limits.turns limits.connections limits.store
+        (S.gives_encoder states.now) (S.closes_encoder states.now) path.now address setup.now.sets
+        setup.now.services.now connect.old connect.new log.old log.new (E.contents errors.old) (E.contents errors.new)
+        result
+        ⊎ (HasNoState (S.refuses_encoder states.now) path.now (E.contents errors.old) (E.contents errors.new) result
+        × (connect.new ≡ connect.old) × (log.new ≡ log.old)) }
+{
+    match states.open_encoder(path, address, setup.sets, setup.services) {
+        Err(fault) => fail_state(state_text(fault), errors),
+        Ok((mut encoder, mut keeper)) => {
+            let status = run_device(
+                limits.connections,
+                limits.turns,
+                limits.store,
+                &mut encoder,
+                &mut keeper,
+                log,
+                errors,
+                connect,
+            );
+            closed_device(status, states.close_encoder(keeper), errors)
+        }
+    }
+}
+
+/// The exit status of a run that ended with this one, and whose state was then closed so: where the run was done and
+/// the state could not be closed, that is said.
+fn closed_device<E: Write>(status: u8, closed: Result<(), StateFault>, errors: &mut E) -> u8
+    ensures { IsClosed status closed result (E.contents errors.old) (E.contents errors.new) }
+{
+    match closed {
+        Err(fault) if status == 0 => fail_state(state_text(fault), errors),
+        _ => status,
+    }
+}
+
+/// Serves with no state, from this new encoder on.
+fn serve_unkept<W: Write, T: Clock, E: Write, C: Connect>(
+    setup: &Setup<'_>,
+    limits: Limits,
+    encoder: &mut Encoder<RdsStore>,
+    log: &mut LogLines<'_, W, T>,
+    errors: &mut E,
+    connect: &mut C,
+) -> u8
+    requires { encoder.old ≡ encoder_at_first (options_in setup.now) }
+    ensures { ServesUnkept C.opens C.closes C.Input.remaining C.Output.contents (options_in setup.now) limits.turns
+        limits.connections limits.store connect.old connect.new log.old log.new (E.contents errors.old)
+        (E.contents errors.new) result }
+{
+    run_device(
+        limits.connections,
+        limits.turns,
+        limits.store,
+        encoder,
+        &mut NotKept,
+        log,
+        errors,
+        connect,
+    )
+}
