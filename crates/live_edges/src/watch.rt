@@ -30,6 +30,11 @@ impl Watch {
         }
     }
 
+    /// Nobody looks after a connection any more.
+    pub fn finish(self) {
+        let _watched = self.state.into_inner();
+    }
+
     /// This connection was made. Where there is no handle to be had nobody looks after it.
     pub(crate) fn opened(&self, stream: &TcpStream) {
         self.state.set(match stream.try_clone() {

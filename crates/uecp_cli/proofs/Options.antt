@@ -1,5 +1,5 @@
 -- What options and lists of the command line spell.
-use Rattle.std.proofs.Common.{◌≡◌, true, false, ℕ, ◌<◌, ◌^◌, zero, suc, List, [], ◌∷◌, length, get_or, map, refl, ap}
+use Rattle.std.proofs.Common.{◌≡◌, true, false, ℕ, ◌<◌, ◌^◌, zero, suc, List, [], ◌∷◌, length, get_or, map, refl, ap, sym}
 use Rattle.std.proofs.Common.{◌∙◌, subst, arith}
 use Rattle.std.specs.Prelude.{Option, Some, None, Result, Ok, Err, IsErr, option_map, unwrap_or}
 use Rattle.std.specs.Str.Parse.{ParsesUnsigned}
@@ -34,3 +34,7 @@ pub text_or : (found : Option (Bor (List ℕ))) (other : Bor (List ℕ)) (text :
     → option_map (λ s. s.now) found ≡ text → (unwrap_or found other).now ≡ unwrap_or text other.now
 text_or None other text e = rw (← e) refl
 text_or (Some s) other text e = rw (← e) refl
+
+-- what is something is not nothing
+pub none_read : {X : Type 0} (r : Option X) (x : X) → r ≡ Some x → r ≡ None → ⊥
+none_read r x is none = absurd (let bad : Some x ≡ None = sym is ∙ none in cc)

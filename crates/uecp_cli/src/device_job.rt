@@ -80,18 +80,37 @@ fn plain_port(job: &DeviceJob) -> Option<u16>
 
 /// The task of a job that asks for nothing that only a device does, with this port.
 fn plain_task(job: DeviceJob, port: u16) -> Task
-    ensures { IsPlainTask job.entry port result }
+    ensures { IsPlainTask job port result }
 {
+    let DeviceJob {
+        site,
+        encoder,
+        sets,
+        services,
+        listen: _,
+        port: _,
+        connections,
+        turns,
+        forever: _,
+        idle: _,
+        log: _,
+        form: _,
+        time: _,
+        store: _,
+        faults: _,
+        seed: _,
+        state,
+    } = job;
     let plain = Job::Encoder {
-        site: job.site,
-        encoder: job.encoder,
-        sets: job.sets,
-        services: job.services,
+        site,
+        encoder,
+        sets,
+        services,
         port,
-        connections: job.connections,
-        turns: job.turns,
+        connections,
+        turns,
     };
-    match job.state {
+    match state {
         Some(path) => Task::Kept(plain, path),
         None => Task::Plain(plain),
     }

@@ -58,7 +58,7 @@ fn main(rt: HostRuntime) -> ExitCode {
                     let mut losses = rt.stderr().lock();
                     let arrival = Polled::new(rt.alloc(), &rt, STANDARD_INPUT, &watch, &mut losses);
                     let mut notices = rt.stderr().lock();
-                    send(
+                    let status = send(
                         rt.alloc(),
                         &job,
                         &mut reader,
@@ -69,7 +69,9 @@ fn main(rt: HostRuntime) -> ExitCode {
                         &mut notices,
                         &rt,
                         &rt,
-                    )
+                    );
+                    watch.finish();
+                    status
                 }
                 Ran::Serves(_) => 3, // TODO
             }

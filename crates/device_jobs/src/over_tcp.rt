@@ -1,0 +1,159 @@
+//! A device over TCP. Source: profile.
+ghost use Rattle.std.specs.Prelude.{◌≤◌, ◌×◌, IfErr};
+
+use crate::faults::{fail_faults, rules_of};
+use crate::job::DeviceJob;
+use crate::serving::run_device_from;
+use crate::telling::Told;
+use device_edges::{Accepting, AddressFault, BindFault, HERE, listen_address};
+use device_serving::LogLines;
+use faulty_lines::Faulty;
+use kept_jobs::fail_state;
+use line_faults::Rule;
+use state_jobs::OpenStates;
+use std::alloc::Global;
+use std::fs::Files;
+use std::io::Write;
+use std::net::{Net, SocketAddr, TcpListener, TcpStream};
+use std::time::Clock;
+use uecp_jobs::{Setup, fail, new_encoder};
+use uecp_text::RunFault;
+
+/// Is the device that the job asks for, over TCP, and answers the exit status: that of
+/// [`run_device_from`](crate::run_device_from), or 2 where the address is none or a line of the file of faults is no
+/// rule, and 3 where that file can't be read, or nobody can listen there. What a bad line does goes to `effects`.
+pub fn run_device_over_tcp<
+    W: Write,
+    E: Write,
+    M: Write,
+    N: Net<Listener = TcpListener, Stream = TcpStream> + Clock + Files,
+    S: OpenStates,
+>(
+    alloc: Global,
+    job: &DeviceJob,
+    writer: &mut W,
+    errors: &mut E,
+    effects: &mut M,
+    net: &N,
+    states: &S,
+) -> u8
+{
+    match begin(alloc, job, net, errors) {
+        Err(status) => status,
+        Ok((rules, accepting)) => serve_with(
+            alloc,
+            job,
+            rules.as_slice(),
+            accepting,
+            writer,
+            errors,
+            effects,
+            net,
+            states,
+        ),
+    }
+}
+
+/// The rules of the job's line, and a listener at its address; or the exit status, and why was said.
+fn begin<'a, E: Write, N: Net<Listener = TcpListener, Stream = TcpStream> + Clock + Files>(
+    alloc: Global,
+    job: &DeviceJob,
+    net: &'a N,
+    errors: &mut E,
+) -> Result<(Vec<Rule>, Accepting<'a, N>), u8>
+{
+    let place = match place_of(job) {
+        Ok(place) => place,
+        Err(fault) => return Err(fail_place(fault, errors)),
+    };
+    let rules = match rules_of(alloc, job, net) {
+        Ok(rules) => rules,
+        Err(fault) => return Err(fail_faults(&fault, errors)),
+    };
+    let setup = Setup {
+        site: job.site,
+        encoder: job.encoder,
+        sets: job.sets,
+        services: job.services.as_slice(),
+    };
+    if let Err(fault) = new_encoder(alloc, &setup) {
+        return Err(fail(&fault, errors));
+    }
+    match Accepting::new(net, place, limit_of(job.idle)) {
+        Ok(accepting) => Ok((rules, accepting)),
+        Err(fault) => Err(fail_bind(fault, errors)),
+    }
+}
+
+/// The address and port at which the job listens.
+fn place_of(job: &DeviceJob) -> Result<SocketAddr, AddressFault> {
+    match &job.listen {
+        Some(text) => listen_address(text.as_str(), job.port),
+        None => listen_address(HERE, job.port),
+    }
+}
+
+/// A limit of so many seconds; none where it is 0.
+fn limit_of(seconds: u32) -> Option<u32> {
+    if seconds == 0 { None } else { Some(seconds) }
+}
+
+/// Says why the job asks for no address and port, and answers the exit status.
+fn fail_place<E: Write>(fault: AddressFault, errors: &mut E) -> u8
+    ensures { (2 ≤ result) × (result ≤ 3) }
+{
+    let text = match fault {
+        AddressFault::NoAddress => "listen: no IP address",
+        AddressFault::NoPort => "listen: no port is given",
+        AddressFault::TwoPorts => "listen: two ports are given",
+        AddressFault::PortZero => "listen: port 0 is none",
+    };
+    let _ = fail_state(text, errors);
+    2
+}
+
+/// Says why nobody can listen there, and answers the exit status.
+fn fail_bind<E: Write>(fault: BindFault, errors: &mut E) -> u8
+    ensures { (2 ≤ result) × (result ≤ 3) }
+{
+    let status = fail(&RunFault::Listening, errors);
+    let text = match fault {
+        BindFault::InUse => "somebody listens there already",
+        BindFault::NoSuchAddress => "the machine has no such address",
+        BindFault::NotAllowed => "not allowed",
+        BindFault::Failed => return status,
+    };
+    let _ = fail_state(text, errors);
+    status
+}
+
+/// Serves over these connections, with what a bad line does to them where there are rules for it.
+fn serve_with<
+    W: Write,
+    E: Write,
+    M: Write,
+    N: Net<Listener = TcpListener, Stream = TcpStream> + Clock,
+    S: OpenStates,
+>(
+    alloc: Global,
+    job: &DeviceJob,
+    rules: &[Rule],
+    accepting: Accepting<'_, N>,
+    writer: &mut W,
+    errors: &mut E,
+    effects: &mut M,
+    net: &N,
+    states: &S,
+) -> u8 {
+    let clock = if job.log && job.time { Some(net) } else { None };
+    let mut log = LogLines::new(alloc, job.form, clock, job.log, writer);
+    let mut accepting = accepting;
+    if rules.is_empty() {
+        return run_device_from(alloc, job, states, &mut log, errors, &mut accepting);
+    }
+    let told = Told::new(job.log, clock, effects);
+    match Faulty::new(alloc, accepting, rules, u64::from(job.seed), net, &told) {
+        Err(_) => fail(&RunFault::OutOfMemory, errors),
+        Ok(mut faulty) => run_device_from(alloc, job, states, &mut log, errors, &mut faulty),
+    }
+}

@@ -1,0 +1,81 @@
+//! What a bad line did, as it is told (profile).
+
+use arrayvec::ArrayVec;
+use faulty_lines::{Effect, Effects, write_effect};
+use std::cell::RefCell;
+use std::io;
+use std::io::Write;
+use std::time::Clock;
+use uecp_text::write_parts;
+use uecp_watch::stamp_of;
+
+/// How many bytes a line has at most.
+const LINE_MAX: usize = 128;
+
+/// Tells what a bad line did, a line each behind the time, if there is a clock; or nothing. Both ends of a connection
+/// borrow it, and no contract says what it writes.
+#[derive(Drop)]
+pub(crate) struct Told<'a, W: Write, C: Clock> {
+    clock: Option<&'a C>,
+    lines: Option<RefCell<&'a mut W>>,
+}
+
+impl<'a, W: Write, C: Clock> Told<'a, W, C> {
+    /// Tells on this writer, or nothing.
+    pub(crate) fn new(tells: bool, clock: Option<&'a C>, writer: &'a mut W) -> Told<'a, W, C> {
+        Told {
+            clock,
+            lines: if tells {
+                Some(RefCell::new(writer))
+            } else {
+                None
+            },
+        }
+    }
+}
+
+impl<'a, W: Write, C: Clock> Effects for Told<'a, W, C> {
+    fn tell(&self, effect: Effect) {
+        let Some(lines) = &self.lines else {
+            return;
+        };
+        let mut line = Line {
+            bytes: ArrayVec::new(),
+        };
+        if let Some(clock) = self.clock {
+            let stamp = stamp_of(clock);
+            line.put(stamp.as_str().as_bytes());
+            line.put(b" ");
+        }
+        let _ = write_effect(effect, &mut line);
+        if let Ok(mut writer) = lines.try_borrow_mut() {
+            let _ = write_parts(&[line.bytes.as_slice()], &mut **writer);
+        }
+    }
+}
+
+/// A line that is put together, so that it is one write.
+#[derive(Drop)]
+struct Line {
+    bytes: ArrayVec<u8, LINE_MAX>,
+}
+
+impl Line {
+    /// Puts this behind what it has, as far as there is room.
+    fn put(&mut self, part: &[u8]) {
+        for byte in part {
+            let _ = self.bytes.try_push(*byte);
+        }
+    }
+}
+
+impl Write for Line {
+    fn write(&mut self, buf: &[u8]) -> io::Result<usize> {
+        self.put(buf);
+        Ok(buf.len())
+    }
+
+    fn flush(&mut self) -> io::Result<()> {
+        Ok(())
+    }
+}
