@@ -1,0 +1,4 @@
+pub mod Telling
+pub mod Turns
+pub mod Taking
+pub mod Making

@@ -1,0 +1,31 @@
+-- The laws of a station. Source: profile.
+use Rattle.std.specs.Prelude.{◌≡◌, ℕ, List}
+use Rattle.rds_store.specs.Value.{Store}
+use Rattle.rds_store.specs.Step.{step as store_step, group_taken}
+use Rattle.uecp_encoder.specs.Target.{Step, Taken}
+use Rattle.uecp_encoder.specs.State.{EncoderState}
+use Rattle.uecp_frame.specs.Findings.{Closed}
+use Rattle.uecp_link.specs.Once.{Event}
+use Rattle.uecp_link.specs.Kept.{IsReady}
+use Rattle.uecp_link.specs.Holds.{LineState, Outcome, history_by}
+use Rattle.store_phrases.specs.Laws.{messages_of, told, AreAlike}
+use Rattle.station_laws.specs.Told.{IsAcknowledged}
+use Rattle.station_laws.specs.Made.{takes_in, IsMade, IsButTaken}
+
+-- Law: once each message of a station is told to be acknowledged with 00, the encoder's store is what they make of the
+-- one that it had.
+abbrev pub StationMade : {V : Type 0} → Step V → Taken V → Type 0
+StationMade {V} step taken =
+    (e : EncoderState V) → IsReady e.ring → e.part ≡ Closed
+    → (station : List (List ℕ)) (events : List Event) (outcomes : List Outcome) (line : LineState V)
+    → IsAcknowledged step taken e station events outcomes line
+    → IsMade step taken e.value station (history_by events outcomes) line
+
+-- Law: where they are the messages that tell a store, and the encoder's is alike, it is the store that is told then:
+-- its services, its sets, their texts and the current set, and the groups that wait but those that were taken.
+abbrev pub SaidStationMade : Type 0
+SaidStationMade =
+    (v : Store) (e : EncoderState Store) → IsReady e.ring → e.part ≡ Closed → AreAlike v e.value
+    → (events : List Event) (outcomes : List Outcome) (line : LineState Store)
+    → IsAcknowledged store_step group_taken e (messages_of v) events outcomes line
+    → IsButTaken (takes_in (history_by events outcomes)) (told v e.value) line.encoder.value

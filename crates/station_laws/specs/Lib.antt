@@ -1,0 +1,4 @@
+-- What a station makes that was sent to an encoder.
+pub mod Told
+pub mod Made
+pub mod Laws
