@@ -2,3 +2,5 @@ pub mod Telling
 pub mod Turns
 pub mod Taking
 pub mod Making
+pub mod Agreeing
+pub mod Both

@@ -23,7 +23,7 @@ use Rattle.uecp_link.specs.Holds.{LineState, Outcome, Holds, is_acknowledged, hi
 use Rattle.uecp_link.specs.Headline.{IsHeadline}
 use Rattle.uecp_link.proofs.Opening.{holds_from}
 use Rattle.uecp_link.proofs.Played.{headline_from}
-use Rattle.store_phrases.specs.Laws.{messages_of, told, AppliesEach}
+use Rattle.store_phrases.specs.Laws.{messages_of, told, AreAlike, AppliesEach}
 use Rattle.store_phrases.proofs.Messages.{store_said}
 use Rattle.rds_text.specs.declared.programme_type.Region.TheVariants.{Europe}
 use Rattle.station_laws.specs.Told.{AreToldApplied, IsAcknowledged}
@@ -31,7 +31,7 @@ use Rattle.station_laws.specs.Made.{takes_in, MakesEach, IsMade, IsButTaken}
 use Rattle.station_laws.specs.Laws.{StationMade, SaidStationMade}
 use Rattle.station_laws.proofs.Telling.{IsTold, told_is, holds_over}
 use Rattle.station_laws.proofs.Turns.{AreApplied, said_in, all_said, untaken}
-use Rattle.station_laws.proofs.Taking.{history_but}
+use Rattle.station_laws.proofs.Taking.{history_but, none_taken}
 
 some_same : (a b : Code) → ◌≡◌ {A = Option Code} (Some a) (Some b) → a ≡ b
 some_same a b h = cc
@@ -127,8 +127,11 @@ station_made_lem step taken e ready shut station events outcomes line a =
     made step taken e ready shut station events outcomes line a
 
 -- a store that is said
-pub said_station_made_lem : SaidStationMade
-said_station_made_lem v e ready shut alike events outcomes line a =
+pub but_taken : (v : Store) (e : EncoderState Store) → IsReady e.ring → e.part ≡ Closed → AreAlike v e.value
+    → (events : List Event) (outcomes : List Outcome) (line : LineState Store)
+    → IsAcknowledged store_step group_taken e (messages_of v) events outcomes line
+    → IsButTaken (takes_in (history_by events outcomes)) (told v e.value) line.encoder.value
+but_taken v e ready shut alike events outcomes line a =
     let m = made store_step group_taken e ready shut (messages_of v) events outcomes line a in
     let acts : List Act = history_by events outcomes in
     let puts : AppliesEach e.value (said_in (messages_of v) acts) (told v e.value) =
@@ -139,3 +142,8 @@ said_station_made_lem v e ready shut alike events outcomes line a =
     (let none : 0 + takes_in acts ≡ takes_in acts = omega arith in none)
     (history_but (messages_of v) 0 e.value e.value (told v e.value) acts
     (record { gone = []; groups = refl; few = omega arith; others = refl }) puts m.codes))
+
+pub said_station_made_lem : SaidStationMade
+said_station_made_lem v e ready shut alike events outcomes line a =
+    let but = but_taken v e ready shut alike events outcomes line a in
+    (but, none_taken (takes_in (history_by events outcomes)) (told v e.value) line.encoder.value but)

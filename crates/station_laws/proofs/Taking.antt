@@ -70,7 +70,7 @@ stored_but t y x e h =
     subst (λ (z : Store). IsButTaken t (stored y e) (stored z e)) (sym h.others)
     (stored_with y h.gone x.groups t h.groups h.few e)
 
-on_applied : (c : Code) (v : Store) (e : Element) → c ≡ Applied → stored_on c v e ≡ stored v e
+pub on_applied : (c : Code) (v : Store) (e : Element) → c ≡ Applied → stored_on c v e ≡ stored v e
 on_applied c v e h = ap (λ (k : Code). stored_on k v e) h
 
 put_but : (t : ℕ) (y x : Store) (e : Element) → IsButTaken t y x → (put y e).1 ≡ Applied → (put x e).1 ≡ Applied
@@ -81,7 +81,7 @@ put_but t y x e h one two =
     (stored_but t y x e h))
 
 -- ---- One message.
-done_first : (done : Store × Code) (others : Store → Store × Code) → (where_applied done others).1 ≡ Applied
+pub done_first : (done : Store × Code) (others : Store → Store × Code) → (where_applied done others).1 ≡ Applied
     → (done.1 ≡ Applied) × (where_applied done others ≡ others done.0)
 done_first (w, Applied) others h = (refl, refl)
 done_first (w, UnknownElement) others h = cc
@@ -105,7 +105,7 @@ items_but t y x (Ok e ∷ others) h one two =
     (items_but t (put y e).0 (put x e).0 others (put_but t y x e h a.0 b.0)
     (ap (λ (r : Store × Code). r.1) (sym a.1) ∙ one) (ap (λ (r : Store × Code). r.1) (sym b.1) ∙ two)))
 
-taken_whole : (v : Store) (done : Store × Code) → done.1 ≡ Applied → (whole_or_none v done).0 ≡ done.0
+pub taken_whole : (v : Store) (done : Store × Code) → done.1 ≡ Applied → (whole_or_none v done).0 ≡ done.0
 taken_whole v done h = ap (λ (c : Code). if is_applied c then done.0 else v) h
 
 step_but : (t : ℕ) (y x : Store) (m : List ℕ) → IsButTaken t y x → (step y m).1 ≡ Applied → (step x m).1 ≡ Applied
@@ -146,3 +146,14 @@ history_but sent t y x after (Taking ∷ acts) h puts all =
     subst (λ (n : ℕ). IsButTaken n after (value_after step group_taken sent (group_taken x).0 acts))
     (let e : t + 1 + takes_in acts ≡ t + suc (takes_in acts) = omega arith in e)
     (history_but sent (t + 1) y (group_taken x).0 after acts (take_but t y x h) puts all)
+
+-- where none was taken, the stores are the same
+pub none_taken : (t : ℕ) (y x : Store) → IsButTaken t y x → t ≡ 0 → x ≡ y
+none_taken t y x h none =
+    let groups : y.groups ≡ x.groups = h.groups ∙ ap (λ (gs : List WaitingGroup). gs ++ x.groups)
+    (no_group h.gone (let few : length h.gone ≤ 0 = omega (arith, h.few, none) in few)) in
+    h.others ∙ ap (with y) (sym groups)
+  where
+    no_group : (gs : List WaitingGroup) → length gs ≤ 0 → gs ≡ []
+    no_group [] few = refl
+    no_group (g ∷ gs) few = absurd (omega (arith, few))

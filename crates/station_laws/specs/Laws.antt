@@ -1,5 +1,5 @@
 -- The laws of a station. Source: profile.
-use Rattle.std.specs.Prelude.{◌≡◌, ℕ, List}
+use Rattle.std.specs.Prelude.{◌≡◌, ◌≢◌, ℕ, List, []}
 use Rattle.rds_store.specs.Value.{Store}
 use Rattle.rds_store.specs.Step.{step as store_step, group_taken}
 use Rattle.uecp_encoder.specs.Target.{Step, Taken}
@@ -11,6 +11,7 @@ use Rattle.uecp_link.specs.Holds.{LineState, Outcome, history_by}
 use Rattle.store_phrases.specs.Laws.{messages_of, told, AreAlike}
 use Rattle.station_laws.specs.Told.{IsAcknowledged}
 use Rattle.station_laws.specs.Made.{takes_in, IsMade, IsButTaken}
+use Rattle.station_laws.specs.Alike.{AgreeAsTold, AreSameButGroups}
 
 -- Law: once each message of a station is told to be acknowledged with 00, the encoder's store is what they make of the
 -- one that it had.
@@ -22,10 +23,37 @@ StationMade {V} step taken =
     → IsMade step taken e.value station (history_by events outcomes) line
 
 -- Law: where they are the messages that tell a store, and the encoder's is alike, it is the store that is told then:
--- its services, its sets, their texts and the current set, and the groups that wait but those that were taken.
+-- its services, its sets, their texts and the current set, and the groups that wait but those that were taken. So where
+-- none was taken, it is that very store.
 abbrev pub SaidStationMade : Type 0
 SaidStationMade =
     (v : Store) (e : EncoderState Store) → IsReady e.ring → e.part ≡ Closed → AreAlike v e.value
     → (events : List Event) (outcomes : List Outcome) (line : LineState Store)
     → IsAcknowledged store_step group_taken e (messages_of v) events outcomes line
     → IsButTaken (takes_in (history_by events outcomes)) (told v e.value) line.encoder.value
+    × (takes_in (history_by events outcomes) ≡ 0 → line.encoder.value ≡ told v e.value)
+
+-- Law: of two encoders that are alike, and to which the same store was told, each over its own line, the stores are the
+-- same then but for the groups that wait, whatever they were before; and where groups were told, and none was taken,
+-- these too.
+abbrev pub StationIsIndependent : Type 0
+StationIsIndependent =
+    (v : Store) (e f : EncoderState Store) → IsReady e.ring → e.part ≡ Closed → IsReady f.ring → f.part ≡ Closed
+    → AreAlike v e.value → AreAlike v f.value
+    → (es fs : List Event) (os ps : List Outcome) (l m : LineState Store)
+    → IsAcknowledged store_step group_taken e (messages_of v) es os l
+    → IsAcknowledged store_step group_taken f (messages_of v) fs ps m
+    → AreSameButGroups l.encoder.value m.encoder.value
+    × (v.groups ≢ [] → takes_in (history_by es os) ≡ 0 → takes_in (history_by fs ps) ≡ 0
+    → l.encoder.value ≡ m.encoder.value)
+
+-- Law: of any station this is left. Two encoders that are alike, with the same current set, and to which its messages
+-- were told, have at each place the same of what these say, and of what they leave unsaid each has what it had.
+abbrev pub StationSaysTheSame : Type 0
+StationSaysTheSame =
+    (e f : EncoderState Store) → IsReady e.ring → e.part ≡ Closed → IsReady f.ring → f.part ≡ Closed
+    → AreAlike e.value f.value → e.value.current ≡ f.value.current
+    → (station : List (List ℕ)) (es fs : List Event) (os ps : List Outcome) (l m : LineState Store)
+    → IsAcknowledged store_step group_taken e station es os l
+    → IsAcknowledged store_step group_taken f station fs ps m
+    → AgreeAsTold e.value f.value l.encoder.value m.encoder.value

@@ -1,4 +1,5 @@
 -- What a station makes that was sent to an encoder.
 pub mod Told
 pub mod Made
+pub mod Alike
 pub mod Laws

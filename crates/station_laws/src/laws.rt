@@ -1,5 +1,6 @@
 //! Laws of the definitions, each the contract of a function that does nothing.
-ghost use Rattle.station_laws.specs.Laws.{StationMade, SaidStationMade};
+ghost use Rattle.station_laws.specs.Laws.{StationMade, SaidStationMade, StationIsIndependent};
+ghost use Rattle.station_laws.specs.Laws.{StationSaysTheSame};
 
 use uecp_encoder::Target;
 
@@ -14,4 +15,17 @@ pub fn station_made<T: Target>()
 /// then, whatever it was before.
 pub fn said_station_made()
     ensures { SaidStationMade }
+{}
+
+/// So two encoders with the same sets and services to which the same store was told have the same then, whatever they
+/// had before, but for the groups that wait; and where groups were told, and none was taken, these too.
+pub fn station_is_independent()
+    ensures { StationIsIndependent }
+{}
+
+/// Of any other station, as one that somebody wrote, that does not hold: it may leave things unsaid. But of two
+/// encoders to which it was told, and which had the same sets, services and current set, each value of a service is the
+/// same then, or is at both as it was; and so are the texts, to which the same may have been added at both.
+pub fn station_says_the_same()
+    ensures { StationSaysTheSame }
 {}
