@@ -4,3 +4,4 @@ pub mod Taking
 pub mod Making
 pub mod Agreeing
 pub mod Both
+pub mod Hearing

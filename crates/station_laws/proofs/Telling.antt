@@ -13,7 +13,7 @@ use Rattle.uecp_link.specs.Once.{message_at}
 use Rattle.uecp_link.specs.Holds.{LineState, Outcome, Holds, Plays, once_after}
 use Rattle.uecp_link.specs.Window.{code_under}
 use Rattle.uecp_link.proofs.Numbering.{with_code-other, with_member-true, with_member-same}
-use Rattle.station_laws.specs.Told.{told_by, told_over}
+use Rattle.station_laws.specs.Told.{told_over}
 
 -- the number is acknowledged, and has this code
 abbrev pub IsTold : {V : Type 0} → Once V → ℕ → Code → Type 0
@@ -97,8 +97,9 @@ module _ {V : Type 0} (step : Step V) (taken : Taken V) where
       later : (j ≡ k → ⊥) → code_under k (told_over (ReplyComes j ∷ es) (Ok (stepped.Acknowledged code) ∷ rs)) ≡ Some c
           → code_under k (told_over es rs) ≡ Some c
       later ne h = sym (ap (λ (b : Bool). cond b (Some code) (code_under k (told_over es rs))) (ne_eqb j k ne)) ∙ h
-  told_is (e ∷ es) (r ∷ rs) line line' o o' p k c h =
-      told_is es rs p.0 line' (once_after step taken o e r) o' p.2 k c h
+  told_is (e ∷ es) (Err r ∷ rs) line line' o o' p k c h = told_is es rs p.0 line' o o' p.2 k c h
+  told_is (e ∷ es) (Ok r ∷ rs) line line' o o' p k c h =
+      told_is es rs p.0 line' (after step taken o e) o' p.2 k c h
 
   -- a line that plays holds what the once-machine holds
   pub holds_over : (events : List Event) (outcomes : List Outcome) (line line' : LineState V) (o o' : Once V)

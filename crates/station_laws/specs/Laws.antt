@@ -1,15 +1,19 @@
 -- The laws of a station. Source: profile.
-use Rattle.std.specs.Prelude.{◌≡◌, ◌≢◌, ℕ, List, []}
+use Rattle.std.specs.Prelude.{◌≡◌, ◌≢◌, ℕ, true, List, [], is_none}
+use Rattle.std.specs.List.{AllByRecursion}
 use Rattle.rds_store.specs.Value.{Store}
 use Rattle.rds_store.specs.Step.{step as store_step, group_taken}
 use Rattle.uecp_encoder.specs.Target.{Step, Taken}
 use Rattle.uecp_encoder.specs.State.{EncoderState}
 use Rattle.uecp_frame.specs.Findings.{Closed}
-use Rattle.uecp_link.specs.Once.{Event}
+use Rattle.uecp_link.specs.Once.{Event, refusal_of, answer_of}
+use Rattle.uecp_link.specs.Law.{run, start_from, Fits}
+use Rattle.uecp_link.specs.Window.{marks_in}
 use Rattle.uecp_link.specs.Kept.{IsReady}
 use Rattle.uecp_link.specs.Holds.{LineState, Outcome, history_by}
 use Rattle.store_phrases.specs.Laws.{messages_of, told, AreAlike}
-use Rattle.station_laws.specs.Told.{IsAcknowledged}
+use Rattle.station_laws.specs.Told.{told_by, IsAcknowledged}
+use Rattle.station_laws.specs.Heard.{bytes_to_server, marks_of}
 use Rattle.station_laws.specs.Made.{takes_in, IsMade, IsButTaken}
 use Rattle.station_laws.specs.Alike.{AgreeAsTold, AreSameButGroups}
 
@@ -57,3 +61,14 @@ StationSaysTheSame =
     → IsAcknowledged store_step group_taken e station es os l
     → IsAcknowledged store_step group_taken f station fs ps m
     → AgreeAsTold e.value f.value l.encoder.value m.encoder.value
+
+-- Law: from an encoder that is ready and a new server, whatever happened: what the server marks of the bytes that an
+-- event brings it is what the line tells by that event, the code of the number under the number's counter.
+abbrev pub ToldIsMarked : {V : Type 0} → Step V → Taken V → Type 0
+ToldIsMarked {V} step taken =
+    (e : EncoderState V) → IsReady e.ring → e.part ≡ Closed → (events : List Event) → AllByRecursion Fits events
+    → (event : Event)
+    → let w = run step taken e.address (start_from e) events in
+    is_none (refusal_of w.once event) ≡ true
+    → marks_in w.server (bytes_to_server e.address w.once event)
+    ≡ marks_of (told_by event (answer_of step taken w.once event))

@@ -2,4 +2,5 @@
 pub mod Told
 pub mod Made
 pub mod Alike
+pub mod Heard
 pub mod Laws

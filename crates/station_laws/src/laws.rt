@@ -1,6 +1,6 @@
 //! Laws of the definitions, each the contract of a function that does nothing.
 ghost use Rattle.station_laws.specs.Laws.{StationMade, SaidStationMade, StationIsIndependent};
-ghost use Rattle.station_laws.specs.Laws.{StationSaysTheSame};
+ghost use Rattle.station_laws.specs.Laws.{StationSaysTheSame, ToldIsMarked};
 
 use uecp_encoder::Target;
 
@@ -28,4 +28,10 @@ pub fn station_is_independent()
 /// same then, or is at both as it was; and so are the texts, to which the same may have been added at both.
 pub fn station_says_the_same()
     ensures { StationSaysTheSame }
+{}
+
+/// What a line tells of a number is what its server marks of the bytes that the reply to it brings: its code, under its
+/// counter. No other event brings the server a mark.
+pub fn told_is_marked<T: Target>()
+    ensures { ToldIsMarked T.step T.taken }
 {}
