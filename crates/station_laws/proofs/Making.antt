@@ -11,7 +11,11 @@ use Rattle.uecp_frame.specs.Findings.{Closed}
 use Rattle.rds_store.specs.Value.{Store}
 use Rattle.rds_store.specs.Step.{step as store_step, group_taken}
 use Rattle.uecp_encoder.specs.Target.{Step, Taken}
-use Rattle.uecp_encoder.specs.State.{EncoderState}
+use Rattle.rds_store.proofs.MessageLaws.{empty_message_changes_nothing}
+use Rattle.uecp_encoder.specs.State.{EncoderState, opening, fed}
+use Rattle.uecp_encoder.specs.Laws.{after_happenings}
+use Rattle.uecp_link.specs.Joining.{HasJoinedWith}
+use Rattle.uecp_link.proofs.JoinedOver.{joins_over_a_line_lem}
 use Rattle.uecp_link.specs.Counters.{counter_of}
 use Rattle.uecp_link.specs.Frames.{frame_under}
 use Rattle.uecp_link.specs.Server.{frames_waiting}
@@ -27,9 +31,9 @@ use Rattle.store_phrases.specs.Laws.{messages_of, told, AreAlike, AppliesEach}
 use Rattle.store_phrases.proofs.Messages.{store_said}
 use Rattle.rds_text.specs.declared.programme_type.Region.TheVariants.{Europe}
 use Rattle.station_laws.specs.Told.{AreToldApplied, IsAcknowledged}
-use Rattle.station_laws.specs.Made.{takes_in, MakesEach, IsMade, IsButTaken}
-use Rattle.station_laws.specs.Laws.{StationMade, SaidStationMade}
-use Rattle.station_laws.proofs.Telling.{IsTold, told_is, holds_over}
+use Rattle.station_laws.specs.Made.{takes_in, MakesEach, IsMade, IsButTaken, IsTold}
+use Rattle.station_laws.specs.Laws.{StationMade, SaidStationMade, JoinedThenTold}
+use Rattle.station_laws.proofs.Telling.{IsToldOf, told_is, holds_over}
 use Rattle.station_laws.proofs.Turns.{AreApplied, said_in, all_said, untaken}
 use Rattle.station_laws.proofs.Taking.{history_but, none_taken}
 
@@ -72,7 +76,7 @@ module _ {V : Type 0} (step : Step V) (taken : Taken V) (e : EncoderState V) (re
   holds = holds_over step taken events outcomes (line_from e) line (at_first e.value) a.once a.plays
       (holds_from e shut)
 
-  each_told : (k : ℕ) → k < length station → IsTold a.once k Applied
+  each_told : (k : ℕ) → k < length station → IsToldOf a.once k Applied
   each_told k l = told_is step taken events outcomes (line_from e) line (at_first e.value) a.once a.plays k Applied
       (a.told k l)
 
@@ -146,4 +150,18 @@ but_taken v e ready shut alike events outcomes line a =
 pub said_station_made_lem : SaidStationMade
 said_station_made_lem v e ready shut alike events outcomes line a =
     let but = but_taken v e ready shut alike events outcomes line a in
-    (but, none_taken (takes_in (history_by events outcomes)) (told v e.value) line.encoder.value but)
+    record {
+      taken = but;
+      whole = none_taken (takes_in (history_by events outcomes)) (told v e.value) line.encoder.value but;
+    }
+
+-- and over a connection
+pub joined_then_told_lem : JoinedThenTold
+joined_then_told_lem address first before got coming read unread shut all said brings v alike events outcomes line a =
+    let e : EncoderState Store = after_happenings store_step (opening address first) before in
+    let j : HasJoinedWith (fed store_step e got) e.value =
+    (joins_over_a_line_lem store_step (λ w. ap (λ (r : Store × Code). r.0) (empty_message_changes_nothing w)) address
+    first before got coming read unread shut all said brings).encoder in
+    subst (λ (w : Store). IsTold v w (takes_in (history_by events outcomes)) line.encoder.value) j.value_is
+    (said_station_made_lem v (fed store_step e got) (inr j.kept) j.closed (subst (AreAlike v) (sym j.value_is) alike)
+    events outcomes line a)

@@ -16,8 +16,8 @@ use Rattle.uecp_link.proofs.Numbering.{with_code-other, with_member-true, with_m
 use Rattle.station_laws.specs.Told.{told_over}
 
 -- the number is acknowledged, and has this code
-abbrev pub IsTold : {V : Type 0} → Once V → ℕ → Code → Type 0
-IsTold o k c = (o.codes k ≡ Some c) × (o.acknowledged k ≡ true)
+abbrev pub IsToldOf : {V : Type 0} → Once V → ℕ → Code → Type 0
+IsToldOf o k c = (o.codes k ≡ Some c) × (o.acknowledged k ≡ true)
 
 none_some : (c : Code) → ◌≡◌ {A = Option Code} None (Some c) → ⊥
 none_some c h = cc
@@ -32,12 +32,12 @@ code_in true (Some x) c h = absurd (let bad : ⊥ = cc in bad)
 code_in true None c h = absurd (let bad : ⊥ = cc in bad)
 
 module _ {V : Type 0} (step : Step V) (taken : Taken V) where
-  delivered_keeps : (o : Once V) (j : ℕ) (code : Option Code) → o.codes j ≡ code → (k : ℕ) (c : Code) → IsTold o k c
-      → IsTold (delivered step o j code) k c
+  delivered_keeps : (o : Once V) (j : ℕ) (code : Option Code) → o.codes j ≡ code → (k : ℕ) (c : Code) → IsToldOf o k c
+      → IsToldOf (delivered step o j code) k c
   delivered_keeps o j (Some x) is k c h = h
   delivered_keeps o j None is k c h = go (is_next o.codes (length o.sent) j)
     where
-      go : (next : Bool) → IsTold {V = V} (cond next (applied_once step o j) (record o { to_encoder = [] })) k c
+      go : (next : Bool) → IsToldOf {V = V} (cond next (applied_once step o j) (record o { to_encoder = [] })) k c
       go true = (
         with_code-other o.codes j (step o.value (message_at o.sent j)).1 k
             (λ e. none_some c (sym is ∙ (ap o.codes (sym e) ∙ h.0))) ∙ h.0,
@@ -46,7 +46,7 @@ module _ {V : Type 0} (step : Step V) (taken : Taken V) where
       go false = h
 
   -- what was told stays so
-  stays : (o : Once V) (event : Event) (k : ℕ) (c : Code) → IsTold o k c → IsTold (after step taken o event) k c
+  stays : (o : Once V) (event : Event) (k : ℕ) (c : Code) → IsToldOf o k c → IsToldOf (after step taken o event) k c
   stays o (Submit m) k c h = h
   stays o (FrameComes j) k c h = delivered_keeps o j (o.codes j) refl k c h
   stays o (ReplyComes j) k c h = (h.0, with_member-true o.acknowledged j k h.1)
@@ -58,14 +58,14 @@ module _ {V : Type 0} (step : Step V) (taken : Taken V) where
   stays o ServerRestart k c h = h
   stays o Take k c h = h
 
-  stays_by : (o : Once V) (event : Event) (outcome : Outcome) (k : ℕ) (c : Code) → IsTold o k c
-      → IsTold (once_after step taken o event outcome) k c
+  stays_by : (o : Once V) (event : Event) (outcome : Outcome) (k : ℕ) (c : Code) → IsToldOf o k c
+      → IsToldOf (once_after step taken o event outcome) k c
   stays_by o event (Ok stepped) k c h = stays o event k c h
   stays_by o event (Err refusal) k c h = h
 
   stays_over : (events : List Event) (outcomes : List Outcome) (line line' : LineState V) (o o' : Once V)
-      → Plays step taken line o events outcomes line' o' → (k : ℕ) (c : Code) → IsTold o k c → IsTold o' k c
-  stays_over [] [] line line' o o' p k c h = subst (λ (x : Once V). IsTold x k c) (sym p.1) h
+      → Plays step taken line o events outcomes line' o' → (k : ℕ) (c : Code) → IsToldOf o k c → IsToldOf o' k c
+  stays_over [] [] line line' o o' p k c h = subst (λ (x : Once V). IsToldOf x k c) (sym p.1) h
   stays_over [] (r ∷ rs) line line' o o' p k c h = absurd p
   stays_over (e ∷ es) [] line line' o o' p k c h = absurd p
   stays_over (e ∷ es) (r ∷ rs) line line' o o' p k c h =
@@ -74,7 +74,7 @@ module _ {V : Type 0} (step : Step V) (taken : Taken V) where
   -- and what was told is so
   pub told_is : (events : List Event) (outcomes : List Outcome) (line line' : LineState V) (o o' : Once V)
       → Plays step taken line o events outcomes line' o' → (k : ℕ) (c : Code)
-      → code_under k (told_over events outcomes) ≡ Some c → IsTold o' k c
+      → code_under k (told_over events outcomes) ≡ Some c → IsToldOf o' k c
   told_is [] [] line line' o o' p k c h = absurd (none_some c h)
   told_is [] (r ∷ rs) line line' o o' p k c h = absurd p
   told_is (e ∷ es) [] line line' o o' p k c h = absurd p

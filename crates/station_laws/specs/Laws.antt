@@ -1,20 +1,23 @@
 -- The laws of a station. Source: profile.
-use Rattle.std.specs.Prelude.{◌≡◌, ◌≢◌, ℕ, true, List, [], is_none}
+use Rattle.std.specs.Prelude.{◌≡◌, ◌≢◌, ℕ, true, List, [], ◌++◌, is_none}
 use Rattle.std.specs.List.{AllByRecursion}
 use Rattle.rds_store.specs.Value.{Store}
 use Rattle.rds_store.specs.Step.{step as store_step, group_taken}
 use Rattle.uecp_encoder.specs.Target.{Step, Taken}
-use Rattle.uecp_encoder.specs.State.{EncoderState}
+use Rattle.uecp_encoder.specs.State.{EncoderState, opening, fed}
+use Rattle.uecp_encoder.specs.Answering.{answers}
+use Rattle.uecp_encoder.specs.Laws.{Happening, after_happenings}
+use Rattle.uecp_link.specs.Joining.{pass_sent, BringsBoth}
 use Rattle.uecp_frame.specs.Findings.{Closed}
 use Rattle.uecp_link.specs.Once.{Event, refusal_of, answer_of}
 use Rattle.uecp_link.specs.Law.{run, start_from, Fits}
 use Rattle.uecp_link.specs.Window.{marks_in}
 use Rattle.uecp_link.specs.Kept.{IsReady}
 use Rattle.uecp_link.specs.Holds.{LineState, Outcome, history_by}
-use Rattle.store_phrases.specs.Laws.{messages_of, told, AreAlike}
+use Rattle.store_phrases.specs.Laws.{messages_of, AreAlike}
 use Rattle.station_laws.specs.Told.{told_by, IsAcknowledged}
 use Rattle.station_laws.specs.Heard.{bytes_to_server, marks_of}
-use Rattle.station_laws.specs.Made.{takes_in, IsMade, IsButTaken}
+use Rattle.station_laws.specs.Made.{takes_in, IsMade, IsTold}
 use Rattle.station_laws.specs.Alike.{AgreeAsTold, AreSameButGroups}
 
 -- Law: once each message of a station is told to be acknowledged with 00, the encoder's store is what they make of the
@@ -34,8 +37,20 @@ SaidStationMade =
     (v : Store) (e : EncoderState Store) → IsReady e.ring → e.part ≡ Closed → AreAlike v e.value
     → (events : List Event) (outcomes : List Outcome) (line : LineState Store)
     → IsAcknowledged store_step group_taken e (messages_of v) events outcomes line
-    → IsButTaken (takes_in (history_by events outcomes)) (told v e.value) line.encoder.value
-    × (takes_in (history_by events outcomes) ≡ 0 → line.encoder.value ≡ told v e.value)
+    → IsTold v e.value (takes_in (history_by events outcomes)) line.encoder.value
+
+-- Law: so it is over one connection that keeps the order of each direction and loses nothing but its end. A pass comes
+-- to an encoder with nothing open, whatever happened to it since it was new, and what was read of its replies brings
+-- both; then a line begins, and the store that is told is the encoder's, whatever that was before the pass.
+abbrev pub JoinedThenTold : Type 0
+JoinedThenTold =
+    (address : ℕ) (first : Store) (before : List (Happening Store)) (got coming read unread : List ℕ) →
+    let e : EncoderState Store = after_happenings store_step (opening address first) before in
+    e.part ≡ Closed → got ++ coming ≡ pass_sent address → read ++ unread ≡ answers store_step e got
+    → BringsBoth address read
+    → (v : Store) → AreAlike v e.value → (events : List Event) (outcomes : List Outcome) (line : LineState Store)
+    → IsAcknowledged store_step group_taken (fed store_step e got) (messages_of v) events outcomes line
+    → IsTold v e.value (takes_in (history_by events outcomes)) line.encoder.value
 
 -- Law: of two encoders that are alike, and to which the same store was told, each over its own line, the stores are the
 -- same then but for the groups that wait, whatever they were before; and where groups were told, and none was taken,

@@ -10,6 +10,7 @@ use Rattle.uecp_link.specs.Server.{frames_waiting}
 use Rattle.uecp_link.specs.History.{Act, Message, Taking, messages_in, numbers_below}
 use Rattle.uecp_link.specs.Fold.{value_after, codes_after}
 use Rattle.uecp_link.specs.Holds.{LineState}
+use Rattle.store_phrases.specs.Laws.{told}
 
 -- How many takes a history has.
 abbrev pub takes_in : List Act → ℕ
@@ -45,3 +46,9 @@ pub record IsButTaken (takes : ℕ) (made store : Store) : Type 0 where
   pub few : length gone ≤ takes
   -- all else is the same
   pub others : store ≡ record made { groups = store.groups }
+
+-- A store was told to one that was there: it is the store that is told, but for the groups that were taken; and where
+-- none was, that very store.
+pub record IsTold (v held : Store) (takes : ℕ) (store : Store) : Type 0 where
+  pub taken : IsButTaken takes (told v held) store
+  pub whole : takes ≡ 0 → store ≡ told v held

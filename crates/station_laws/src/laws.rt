@@ -1,6 +1,6 @@
 //! Laws of the definitions, each the contract of a function that does nothing.
 ghost use Rattle.station_laws.specs.Laws.{StationMade, SaidStationMade, StationIsIndependent};
-ghost use Rattle.station_laws.specs.Laws.{StationSaysTheSame, ToldIsMarked};
+ghost use Rattle.station_laws.specs.Laws.{JoinedThenTold, StationSaysTheSame, ToldIsMarked};
 
 use uecp_encoder::Target;
 
@@ -15,6 +15,13 @@ pub fn station_made<T: Target>()
 /// then, whatever it was before.
 pub fn said_station_made()
     ensures { SaidStationMade }
+{}
+
+/// So it is from a pass on, over a connection that keeps the order of each direction and loses nothing but its end:
+/// whatever happened to the encoder since it was new, once the replies to 81 and then FF were read, and then each
+/// message that tells a store was acknowledged with 00, the encoder's store is that one.
+pub fn joined_then_told()
+    ensures { JoinedThenTold }
 {}
 
 /// So two encoders with the same sets and services to which the same store was told have the same then, whatever they
