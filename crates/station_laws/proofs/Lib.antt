@@ -5,3 +5,4 @@ pub mod Making
 pub mod Agreeing
 pub mod Both
 pub mod Hearing
+pub mod Answering

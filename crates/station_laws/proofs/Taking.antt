@@ -73,7 +73,7 @@ stored_but t y x e h =
 pub on_applied : (c : Code) (v : Store) (e : Element) → c ≡ Applied → stored_on c v e ≡ stored v e
 on_applied c v e h = ap (λ (k : Code). stored_on k v e) h
 
-put_but : (t : ℕ) (y x : Store) (e : Element) → IsButTaken t y x → (put y e).1 ≡ Applied → (put x e).1 ≡ Applied
+pub put_but : (t : ℕ) (y x : Store) (e : Element) → IsButTaken t y x → (put y e).1 ≡ Applied → (put x e).1 ≡ Applied
     → IsButTaken t (put y e).0 (put x e).0
 put_but t y x e h one two =
     subst (λ (z : Store). IsButTaken t z (put x e).0) (sym (on_applied (code_of y e) y e one))
@@ -129,7 +129,7 @@ first_but t y x (g ∷ gs) is h =
       others = ap (λ (z : Store). with z gs) h.others;
     }
 
-take_but : (t : ℕ) (y x : Store) → IsButTaken t y x → IsButTaken (t + 1) y (group_taken x).0
+pub take_but : (t : ℕ) (y x : Store) → IsButTaken t y x → IsButTaken (t + 1) y (group_taken x).0
 take_but t y x h = first_but t y x x.groups refl h
 
 -- ---- A history.

@@ -1,5 +1,7 @@
 -- The laws of a station. Source: profile.
-use Rattle.std.specs.Prelude.{◌≡◌, ◌≢◌, ℕ, true, List, [], ◌++◌, is_none}
+use Rattle.std.specs.Prelude.{◌≡◌, ◌≢◌, ℕ, true, List, [], ◌++◌, is_none, Some}
+use Rattle.uecp_elements.specs.declared.code.Code.{Code}
+use Rattle.uecp_elements.specs.declared.code.Code.TheVariants.{Applied}
 use Rattle.std.specs.List.{AllByRecursion}
 use Rattle.rds_store.specs.Value.{Store}
 use Rattle.rds_store.specs.Step.{step as store_step, group_taken}
@@ -9,13 +11,13 @@ use Rattle.uecp_encoder.specs.Answering.{answers}
 use Rattle.uecp_encoder.specs.Laws.{Happening, after_happenings}
 use Rattle.uecp_link.specs.Joining.{pass_sent, BringsBoth}
 use Rattle.uecp_frame.specs.Findings.{Closed}
-use Rattle.uecp_link.specs.Once.{Event, refusal_of, answer_of}
+use Rattle.uecp_link.specs.Once.{Event, Once, at_first, refusal_of, answer_of}
 use Rattle.uecp_link.specs.Law.{run, start_from, Fits}
-use Rattle.uecp_link.specs.Window.{marks_in}
+use Rattle.uecp_link.specs.Window.{marks_in, code_under}
 use Rattle.uecp_link.specs.Kept.{IsReady}
-use Rattle.uecp_link.specs.Holds.{LineState, Outcome, history_by}
+use Rattle.uecp_link.specs.Holds.{LineState, Outcome, Plays, history_by, line_from}
 use Rattle.store_phrases.specs.Laws.{messages_of, AreAlike}
-use Rattle.station_laws.specs.Told.{told_by, IsAcknowledged}
+use Rattle.station_laws.specs.Told.{told_by, told_over, IsAcknowledged}
 use Rattle.station_laws.specs.Heard.{bytes_to_server, marks_of}
 use Rattle.station_laws.specs.Made.{takes_in, IsMade, IsTold}
 use Rattle.station_laws.specs.Alike.{AgreeAsTold, AreSameButGroups}
@@ -38,6 +40,16 @@ SaidStationMade =
     → (events : List Event) (outcomes : List Outcome) (line : LineState Store)
     → IsAcknowledged store_step group_taken e (messages_of v) events outcomes line
     → IsTold v e.value (takes_in (history_by events outcomes)) line.encoder.value
+
+-- Law: and such an encoder answers each of these messages with 00, whatever happens, and however many of them were sent
+-- so far: a store that is told is never refused.
+abbrev pub SaidStationIsApplied : Type 0
+SaidStationIsApplied =
+    (v : Store) (e : EncoderState Store) → IsReady e.ring → e.part ≡ Closed → AreAlike v e.value
+    → (events : List Event) (outcomes : List Outcome) (line : LineState Store) (once : Once Store)
+    → Plays store_step group_taken (line_from e) (at_first e.value) events outcomes line once
+    → (unsent : List (List ℕ)) → line.sent ++ unsent ≡ messages_of v
+    → (k : ℕ) (code : Code) → code_under k (told_over events outcomes) ≡ Some code → code ≡ Applied
 
 -- Law: so it is over one connection that keeps the order of each direction and loses nothing but its end. A pass comes
 -- to an encoder with nothing open, whatever happened to it since it was new, and what was read of its replies brings

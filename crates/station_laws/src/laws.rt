@@ -1,6 +1,7 @@
 //! Laws of the definitions, each the contract of a function that does nothing.
 ghost use Rattle.station_laws.specs.Laws.{StationMade, SaidStationMade, StationIsIndependent};
-ghost use Rattle.station_laws.specs.Laws.{JoinedThenTold, StationSaysTheSame, ToldIsMarked};
+ghost use Rattle.station_laws.specs.Laws.{JoinedThenTold, SaidStationIsApplied, StationSaysTheSame};
+ghost use Rattle.station_laws.specs.Laws.{ToldIsMarked};
 
 use uecp_encoder::Target;
 
@@ -15,6 +16,12 @@ pub fn station_made<T: Target>()
 /// then, whatever it was before.
 pub fn said_station_made()
     ensures { SaidStationMade }
+{}
+
+/// Such an encoder answers each of these messages with 00, whatever happens on the line and whatever groups are taken in
+/// between, and however many of them were sent so far: a store that is told is never refused.
+pub fn said_station_is_applied()
+    ensures { SaidStationIsApplied }
 {}
 
 /// So it is from a pass on, over a connection that keeps the order of each direction and loses nothing but its end:
