@@ -100,7 +100,7 @@ put_applied t y x e most h one =
 -- ---- A history.
 
 module _ (sent : List (List ℕ)) where
-  codes_applied : (t : ℕ) (y x after : Store) (es : List Element) (rest : List (List ℕ)) (acts : List Act)
+  pub codes_applied : (t : ℕ) (y x after : Store) (es : List Element) (rest : List (List ℕ)) (acts : List Act)
       → AllByRecursion IsSayable es → IsStation y → IsButTaken t y x → PutsEach y es after
       → said_in sent acts ++ rest ≡ map spelling es → AreApplied (codes_after step group_taken sent x acts)
   codes_applied t y x after es rest [] all station h puts is = tt

@@ -6,3 +6,5 @@ pub mod Agreeing
 pub mod Both
 pub mod Hearing
 pub mod Answering
+pub mod Sending
+pub mod Happening

@@ -1,6 +1,6 @@
 -- What was told of a number is so: it is acknowledged, and that is its code.
-use Rattle.std.proofs.Common.{◌≡◌, ℕ, Bool, true, false, cond, List, [], ◌∷◌, Option, Some, None, Ok, Err, refl, ap, sym}
-use Rattle.std.proofs.Common.{subst, ◌∙◌, inl, inr, eq-eqb}
+use Rattle.std.proofs.Common.{◌≡◌, ℕ, Bool, true, false, cond, List, [], ◌∷◌, Option, Some, None, Ok, Err, refl, ap}
+use Rattle.std.proofs.Common.{sym, subst, ◌∙◌, inl, inr, eq-eqb}
 use Rattle.std.proofs.lemmas.Bool.{cases_eq, ne_eqb}
 use Rattle.uecp_elements.specs.declared.code.Code.{Code}
 use Rattle.uecp_encoder.specs.Target.{Step, Taken}
@@ -92,7 +92,8 @@ module _ {V : Type 0} (step : Step V) (taken : Taken V) where
     where
       first : j ≡ k → code_under k (told_over (ReplyComes j ∷ es) (Ok (stepped.Acknowledged code) ∷ rs)) ≡ Some c
           → code ≡ c
-      first e h = some_same code c (sym (ap (λ (b : Bool). cond b (Some code) (code_under k (told_over es rs))) (eq-eqb j k e)) ∙ h)
+      first e h = some_same code c
+          (sym (ap (λ (b : Bool). cond b (Some code) (code_under k (told_over es rs))) (eq-eqb j k e)) ∙ h)
 
       later : (j ≡ k → ⊥) → code_under k (told_over (ReplyComes j ∷ es) (Ok (stepped.Acknowledged code) ∷ rs)) ≡ Some c
           → code_under k (told_over es rs) ≡ Some c

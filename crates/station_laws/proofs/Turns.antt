@@ -19,7 +19,8 @@ AreApplied codes = AllByRecursion (λ code. code ≡ Applied) codes
 abbrev pub said_in : (sent : List (List ℕ)) → List Act → List (List ℕ)
 said_in sent acts = map (message_at sent) (messages_in acts)
 
-pub first_ones : (sent : List (List ℕ)) (n : ℕ) → n ≤ length sent → map (message_at sent) (numbers_below n) ≡ take n sent
+pub first_ones : (sent : List (List ℕ)) (n : ℕ) → n ≤ length sent
+    → map (message_at sent) (numbers_below n) ≡ take n sent
 first_ones sent zero l = refl
 first_ones sent (suc n) l =
     map-append (message_at sent) (numbers_below n) (n ∷ [])

@@ -1,5 +1,5 @@
 -- The laws of a station. Source: profile.
-use Rattle.std.specs.Prelude.{◌≡◌, ◌≢◌, ℕ, true, List, [], ◌++◌, is_none, Some}
+use Rattle.std.specs.Prelude.{◌≡◌, ◌≢◌, ℕ, ◌<◌, true, List, [], ◌++◌, length, is_none, Option, Some, Ok}
 use Rattle.uecp_elements.specs.declared.code.Code.{Code}
 use Rattle.uecp_elements.specs.declared.code.Code.TheVariants.{Applied}
 use Rattle.std.specs.List.{AllByRecursion}
@@ -12,12 +12,16 @@ use Rattle.uecp_encoder.specs.Laws.{Happening, after_happenings}
 use Rattle.uecp_link.specs.Joining.{pass_sent, BringsBoth}
 use Rattle.uecp_frame.specs.Findings.{Closed}
 use Rattle.uecp_link.specs.Once.{Event, Once, at_first, refusal_of, answer_of}
+use Rattle.uecp_link.specs.History.{history}
 use Rattle.uecp_link.specs.Law.{run, start_from, Fits}
 use Rattle.uecp_link.specs.Window.{marks_in, code_under}
 use Rattle.uecp_link.specs.Kept.{IsReady}
 use Rattle.uecp_link.specs.Holds.{LineState, Outcome, Plays, history_by, line_from}
 use Rattle.store_phrases.specs.Laws.{messages_of, AreAlike}
 use Rattle.station_laws.specs.Told.{told_by, told_over, IsAcknowledged}
+use Rattle.uecp_net.specs.Sending.{SenderOver}
+use Rattle.live_sending.specs.Station.{MakesStation}
+use Rattle.station_laws.specs.Sent.{IsOut}
 use Rattle.station_laws.specs.Heard.{bytes_to_server, marks_of}
 use Rattle.station_laws.specs.Made.{takes_in, IsMade, IsTold}
 use Rattle.station_laws.specs.Alike.{AgreeAsTold, AreSameButGroups}
@@ -64,6 +68,16 @@ JoinedThenTold =
     → IsAcknowledged store_step group_taken (fed store_step e got) (messages_of v) events outcomes line
     → IsTold v e.value (takes_in (history_by events outcomes)) line.encoder.value
 
+-- Law: so it is by the definitions alone, of two ends that are fed nothing but the bytes of any events, once each of
+-- these messages is acknowledged.
+abbrev pub ToldByEvents : Type 0
+ToldByEvents =
+    (v : Store) (e : EncoderState Store) → IsReady e.ring → e.part ≡ Closed → AreAlike v e.value
+    → (events : List Event) → AllByRecursion Fits events
+    → let w = run store_step group_taken e.address (start_from e) events in
+    w.once.sent ≡ messages_of v → ((k : ℕ) → k < length (messages_of v) → w.once.acknowledged k ≡ true)
+    → IsTold v e.value (takes_in (history store_step group_taken (at_first e.value) events)) w.encoder.value
+
 -- Law: of two encoders that are alike, and to which the same store was told, each over its own line, the stores are the
 -- same then but for the groups that wait, whatever they were before; and where groups were told, and none was taken,
 -- these too.
@@ -99,3 +113,11 @@ ToldIsMarked {V} step taken =
     is_none (refusal_of w.once event) ≡ true
     → marks_in w.server (bytes_to_server e.address w.once event)
     ≡ marks_of (told_by event (answer_of step taken w.once event))
+
+-- Law: where `send` made a station, it went out so.
+abbrev pub StationIsOut : {C I O : Type 0} → (opens : C → Option (I × O) → C → Type 0)
+    → (closes : C → I → O → C → Type 0) → (remaining : I → Option (List ℕ)) → (contents : O → Option (List ℕ)) → Type 0
+StationIsOut {C} {I} {O} opens closes remaining contents =
+    (size : ℕ) (station : List (List ℕ)) (told : List Code) (s s' : SenderOver C I O)
+    → MakesStation opens closes remaining contents size station told s s' (Ok tt)
+    → IsOut opens closes remaining contents station told s s'

@@ -3,4 +3,5 @@ pub mod Told
 pub mod Made
 pub mod Alike
 pub mod Heard
+pub mod Sent
 pub mod Laws

@@ -18,8 +18,8 @@ takes_in [] = zero
 takes_in (Message k ∷ acts) = takes_in acts
 takes_in (Taking ∷ acts) = suc (takes_in acts)
 
--- The messages, applied to a target one after another, are each answered with 00, and leave this value: `AppliesEach` of
--- `store_phrases`, for every target.
+-- The messages, applied to a target one after another, are each answered with 00, and leave this value: `AppliesEach`
+-- of `store_phrases`, for every target.
 abbrev pub MakesEach : {V : Type 0} → Step V → V → (messages : List (List ℕ)) → (after : V) → Type 0
 MakesEach step v [] after = after ≡ v
 MakesEach step v (m ∷ ms) after = ((step v m).1 ≡ Applied) × MakesEach step (step v m).0 ms after
