@@ -6,23 +6,22 @@ use Rattle.std.specs.List.{list_any}
 use Rattle.std.specs.Option.{option_map, option_map_or}
 use Rattle.std.specs.FinMap.{get}
 use Rattle.uecp_elements.specs.declared.code.Code.{Code}
-use Rattle.uecp_elements.specs.declared.code.Code.TheVariants.{Applied, UnknownElement, DataSet, Service, OutOfRange}
-use Rattle.uecp_elements.specs.declared.code.Code.TheVariants.{ElementLength, NotHere, BufferFull}
+use Rattle.uecp_elements.specs.declared.code.Code.TheVariants.{Applied}
 use Rattle.uecp_elements.specs.Grammar.{Element, Pi, Ps, TaTp, Ms, Pty, Rt, NoText, Text, Select, Group, Ack}
 use Rattle.uecp_elements.specs.Reading.{Item, items}
-use Rattle.uecp_elements.specs.Folding.{is_applied, where_applied, folded}
+use Rattle.uecp_elements.specs.Folding.{is_applied, folded}
 use Rattle.rds_store.specs.Value.{StoredText, ServiceData, Store}
 use Rattle.rds_store.specs.Names.{names, names_set, service_of, address}
-use Rattle.rds_store.specs.Content.{taken, adds, radio_text, buffered}
+use Rattle.rds_store.specs.Content.{taken, adds, radio_text}
 use Rattle.rds_store.specs.Refusals.{code_of}
-use Rattle.rds_store.specs.Put.{put, stored, stored_on}
-use Rattle.rds_store.specs.Step.{step, group_taken, first_taken, element_by_element, whole_or_none}
+use Rattle.rds_store.specs.Put.{put, stored}
+use Rattle.rds_store.specs.Step.{step, group_taken, first_taken, element_by_element}
 use Rattle.rds_store.specs.declared.group.Group.{Group as WaitingGroup}
 use Rattle.rds_store.proofs.LawProofs.{changes_named_places_alone, keeps_sets_and_services}
 use Rattle.store_phrases.specs.Laws.{AreAlike}
 use Rattle.store_phrases.specs.Station.{is_place}
 use Rattle.station_laws.proofs.Taking.{done_first, taken_whole, on_applied}
-use Rattle.station_laws.specs.Alike.{SaidOrKept, SaidOrAdded, ServicesAgree, PlacesAgree, AgreeAsTold}
+use Rattle.station_laws.specs.Alike.{SaidOrAdded, ServicesAgree, PlacesAgree, AgreeAsTold}
 
 -- two stores, which were v and w, as both were told, with the same services
 pub record Agree (v w x y : Store) : Type 0 where
@@ -38,10 +37,10 @@ more_texts a b s t h new true =
     elim h [
       | inl same ↦ inl (ap (λ (x : List StoredText). x ++ new ∷ []) same)
       | inr p ↦ inr (
-          p.0 ++ new ∷ [],
-          ap (λ (x : List StoredText). x ++ new ∷ []) p.1 ∙ append_assoc a p.0 (new ∷ []),
-          ap (λ (x : List StoredText). x ++ new ∷ []) p.2 ∙ append_assoc b p.0 (new ∷ []),
-        )
+        p.0 ++ new ∷ [],
+        ap (λ (x : List StoredText). x ++ new ∷ []) p.1 ∙ append_assoc a p.0 (new ∷ []),
+        ap (λ (x : List StoredText). x ++ new ∷ []) p.2 ∙ append_assoc b p.0 (new ∷ []),
+      )
     ]
 
 taken_alike : (a b s t : ServiceData) (e : Element) → ServicesAgree a b s t → ServicesAgree a b (taken e s) (taken e t)

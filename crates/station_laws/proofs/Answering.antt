@@ -1,7 +1,7 @@
 -- The messages that tell a store are each answered with 00, whatever groups are taken in between.
-use Rattle.std.proofs.Common.{◌≡◌, ℕ, zero, suc, ◌+◌, ◌≤◌, ◌<◌, ◌==◌, ◌&&◌, ◌||◌, Bool, true, false, if◌then◌else◌}
+use Rattle.std.proofs.Common.{◌≡◌, ℕ, zero, suc, ◌+◌, ◌≤◌, ◌==◌, ◌&&◌, ◌||◌, Bool, true, false, if◌then◌else◌}
 use Rattle.std.proofs.Common.{nat_lt, List, [], ◌∷◌, ◌++◌, length, map, take, drop, append-nil, append_assoc}
-use Rattle.std.proofs.Common.{length-append, Option, Some, None, Ok, refl, ap, sym, subst, ◌∙◌, arith, eq-eqb}
+use Rattle.std.proofs.Common.{length-append, Some, None, Ok, refl, ap, sym, subst, ◌∙◌, arith, eq-eqb}
 use Rattle.std.specs.Prelude.{slice_get}
 use Rattle.std.specs.List.{AllByRecursion}
 use Rattle.std.proofs.lemmas.Bool.{ne_eqb, false≢true}
@@ -9,11 +9,10 @@ use Rattle.std.proofs.lemmas.List.{take-append-drop}
 use Rattle.uecp_elements.specs.declared.code.Code.{Code}
 use Rattle.uecp_elements.specs.declared.code.Code.TheVariants.{Applied, OutOfRange, BufferFull}
 use Rattle.uecp_elements.specs.Grammar.{Element, Pi, Ps, TaTp, Ms, Pty, Rt, NoText, Text, Select, Group, Ack}
-use Rattle.uecp_elements.specs.Grammar.{IsElement, AreBytes, Reading, Reads, spelling}
+use Rattle.uecp_elements.specs.Grammar.{Reading, Reads, spelling}
 use Rattle.uecp_elements.specs.Reading.{items, items_of}
 use Rattle.uecp_elements.specs.Folding.{folded}
 use Rattle.uecp_elements.proofs.Items.{has_reading, only_reading}
-use Rattle.uecp_frame.specs.Findings.{Closed}
 use Rattle.rds_store.specs.declared.group.Group.{Group as WaitingGroup}
 use Rattle.rds_store.specs.Value.{Store}
 use Rattle.rds_store.specs.Content.{adds, is_wrong_rule}
@@ -22,22 +21,18 @@ use Rattle.rds_store.specs.Put.{put}
 use Rattle.rds_store.specs.Step.{step, group_taken, whole_or_none}
 use Rattle.rds_store.specs.Laws.{PutsEach}
 use Rattle.rds_store.proofs.MessageLaws.{one_element}
-use Rattle.uecp_encoder.specs.State.{EncoderState}
-use Rattle.uecp_link.specs.Once.{Event, Once, message_at, at_first}
+use Rattle.uecp_link.specs.Once.{message_at, at_first}
 use Rattle.uecp_link.specs.History.{Act, Message, Taking}
 use Rattle.uecp_link.specs.Fold.{codes_after}
-use Rattle.uecp_link.specs.Kept.{IsReady}
-use Rattle.uecp_link.specs.Holds.{LineState, Outcome, Plays, history_by, line_from}
-use Rattle.uecp_link.specs.Window.{code_under}
+use Rattle.uecp_link.specs.Holds.{history_by, line_from}
 use Rattle.uecp_link.proofs.Opening.{holds_from}
 use Rattle.uecp_link.proofs.Played.{headline_from}
 use Rattle.store_phrases.specs.Said.{said_of}
 use Rattle.store_phrases.specs.Station.{IsStation}
-use Rattle.store_phrases.specs.Laws.{AreAlike, messages_of, told}
+use Rattle.store_phrases.specs.Laws.{told}
 use Rattle.store_phrases.proofs.Elements.{IsSayable, all_sayable}
 use Rattle.store_phrases.proofs.Stations.{are_stations}
 use Rattle.store_phrases.proofs.Telling.{said_by_elements}
-use Rattle.station_laws.specs.Told.{told_over}
 use Rattle.station_laws.specs.Made.{IsButTaken}
 use Rattle.station_laws.specs.Laws.{SaidStationIsApplied}
 use Rattle.station_laws.proofs.Telling.{told_is, holds_over}

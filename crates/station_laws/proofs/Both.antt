@@ -1,19 +1,15 @@
 -- Two encoders to which the same station was told.
-use Rattle.std.proofs.Common.{◌≡◌, ◌≢◌, ℕ, List, [], ◌∷◌, ◌≤◌, refl, ap, sym, subst, ◌∙◌}
+use Rattle.std.proofs.Common.{◌≡◌, ◌≢◌, ℕ, List, [], ◌∷◌, refl, ap, sym, subst, ◌∙◌}
 use Rattle.uecp_elements.specs.declared.code.Code.TheVariants.{Applied}
-use Rattle.uecp_frame.specs.Findings.{Closed}
 use Rattle.rds_store.specs.declared.group.Group.{Group as WaitingGroup}
 use Rattle.rds_store.specs.Value.{Store}
 use Rattle.rds_store.specs.Step.{step, group_taken}
-use Rattle.uecp_encoder.specs.State.{EncoderState}
-use Rattle.uecp_link.specs.Once.{Event, message_at}
+use Rattle.uecp_link.specs.Once.{message_at}
 use Rattle.uecp_link.specs.History.{Act, Message, Taking, messages_in}
 use Rattle.uecp_link.specs.Fold.{value_after, codes_after}
-use Rattle.uecp_link.specs.Kept.{IsReady}
-use Rattle.uecp_link.specs.Holds.{LineState, Outcome, history_by}
-use Rattle.store_phrases.specs.Laws.{messages_of, groups_left, told, AreAlike}
-use Rattle.station_laws.specs.Told.{IsAcknowledged}
-use Rattle.station_laws.specs.Made.{takes_in, IsButTaken}
+use Rattle.uecp_link.specs.Holds.{history_by}
+use Rattle.store_phrases.specs.Laws.{groups_left, told}
+use Rattle.station_laws.specs.Made.{takes_in}
 use Rattle.station_laws.specs.Laws.{StationIsIndependent, StationSaysTheSame}
 use Rattle.station_laws.proofs.Turns.{AreApplied}
 use Rattle.station_laws.proofs.Taking.{none_taken}

@@ -5,28 +5,26 @@ use Rattle.std.specs.Prelude.{is_some, is_none, not, filter_map}
 use Rattle.std.proofs.lemmas.Bool.{cases_Bool, cases_lt, ltb-true, false≢true}
 use Rattle.uecp_elements.specs.declared.code.Code.{Code}
 use Rattle.uecp_frame.specs.declared.frame.Frame.{Frame}
-use Rattle.uecp_frame.specs.Frame.{spelling}
-use Rattle.uecp_frame.specs.Findings.{Finding, Closed, has_frame, is_quiet}
+use Rattle.uecp_frame.specs.Findings.{Finding, has_frame, is_quiet}
 use Rattle.uecp_frame.specs.Beyond.{found_beyond}
 use Rattle.uecp_frame.proofs.Pieces.{new_start_lem}
 use Rattle.uecp_encoder.specs.Target.{Step, Taken}
-use Rattle.uecp_encoder.specs.State.{EncoderState}
 use Rattle.uecp_encoder.specs.Answering.{reply_of}
 use Rattle.uecp_link.specs.Counters.{counter_of, is_recent}
-use Rattle.uecp_link.specs.Server.{ServerState, Held, waiting_among, waits_for, acknowledges, heard_finding}
+use Rattle.uecp_link.specs.Server.{ServerState, waiting_among, waits_for, heard_finding}
 use Rattle.uecp_link.specs.Server.{heard_findings, all_heard_as, told}
 use Rattle.uecp_link.specs.Window.{mark_in, marks_in}
 use Rattle.uecp_link.specs.Once.{Event, Submit, FrameComes, ReplyComes, NoiseToEncoder, NoiseToServer, EncoderLost}
-use Rattle.uecp_link.specs.Once.{ServerLost, EncoderRestart, ServerRestart, Take, Once, refusal_of, answer_of}
+use Rattle.uecp_link.specs.Once.{ServerLost, EncoderRestart, ServerRestart, Take, refusal_of, answer_of}
 use Rattle.uecp_link.specs.Once.{acknowledgement, Refusal, HoldsAFrame}
-use Rattle.uecp_link.specs.Law.{World, run, start_from, reply_bytes, Fits}
+use Rattle.uecp_link.specs.Law.{World, run, start_from, reply_bytes}
 use Rattle.uecp_link.specs.Kept.{last_counter, held_from, Kept, Hears}
 use Rattle.uecp_link.proofs.Wire.{whole}
 use Rattle.uecp_link.proofs.Hearing.{heard_faults, acknowledges_reply, quiet_rest}
 use Rattle.uecp_link.proofs.HeldNumbers.{waits_not, waits_so}
 use Rattle.uecp_link.proofs.Numbering.{is_none-of}
 use Rattle.uecp_link.proofs.Steps.{reply_fits, recent_le, test_of}
-use Rattle.uecp_link.proofs.Lawful.{Lawful, lawful_run, lawful_from}
+use Rattle.uecp_link.proofs.Lawful.{lawful_run, lawful_from}
 use Rattle.station_laws.specs.Told.{told_by}
 use Rattle.station_laws.specs.Heard.{bytes_to_server, marks_of}
 use Rattle.station_laws.specs.Laws.{ToldIsMarked}

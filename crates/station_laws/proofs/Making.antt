@@ -1,5 +1,5 @@
 -- A station that was acknowledged is made.
-use Rattle.std.proofs.Common.{◌≡◌, ℕ, zero, suc, ◌+◌, ◌-◌, ◌<◌, ◌≤◌, Bool, true, List, [], ◌∷◌, ◌++◌, length, map}
+use Rattle.std.proofs.Common.{◌≡◌, ℕ, zero, suc, ◌+◌, ◌<◌, ◌≤◌, Bool, true, List, [], ◌∷◌, ◌++◌, length, map}
 use Rattle.std.proofs.Common.{Option, Some, None, refl, ap, sym, subst, ◌∙◌, arith, inl, inr, if◌then◌else◌}
 use Rattle.std.specs.Prelude.{slice_get}
 use Rattle.std.proofs.lemmas.Bool.{cases_lt}
@@ -19,7 +19,7 @@ use Rattle.uecp_link.proofs.JoinedOver.{joins_over_a_line_lem}
 use Rattle.uecp_link.specs.Counters.{counter_of}
 use Rattle.uecp_link.specs.Frames.{frame_under}
 use Rattle.uecp_link.specs.Server.{frames_waiting}
-use Rattle.uecp_link.specs.Once.{Event, Once, message_at, missing, at_first}
+use Rattle.uecp_link.specs.Once.{Event, message_at, missing, at_first}
 use Rattle.uecp_link.specs.History.{Act, messages_in, numbers_below}
 use Rattle.uecp_link.specs.Fold.{value_after, codes_after}
 use Rattle.uecp_link.specs.Kept.{IsReady}
@@ -30,7 +30,7 @@ use Rattle.uecp_link.proofs.Played.{headline_from}
 use Rattle.store_phrases.specs.Laws.{messages_of, told, AreAlike, AppliesEach}
 use Rattle.store_phrases.proofs.Messages.{store_said}
 use Rattle.rds_text.specs.declared.programme_type.Region.TheVariants.{Europe}
-use Rattle.station_laws.specs.Told.{AreToldApplied, IsAcknowledged}
+use Rattle.station_laws.specs.Told.{IsAcknowledged}
 use Rattle.station_laws.specs.Made.{takes_in, MakesEach, IsMade, IsButTaken, IsTold}
 use Rattle.station_laws.specs.Laws.{StationMade, SaidStationMade, JoinedThenTold}
 use Rattle.station_laws.proofs.Telling.{IsToldOf, told_is, holds_over}

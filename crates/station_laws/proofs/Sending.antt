@@ -1,7 +1,7 @@
 -- The messages of a station go out under the counters of their numbers.
-use Rattle.std.proofs.Common.{◌≡◌, ◌≢◌, ℕ, zero, suc, ◌+◌, ◌<◌, Bool, true, false, ◌&&◌, if◌then◌else◌, cond, List, []}
+use Rattle.std.proofs.Common.{◌≡◌, ℕ, zero, suc, ◌+◌, ◌<◌, Bool, true, false, ◌&&◌, if◌then◌else◌, List, []}
 use Rattle.std.proofs.Common.{◌∷◌, ◌++◌, length, map, take, drop, append-nil, append_assoc, length-append, Option, Some}
-use Rattle.std.proofs.Common.{None, Result, Ok, Err, refl, ap, sym, subst, ◌∙◌, arith, inl, inr}
+use Rattle.std.proofs.Common.{Result, Ok, Err, refl, ap, sym, subst, ◌∙◌, arith, inl, inr}
 use Rattle.std.specs.Prelude.{slice_get}
 use Rattle.std.specs.List.{list_all}
 use Rattle.std.proofs.lemmas.Bool.{false≢true}
@@ -11,9 +11,8 @@ use Rattle.uecp_elements.specs.declared.code.Code.TheVariants.{Applied, UnknownE
 use Rattle.uecp_elements.specs.declared.code.Code.TheVariants.{ElementLength, NotHere, BufferFull}
 use Rattle.uecp_link.specs.Counters.{counter_of, next_counter}
 use Rattle.uecp_link.specs.Kept.{last_counter}
-use Rattle.uecp_link.specs.Server.{ServerState, Held, submitted, waiting_among, waiting}
+use Rattle.uecp_link.specs.Server.{ServerState, Held, waiting_among, waiting}
 use Rattle.uecp_link.specs.Window.{code_under}
-use Rattle.uecp_link.specs.Joining.{IsStillNew}
 use Rattle.uecp_link.proofs.Passing.{still_new}
 use Rattle.uecp_link.proofs.Numbering.{last_counter-next, last_counter-at}
 use Rattle.uecp_net.specs.declared.sending.Outstanding.{Outstanding as Reason}
@@ -21,8 +20,8 @@ use Rattle.uecp_net.specs.Sending.{SenderOver, submitted_to, submitted_all}
 use Rattle.uecp_net.specs.Joining.{JoinsOver}
 use Rattle.uecp_jobs.specs.Batches.{Acknowledges}
 use Rattle.live_sending.specs.Lines.{is_applied}
-use Rattle.live_sending.specs.Station.{SentFor, SendsStation, MakesStation}
-use Rattle.station_laws.specs.Sent.{under_counters, GoesOut, GoOut, IsOut}
+use Rattle.live_sending.specs.Station.{SentFor}
+use Rattle.station_laws.specs.Sent.{under_counters, GoesOut, GoOut}
 use Rattle.station_laws.specs.Laws.{StationIsOut}
 
 -- ---- What waits once messages were submitted.

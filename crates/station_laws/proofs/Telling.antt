@@ -7,7 +7,7 @@ use Rattle.uecp_encoder.specs.Target.{Step, Taken}
 use Rattle.uecp_link.specs.declared.stepped.Stepped.TheVariants as stepped
 use Rattle.uecp_link.specs.Once.{Event, Submit, FrameComes, ReplyComes, NoiseToEncoder, NoiseToServer, EncoderLost}
 use Rattle.uecp_link.specs.Once.{ServerLost, EncoderRestart, ServerRestart, Take, Once, Acknowledged, applied_once}
-use Rattle.uecp_link.specs.Once.{delivered, after, acknowledgement, is_next, with_member}
+use Rattle.uecp_link.specs.Once.{delivered, after, acknowledgement, is_next}
 use Rattle.std.proofs.Common.{length}
 use Rattle.uecp_link.specs.Once.{message_at}
 use Rattle.uecp_link.specs.Holds.{LineState, Outcome, Holds, Plays, once_after}

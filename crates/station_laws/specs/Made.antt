@@ -1,7 +1,6 @@
 -- What the messages of a station make of a target; a reader has to believe it. Source: profile.
 use Rattle.std.specs.Prelude.{◌≡◌, ◌≤◌, ℕ, zero, suc, List, [], ◌∷◌, ◌++◌, length}
 use Rattle.std.specs.List.{AllByRecursion}
-use Rattle.uecp_elements.specs.declared.code.Code.{Code}
 use Rattle.uecp_elements.specs.declared.code.Code.TheVariants.{Applied}
 use Rattle.rds_store.specs.declared.group.Group.{Group}
 use Rattle.rds_store.specs.Value.{Store}
