@@ -1,0 +1,10 @@
+pub mod Telling
+pub mod Turns
+pub mod Taking
+pub mod Making
+pub mod Agreeing
+pub mod Both
+pub mod Hearing
+pub mod Answering
+pub mod Sending
+pub mod Happening
