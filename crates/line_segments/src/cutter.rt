@@ -2,6 +2,7 @@
 ghost use Rattle.std.specs.Prelude.{◌≡◌, ◌≤◌, ◌<◌, ◌+◌, ◌*◌, ◌++◌, ℕ, List, [], ◌∷◌, length, take, option_to_list};
 ghost use Rattle.std.specs.Prelude.{IfNone, IfSome};
 ghost use Rattle.line_faults.specs.declared.fate.Fate.{Fate as FateValue};
+ghost use Rattle.line_segments.specs.Pieces.{IsHeld};
 ghost use Rattle.line_segments.specs.Crossing.{Cutting, Crosses};
 
 use crate::giving::{end, give};
@@ -70,6 +71,14 @@ impl Cutter {
     {
         let Cutter { held: _, faults } = self;
         faults
+    }
+
+    /// What is held of a segment whose end has not come.
+    pub fn held(&self) -> &[u8]
+        ensures held { result.now ≡ self.now.held }
+        ensures beginning { IsHeld self.now.held }
+    {
+        self.held.as_slice()
     }
 
     /// How many segments have come; 2^64 - 1 stands for more too.

@@ -1,0 +1,4 @@
+-- The definitions that the contracts of a line with faults cite.
+pub mod Passages
+pub mod Ends
+pub mod Connections
