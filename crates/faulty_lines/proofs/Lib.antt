@@ -1,3 +1,4 @@
 pub mod Taking
 pub mod Filling
 pub mod Delivering
+pub mod Refusing
