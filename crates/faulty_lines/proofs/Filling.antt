@@ -1,9 +1,9 @@
 -- Reads of a device one after another.
-use Rattle.std.proofs.Common.{◌≡◌, ◌≢◌, ◌<◌, ◌≤◌, ℕ, zero, suc, Bool, true, false, List, [], ◌∷◌, ◌++◌, length, Option, refl, sym, ap}
-use Rattle.std.proofs.Common.{◌∙◌, subst, eqb, arith, not}
+use Rattle.std.proofs.Common.{◌≡◌, ◌≢◌, ◌<◌, ℕ, zero, suc, Bool, true, false, List, [], ◌∷◌, length, Option, refl, sym}
+use Rattle.std.proofs.Common.{subst, eqb, arith, not}
 use Rattle.std.specs.Bool.{MatchBool}
 use Rattle.std.proofs.lemmas.Bool.{false≢true}
-use borrow.Author.Tests.{eqb-true, eqb-false}
+use borrow.Author.Tests.{eqb-true}
 use Rattle.faulty_lines.specs.Ends.{End, Fills, FillsInTurn}
 
 pub fills_more : {D : Type 0} (remaining : D → Option (List ℕ)) (reads : ℕ) (a b c : End D)
@@ -21,7 +21,8 @@ is_some_byte (byte ∷ bytes) bytes' true same is =
     absurd (let none = eqb-true (length (byte ∷ bytes)) 0 (sym is) in omega (arith, none))
 is_some_byte (byte ∷ bytes) bytes' false same is = λ none. (cc)
 
-pub not_empty : (bytes : List ℕ) (some : Bool) → MatchBool some (bytes ≡ []) (bytes ≢ []) → MatchBool (not some) (bytes ≢ []) (bytes ≡ [])
+pub not_empty : (bytes : List ℕ) (some : Bool) → MatchBool some (bytes ≡ []) (bytes ≢ [])
+    → MatchBool (not some) (bytes ≢ []) (bytes ≡ [])
 not_empty bytes true is = is
 not_empty bytes false is = is
 

@@ -1,5 +1,5 @@
 -- Rules one after another, and connections that are refused.
-use Rattle.std.proofs.Common.{◌≡◌, ℕ, zero, suc, max, List, [], ◌∷◌, ◌++◌, refl, sym, ap, ◌∙◌, subst, arith, ◌+◌, Option, Some, None}
+use Rattle.std.proofs.Common.{◌≡◌, ℕ, zero, suc, List, [], ◌∷◌, ◌++◌, refl, subst, Option, Some}
 use Rattle.line_faults.specs.declared.rule.Rule.{Rule}
 use Rattle.line_faults.specs.declared.rule.Rule.TheVariants.{Lose, Repeat, Damage, BreakAfter, Delay}
 use Rattle.line_faults.specs.declared.rule.Rule.TheVariants.{RefuseConnections, LoseByChance, DamageByChance}

@@ -1,10 +1,11 @@
 -- Bytes that come in a direction.
-use Rattle.std.proofs.Common.{◌≡◌, ◌<◌, ◌≤◌, ◌+◌, ◌-◌, ◌*◌, ℕ, Bool, true, false, ◌||◌, List, [], ◌∷◌, ◌++◌, length, take, drop}
+use Rattle.std.proofs.Common.{◌≡◌, ◌<◌, ◌≤◌, ◌+◌, ◌-◌, ℕ, Bool, true, false, ◌||◌, List, [], ◌∷◌, ◌++◌, length, take}
+use Rattle.std.proofs.Common.{drop}
 use Rattle.std.proofs.Common.{refl, sym, ap, ◌∙◌, subst, arith, append_assoc, append-nil, Option, Some, None, IfSome}
 use Rattle.std.specs.Prelude.{option_to_list}
 use Rattle.std.specs.List.{list_any}
 use Rattle.std.proofs.Math.Seq.{take-add}
-use Rattle.std.proofs.lemmas.List.{length-append, length-drop, take_all}
+use Rattle.std.proofs.lemmas.List.{length-drop, take_all}
 use Rattle.std.proofs.lemmas.List.Folds.{list_any-append}
 use Rattle.std.proofs.lemmas.Bool.{false≢true}
 use Rattle.line_faults.specs.declared.fate.Fate.{Fate}
@@ -12,7 +13,7 @@ use Rattle.line_segments.specs.Pieces.{IsHeld}
 use Rattle.line_segments.specs.Crossing.{Cutting, Crosses}
 use Rattle.line_segments.proofs.Parts.{in_parts_lem}
 use Rattle.line_segments.proofs.Bytes.{nothing}
-use Rattle.faulty_lines.specs.Passages.{Direction, Takes, TakesAll, BreaksAtLast, is_break}
+use Rattle.faulty_lines.specs.Passages.{Takes, BreaksAtLast, is_break}
 
 -- No byte came.
 pub takes_nothing : (cutting : Cutting) (waiting bytes : List ℕ) → IsHeld cutting.held
@@ -51,10 +52,12 @@ pub takes_more : (a b : Cutting) (c : Cutting) (start middle after bytes : List 
     → Takes (record { cutting = a; waiting = start; is_broken = false })
     (record { cutting = b; waiting = middle; is_broken = false }) bytes used
     → more ≤ length (take (length bytes - used) (drop used bytes)) → is_broken ≡ breaks_behind fate
-    → (made : List ℕ) × (after ≡ middle ++ made) × Crosses b c (take more (take (length bytes - used) (drop used bytes))) made (option_to_list fate)
+    → (made : List ℕ) × (after ≡ middle ++ made) × Crosses b c
+        (take more (take (length bytes - used) (drop used bytes))) made (option_to_list fate)
     → Takes (record { cutting = a; waiting = start; is_broken = false })
     (record { cutting = c; waiting = after; is_broken = is_broken }) bytes (used + more)
-takes_more a b c start middle after bytes used more is_broken fate takes within breaks (made, after_is, crosses) = record {
+takes_more a b c start middle after bytes used more is_broken fate takes within breaks (made, after_is, crosses) =
+    record {
   out = takes.out ++ made;
   fates = takes.fates ++ option_to_list fate;
   within = omega (arith, takes.within, within, ap length (rest_is bytes used), length-drop used bytes);

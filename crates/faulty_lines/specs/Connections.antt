@@ -1,7 +1,6 @@
 -- Connections with faults over others (profile).
-use Rattle.std.specs.Prelude.{◌≡◌, ◌⊎◌, ◌<◌, ◌-◌, ◌^◌, ℕ, zero, suc, max, Bool, true, false, nat_lt, nat_le, ◌&&◌, List, [], ◌∷◌}
-use Rattle.std.specs.Prelude.{◌++◌, Option, Some, None}
-use Rattle.std.specs.List.{list_any}
+use Rattle.std.specs.Prelude.{◌≡◌, ◌⊎◌, ◌-◌, ◌^◌, ℕ, zero, suc, max, Bool, false, nat_lt, nat_le, ◌&&◌, List, [], ◌∷◌}
+use Rattle.std.specs.Prelude.{Option, Some, None}
 use Rattle.line_faults.specs.declared.rule.Way.TheVariants.{Frame}
 use Rattle.line_faults.specs.declared.rule.Rule.{Rule}
 use Rattle.line_faults.specs.declared.rule.Rule.TheVariants.{BreakAfter, Delay, RefuseConnections, RestartAfter}

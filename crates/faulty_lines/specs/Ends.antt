@@ -1,9 +1,8 @@
 -- The two ends of a connection with faults (profile).
-use Rattle.std.specs.Prelude.{◌≡◌, ◌≢◌, ◌⊎◌, ◌<◌, ℕ, zero, suc, Bool, true, false, List, [], ◌∷◌, ◌++◌, length, take, Option}
+use Rattle.std.specs.Prelude.{◌≡◌, ◌≢◌, ◌⊎◌, ◌<◌, ℕ, zero, suc, Bool, true, false, List, [], ◌++◌, length, take, Option}
 use Rattle.std.specs.Prelude.{Result, Ok, Err, MatchResult, IfOk}
 use Rattle.std.specs.Bool.{MatchBool}
 use Rattle.std.specs.Io.KnownBytes.{Appends, Consumes, Keeps, IsAtEnd}
-use Rattle.line_segments.specs.Crossing.{Cutting}
 use Rattle.faulty_lines.specs.Passages.{Direction, TakesAll}
 
 -- One end: its device, and the direction that passes it.
@@ -60,7 +59,8 @@ abbrev pub Reads : {D E : Type 0} → (D → Option (List ℕ)) → (old new : E
 Reads {D} {E} remaining old new result buffer =
     ((length buffer ≡ 0) × (new ≡ old) × IfOk result (λ count. count ≡ 0))
     ⊎ MatchResult result
-    (λ count. ((filled : End D) × FillsUp {E = E} remaining old filled (Ok true) × HandsOn filled new (take count buffer)
+    (λ count. ((filled : End D) × FillsUp {E = E} remaining old filled (Ok true)
+        × HandsOn filled new (take count buffer)
     × (0 < count))
     ⊎ (FillsUp {E = E} remaining old new (Ok false) × (count ≡ 0)))
     (λ fault. FillsUp remaining old new (Err fault))

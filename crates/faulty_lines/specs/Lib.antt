@@ -2,3 +2,4 @@
 pub mod Passages
 pub mod Ends
 pub mod Connections
+pub mod Effects

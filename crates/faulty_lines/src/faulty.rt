@@ -81,10 +81,26 @@ impl<'a, C: Drop, T: Clock, E> Faulty<'a, C, T, E> {
             effects,
         })
     }
-
 }
 
 impl<'a, C, T: Clock, E> Faulty<'a, C, T, E> {
+    /// Where connections without faults come from, back.
+    pub fn into_inner(self) -> C
+        ensures { result ≡ self.entry.connect }
+    {
+        let Faulty {
+            connect,
+            frames: _,
+            replies: _,
+            delay: _,
+            refusal: _,
+            start: _,
+            time: _,
+            effects: _,
+        } = self;
+        connect
+    }
+
     /// Whether no connection is taken now, which is so only where a rule refuses some.
     fn refuses(&self) -> bool
         ensures { IsTrue result → IsTrue self.now.refuses }

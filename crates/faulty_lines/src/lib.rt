@@ -8,7 +8,7 @@ mod reader;
 mod spans;
 mod writer;
 
+pub use effect::{Effect, Effects, write_effect};
 pub use faulty::Faulty;
-pub use effect::{Effect, Effects};
 pub use reader::FaultyReader;
 pub use writer::FaultyWriter;

@@ -9,11 +9,10 @@ ghost use Rattle.faulty_lines.specs.Ends.{End, Fills, FillsUp, Reads, IsEnd, Han
 use crate::effect::Effects;
 use crate::passage::Passage;
 use line_faults::{LineFaults, Way};
-use std::io;
 use std::io::{ErrorKind, Read};
 use std::marker::Model;
-use std::thread;
 use std::time::{Clock, Duration};
+use std::{io, thread};
 
 /// How many bytes one read of the device takes at most.
 const READ_MAX: usize = 512;
@@ -119,7 +118,8 @@ impl<'a, R: Read, T: Clock, E: Effects> FaultyReader<'a, R, T, E> {
         if count == 0 {
             return Ok(false);
         }
-        self.passage.take(&buffer[..count], Way::Frame, self.effects);
+        self.passage
+            .take(&buffer[..count], Way::Frame, self.effects);
         if self.waits() {
             thread::sleep(self.time, self.delay);
         }

@@ -8,11 +8,10 @@ ghost use Rattle.faulty_lines.specs.Ends.{End, Writes, Delivers};
 use crate::effect::Effects;
 use crate::passage::Passage;
 use line_faults::{LineFaults, Way};
-use std::io;
 use std::io::{ErrorKind, Write};
 use std::marker::Model;
-use std::thread;
 use std::time::{Clock, Duration};
+use std::{io, thread};
 
 /// How many bytes one write takes at most.
 const WRITE_MAX: usize = 512;

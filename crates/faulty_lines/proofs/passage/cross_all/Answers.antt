@@ -1,10 +1,7 @@
-use Rattle.std.proofs.Common.{◌≡◌, arith, ap, length, refl, sym, ◌∙◌, subst, false, take, drop, ◌-◌, ◌++◌, [], Some, None, List, ℕ}
-use Rattle.std.specs.Prelude.{option_to_list}
+use Rattle.std.proofs.Common.{arith, ap, length, refl, sym, ◌∙◌, [], Some, None}
 use Rattle.std.proofs.lemmas.Bool.{false≢true}
 use Rattle.std.proofs.lemmas.List.{length-drop}
-use Rattle.line_segments.specs.Crossing.{Crosses}
 use Rattle.line_segments.proofs.Bytes.{held_short}
-use Rattle.faulty_lines.specs.Passages.{Takes}
 use Rattle.faulty_lines.proofs.Taking.{takes_nothing, takes_more, rest_is, holding, told, some_used}
 use Rattle.faulty_lines.proofs.passage.cross_all.Goals as goal
 
@@ -18,8 +15,12 @@ loop-used-init g c = record {
 
 pub cross-crossed-requires : goal.cross-crossed-requires
 cross-crossed-requires g c = record {
-  room = omega (arith, c.loop-used.invariant.few, ap length (rest_is c.args.bytes.now c.loop-used.used),
-      length-drop c.loop-used.used c.args.bytes.now);
+  room = omega (
+    arith,
+    c.loop-used.invariant.few,
+    ap length (rest_is c.args.bytes.now c.loop-used.used),
+    length-drop c.loop-used.used c.args.bytes.now,
+  );
 }
 
 pub loop-used-preserved-in-Some : goal.loop-used-preserved-in-Some
@@ -31,7 +32,8 @@ loop-used-preserved-in-Some g c = record {
       c.cross-crossed.ensures.used refl
       (told _ _ _ _ _ c.cross-crossed.result.fate (Some c.in-Some.fate) c.in-Some.is c.cross-crossed.ensures.crosses);
   few = omega (arith, c.loop-used.invariant.few, c.cross-crossed.ensures.few);
-  some = λ e. let some = some_used c.cross-crossed.result.fate c.in-Some.fate _ c.in-Some.is c.cross-crossed.ensures.some in
+  some = λ e. let some = some_used c.cross-crossed.result.fate c.in-Some.fate _ c.in-Some.is
+      c.cross-crossed.ensures.some in
       omega (arith, some);
 }
 

@@ -1,4 +1,4 @@
-use Rattle.std.proofs.Common.{◌≡◌, ◌+◌, suc, ap, ◌∙◌, sym, subst, true, false, refl}
+use Rattle.std.proofs.Common.{ap, ◌∙◌, sym, subst, refl}
 use Rattle.std.proofs.Math.Numerals.{add-one}
 use Rattle.std.proofs.lemmas.Bool.{false≢true}
 use Rattle.faulty_lines.specs.Connections.{Refuses, Line}

@@ -1,4 +1,4 @@
-use Rattle.std.proofs.Common.{take, ◌++◌, ap, ◌∙◌, sym, subst, List, ℕ}
+use Rattle.std.proofs.Common.{take, ◌++◌}
 use Rattle.std.proofs.KnownBytes.{Appends-trans}
 use Rattle.faulty_lines.proofs.Delivering.{waits_less, still_same}
 use Rattle.faulty_lines.proofs.writer.FaultyWriter.deliver.Goals as goal
