@@ -1,0 +1,5 @@
+pub mod Taking
+pub mod Filling
+pub mod Delivering
+pub mod Refusing
+pub mod Saying

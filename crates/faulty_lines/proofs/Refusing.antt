@@ -1,0 +1,27 @@
+-- Rules one after another, and connections that are refused.
+use Rattle.std.proofs.Common.{◌≡◌, ℕ, zero, suc, List, [], ◌∷◌, ◌++◌, refl, subst, Option, Some}
+use Rattle.line_faults.specs.declared.rule.Rule.{Rule}
+use Rattle.line_faults.specs.declared.rule.Rule.TheVariants.{Lose, Repeat, Damage, BreakAfter, Delay}
+use Rattle.line_faults.specs.declared.rule.Rule.TheVariants.{RefuseConnections, LoseByChance, DamageByChance}
+use Rattle.line_faults.specs.declared.rule.Rule.TheVariants.{RestartAfter}
+use Rattle.faulty_lines.specs.Connections.{with_restarts, Refuses}
+
+pub with_restarts-cons : (rule : Rule) (rules : List Rule)
+    → with_restarts (rule ∷ rules) ≡ with_restarts (rule ∷ []) ++ with_restarts rules
+with_restarts-cons (Lose way span) rules = refl
+with_restarts-cons (Repeat way span) rules = refl
+with_restarts-cons (Damage way number place) rules = refl
+with_restarts-cons (BreakAfter way number) rules = refl
+with_restarts-cons (Delay milliseconds) rules = refl
+with_restarts-cons (RefuseConnections milliseconds) rules = refl
+with_restarts-cons (LoseByChance percent) rules = refl
+with_restarts-cons (DamageByChance percent) rules = refl
+with_restarts-cons (RestartAfter number) rules = refl
+
+pub refuses_more : {C I O : Type 0} (opens : C → Option (I × O) → C → Type 0) (closes : C → I → O → C → Type 0)
+    (count : ℕ) (a b : C) (input : I) (output : O) (between c : C) → Refuses opens closes count a b
+    → opens b (Some (input, output)) between → closes between input output c → Refuses opens closes (suc count) a c
+refuses_more opens closes zero a b input output between c same opened closed =
+    (input, output, between, c, subst (λ from. opens from (Some (input, output)) between) same opened, closed, refl)
+refuses_more opens closes (suc count) a b input output between c (i, o, m, n, first, then, rest) opened closed =
+    (i, o, m, n, first, then, refuses_more opens closes count n b input output between c rest opened closed)

@@ -1,0 +1,14 @@
+//! Connections with faults on purpose: a [`Connect`](uecp_net::Connect) over another.
+#![tactic(auto)]
+
+mod effect;
+mod faulty;
+mod passage;
+mod reader;
+mod spans;
+mod writer;
+
+pub use effect::{Effect, Effects, write_effect};
+pub use faulty::Faulty;
+pub use reader::FaultyReader;
+pub use writer::FaultyWriter;

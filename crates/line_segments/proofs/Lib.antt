@@ -1,0 +1,5 @@
+pub mod Parts
+pub mod Steps
+pub mod Room
+pub mod Whole
+pub mod Bytes
