@@ -26,7 +26,8 @@ impl HeardGroup {
         }
     }
 
-    /// What four blocks of 26 bits tell: the word of each whose check is right. Where block 2 is missing, so is block 3.
+    /// What four blocks of 26 bits tell: the word of each whose check is right. Where block 2 is missing, so is block
+    /// 3.
     pub fn of_blocks(blocks: [u32; 4]) -> HeardGroup
         requires { All (λ bits. bits < 2 ^ 26) blocks }
         ensures { result ≡ heard.came blocks }
