@@ -9,7 +9,7 @@ use Rattle.rds_store.specs.Value.{ServiceData}
 use Rattle.rds_store.specs.declared.group.Group.{Group as StoredGroup}
 use Rattle.rds_receiver.specs.declared.heard.HeardGroup.{HeardGroup}
 use Rattle.rds_receiver.specs.Heard.{whole, came}
-use Rattle.rds_receiver.specs.Laws.{IsPartOf}
+use Rattle.rds_receiver.specs.Laws.{IsPartOf, IsRightOrMissing}
 use Rattle.rds_receiver.proofs.Reading.{comes_whole}
 use Rattle.rds_receiver.specs.Shown.{Receiver, Heard, hears, told, identified, joined, shown_with, placed, text_placed, left_of, is_same, nothing}
 use Rattle.carousel.specs.Carousel.{Carousel}
@@ -49,20 +49,20 @@ hears_free s g r ok other =
     ∙ told_free s g (whole (free_group s g)) (record r { pi = Some s.pi }) ok other
 
 -- ---- A part of a group.
-pub hears_part : (Good : Receiver → Type 0) (g : Group) (h : HeardGroup) (r : Receiver) → IsPartOf g h → Good r
-    → ((q : Receiver) → Good q → Good (record q { pi = Some g.block1 }))
-    → ((q : Receiver) → Good q → Good (record q { coming = [] }))
-    → ((q : Receiver) → Good q → Good (told (Some g.block2) h q))
-    → Good (hears h r)
-hears_part Good g h r part good identifies loses tells =
+pub hears_part : (Before After : Receiver → Type 0) (g : Group) (h : HeardGroup) (r : Receiver) → IsPartOf g h → Before r
+    → ((q : Receiver) → Before q → Before (record q { pi = Some g.block1 }))
+    → ((q : Receiver) → Before q → After (record q { coming = [] }))
+    → ((q : Receiver) → Before q → After (told (Some g.block2) h q))
+    → After (hears h r)
+hears_part Before After g h r part before identifies loses tells =
     let q = identified h.block1 r in
-    let first : Good q = elim part.block1 [
-      | inl e ↦ subst (λ (o : Option ℕ). Good (identified o r)) (sym e) (identifies r good)
-      | inr e ↦ subst (λ (o : Option ℕ). Good (identified o r)) (sym e) good
+    let first : Before q = elim part.block1 [
+      | inl e ↦ subst (λ (o : Option ℕ). Before (identified o r)) (sym e) (identifies r before)
+      | inr e ↦ subst (λ (o : Option ℕ). Before (identified o r)) (sym e) before
     ] in
     elim part.block2 [
-      | inl e ↦ subst (λ (o : Option ℕ). Good (told o h q)) (sym e) (tells q first)
-      | inr e ↦ subst (λ (o : Option ℕ). Good (told o h q)) (sym e) (loses q first)
+      | inl e ↦ subst (λ (o : Option ℕ). After (told o h q)) (sym e) (tells q first)
+      | inr e ↦ subst (λ (o : Option ℕ). After (told o h q)) (sym e) (loses q first)
     ]
 
 -- ---- The places of a text.
@@ -85,6 +85,25 @@ pair_comes bytes i base p old are_bytes e h =
     inside i (pair (sent bytes (base + 0)) (sent bytes (base + 1))) old p h
     ∙ ap (λ two. slice_get two (p % 2)) (two_back (sent bytes (base + 0)) (sent bytes (base + 1)) (sent_byte bytes (base + 1) are_bytes))
     ∙ of_two (sent bytes) base p (p % 2) (omega arith) (omega arith)
+
+-- a place that was not heard, or holds this character
+abbrev pub MayHold : Option ℕ → ℕ → Type 0
+MayHold heard x = (heard ≡ None) ⊎ (heard ≡ Some x)
+
+-- a pair that came or is missing brings nothing else
+pub pair_may : (bytes : List ℕ) (i base p : ℕ) (block : Option ℕ) (old : Heard) → All (λ byte. byte < 256) bytes → base ≡ 2 * i
+    → IsRightOrMissing (pair (sent bytes (base + 0)) (sent bytes (base + 1))) block → MayHold (old p) (sent bytes p)
+    → MayHold (placed i block old p) (sent bytes p)
+pair_may bytes i base p block old are_bytes e (inr missing) before =
+    subst (λ (o : Option ℕ). MayHold (placed i o old p) (sent bytes p)) (sym missing) before
+pair_may bytes i base p block old are_bytes e (inl right) before =
+    subst (λ (o : Option ℕ). MayHold (placed i o old p) (sent bytes p)) (sym right)
+    (elim (cases_eq (p / 2) i) [
+      | inl here ↦ inr (pair_comes bytes i base p old are_bytes e here)
+      | inr there ↦
+          subst (λ (o : Option ℕ). MayHold o (sent bytes p))
+          (sym (outside i (Some (pair (sent bytes (base + 0)) (sent bytes (base + 1)))) old p there)) before
+    ])
 
 -- what is at a place after a segment whose blocks came
 pub text_comes : (s : ServiceData) (c : Carousel) (p : ℕ) (r : Receiver) → All (λ byte. byte < 256) c.text

@@ -9,13 +9,16 @@ use Rattle.rds_store.specs.Value.{Store, ServiceData, StoredText}
 use Rattle.rds_store.specs.declared.group.Group.{Group as StoredGroup}
 use Rattle.rds_receiver.specs.Heard.{came}
 use Rattle.rds_receiver.specs.Shown.{Receiver, hears}
+use Rattle.rds_receiver.specs.Damage.{GroupDamage, IsGroupDamage, damaged}
+use Rattle.rds_receiver.specs.Laws.{IsRightOrMissing}
+use Rattle.rds_receiver.proofs.Reading.{no_word_is_wrong}
 use Rattle.carousel.specs.Carousel.{Carousel}
 use Rattle.carousel.specs.Texts.{line_up, no_text, chosen}
 use Rattle.carousel.specs.Service.{main_service}
-use Rattle.carousel.specs.Next.{turn, name_next, send_name, send_text, text_sent, free_group, send_other, next_group, is_waiting}
+use Rattle.carousel.specs.Next.{turn, name_next, name_group, text_group, send_name, send_text, free_group, send_other, next_group, is_waiting}
 use Rattle.air_laws.specs.OnAir.{IsService, IsText, IsOther, Has, after, carousel_after}
-use Rattle.air_laws.proofs.Words.{bit_small}
-use Rattle.air_laws.proofs.Hearing.{known, named_now, texted_now, hears_name, hears_text, hears_free}
+use Rattle.air_laws.proofs.Words.{tuned_to, name_told, text_told, told_name, told_text, told_free, name_words, text_words, free_words}
+use Rattle.air_laws.proofs.Hearing.{known, named_now, texted_now, hears_name, hears_text, hears_free, hears_part}
 use Rattle.air_laws.proofs.Choice.{IsFine, chosen_fine, fine_small}
 use Rattle.air_laws.proofs.Places.{turn_below}
 
@@ -112,3 +115,40 @@ comes s Good wait extra keeps brings (v ∷ vs) all c r (inr soon) =
 pub none : (vs : List Store) → total (λ v. 0) vs ≡ 0
 none [] = refl
 none (v ∷ vs) = let e = none vs in omega arith
+
+-- ---- A group that comes damaged.
+pub part_step : (s : ServiceData) (v : Store) (d : GroupDamage) (c : Carousel) (r : Receiver)
+    (Before : Receiver → Type 0) (After : Carousel → Receiver → Type 0) → IsService s → Has s v → IsGroupDamage d → Before r
+    → ((q : Receiver) → Before q → Before (record q { pi = Some s.pi }))
+    → ((e : Carousel) (q : Receiver) → Before q → After e (record q { coming = [] }))
+    → ((block4 : Option ℕ) → IsRightOrMissing (name_group s (name_next s c)).block4 block4
+    → (q : Receiver) → Before q → After (send_name s c).1 (name_told s (name_next s c) block4 q))
+    → ((block3 block4 : Option ℕ) → IsRightOrMissing (text_group s (on_air s c)).block3 block3
+    → IsRightOrMissing (text_group s (on_air s c)).block4 block4
+    → (q : Receiver) → Before q → After (send_text s c).1 (text_told s (on_air s c) block3 block4 q))
+    → ((q : Receiver) → Before q → After (record c { is_other = false }) (tuned_to s q))
+    → After (next_group v c).1 (hears (came (damaged d (blocks (next_group v c).0))) r)
+part_step s v d c r Before After ok has damage before identifies loses name text free =
+    next_is v c (λ sent. After sent.1 (hears (came (damaged d (blocks sent.0))) r))
+    (λ h. subst (λ (u : ServiceData). After (send_name u c).1 (hears (came (damaged d (blocks (send_name u c).0))) r)) (sym has.same)
+    (let g = name_group s (name_next s c) in
+    let heard = came (damaged d (blocks g)) in
+    let part = no_word_is_wrong g d (name_words s (name_next s c) ok (name_below s c)) damage in
+    hears_part Before (After (send_name s c).1) g heard r part before identifies (loses (send_name s c).1)
+    (λ q good. subst (After (send_name s c).1) (sym (told_name s (name_next s c) heard q ok (name_below s c)))
+    (name heard.block4 part.block4 q good))))
+    (λ h. subst (λ (u : ServiceData). After (send_text u c).1 (hears (came (damaged d (blocks (send_text u c).0))) r)) (sym has.same)
+    (let g = text_group s (on_air s c) in
+    let f = fine s c ok in
+    let heard = came (damaged d (blocks g)) in
+    let part = no_word_is_wrong g d (text_words s (on_air s c) ok (fine_small (on_air s c) f) f.are_bytes) damage in
+    hears_part Before (After (send_text s c).1) g heard r part before identifies (loses (send_text s c).1)
+    (λ q good. subst (After (send_text s c).1) (sym (told_text s (on_air s c) heard q ok (fine_small (on_air s c) f)))
+    (text heard.block3 heard.block4 part.block3 part.block4 q good))))
+    (λ h w gs e. subst (λ (u : ServiceData). After (record c { is_other = false }) (hears (came (damaged d (blocks (free_group u w)))) r)) (sym has.same)
+    (let g = free_group s w in
+    let other = first_other v w gs has.first e in
+    let heard = came (damaged d (blocks g)) in
+    let part = no_word_is_wrong g d (free_words s w ok other) damage in
+    hears_part Before (After (record c { is_other = false })) g heard r part before identifies (loses (record c { is_other = false }))
+    (λ q good. subst (After (record c { is_other = false })) (sym (told_free s w heard q ok other)) (free q good))))

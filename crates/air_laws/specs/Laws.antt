@@ -1,7 +1,8 @@
 -- What a receiver shows is what the store holds.
-use Rattle.std.specs.Prelude.{ℕ, ◌+◌, ◌*◌, ◌≤◌, ◌≡◌, ◌⊎◌, ◌==◌, Bool, true, false, List, [], ◌∷◌, length, Some, None, count_by}
+use Rattle.std.specs.Prelude.{ℕ, ◌+◌, ◌*◌, ◌≤◌, ◌≡◌, ◌⊎◌, ◌==◌, Bool, true, false, List, [], ◌∷◌, length, Some, None}
 use Rattle.std.specs.Prelude.{Option, IfSome, Contains, map, if◌then◌else◌}
 use Rattle.std.specs.List.{AllByRecursion}
+use Rattle.rds_groups.specs.Groups.{bit}
 use Rattle.rds_store.specs.Value.{Store, ServiceData, StoredText}
 use Rattle.rds_receiver.specs.Shown.{Receiver, text_shown, switched_on}
 use Rattle.rds_receiver.specs.Damage.{IsGroupDamage}
@@ -35,7 +36,8 @@ ServiceIsShown =
 
 -- In how many of these stores a group waits.
 abbrev pub waiting : List Store → ℕ
-waiting vs = count_by (λ v. is_waiting v.groups) vs
+waiting [] = 0
+waiting (v ∷ vs) = bit (is_waiting v.groups) + waiting vs
 
 -- And after two groups for each segment of its text, and two for each store where a free-format group waits, it shows
 -- that text, where there is one, and an empty one where there is none: at most 32 groups where no group waits.

@@ -1,4 +1,4 @@
-use Rattle.air_laws.proofs.Names.{no_name_is_mixed}
+use Rattle.air_laws.proofs.NamesInOrder.{no_name_is_mixed}
 use Rattle.air_laws.proofs.no_name_is_mixed.Goals as goal
 
 pub returns : goal.returns
