@@ -1,9 +1,10 @@
 -- Which text goes out.
-use Rattle.std.proofs.Common.{◌≡◌, ◌≢◌, ◌⊎◌, ℕ, zero, suc, ◌+◌, ◌*◌, ◌/◌, ◌%◌, ◌<◌, ◌≤◌, min, Bool, true, false, not, List, [], ◌∷◌, length, get_or, Option, Some, None, refl, ap, sym, ◌∙◌, subst, arith, ◌==◌, ◌&&◌, if◌then◌else◌, inl, inr, nat_lt}
+use Rattle.std.proofs.Common.{◌≡◌, ◌≢◌, ◌⊎◌, ℕ, ◌+◌, ◌<◌, ◌≤◌, Bool, true, false, not, List, [], ◌∷◌, length, Option}
+use Rattle.std.proofs.Common.{Some, None, refl, ap, sym, ◌∙◌, subst, arith, ◌==◌, ◌&&◌, if◌then◌else◌, inl, inr, nat_lt}
 use Rattle.std.specs.List.{All}
 use Rattle.std.specs.Prelude.{slice_get, unwrap_or, bytes_eq}
 use Rattle.std.specs.Option.{option_map_or}
-use Rattle.std.proofs.lemmas.Bool.{cases_lt, cases_eq, cases_Bool, eq-eqb, ne_eqb, lt-ltb, le-ltb}
+use Rattle.std.proofs.lemmas.Bool.{cases_lt, cases_eq, cases_Bool, lt-ltb, le-ltb}
 use Rattle.std.proofs.lemmas.Option.{slice_get_past, slice_get_within, get_or_from_slice_get}
 use Rattle.std.proofs.lemmas.Slice.Eq.{bytes_eq-Decides}
 use Rattle.rds_store.specs.Value.{StoredText}
@@ -20,25 +21,34 @@ by_if P false x y px py = py
 -- what each text that begins brings, and what stays of a carousel whose text goes on
 pub any_choice : (P : Carousel → Type 0) (texts : List StoredText) (c : Carousel)
     → ((place : ℕ) → P (begun_at texts place c))
-    → ((t : StoredText) → slice_get texts c.place ≡ Some t → c.text ≡ t.bytes → c.text_segment < segment_count t.bytes → P c)
-    → ((t : StoredText) → slice_get texts c.place ≡ Some t → c.text ≡ t.bytes → (passes : ℕ) → P (record c { passes = passes; text_segment = 0 }))
+    → ((t : StoredText) → slice_get texts c.place ≡ Some t → c.text ≡ t.bytes → c.text_segment < segment_count t.bytes
+    → P c)
+    → ((t : StoredText) → slice_get texts c.place ≡ Some t → c.text ≡ t.bytes → (passes : ℕ)
+    → P (record c { passes = passes; text_segment = 0 }))
     → P (chosen texts c)
 any_choice P texts c begins goes_on again = by (slice_get texts c.place) refl
   where
     by : (o : Option StoredText) → slice_get texts c.place ≡ o
-        → P (option_map_or (λ t. if bytes_eq c.text t.bytes then gone_on texts t c else begun_at texts 0 c) o (begun_at texts 0 c))
+        → P (option_map_or (λ t. if bytes_eq c.text t.bytes then gone_on texts t c else begun_at texts 0 c) o
+        (begun_at texts 0 c))
     by None e = begins 0
     by (Some t) e = elim (cases_Bool (bytes_eq c.text t.bytes)) [
       | inl equal ↦
           let is = (bytes_eq-Decides c.text t.bytes).0 equal in
           subst (λ b. P (if b then gone_on texts t c else begun_at texts 0 c)) (sym equal)
           (elim (cases_lt c.text_segment (segment_count t.bytes)) [
-            | inl within ↦ subst (λ b. P (if b then c else pass_over texts t c)) (sym (lt-ltb c.text_segment (segment_count t.bytes) within)) (goes_on t e is within)
-            | inr over ↦ subst (λ b. P (if b then c else pass_over texts t c)) (sym (le-ltb c.text_segment (segment_count t.bytes) over))
+            | inl within ↦ subst (λ b. P (if b then c else pass_over texts t c))
+                (sym (lt-ltb c.text_segment (segment_count t.bytes) within)) (goes_on t e is within)
+            | inr over ↦ subst (λ b. P (if b then c else pass_over texts t c))
+                (sym (le-ltb c.text_segment (segment_count t.bytes) over))
                 (by_if P (t.transmissions == 0) (record c { passes = 0; text_segment = 0 })
-                (if nat_lt (c.passes + 1) t.transmissions then record c { passes = c.passes + 1; text_segment = 0 } else begun_at texts (next_place texts c.place) c)
+                (if nat_lt (c.passes + 1) t.transmissions then record c {
+                  passes = c.passes + 1;
+                  text_segment = 0;
+                } else begun_at texts (next_place texts c.place) c)
                 (again t e is 0)
-                (by_if P (nat_lt (c.passes + 1) t.transmissions) (record c { passes = c.passes + 1; text_segment = 0 }) (begun_at texts (next_place texts c.place) c)
+                (by_if P (nat_lt (c.passes + 1) t.transmissions) (record c { passes = c.passes + 1; text_segment = 0 })
+                (begun_at texts (next_place texts c.place) c)
                 (again t e is (c.passes + 1)) (begins (next_place texts c.place))))
           ])
       | inr unlike ↦ subst (λ b. P (if b then gone_on texts t c else begun_at texts 0 c)) (sym unlike) (begins 0)
@@ -52,7 +62,8 @@ pub record KeepsName (c d : Carousel) : Type 0 where
 pub chosen_keeps_name : (texts : List StoredText) (c : Carousel) → KeepsName c (chosen texts c)
 chosen_keeps_name texts c =
     any_choice (KeepsName c) texts c (λ place. record { name = refl; name_segment = refl })
-    (λ t e is within. record { name = refl; name_segment = refl }) (λ t e is passes. record { name = refl; name_segment = refl })
+    (λ t e is within. record { name = refl; name_segment = refl })
+    (λ t e is passes. record { name = refl; name_segment = refl })
 
 -- the segment is one of the text, which is of bytes
 pub record IsFine (c : Carousel) : Type 0 where
@@ -66,12 +77,14 @@ fine_small c fine = let h = fine.within in omega arith
 begun_fine : (place : ℕ) (t : StoredText) (c : Carousel) → IsText t → IsFine (begun place t c)
 begun_fine place t c ok = record { within = omega arith; short = ok.short; are_bytes = ok.are_bytes }
 
-pub text_fine : (texts : List StoredText) (place : ℕ) → All IsText texts → IsText (unwrap_or (slice_get texts place) no_text)
+pub text_fine : (texts : List StoredText) (place : ℕ) → All IsText texts
+    → IsText (unwrap_or (slice_get texts place) no_text)
 text_fine texts place all = by (slice_get texts place) refl
   where
     by : (o : Option StoredText) → slice_get texts place ≡ o → IsText (unwrap_or o no_text)
     by None e = record { short = omega arith; are_bytes = λ k d h. absurd (omega arith) }
-    by (Some t) e = subst IsText (get_or_from_slice_get texts place t t e) (all place t (slice_get_within texts place t e))
+    by (Some t) e = subst IsText (get_or_from_slice_get texts place t t e)
+        (all place t (slice_get_within texts place t e))
 
 pub chosen_fine : (texts : List StoredText) (c : Carousel) → All IsText texts → IsFine (chosen texts c)
 chosen_fine texts c all =
@@ -113,10 +126,12 @@ on_or_off t c = elim (cases_Bool (bytes_eq c.text t.bytes)) [
 pub off_begins : (t : StoredText) (c : Carousel) → IsOff t c → chosen (t ∷ []) c ≡ begun 0 t c
 off_begins t c off =
     let texts = t ∷ [] in
-    let step = λ (o : Option StoredText). option_map_or (λ u. if bytes_eq c.text u.bytes then gone_on texts u c else begun_at texts 0 c) o (begun_at texts 0 c) in
+    let step = λ (o : Option StoredText). option_map_or
+    (λ u. if bytes_eq c.text u.bytes then gone_on texts u c else begun_at texts 0 c) o (begun_at texts 0 c) in
     elim off [
       | inl unlike ↦ elim (cases_eq c.place 0) [
-        | inl first ↦ ap (λ (n : ℕ). step (slice_get texts n)) first ∙ ap (λ b. if b then gone_on texts t c else begun_at texts 0 c) unlike
+        | inl first ↦ ap (λ (n : ℕ). step (slice_get texts n)) first
+            ∙ ap (λ b. if b then gone_on texts t c else begun_at texts 0 c) unlike
         | inr later ↦ ap step (slice_get_past texts c.place (omega arith))
       ]
       | inr later ↦ ap step (slice_get_past texts c.place (omega arith))
@@ -138,21 +153,40 @@ on_goes_on t c on =
     let texts = t ∷ [] in
     let n = segment_count t.bytes in
     let equal = (bytes_eq-Decides c.text t.bytes).1 on.text in
-    let step = λ (o : Option StoredText). option_map_or (λ u. if bytes_eq c.text u.bytes then gone_on texts u c else begun_at texts 0 c) o (begun_at texts 0 c) in
+    let step = λ (o : Option StoredText). option_map_or
+    (λ u. if bytes_eq c.text u.bytes then gone_on texts u c else begun_at texts 0 c) o (begun_at texts 0 c) in
     let is : chosen texts c ≡ gone_on texts t c =
-    ap (λ (k : ℕ). step (slice_get texts k)) on.place ∙ ap (λ b. if b then gone_on texts t c else begun_at texts 0 c) equal in
+    ap (λ (k : ℕ). step (slice_get texts k)) on.place
+    ∙ ap (λ b. if b then gone_on texts t c else begun_at texts 0 c) equal in
     subst (GoesOn t c) (sym is) (elim (cases_lt c.text_segment n) [
-      | inl within ↦ subst (λ b. GoesOn t c (if b then c else pass_over texts t c)) (sym (lt-ltb c.text_segment n within))
-          (record { text = on.text; place = on.place; flag = refl; segment = sym (ap (λ b. if b then c.text_segment else 0) (lt-ltb c.text_segment n within)) })
+      | inl within ↦ subst (λ b. GoesOn t c (if b then c else pass_over texts t c))
+          (sym (lt-ltb c.text_segment n within))
+          (record {
+            text = on.text;
+            place = on.place;
+            flag = refl;
+            segment = sym (ap (λ b. if b then c.text_segment else 0) (lt-ltb c.text_segment n within));
+          })
       | inr over ↦
-          let none : 0 ≡ turn n c.text_segment = sym (ap (λ b. if b then c.text_segment else 0) (le-ltb c.text_segment n over)) in
-          let first : next_place texts c.place ≡ 0 = ap (λ b. if b then c.place + 1 else 0) (le-ltb (c.place + 1) 1 (omega arith)) in
+          let none : 0 ≡ turn n c.text_segment =
+          sym (ap (λ b. if b then c.text_segment else 0) (le-ltb c.text_segment n over)) in
+          let first : next_place texts c.place ≡ 0 = ap (λ b. if b then c.place + 1 else 0)
+          (le-ltb (c.place + 1) 1 (omega arith)) in
           subst (λ b. GoesOn t c (if b then c else pass_over texts t c)) (sym (le-ltb c.text_segment n over))
           (by_if (GoesOn t c) (t.transmissions == 0) (record c { passes = 0; text_segment = 0 })
-          (if nat_lt (c.passes + 1) t.transmissions then record c { passes = c.passes + 1; text_segment = 0 } else begun_at texts (next_place texts c.place) c)
+          (if nat_lt (c.passes + 1) t.transmissions then record c {
+            passes = c.passes + 1;
+            text_segment = 0;
+          } else begun_at texts (next_place texts c.place) c)
           (record { text = on.text; place = on.place; flag = refl; segment = none })
-          (by_if (GoesOn t c) (nat_lt (c.passes + 1) t.transmissions) (record c { passes = c.passes + 1; text_segment = 0 }) (begun_at texts (next_place texts c.place) c)
+          (by_if (GoesOn t c) (nat_lt (c.passes + 1) t.transmissions)
+          (record c { passes = c.passes + 1; text_segment = 0 }) (begun_at texts (next_place texts c.place) c)
           (record { text = on.text; place = on.place; flag = refl; segment = none })
           (subst (λ (k : ℕ). GoesOn t c (begun_at texts k c)) (sym first)
-          (record { text = refl; place = refl; flag = flag_stays t.toggle (bytes_eq c.text t.bytes) c.flag equal; segment = none }))))
+          (record {
+            text = refl;
+            place = refl;
+            flag = flag_stays t.toggle (bytes_eq c.text t.bytes) c.flag equal;
+            segment = none;
+          }))))
     ])

@@ -1,5 +1,6 @@
 -- What a receiver is after a whole group of a service, and after a part of one.
-use Rattle.std.proofs.Common.{◌≡◌, ◌≢◌, ◌⊎◌, ℕ, zero, suc, ◌+◌, ◌*◌, ◌/◌, ◌%◌, ◌<◌, ◌^◌, ◌≤◌, Bool, true, false, not, List, [], ◌∷◌, length, Option, Some, None, refl, ap, sym, ◌∙◌, subst, arith, ◌==◌, ◌&&◌, if◌then◌else◌, inl, inr}
+use Rattle.std.proofs.Common.{◌≡◌, ◌≢◌, ◌⊎◌, ℕ, zero, suc, ◌+◌, ◌*◌, ◌/◌, ◌%◌, ◌<◌, Bool, true, false, not, List, []}
+use Rattle.std.proofs.Common.{◌∷◌, Option, Some, None, refl, ap, sym, ◌∙◌, subst, arith, ◌&&◌, if◌then◌else◌, inl, inr}
 use Rattle.std.specs.List.{All}
 use Rattle.std.specs.Prelude.{slice_get}
 use Rattle.std.proofs.lemmas.Bool.{cases_eq, eq-eqb, ne_eqb}
@@ -11,21 +12,25 @@ use Rattle.rds_receiver.specs.declared.heard.HeardGroup.{HeardGroup}
 use Rattle.rds_receiver.specs.Heard.{whole, came}
 use Rattle.rds_receiver.specs.Laws.{IsPartOf, IsRightOrMissing}
 use Rattle.rds_receiver.proofs.Reading.{comes_whole}
-use Rattle.rds_receiver.specs.Shown.{Receiver, Heard, hears, told, identified, joined, shown_with, placed, text_placed, left_of, is_same, nothing}
+use Rattle.rds_receiver.specs.Shown.{Receiver, Heard, hears, told, identified, joined, shown_with, placed, left_of}
+use Rattle.rds_receiver.specs.Shown.{is_same, nothing}
 use Rattle.carousel.specs.Carousel.{Carousel}
 use Rattle.carousel.specs.Next.{name_group, text_group, free_group, sent}
 use Rattle.air_laws.specs.OnAir.{IsService, IsOther}
-use Rattle.air_laws.proofs.Words.{tuned_to, name_at, name_two, text_told, told_name, told_text, told_free, two_back, byte_at, sent_byte, name_words, text_words, free_words}
+use Rattle.air_laws.proofs.Words.{tuned_to, name_at, name_two, text_told, told_name, told_text, told_free, two_back}
+use Rattle.air_laws.proofs.Words.{byte_at, sent_byte, name_words, text_words, free_words}
 
 -- what block 1 and 2 of each group of the service tell
 abbrev pub known : ServiceData → Receiver → Receiver
 known s r = tuned_to s (record r { pi = Some s.pi })
 
 abbrev pub named_now : ServiceData → ℕ → Receiver → Receiver
-named_now s i r = shown_with (joined i r.coming (name_two s i)) (record (known s r) { ta = Some s.ta; music = Some s.music })
+named_now s i r = shown_with (joined i r.coming (name_two s i))
+    (record (known s r) { ta = Some s.ta; music = Some s.music })
 
 abbrev pub texted_now : ServiceData → Carousel → Receiver → Receiver
-texted_now s c r = text_told s c (Some (text_group s c).block3) (Some (text_group s c).block4) (record r { pi = Some s.pi })
+texted_now s c r = text_told s c (Some (text_group s c).block3) (Some (text_group s c).block4)
+    (record r { pi = Some s.pi })
 
 -- ---- Whole groups.
 pub hears_name : (s : ServiceData) (i : ℕ) (r : Receiver) → IsService s → i < 4
@@ -49,7 +54,8 @@ hears_free s g r ok other =
     ∙ told_free s g (whole (free_group s g)) (record r { pi = Some s.pi }) ok other
 
 -- ---- A part of a group.
-pub hears_part : (Before After : Receiver → Type 0) (g : Group) (h : HeardGroup) (r : Receiver) → IsPartOf g h → Before r
+pub hears_part : (Before After : Receiver → Type 0) (g : Group) (h : HeardGroup) (r : Receiver) → IsPartOf g h
+    → Before r
     → ((q : Receiver) → Before q → Before (record q { pi = Some g.block1 }))
     → ((q : Receiver) → Before q → After (record q { coming = [] }))
     → ((q : Receiver) → Before q → After (told (Some g.block2) h q))
@@ -66,12 +72,14 @@ hears_part Before After g h r part before identifies loses tells =
     ]
 
 -- ---- The places of a text.
-pub of_two : (f : ℕ → ℕ) (base p k : ℕ) → k < 2 → base + k ≡ p → slice_get (f (base + 0) ∷ f (base + 1) ∷ []) k ≡ Some (f p)
+pub of_two : (f : ℕ → ℕ) (base p k : ℕ) → k < 2 → base + k ≡ p
+    → slice_get (f (base + 0) ∷ f (base + 1) ∷ []) k ≡ Some (f p)
 of_two f base p zero h e = ap (λ (n : ℕ). Some (f n)) e
 of_two f base p (suc zero) h e = ap (λ (n : ℕ). Some (f n)) e
 of_two f base p (suc (suc k)) h e = absurd (omega arith)
 
-inside : (i : ℕ) (word : ℕ) (old : Heard) (p : ℕ) → p / 2 ≡ i → placed i (Some word) old p ≡ slice_get (characters word) (p % 2)
+inside : (i : ℕ) (word : ℕ) (old : Heard) (p : ℕ) → p / 2 ≡ i
+    → placed i (Some word) old p ≡ slice_get (characters word) (p % 2)
 inside i word old p h = ap (λ b. if b then slice_get (characters word) (p % 2) else old p) (eq-eqb (p / 2) i h)
 
 outside : (i : ℕ) (block : Option ℕ) (old : Heard) (p : ℕ) → p / 2 ≢ i → placed i block old p ≡ old p
@@ -83,7 +91,8 @@ pair_comes : (bytes : List ℕ) (i base p : ℕ) (old : Heard) → All (λ byte.
     → placed i (Some (pair (sent bytes (base + 0)) (sent bytes (base + 1)))) old p ≡ Some (sent bytes p)
 pair_comes bytes i base p old are_bytes e h =
     inside i (pair (sent bytes (base + 0)) (sent bytes (base + 1))) old p h
-    ∙ ap (λ two. slice_get two (p % 2)) (two_back (sent bytes (base + 0)) (sent bytes (base + 1)) (sent_byte bytes (base + 1) are_bytes))
+    ∙ ap (λ two. slice_get two (p % 2)) (two_back (sent bytes (base + 0)) (sent bytes (base + 1))
+    (sent_byte bytes (base + 1) are_bytes))
     ∙ of_two (sent bytes) base p (p % 2) (omega arith) (omega arith)
 
 -- a place that was not heard, or holds this character
@@ -91,7 +100,8 @@ abbrev pub MayHold : Option ℕ → ℕ → Type 0
 MayHold heard x = (heard ≡ None) ⊎ (heard ≡ Some x)
 
 -- a pair that came or is missing brings nothing else
-pub pair_may : (bytes : List ℕ) (i base p : ℕ) (block : Option ℕ) (old : Heard) → All (λ byte. byte < 256) bytes → base ≡ 2 * i
+pub pair_may : (bytes : List ℕ) (i base p : ℕ) (block : Option ℕ) (old : Heard) → All (λ byte. byte < 256) bytes
+    → base ≡ 2 * i
     → IsRightOrMissing (pair (sent bytes (base + 0)) (sent bytes (base + 1))) block → MayHold (old p) (sent bytes p)
     → MayHold (placed i block old p) (sent bytes p)
 pair_may bytes i base p block old are_bytes e (inr missing) before =

@@ -1,5 +1,6 @@
 -- What a text shows whose places are known, or may be.
-use Rattle.std.proofs.Common.{◌≡◌, ◌⊎◌, ℕ, zero, suc, ◌+◌, ◌<◌, ◌≤◌, Bool, true, false, List, [], ◌∷◌, length, get_or, Option, Some, None, refl, ap, sym, ◌∙◌, subst, arith, inl, inr, if◌then◌else◌, ◌==◌}
+use Rattle.std.proofs.Common.{◌≡◌, ℕ, zero, suc, ◌+◌, ◌<◌, ◌≤◌, Bool, true, false, List, [], ◌∷◌, length, get_or}
+use Rattle.std.proofs.Common.{Option, Some, None, refl, ap, sym, ◌∙◌, subst, arith, inl, inr, if◌then◌else◌, ◌==◌}
 use Rattle.std.specs.Prelude.{IfSome}
 use Rattle.std.proofs.Math.ListN.{get_or-append}
 use Rattle.std.proofs.Math.Seq.{get_or-append_seam}
@@ -33,7 +34,8 @@ line_shown (x ∷ xs) (suc count) first heard fits h end =
     (λ more. ap heard (omega arith) ∙ end (omega arith)))
     ∙ shown (x == 0x0D)
   where
-    shown : (b : Bool) → (if b then Some [] else Some (x ∷ up_to_return xs)) ≡ Some (if b then [] else x ∷ up_to_return xs)
+    shown : (b : Bool) → (if b then Some [] else Some (x ∷ up_to_return xs))
+        ≡ Some (if b then [] else x ∷ up_to_return xs)
     shown true = refl
     shown false = refl
 
@@ -59,7 +61,8 @@ shown_head x (Some zs) ys false h = ap (λ xs. x ∷ xs) h
 
 part_shown : (xs : List ℕ) (count first : ℕ) (heard : Heard) → length xs ≤ count
     → ((p : ℕ) → p < length xs → MayHold (heard (first + p)) (get_or xs p 0))
-    → (length xs < count → MayHold (heard (first + length xs)) 0x0D) → IfSome (line count first heard) (λ text. text ≡ up_to_return xs)
+    → (length xs < count → MayHold (heard (first + length xs)) 0x0D)
+    → IfSome (line count first heard) (λ text. text ≡ up_to_return xs)
 part_shown [] zero first heard fits h end = refl
 part_shown [] (suc count) first heard fits h end =
     let at : first + 0 ≡ first = omega arith in

@@ -1,19 +1,20 @@
 -- Where each text has its toggle set, no text is mixed.
-use Rattle.std.proofs.Common.{◌≡◌, ◌≢◌, ◌⊎◌, ℕ, zero, suc, ◌+◌, ◌*◌, ◌/◌, ◌<◌, ◌≤◌, Bool, true, false, not, List, [], ◌∷◌, length, Option, Some, None, refl, ap, sym, ◌∙◌, subst, arith, inl, inr, if◌then◌else◌, ◌&&◌}
-use Rattle.std.specs.Prelude.{IfSome, slice_get, unwrap_or, bytes_eq}
+use Rattle.std.proofs.Common.{◌≡◌, ◌⊎◌, ℕ, zero, suc, ◌/◌, Bool, true, false, not, List, [], ◌∷◌, Option, Some, refl}
+use Rattle.std.proofs.Common.{ap, sym, ◌∙◌, subst, inl, inr, if◌then◌else◌, ◌&&◌}
+use Rattle.std.specs.Prelude.{slice_get, unwrap_or, bytes_eq}
 use Rattle.std.specs.List.{AllByRecursion}
 use Rattle.std.proofs.lemmas.Bool.{cases_eq, cases_Bool}
 use Rattle.std.proofs.lemmas.Slice.Eq.{bytes_eq-Decides}
 use Rattle.rds_groups.specs.Groups.{blocks}
 use Rattle.rds_store.specs.Value.{Store, ServiceData, StoredText}
 use Rattle.rds_receiver.specs.Heard.{came}
-use Rattle.rds_receiver.specs.Shown.{Receiver, hears, text_shown, left_of, is_same, nothing}
+use Rattle.rds_receiver.specs.Shown.{Receiver, hears, left_of, is_same, nothing}
 use Rattle.carousel.specs.Carousel.{Carousel}
-use Rattle.carousel.specs.Texts.{no_text, line_up, begun_at, chosen}
+use Rattle.carousel.specs.Texts.{no_text, line_up}
 use Rattle.carousel.specs.Service.{main_service}
 use Rattle.carousel.specs.Next.{sent, send_text, next_group}
-use Rattle.air_laws.specs.OnAir.{IsService, IsStore, Has, after, carousel_after}
-use Rattle.air_laws.specs.Laws.{up_to_return, HasHeardOnly, Toggles, NoTextIsMixed}
+use Rattle.air_laws.specs.OnAir.{IsService, IsStore, after, carousel_after}
+use Rattle.air_laws.specs.Laws.{HasHeardOnly, Toggles, NoTextIsMixed}
 use Rattle.air_laws.proofs.Hearing.{texted_now, text_comes, text_stays, left_same, MayHold}
 use Rattle.air_laws.proofs.Choice.{any_choice}
 use Rattle.air_laws.proofs.Steps.{step_is, on_air, fine}
@@ -42,11 +43,11 @@ begun_turns t c set = elim (cases_Bool (bytes_eq c.text t.bytes)) [
   | inl equal ↦ inl (
     sym ((bytes_eq-Decides c.text t.bytes).0 equal),
     ap (λ b. if b && not (bytes_eq c.text t.bytes) then not c.flag else c.flag) set
-    ∙ ap (λ b. if true && not b then not c.flag else c.flag) equal,
+        ∙ ap (λ b. if true && not b then not c.flag else c.flag) equal,
   )
   | inr unlike ↦ inr (
-    ap (λ b. if b && not (bytes_eq c.text t.bytes) then not c.flag else c.flag) set
-    ∙ ap (λ b. if true && not b then not c.flag else c.flag) unlike)
+      ap (λ b. if b && not (bytes_eq c.text t.bytes) then not c.flag else c.flag) set
+      ∙ ap (λ b. if true && not b then not c.flag else c.flag) unlike)
 ]
 
 stays_or_turns : (s : ServiceData) (c : Carousel) → AllByRecursion (λ (t : StoredText). t.toggle ≡ true) s.texts
@@ -63,15 +64,18 @@ apart a true h = h
 apart a false h = ap not h
 
 -- what is left of the text that was heard, once the next text was chosen
-left_may : (c d : Carousel) (r : Receiver) → HasHeardOnly c r → StaysOrTurns c d → (p : ℕ) → MayHold (left_of d.flag false r p) (sent d.text p)
+left_may : (c d : Carousel) (r : Receiver) → HasHeardOnly c r → StaysOrTurns c d → (p : ℕ)
+    → MayHold (left_of d.flag false r p) (sent d.text p)
 left_may c d r only (inl same) p =
-    subst (λ (o : Option ℕ). MayHold o (sent d.text p)) (sym (ap (λ (heard : ℕ → Option ℕ). heard p) (left_same d.flag r (only.flag ∙ sym same.1) only.long)))
+    subst (λ (o : Option ℕ). MayHold o (sent d.text p))
+    (sym (ap (λ (heard : ℕ → Option ℕ). heard p) (left_same d.flag r (only.flag ∙ sym same.1) only.long)))
     (subst (λ (bytes : List ℕ). MayHold (r.text p) (sent bytes p)) (sym same.0) (only.at p))
 left_may c d r only (inr turned) p =
     let other : is_same r.flag d.flag ≡ false = ap (λ b. is_same b d.flag) only.flag ∙ apart d.flag c.flag turned in
     inl (ap (λ b. (if b && is_same r.is_short false then r.text else nothing) p) other)
 
-only_texted : (s : ServiceData) (c : Carousel) (r : Receiver) → IsService s → AllByRecursion (λ (t : StoredText). t.toggle ≡ true) s.texts
+only_texted : (s : ServiceData) (c : Carousel) (r : Receiver) → IsService s
+    → AllByRecursion (λ (t : StoredText). t.toggle ≡ true) s.texts
     → HasHeardOnly c r → HasHeardOnly (send_text s c).1 (texted_now s (on_air s c) r)
 only_texted s c r ok all only =
     let d = on_air s c in
@@ -97,11 +101,13 @@ only_step v c r ok all only =
     (λ h. only_texted s c r ok.service all only)
     (λ h w. record { flag = only.flag; long = only.long; at = only.at; few = only.few })
 
-only_after : (vs : List Store) (c : Carousel) (r : Receiver) → AllByRecursion IsStore vs → AllByRecursion Toggles vs → HasHeardOnly c r
+only_after : (vs : List Store) (c : Carousel) (r : Receiver) → AllByRecursion IsStore vs → AllByRecursion Toggles vs
+    → HasHeardOnly c r
     → HasHeardOnly (carousel_after vs c) (after vs c r)
 only_after [] c r ok all only = only
 only_after (v ∷ vs) c r ok all only =
-    only_after vs (next_group v c).1 (hears (came (blocks (next_group v c).0)) r) ok.1 all.1 (only_step v c r ok.0 all.0 only)
+    only_after vs (next_group v c).1 (hears (came (blocks (next_group v c).0)) r) ok.1 all.1
+    (only_step v c r ok.0 all.0 only)
 
 pub no_text_is_mixed : NoTextIsMixed
 no_text_is_mixed vs c r ok all only =

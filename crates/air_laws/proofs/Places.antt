@@ -1,5 +1,5 @@
 -- How many segments pass before one comes.
-use Rattle.std.proofs.Common.{◌≡◌, ◌≢◌, ℕ, zero, suc, ◌+◌, ◌-◌, ◌<◌, ◌≤◌, ap, arith, if◌then◌else◌, inl, inr, nat_lt}
+use Rattle.std.proofs.Common.{◌≡◌, ◌≢◌, ℕ, ◌+◌, ◌-◌, ◌<◌, ◌≤◌, ap, arith, if◌then◌else◌, inl, inr, nat_lt}
 use Rattle.std.proofs.lemmas.Bool.{cases_lt, lt-ltb, le-ltb}
 use Rattle.carousel.specs.Next.{turn}
 
@@ -27,10 +27,14 @@ turn_below count next h =
 
 pub far_below : (count i now : ℕ) → i < count → now < count → far count i now < count
 far_below count i now h below =
-    elim (cases_lt i now) [ inl a ↦ omega (arith, far_back count i now a) | inr a ↦ omega (arith, far_on count i now a) ]
+    elim (cases_lt i now) [
+      | inl a ↦ omega (arith, far_back count i now a)
+      | inr a ↦ omega (arith, far_on count i now a)
+    ]
 
 -- a segment that is not this one brings it nearer
-pub nearer : (count i now : ℕ) → now < count → i < count → now ≢ i → far count i (turn count (now + 1)) < far count i now
+pub nearer : (count i now : ℕ) → now < count → i < count → now ≢ i
+    → far count i (turn count (now + 1)) < far count i now
 nearer count i now hn hi other =
     elim (cases_lt (now + 1) count) [
       | inl a ↦

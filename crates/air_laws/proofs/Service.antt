@@ -1,5 +1,7 @@
 -- A service that stays is shown: all but its text.
-use Rattle.std.proofs.Common.{◌≡◌, ◌≢◌, ◌⊎◌, ℕ, zero, suc, ◌+◌, ◌*◌, ◌<◌, ◌≤◌, Bool, true, false, List, [], ◌∷◌, ◌++◌, length, take, get_or, Option, Some, None, refl, ap, sym, ◌∙◌, subst, arith, ◌==◌, if◌then◌else◌, inl, inr, append_assoc, slice_index}
+use Rattle.std.proofs.Common.{◌≡◌, ◌≢◌, ◌⊎◌, ℕ, ◌+◌, ◌*◌, ◌<◌, ◌≤◌, true, false, List, [], ◌∷◌, ◌++◌, length, take}
+use Rattle.std.proofs.Common.{get_or, Some, refl, ap, sym, ◌∙◌, arith, ◌==◌, if◌then◌else◌, inl, inr, append_assoc}
+use Rattle.std.proofs.Common.{slice_index}
 use Rattle.std.specs.Prelude.{bytes_eq}
 use Rattle.std.specs.List.{AllByRecursion}
 use Rattle.std.proofs.lemmas.Bool.{cases_lt, cases_eq, cases_Bool, eq-eqb, ne_eqb}
@@ -12,10 +14,10 @@ use Rattle.rds_receiver.specs.Shown.{Receiver, hears, joined}
 use Rattle.carousel.specs.Carousel.{Carousel}
 use Rattle.carousel.specs.Texts.{line_up}
 use Rattle.carousel.specs.Next.{turn, name_next, send_name, send_text, next_group}
-use Rattle.air_laws.specs.OnAir.{IsService, Has, after, carousel_after}
-use Rattle.air_laws.specs.Laws.{Shows, ServiceIsShown, TrafficIsTold}
+use Rattle.air_laws.specs.OnAir.{IsService, Has, after}
+use Rattle.air_laws.specs.Laws.{ServiceIsShown, TrafficIsTold}
 use Rattle.air_laws.proofs.Words.{bit_small, name_two}
-use Rattle.air_laws.proofs.Hearing.{known, named_now, texted_now}
+use Rattle.air_laws.proofs.Hearing.{named_now, texted_now}
 use Rattle.air_laws.proofs.Choice.{chosen_keeps_name}
 use Rattle.air_laws.proofs.Places.{far, far_below, nearer, turn_in, turn_over}
 use Rattle.air_laws.proofs.Steps.{step_is, name_below, goes_on, comes, none, on_air}
@@ -34,7 +36,8 @@ tuned_brought s ok v has c r =
     (λ h. record { pi = refl; tp = refl; pty = refl })
     (λ h w. record { pi = refl; tp = refl; pty = refl })
 
-tuned_after : (s : ServiceData) → IsService s → (vs : List Store) → AllByRecursion (Has s) vs → 1 ≤ length vs → (c : Carousel) (r : Receiver)
+tuned_after : (s : ServiceData) → IsService s → (vs : List Store) → AllByRecursion (Has s) vs → 1 ≤ length vs
+    → (c : Carousel) (r : Receiver)
     → TunedIs s (after vs c r)
 tuned_after s ok vs all enough c r =
     comes s (λ d q. TunedIs s q) (λ d. 0) (λ v. 0)
@@ -45,7 +48,8 @@ record SwitchesAre (s : ServiceData) (r : Receiver) : Type 0 where
   ta : r.ta ≡ Some s.ta
   music : r.music ≡ Some s.music
 
-switches_kept : (s : ServiceData) → IsService s → (v : Store) → Has s v → (c : Carousel) (r : Receiver) → SwitchesAre s r
+switches_kept : (s : ServiceData) → IsService s → (v : Store) → Has s v → (c : Carousel) (r : Receiver)
+    → SwitchesAre s r
     → SwitchesAre s (hears (came (blocks (next_group v c).0)) r)
 switches_kept s ok v has c r good =
     step_is s v c r (λ d q. SwitchesAre s q) ok has
@@ -54,19 +58,22 @@ switches_kept s ok v has c r good =
     (λ h w. record { ta = good.ta; music = good.music })
 
 switches_brought : (s : ServiceData) → IsService s → (v : Store) → Has s v → (c : Carousel) (r : Receiver)
-    → SwitchesAre s (hears (came (blocks (next_group v c).0)) r) ⊎ (bit (next_group v c).1.is_other < bit c.is_other + 0)
+    → SwitchesAre s (hears (came (blocks (next_group v c).0)) r)
+    ⊎ (bit (next_group v c).1.is_other < bit c.is_other + 0)
 switches_brought s ok v has c r =
     step_is s v c r (λ d q. SwitchesAre s q ⊎ (bit d.is_other < bit c.is_other + 0)) ok has
     (λ h. inl (record { ta = refl; music = refl }))
     (λ h. inr (omega (arith, ap bit h)))
     (λ h w. inr (omega (arith, ap bit h)))
 
-switches_after : (s : ServiceData) → IsService s → (vs : List Store) → AllByRecursion (Has s) vs → 2 ≤ length vs → (c : Carousel) (r : Receiver)
+switches_after : (s : ServiceData) → IsService s → (vs : List Store) → AllByRecursion (Has s) vs → 2 ≤ length vs
+    → (c : Carousel) (r : Receiver)
     → SwitchesAre s (after vs c r)
 switches_after s ok vs all enough c r =
     let b = bit_small c.is_other in
     let e = none vs in
-    comes s (λ d q. SwitchesAre s q) (λ d. bit d.is_other) (λ v. 0) (switches_kept s ok) (switches_brought s ok) vs all c r (inr (omega arith))
+    comes s (λ d q. SwitchesAre s q) (λ d. bit d.is_other) (λ v. 0) (switches_kept s ok) (switches_brought s ok) vs all
+    c r (inr (omega arith))
 
 pub traffic_is_told : TrafficIsTold
 traffic_is_told s vs c r ok all enough = (switches_after s ok vs all enough c r).ta
@@ -77,7 +84,8 @@ pub two_more : (xs : List ℕ) (i : ℕ) → length xs ≡ 8 → i < 4
     → take (2 * i) xs ++ (slice_index xs (2 * i + 0) ∷ slice_index xs (2 * i + 1) ∷ []) ≡ take (2 * (i + 1)) xs
 two_more xs i eight h =
     let a : take (2 * i + 1) xs ≡ take (2 * i) xs ++ get_or xs (2 * i) 0 ∷ [] = take_more xs (2 * i) 0 (omega arith) in
-    let b : take (2 * i + 1 + 1) xs ≡ take (2 * i + 1) xs ++ get_or xs (2 * i + 1) 0 ∷ [] = take_more xs (2 * i + 1) 0 (omega arith) in
+    let b : take (2 * i + 1 + 1) xs ≡ take (2 * i + 1) xs ++ get_or xs (2 * i + 1) 0 ∷ [] =
+    take_more xs (2 * i + 1) 0 (omega arith) in
     let e : 2 * i ≡ 2 * i + 0 = omega arith in
     let f : 2 * (i + 1) ≡ 2 * i + 1 + 1 = omega arith in
     sym (ap (λ n. take n xs) f ∙ b ∙ ap (λ ys. ys ++ get_or xs (2 * i + 1) 0 ∷ []) a
@@ -117,7 +125,8 @@ one_more s i coming ok h before =
       | inr not_first ↦ elim before [
         | inl first ↦ absurd (not_first first)
         | inr front ↦
-            let e : length coming ≡ 2 * i = ap length front ∙ length-take (2 * i) s.ps ∙ (let k = ok.eight in omega arith) in
+            let e : length coming ≡ 2 * i = ap length front ∙ length-take (2 * i) s.ps
+            ∙ (let k = ok.eight in omega arith) in
             ap (λ b. if b then segment else later) (ne_eqb i 0 not_first)
             ∙ ap (λ b. if b then coming ++ segment else []) (eq-eqb (length coming) (2 * i) e)
             ∙ ap (λ xs. xs ++ segment) front ∙ more
@@ -139,7 +148,8 @@ pass_more s c r ok before =
     record { name = refl; front = one_more s i r.coming ok (name_below s c) from }
 
 -- a group of the text leaves the name alone
-pass_kept : (s : ServiceData) (c : Carousel) (r : Receiver) → IsInPass s c r → IsInPass s (send_text s c).1 (texted_now s (on_air s c) r)
+pass_kept : (s : ServiceData) (c : Carousel) (r : Receiver) → IsInPass s c r
+    → IsInPass s (send_text s c).1 (texted_now s (on_air s c) r)
 pass_kept s c r pass =
     let keeps = chosen_keeps_name (line_up s.texts) c in
     record { name = keeps.name ∙ pass.name; front = pass.front ∙ ap (λ n. take (2 * n) s.ps) (sym keeps.name_segment) }
@@ -161,12 +171,14 @@ unfolding wait_for
 wait_bound s i h c =
     let a = far_below 4 i (name_next s c) h (name_below s c) in let b = bit_small c.is_other in omega arith
 
-name_nearer : (s : ServiceData) (i : ℕ) (c : Carousel) → i < 4 → name_next s c ≢ i → wait_for s i (send_name s c).1 < wait_for s i c
+name_nearer : (s : ServiceData) (i : ℕ) (c : Carousel) → i < 4 → name_next s c ≢ i
+    → wait_for s i (send_name s c).1 < wait_for s i c
 unfolding wait_for
 name_nearer s i c h there =
     omega (arith, nearer 4 i (name_next s c) (name_below s c) h there, ap (far 4 i) (goes_on s c), bit_small c.is_other)
 
-text_nearer : (s : ServiceData) (i : ℕ) (c : Carousel) → c.is_other ≡ true → wait_for s i (send_text s c).1 < wait_for s i c
+text_nearer : (s : ServiceData) (i : ℕ) (c : Carousel) → c.is_other ≡ true
+    → wait_for s i (send_text s c).1 < wait_for s i c
 unfolding wait_for
 text_nearer s i c h =
     let keeps = chosen_keeps_name (line_up s.texts) c in
@@ -175,12 +187,14 @@ text_nearer s i c h =
     ∙ ap (λ (n : ℕ). if bytes_eq c.name s.ps then turn 4 n else 0) keeps.name_segment in
     omega (arith, ap bit h, ap (far 4 i) same)
 
-free_nearer : (s : ServiceData) (i : ℕ) (c : Carousel) → c.is_other ≡ true → wait_for s i (record c { is_other = false }) < wait_for s i c
+free_nearer : (s : ServiceData) (i : ℕ) (c : Carousel) → c.is_other ≡ true
+    → wait_for s i (record c { is_other = false }) < wait_for s i c
 unfolding wait_for
 free_nearer s i c h = omega (arith, ap bit h)
 
 pass_brought : (s : ServiceData) → IsService s → (v : Store) → Has s v → (c : Carousel) (r : Receiver)
-    → IsInPass s (next_group v c).1 (hears (came (blocks (next_group v c).0)) r) ⊎ (wait_for s 0 (next_group v c).1 < wait_for s 0 c)
+    → IsInPass s (next_group v c).1 (hears (came (blocks (next_group v c).0)) r)
+    ⊎ (wait_for s 0 (next_group v c).1 < wait_for s 0 c)
 pass_brought s ok v has c r =
     step_is s v c r (λ d q. IsInPass s d q ⊎ (wait_for s 0 d < wait_for s 0 c)) ok has
     (λ h. elim (cases_eq (name_next s c) 0) [
@@ -191,7 +205,8 @@ pass_brought s ok v has c r =
     (λ h w. inr (free_nearer s 0 c h))
 
 -- the name is shown at its last segment
-shown_by : (s : ServiceData) (c : Carousel) (r : Receiver) → IsService s → IsInPass s c r → (name_next s c ≡ 3) ⊎ (r.name ≡ Some s.ps)
+shown_by : (s : ServiceData) (c : Carousel) (r : Receiver) → IsService s → IsInPass s c r
+    → (name_next s c ≡ 3) ⊎ (r.name ≡ Some s.ps)
     → (named_now s (name_next s c) r).name ≡ Some s.ps
 shown_by s c r ok pass before =
     let i = name_next s c in
@@ -209,13 +224,15 @@ shown_by s c r ok pass before =
       ]
     ]
 
-shown_stays : (s : ServiceData) → IsService s → (v : Store) → Has s v → (c : Carousel) (r : Receiver) → IsInPass s c r → r.name ≡ Some s.ps
+shown_stays : (s : ServiceData) → IsService s → (v : Store) → Has s v → (c : Carousel) (r : Receiver) → IsInPass s c r
+    → r.name ≡ Some s.ps
     → (hears (came (blocks (next_group v c).0)) r).name ≡ Some s.ps
 shown_stays s ok v has c r pass old =
     step_is s v c r (λ d q. q.name ≡ Some s.ps) ok has (λ h. shown_by s c r ok pass (inr old)) (λ h. old) (λ h w. old)
 
 shown_brought : (s : ServiceData) → IsService s → (v : Store) → Has s v → (c : Carousel) (r : Receiver) → IsInPass s c r
-    → ((hears (came (blocks (next_group v c).0)) r).name ≡ Some s.ps) ⊎ (wait_for s 3 (next_group v c).1 < wait_for s 3 c)
+    → ((hears (came (blocks (next_group v c).0)) r).name ≡ Some s.ps)
+    ⊎ (wait_for s 3 (next_group v c).1 < wait_for s 3 c)
 shown_brought s ok v has c r pass =
     step_is s v c r (λ d q. (q.name ≡ Some s.ps) ⊎ (wait_for s 3 d < wait_for s 3 c)) ok has
     (λ h. elim (cases_eq (name_next s c) 3) [
@@ -231,7 +248,8 @@ data Stage (s : ServiceData) (c : Carousel) (r : Receiver) (groups : ℕ) : Type
   UnderWay : IsInPass s c r → wait_for s 3 c < groups → Stage s c r groups
   ToBegin : wait_for s 0 c + 8 < groups → Stage s c r groups
 
-name_comes : (s : ServiceData) → IsService s → (vs : List Store) → AllByRecursion (Has s) vs → (c : Carousel) (r : Receiver)
+name_comes : (s : ServiceData) → IsService s → (vs : List Store) → AllByRecursion (Has s) vs
+    → (c : Carousel) (r : Receiver)
     → Stage s c r (length vs) → (after vs c r).name ≡ Some s.ps
 name_comes s ok [] all c r (Shown pass old) = old
 name_comes s ok [] all c r (UnderWay pass soon) = absurd (omega arith)
@@ -242,7 +260,10 @@ name_comes s ok (v ∷ vs) all c r (Shown pass old) =
 name_comes s ok (v ∷ vs) all c r (UnderWay pass soon) =
     let stays = pass_stays s ok v all.0 c r pass in
     name_comes s ok vs all.1 (next_group v c).1 (hears (came (blocks (next_group v c).0)) r)
-    (elim (shown_brought s ok v all.0 c r pass) [ inl shown ↦ Shown stays shown | inr less ↦ UnderWay stays (omega arith) ])
+    (elim (shown_brought s ok v all.0 c r pass) [
+      | inl shown ↦ Shown stays shown
+      | inr less ↦ UnderWay stays (omega arith)
+    ])
 name_comes s ok (v ∷ vs) all c r (ToBegin soon) =
     name_comes s ok vs all.1 (next_group v c).1 (hears (came (blocks (next_group v c).0)) r)
     (elim (pass_brought s ok v all.0 c r) [

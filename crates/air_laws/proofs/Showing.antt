@@ -1,16 +1,17 @@
 -- Nothing false is shown.
-use Rattle.std.proofs.Common.{◌≡◌, ◌≢◌, ◌⊎◌, ℕ, ◌+◌, ◌*◌, ◌/◌, ◌<◌, ◌≤◌, Bool, true, false, List, [], ◌∷◌, length, Option, Some, None, refl, ap, sym, ◌∙◌, subst, arith, inl, inr, if◌then◌else◌, ◌&&◌}
+use Rattle.std.proofs.Common.{◌≡◌, ℕ, ◌+◌, ◌*◌, ◌<◌, Bool, true, false, List, [], ◌∷◌, Option, Some, None, refl, sym}
+use Rattle.std.proofs.Common.{subst, arith, inl, if◌then◌else◌, ◌&&◌}
 use Rattle.std.specs.Prelude.{IfSome}
 use Rattle.std.specs.List.{All, AllByRecursion}
 use Rattle.rds_groups.specs.Groups.{pair, blocks}
 use Rattle.rds_store.specs.Value.{Store, ServiceData, StoredText}
 use Rattle.rds_receiver.specs.Heard.{came}
-use Rattle.rds_receiver.specs.Shown.{Receiver, Heard, hears, named, placed, left_of, is_same, nothing, switched_on}
+use Rattle.rds_receiver.specs.Shown.{Receiver, hears, placed, left_of, is_same, nothing, switched_on}
 use Rattle.rds_receiver.specs.Damage.{GroupDamage, IsGroupDamage, damaged}
 use Rattle.rds_receiver.specs.Laws.{IsRightOrMissing}
 use Rattle.carousel.specs.Carousel.{Carousel}
 use Rattle.carousel.specs.Texts.{line_up}
-use Rattle.carousel.specs.Next.{sent, name_next, name_group, text_group, send_name, send_text, next_group}
+use Rattle.carousel.specs.Next.{sent, name_next, name_group, text_group, send_name, next_group}
 use Rattle.air_laws.specs.OnAir.{IsService, Has, Moment, after_damage}
 use Rattle.air_laws.specs.Laws.{NothingFalseIsShown}
 use Rattle.air_laws.proofs.Words.{name_told, text_told}
@@ -32,9 +33,11 @@ record HeardOnly (s : ServiceData) (t : StoredText) (c : Carousel) (r : Receiver
   text : (p : ℕ) → MayHold (r.text p) (sent t.bytes p)
 
 -- a segment of the text of which each block came or is missing
-text_may : (s : ServiceData) (c : Carousel) (bytes : List ℕ) (block3 block4 : Option ℕ) (q : Receiver) → All (λ byte. byte < 256) c.text → c.text ≡ bytes
+text_may : (s : ServiceData) (c : Carousel) (bytes : List ℕ) (block3 block4 : Option ℕ) (q : Receiver)
+    → All (λ byte. byte < 256) c.text → c.text ≡ bytes
     → IsRightOrMissing (text_group s c).block3 block3 → IsRightOrMissing (text_group s c).block4 block4
-    → ((p : ℕ) → MayHold (q.text p) (sent bytes p)) → (p : ℕ) → MayHold ((text_told s c block3 block4 q).text p) (sent bytes p)
+    → ((p : ℕ) → MayHold (q.text p) (sent bytes p)) → (p : ℕ)
+    → MayHold ((text_told s c block3 block4 q).text p) (sent bytes p)
 text_may s c bytes block3 block4 q are_bytes same h3 h4 before p =
     let i = c.text_segment in
     let old = left_of c.flag false q in
@@ -60,44 +63,99 @@ by_name s t c ok block4 h q good = by block4 (names_by_name (λ name. name ≡ s
   where
     by : (o : Option ℕ) → HeardNames (λ name. name ≡ s.ps) (send_name s c).1 (name_told s (name_next s c) o q)
         → HeardOnly s t (send_name s c).1 (name_told s (name_next s c) o q)
-    by None names = record { pi = good.pi; tp = refl; pty = refl; ta = refl; music = refl; names = names; long = good.long; text = good.text }
-    by (Some word) names = record { pi = good.pi; tp = refl; pty = refl; ta = refl; music = refl; names = names; long = good.long; text = good.text }
+    by None names = record {
+      pi = good.pi;
+      tp = refl;
+      pty = refl;
+      ta = refl;
+      music = refl;
+      names = names;
+      long = good.long;
+      text = good.text;
+    }
+    by (Some word) names = record {
+      pi = good.pi;
+      tp = refl;
+      pty = refl;
+      ta = refl;
+      music = refl;
+      names = names;
+      long = good.long;
+      text = good.text;
+    }
 
-step : (s : ServiceData) (t : StoredText) → IsService s → line_up s.texts ≡ t ∷ [] → (v : Store) (d : GroupDamage) (c : Carousel) (r : Receiver) → Has s v
-    → IsGroupDamage d → HeardOnly s t c r → HeardOnly s t (next_group v c).1 (hears (came (damaged d (blocks (next_group v c).0))) r)
+step : (s : ServiceData) (t : StoredText) → IsService s → line_up s.texts ≡ t ∷ []
+    → (v : Store) (d : GroupDamage) (c : Carousel) (r : Receiver) → Has s v
+    → IsGroupDamage d → HeardOnly s t c r → HeardOnly s t (next_group v c).1
+    (hears (came (damaged d (blocks (next_group v c).0))) r)
 step s t ok e v d c r has damage good =
     part_step s v d c r (HeardOnly s t c) (HeardOnly s t) ok has damage good
     (λ q g. record {
-      pi = refl; tp = g.tp; pty = g.pty; ta = g.ta; music = g.music; long = g.long; text = g.text;
+      pi = refl;
+      tp = g.tp;
+      pty = g.pty;
+      ta = g.ta;
+      music = g.music;
+      long = g.long;
+      text = g.text;
       names = record { coming = g.names.coming; shown = g.names.shown };
     })
     (λ f q g. record {
-      pi = g.pi; tp = g.tp; pty = g.pty; ta = g.ta; music = g.music; long = g.long; text = g.text;
+      pi = g.pi;
+      tp = g.tp;
+      pty = g.pty;
+      ta = g.ta;
+      music = g.music;
+      long = g.long;
+      text = g.text;
       names = record { coming = inl refl; shown = g.names.shown };
     })
     (by_name s t c ok)
     (λ block3 block4 h3 h4 q g. record {
-      pi = g.pi; tp = refl; pty = refl; ta = g.ta; music = g.music; long = refl;
+      pi = g.pi;
+      tp = refl;
+      pty = refl;
+      ta = g.ta;
+      music = g.music;
+      long = refl;
       names = record { coming = kept_coming s c q.coming g.names.coming; shown = g.names.shown };
-      text = text_may s (on_air s c) t.bytes block3 block4 q (fine s c ok).are_bytes (one_is_on s t e c).text h3 h4 g.text;
+      text = text_may s (on_air s c) t.bytes block3 block4 q (fine s c ok).are_bytes (one_is_on s t e c).text h3 h4
+          g.text;
     })
     (λ q g. record {
-      pi = g.pi; tp = refl; pty = refl; ta = g.ta; music = g.music; long = g.long; text = g.text;
+      pi = g.pi;
+      tp = refl;
+      pty = refl;
+      ta = g.ta;
+      music = g.music;
+      long = g.long;
+      text = g.text;
       names = record { coming = g.names.coming; shown = g.names.shown };
     })
 
-all_steps : (s : ServiceData) (t : StoredText) → IsService s → line_up s.texts ≡ t ∷ [] → (ms : List Moment) (c : Carousel) (r : Receiver)
+all_steps : (s : ServiceData) (t : StoredText) → IsService s → line_up s.texts ≡ t ∷ []
+    → (ms : List Moment) (c : Carousel) (r : Receiver)
     → AllByRecursion (λ m. Has s m.store) ms → AllByRecursion (λ m. IsGroupDamage m.damage) ms → HeardOnly s t c r
     → (e : Carousel) × HeardOnly s t e (after_damage ms c r)
 all_steps s t ok e [] c r has damage good = (c, good)
 all_steps s t ok e (m ∷ ms) c r has damage good =
-    all_steps s t ok e ms (next_group m.store c).1 (hears (came (damaged m.damage (blocks (next_group m.store c).0))) r) has.1 damage.1
+    all_steps s t ok e ms (next_group m.store c).1 (hears (came (damaged m.damage (blocks (next_group m.store c).0))) r)
+    has.1 damage.1
     (step s t ok e m.store m.damage c r has.0 damage.0 good)
 
 pub nothing_false_is_shown : NothingFalseIsShown
 nothing_false_is_shown s t ms c ok e has damage =
     let last = (all_steps s t ok e ms c switched_on has damage
-    (record { pi = tt; tp = tt; pty = tt; ta = tt; music = tt; names = record { coming = inl refl; shown = tt }; long = refl; text = λ p. inl refl })).1 in
+    (record {
+      pi = tt;
+      tp = tt;
+      pty = tt;
+      ta = tt;
+      music = tt;
+      names = record { coming = inl refl; shown = tt };
+      long = refl;
+      text = λ p. inl refl;
+    })).1 in
     record {
       pi = last.pi;
       tp = last.tp;

@@ -1,22 +1,19 @@
 -- What a receiver hears of a service's groups, in the service's own words.
-use Rattle.std.proofs.Common.{◌≡◌, ◌⊎◌, ℕ, ◌+◌, ◌*◌, ◌/◌, ◌%◌, ◌<◌, ◌^◌, ◌≤◌, Bool, true, false, List, [], ◌∷◌, ◌++◌, length, get_or, Option, Some, None, refl, ap, sym, ◌∙◌, subst, arith, ◌==◌, if◌then◌else◌, slice_index, inl, inr}
+use Rattle.std.proofs.Common.{◌≡◌, ℕ, ◌+◌, ◌*◌, ◌/◌, ◌%◌, ◌<◌, Bool, true, false, List, [], ◌∷◌, ◌++◌, length, get_or}
+use Rattle.std.proofs.Common.{Option, Some, refl, ap, sym, ◌∙◌, subst, arith, ◌==◌, slice_index, inl, inr}
 use Rattle.std.specs.List.{All}
-use Rattle.std.specs.Prelude.{IfSome, slice_get}
 use Rattle.std.proofs.lemmas.Bool.{cases_lt, ne_eqb}
 use Rattle.std.proofs.lemmas.List.Elements.{All-push}
 use Rattle.std.proofs.Math.ListN.{get_or-eq_default}
-use Rattle.rds_groups.specs.Groups.{second_block, bit, pair, characters, name_bits, has_bit}
+use Rattle.rds_groups.specs.Groups.{second_block, bit, pair, characters}
 use Rattle.rds_groups.specs.Lines.{IsGroup}
-use Rattle.rds_groups.specs.declared.group.Group.{Group}
-use Rattle.rds_store.specs.Value.{ServiceData, StoredText}
+use Rattle.rds_store.specs.Value.{ServiceData}
 use Rattle.rds_store.specs.declared.group.Group.{Group as StoredGroup}
 use Rattle.rds_receiver.specs.declared.heard.HeardGroup.{HeardGroup}
-use Rattle.rds_receiver.specs.Heard.{whole}
-use Rattle.rds_receiver.specs.Laws.{IsPartOf}
-use Rattle.rds_receiver.specs.Shown.{Receiver, Heard, hears, told, identified, named, placed, text_placed, left_of, is_same}
+use Rattle.rds_receiver.specs.Shown.{Receiver, told, named, text_placed, left_of}
 use Rattle.carousel.specs.Carousel.{Carousel}
-use Rattle.carousel.specs.Next.{head_of, segment_of, name_group, text_group, free_group, sent, four_of}
-use Rattle.air_laws.specs.OnAir.{IsService, IsText, IsOther}
+use Rattle.carousel.specs.Next.{name_group, text_group, free_group, sent}
+use Rattle.air_laws.specs.OnAir.{IsService, IsOther}
 
 -- ---- Numbers in block 2 and in a block of two characters.
 pub bit_small : (b : Bool) → bit b < 2
@@ -141,7 +138,8 @@ told_free s g h r ok other =
 
 -- the characters of two bytes
 pub two_back : (a b : ℕ) → b < 256 → characters (pair a b) ≡ a ∷ b ∷ []
-two_back a b h = ap (λ (x : ℕ). x ∷ pair a b % 256 ∷ []) (first_read a b h) ∙ ap (λ (x : ℕ). a ∷ x ∷ []) (second_read a b h)
+two_back a b h = ap (λ (x : ℕ). x ∷ pair a b % 256 ∷ []) (first_read a b h)
+    ∙ ap (λ (x : ℕ). a ∷ x ∷ []) (second_read a b h)
 
 -- ---- The groups of a service have words of 16 bits.
 pub name_words : (s : ServiceData) (i : ℕ) → IsService s → i < 4 → IsGroup (name_group s i)

@@ -1,6 +1,6 @@
 -- What a receiver shows is what the store holds.
-use Rattle.std.specs.Prelude.{ℕ, ◌+◌, ◌*◌, ◌≤◌, ◌≡◌, ◌⊎◌, ◌==◌, Bool, true, false, List, [], ◌∷◌, length, Some, None}
-use Rattle.std.specs.Prelude.{Option, IfSome, Contains, map, if◌then◌else◌}
+use Rattle.std.specs.Prelude.{ℕ, ◌+◌, ◌*◌, ◌≤◌, ◌≡◌, ◌⊎◌, ◌==◌, true, false, List, [], ◌∷◌, length, Some, None}
+use Rattle.std.specs.Prelude.{IfSome, Contains, map, if◌then◌else◌}
 use Rattle.std.specs.List.{AllByRecursion}
 use Rattle.rds_groups.specs.Groups.{bit}
 use Rattle.rds_store.specs.Value.{Store, ServiceData, StoredText}
@@ -10,7 +10,7 @@ use Rattle.carousel.specs.Carousel.{Carousel}
 use Rattle.carousel.specs.Texts.{line_up, segment_count}
 use Rattle.carousel.specs.Next.{sent, is_waiting}
 use Rattle.carousel.specs.Service.{main_service}
-use Rattle.air_laws.specs.OnAir.{IsService, IsText, IsStore, Has, after, carousel_after, Moment, after_damage}
+use Rattle.air_laws.specs.OnAir.{IsService, IsStore, Has, after, carousel_after, Moment, after_damage}
 
 -- The bytes before the first 0D.
 abbrev pub up_to_return : List ℕ → List ℕ

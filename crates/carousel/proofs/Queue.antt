@@ -1,10 +1,10 @@
 -- Each group that waits goes out once, in order.
-use Rattle.std.proofs.Common.{◌≡◌, ℕ, zero, suc, Bool, true, false, List, [], ◌∷◌, ◌++◌, refl, ap, sym, ◌∙◌, append_assoc, if◌then◌else◌}
+use Rattle.std.proofs.Common.{◌≡◌, zero, suc, Bool, true, false, List, [], ◌∷◌, ◌++◌, refl, ap, ◌∙◌, append_assoc}
+use Rattle.std.proofs.Common.{if◌then◌else◌}
 use Rattle.rds_store.specs.Value.{Store}
-use Rattle.rds_store.specs.Step.{group_taken, first_taken}
+use Rattle.rds_store.specs.Step.{first_taken}
 use Rattle.rds_store.specs.declared.group.Group.{Group as StoredGroup}
-use Rattle.carousel.specs.Carousel.{Carousel}
-use Rattle.carousel.specs.Next.{is_queued, is_waiting, aired}
+use Rattle.carousel.specs.Next.{is_queued, aired}
 use Rattle.carousel.specs.Laws.{first_waiting, queued, store_after, EachQueuedGroupOnce}
 
 -- one group

@@ -1,10 +1,9 @@
 -- What goes out, in the words of the store.
 use Rattle.std.specs.Prelude.{ℕ, zero, suc, ◌≡◌, List, [], ◌∷◌, ◌++◌, if◌then◌else◌}
-use Rattle.rds_groups.specs.declared.group.Group.{Group}
 use Rattle.rds_store.specs.Value.{Store}
 use Rattle.rds_store.specs.declared.group.Group.{Group as StoredGroup}
 use Rattle.carousel.specs.Carousel.{Carousel}
-use Rattle.carousel.specs.Next.{is_queued, next_group, aired}
+use Rattle.carousel.specs.Next.{is_queued, aired}
 
 -- The free-format groups among the next so many, as they waited.
 abbrev pub first_waiting : List StoredGroup → List StoredGroup

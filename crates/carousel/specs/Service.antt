@@ -1,5 +1,5 @@
 -- The service that is on the air.
-use Rattle.std.specs.Prelude.{ℕ, Option, slice_get, unwrap_or}
+use Rattle.std.specs.Prelude.{slice_get, unwrap_or}
 use Rattle.std.specs.Option.{option_and_then}
 use Rattle.std.specs.FinMap.{get}
 use Rattle.rds_store.specs.Value.{Store, ServiceData}

@@ -1,5 +1,6 @@
--- Which text goes out: the texts of the service in their order, each as often as its transmissions say, round and round.
-use Rattle.std.specs.Prelude.{ℕ, ◌+◌, ◌/◌, ◌==◌, min, Bool, true, false, not, ◌&&◌, List, [], ◌∷◌, length, nat_lt}
+-- Which text goes out: the texts of the service in their order, each as often as its transmissions say, round and
+-- round.
+use Rattle.std.specs.Prelude.{ℕ, ◌+◌, ◌/◌, ◌==◌, min, true, not, ◌&&◌, List, [], ◌∷◌, length, nat_lt}
 use Rattle.std.specs.Prelude.{slice_get, unwrap_or, bytes_eq, if◌then◌else◌}
 use Rattle.std.specs.Option.{option_map_or}
 use Rattle.rds_store.specs.Value.{StoredText}

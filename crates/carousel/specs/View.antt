@@ -1,5 +1,4 @@
 -- The code's services and texts, without where they lie in memory. No public clause cites this.
-use Rattle.std.specs.Prelude.{ℕ}
 use Rattle.rds_store.specs.Value.{ServiceData, StoredText}
 use Rattle.carousel.specs.declared.station.Station.{Station}
 use Rattle.carousel.specs.declared.station.Offer.{Offer}

@@ -1,5 +1,5 @@
-//! What goes out, group by group. Source: IEC 62106, type 0 and type 2 groups; RDS Forum SPB 490, RadioText; profile for
-//! the order.
+//! What goes out, group by group. Source: IEC 62106, type 0 and type 2 groups; RDS Forum SPB 490, RadioText; profile
+//! for the order.
 ghost use Rattle.std.specs.Prelude.{◌≡◌, ◌<◌, ◌≤◌, length, slice_get, IfSome};
 ghost use Rattle.carousel.specs.Carousel.{switched_on};
 ghost use Rattle.carousel.specs.Texts as choice;
