@@ -1,0 +1,11 @@
+pub mod Words
+pub mod Hearing
+pub mod Choice
+pub mod Places
+pub mod Steps
+pub mod Service
+pub mod Lines
+pub mod TextRuns
+pub mod NamesInOrder
+pub mod Mixing
+pub mod Showing

@@ -1,0 +1,35 @@
+//! What a receiver shows is what the store holds: laws over the store, the carousel and the receiver. No code.
+#![tactic(auto)]
+
+ghost use Rattle.air_laws.specs.Laws.{ServiceIsShown, TextIsShown, TrafficIsTold, NoNameIsMixed};
+ghost use Rattle.air_laws.specs.Laws.{NoTextIsMixed, NothingFalseIsShown};
+
+/// A service that stays is shown after 16 groups.
+pub fn service_is_shown()
+    ensures { ServiceIsShown }
+{}
+
+/// So is its text, after two groups for each segment.
+pub fn text_is_shown()
+    ensures { TextIsShown }
+{}
+
+/// A traffic announcement is told within two groups.
+pub fn traffic_is_told()
+    ensures { TrafficIsTold }
+{}
+
+/// No name is mixed, whatever changes and whatever is lost.
+pub fn no_name_is_mixed()
+    ensures { NoNameIsMixed }
+{}
+
+/// Where each text has its toggle set, no text is mixed.
+pub fn no_text_is_mixed()
+    ensures { NoTextIsMixed }
+{}
+
+/// Whatever comes damaged, nothing false is shown.
+pub fn nothing_false_is_shown()
+    ensures { NothingFalseIsShown }
+{}

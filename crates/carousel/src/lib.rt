@@ -1,0 +1,8 @@
+//! What an encoder's store sends: which RDS group is next.
+#![tactic(auto)]
+
+mod carousel;
+pub mod laws;
+mod station;
+
+pub use carousel::{Carousel, NextGroup};

@@ -1,0 +1,4 @@
+pub mod Linear
+pub mod Found
+pub mod LineProofs
+pub mod GroupProofs
