@@ -1,0 +1,2 @@
+-- The definitions that the contracts of conformance cases cite.
+pub mod Judging
