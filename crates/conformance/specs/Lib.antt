@@ -1,2 +1,3 @@
 -- The definitions that the contracts of conformance cases cite.
 pub mod Judging
+pub mod Sending
