@@ -7,10 +7,14 @@
 
 mod case;
 mod judging;
+mod line;
 mod sending;
+mod steps;
 mod verdict;
+mod words;
 
 pub use case::{Case, Counters, Edit, Step, To};
 pub use judging::judge;
+pub use line::{CaseFault, Line};
 pub use sending::{sent, wanted};
 pub use verdict::{Reply, Verdict};
