@@ -5,8 +5,11 @@ stand nearly word for word in tests/long_schedule.py too, so on these the two ar
 keeps no state that it could look up: it cuts a stream into segments first, then takes the stuffing out, then judges.
 
 It also says what joining is: the frames of a pass, what an encoder answers to them, and which replies tell that it is joined. With that
-tests/passes.py tries passes from each state of an encoder, and tests/joining and tests/restarts look at what the program does."""
+tests/passes.py tries passes from each state of an encoder, and tests/joining and tests/restarts look at what the program does.
 
+`python3 tests/model.py answer --store < FILE` is `uecp answer` by this file alone; so are `show` and `line`."""
+
+import sys
 from typing import NamedTuple
 
 START, ESCAPE, END = 0xFE, 0xFD, 0xFF
@@ -612,3 +615,37 @@ def run_words(words, text):
         return outcome([], (2, f"services: {fault}"))
     numbers = {name: int(options.get(f"--{name}", 1)) for name in ("site", "encoder", "sets")}
     return run(command, Setup(**numbers, services=services, store="--store" in options), text)
+
+
+MOST = {"--site": 1023, "--encoder": 63, "--sets": 8}
+OPTIONS = {"show": (), "answer": (*MOST, "--services", "--store"), "line": (*MOST, "--services", "--store")}
+
+
+def are_options(command, words):
+    """Whether these words name options of a command, each once, with numbers in range. Lists of services are judged later."""
+    named, words = [], iter(words)
+    for word in words:
+        name, sign, value = word.partition("=")
+        named.append(name)
+        if name not in OPTIONS.get(command, ()) or name == "--store" and sign:
+            return False
+        value = value if sign or name == "--store" else next(words, "-")
+        if name in MOST and not (value.isdecimal() and 1 <= int(value) <= MOST[name]) or value.startswith("-"):
+            return False
+    return command in OPTIONS and len(named) == len(set(named))
+
+
+def main(words):
+    if "-h" in words or "--help" in words:
+        ended = Outcome(__doc__, "", 0)
+    elif not are_options(words[0] if words else "", words[1:]):
+        ended = outcome([], (2, "not a command line of the model"))
+    else:
+        ended = run_words(words, sys.stdin.buffer.read())
+    sys.stdout.write(ended.output)
+    sys.stderr.write(ended.error)
+    return ended.status
+
+
+if __name__ == "__main__":
+    sys.exit(main(sys.argv[1:]))

@@ -1,0 +1,4 @@
+-- The definitions that the contracts of conformance cases cite.
+pub mod Judging
+pub mod Lines
+pub mod Sending

@@ -1,0 +1,20 @@
+//! Conformance cases: which rules of the protocol an encoder keeps.
+//!
+//! - [`Case`]: what is sent, and what must come; [`Step`], [`Edit`], [`To`] and [`Counters`] are its parts.
+//! - [`sent`], [`wanted`]: the bytes of a case for the encoder at an address, and the replies that it wants.
+//! - [`judge`]: what came of a case, held against the replies that it wants; [`Verdict`] and [`Reply`].
+#![tactic(auto)]
+
+mod case;
+mod judging;
+mod line;
+mod sending;
+mod steps;
+mod verdict;
+mod words;
+
+pub use case::{Case, Counters, Edit, Step, To};
+pub use judging::judge;
+pub use line::{CaseFault, Line};
+pub use sending::{sent, wanted};
+pub use verdict::{Reply, Verdict};

@@ -1,0 +1,28 @@
+//! Replies, and what comes of a case (profile).
+use uecp_frame::FrameFault;
+
+/// A reply of an encoder: to which counter, and with which code, whatever that means.
+#[derive(Clone, Copy, Debug, PartialEq, Eq)]
+pub struct Reply {
+    /// The counter of the message that it answers.
+    pub counter: u8,
+    /// Its code.
+    pub code: u8,
+}
+
+/// What came of a case, by the first place where it is not as it should be.
+#[derive(Clone, Copy, Debug, PartialEq, Eq)]
+pub enum Verdict {
+    /// The replies that came are the wanted ones in order, and nothing else came.
+    Kept,
+    /// This reply is wanted, and nothing more came.
+    Missing(Reply),
+    /// The first reply is wanted, and the second came.
+    Another(Reply, Reply),
+    /// This reply came, and none is wanted any more.
+    TooMany(Reply),
+    /// A frame came that is no reply of the encoder.
+    NoReply,
+    /// A segment came that is no frame, with this fault.
+    Dropped(FrameFault),
+}
