@@ -1,0 +1,59 @@
+-- One part of a call after another, up to where it stops.
+use Rattle.std.proofs.Common.{◌≡◌, ℕ, ◌+◌, List, [], ◌∷◌, ◌++◌, length, take, refl, ◌∙◌, ap, sym, subst, arith}
+use Rattle.std.proofs.Common.{length-append, append_assoc, true}
+use Rattle.std.proofs.Math.Seq.{take-append-add}
+use Rattle.uecp_encoder.specs.Target.{Step}
+use Rattle.uecp_encoder.specs.State.{EncoderState, fed}
+use Rattle.uecp_encoder.specs.Answering.{Replied, responses_to, answers}
+use Rattle.uecp_encoder.specs.Serving.{AnswersAll, StopsWriting}
+use Rattle.uecp_encoder.proofs.InPieces.{in_pieces_of_encoder}
+use Rattle.uecp_encoder.proofs.InParts.{sends_nothing, sends_on, stops_on}
+use Rattle.told_serving.specs.declared.answering.Stop.{Stop}
+use Rattle.told_serving.specs.declared.answering.Stop.TheVariants as stop
+use Rattle.kept_serving.specs.Keeping.{Kept}
+use Rattle.kept_serving.specs.Serving.{fresh_among, StopsSaving, SavesFor}
+use Rattle.kept_serving.specs.Parts.{Keeps, Breaks, Takes}
+use Rattle.told_serving.specs.Parts.{StopsAt, stopped_after}
+use Rattle.kept_serving.proofs.Together.{saving_on, keeps_on}
+use Rattle.kept_serving.proofs.Saving.{saves_on}
+use Rattle.kept_serving.proofs.Beginnings.{outlives_on}
+
+module _ {V K : Type 0} (step : Step V) (leaves : K → Kept V → Type 0) (is_clean : K → Type 0)
+    (saves fails : K → Kept V → K → Type 0) where
+  breaks_on : (e e1 : EncoderState V) (k k1 k2 : K) (s sent more now : List ℕ) → AnswersAll step e e1 s sent →
+      Keeps step leaves is_clean e e1 k k1 s → Breaks step leaves is_clean e1 k1 k2 more now
+      → Breaks step leaves is_clean e k k2 (s ++ more) (sent ++ now)
+  breaks_on e e1 k k1 k2 s sent more now all first second = record {
+    outlives = λ start clean left is. outlives_on step e e1 s sent more now left all
+        (second.outlives (first.settled start (second.clean clean)) clean left is);
+    clean = λ clean. first.clean (second.clean clean);
+  }
+
+  -- the first bytes of the second part, after the first part
+  saves_up_to : (e e1 : EncoderState V) (k k1 k2 : K) (s more : List ℕ) (n : ℕ) → e1 ≡ fed step e s
+      → SavesFor saves step e s k k1 → SavesFor saves step e1 (take n more) k1 k2
+      → SavesFor saves step e (take (length s + n) (s ++ more)) k k2
+  saves_up_to e e1 k k1 k2 s more n state first second =
+      subst (λ x. SavesFor saves step e x k k2) (sym (take-append-add s more n))
+      (saves_on saves step e e1 s (take n more) k k1 k2 state first second)
+
+  -- the bytes before are those that were written
+  pub stops_at_on : (e e1 e2 : EncoderState V) (k k1 k2 : K) (s sent more now : List ℕ) (r b place : ℕ) (why : Stop) →
+      Takes step leaves is_clean saves e e1 k k1 s sent r b
+      → StopsAt step leaves is_clean saves fails e1 e2 k1 k2 more now place why
+      → StopsAt step leaves is_clean saves fails e e2 k k2 (s ++ more) (sent ++ now) (length s + place)
+      (stopped_after b why)
+  stops_at_on e e1 e2 k k1 k2 s sent more now r b place (stop.Write w) first (stops, keeps, saved) = (
+    subst (λ n. StopsWriting step e e2 (s ++ more) (sent ++ now) (n + w) (length s + place))
+        (sym first.sends.bytes_are)
+        (stops_on step e e1 e2 s sent more now w place first.sends.all stops),
+    keeps_on step leaves is_clean saves fails e e1 e2 k k1 k2 s more first.sends.all.state first.keeps keeps,
+    subst (λ n. SavesFor saves step e (take n (s ++ more)) k k2)
+        (let q : length s + (place + 1) ≡ length s + place + 1 = omega arith in q)
+        (saves_up_to e e1 k k1 k2 s more (place + 1) first.sends.all.state first.saved saved),
+  )
+  stops_at_on e e1 e2 k k1 k2 s sent more now r b place stop.State first (stops, breaks, (before, saved, failed)) = (
+    saving_on step e e1 e2 s sent more now place first.sends.all stops,
+    breaks_on e e1 k k1 k2 s sent more now first.sends.all first.keeps breaks,
+    (before, saves_up_to e e1 k k1 before s more place first.sends.all.state first.saved saved, failed),
+  )

@@ -1,0 +1,51 @@
+//! An encoder over one connection after another, with its state kept and each thing that it finds told. Source:
+//! profile.
+ghost use Rattle.std.specs.Prelude.{◌≡◌, None, IfSome, IfNone};
+ghost use Rattle.kept_serving.specs.Keeping.{Settled};
+ghost use Rattle.kept_serving.specs.Serving.{StaysSettled, IsSaveFailed};
+ghost use Rattle.told_serving.specs.Sessions.{ServingTold};
+
+use crate::listener::Listener;
+use crate::serving::serve_told;
+use kept_serving::{KeepEncoder, KeptFault};
+use uecp_encoder::{Encoder, Meter, Served, Target};
+use uecp_net::Connect;
+
+/// Serves the next connection and says how it ended, or answers None where there is none to be had. The encoder forgets
+/// what the connection before left open, then [`serve_told`] is called once, and the two ends are given back.
+///
+/// ```
+/// while let Some(outcome) = serve_connection_told(
+///     &mut encoder, &mut keeper, &mut listener, 100_000, &mut listening,
+/// ) {
+///     if outcome == Err(KeptFault::StateFailed) {
+///         break;
+///     }
+/// }
+/// ```
+pub fn serve_connection_told<T: Target, K: KeepEncoder<T>, L: Listener, C: Connect>(
+    encoder: &mut Encoder<T>,
+    keeper: &mut K,
+    listener: &mut L,
+    turns: u32,
+    connect: &mut C,
+) -> Option<Result<Served, KeptFault>>
+    ensures served { IfSome result (λ ended. ServingTold T.step K.leaves K.is_clean K.saves K.fails L.hears C.opens
+        C.closes C.Input.remaining C.Output.contents turns encoder.old keeper.old listener.old connect.old ended
+        encoder.new keeper.new listener.new connect.new) }
+    // From here the next connection goes on.
+    ensures settled { IfSome result (λ ended. Settled (K.leaves keeper.old) encoder.old → K.is_clean keeper.new
+        → StaysSettled (K.leaves keeper.new) encoder.new ended) }
+    ensures clean { K.is_clean keeper.new → K.is_clean keeper.old }
+    ensures save_failed { IfSome result (λ ended. IsSaveFailed K.fails encoder.new keeper.new ended) }
+    ensures none { IfNone result (C.opens connect.old None connect.new × (encoder.new ≡ encoder.old)
+        × (keeper.new ≡ keeper.old) × (listener.new ≡ listener.old)) }
+{
+    let (input, output) = connect.open()?;
+    encoder.line_lost();
+    let mut input = Meter::new(input);
+    let mut output = Meter::new(output);
+    let ended = serve_told(encoder, keeper, &mut input, &mut output, listener, turns);
+    connect.close(input.into_inner(), output.into_inner());
+    Some(ended)
+}
