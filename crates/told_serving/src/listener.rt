@@ -45,10 +45,17 @@ pub struct Event {
     pub answer: Answered,
 }
 
-/// Is told of each thing that an encoder finds, once it is answered.
+/// Is told of each connection that is opened, and of each thing that an encoder finds, once it is answered.
 pub trait Listener {
+    // Whether it may be left so by being told that a connection was opened.
+    ghost begins: { Self → Self → Type 0 };
+
     // Whether it may be left so by being told of an event, whose reply, if it has one, was written whole or not.
     ghost hears: { Self → Event → Bool → Self → Type 0 };
+
+    /// Is told that a connection was opened, before anything is read of it.
+    fn begin(&mut self)
+        ensures { begins self.old self.new };
 
     /// Is told of an event. `sent` says that its reply was written whole, or that it has none; where it is false a
     /// write of the reply failed, and the connection ends.
@@ -61,7 +68,11 @@ pub trait Listener {
 pub struct Unheard;
 
 impl Listener for Unheard {
+    ghost begins = { λ l l'. l' ≡ l };
+
     ghost hears = { λ l _ _ l'. l' ≡ l };
+
+    fn begin(&mut self) {}
 
     fn hear(&mut self, _event: &Event, _sent: bool) {}
 }

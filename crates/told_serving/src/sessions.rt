@@ -12,7 +12,8 @@ use uecp_encoder::{Encoder, Meter, Served, Target};
 use uecp_net::Connect;
 
 /// Serves the next connection and says how it ended, or answers None where there is none to be had. The encoder forgets
-/// what the connection before left open, then [`serve_told`] is called once, and the two ends are given back.
+/// what the connection before left open, the listener is told that one was opened, then [`serve_told`] is called once,
+/// and the two ends are given back.
 ///
 /// ```
 /// while let Some(outcome) = serve_connection_told(
@@ -30,7 +31,7 @@ pub fn serve_connection_told<T: Target, K: KeepEncoder<T>, L: Listener, C: Conne
     turns: u32,
     connect: &mut C,
 ) -> Option<Result<Served, KeptFault>>
-    ensures served { IfSome result (λ ended. ServingTold T.step K.leaves K.is_clean K.saves K.fails L.hears C.opens
+    ensures served { IfSome result (λ ended. ServingTold T.step K.leaves K.is_clean K.saves K.fails L.begins L.hears C.opens
         C.closes C.Input.remaining C.Output.contents turns encoder.old keeper.old listener.old connect.old ended
         encoder.new keeper.new listener.new connect.new) }
     // From here the next connection goes on.
@@ -43,6 +44,7 @@ pub fn serve_connection_told<T: Target, K: KeepEncoder<T>, L: Listener, C: Conne
 {
     let (input, output) = connect.open()?;
     encoder.line_lost();
+    listener.begin();
     let mut input = Meter::new(input);
     let mut output = Meter::new(output);
     let ended = serve_told(encoder, keeper, &mut input, &mut output, listener, turns);
