@@ -1,0 +1,5 @@
+-- The definitions of a device that tells what it does.
+pub mod EventLines
+pub mod ConnectionLines
+pub mod Logging
+pub mod DeviceRun

@@ -1,0 +1,19 @@
+//! An encoder as a device that runs for days, and tells line by line what arrives and what it does with it: for every
+//! target, keeper, source of connections, clock and writer.
+//!
+//! - [`LogLines`]: where the lines go, and in which form; [`LogFault`] is why it ended.
+//! - [`NotKept`]: keeps nothing of an encoder.
+//! - [`run_device`]: serves one connection after another.
+#![tactic(auto)]
+
+mod connection_lines;
+mod event_lines;
+mod log_lines;
+mod not_kept;
+mod run;
+
+
+pub use log_lines::{LogFault, LogLines};
+pub use not_kept::NotKept;
+pub use run::run_device;
+

@@ -1,0 +1,213 @@
+//! The job of an encoder that runs for days. Source: profile.
+ghost use Rattle.std.specs.Prelude.{◌≡◌, ◌⊎◌, Ok, Err};
+ghost use Rattle.uecp_text.specs.Written.{Begins};
+ghost use Rattle.rds_store.specs.Value.{Store};
+ghost use Rattle.rds_store.specs.Step.{step};
+ghost use Rattle.kept_serving.specs.Keeping.{Kept, Settled};
+ghost use Rattle.kept_jobs.specs.declared.stop.KeptStop.{KeptStop};
+ghost use Rattle.kept_jobs.specs.Stops.{stop_lines};
+ghost use Rattle.kept_jobs.specs.EncoderRun.{ended_so};
+ghost use Rattle.device_serving.specs.DeviceRun.{ServesNext, ServesFrom, RunsDevice, OutlivesRun};
+ghost use Rattle.device_serving.specs.DeviceRun.{TellsStore, went};
+
+use crate::log_lines::{LogFault, LogLines};
+use kept_jobs::{KeptStop, fail_run};
+use kept_serving::{KeepEncoder, KeptFault};
+use rds_store::RdsStore;
+use std::io::Write;
+use std::time::Clock;
+use told_serving::serve_connection_told;
+use uecp_encoder::{Encoder, Served, Target};
+use uecp_net::Connect;
+use uecp_text::RunFault;
+
+/// Serves so many connections, one after another, and tells what the log is to tell; then, where that is asked for, the
+/// lines of the store. Answers the exit status: 0 done, 3 there was no connection to be had, the encoder could not be
+/// saved, or memory or writing failed. Where a line can't be written the connection is served to its end, and none is
+/// opened after it.
+///
+/// What is kept at the start is to be this encoder: a new one is saved first.
+///
+/// ```
+/// let mut log = LogLines::new(alloc, Form::Words(Region::Europe), Some(&rt), true, output);
+/// let status = run_device(
+///     u64::MAX, 100_000, true, &mut encoder, &mut NotKept, &mut log, &mut errors, &mut listening,
+/// );
+/// ```
+pub fn run_device<K: KeepEncoder<RdsStore>, W: Write, Clk: Clock, E: Write, C: Connect>(
+    connections: u64,
+    turns: u32,
+    store: bool,
+    encoder: &mut Encoder<RdsStore>,
+    keeper: &mut K,
+    log: &mut LogLines<'_, W, Clk>,
+    errors: &mut E,
+    connect: &mut C,
+) -> u8
+    ensures status { (result ≡ 0) ⊎ (result ≡ 3) }
+    // 0: all connections were served, and all was told. Nothing was said on `errors`.
+    ensures done { result ≡ 0 → RunsDevice K.leaves K.is_clean K.saves K.fails C.opens C.closes C.Input.remaining
+        C.Output.contents turns connections store (record {
+          encoder = encoder.old;
+          keeper = keeper.old;
+          connect = connect.old;
+          log = log.old;
+        }) (record {
+          encoder = encoder.new;
+          keeper = keeper.new;
+          connect = connect.new;
+          log = log.new;
+        }) (Ok tt) × (errors.new ≡ errors.old) }
+    // 3: some were served up to one at which the run stopped, and why was said, or begun to be said.
+    ensures failed { result ≡ 3 → (stop : KeptStop) × RunsDevice K.leaves K.is_clean K.saves K.fails C.opens C.closes
+        C.Input.remaining C.Output.contents turns connections store (record {
+          encoder = encoder.old;
+          keeper = keeper.old;
+          connect = connect.old;
+          log = log.old;
+        }) (record {
+          encoder = encoder.new;
+          keeper = keeper.new;
+          connect = connect.new;
+          log = log.new;
+        }) (Err stop) × Begins (E.contents errors.old) (E.contents errors.new) (stop_lines stop) }
+    // 0: whatever a crash leaves is the encoder.
+    ensures settled { result ≡ 0 → Settled (K.leaves keeper.old) encoder.old → K.is_clean keeper.new
+        → Settled (K.leaves keeper.new) encoder.new }
+    // 3: it is the encoder too, unless a save failed.
+    ensures outlives { Settled (K.leaves keeper.old) encoder.old → K.is_clean keeper.new → (left : Kept Store)
+        → K.leaves keeper.new left → OutlivesRun step K.leaves K.is_clean K.saves K.fails C.opens C.closes
+        C.Input.remaining C.Output.contents turns (record {
+          encoder = encoder.new;
+          keeper = keeper.new;
+          connect = connect.new;
+          log = log.new;
+        }) left }
+    ensures clean { K.is_clean keeper.new → K.is_clean keeper.old }
+{
+    match serve_and_store(connections, turns, store, encoder, keeper, log, connect) {
+        Ok(()) => 0,
+        Err(stop) => fail_run(&stop, errors),
+    }
+}
+
+/// Serves the connections, and then tells the lines of the store where that is asked for.
+fn serve_and_store<K: KeepEncoder<RdsStore>, W: Write, Clk: Clock, C: Connect>(
+    connections: u64,
+    turns: u32,
+    store: bool,
+    encoder: &mut Encoder<RdsStore>,
+    keeper: &mut K,
+    log: &mut LogLines<'_, W, Clk>,
+    connect: &mut C,
+) -> Result<(), KeptStop>
+    ensures runs { RunsDevice K.leaves K.is_clean K.saves K.fails C.opens C.closes C.Input.remaining C.Output.contents
+        turns connections store (record {
+          encoder = encoder.old;
+          keeper = keeper.old;
+          connect = connect.old;
+          log = log.old;
+        }) (record {
+          encoder = encoder.new;
+          keeper = keeper.new;
+          connect = connect.new;
+          log = log.new;
+        }) result }
+{
+    serve_connections(connections, turns, encoder, keeper, log, connect)?;
+    tell_last(store, encoder, log)
+}
+
+/// Tells the lines of the store where that is asked for.
+fn tell_last<W: Write, Clk: Clock>(
+    store: bool,
+    encoder: &Encoder<RdsStore>,
+    log: &mut LogLines<'_, W, Clk>,
+) -> Result<(), KeptStop>
+    ensures tells { TellsStore store encoder.now.value log.old log.new result }
+{
+    if store {
+        log.tell_store(encoder.target());
+    }
+    went(log)
+}
+
+/// How a run goes on: it stops where the log has ended.
+fn went<W: Write, Clk: Clock>(log: &LogLines<'_, W, Clk>) -> Result<(), KeptStop>
+    ensures { result ≡ went log.now.fault }
+{
+    match log.fault() {
+        None => Ok(()),
+        Some(LogFault::OutOfMemory) => Err(KeptStop::Run(RunFault::OutOfMemory)),
+        Some(LogFault::Writing) => Err(KeptStop::Run(RunFault::Writing)),
+    }
+}
+
+/// Serves so many connections, one after another, and tells how each ended before the next is opened.
+fn serve_connections<T: Target, K: KeepEncoder<T>, W: Write, Clk: Clock, C: Connect>(
+    connections: u64,
+    turns: u32,
+    encoder: &mut Encoder<T>,
+    keeper: &mut K,
+    log: &mut LogLines<'_, W, Clk>,
+    connect: &mut C,
+) -> Result<(), KeptStop>
+    ensures serves { ServesFrom T.step K.leaves K.is_clean K.saves K.fails C.opens C.closes C.Input.remaining
+        C.Output.contents turns connections (record {
+          encoder = encoder.old;
+          keeper = keeper.old;
+          connect = connect.old;
+          log = log.old;
+        }) (record {
+          encoder = encoder.new;
+          keeper = keeper.new;
+          connect = connect.new;
+          log = log.new;
+        }) result }
+{
+    for _before in 0..connections {
+        serve_next(turns, encoder, keeper, log, connect)?;
+    }
+    Ok(())
+}
+
+/// Serves the next connection, and tells how it ended.
+fn serve_next<T: Target, K: KeepEncoder<T>, W: Write, Clk: Clock, C: Connect>(
+    turns: u32,
+    encoder: &mut Encoder<T>,
+    keeper: &mut K,
+    log: &mut LogLines<'_, W, Clk>,
+    connect: &mut C,
+) -> Result<(), KeptStop>
+    ensures serves { ServesNext T.step K.leaves K.is_clean K.saves K.fails C.opens C.closes C.Input.remaining
+        C.Output.contents turns (record {
+          encoder = encoder.old;
+          keeper = keeper.old;
+          connect = connect.old;
+          log = log.old;
+        }) (record {
+          encoder = encoder.new;
+          keeper = keeper.new;
+          connect = connect.new;
+          log = log.new;
+        }) result }
+{
+    match serve_connection_told(encoder, keeper, log, turns, connect) {
+        None => Err(KeptStop::Run(RunFault::Listening)),
+        Some(ended) => {
+            log.tell_ended(ended);
+            went(log)?;
+            ended_so(ended)
+        }
+    }
+}
+
+/// How a run goes on after a connection that ended so: it stops where a save failed.
+fn ended_so(ended: Result<Served, KeptFault>) -> Result<(), KeptStop>
+    ensures { result ≡ ended_so ended }
+{
+    match ended {
+        Ok(_) | Err(KeptFault::Serve(_)) => Ok(()),
+        Err(KeptFault::StateFailed) => Err(KeptStop::StateFailed),
+    }
+}
