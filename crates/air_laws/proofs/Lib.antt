@@ -9,3 +9,4 @@ pub mod TextRuns
 pub mod NamesInOrder
 pub mod Mixing
 pub mod Showing
+pub mod EachPass

@@ -53,6 +53,15 @@ TrafficIsTold =
     (s : ServiceData) (vs : List Store) (c : Carousel) (r : Receiver)
     → IsService s → AllByRecursion (Has s) vs → 2 ≤ length vs → (after vs c r).ta ≡ Some s.ta
 
+-- ---- Texts that change are shown.
+-- Whatever changes in the store and when: from the beginning of a pass on, whatever a receiver had heard before, at the
+-- end of each pass it shows the text that is on the air, if it misses no group.
+abbrev pub EachPassIsShown : Type 0
+EachPassIsShown =
+    (vs : List Store) (c : Carousel) (r : Receiver) → AllByRecursion IsStore vs → c.text_segment ≡ 0
+    → (carousel_after vs c).text_segment ≡ segment_count (carousel_after vs c).text
+    → text_shown (after vs c r) ≡ Some (up_to_return (carousel_after vs c).text)
+
 -- ---- Nothing is mixed.
 -- Whatever changes in the store and whatever is lost, a receiver that was switched on shows nothing, or a name that the
 -- store held.

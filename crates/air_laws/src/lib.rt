@@ -2,7 +2,7 @@
 #![tactic(auto)]
 
 ghost use Rattle.air_laws.specs.Laws.{ServiceIsShown, TextIsShown, TrafficIsTold, NoNameIsMixed};
-ghost use Rattle.air_laws.specs.Laws.{NoTextIsMixed, NothingFalseIsShown};
+ghost use Rattle.air_laws.specs.Laws.{NoTextIsMixed, NothingFalseIsShown, EachPassIsShown};
 
 /// A service that stays is shown after 16 groups.
 pub fn service_is_shown()
@@ -17,6 +17,11 @@ pub fn text_is_shown()
 /// A traffic announcement is told within two groups.
 pub fn traffic_is_told()
     ensures { TrafficIsTold }
+{}
+
+/// At the end of each pass over a text it is shown, whatever changes.
+pub fn each_pass_is_shown()
+    ensures { EachPassIsShown }
 {}
 
 /// No name is mixed, whatever changes and whatever is lost.
