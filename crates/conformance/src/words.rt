@@ -39,15 +39,17 @@ pub(crate) fn row_of(word: &[u8]) -> Option<Counters>
 fn long_row_of(word: &[u8]) -> Option<Counters>
     ensures { IfSome result (IsRowOf word.now) }
 {
-    if word.len() != 6 || &word[2..4] != b"..".as_slice() {
-        return None;
-    }
-    let first = byte_of(&word[..2])?;
-    let last = byte_of(&word[4..])?;
-    if first <= last {
-        Some(Counters { first, last })
-    } else {
-        None
+    match word {
+        [high, low, b'.', b'.', last_high, last_low] => {
+            let first = byte_of(&[*high, *low])?;
+            let last = byte_of(&[*last_high, *last_low])?;
+            if first <= last {
+                Some(Counters { first, last })
+            } else {
+                None
+            }
+        }
+        _ => None,
     }
 }
 
