@@ -27,6 +27,7 @@ use crate::command_line::program;
 use crate::program::{Ran, refuse, run_words, send};
 use crate::usage::Usage;
 use clap::error;
+use device_jobs::run_device_over_tcp;
 use live_edges::{Polled, Watch};
 use std::env;
 use std::io::{ErrorKind, Input, Lock};
@@ -73,7 +74,18 @@ fn main(rt: HostRuntime) -> ExitCode {
                     watch.finish();
                     status
                 }
-                Ran::Serves(_) => 3, // TODO
+                Ran::Serves(job) => {
+                    let mut effects = rt.stdout().lock();
+                    run_device_over_tcp(
+                        rt.alloc(),
+                        &job,
+                        &mut writer,
+                        &mut errors,
+                        &mut effects,
+                        &rt,
+                        &rt,
+                    )
+                }
             }
         }
         Err(usage) => refuse(&usage, &mut writer, &mut errors),
