@@ -1,5 +1,5 @@
 //! A device over TCP. Source: profile.
-ghost use Rattle.std.specs.Prelude.{◌≤◌, ◌×◌, IfErr};
+ghost use Rattle.std.specs.Prelude.{◌≤◌};
 
 use crate::faults::{fail_faults, rules_of};
 use crate::job::DeviceJob;
