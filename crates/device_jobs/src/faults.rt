@@ -1,4 +1,5 @@
 //! The rules of a bad line out of a file (profile).
+ghost use Rattle.std.specs.Prelude.{◌≤◌};
 
 use crate::job::DeviceJob;
 use kept_jobs::fail_state;

@@ -151,7 +151,7 @@ fn serve_with<
     if rules.is_empty() {
         return run_device_from(alloc, job, states, &mut log, errors, &mut accepting);
     }
-    let told = Told::new(job.log, clock, effects);
+    let told = Told::new(job.log, job.form, clock, effects);
     match Faulty::new(alloc, accepting, rules, u64::from(job.seed), net, &told) {
         Err(_) => fail(&RunFault::OutOfMemory, errors),
         Ok(mut faulty) => run_device_from(alloc, job, states, &mut log, errors, &mut faulty),

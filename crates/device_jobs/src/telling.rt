@@ -2,6 +2,7 @@
 
 use arrayvec::ArrayVec;
 use faulty_lines::{Effect, Effects, write_effect};
+use output_forms::Form;
 use std::cell::RefCell;
 use std::io;
 use std::io::Write;
@@ -10,20 +11,27 @@ use uecp_text::write_parts;
 use uecp_watch::stamp_of;
 
 /// How many bytes a line has at most.
-const LINE_MAX: usize = 128;
+const LINE_MAX: usize = 192;
 
-/// Tells what a bad line did, a line each behind the time, if there is a clock; or nothing. Both ends of a connection
-/// borrow it, and no contract says what it writes.
+/// Tells what a bad line did, a line each behind the time, if there is a clock, or an object of JSON; or nothing. Both
+/// ends of a connection borrow it, and no contract says what it writes.
 #[derive(Drop)]
 pub(crate) struct Told<'a, W: Write, C: Clock> {
+    form: Form,
     clock: Option<&'a C>,
     lines: Option<RefCell<&'a mut W>>,
 }
 
 impl<'a, W: Write, C: Clock> Told<'a, W, C> {
-    /// Tells on this writer, or nothing.
-    pub(crate) fn new(tells: bool, clock: Option<&'a C>, writer: &'a mut W) -> Told<'a, W, C> {
+    /// Tells on this writer in this form, or nothing.
+    pub(crate) fn new(
+        tells: bool,
+        form: Form,
+        clock: Option<&'a C>,
+        writer: &'a mut W,
+    ) -> Told<'a, W, C> {
         Told {
+            form,
             clock,
             lines: if tells {
                 Some(RefCell::new(writer))
@@ -42,16 +50,39 @@ impl<'a, W: Write, C: Clock> Effects for Told<'a, W, C> {
         let mut line = Line {
             bytes: ArrayVec::new(),
         };
-        if let Some(clock) = self.clock {
-            let stamp = stamp_of(clock);
-            line.put(stamp.as_str().as_bytes());
-            line.put(b" ");
+        match self.form {
+            Form::Json => put_object(self.clock, effect, &mut line),
+            Form::Lines | Form::Words(_) => put_line(self.clock, effect, &mut line),
         }
-        let _ = write_effect(effect, &mut line);
         if let Ok(mut writer) = lines.try_borrow_mut() {
             let _ = write_parts(&[line.bytes.as_slice()], &mut **writer);
         }
     }
+}
+
+/// Puts an effect down as a line, behind the time if there is a clock.
+fn put_line<C: Clock>(clock: Option<&C>, effect: Effect, line: &mut Line) {
+    if let Some(clock) = clock {
+        let stamp = stamp_of(clock);
+        line.put(stamp.as_str().as_bytes());
+        line.put(b" ");
+    }
+    let _ = write_effect(effect, line);
+}
+
+/// Puts it down as an object, with the time if there is a clock. What is said of it needs no escape in JSON.
+fn put_object<C: Clock>(clock: Option<&C>, effect: Effect, line: &mut Line) {
+    line.put(b"{\"format\":1,\"kind\":\"bad_line\"");
+    if let Some(clock) = clock {
+        let stamp = stamp_of(clock);
+        line.put(b",\"time\":\"");
+        line.put(stamp.as_str().as_bytes());
+        line.put(b"\"");
+    }
+    line.put(b",\"text\":\"");
+    let _ = write_effect(effect, line);
+    line.end_text();
+    line.put(b"\"}\n");
 }
 
 /// A line that is put together, so that it is one write.
@@ -65,6 +96,13 @@ impl Line {
     fn put(&mut self, part: &[u8]) {
         for byte in part {
             let _ = self.bytes.try_push(*byte);
+        }
+    }
+
+    /// Takes the line feed at its end away, if it has one.
+    fn end_text(&mut self) {
+        if self.bytes.last() == Some(&b'\n') {
+            let _ = self.bytes.pop();
         }
     }
 }

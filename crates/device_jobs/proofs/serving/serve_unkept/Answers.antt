@@ -1,0 +1,27 @@
+use Rattle.std.proofs.Common.{◌≡◌, subst}
+use Rattle.rds_store.specs.Value.{Store}
+use Rattle.uecp_encoder.specs.State.{EncoderState}
+use Rattle.device_serving.specs.DeviceRun.{RunsDevice}
+use Rattle.device_jobs.specs.Serving.{EndsDevice}
+use Rattle.device_jobs.proofs.Ending.{ends}
+use Rattle.device_jobs.proofs.serving.serve_unkept.Goals as goal
+
+pub returns : goal.returns
+returns g c =
+    let run = c.run_device in (
+      _,
+      run.new.keeper,
+      run.new.encoder,
+      subst (λ (e : EncoderState Store). EndsDevice (λ k left. Unit {0}) (λ k. ⊥) (λ k left k'. k' ≡ k)
+          (λ k left k'. ⊥) g.C.Connect.opens g.C.Connect.closes g.C.Input.Read.remaining
+          g.C.Output.Write.contents c.args.limits.turns c.args.limits.connections c.args.limits.store
+          (record { encoder = e; keeper = _; connect = c.args.connect.now; log = c.args.log.now })
+          (record {
+            encoder = run.new.encoder;
+            keeper = run.new.keeper;
+            connect = run.new.connect;
+            log = run.new.log;
+          }) (g.E.Write.contents c.args.errors.now) (g.E.Write.contents run.new.errors) run.result) c.requires
+          (ends _ g.E.Write.contents c.args.errors.now run.new.errors run.result run.ensures.status
+          run.ensures.done run.ensures.failed),
+    )
