@@ -4,7 +4,7 @@ mod asserting;
 use asserting::{holds, same};
 use faulty_devices::{FaultyReader, FaultyWriter};
 use faulty_lines::{Effect, Effects, Faulty, write_effect};
-use line_faults::{Rule, Span, Way};
+use line_faults::{Rule, RulesFault, Span, Way, read_rules};
 use std::alloc::AllocError;
 use std::cell::{Cell, RefCell};
 use std::io;
@@ -234,4 +234,36 @@ fn what_can_t_be_written_waits_and_nothing_is_doubled(rt: HostRuntime) -> Result
     same!(rt; closed.output.taken(), b"\xFE1\xFF\xFE1\xFF\xFE2\xFFx\xFE3\xFF".as_slice());
     told(&rt, &lines, b"reply 1 twice\nbroken behind reply 3\n");
     Ok(())
+}
+
+#[test]
+fn the_rules_of_a_text_and_a_restart(rt: HostRuntime) -> Result<(), AllocError> {
+    let (lines, time, inputs) = (told_none(), at_start(), [FRAMES, MORE]);
+    let text = b"# the encoder begins anew\n\n  restart after 2 \r\n";
+    let Ok(rules) = read_rules(rt.alloc(), text) else {
+        holds!(rt; false);
+        return Ok(());
+    };
+    let connect = known(&inputs, &[]);
+    let mut faulty = Faulty::new(rt.alloc(), connect, rules.as_slice(), 1, &time, &lines)?;
+    let mut all = FaultyWriter::new();
+    if let Some((mut input, output)) = faulty.open() {
+        read_all(&mut input, &mut all);
+        faulty.close(input, output);
+    }
+    same!(rt; all.taken(), b"a\xFE1\xFFb\xFE2\xFF".as_slice());
+    told(&rt, &lines, b"broken behind frame 2\n");
+    holds!(rt; faulty.takes_restart());
+    holds!(rt; !faulty.takes_restart());
+    Ok(())
+}
+
+#[test]
+fn the_line_that_spells_no_rule_is_named(rt: HostRuntime) {
+    let text = b"lose frame 1\n# more\nlose\nlose\n";
+    let fault = match read_rules(rt.alloc(), text) {
+        Ok(_) => None,
+        Err(fault) => Some(fault),
+    };
+    same!(rt; fault, Some(RulesFault::NotARule(3)));
 }

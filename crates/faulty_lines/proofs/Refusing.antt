@@ -4,7 +4,10 @@ use Rattle.line_faults.specs.declared.rule.Rule.{Rule}
 use Rattle.line_faults.specs.declared.rule.Rule.TheVariants.{Lose, Repeat, Damage, BreakAfter, Delay}
 use Rattle.line_faults.specs.declared.rule.Rule.TheVariants.{RefuseConnections, LoseByChance, DamageByChance}
 use Rattle.line_faults.specs.declared.rule.Rule.TheVariants.{RestartAfter}
-use Rattle.faulty_lines.specs.Connections.{with_restarts, Refuses}
+use Rattle.faulty_lines.specs.Connections.{with_restarts, Refuses, Line, AsksRestart, is_restart}
+use Rattle.std.proofs.Common.{None, Bool, false, MatchOption, sym}
+use Rattle.std.specs.List.{list_any}
+use Rattle.line_faults.specs.Fates.{Passing}
 
 pub with_restarts-cons : (rule : Rule) (rules : List Rule)
     → with_restarts (rule ∷ rules) ≡ with_restarts (rule ∷ []) ++ with_restarts rules
@@ -25,3 +28,19 @@ refuses_more opens closes zero a b input output between c same opened closed =
     (input, output, between, c, subst (λ from. opens from (Some (input, output)) between) same opened, closed, refl)
 refuses_more opens closes (suc count) a b input output between c (i, o, m, n, first, then, rest) opened closed =
     (i, o, m, n, first, then, refuses_more opens closes count n b input output between c rest opened closed)
+
+-- It was asked whether the encoder begins anew, while no connection is open.
+pub asks_some : {C : Type 0} (line line' : Line C) (frames : Passing) (result : Bool) → line.frames ≡ Some frames
+    → result ≡ list_any (is_restart line.asked frames.passed) line.rules
+    → line' ≡ record line { asked = frames.passed } → AsksRestart line result line'
+asks_some line line' frames result is due now =
+    subst (λ f. MatchOption f ((result ≡ false) × (line' ≡ line))
+    (λ faults. (result ≡ list_any (is_restart line.asked faults.passed) line.rules)
+    × (line' ≡ record line { asked = faults.passed }))) (sym is) (due, now)
+
+-- While one is open.
+pub asks_none : {C : Type 0} (line : Line C) → line.frames ≡ None → AsksRestart line false line
+asks_none line is =
+    subst (λ f. MatchOption f ((false ≡ false) × (line ≡ line))
+    (λ faults. (false ≡ list_any (is_restart line.asked faults.passed) line.rules)
+    × (line ≡ record line { asked = faults.passed }))) (sym is) (refl, refl)

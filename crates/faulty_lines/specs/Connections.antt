@@ -1,6 +1,7 @@
 -- Connections with faults over others (profile).
 use Rattle.std.specs.Prelude.{◌≡◌, ◌⊎◌, ◌-◌, ◌^◌, ℕ, zero, suc, max, Bool, false, nat_lt, nat_le, ◌&&◌, List, [], ◌∷◌}
-use Rattle.std.specs.Prelude.{Option, Some, None}
+use Rattle.std.specs.Prelude.{Option, Some, None, MatchOption}
+use Rattle.std.specs.List.{list_any}
 use Rattle.line_faults.specs.declared.rule.Way.TheVariants.{Frame}
 use Rattle.line_faults.specs.declared.rule.Rule.{Rule}
 use Rattle.line_faults.specs.declared.rule.Rule.TheVariants.{BreakAfter, Delay, RefuseConnections, RestartAfter}
@@ -36,12 +37,15 @@ is_restart before passed rule = false
 -- ---- Connections.
 
 -- Where connections with faults come from: where those without come from; the faults of the two directions, which are
--- away while a connection is open; and whether some rule refuses connections.
+-- away while a connection is open; whether some rule refuses connections; and the rules, with how many frames had come
+-- when it was asked last whether the encoder begins anew.
 pub record Line (C : Type 0) : Type 0 where
   pub connect : C
   pub frames : Option Passing
   pub replies : Option Passing
   pub refuses : Bool
+  pub rules : List Rule
+  pub asked : ℕ
 
 -- The same while a connection is open.
 abbrev pub away : {C : Type 0} → Line C → Line C
@@ -95,3 +99,11 @@ ClosesFaulty closes line input output line' = closes line.connect input.device o
       frames = Some input.direction.cutting.faults;
       replies = Some output.direction.cutting.faults;
     })
+
+-- It was asked whether the encoder begins anew: it does where some rule says so of a frame that came since this was
+-- asked last. While a connection is open nothing is told.
+abbrev pub AsksRestart : {C : Type 0} → Line C → Bool → Line C → Type 0
+AsksRestart line result line' = MatchOption line.frames
+    ((result ≡ false) × (line' ≡ line))
+    (λ frames. (result ≡ list_any (is_restart line.asked frames.passed) line.rules)
+    × (line' ≡ record line { asked = frames.passed }))

@@ -1,7 +1,7 @@
 //! Connections with faults (profile).
 ghost use Rattle.std.specs.Prelude.{◌≡◌, ◌<◌, Some, None, IfOk, nat_lt, IsTrue};
 ghost use Rattle.line_faults.specs.declared.rule.Way.TheVariants.{Frame, Reply};
-ghost use Rattle.faulty_lines.specs.Connections.{Line, OpensNext, with_restarts, refusal_in};
+ghost use Rattle.faulty_lines.specs.Connections.{Line, OpensNext, AsksRestart, with_restarts, refusal_in};
 
 use crate::effect::{Effect, Effects};
 use crate::reader::FaultyReader;
@@ -27,6 +27,9 @@ pub struct Faulty<'a, C, T, E> {
     delay: Duration,
     /// For how many milliseconds from the start no connection is taken.
     refusal: u64,
+    rules: Vec<Rule>,
+    /// How many frames had come when it was asked last whether the encoder begins anew.
+    asked: u64,
     /// The milliseconds of the clock at the start.
     start: u64,
     time: &'a T,
@@ -44,6 +47,8 @@ impl<'a, C, T, E> Model for Faulty<'a, C, T, E> {
       frames = f.frames;
       replies = f.replies;
       refuses = nat_lt 0 f.refusal;
+      rules = f.rules.items;
+      asked = f.asked;
     } };
 }
 
@@ -65,17 +70,23 @@ impl<'a, C: Drop, T: Clock, E> Faulty<'a, C, T, E> {
           frames = Some (record { rules = with_restarts rules.now; way = Frame; passed = 0 });
           replies = Some (record { rules = with_restarts rules.now; way = Reply; passed = 0 });
           refuses = nat_lt 0 (refusal_in rules.now);
+          rules = rules.now;
+          asked = 0;
         }) }
     {
         let all = breaking(alloc, rules)?;
         let frames = LineFaults::of(alloc, all.as_slice(), Way::Frame, seed)?;
         let replies = LineFaults::of(alloc, all.as_slice(), Way::Reply, seed.wrapping_add(1))?;
+        let mut kept = Vec::new(alloc);
+        kept.extend_from_slice(rules)?;
         Ok(Faulty {
             connect,
             frames: Some(frames),
             replies: Some(replies),
             delay: Duration::from_millis(delay_of(rules)),
             refusal: refusal_of(rules),
+            rules: kept,
+            asked: 0,
             start: now(time),
             time,
             effects,
@@ -94,11 +105,29 @@ impl<'a, C, T: Clock, E> Faulty<'a, C, T, E> {
             replies: _,
             delay: _,
             refusal: _,
+            rules: _,
+            asked: _,
             start: _,
             time: _,
             effects: _,
         } = self;
         connect
+    }
+
+    /// Whether the encoder begins anew: a frame came behind which it does since this was asked last. It is asked
+    /// between two connections, since the connection breaks behind that frame; while one is open the answer is no.
+    pub fn takes_restart(&mut self) -> bool
+        ensures { AsksRestart self.old result self.new }
+    {
+        match &self.frames {
+            Some(frames) => {
+                let passed = frames.passed();
+                let due = restarts(self.rules.as_slice(), self.asked, passed);
+                self.asked = passed;
+                due
+            }
+            None => false,
+        }
     }
 
     /// Whether no connection is taken now, which is so only where a rule refuses some.

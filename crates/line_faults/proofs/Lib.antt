@@ -1,3 +1,4 @@
 pub mod Wording
 pub mod Refusing
 pub mod Coming
+pub mod Filing

@@ -2,3 +2,4 @@
 pub mod Rules
 pub mod Fates
 pub mod Parts
+pub mod Files

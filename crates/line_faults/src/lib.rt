@@ -1,5 +1,6 @@
 //! A bad line on purpose: the rules that say what it does, and what comes of each segment by them.
 //!
+//! - [`read_rules`]: the rules of a text, line by line; [`RulesFault`] is why it has none.
 //! - [`read_rule`]: the rule that a line of text spells; [`Rule`], [`Way`] and [`Span`] are what it says.
 //! - [`LineFaults`]: what a line does to the segments of one direction as they come; [`Fate`] is what comes of one.
 #![tactic(auto)]
@@ -7,6 +8,7 @@
 mod chances;
 mod fate;
 mod fates;
+mod file;
 mod numbers;
 mod passing;
 mod reading;
@@ -16,6 +18,7 @@ mod tests;
 mod words;
 
 pub use fate::Fate;
+pub use file::{RulesFault, read_rules};
 pub use passing::LineFaults;
 pub use reading::read_rule;
 pub use rule::{Rule, RuleFault, Span, Way};

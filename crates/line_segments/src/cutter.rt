@@ -35,8 +35,8 @@ pub struct Crossed {
 }
 
 /// Cuts the bytes of one direction into segments as they come, and lets out what the rules let through. A segment is
-/// FE, at most 1,022 bytes that are neither FE nor FF, and FF; its beginning is held until its end comes, or until it is
-/// certain that it is none. Contracts see what is held, and the rules with how many segments have come.
+/// FE, at most 1,022 bytes that are neither FE nor FF, and FF; its beginning is held until its end comes, or until it
+/// is certain that it is none. Contracts see what is held, and the rules with how many segments have come.
 #[derive(Drop)]
 pub struct Cutter {
     held: ArrayVec<u8, SEGMENT_MAX>,
