@@ -1,0 +1,105 @@
+//! Check words as another program computes them, groups that a receiver of another maker was given, and a store that
+//! sends them.
+
+use crate::vectors::{FIRST, SECOND, THIRD};
+use carousel::Carousel;
+use rds_groups::{check_word, line, read_line};
+use rds_receiver::{HeardGroup, Receiver};
+use rds_store::RdsStore;
+
+/// Whether each line is a group's; the receiver hears them.
+fn is_heard(receiver: &mut Receiver, lines: &[&str]) -> bool {
+    for text in lines {
+        match read_line(text.as_bytes()) {
+            Some(group) => receiver.hear(&HeardGroup::whole(&group)),
+            None => return false,
+        }
+    }
+    true
+}
+
+/// Whether the receiver shows this text.
+fn is_shown(receiver: &Receiver, text: &[u8]) -> bool {
+    match receiver.text_shown() {
+        Some(shown) => shown.as_slice() == text,
+        None => false,
+    }
+}
+
+/// Whether these groups go out.
+fn is_sent(carousel: &mut Carousel, store: &mut RdsStore, lines: &[&str]) -> bool {
+    for text in lines {
+        let sent = line(&carousel.send(store));
+        if sent.as_slice() != text.as_bytes() {
+            return false;
+        }
+    }
+    true
+}
+
+/// PI C201, PS, TP, music, PTY 10 and a text.
+fn make_first(store: &mut RdsStore) {
+    store.apply(&[0x01, 0x00, 0x00, 0xc2, 0x01]);
+    store.apply(b"\x02\x00\x00RADIO 1 ");
+    store.apply(&[0x03, 0x00, 0x00, 0x02]);
+    store.apply(&[0x05, 0x00, 0x00, 0x01]);
+    store.apply(&[0x07, 0x00, 0x00, 0x0a]);
+    store.apply(
+        b"\x0a\x00\x00\x3d\x00Now: the concert from the great hall, until midnight tonight",
+    );
+}
+
+#[test]
+fn check_words(rt: HostRuntime) {
+    assert_eq!(rt; check_word(0x0000), 0x000);
+    assert_eq!(rt; check_word(0x0001), 0x1b9);
+    assert_eq!(rt; check_word(0x5241), 0x1da);
+    assert_eq!(rt; check_word(0xc201), 0x291);
+    assert_eq!(rt; check_word(0xffff), 0x0cd);
+}
+
+#[test]
+fn groups_heard(rt: HostRuntime) {
+    let mut receiver = Receiver::new();
+    assert!(rt; is_heard(&mut receiver, FIRST));
+    assert_eq!(rt; receiver.pi, Some(0xc201));
+    assert_eq!(rt; receiver.pty, Some(10));
+    assert_eq!(rt; receiver.name, Some(*b"RADIO 1 "));
+    assert!(rt;
+        is_shown(
+            &receiver,
+            b"Now: the concert from the great hall, until midnight tonight"
+        )
+    );
+    assert!(rt; is_heard(&mut receiver, SECOND));
+    assert_eq!(rt; receiver.name, Some(*b"RAGTIME!"));
+    assert!(rt; is_shown(&receiver, b"News"));
+    assert!(rt; is_heard(&mut receiver, THIRD));
+    assert_eq!(rt; receiver.pty, Some(1));
+    assert_eq!(rt; receiver.ta, Some(true));
+    assert_eq!(rt; receiver.music, Some(false));
+    assert!(rt;
+        is_shown(
+            &receiver,
+            b"0123456789abcdef0123456789abcdef0123456789abcdef0123456789abcdef"
+        )
+    );
+}
+
+#[test]
+fn store_sent(rt: HostRuntime) {
+    let mut store = match RdsStore::new(rt.alloc(), 1, &[0x01]) {
+        Ok(store) => store,
+        Err(_) => return,
+    };
+    let mut carousel = Carousel::new();
+    make_first(&mut store);
+    assert!(rt; is_sent(&mut carousel, &mut store, FIRST));
+    store.apply(b"\x02\x00\x00RAGTIME!");
+    store.apply(&[0x03, 0x00, 0x00, 0x03]);
+    store.apply(b"\x0a\x00\x00\x05\x00News");
+    assert!(rt; is_sent(&mut carousel, &mut store, SECOND));
+    // A group of type 6A waits, and has the text's turn.
+    store.apply(&[0x24, 0x0c, 0x15, 0x12, 0x34, 0x56, 0x78]);
+    assert!(rt; is_sent(&mut carousel, &mut store, &["C201 6555 1234 5678"]));
+}
