@@ -8,6 +8,7 @@
 mod case;
 mod judging;
 mod line;
+mod reading;
 mod sending;
 mod steps;
 mod verdict;
@@ -16,5 +17,6 @@ mod words;
 pub use case::{Case, Counters, Edit, Step, To};
 pub use judging::judge;
 pub use line::{CaseFault, Line};
+pub use reading::{Refusal, read_cases};
 pub use sending::{sent, wanted};
 pub use verdict::{Reply, Verdict};
