@@ -1,5 +1,6 @@
 -- The cases that a file spells (profile).
-use Rattle.std.specs.Prelude.{◌≡◌, ℕ, Bool, true, false, List, [], ◌∷◌, ◌++◌, map, flat_map, filter_map, Option, Some, None}
+use Rattle.std.specs.Prelude.{◌≡◌, ℕ, Bool, true, false, List, [], ◌∷◌, ◌++◌, map, flat_map, filter_map, Option, Some}
+use Rattle.std.specs.Prelude.{None}
 use Rattle.uecp_text.specs.Input.{lines_of, said}
 use Rattle.conformance.specs.declared.case.Case.{Case}
 use Rattle.conformance.specs.declared.line.Line.{Line}

@@ -1,10 +1,9 @@
 -- The lines of a file of cases, and what they say (profile).
-use Rattle.std.specs.Prelude.{◌≡◌, ◌≤◌, ◌⊎◌, ℕ, List, [], ◌∷◌, ◌++◌, length, codes, Some, Ok, Option, None}
+use Rattle.std.specs.Prelude.{◌≡◌, ◌≤◌, ◌⊎◌, ℕ, List, [], ◌∷◌, ◌++◌, length, codes, Some, Ok}
 use Rattle.hex.specs.Hex.{decode_of}
 use Rattle.uecp_text.specs.Words.{words, decimal_in, IsByte}
 use Rattle.uecp_link.specs.Driving.{copies}
 use Rattle.conformance.specs.declared.case.Counters.{Counters}
-use Rattle.conformance.specs.declared.case.To.{To}
 use Rattle.conformance.specs.declared.case.To.TheVariants.{Own, All, AllEncoders, AllSites, AnotherEncoder, AnotherSite}
 use Rattle.conformance.specs.declared.case.Edit.{Edit}
 use Rattle.conformance.specs.declared.case.Edit.TheVariants.{Whole, Length, Check, Byte, Cut}

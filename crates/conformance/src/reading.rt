@@ -69,7 +69,8 @@ fn take_line<'a>(
     begun: Open<'a>,
     cases: &mut Vec<Case<'a>>,
 ) -> Result<Open<'a>, CaseFault>
-    ensures { IfOk result (λ next. Takes (said line.now) (so_far cases.old.items begun.entry) (so_far cases.new.items next)) }
+    ensures { IfOk result (λ next. Takes (said line.now) (so_far cases.old.items begun.entry)
+        (so_far cases.new.items next)) }
 {
     match text_of(line) {
         None => Ok(begun),
@@ -87,7 +88,8 @@ fn join<'a>(
     begun: Open<'a>,
     cases: &mut Vec<Case<'a>>,
 ) -> Result<Open<'a>, CaseFault>
-    ensures { IfOk result (λ next. Joins line.entry (so_far cases.old.items begun.entry) (so_far cases.new.items next)) }
+    ensures { IfOk result (λ next. Joins line.entry (so_far cases.old.items begun.entry)
+        (so_far cases.new.items next)) }
 {
     match (begun, line) {
         (Open::Start, Line::Form) => begin(cases),
@@ -123,7 +125,8 @@ fn grow<'a>(
     case: Case<'a>,
     cases: &mut Vec<Case<'a>>,
 ) -> Result<Open<'a>, CaseFault>
-    ensures { IfOk result (λ next. Joins line.entry (so_far cases.old.items (Whole case.entry)) (so_far cases.new.items next)) }
+    ensures { IfOk result (λ next. Joins line.entry (so_far cases.old.items (Whole case.entry))
+        (so_far cases.new.items next)) }
 {
     match line {
         Line::Name(name) => match cases.push(case) {

@@ -1,6 +1,6 @@
-use Rattle.std.proofs.Common.{rules, arith, ◌∙◌}
+use Rattle.std.proofs.Common.{arith}
 use Rattle.uecp_link.proofs.FeedingLemmas.{empty_is}
-use Rattle.conformance.proofs.SoFar.{read_none, read_more, read_all}
+use Rattle.conformance.proofs.SoFar.{read_more, read_all}
 use Rattle.conformance.proofs.reading.read_cases.Goals as goal
 
 pub loop-rest-preserved : goal.loop-rest-preserved
