@@ -1,18 +1,15 @@
 -- What is sent, piece by piece.
-use Rattle.std.proofs.Common.{◌≡◌, ◌<◌, ◌≤◌, ◌+◌, ◌-◌, ◌*◌, ℕ, zero, suc, List, [], ◌∷◌, ◌++◌, refl, ◌∙◌, ap, sym, arith}
-use Rattle.std.proofs.Common.{map, flat_map, length, take, drop, append_assoc, append-nil, bit_xor, add-one, add-zero, subst}
+use Rattle.std.proofs.Common.{◌≡◌, ◌≤◌, ◌+◌, ◌-◌, ℕ, zero, suc, List, [], ◌∷◌, ◌++◌, refl, ◌∙◌, ap, sym}
+use Rattle.std.proofs.Common.{arith}
+use Rattle.std.proofs.Common.{map, flat_map, length, append_assoc, append-nil, bit_xor, add-one, add-zero}
 use Rattle.std.proofs.lemmas.List.Concat.{flat_map-append}
 use Rattle.std.proofs.lemmas.List.{map-append}
 use Rattle.std.specs.List.{range_with_len}
 use Rattle.uecp_frame.specs.Check.{check}
-use Rattle.uecp_frame.specs.Stuffing.{stuffed}
 use Rattle.uecp_frame.specs.Frame.{high_first, body, plain_bytes, spelling}
-use Rattle.conformance.specs.declared.verdict.Reply.{Reply}
-use Rattle.conformance.specs.declared.case.Counters.{Counters}
 use Rattle.conformance.specs.declared.case.To.{To}
-use Rattle.conformance.specs.declared.case.Edit.{Edit}
 use Rattle.conformance.specs.declared.case.Edit.TheVariants.{Whole, Length, Check, Byte, Cut}
-use Rattle.conformance.specs.Sending.{counters_in, address_to, frame_to, body_saying, enclosed, replaced, begun}
+use Rattle.conformance.specs.Sending.{address_to, frame_to, body_saying, enclosed, replaced, begun}
 use Rattle.conformance.specs.Sending.{frame_sent}
 
 -- ---- Rows of counters.

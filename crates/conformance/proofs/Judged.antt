@@ -1,6 +1,6 @@
 -- What came so far, held against the replies that are wanted.
-use Rattle.std.proofs.Common.{◌≡◌, ◌≢◌, ◌+◌, ◌<◌, ◌≤◌, ◌↔◌, ℕ, List, [], ◌∷◌, ◌++◌, refl, ◌∙◌, ap, sym, subst, arith, map}
-use Rattle.std.proofs.Common.{length, length-append, append_assoc, append-nil, take, drop, take-append-drop, Ok, Err}
+use Rattle.std.proofs.Common.{◌≡◌, ◌+◌, ◌≤◌, ◌↔◌, ℕ, List, [], ◌∷◌, ◌++◌, refl, ◌∙◌, ap, sym, subst, arith}
+use Rattle.std.proofs.Common.{length, length-append, append_assoc, append-nil, take, drop, take-append-drop, Ok}
 use Rattle.std.proofs.lemmas.List.{map-append, append_cancel_left, length-take-le}
 use Rattle.std.proofs.Math.Seq.{take-add}
 use Rattle.uecp_frame.specs.declared.frame.Frame.{Frame}
@@ -146,7 +146,6 @@ behind own wanted findings v j same =
     append_cancel_left (replies_found own j.agreed) j.more (replies_found own j.next)
     (sym j.found_are ∙ same ∙ ap (replies_found own) j.wanted_are
     ∙ map-append (λ r. Ok (reply_frame own r)) j.agreed j.next)
-
 
 stands_kept : (own : ℕ) (next : List Reply) (more : List Finding) (v : Verdict) → Stands own next more v
     → more ≡ replies_found own next → v ≡ Kept

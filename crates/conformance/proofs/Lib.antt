@@ -1,3 +1,4 @@
 pub mod Judged
 pub mod Frames
-pub mod Reading
+pub mod Spelled
+pub mod SoFar

@@ -1,4 +1,5 @@
 -- The definitions that the contracts of conformance cases cite.
+pub mod Cases
 pub mod Judging
 pub mod Lines
 pub mod Sending

@@ -1,10 +1,9 @@
 -- The lines of a file of cases, and what they say (profile).
-use Rattle.std.specs.Prelude.{◌≡◌, ◌≤◌, ◌⊎◌, ℕ, List, [], ◌∷◌, ◌++◌, length, codes, Some, Ok, Option, None}
+use Rattle.std.specs.Prelude.{◌≡◌, ◌≤◌, ◌⊎◌, ℕ, List, [], ◌∷◌, ◌++◌, length, codes, Some, Ok}
 use Rattle.hex.specs.Hex.{decode_of}
 use Rattle.uecp_text.specs.Words.{words, decimal_in, IsByte}
 use Rattle.uecp_link.specs.Driving.{copies}
 use Rattle.conformance.specs.declared.case.Counters.{Counters}
-use Rattle.conformance.specs.declared.case.To.{To}
 use Rattle.conformance.specs.declared.case.To.TheVariants.{Own, All, AllEncoders, AllSites, AnotherEncoder, AnotherSite}
 use Rattle.conformance.specs.declared.case.Edit.{Edit}
 use Rattle.conformance.specs.declared.case.Edit.TheVariants.{Whole, Length, Check, Byte, Cut}
@@ -76,6 +75,17 @@ SaysStep words Nothing = words ≡ codes "nothing" ∷ []
 
 -- ---- Lines.
 
+-- The words of a line say at which size bytes are written.
+abbrev pub SaysPieces : List (List ℕ) → ℕ → Type 0
+SaysPieces words size = (number : List ℕ)
+    × (words ≡ codes "in" ∷ codes "pieces" ∷ codes "of" ∷ number ∷ []) × IsCount number size
+
+-- The words of a line say this.
+abbrev pub IsSpoken : List (List ℕ) → Line → Type 0
+IsSpoken words (Pieces size) = SaysPieces words size
+IsSpoken words (Does step) = SaysStep words step
+IsSpoken words line = ⊥
+
 -- The text of a line says this. What is named stands behind the first word and one space.
 abbrev pub IsLine : (text : List ℕ) → Line → Type 0
 IsLine text Form = text ≡ codes "format 1"
@@ -83,5 +93,5 @@ IsLine text (Name name) = text ≡ codes "case " ++ name.now
 IsLine text (Group group) = text ≡ codes "group " ++ group.now
 IsLine text (Rule rule) = text ≡ codes "rule " ++ rule.now
 IsLine text Profile = text ≡ codes "profile"
-IsLine text (Pieces size) = (number : List ℕ) × (text ≡ codes "in pieces of " ++ number) × IsCount number size
+IsLine text (Pieces size) = SaysPieces (words text) size
 IsLine text (Does step) = SaysStep (words text) step

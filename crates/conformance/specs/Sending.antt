@@ -1,5 +1,5 @@
 -- What is sent for a case to an encoder at an address, and what must come (profile).
-use Rattle.std.specs.Prelude.{ℕ, ◌+◌, ◌-◌, ◌*◌, ◌%◌, ◌==◌, bit_xor, List, [], ◌∷◌, ◌++◌, length, map, flat_map, take}
+use Rattle.std.specs.Prelude.{ℕ, ◌+◌, ◌-◌, ◌*◌, ◌%◌, ◌==◌, bit_xor, List, [], ◌∷◌, ◌++◌, map, flat_map, take}
 use Rattle.std.specs.Prelude.{drop, if◌then◌else◌}
 use Rattle.std.specs.List.{range_with_len}
 use Rattle.uecp_frame.specs.declared.frame.Frame.{Frame}

@@ -69,7 +69,8 @@ fn at_end(wanted: &[Reply]) -> Verdict
 
 /// How it stands where this frame came next; None where it is the reply that is wanted next.
 fn disagreement(own: Address, wanted: &[Reply], frame: Frame) -> Option<Verdict>
-    ensures stands { IfSome result (λ verdict. (after : List Finding) → Stands own wanted.now (Ok frame ∷ after) verdict) }
+    ensures stands { IfSome result (λ verdict. (after : List Finding)
+        → Stands own wanted.now (Ok frame ∷ after) verdict) }
     ensures agrees { IfNone result ((reply : ReplyValue) × (later : List ReplyValue) × (wanted.now ≡ reply ∷ later)
         × (frame ≡ reply_frame own reply)) }
 {

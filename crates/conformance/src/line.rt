@@ -1,10 +1,10 @@
 //! One line of a file of cases (profile).
-ghost use Rattle.std.specs.Prelude.{◌≡◌, ◌++◌, ◌∷◌, [], codes, IfOk, IfSome, IfNone};
-ghost use Rattle.conformance.specs.Lines.{IsLine};
+ghost use Rattle.std.specs.Prelude.{IfOk};
+ghost use Rattle.conformance.specs.Lines.{IsLine, IsSpoken};
+ghost use Rattle.uecp_text.specs.Words.{texts};
 
 use crate::case::Step;
-use crate::steps::step_of;
-use crate::words::decimal_in;
+use crate::steps::{pieces_of, step_of};
 use std::alloc::Global;
 use uecp_text::words_of;
 
@@ -57,24 +57,21 @@ pub(crate) fn line_of(alloc: Global, text: &[u8]) -> Result<Line<'_>, CaseFault>
     if let Some(rule) = text.strip_prefix(b"rule ") {
         return Ok(Line::Rule(rule));
     }
-    if let Some(number) = text.strip_prefix(b"in pieces of ") {
-        return pieces_of(number);
-    }
     match words_of(alloc, text) {
-        Ok(words) => match step_of(alloc, words.as_slice()) {
-            Some(step) => Ok(Line::Does(step)),
-            None => Err(CaseFault::NotALine),
-        },
+        Ok(words) => spoken(alloc, words.as_slice()),
         Err(_) => Err(CaseFault::OutOfMemory),
     }
 }
 
-/// What a line says that ends in this number.
-fn pieces_of(number: &[u8]) -> Result<Line<'static>, CaseFault>
-    ensures { IfOk result (IsLine (codes "in pieces of " ++ number.now)) }
+/// What a line says by its words.
+fn spoken(alloc: Global, words: &[&[u8]]) -> Result<Line<'static>, CaseFault>
+    ensures { IfOk result (IsSpoken (texts words.now)) }
 {
-    match decimal_in(number) {
+    match pieces_of(words) {
         Some(size) => Ok(Line::Pieces(size)),
-        None => Err(CaseFault::NotALine),
+        None => match step_of(alloc, words) {
+            Some(step) => Ok(Line::Does(step)),
+            None => Err(CaseFault::NotALine),
+        },
     }
 }

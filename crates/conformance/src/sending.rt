@@ -1,5 +1,6 @@
 //! What is sent for a case, and what must come (profile).
-ghost use Rattle.std.specs.Prelude.{◌≡◌, ◌<◌, ◌≤◌, ◌+◌, ◌++◌, ◌∷◌, [], length, take, drop, bit_xor, flat_map, map, IfOk, if◌then◌else◌};
+ghost use Rattle.std.specs.Prelude.{◌≡◌, ◌<◌, ◌≤◌, ◌+◌, ◌++◌, ◌∷◌, [], length, take, drop, bit_xor, flat_map, map};
+ghost use Rattle.std.specs.Prelude.{IfOk, if◌then◌else◌};
 ghost use Rattle.uecp_frame.specs.Stuffing.{code, stuffed};
 ghost use Rattle.uecp_frame.specs.Check.{check};
 ghost use Rattle.uecp_frame.specs.Frame.{high_first};
@@ -110,16 +111,7 @@ fn put_frames(
 }
 
 /// Adds a frame as it is sent with this edit.
-#[tactic(
-    auto,
-    using(
-        crate::proofs::Frames::whole_sent,
-        crate::proofs::Frames::length_sent,
-        crate::proofs::Frames::check_sent,
-        crate::proofs::Frames::byte_sent,
-        crate::proofs::Frames::cut_sent
-    )
-)]
+#[tactic(auto, using(crate::proofs::Frames::whole_sent, crate::proofs::Frames::length_sent, crate::proofs::Frames::check_sent, crate::proofs::Frames::byte_sent, crate::proofs::Frames::cut_sent))]
 fn put_frame(
     own: Address,
     counter: u8,
@@ -155,7 +147,13 @@ fn put_frame(
 }
 
 /// The plain bytes of a frame that says this length, some bits of its check turned over.
-fn plain_of(address: u16, counter: u8, said: u8, message: &Message, turned: bool) -> ArrayVec<u8, 261>
+fn plain_of(
+    address: u16,
+    counter: u8,
+    said: u8,
+    message: &Message,
+    turned: bool,
+) -> ArrayVec<u8, 261>
     ensures { let b = body_saying (frame_to address counter message.now) said in
         result.items ≡ b ++ high_first (if turned then bit_xor (check b) 1 else check b) }
 {
@@ -186,7 +184,12 @@ fn put_enclosed(plain: &[u8], bytes: &mut Vec<u8>) -> Result<(), AllocError>
 }
 
 /// Adds the same with other bytes in the place of one.
-fn put_replaced(plain: &[u8], place: u32, other: &[u8], bytes: &mut Vec<u8>) -> Result<(), AllocError>
+fn put_replaced(
+    plain: &[u8],
+    place: u32,
+    other: &[u8],
+    bytes: &mut Vec<u8>,
+) -> Result<(), AllocError>
     ensures { IfOk result (λ _. bytes.new.items ≡ bytes.old.items ++ replaced place other.now plain.now) }
 {
     let before = plain.len().min(place as usize);

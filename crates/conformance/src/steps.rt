@@ -2,7 +2,7 @@
 ghost use Rattle.std.specs.Prelude.{◌≡◌, ◌∷◌, [], codes, IfSome, IfNone};
 ghost use Rattle.uecp_text.specs.Words.{texts};
 ghost use Rattle.uecp_link.specs.Driving.{copies};
-ghost use Rattle.conformance.specs.Lines.{SaysStep, SaysEdit, IsMessage};
+ghost use Rattle.conformance.specs.Lines.{SaysPieces, SaysStep, SaysEdit, IsMessage};
 
 use crate::case::{Edit, Step, To};
 use crate::words::{copies_of, decimal_in, row_of};
@@ -26,6 +26,19 @@ pub(crate) fn step_of(alloc: Global, words: &[&[u8]]) -> Option<Step>
     } else {
         None
     }
+}
+
+/// The size that the words of a line say, at which bytes are written.
+pub(crate) fn pieces_of(words: &[&[u8]]) -> Option<u32>
+    ensures { IfSome result (SaysPieces (texts words.now)) }
+{
+    let (first, rest) = first_of(words)?;
+    let (second, others) = first_of(rest)?;
+    let (third, number) = two_of(others)?;
+    if first != b"in".as_slice() || second != b"pieces".as_slice() || third != b"of".as_slice() {
+        return None;
+    }
+    decimal_in(number)
 }
 
 /// The first of some words, and the others.

@@ -1,10 +1,8 @@
-use Rattle.std.proofs.Common.{◌≡◌, ◌∷◌, [], List, Ok, Err, ap, drop, rules, subst, sym, refl, ◌∙◌}
-use Rattle.uecp_frame.specs.Findings.{Finding, OpenPart}
+use Rattle.std.proofs.Common.{◌∷◌, [], Ok, Err, ap, subst, sym, refl, ◌∙◌}
 use Rattle.uecp_frame.specs.Feeding.{findings_of}
 use Rattle.uecp_link.proofs.FeedingLemmas.{empty_is}
-use Rattle.conformance.specs.declared.verdict.Reply.{Reply}
 use Rattle.conformance.specs.Judging.{Stands}
-use Rattle.conformance.proofs.Judged.{Agrees, agrees_first, agrees_on, agrees_more, judged_end, judged_at}
+use Rattle.conformance.proofs.Judged.{Agrees, agrees_first, agrees_more, judged_end, judged_at}
 use Rattle.conformance.proofs.judging.first_difference.Goals as goal
 
 pub loop-rest-init : goal.loop-rest-init

@@ -1,4 +1,3 @@
-use Rattle.std.proofs.Common.{◌≡◌}
 use Rattle.uecp_frame.specs.Findings.{found}
 use Rattle.conformance.proofs.Judged.{kept_exactly}
 use Rattle.conformance.proofs.judging.judge.Goals as goal

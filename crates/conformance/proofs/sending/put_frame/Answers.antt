@@ -1,9 +1,9 @@
-use Rattle.std.proofs.Common.{rules, ◌≡◌, ◌++◌, ◌∷◌, ◌∙◌, [], ℕ, List, length, take, drop, ◌+◌, bit_xor, IfOk, ap, sym, subst}
-use Rattle.uecp_frame.specs.Stuffing.{stuffed}
+use Rattle.std.proofs.Common.{rules, ◌≡◌, ◌++◌, ◌∙◌, ℕ, List, length, bit_xor, IfOk, ap, sym}
+use Rattle.std.proofs.Common.{subst}
 use Rattle.uecp_frame.specs.Check.{check}
 use Rattle.uecp_frame.specs.Frame.{high_first}
 use Rattle.conformance.specs.Sending.{address_to, frame_to, body_saying, enclosed, replaced, frame_sent}
-use Rattle.conformance.proofs.Frames.{whole_sent, length_sent, check_sent, byte_sent, cut_sent}
+use Rattle.conformance.proofs.Frames.{whole_sent, length_sent, check_sent, byte_sent}
 use Rattle.conformance.proofs.sending.put_frame.Goals as goal
 
 -- a frame's plain bytes with this length and the check that is made with it

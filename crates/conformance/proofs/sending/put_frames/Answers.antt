@@ -1,4 +1,4 @@
-use Rattle.std.proofs.Common.{◌≡◌, ◌-◌, ◌+◌, ◌++◌, ap, ◌∙◌, arith, flat_map, ℕ, List}
+use Rattle.std.proofs.Common.{◌≡◌, ◌-◌, ◌+◌, ◌++◌, ap, ◌∙◌, arith, flat_map}
 use Rattle.std.specs.List.{range_with_len}
 use Rattle.conformance.specs.Sending.{frame_sent}
 use Rattle.conformance.proofs.Frames.{row_none, row_put}
@@ -14,8 +14,7 @@ loop-counter-init c = (
 
 pub loop-counter-preserved : goal.loop-counter-preserved
 loop-counter-preserved c =
-    let (from, most, so_far) = c.loop-counter.invariant in
-    (
+    let (from, most, so_far) = c.loop-counter.invariant in (
       omega (arith, from),
       omega (arith, from, most),
       row_put (λ counter. frame_sent c.args.own counter c.args.message.now c.args.edit.now) c.args.row.first

@@ -1,4 +1,4 @@
-use Rattle.std.proofs.Common.{◌≡◌, ◌-◌, ◌+◌, ◌++◌, ap, ◌∙◌, arith, map, ℕ}
+use Rattle.std.proofs.Common.{◌≡◌, ◌-◌, ◌+◌, ◌++◌, ap, ◌∙◌, arith, map}
 use Rattle.std.specs.List.{range_with_len}
 use Rattle.conformance.proofs.Frames.{none_mapped, row_mapped}
 use Rattle.conformance.proofs.sending.put_replies.Goals as goal
@@ -13,8 +13,7 @@ loop-counter-init c = (
 
 pub loop-counter-preserved : goal.loop-counter-preserved
 loop-counter-preserved c =
-    let (from, most, so_far) = c.loop-counter.invariant in
-    (
+    let (from, most, so_far) = c.loop-counter.invariant in (
       omega (arith, from),
       omega (arith, from, most),
       row_mapped (λ counter. record { counter = counter; code = c.args.code }) c.args.row.first c.loop-counter.counter

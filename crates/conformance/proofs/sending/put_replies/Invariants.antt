@@ -6,4 +6,5 @@ abbrev pub invariant-loop-counter : goal.invariant-loop-counter
 invariant-loop-counter l = (l.fn.row.first ≤ l.counter)
     × (l.counter - l.fn.row.first ≤ l.fn.row.last + 1 - l.fn.row.first)
     × (l.replies.items ≡ l.fn.replies.items
-    ++ map (λ counter. record { counter = counter; code = l.fn.code }) (range_with_len l.fn.row.first (l.counter - l.fn.row.first)))
+    ++ map (λ counter. record { counter = counter; code = l.fn.code })
+    (range_with_len l.fn.row.first (l.counter - l.fn.row.first)))

@@ -1,6 +1,6 @@
 use Rattle.std.proofs.Common.{IfSome, subst}
 use Rattle.conformance.specs.Lines.{IsCopies}
-use Rattle.conformance.proofs.Reading.{cut_at}
+use Rattle.conformance.proofs.Spelled.{cut_at}
 use Rattle.conformance.proofs.words.copies_of.Goals as goal
 
 pub returns-in-Some : goal.returns-in-Some
