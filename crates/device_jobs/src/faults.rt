@@ -1,14 +1,15 @@
 //! The rules of a bad line out of a file (profile).
-ghost use Rattle.std.specs.Prelude.{◌≤◌};
+ghost use Rattle.std.specs.Prelude.{◌≡◌, ◌≤◌, [], None, IfOk, IfErr};
 
 use crate::job::DeviceJob;
+use itoa::Buffer;
 use kept_jobs::fail_state;
-use line_faults::{Rule, read_rule};
-use std::alloc::{AllocFailed, Global};
+use line_faults::{Rule, RulesFault, read_rules};
+use std::alloc::Global;
 use std::fs::{Files, OpenOptions};
 use std::io::Write;
 use uecp_jobs::fail;
-use uecp_text::{RunFault, first_input_line, read_all, text_of, write_parts};
+use uecp_text::{RunFault, read_all, write_parts};
 
 /// Why there are no rules.
 #[derive(Debug, Drop)]
@@ -21,20 +22,14 @@ pub(crate) enum FaultsFault {
     OutOfMemory,
 }
 
-impl<T: Drop> From<AllocFailed<T>> for FaultsFault {
-    ghost from_gives = { λ _ _. Unit {0} };
-
-    fn from(_error: AllocFailed<T>) -> FaultsFault {
-        FaultsFault::OutOfMemory
-    }
-}
-
 /// The rules of the job's file; none where it has none.
 pub(crate) fn rules_of<F: Files>(
     alloc: Global,
     job: &DeviceJob,
     files: &F,
-) -> Result<Vec<Rule>, FaultsFault> {
+) -> Result<Vec<Rule>, FaultsFault>
+    ensures { job.now.faults ≡ None → IfOk result (λ rules. rules.items ≡ []) × IfErr result (λ _. ⊥) }
+{
     match &job.faults {
         None => Ok(Vec::new(alloc)),
         Some(path) => read_file(alloc, path.as_str(), files),
@@ -50,30 +45,16 @@ fn read_file<F: Files>(
     let Ok(mut file) = OpenOptions::new().read(true).open(files, path) else {
         return Err(FaultsFault::Unreadable);
     };
-    match read_all(alloc, &mut file) {
-        Ok(all) => read_lines(alloc, all.as_slice()),
-        Err(RunFault::OutOfMemory) => Err(FaultsFault::OutOfMemory),
-        Err(_) => Err(FaultsFault::Unreadable),
+    let all = match read_all(alloc, &mut file) {
+        Ok(all) => all,
+        Err(RunFault::OutOfMemory) => return Err(FaultsFault::OutOfMemory),
+        Err(_) => return Err(FaultsFault::Unreadable),
+    };
+    match read_rules(alloc, all.as_slice()) {
+        Ok(rules) => Ok(rules),
+        Err(RulesFault::NotARule(number)) => Err(FaultsFault::NotARule(number)),
+        Err(RulesFault::OutOfMemory) => Err(FaultsFault::OutOfMemory),
     }
-}
-
-/// The rules of the lines of a text. Lines that are empty, and comments, say nothing.
-fn read_lines(alloc: Global, input: &[u8]) -> Result<Vec<Rule>, FaultsFault> {
-    let mut rules = Vec::new(alloc);
-    let mut number = 0usize;
-    let mut rest = input;
-    while !rest.is_empty() {
-        let (line, more) = first_input_line(rest);
-        number = number.saturating_add(1);
-        if let Some(text) = text_of(line) {
-            match read_rule(text) {
-                Ok(rule) => rules.push(rule)?,
-                Err(_) => return Err(FaultsFault::NotARule(number)),
-            }
-        }
-        rest = more;
-    }
-    Ok(rules)
 }
 
 /// Says why there are no rules, and answers the exit status.
@@ -84,13 +65,18 @@ pub(crate) fn fail_faults<E: Write>(fault: &FaultsFault, errors: &mut E) -> u8
         FaultsFault::OutOfMemory => fail(&RunFault::OutOfMemory, errors),
         FaultsFault::Unreadable => fail_state("the file of faults can't be read", errors),
         FaultsFault::NotARule(number) => {
-            let mut buffer = itoa::Buffer::new();
+            let mut buffer = Buffer::new();
             let line = buffer.format(*number).as_bytes();
-            let _ = write_parts(
-                &[b"uecp: line ", line, b" of the file of faults: not a rule\n"],
-                errors,
-            );
+            say_no_rule(line, errors);
             2
         }
     }
+}
+
+/// Says that the line of this number is no rule.
+fn say_no_rule<E: Write>(line: &[u8], errors: &mut E) {
+    let _ = write_parts(
+        &[b"uecp: line ", line, b" of the file of faults: not a rule\n"],
+        errors,
+    );
 }
