@@ -36,10 +36,12 @@ module _ {C I O K : Type 0} (opens : C → Option (I × O) → C → Type 0) (cl
   kept_at x = kept_of x.progress x.runs.sender.server
 
   abbrev FirstOf : (due : Bool) → At → KeptServer → Type 0
-  FirstOf = First opens closes remaining contents leaves is_clean saves fails options.form options.reading.size options.station.now
+  FirstOf = First opens closes remaining contents leaves is_clean saves fails options.form options.reading.size
+      options.station.now
 
   abbrev IsMaking : (due : Bool) → (x x' : At) → Went → Type 0
-  IsMaking = Making opens closes remaining contents leaves is_clean saves fails options.form options.reading.size options.station.now
+  IsMaking = Making opens closes remaining contents leaves is_clean saves fails options.form options.reading.size
+      options.station.now
 
   abbrev IsCalled : (taken : ℕ) → (x x' : At) → Went → Type 0
   IsCalled = Called opens closes remaining contents leaves is_clean saves fails
@@ -98,12 +100,15 @@ module _ {C I O K : Type 0} (opens : C → Option (I × O) → C → Type 0) (cl
   ran due x x' went (inl (y, (made, takes, unknown), inl (z, (settles, takes_on), turns))) =
       let t = turned opens closes remaining contents leaves is_clean saves fails options.form options.reading.region
       options.reading.size options.reading.strict z x' went turns in
-      let call = settles_call opens closes remaining contents leaves is_clean saves fails options.form y.sends z.sends y.applied
+      let call = settles_call opens closes remaining contents leaves is_clean saves fails options.form y.sends z.sends
+      y.applied
       z.applied y.unknown z.unknown goes settles in
-      let idle = settles_idle opens closes remaining contents leaves is_clean saves fails options.form y.sends z.sends y.applied
+      let idle = settles_idle opens closes remaining contents leaves is_clean saves fails options.form y.sends z.sends
+      y.applied
       z.applied y.unknown z.unknown goes settles refl in
       ran_so due x y.sends x' went t.lines t.mid
-      (making_if opens closes remaining contents leaves is_clean saves fails options.form options.reading.size options.station.now
+      (making_if opens closes remaining contents leaves is_clean saves fails options.form options.reading.size
+      options.station.now
       due x.sends y.sends x.applied y.applied goes made)
       (subst (λ n. IsCalled n y.sends x'.sends went) (none_before (length (messages_in t.lines)))
       (called_on opens closes remaining contents leaves is_clean saves fails 0 (length (messages_in t.lines)) y.sends
@@ -111,10 +116,12 @@ module _ {C I O K : Type 0} (opens : C → Option (I × O) → C → Type 0) (cl
       (subst (λ k. TakesLines options.reading.region t.lines k t.mid) (takes_on ∙ takes) t.part.takes) t.pauses t.done
       (λ on. t.part.called.idle on idle)
   ran due x x' went (inl (y, (made, takes, unknown), inr (stop, (settles, takes_on), is))) =
-      let call = settles_call opens closes remaining contents leaves is_clean saves fails options.form y.sends x'.sends y.applied
+      let call = settles_call opens closes remaining contents leaves is_clean saves fails options.form y.sends x'.sends
+      y.applied
       x'.applied y.unknown x'.unknown (stopped stop) settles in
       ran_so due x y.sends x' went [] x.takes
-      (making_if opens closes remaining contents leaves is_clean saves fails options.form options.reading.size options.station.now
+      (making_if opens closes remaining contents leaves is_clean saves fails options.form options.reading.size
+      options.station.now
       due x.sends y.sends x.applied y.applied goes made)
       (subst (λ w. IsCalled 0 y.sends x'.sends w) (sym is) call) refl (inl (takes_on ∙ takes))
       (λ on. absurd (goes_not_stopped stop (on ∙ is))) (λ on. absurd (goes_not_stopped stop (on ∙ is)))

@@ -79,7 +79,8 @@ module _ {C I O K : Type 0} (opens : C → Option (I × O) → C → Type 0) (cl
   MadeText form station x x' = (told : List Code) × Appends x.held x'.held (station_in form station told)
 
   made_told : (form : Form) (size : ℕ) (station : List (List ℕ)) (x x' : At) (applied applied' : Bool)
-      → MakesIf opens closes remaining contents leaves is_clean saves fails form size station true x x' applied applied' goes
+      → MakesIf opens closes remaining contents leaves is_clean saves fails form size station true x x' applied applied'
+      goes
       → MadeText form station x x'
   made_told form size station x x' applied applied' (told, joined, one, tells, apply) = by joined tells
     where
@@ -91,12 +92,13 @@ module _ {C I O K : Type 0} (opens : C → Option (I × O) → C → Type 0) (cl
       by (Err kept.StateFailed) (same, is) = absurd (goes_not_stopped StateFailed is)
 
   made_idle : (form : Form) (size : ℕ) (station : List (List ℕ)) (x x' : At) (applied applied' : Bool)
-      → MakesIf opens closes remaining contents leaves is_clean saves fails form size station true x x' applied applied' goes
+      → MakesIf opens closes remaining contents leaves is_clean saves fails form size station true x x' applied applied'
+      goes
       → x.runs.sender.server.held ≡ [] → x'.runs.sender.server.held ≡ []
   made_idle form size station x x' applied applied' (told, joined, one, tells, apply) idle = by joined one tells
     where
       by : (joined : Joined)
-          → MakesOne opens closes remaining contents leaves is_clean saves fails size station told joined x x'
+          → MakesOne opens closes remaining contents leaves is_clean saves fails form size station told joined x x'
           → JoinedTold form (station_in form station told) joined x.held x'.held goes → x'.runs.sender.server.held ≡ []
       by (Ok done) one tells = station_idle size station told x.runs x'.runs one.makes.0 idle
       by (Err (kept.Outstanding reason)) one tells =
@@ -104,12 +106,13 @@ module _ {C I O K : Type 0} (opens : C → Option (I × O) → C → Type 0) (cl
       by (Err kept.StateFailed) one (same, is) = absurd (goes_not_stopped StateFailed is)
 
   made_taken : (form : Form) (size : ℕ) (station : List (List ℕ)) (x x' : At) (applied applied' : Bool)
-      → MakesIf opens closes remaining contents leaves is_clean saves fails form size station true x x' applied applied' goes
+      → MakesIf opens closes remaining contents leaves is_clean saves fails form size station true x x' applied applied'
+      goes
       → x'.progress.taken ≡ x.progress.taken
   made_taken form size station x x' applied applied' (told, joined, one, tells, apply) = by joined one
     where
       by : (joined : Joined)
-          → MakesOne opens closes remaining contents leaves is_clean saves fails size station told joined x x'
+          → MakesOne opens closes remaining contents leaves is_clean saves fails form size station told joined x x'
           → x'.progress.taken ≡ x.progress.taken
       by (Ok done) one = ap (λ (p : Progress). p.taken) one.progress
       by (Err (kept.Outstanding reason)) one = ap (λ (p : Progress). p.taken) one.progress
@@ -132,7 +135,8 @@ module _ {C I O K : Type 0} (opens : C → Option (I × O) → C → Type 0) (cl
     pub none : unknown' ≡ 0
 
   settled_told : (form : Form) (x x' : At) (applied applied' : Bool) (unknown unknown' : ℕ) → unknown ≡ 0
-      → SettlesLive opens closes remaining contents leaves is_clean saves fails form x x' applied applied' unknown unknown'
+      → SettlesLive opens closes remaining contents leaves is_clean saves fails form x x' applied applied' unknown
+      unknown'
       goes → Settled form x x' unknown'
   settled_told form x x' applied applied' unknown unknown' zero_is (inl (idle, same, apply, are, is)) =
       subst (λ y. Settled form x y unknown') (sym same) (record {
@@ -147,7 +151,8 @@ module _ {C I O K : Type 0} (opens : C → Option (I × O) → C → Type 0) (cl
     where
       by : (ended : Ended) → x'.progress.taken ≡ x.progress.taken
           → AnswersTold (AreHeld form (x'.progress.taken + 1 - length (marks_in x.runs.sender.server))
-          (marks_in x.runs.sender.server) (counters_waiting x.runs.sender.server)) x'.runs.sender.server.counts ended x.held x'.held goes
+          (marks_in x.runs.sender.server) (counters_waiting x.runs.sender.server)) x'.runs.sender.server.counts ended
+          x.held x'.held goes
           → unknown' ≡ unknown_of (length (marks_in x.runs.sender.server)) ended → Settled form x x' unknown'
       by (Ok settled) taken (told, is_told, tells) are = record {
         text = told;
@@ -171,8 +176,10 @@ module _ {C I O K : Type 0} (opens : C → Option (I × O) → C → Type 0) (cl
     pub all : unknown' ≡ length (marks_in x.runs.sender.server)
     pub some : x.runs.sender.server.held ≢ []
 
-  unsettled : (form : Form) (x x' : At) (applied applied' : Bool) (unknown unknown' : ℕ) (stop : KeptStop) → 1 ≤ unknown'
-      → SettlesLive opens closes remaining contents leaves is_clean saves fails form x x' applied applied' unknown unknown'
+  unsettled : (form : Form) (x x' : At) (applied applied' : Bool) (unknown unknown' : ℕ) (stop : KeptStop) → 1 ≤
+      unknown'
+      → SettlesLive opens closes remaining contents leaves is_clean saves fails form x x' applied applied' unknown
+      unknown'
       (stopped stop) → Unsettled x x' unknown'
   unsettled form x x' applied applied' unknown unknown' stop many (inl (idle, same, apply, are, is)) =
       absurd (goes_not_stopped stop (sym is))
@@ -181,7 +188,8 @@ module _ {C I O K : Type 0} (opens : C → Option (I × O) → C → Type 0) (cl
     where
       by : (ended : Ended) → x'.progress.taken ≡ x.progress.taken
           → AnswersTold (AreHeld form (x'.progress.taken + 1 - length (marks_in x.runs.sender.server))
-          (marks_in x.runs.sender.server) (counters_waiting x.runs.sender.server)) x'.runs.sender.server.counts ended x.held x'.held (stopped stop)
+          (marks_in x.runs.sender.server) (counters_waiting x.runs.sender.server)) x'.runs.sender.server.counts ended
+          x.held x'.held (stopped stop)
           → unknown' ≡ unknown_of (length (marks_in x.runs.sender.server)) ended → Unsettled x x' unknown'
       by (Ok settled) taken tells are = absurd (omega (arith, are, many))
       by (Err (kept.Outstanding TriesSpent)) taken (same, is) are = record {
@@ -195,26 +203,32 @@ module _ {C I O K : Type 0} (opens : C → Option (I × O) → C → Type 0) (cl
 
   none_settled : (form : Form) (x x' : At) (applied applied' : Bool) (unknown unknown' : ℕ) (went : Went)
       → x.runs.sender.server.held ≡ []
-      → SettlesLive opens closes remaining contents leaves is_clean saves fails form x x' applied applied' unknown unknown'
+      → SettlesLive opens closes remaining contents leaves is_clean saves fails form x x' applied applied' unknown
+      unknown'
       went → (x' ≡ x) × (unknown' ≡ unknown) × (went ≡ goes)
-  none_settled form x x' applied applied' unknown unknown' went idle (inl (none, same, apply, are, is)) = (same, are, is)
+  none_settled form x x' applied applied' unknown unknown' went idle (inl (none, same, apply, are, is)) = (same, are,
+      is)
   none_settled form x x' applied applied' unknown unknown' went idle (inr (some, settles)) = absurd (some idle)
 
   -- ---- Whether all was applied.
 
-  made_applied : (form : Form) (size : ℕ) (station : List (List ℕ)) (due : Bool) (x x' : At) (applied applied' : Bool) (went : Went)
-      → MakesIf opens closes remaining contents leaves is_clean saves fails form size station due x x' applied applied' went
+  made_applied : (form : Form) (size : ℕ) (station : List (List ℕ)) (due : Bool) (x x' : At) (applied applied' : Bool)
+      (went : Went)
+      → MakesIf opens closes remaining contents leaves is_clean saves fails form size station due x x' applied applied'
+      went
       → applied' ≡ true → applied ≡ true
   made_applied form size station false x x' applied applied' went (same, apply, is) all_so = sym apply ∙ all_so
   made_applied form size station true x x' applied applied' went (told, joined, one, tells, apply) all_so =
       (both applied (list_all is_applied told) (sym apply ∙ all_so)).0
 
   settled_applied : (form : Form) (x x' : At) (applied applied' : Bool) (unknown unknown' : ℕ) (went : Went)
-      → SettlesLive opens closes remaining contents leaves is_clean saves fails form x x' applied applied' unknown unknown'
+      → SettlesLive opens closes remaining contents leaves is_clean saves fails form x x' applied applied' unknown
+      unknown'
       went → applied' ≡ true → applied ≡ true
   settled_applied form x x' applied applied' unknown unknown' went (inl (idle, same, apply, are, is)) all_so =
       sym apply ∙ all_so
-  settled_applied form x x' applied applied' unknown unknown' went (inr (some, (ended, one, tells, apply, are))) all_so =
+  settled_applied form x x' applied applied' unknown unknown' went (inr (some, (ended, one, tells, apply, are))) all_so
+      =
       (both applied (are_applied ended) (sym apply ∙ all_so)).0
 
   -- ---- One sender.
@@ -240,10 +254,11 @@ module _ {C I O K : Type 0} (opens : C → Option (I × O) → C → Type 0) (cl
 
     front : (by : Bool) (x y z : LiveAt) → (by ≡ true → IsIdle x.sends) → x.unknown ≡ 0
         → MakesOnce opens closes remaining contents leaves is_clean saves fails options by x y goes
-        → SettlesOnce opens closes remaining contents leaves is_clean saves fails y z goes → Front by x z
+        → SettlesOnce opens closes remaining contents leaves is_clean saves fails options y z goes → Front by x z
     front false x y z idle none ((same, apply, is), takes, unknown) (settles, takes_on) =
         let s = settled_told options.form x.sends z.sends y.applied z.applied y.unknown z.unknown (unknown ∙ none)
-        (subst (λ (v : At). SettlesLive opens closes remaining contents leaves is_clean saves fails options.form v z.sends y.applied
+        (subst (λ (v : At). SettlesLive opens closes remaining contents leaves is_clean saves fails options.form v
+        z.sends y.applied
         z.applied y.unknown z.unknown goes) same settles) in record {
           text = s.text;
           is_text = s.is_text;
@@ -252,18 +267,23 @@ module _ {C I O K : Type 0} (opens : C → Option (I × O) → C → Type 0) (cl
           none = s.none;
         }
     front true x y z idle none (made, takes, unknown) (settles, takes_on) =
-        let (told, appended) = made_told options.form options.reading.size options.station.now x.sends y.sends x.applied y.applied
+        let (told, appended) = made_told options.form options.reading.size options.station.now x.sends y.sends x.applied
+        y.applied
         made in
-        let still = made_idle options.form options.reading.size options.station.now x.sends y.sends x.applied y.applied made
+        let still = made_idle options.form options.reading.size options.station.now x.sends y.sends x.applied y.applied
+        made
         (idle refl) in
-        let (same, are, is) = none_settled options.form y.sends z.sends y.applied z.applied y.unknown z.unknown goes still settles in
+        let (same, are, is) = none_settled options.form y.sends z.sends y.applied z.applied y.unknown z.unknown goes
+        still settles in
         record {
           text = station_in options.form options.station.now told;
           is_text = (told, refl);
-          appended = subst (λ (v : At). Appends x.sends.held v.held (station_in options.form options.station.now told)) (sym same)
+          appended = subst (λ (v : At). Appends x.sends.held v.held (station_in options.form options.station.now told))
+              (sym same)
               appended;
           taken = ap (λ (v : At). v.progress.taken) same
-              ∙ made_taken options.form options.reading.size options.station.now x.sends y.sends x.applied y.applied made;
+              ∙ made_taken options.form options.reading.size options.station.now x.sends y.sends x.applied y.applied
+              made;
           none = are ∙ unknown ∙ none;
         }
 
@@ -282,11 +302,12 @@ module _ {C I O K : Type 0} (opens : C → Option (I × O) → C → Type 0) (cl
 
     stopped_settling : (by : Bool) (x y x' : LiveAt) (stop : KeptStop) → (by ≡ true → IsIdle x.sends) → 1 ≤ x'.unknown
         → MakesOnce opens closes remaining contents leaves is_clean saves fails options by x y goes
-        → SettlesOnce opens closes remaining contents leaves is_clean saves fails y x' (stopped stop)
+        → SettlesOnce opens closes remaining contents leaves is_clean saves fails options y x' (stopped stop)
         → Spoke by x.sends x'.sends x.applied x'.applied x'.unknown
     stopped_settling false x y x' stop idle many ((same, apply, is), takes, unknown) (settles, takes_on) =
         let u = unsettled options.form x.sends x'.sends y.applied x'.applied y.unknown x'.unknown stop many
-        (subst (λ (v : At). SettlesLive opens closes remaining contents leaves is_clean saves fails options.form v x'.sends y.applied
+        (subst (λ (v : At). SettlesLive opens closes remaining contents leaves is_clean saves fails options.form v
+        x'.sends y.applied
         x'.applied y.unknown x'.unknown (stopped stop)) same settles) in record {
           front = [];
           codes = [];
@@ -296,15 +317,18 @@ module _ {C I O K : Type 0} (opens : C → Option (I × O) → C → Type 0) (cl
           appended = u.appended;
           counted = inr (refl, refl, u.taken, u.all);
           applied = λ all_so. (
-            sym apply ∙ settled_applied options.form y.sends x'.sends y.applied x'.applied y.unknown x'.unknown (stopped stop)
+            sym apply ∙ settled_applied options.form y.sends x'.sends y.applied x'.applied y.unknown x'.unknown (stopped
+            stop)
                 settles all_so,
             refl,
           );
         }
     stopped_settling true x y x' stop idle many (made, takes, unknown) (settles, takes_on) =
-        let still = made_idle options.form options.reading.size options.station.now x.sends y.sends x.applied y.applied made
+        let still = made_idle options.form options.reading.size options.station.now x.sends y.sends x.applied y.applied
+        made
         (idle refl) in
-        let (same, are, is) = none_settled options.form y.sends x'.sends y.applied x'.applied y.unknown x'.unknown (stopped stop)
+        let (same, are, is) = none_settled options.form y.sends x'.sends y.applied x'.applied y.unknown x'.unknown
+        (stopped stop)
         still settles in absurd (goes_not_stopped stop (sym is))
 
     pub spoke : (by : Bool) (x x' : LiveAt) (went : Went) → (by ≡ true → IsIdle x.sends) → x.unknown ≡ 0
@@ -312,9 +336,11 @@ module _ {C I O K : Type 0} (opens : C → Option (I × O) → C → Type 0) (cl
         → Onward went x'.unknown → Spoke by x.sends x'.sends x.applied x'.applied x'.unknown
     spoke by x x' went idle none (inl (y, made, inl (z, settles, turns))) onward =
         let f = front by x y z idle none made settles in
-        let still = settles_idle opens closes remaining contents leaves is_clean saves fails options.form y.sends z.sends y.applied
+        let still = settles_idle opens closes remaining contents leaves is_clean saves fails options.form y.sends
+        z.sends y.applied
         z.applied y.unknown z.unknown goes settles.0 refl in
-        let t = told_turns opens closes remaining contents leaves is_clean saves fails options.form options.reading.region
+        let t = told_turns opens closes remaining contents leaves is_clean saves fails options.form
+        options.reading.region
         options.reading.size options.reading.strict z x' went still f.none turns onward in
         let taken = f.taken in record {
           front = f.text;
@@ -325,8 +351,10 @@ module _ {C I O K : Type 0} (opens : C → Option (I × O) → C → Type 0) (cl
           appended = appends_then x.sends.held z.sends.held x'.sends.held f.text t.lines f.appended t.appended;
           counted = inl (let a = t.counted in omega (arith, a, taken));
           applied = λ all_so. (
-            made_applied options.form options.reading.size options.station.now by x.sends y.sends x.applied y.applied goes
-                made.0 (settled_applied options.form y.sends z.sends y.applied z.applied y.unknown z.unknown goes settles.0
+            made_applied options.form options.reading.size options.station.now by x.sends y.sends x.applied y.applied
+            goes
+                made.0 (settled_applied options.form y.sends z.sends y.applied z.applied y.unknown z.unknown goes
+                settles.0
                 (t.applied all_so).0),
             (t.applied all_so).1,
           );
@@ -342,7 +370,8 @@ module _ {C I O K : Type 0} (opens : C → Option (I × O) → C → Type 0) (cl
         → x'.unknown ≡ 0
     spoke_unknown by x x' went idle none (inl (y, made, inl (z, settles, turns))) on =
         let f = front by x y z idle none made settles in
-        let still = settles_idle opens closes remaining contents leaves is_clean saves fails options.form y.sends z.sends y.applied
+        let still = settles_idle opens closes remaining contents leaves is_clean saves fails options.form y.sends
+        z.sends y.applied
         z.applied y.unknown z.unknown goes settles.0 refl in
         turns_unknown opens closes remaining contents leaves is_clean saves fails options.form options.reading.region
         options.reading.size options.reading.strict z x' went still f.none turns on

@@ -167,7 +167,6 @@ module _ {C I O K : Type 0} (opens : C → Option (I × O) → C → Type 0) (cl
 module _ {C I O K : Type 0} (opens : C → Option (I × O) → C → Type 0) (closes : C → I → O → C → Type 0)
     (remaining : I → Option (List ℕ)) (contents : O → Option (List ℕ)) (leaves : K → KeptServer → Type 0)
     (is_clean : K → Type 0) (saves fails : K → KeptServer → K → Type 0) where
-
   -- The encoder was joined and the station made, where the encoder is to be joined.
   abbrev pub MakesOnce : LiveOptions → (due : Bool) → (x x' : Live (SenderOver C I O) K) → Went → Type 0
   MakesOnce options due x x' went =
@@ -229,7 +228,8 @@ module _ {C I O K : Type 0} (opens : C → Option (I × O) → C → Type 0) (cl
       (y : Standing ServerState K) × (y.runs ≡ idle_at address)
       × ((Renews leaves is_clean saves fails options.form x.unknown x.sends y (Ok tt)
       × RunsOne options true c c' (from_anew x y) x' went)
-      ⊎ ((stop : KeptStop) × Renews leaves is_clean saves fails options.form x.unknown x.sends y (Err stop) × (went ≡ Err stop)
+      ⊎ ((stop : KeptStop) × Renews leaves is_clean saves fails options.form x.unknown x.sends y (Err stop) × (went ≡
+      Err stop)
       × (c' ≡ c)
       × (x' ≡ from_anew x y)))
 

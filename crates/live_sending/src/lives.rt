@@ -211,11 +211,19 @@ fn run_again<K: KeepServer, F: Feed, W: Write, E: Write, C: Connect, T: Clock>(
     let count = *unknown;
     *applied = false;
     *unknown = 0;
-    match renew(alloc, options.form, count, &server, keeper, progress, writer) {
+    match renew(
+        alloc,
+        options.form,
+        count,
+        &server,
+        keeper,
+        progress,
+        writer,
+    ) {
         Err(stop) => Err(stop),
         Ok(()) => run_one(
-            alloc, true, options, server, keeper, progress, feed, writer, errors, connect, clock, tally,
-            applied, unknown,
+            alloc, true, options, server, keeper, progress, feed, writer, errors, connect, clock,
+            tally, applied, unknown,
         ),
     }
 }

@@ -158,7 +158,15 @@ fn live<K: KeepServer, F: Feed, W: Write, E: Write, C: Connect, T: Clock>(
     let mut server = server;
     let mut progress = progress;
     let due = is_due(options.join, progress);
-    match begin(alloc, options.form, due, &mut server, &mut progress, keeper, writer) {
+    match begin(
+        alloc,
+        options.form,
+        due,
+        &mut server,
+        &mut progress,
+        keeper,
+        writer,
+    ) {
         Err(stop) => Err(stop),
         Ok(()) => run_all(
             alloc,
@@ -248,11 +256,30 @@ pub(crate) fn run_sender<K: KeepServer, F: Feed, W: Write, E: Write, C: Connect,
         applied,
     )?;
     settle_first(
-        alloc, options.form, clock, sender, keeper, *progress, writer, applied, unknown,
+        alloc,
+        options.form,
+        clock,
+        sender,
+        keeper,
+        *progress,
+        writer,
+        applied,
+        unknown,
     )?;
     run_turns(
-        alloc, options.form, reading, sender, keeper, progress, feed, writer, errors, clock, tally,
-        applied, unknown,
+        alloc,
+        options.form,
+        reading,
+        sender,
+        keeper,
+        progress,
+        feed,
+        writer,
+        errors,
+        clock,
+        tally,
+        applied,
+        unknown,
     )
 }
 

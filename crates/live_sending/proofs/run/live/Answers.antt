@@ -13,7 +13,8 @@ returns-in-Err g c =
       lives = inr (
         record { runs = now.server; keeper = now.keeper; progress = now.progress; held = held now.writer },
         c.in-Err.stop,
-        subst (λ due. Then (TellsTaken c.args.options.now.form) (BeginsAnewIf k.leaves k.is_clean k.saves k.fails c.args.options.now.form due) (record {
+        subst (λ due. Then (TellsTaken c.args.options.now.form) (BeginsAnewIf k.leaves k.is_clean k.saves k.fails
+        c.args.options.now.form due) (record {
           runs = c.args.server;
           keeper = c.args.keeper.now;
           progress = c.args.progress;
@@ -56,7 +57,8 @@ returns-in-Ok g c =
           applied = ran.new.applied;
           unknown = unknown;
         },
-        subst (λ due. Then (TellsTaken c.args.options.now.form) (BeginsAnewIf k.leaves k.is_clean k.saves k.fails c.args.options.now.form due) (record {
+        subst (λ due. Then (TellsTaken c.args.options.now.form) (BeginsAnewIf k.leaves k.is_clean k.saves k.fails
+        c.args.options.now.form due) (record {
           runs = c.args.server;
           keeper = c.args.keeper.now;
           progress = c.args.progress;
