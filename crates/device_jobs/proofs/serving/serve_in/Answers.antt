@@ -1,10 +1,27 @@
 use Rattle.std.proofs.Common.{inl}
+use Rattle.kept_jobs.specs.Stops.{Went}
+use Rattle.device_serving.specs.DeviceRun.{RunsDevice}
 use Rattle.device_jobs.proofs.Ending.{ends}
 use Rattle.device_jobs.proofs.serving.serve_in.Goals as goal
 
 pub returns-in-Ok : goal.returns-in-Ok
 returns-in-Ok g c =
     let run = c.run_device-status in
+    let k = g.S.EncoderKeeper.KeepEncoder in
+    let ended = ends (λ (went : Went). RunsDevice k.leaves k.is_clean k.saves k.fails g.C.Connect.opens
+        g.C.Connect.closes g.C.Input.Read.remaining g.C.Output.Write.contents c.args.limits.turns
+        c.args.limits.connections c.args.limits.store (record {
+          encoder = c.in-Ok.encoder;
+          keeper = c.in-Ok.keeper;
+          connect = c.args.connect.now;
+          log = c.args.log.now;
+        }) (record {
+          encoder = run.new.encoder;
+          keeper = run.new.keeper;
+          connect = run.new.connect;
+          log = run.new.log;
+        }) went) g.E.Write.contents c.args.errors.now run.new.errors run.result run.ensures.status run.ensures.done
+        run.ensures.failed in
     inl (record {
       encoder = c.in-Ok.encoder;
       keeper = c.in-Ok.keeper;
@@ -18,8 +35,7 @@ returns-in-Ok g c =
         described = c.in-Ok.ensures.described;
         settled = c.in-Ok.ensures.settled;
       };
-      runs = ends _ g.E.Write.contents c.args.errors.now run.new.errors run.result run.ensures.status
-          run.ensures.done run.ensures.failed;
+      runs = ended;
       settled = λ zero clean. run.ensures.settled zero (c.in-Ok.ensures.settled (run.ensures.clean clean)) clean;
       outlives = λ clean. run.ensures.outlives (c.in-Ok.ensures.settled (run.ensures.clean clean)) clean;
       clean = run.ensures.clean;

@@ -1,6 +1,7 @@
 use Rattle.std.proofs.Common.{◌≡◌, subst}
 use Rattle.rds_store.specs.Value.{Store}
 use Rattle.uecp_encoder.specs.State.{EncoderState}
+use Rattle.kept_jobs.specs.Stops.{Went}
 use Rattle.device_serving.specs.DeviceRun.{RunsDevice}
 use Rattle.device_jobs.specs.Serving.{EndsDevice}
 use Rattle.device_jobs.proofs.Ending.{ends}
@@ -8,7 +9,21 @@ use Rattle.device_jobs.proofs.serving.serve_unkept.Goals as goal
 
 pub returns : goal.returns
 returns g c =
-    let run = c.run_device in (
+    let run = c.run_device in
+    let ended = ends (λ (went : Went). RunsDevice (λ k left. Unit {0}) (λ k. ⊥) (λ k left k'. k' ≡ k) (λ k left k'. ⊥)
+        g.C.Connect.opens g.C.Connect.closes g.C.Input.Read.remaining g.C.Output.Write.contents c.args.limits.turns
+        c.args.limits.connections c.args.limits.store (record {
+          encoder = c.args.encoder.now;
+          keeper = _;
+          connect = c.args.connect.now;
+          log = c.args.log.now;
+        }) (record {
+          encoder = run.new.encoder;
+          keeper = run.new.keeper;
+          connect = run.new.connect;
+          log = run.new.log;
+        }) went) g.E.Write.contents c.args.errors.now run.new.errors run.result run.ensures.status run.ensures.done
+        run.ensures.failed in (
       _,
       run.new.keeper,
       run.new.encoder,
@@ -22,6 +37,5 @@ returns g c =
             connect = run.new.connect;
             log = run.new.log;
           }) (g.E.Write.contents c.args.errors.now) (g.E.Write.contents run.new.errors) run.result) c.requires
-          (ends _ g.E.Write.contents c.args.errors.now run.new.errors run.result run.ensures.status
-          run.ensures.done run.ensures.failed),
+          ended,
     )
