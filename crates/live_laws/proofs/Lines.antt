@@ -78,3 +78,31 @@ pub end_pauses : (region : Region) (strict : Bool) (lines : List (List ℕ × Gi
     → ComesToEnd region strict lines y z → Pauses region y z
 end_pauses region strict lines y z (inl ends) = inr (inl ends)
 end_pauses region strict lines y z (inr (is_strict, refused, same)) = inl same
+
+-- where the taking of lines stands behind these lines, by what comes after their batch
+abbrev pub Stands : Region → (strict : Bool) → List (List ℕ × Given) → (y z : Intake) → After → Type 0
+Stands region strict lines y z GoesOn = z ≡ y
+Stands region strict lines y z (Ends (Ok done)) = ComesToEnd region strict lines y z
+Stands region strict lines y z (Ends (Err fault)) = FailsToTake y z fault ⊎ LosesMessage region y z fault
+
+pub stands_after : (region : Region) (strict : Bool) (taken : List (List ℕ × Given)) (y z : Intake) (after : After)
+    → IsAfter region strict taken y z after
+    ⊎ ((fault : RunFault) × (after ≡ Ends (Err fault)) × (FailsToTake y z fault ⊎ LosesMessage region y z fault))
+    → Stands region strict taken y z after
+stands_after region strict taken y z GoesOn next = goes_on_after region strict taken y z next
+stands_after region strict taken y z (Ends (Ok done)) next = comes_to_end region strict taken y z done next
+stands_after region strict taken y z (Ends (Err fault)) (inl never) = absurd never
+stands_after region strict taken y z (Ends (Err fault)) (inr (other, is, why)) =
+    subst (λ f. FailsToTake y z f ⊎ LosesMessage region y z f) (sym (same_fault fault other is)) why
+
+pub stands_on : (region : Region) (strict : Bool) (a b : List (List ℕ × Given)) (y z : Intake) (after : After)
+    → Stands region strict b y z after → Stands region strict (a ++ b) y z after
+stands_on region strict a b y z GoesOn so = so
+stands_on region strict a b y z (Ends (Ok done)) so = ends_on region strict a b y z so
+stands_on region strict a b y z (Ends (Err fault)) so = so
+
+pub stands_pausing : (region : Region) (strict : Bool) (lines : List (List ℕ × Given)) (y z : Intake) (after : After)
+    → Stands region strict lines y z after → Pauses region y z
+stands_pausing region strict lines y z GoesOn so = inl so
+stands_pausing region strict lines y z (Ends (Ok done)) so = end_pauses region strict lines y z so
+stands_pausing region strict lines y z (Ends (Err fault)) so = inr (inr (fault, so))

@@ -1,5 +1,5 @@
 -- What a crash leaves of turns, and which lines they take.
-use Rattle.std.proofs.Common.{◌≡◌, ◌⊎◌, ℕ, zero, suc, Bool, List, [], ◌++◌, length, Option, Ok, Err, refl}
+use Rattle.std.proofs.Common.{arith, ◌≤◌, ◌≡◌, ◌⊎◌, ℕ, zero, suc, Bool, List, [], ◌++◌, length, Option, Ok, Err, refl}
 use Rattle.std.proofs.Common.{sym, ap, subst, ◌∙◌, inl, inr}
 use Rattle.std.specs.Prelude.{Result}
 use Rattle.rds_text.specs.declared.programme_type.Region.{Region}
@@ -21,7 +21,8 @@ use Rattle.output_forms.specs.declared.form.Form.{Form}
 use Rattle.live_sending.specs.Run.{Live, Turn, GoesOnFor, RunsTurns, ended_as}
 use Rattle.live_laws.specs.Taken.{Pauses, ComesToEnd}
 use Rattle.live_laws.proofs.Lines.{same_fault, messages_count, lines_on, pauses_after, goes_on_after, ends_on}
-use Rattle.live_laws.proofs.Lines.{comes_to_end}
+use Rattle.live_laws.proofs.Lines.{comes_to_end, Stands, stands_after, stands_on}
+use Rattle.live_laws.proofs.Unknown.{turn_unknown, going_unknown}
 use Rattle.live_laws.proofs.Statuses.{taking_status}
 use Rattle.live_laws.proofs.Calls.{Called, called_none, called_on, called_stops, sends_some}
 
@@ -75,7 +76,7 @@ module _ {C I O K : Type 0} (opens : C → Option (I × O) → C → Type 0) (cl
           x' stop three one.called;
     }
 
-    turn_part : (x x' : LiveAt) (after : After) (went : Went)
+    pub turn_part : (x x' : LiveAt) (after : After) (went : Went)
         → Turn opens closes remaining contents leaves is_clean saves fails form region size strict x x' after went
         → (lines : List (List ℕ × Given)) × (mid : Intake) × Part lines x mid x'.sends went
         × Next lines mid x'.takes after
@@ -111,19 +112,21 @@ module _ {C I O K : Type 0} (opens : C → Option (I × O) → C → Type 0) (cl
       pub part : Part lines x mid x'.sends went
       pub pauses : Pauses region mid x'.takes
       pub done : goes ≡ went → ComesToEnd region strict lines mid x'.takes
+      pub behind : x.unknown ≡ 0 → 1 ≤ x'.unknown → Stands region strict lines mid x'.takes x'.behind
 
     turns_end : (a b : List (List ℕ × Given)) (x y x' : LiveAt) (mid : Intake) (end : Result (Unit {0}) RunFault)
         (went : Went) → Part a x y.takes y.sends goes → Part b y mid x'.sends goes → Next b mid x'.takes (Ends end)
-        → went ≡ ended_as end → Turned x x' went
-    turns_end a b x y x' mid (Ok done) went one part next is = record {
+        → went ≡ ended_as end → (x.unknown ≡ 0 → x'.unknown ≡ 0) → Turned x x' went
+    turns_end a b x y x' mid (Ok done) went one part next is unknown = record {
       lines = a ++ b;
       mid = mid;
       part = subst (λ w. Part (a ++ b) x mid x'.sends w) (sym is) (part_on a b x y mid x'.sends goes one part);
       pauses = pauses_after region strict b mid x'.takes (Ends (Ok done)) next;
       done = λ on. ends_on region strict a b mid x'.takes (comes_to_end region strict b mid x'.takes done next);
+      behind = λ none some. absurd (let zero_is = unknown none in omega (arith, zero_is, some));
     }
-    turns_end a b x y x' mid (Err fault) went one part (inl never) is = absurd never
-    turns_end a b x y x' mid (Err fault) went one part (inr (other, same, why)) is =
+    turns_end a b x y x' mid (Err fault) went one part (inl never) is unknown = absurd never
+    turns_end a b x y x' mid (Err fault) went one part (inr (other, same, why)) is unknown =
         let fault_is : other ≡ fault = sym (same_fault fault other same) in
         let three : stop_status (Run fault) ≡ 3 = subst (λ f. stop_status (Run f) ≡ 3) fault_is
         (taking_status region mid x'.takes other why) in
@@ -134,6 +137,7 @@ module _ {C I O K : Type 0} (opens : C → Option (I × O) → C → Type 0) (cl
               (part_stops (a ++ b) x mid x'.sends (Run fault) three (part_on a b x y mid x'.sends goes one part));
           pauses = inr (inr (other, why));
           done = λ on. absurd (goes_not_stopped (Run fault) (on ∙ is));
+          behind = λ none some. absurd (let zero_is = unknown none in omega (arith, zero_is, some));
         }
 
     pub turned : (x x' : LiveAt) (went : Went)
@@ -143,6 +147,9 @@ module _ {C I O K : Type 0} (opens : C → Option (I × O) → C → Type 0) (cl
         let (a, one) = goes_on_part n x y before in
         let (b, mid, part, next) = turn_part y x' (Ends end) goes turn in
         turns_end a b x y x' mid end went one part next is
+        (λ none. turn_unknown opens closes remaining contents leaves is_clean saves fails form region size strict y x'
+        (Ends end) (going_unknown opens closes remaining contents leaves is_clean saves fails form region size strict n x
+        y none before) turn)
     turned x x' went (n, y, before, inl (inr (after, stop, turn, is))) =
         let (a, one) = goes_on_part n x y before in
         let (b, mid, part, next) = turn_part y x' after (stopped stop) turn in
@@ -153,6 +160,8 @@ module _ {C I O K : Type 0} (opens : C → Option (I × O) → C → Type 0) (cl
               (part_on a b x y mid x'.sends (stopped stop) one part);
           pauses = pauses_after region strict b mid x'.takes after next;
           done = λ on. absurd (goes_not_stopped stop (on ∙ is));
+          behind = λ none some. subst (λ d. Stands region strict (a ++ b) mid x'.takes d) (sym turn.behind)
+              (stands_on region strict a b mid x'.takes after (stands_after region strict b mid x'.takes after next));
         }
     turned x x' went (n, y, before, inr (all, same, is)) =
         let (a, one) = goes_on_part n x y before in
@@ -164,4 +173,8 @@ module _ {C I O K : Type 0} (opens : C → Option (I × O) → C → Type 0) (cl
               (part_stops a x y.takes y.sends (Run run.Reading) refl one));
           pauses = inl (ap (λ (z : LiveAt). z.takes) same);
           done = λ on. absurd (goes_not_stopped (Run run.Reading) (on ∙ is));
+          behind = λ none some.
+              absurd (let zero_is : x'.unknown ≡ 0 = ap (λ (z : LiveAt). z.unknown) same
+              ∙ going_unknown opens closes remaining contents leaves is_clean saves fails form region size strict n x y
+              none before in omega (arith, zero_is, some));
         }

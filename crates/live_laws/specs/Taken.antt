@@ -1,5 +1,5 @@
 -- Which lines a whole run took from its input (profile).
-use Rattle.std.specs.Prelude.{◌≡◌, ◌⊎◌, ℕ, zero, suc, Bool, true, false, List, ◌++◌, Option, None}
+use Rattle.std.specs.Prelude.{◌≡◌, ◌⊎◌, ℕ, Bool, true, List, Option, None}
 use Rattle.rds_text.specs.declared.programme_type.Region.{Region}
 use Rattle.uecp_text.specs.declared.run_fault.RunFault.{RunFault}
 use Rattle.line_batches.specs.declared.intake.Given.{Given}
@@ -14,13 +14,6 @@ Pauses region x x' =
     (x' ≡ x) ⊎ TakesOne region x x' None
     ⊎ ((fault : RunFault) × (FailsToTake x x' fault ⊎ LosesMessage region x x' fault))
 
--- These lines were taken, one after another, and nothing else was, but for so many stops in between.
-abbrev pub TakesFor : Region → (stops : ℕ) → List (List ℕ × Given) → (x x' : Intake) → Type 0
-TakesFor region zero lines x x' = TakesLines region lines x x'
-TakesFor region (suc n) lines x x' =
-    (before : List (List ℕ × Given)) × (more : List (List ℕ × Given)) × (y : Intake) × (z : Intake)
-    × TakesFor region n before x y × Pauses region y z × TakesLines region more z x' × (lines ≡ before ++ more)
-
 -- The input is at its end; or the last of these lines was refused, where that ends the run.
 abbrev pub ComesToEnd : Region → (strict : Bool) → List (List ℕ × Given) → (x x' : Intake) → Type 0
 ComesToEnd region strict lines x x' =
@@ -30,25 +23,20 @@ ComesToEnd region strict lines x x' =
 abbrev pub at_start : (unread said : Option (List ℕ)) → Intake
 at_start unread said = record { unread = unread; lines = 0; refused = false; said = said }
 
--- A run took these lines of its input. It stopped in between only where messages were outstanding and their encoder was
--- taken for a new one.
+-- A run took these lines of its input, one after another, and nothing else, and then it took no more.
 pub record TakesSome (options : LiveOptions) (unread unread' said : Option (List ℕ)) (lines : List (List ℕ × Given))
     : Type 0 where
-  pub stops : ℕ
   pub last : Intake
   pub end : Intake
-  pub taken : TakesFor options.reading.region stops lines (at_start unread said) last
-  pub once : options.rejoin ≡ false → stops ≡ 0
+  pub taken : TakesLines options.reading.region lines (at_start unread said) last
   pub pauses : Pauses options.reading.region last end
   pub is_unread : unread' ≡ end.unread
 
 -- A run took these lines, and with them it came to the end of its input, or with `strict` to a line that was refused.
 pub record TakesAll (options : LiveOptions) (unread unread' said : Option (List ℕ)) (lines : List (List ℕ × Given))
     : Type 0 where
-  pub stops : ℕ
   pub last : Intake
   pub end : Intake
-  pub taken : TakesFor options.reading.region stops lines (at_start unread said) last
-  pub once : options.rejoin ≡ false → stops ≡ 0
+  pub taken : TakesLines options.reading.region lines (at_start unread said) last
   pub ends : ComesToEnd options.reading.region options.reading.strict lines last end
   pub is_unread : unread' ≡ end.unread

@@ -85,8 +85,8 @@ module _ (options : LiveOptions) (before : Progress) (s : ServerState) where
       × (text ≡ waited ++ station_in options.form options.station.now told)
 
   -- What was told by a run behind its first line: first that; and then of each message of its lines one line, in order
-  -- and under its number, with so many times something else in between.
-  abbrev pub TellsFor : (stops : ℕ) → (answers : List (Option Code)) → (text : List ℕ) → Type 0
+  -- and under its number, with so many times in between what is told where the encoder is taken for a new one.
+  abbrev pub TellsFor : (again : ℕ) → (answers : List (Option Code)) → (text : List ℕ) → Type 0
   TellsFor zero answers text =
       (begin : List ℕ) × (rest : List ℕ) × IsToldFirst (is_due options.join before) begin
       × AreAnswers options.form (before.taken + 1) answers rest × (text ≡ begin ++ rest)
@@ -96,8 +96,8 @@ module _ (options : LiveOptions) (before : Progress) (s : ServerState) where
       × AreAnswers options.form (before.taken + 1 + length earlier) more rest × (text ≡ told ++ (between ++ rest))
 
   -- What was told by a whole run: how far the server had come, how many messages are given up, and then that.
-  abbrev pub TellsAll : (stops : ℕ) → (answers : List (Option Code)) → (text : List ℕ) → Type 0
-  TellsAll stops answers text =
-      (told : List ℕ) × TellsFor stops answers told
+  abbrev pub TellsAll : (again : ℕ) → (answers : List (Option Code)) → (text : List ℕ) → Type 0
+  TellsAll again answers text =
+      (told : List ℕ) × TellsFor again answers told
       × (text ≡ (taken_in options.form before.taken (length (waiting s))
       ++ anew_lines options.form (is_due options.join before) s) ++ told)
