@@ -69,7 +69,7 @@ module _ {C I O K : Type 0} (opens : C → Option (I × O) → C → Type 0) (cl
   made_taken form size station x x' applied applied' (told, joined, one, tells, apply) = by joined one
     where
       by : (joined : Joined)
-          → MakesOne opens closes remaining contents leaves is_clean saves fails size station told joined x x'
+          → MakesOne opens closes remaining contents leaves is_clean saves fails form size station told joined x x'
           → x'.progress.taken ≡ x.progress.taken
       by (Ok done) one = ap (λ (p : Progress). p.taken) one.progress
       by (Err (kept.Outstanding reason)) one = ap (λ (p : Progress). p.taken) one.progress
@@ -226,7 +226,7 @@ module _ {C I O K : Type 0} (opens : C → Option (I × O) → C → Type 0) (cl
 
     front : (by : Bool) (x y z : LiveAt) → (by ≡ true → IsIdle x.sends) → x.unknown ≡ 0
         → MakesOnce opens closes remaining contents leaves is_clean saves fails options by x y goes
-        → SettlesOnce opens closes remaining contents leaves is_clean saves fails y z goes → Front by x z
+        → SettlesOnce opens closes remaining contents leaves is_clean saves fails options y z goes → Front by x z
     front false x y z idle none ((same, apply, is), takes, unknown, keeps) (settles, takes_on, stays) =
         let s = settled_told options.form x.sends z.sends y.applied z.applied y.unknown z.unknown (unknown ∙ none)
         (subst (λ (v : At). SettlesLive opens closes remaining contents leaves is_clean saves fails options.form v z.sends y.applied
@@ -268,7 +268,7 @@ module _ {C I O K : Type 0} (opens : C → Option (I × O) → C → Type 0) (cl
 
     stopped_settling : (by : Bool) (x y x' : LiveAt) (stop : KeptStop) → (by ≡ true → IsIdle x.sends) → 1 ≤ x'.unknown
         → MakesOnce opens closes remaining contents leaves is_clean saves fails options by x y goes
-        → SettlesOnce opens closes remaining contents leaves is_clean saves fails y x' (stopped stop)
+        → SettlesOnce opens closes remaining contents leaves is_clean saves fails options y x' (stopped stop)
         → Spoke by x.sends x'.sends x.applied x'.applied x'.unknown
     stopped_settling false x y x' stop idle many ((same, apply, is), takes, unknown, keeps) (settles, takes_on, stays) =
         let u = unsettled options.form x.sends x'.sends y.applied x'.applied y.unknown x'.unknown stop many

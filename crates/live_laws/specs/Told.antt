@@ -46,7 +46,7 @@ AreAnswers form first (answer ∷ answers) text =
 
 -- whether a message was told to be applied
 abbrev pub was_applied : Option Code → Bool
-was_applied (Some code) = is_applied code
+was_applied (Some code) = lines.is_applied code
 was_applied None = false
 
 -- whether one of these lines was refused
