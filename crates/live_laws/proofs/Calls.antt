@@ -146,7 +146,8 @@ module _ {C I O K : Type 0} (opens : C → Option (I × O) → C → Type 0) (cl
       by (inr is) = ap (λ (k : KeptServer). k.taken) is
 
   pub settles_call : (form : Form) (x x' : At) (applied applied' : Bool) (unknown unknown' : ℕ) (went : Went)
-      → SettlesLive opens closes remaining contents leaves is_clean saves fails form x x' applied applied' unknown unknown'
+      → SettlesLive opens closes remaining contents leaves is_clean saves fails form x x' applied applied' unknown
+      unknown'
       went → Called 0 x x' went
   settles_call form x x' applied applied' unknown unknown' went (inl (idle, same, apply, are, is)) =
       subst (λ y. Called 0 x y went) (sym same) (called_none x went is)
@@ -171,7 +172,8 @@ module _ {C I O K : Type 0} (opens : C → Option (I × O) → C → Type 0) (cl
 
   -- none waits any longer
   pub settles_idle : (form : Form) (x x' : At) (applied applied' : Bool) (unknown unknown' : ℕ) (went : Went)
-      → SettlesLive opens closes remaining contents leaves is_clean saves fails form x x' applied applied' unknown unknown'
+      → SettlesLive opens closes remaining contents leaves is_clean saves fails form x x' applied applied' unknown
+      unknown'
       went → goes ≡ went → x'.runs.sender.server.held ≡ []
   settles_idle form x x' applied applied' unknown unknown' went (inl (idle, same, apply, are, is)) on =
       subst (λ (y : At). y.runs.sender.server.held ≡ []) (sym same) idle
@@ -233,7 +235,8 @@ module _ {C I O K : Type 0} (opens : C → Option (I × O) → C → Type 0) (cl
       by (inr (inr is)) = (length batch, ap (λ (k : KeptServer). k.taken) is ∙ counted, omega arith)
 
   sends_call : (form : Form) (batch : List (List ℕ)) (x x' : At) (applied applied' : Bool) (unknown' : ℕ) (went : Went)
-      → SendsBatch opens closes remaining contents leaves is_clean saves fails form batch x x' applied applied' unknown' went
+      → SendsBatch opens closes remaining contents leaves is_clean saves fails form batch x x' applied applied' unknown'
+      went
       → Called (length batch) x x' went
   sends_call form batch x x' applied applied' unknown' went (ended, one, tells, apply, are) =
       let settled_so : goes ≡ went → IsSettled ended =
@@ -252,7 +255,8 @@ module _ {C I O K : Type 0} (opens : C → Option (I × O) → C → Type 0) (cl
         status = answers_stop _ x'.runs.sender.server.counts ended x.held x'.held went tells;
       }
 
-  pub sends_some : (form : Form) (batch : List (List ℕ)) (x x' : At) (applied applied' : Bool) (unknown unknown' : ℕ) (went : Went)
+  pub sends_some : (form : Form) (batch : List (List ℕ)) (x x' : At) (applied applied' : Bool) (unknown unknown' : ℕ)
+      (went : Went)
       → SendsSome opens closes remaining contents leaves is_clean saves fails form batch x x' applied applied' unknown
       unknown' went → Called (length batch) x x' went
   sends_some form batch x x' applied applied' unknown unknown' went (inl (none, same, apply, are, is)) =

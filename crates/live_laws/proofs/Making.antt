@@ -115,7 +115,8 @@ module _ {C I O K : Type 0} (opens : C → Option (I × O) → C → Type 0) (cl
       by left (inr (is, has)) = inr (subst (λ l. First true x l) (sym is) (made_first told joined x x' one has))
 
   pub making_if : (due : Bool) (x x' : At) (applied applied' : Bool) (went : Went)
-      → MakesIf opens closes remaining contents leaves is_clean saves fails form size station due x x' applied applied' went
+      → MakesIf opens closes remaining contents leaves is_clean saves fails form size station due x x' applied applied'
+      went
       → Making due x x' went
   making_if false x x' applied applied' went (same, apply, is) =
       let all : kept_at x' ≡ kept_at x = ap (λ (s : At). kept_of s.progress s.runs.sender.server) same in

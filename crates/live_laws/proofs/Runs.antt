@@ -70,7 +70,8 @@ module _ {C I O K : Type 0} (opens : C → Option (I × O) → C → Type 0) (cl
 
   -- ---- The beginning.
 
-  anew_status : (form : Form) (x y : Was) (stop : KeptStop) → BeginsAnew leaves is_clean saves fails form x y (stopped stop)
+  anew_status : (form : Form) (x y : Was) (stop : KeptStop) → BeginsAnew leaves is_clean saves fails form x y (stopped
+      stop)
       → stop_status stop ≡ 3
   anew_status form x y stop anew_so = by anew_so.saved
     where
@@ -83,7 +84,8 @@ module _ {C I O K : Type 0} (opens : C → Option (I × O) → C → Type 0) (cl
       by (inr (failed, same, is)) = same_status stop StateFailed refl is
 
   begin_status : (form : Form) (due : Bool) (x y : Was) (stop : KeptStop)
-      → Then (TellsTaken form) (BeginsAnewIf leaves is_clean saves fails form due) x y (stopped stop) → stop_status stop ≡ 3
+      → Then (TellsTaken form) (BeginsAnewIf leaves is_clean saves fails form due) x y (stopped stop) → stop_status stop
+      ≡ 3
   begin_status form false x y stop (inl (w, told, (same, is))) = not_so stop is
   begin_status form true x y stop (inl (w, told, anew_so)) = anew_status form w y stop anew_so
   begin_status form due x y stop (inr (why, (same, tells), is)) =
@@ -347,13 +349,15 @@ module _ {C I O K : Type 0} (opens : C → Option (I × O) → C → Type 0) (cl
     renew_status unknown x y stop renews = by renews.saved
       where
         by : (saves x.keeper (kept_of y.progress y.runs) y.keeper
-            × TellsKept (unknown_in options.form (x.progress.taken + 1 - unknown) unknown) (Ok tt) x.held y.held (stopped stop))
+            × TellsKept (unknown_in options.form (x.progress.taken + 1 - unknown) unknown) (Ok tt) x.held y.held
+            (stopped stop))
             ⊎ (fails x.keeper (kept_of y.progress y.runs) y.keeper × (y.held ≡ x.held)
             × (stopped stop ≡ stopped StateFailed)) → stop_status stop ≡ 3
         by (inl (saved, tells)) = telling_status _ x.held y.held stop tells
         by (inr (failed, same, is)) = same_status stop StateFailed refl is
 
-    renewed : (unknown : ℕ) (x y : Was) → Renews leaves is_clean saves fails options.form unknown x y goes → is_clean y.keeper
+    renewed : (unknown : ℕ) (x y : Was) → Renews leaves is_clean saves fails options.form unknown x y goes → is_clean
+        y.keeper
         → IsKeptOf y
     renewed unknown x y renews clean = by (renews.settled clean)
       where
@@ -480,7 +484,8 @@ module _ {C I O K : Type 0} (opens : C → Option (I × O) → C → Type 0) (cl
           outlives = λ settled clean left leaves_it.
               by now left settled (renews.clean clean) (renews.outlives clean left leaves_it);
           status = λ other stops. renew_status y.unknown y.sends w other
-              (subst (λ v. Renews leaves is_clean saves fails options.form y.unknown y.sends w v) (sym is ∙ stops) renews);
+              (subst (λ v. Renews leaves is_clean saves fails options.form y.unknown y.sends w v) (sym is ∙ stops)
+              renews);
         })
       where
         by : w.progress.taken ≡ x0.progress.taken + length (messages_in before.lines) → (left : KeptServer)
@@ -564,7 +569,8 @@ module _ {C I O K : Type 0} (opens : C → Option (I × O) → C → Type 0) (cl
         has_taken = λ on. absurd (goes_not_stopped stop (on ∙ is));
         outlives = λ settled clean left leaves_it. by left (begun.outlives settled clean left leaves_it);
         status = λ other stops. begin_status options.form due x.sends y other
-            (subst (λ v. Then (TellsTaken options.form) (BeginsAnewIf leaves is_clean saves fails options.form due) x.sends y v) (sym is ∙ stops)
+            (subst (λ v. Then (TellsTaken options.form) (BeginsAnewIf leaves is_clean saves fails options.form due)
+            x.sends y v) (sym is ∙ stops)
             begins);
       })
     where

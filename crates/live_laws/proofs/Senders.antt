@@ -42,10 +42,12 @@ module _ {C I O K : Type 0} (opens : C → Option (I × O) → C → Type 0) (cl
   kept_at x = kept_of x.progress x.runs.sender.server
 
   abbrev FirstOf : (due : Bool) → At → KeptServer → Type 0
-  FirstOf = First opens closes remaining contents leaves is_clean saves fails options.form options.reading.size options.station.now
+  FirstOf = First opens closes remaining contents leaves is_clean saves fails options.form options.reading.size
+      options.station.now
 
   abbrev IsMaking : (due : Bool) → (x x' : At) → Went → Type 0
-  IsMaking = Making opens closes remaining contents leaves is_clean saves fails options.form options.reading.size options.station.now
+  IsMaking = Making opens closes remaining contents leaves is_clean saves fails options.form options.reading.size
+      options.station.now
 
   abbrev IsCalled : (taken : ℕ) → (x x' : At) → Went → Type 0
   IsCalled = Called opens closes remaining contents leaves is_clean saves fails

@@ -52,7 +52,8 @@ module _ {C I O K : Type 0} (opens : C → Option (I × O) → C → Type 0) (cl
   MadeText form station x x' = (told : List Code) × Appends x.held x'.held (station_in form station told)
 
   made_told : (form : Form) (size : ℕ) (station : List (List ℕ)) (x x' : At) (applied applied' : Bool)
-      → MakesIf opens closes remaining contents leaves is_clean saves fails form size station true x x' applied applied' goes
+      → MakesIf opens closes remaining contents leaves is_clean saves fails form size station true x x' applied applied'
+      goes
       → MadeText form station x x'
   made_told form size station x x' applied applied' (told, joined, one, tells, apply) = by joined tells
     where
@@ -64,7 +65,8 @@ module _ {C I O K : Type 0} (opens : C → Option (I × O) → C → Type 0) (cl
       by (Err kept.StateFailed) (same, is) = absurd (goes_not_stopped StateFailed is)
 
   made_taken : (form : Form) (size : ℕ) (station : List (List ℕ)) (x x' : At) (applied applied' : Bool)
-      → MakesIf opens closes remaining contents leaves is_clean saves fails form size station true x x' applied applied' goes
+      → MakesIf opens closes remaining contents leaves is_clean saves fails form size station true x x' applied applied'
+      goes
       → x'.progress.taken ≡ x.progress.taken
   made_taken form size station x x' applied applied' (told, joined, one, tells, apply) = by joined one
     where
@@ -92,7 +94,8 @@ module _ {C I O K : Type 0} (opens : C → Option (I × O) → C → Type 0) (cl
     pub none : unknown' ≡ 0
 
   settled_told : (form : Form) (x x' : At) (applied applied' : Bool) (unknown unknown' : ℕ) → unknown ≡ 0
-      → SettlesLive opens closes remaining contents leaves is_clean saves fails form x x' applied applied' unknown unknown'
+      → SettlesLive opens closes remaining contents leaves is_clean saves fails form x x' applied applied' unknown
+      unknown'
       goes → Settled form x x' unknown'
   settled_told form x x' applied applied' unknown unknown' zero_is (inl (idle, same, apply, are, is)) =
       subst (λ y. Settled form x y unknown') (sym same) (record {
@@ -107,7 +110,8 @@ module _ {C I O K : Type 0} (opens : C → Option (I × O) → C → Type 0) (cl
     where
       by : (ended : Ended) → x'.progress.taken ≡ x.progress.taken
           → AnswersTold (AreHeld form (x'.progress.taken + 1 - length (marks_in x.runs.sender.server))
-          (marks_in x.runs.sender.server) (counters_waiting x.runs.sender.server)) x'.runs.sender.server.counts ended x.held x'.held goes
+          (marks_in x.runs.sender.server) (counters_waiting x.runs.sender.server)) x'.runs.sender.server.counts ended
+          x.held x'.held goes
           → unknown' ≡ unknown_of (length (marks_in x.runs.sender.server)) ended → Settled form x x' unknown'
       by (Ok settled) taken (told, is_told, tells) are = record {
         text = told;
@@ -131,8 +135,10 @@ module _ {C I O K : Type 0} (opens : C → Option (I × O) → C → Type 0) (cl
     pub all : unknown' ≡ length (marks_in x.runs.sender.server)
     pub some : x.runs.sender.server.held ≢ []
 
-  unsettled : (form : Form) (x x' : At) (applied applied' : Bool) (unknown unknown' : ℕ) (stop : KeptStop) → 1 ≤ unknown'
-      → SettlesLive opens closes remaining contents leaves is_clean saves fails form x x' applied applied' unknown unknown'
+  unsettled : (form : Form) (x x' : At) (applied applied' : Bool) (unknown unknown' : ℕ) (stop : KeptStop) → 1 ≤
+      unknown'
+      → SettlesLive opens closes remaining contents leaves is_clean saves fails form x x' applied applied' unknown
+      unknown'
       (stopped stop) → Unsettled x x' unknown'
   unsettled form x x' applied applied' unknown unknown' stop many (inl (idle, same, apply, are, is)) =
       absurd (goes_not_stopped stop (sym is))
@@ -141,7 +147,8 @@ module _ {C I O K : Type 0} (opens : C → Option (I × O) → C → Type 0) (cl
     where
       by : (ended : Ended) → x'.progress.taken ≡ x.progress.taken
           → AnswersTold (AreHeld form (x'.progress.taken + 1 - length (marks_in x.runs.sender.server))
-          (marks_in x.runs.sender.server) (counters_waiting x.runs.sender.server)) x'.runs.sender.server.counts ended x.held x'.held (stopped stop)
+          (marks_in x.runs.sender.server) (counters_waiting x.runs.sender.server)) x'.runs.sender.server.counts ended
+          x.held x'.held (stopped stop)
           → unknown' ≡ unknown_of (length (marks_in x.runs.sender.server)) ended → Unsettled x x' unknown'
       by (Ok settled) taken tells are = absurd (omega (arith, are, many))
       by (Err (kept.Outstanding TriesSpent)) taken (same, is) are = record {
@@ -155,26 +162,32 @@ module _ {C I O K : Type 0} (opens : C → Option (I × O) → C → Type 0) (cl
 
   none_settled : (form : Form) (x x' : At) (applied applied' : Bool) (unknown unknown' : ℕ) (went : Went)
       → x.runs.sender.server.held ≡ []
-      → SettlesLive opens closes remaining contents leaves is_clean saves fails form x x' applied applied' unknown unknown'
+      → SettlesLive opens closes remaining contents leaves is_clean saves fails form x x' applied applied' unknown
+      unknown'
       went → (x' ≡ x) × (unknown' ≡ unknown) × (went ≡ goes)
-  none_settled form x x' applied applied' unknown unknown' went idle (inl (none, same, apply, are, is)) = (same, are, is)
+  none_settled form x x' applied applied' unknown unknown' went idle (inl (none, same, apply, are, is)) = (same, are,
+      is)
   none_settled form x x' applied applied' unknown unknown' went idle (inr (some, settles)) = absurd (some idle)
 
   -- ---- Whether all was applied.
 
-  made_applied : (form : Form) (size : ℕ) (station : List (List ℕ)) (due : Bool) (x x' : At) (applied applied' : Bool) (went : Went)
-      → MakesIf opens closes remaining contents leaves is_clean saves fails form size station due x x' applied applied' went
+  made_applied : (form : Form) (size : ℕ) (station : List (List ℕ)) (due : Bool) (x x' : At) (applied applied' : Bool)
+      (went : Went)
+      → MakesIf opens closes remaining contents leaves is_clean saves fails form size station due x x' applied applied'
+      went
       → applied' ≡ true → applied ≡ true
   made_applied form size station false x x' applied applied' went (same, apply, is) all_so = sym apply ∙ all_so
   made_applied form size station true x x' applied applied' went (told, joined, one, tells, apply) all_so =
       (both applied (list_all is_applied told) (sym apply ∙ all_so)).0
 
   settled_applied : (form : Form) (x x' : At) (applied applied' : Bool) (unknown unknown' : ℕ) (went : Went)
-      → SettlesLive opens closes remaining contents leaves is_clean saves fails form x x' applied applied' unknown unknown'
+      → SettlesLive opens closes remaining contents leaves is_clean saves fails form x x' applied applied' unknown
+      unknown'
       went → applied' ≡ true → applied ≡ true
   settled_applied form x x' applied applied' unknown unknown' went (inl (idle, same, apply, are, is)) all_so =
       sym apply ∙ all_so
-  settled_applied form x x' applied applied' unknown unknown' went (inr (some, (ended, one, tells, apply, are))) all_so =
+  settled_applied form x x' applied applied' unknown unknown' went (inr (some, (ended, one, tells, apply, are))) all_so
+      =
       (both applied (are_applied ended) (sym apply ∙ all_so)).0
 
   -- ---- One sender.
@@ -229,7 +242,8 @@ module _ {C I O K : Type 0} (opens : C → Option (I × O) → C → Type 0) (cl
         → SettlesOnce opens closes remaining contents leaves is_clean saves fails options y z goes → Front by x z
     front false x y z idle none ((same, apply, is), takes, unknown, keeps) (settles, takes_on, stays) =
         let s = settled_told options.form x.sends z.sends y.applied z.applied y.unknown z.unknown (unknown ∙ none)
-        (subst (λ (v : At). SettlesLive opens closes remaining contents leaves is_clean saves fails options.form v z.sends y.applied
+        (subst (λ (v : At). SettlesLive opens closes remaining contents leaves is_clean saves fails options.form v
+        z.sends y.applied
         z.applied y.unknown z.unknown goes) same settles) in record {
           text = s.text;
           is_text = s.is_text;
@@ -246,10 +260,12 @@ module _ {C I O K : Type 0} (opens : C → Option (I × O) → C → Type 0) (cl
         record {
           text = station_in options.form options.station.now told;
           is_text = (told, refl);
-          appended = subst (λ (v : At). Appends x.sends.held v.held (station_in options.form options.station.now told)) (sym same)
+          appended = subst (λ (v : At). Appends x.sends.held v.held (station_in options.form options.station.now told))
+              (sym same)
               appended;
           taken = ap (λ (v : At). v.progress.taken) same
-              ∙ made_taken options.form options.reading.size options.station.now x.sends y.sends x.applied y.applied made;
+              ∙ made_taken options.form options.reading.size options.station.now x.sends y.sends x.applied y.applied
+              made;
           none = are ∙ unknown ∙ none;
         }
 
@@ -272,7 +288,8 @@ module _ {C I O K : Type 0} (opens : C → Option (I × O) → C → Type 0) (cl
         → Spoke by x.sends x'.sends x.applied x'.applied x'.unknown
     stopped_settling false x y x' stop idle many ((same, apply, is), takes, unknown, keeps) (settles, takes_on, stays) =
         let u = unsettled options.form x.sends x'.sends y.applied x'.applied y.unknown x'.unknown stop many
-        (subst (λ (v : At). SettlesLive opens closes remaining contents leaves is_clean saves fails options.form v x'.sends y.applied
+        (subst (λ (v : At). SettlesLive opens closes remaining contents leaves is_clean saves fails options.form v
+        x'.sends y.applied
         x'.applied y.unknown x'.unknown (stopped stop)) same settles) in record {
           front = [];
           codes = [];
@@ -282,7 +299,8 @@ module _ {C I O K : Type 0} (opens : C → Option (I × O) → C → Type 0) (cl
           appended = u.appended;
           counted = inr (refl, refl, u.taken, u.all);
           applied = λ all_so. (
-            sym apply ∙ settled_applied options.form y.sends x'.sends y.applied x'.applied y.unknown x'.unknown (stopped stop)
+            sym apply ∙ settled_applied options.form y.sends x'.sends y.applied x'.applied y.unknown x'.unknown (stopped
+            stop)
                 settles all_so,
             refl,
           );

@@ -211,7 +211,8 @@ module _ {C I O K : Type 0} (opens : C → Option (I × O) → C → Type 0) (cl
     turn_idle : (x x' : LiveAt) (after : After) → x.sends.runs.sender.server.held ≡ [] → OneTurn x x' after goes
         → x'.sends.runs.sender.server.held ≡ []
     turn_idle x x' after idle turn =
-        let (taken, mid, part, next) = turn_part opens closes remaining contents leaves is_clean saves fails form region size
+        let (taken, mid, part, next) = turn_part opens closes remaining contents leaves is_clean saves fails form region
+        size
         strict x x' after goes turn in part.called.idle refl idle
 
     -- where a run stands after some turns
@@ -221,7 +222,8 @@ module _ {C I O K : Type 0} (opens : C → Option (I × O) → C → Type 0) (cl
       pub none : y.unknown ≡ 0
 
     told_going : (n : ℕ) (x y : LiveAt) → x.sends.runs.sender.server.held ≡ [] → x.unknown ≡ 0
-        → GoesOnFor opens closes remaining contents leaves is_clean saves fails form region size strict n x y → Going x y
+        → GoesOnFor opens closes remaining contents leaves is_clean saves fails form region size strict n x y → Going x
+        y
     told_going zero x y idle none same = subst (λ (z : LiveAt). Going x z) (sym same) (record {
       told = told_none x.sends x.applied 0 refl;
       idle = idle;

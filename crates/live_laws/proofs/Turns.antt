@@ -87,7 +87,8 @@ module _ {C I O K : Type 0} (opens : C → Option (I × O) → C → Type 0) (cl
           record {
             takes = takes;
             called = subst (λ ms. IsCalled (length ms) x.sends x'.sends went) is
-                (sends_some opens closes remaining contents leaves is_clean saves fails form turn.messages x.sends x'.sends
+                (sends_some opens closes remaining contents leaves is_clean saves fails form turn.messages x.sends
+                x'.sends
                 x.applied x'.applied x.unknown x'.unknown went turn.sends);
           },
           next,

@@ -81,7 +81,8 @@ module _ (options : LiveOptions) (before : Progress) (s : ServerState) where
   abbrev pub IsToldBetween : (text : List ℕ) → Type 0
   IsToldBetween text =
       (waited : List ℕ) × (told : List Code)
-      × ((waited ≡ []) ⊎ (waited ≡ unknown_in options.form (before.taken + 1 - length (marks_in s)) (length (marks_in s))))
+      × ((waited ≡ []) ⊎ (waited ≡ unknown_in options.form (before.taken + 1 - length (marks_in s)) (length (marks_in
+      s))))
       × (text ≡ waited ++ station_in options.form options.station.now told)
 
   -- What was told by a run behind its first line: first that; and then of each message of its lines one line, in order

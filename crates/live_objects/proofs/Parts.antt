@@ -1,5 +1,6 @@
 -- The text of an object by its parts, and the stamp of a clock as a word of JSON.
-use Rattle.std.proofs.Common.{◌≡◌, ℕ, nat_le, nat_lt, ◌==◌, ◌&&◌, not, Bool, true, List, [], ◌∷◌, append_assoc, append-nil}
+use Rattle.std.proofs.Common.{◌≡◌, ℕ, nat_le, nat_lt, ◌==◌, ◌&&◌, not, Bool, true, List, [], ◌∷◌, append_assoc}
+use Rattle.std.proofs.Common.{append-nil}
 use Rattle.std.proofs.Common.{refl, zero, suc, ◌<◌, arith, get_or}
 use Rattle.hex.specs.Hex.{encode_upper}
 use Rattle.uecp_json.proofs.Plain.{plain_digits}

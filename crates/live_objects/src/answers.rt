@@ -56,13 +56,27 @@ pub fn put_held_answers(
     if let Some((marked, rest)) = marks.split_first() {
         if *marked {
             put_held_answers(
-                stamp, tries, milliseconds, first + 1, rest, counters, codes, output,
+                stamp,
+                tries,
+                milliseconds,
+                first + 1,
+                rest,
+                counters,
+                codes,
+                output,
             );
         } else if let Some((counter, others)) = counters.split_first() {
             if let Some((code, told)) = codes.split_first() {
                 put_answer(stamp, tries, milliseconds, first, *counter, *code, output);
                 put_held_answers(
-                    stamp, tries, milliseconds, first + 1, rest, others, told, output,
+                    stamp,
+                    tries,
+                    milliseconds,
+                    first + 1,
+                    rest,
+                    others,
+                    told,
+                    output,
                 );
             }
         }

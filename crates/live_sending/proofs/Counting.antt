@@ -1,6 +1,7 @@
 -- The sequence counters of messages one after another.
 use Rattle.std.proofs.Common.{◌≡◌, ℕ, zero, suc, ◌+◌, ◌-◌, ◌≤◌, Bool, true, false, cond, List, [], ◌∷◌, ◌++◌, length}
-use Rattle.std.proofs.Common.{take, map, Some, refl, ap, ap₂, subst, sym, ◌∙◌, arith, unwrap_or, append_assoc, append-nil}
+use Rattle.std.proofs.Common.{take, map, Some, refl, ap, ap₂, subst, sym, ◌∙◌, arith, unwrap_or, append_assoc}
+use Rattle.std.proofs.Common.{append-nil}
 use Rattle.std.specs.List.{slice_get}
 use Rattle.uecp_link.specs.Counters.{next_counter}
 use Rattle.uecp_link.specs.Server.{Held, waiting_among, counters_waiting}

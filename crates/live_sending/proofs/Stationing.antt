@@ -68,8 +68,10 @@ refused_in_none Json first = refl
 
 -- of no messages nothing is put down
 pub adds_none : (form : Form) (before : Kept) → Adds before before (refused_in form 1 [])
-adds_none form before = λ whole. (whole,
-  sym (append-nil before.bytes) ∙ ap (λ l. before.bytes ++ l) (sym (refused_in_none form 1)))
+adds_none form before = λ whole. (
+  whole,
+  sym (append-nil before.bytes) ∙ ap (λ l. before.bytes ++ l) (sym (refused_in_none form 1)),
+)
 
 module _ {C I O : Type 0} (opens : C → Option (I × O) → C → Type 0) (closes : C → I → O → C → Type 0)
     (remaining : I → Option (List ℕ)) (contents : O → Option (List ℕ)) where
@@ -116,7 +118,8 @@ module _ {C I O : Type 0} (opens : C → Option (I × O) → C → Type 0) (clos
       (told : List Code) × SendsStation opens closes remaining contents size messages told start now result
       × Adds before after (refused_in form 1 told) × (is ≡ was && list_all is_applied told)
 
-  pub begins : (form : Form) (size : ℕ) (messages : List (List ℕ)) (start : SenderOver C I O) (before : Kept) (was : Bool)
+  pub begins : (form : Form) (size : ℕ) (messages : List (List ℕ)) (start : SenderOver C I O) (before : Kept) (was :
+      Bool)
       → SoFar form size messages start before before was was messages start
   begins form size messages start before was = record {
     batches = 0;

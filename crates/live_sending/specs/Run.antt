@@ -252,7 +252,8 @@ module _ {C I O K : Type 0} (opens : C → Option (I × O) → C → Type 0) (cl
       (y : Standing ServerState K) × (y.runs ≡ idle_at address)
       × ((Renews leaves is_clean saves fails options.form x.unknown x.sends y (Ok tt)
       × RunsOne options true c c' (from_anew x y) x' went)
-      ⊎ ((stop : KeptStop) × Renews leaves is_clean saves fails options.form x.unknown x.sends y (Err stop) × (went ≡ Err stop)
+      ⊎ ((stop : KeptStop) × Renews leaves is_clean saves fails options.form x.unknown x.sends y (Err stop) × (went ≡
+      Err stop)
       × (c' ≡ c)
       × (x' ≡ from_anew x y)))
 

@@ -129,7 +129,8 @@ pub(crate) fn settle_first<K: KeepServer, W: Write, C: Connect, T: Clock>(
 ) -> Result<(), KeptStop>
     requires countable { progress.taken < 2 ^ 64 - 1 }
     ensures settles { SettlesLive C.opens C.closes C.Input.remaining C.Output.contents K.leaves K.is_clean K.saves
-        K.fails form (record { runs = sender.old; keeper = keeper.old; progress = progress; held = W.contents writer.old })
+        K.fails form
+        (record { runs = sender.old; keeper = keeper.old; progress = progress; held = W.contents writer.old })
         (record { runs = sender.new; keeper = keeper.new; progress = progress; held = W.contents writer.new })
         applied.old applied.new unknown.old unknown.new result }
     ensures idle { IfOk result (λ _. sender.new.sender.server.held ≡ []) }
@@ -194,7 +195,14 @@ fn tell_held<W: Write, T: Clock>(
         Ok(settled) => {
             let mut output = Output::new(alloc);
             put_held_in(
-                form, clock, since, first, marks, counters, settled, &mut output,
+                form,
+                clock,
+                since,
+                first,
+                marks,
+                counters,
+                settled,
+                &mut output,
             );
             write_told(&mut output, writer)
         }
@@ -225,9 +233,7 @@ fn tell_replies<W: Write, T: Clock>(
         Ok(settled) => {
             let first = first_of(last, settled.codes.len());
             let mut output = Output::new(alloc);
-            put_replies_in(
-                form, clock, since, first, counters, settled, &mut output,
-            );
+            put_replies_in(form, clock, since, first, counters, settled, &mut output);
             write_told(&mut output, writer)
         }
         Err(KeptOutstanding::Outstanding(reason)) => Err(stop_for(*reason, counts)),

@@ -14,7 +14,8 @@ returns-in-Err g c =
       lives = inr (
         record { runs = now.server; keeper = now.keeper; progress = now.progress; held = held now.writer },
         c.in-Err.stop,
-        subst (λ due. Then (TellsTaken c.args.options.now.form) (BeginsAnewIf k.leaves k.is_clean k.saves k.fails c.args.options.now.form due) (record {
+        subst (λ due. Then (TellsTaken c.args.options.now.form) (BeginsAnewIf k.leaves k.is_clean k.saves k.fails
+        c.args.options.now.form due) (record {
           runs = c.args.server;
           keeper = c.args.keeper.now;
           progress = c.args.progress;
@@ -58,7 +59,8 @@ returns-in-Ok g c =
           unknown = unknown;
           behind = behind;
         },
-        subst (λ due. Then (TellsTaken c.args.options.now.form) (BeginsAnewIf k.leaves k.is_clean k.saves k.fails c.args.options.now.form due) (record {
+        subst (λ due. Then (TellsTaken c.args.options.now.form) (BeginsAnewIf k.leaves k.is_clean k.saves k.fails
+        c.args.options.now.form due) (record {
           runs = c.args.server;
           keeper = c.args.keeper.now;
           progress = c.args.progress;

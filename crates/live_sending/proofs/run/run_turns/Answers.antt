@@ -7,14 +7,16 @@ returns-in-Err-clause-runs g c =
     let k = g.K.KeepServer in
     let turn = c.in-Err.ensures.stopped in
     stops g.C.Connect.opens g.C.Connect.closes g.C.Input.Read.remaining g.C.Output.Write.contents k.leaves k.is_clean
-    k.saves k.fails c.args.form c.args.reading.now.region c.args.reading.now.size c.args.reading.now.strict _ c.loop-turn._turn _
+    k.saves k.fails c.args.form c.args.reading.now.region c.args.reading.now.size c.args.reading.now.strict _
+    c.loop-turn._turn _
     c.loop-turn.invariant.on _ turn.0 c.in-Err.stop turn.1
 
 pub returns-in-Ok-Ends-clause-runs : goal.returns-in-Ok-Ends-clause-runs
 returns-in-Ok-Ends-clause-runs g c =
     let k = g.K.KeepServer in
     ends g.C.Connect.opens g.C.Connect.closes g.C.Input.Read.remaining g.C.Output.Write.contents k.leaves k.is_clean
-    k.saves k.fails c.args.form c.args.reading.now.region c.args.reading.now.size c.args.reading.now.strict _ c.loop-turn._turn _
+    k.saves k.fails c.args.form c.args.reading.now.region c.args.reading.now.size c.args.reading.now.strict _
+    c.loop-turn._turn _
     c.loop-turn.invariant.on _ c.in-Ok-Ends.ended (search rules) _ c.ended_as.ensures
 
 pub loop-turn-preserved : goal.loop-turn-preserved
@@ -27,7 +29,8 @@ loop-turn-preserved g c =
       loan = search rules;
       countable = omega (arith, before, taken);
       on = one_more g.C.Connect.opens g.C.Connect.closes g.C.Input.Read.remaining g.C.Output.Write.contents k.leaves
-          k.is_clean k.saves k.fails c.args.form c.args.reading.now.region c.args.reading.now.size c.args.reading.now.strict _
+          k.is_clean k.saves k.fails c.args.form c.args.reading.now.region c.args.reading.now.size
+          c.args.reading.now.strict _
           c.loop-turn._turn _ c.loop-turn.invariant.on _ (search rules);
     }
 
@@ -37,5 +40,6 @@ returns-clause-runs g c =
     let most = c.loop-turn.auto._turn-end in
     let least = c.loop-turn-test.false in
     gives_up g.C.Connect.opens g.C.Connect.closes g.C.Input.Read.remaining g.C.Output.Write.contents k.leaves k.is_clean
-    k.saves k.fails c.args.form c.args.reading.now.region c.args.reading.now.size c.args.reading.now.strict _ c.loop-turn._turn _
+    k.saves k.fails c.args.form c.args.reading.now.region c.args.reading.now.size c.args.reading.now.strict _
+    c.loop-turn._turn _
     c.loop-turn.invariant.on (omega (arith, most, least))

@@ -9,7 +9,8 @@ pub loop-rest-init : goal.loop-rest-init
 loop-rest-init g c = record {
   idle = c.requires.idle;
   loan = search rules;
-  so = begins g.C.Connect.opens g.C.Connect.closes g.C.Input.Read.remaining g.C.Output.Write.contents c.args.form c.args.size
+  so = begins g.C.Connect.opens g.C.Connect.closes g.C.Input.Read.remaining g.C.Output.Write.contents c.args.form
+      c.args.size
       c.args.station.now c.args.sender.now c.args.lines.now c.args.all.now;
 }
 
@@ -21,7 +22,8 @@ returns-in-Err-clause-sends g c =
     let some : rest ≢ [] = search rules in
     let front : c.split_at.result.0.now ≡ take (min c.args.size (length rest)) rest = search rules in
     let gives = c.in-Err.ensures.outstanding in
-    stops g.C.Connect.opens g.C.Connect.closes g.C.Input.Read.remaining g.C.Output.Write.contents c.args.form c.args.size
+    stops g.C.Connect.opens g.C.Connect.closes g.C.Input.Read.remaining g.C.Output.Write.contents c.args.form
+    c.args.size
     c.args.station.now c.args.sender.now c.args.lines.now now.lines c.args.all.now now.all rest now.sender
     now.invariant.so some next.sender c.in-Err.reason
     (subst (λ batch. GivesUp g.C.Connect.opens g.C.Connect.closes g.C.Input.Read.remaining g.C.Output.Write.contents
@@ -41,9 +43,11 @@ loop-rest-preserved g c =
       idle = c.in-Ok.ensures.idle;
       loan = c.send_one.ensures.loan ∙ now.invariant.loan;
       so = subst (λ more. SoFar g.C.Connect.opens g.C.Connect.closes g.C.Input.Read.remaining
-          g.C.Output.Write.contents c.args.form c.args.size c.args.station.now c.args.sender.now c.args.lines.now next.lines
+          g.C.Output.Write.contents c.args.form c.args.size c.args.station.now c.args.sender.now c.args.lines.now
+          next.lines
           c.args.all.now next.all more next.sender) (sym (back ∙ drop_min c.args.size rest))
-          (one_more g.C.Connect.opens g.C.Connect.closes g.C.Input.Read.remaining g.C.Output.Write.contents c.args.form c.args.size
+          (one_more g.C.Connect.opens g.C.Connect.closes g.C.Input.Read.remaining g.C.Output.Write.contents c.args.form
+          c.args.size
           c.args.station.now c.args.sender.now c.args.lines.now now.lines c.args.all.now now.all rest now.sender
           now.invariant.so c.requires.some some next.sender told tries _ (search rules)
           (subst (λ batch. Acknowledges g.C.Connect.opens g.C.Connect.closes g.C.Input.Read.remaining

@@ -12,11 +12,11 @@ returns-clause-sends g c =
     let sent = c.send_kept-ended in
     let last : c.last.result ≡ c.args.sender.now.sender.server.last = search rules in
     let counts : c.counts.result ≡ sent.new.sender.sender.server.counts = search rules in
-    let counters : c.as_slice.result.now ≡ counters_waiting (submitted_all c.args.sender.now c.args.batch.now).sender.server =
+    let counters : c.as_slice.result.now ≡ counters_waiting (submitted_all c.args.sender.now
+    c.args.batch.now).sender.server =
     c.as_slice.ensures.value ∙ c.counters_after-counters.ensures
     ∙ ap (λ n. counters_after n (length c.args.batch.now)) last
-    ∙ sym (counters_of_batch c.args.sender.now c.args.batch.now c.requires.idle) in
-    (
+    ∙ sym (counters_of_batch c.args.sender.now c.args.batch.now c.requires.idle) in (
       sent.result,
       search rules,
       subst (λ (cs : ServerCounts). AnswersTold (RepliesOf c.args.form sent.new.progress.taken

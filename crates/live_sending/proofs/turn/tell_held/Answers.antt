@@ -9,7 +9,10 @@ returns-in-Ok g c =
     record {
       tells = subst (λ e. AnswersTold (AreHeld c.args.form c.args.first c.args.marks.now c.args.counters.now)
           c.args.counts e (g.W.Write.contents c.args.writer.now) (g.W.Write.contents c.write_told.new.writer)
-          c.write_told.result) (sym c.in-Ok.is)
-          (told, are, c.write_told.ensures.tells told
-          (λ whole. (adds whole).1 ∙ ap (λ l. l ++ told) c.new-output.ensures.empty));
+          c.write_told.result) (sym c.in-Ok.is) (
+            told,
+            are,
+            c.write_told.ensures.tells told
+                (λ whole. (adds whole).1 ∙ ap (λ l. l ++ told) c.new-output.ensures.empty),
+          );
     }

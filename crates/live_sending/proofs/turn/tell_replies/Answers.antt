@@ -10,7 +10,9 @@ returns-in-Ok g c =
     record {
       tells = subst (λ e. AnswersTold (RepliesOf c.args.form c.args.last c.args.counters.now) c.args.counts e
           (g.W.Write.contents c.args.writer.now) (g.W.Write.contents c.write_told.new.writer) c.write_told.result)
-          (sym c.in-Ok.is)
-          (told, subst (λ n. AreReplies c.args.form n c.args.counters.now c.in-Ok.settled told) first are,
-          c.write_told.ensures.tells told (λ whole. (adds whole).1 ∙ ap (λ l. l ++ told) c.new-output.ensures.empty));
+          (sym c.in-Ok.is) (
+            told,
+            subst (λ n. AreReplies c.args.form n c.args.counters.now c.in-Ok.settled told) first are,
+            c.write_told.ensures.tells told (λ whole. (adds whole).1 ∙ ap (λ l. l ++ told) c.new-output.ensures.empty),
+          );
     }
