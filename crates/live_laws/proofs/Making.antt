@@ -1,5 +1,6 @@
 -- What a crash leaves of a server by which the encoder is joined and the station made.
-use Rattle.std.proofs.Common.{zero, suc, [], ◌≡◌, ◌⊎◌, ℕ, Bool, true, false, List, Option, Ok, Err, refl, sym, ap, subst, ◌∙◌, inl}
+use Rattle.std.proofs.Common.{zero, suc, [], ◌≡◌, ◌⊎◌, ℕ, Bool, true, false, List, Option, Ok, Err, refl, sym, ap}
+use Rattle.std.proofs.Common.{subst, ◌∙◌, inl}
 use Rattle.std.proofs.Common.{inr}
 use Rattle.uecp_elements.specs.declared.code.Code.{Code}
 use Rattle.uecp_link.specs.Server.{ServerState}

@@ -165,8 +165,11 @@ module _ {C I O K : Type 0} (opens : C → Option (I × O) → C → Type 0) (cl
       → SettlesLive opens closes remaining contents leaves is_clean saves fails form x x' applied applied' unknown
       unknown'
       went → (x' ≡ x) × (unknown' ≡ unknown) × (went ≡ goes)
-  none_settled form x x' applied applied' unknown unknown' went idle (inl (none, same, apply, are, is)) = (same, are,
-      is)
+  none_settled form x x' applied applied' unknown unknown' went idle (inl (none, same, apply, are, is)) = (
+    same,
+    are,
+    is,
+  )
   none_settled form x x' applied applied' unknown unknown' went idle (inr (some, settles)) = absurd (some idle)
 
   -- ---- Whether all was applied.
@@ -252,11 +255,13 @@ module _ {C I O K : Type 0} (opens : C → Option (I × O) → C → Type 0) (cl
           none = s.none;
         }
     front true x y z idle none (made, takes, unknown, keeps) (settles, takes_on, stays) =
-        let (told, appended) = made_told options.form options.reading.size options.station.now x.sends y.sends x.applied y.applied
+        let (told, appended) = made_told options.form options.reading.size options.station.now x.sends y.sends x.applied
+        y.applied
         made in
         let still = makes_idle opens closes remaining contents leaves is_clean saves fails options.form
         options.reading.size options.station.now true x.sends y.sends x.applied y.applied made (idle refl) in
-        let (same, are, is) = none_settled options.form y.sends z.sends y.applied z.applied y.unknown z.unknown goes still settles in
+        let (same, are, is) = none_settled options.form y.sends z.sends y.applied z.applied y.unknown z.unknown goes
+        still settles in
         record {
           text = station_in options.form options.station.now told;
           is_text = (told, refl);
@@ -300,7 +305,7 @@ module _ {C I O K : Type 0} (opens : C → Option (I × O) → C → Type 0) (cl
           counted = inr (refl, refl, u.taken, u.all);
           applied = λ all_so. (
             sym apply ∙ settled_applied options.form y.sends x'.sends y.applied x'.applied y.unknown x'.unknown (stopped
-            stop)
+                stop)
                 settles all_so,
             refl,
           );
@@ -308,7 +313,8 @@ module _ {C I O K : Type 0} (opens : C → Option (I × O) → C → Type 0) (cl
     stopped_settling true x y x' stop idle many (made, takes, unknown, keeps) (settles, takes_on, stays) =
         let still = makes_idle opens closes remaining contents leaves is_clean saves fails options.form
         options.reading.size options.station.now true x.sends y.sends x.applied y.applied made (idle refl) in
-        let (same, are, is) = none_settled options.form y.sends x'.sends y.applied x'.applied y.unknown x'.unknown (stopped stop)
+        let (same, are, is) = none_settled options.form y.sends x'.sends y.applied x'.applied y.unknown x'.unknown
+        (stopped stop)
         still settles in absurd (goes_not_stopped stop (sym is))
 
     spoke_on : (by : Bool) (x y x' : LiveAt) (behind : After) (went : Went) → (by ≡ true → IsIdle x.sends)

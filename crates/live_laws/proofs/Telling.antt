@@ -231,7 +231,8 @@ module _ {C I O K : Type 0} (opens : C → Option (I × O) → C → Type 0) (cl
     })
     told_going (suc n) x z idle none (y, before, turn) =
         let so = told_going n x y idle none before in
-        let zero_is = turn_unknown opens closes remaining contents leaves is_clean saves fails form region size strict y z GoesOn so.none turn in record {
+        let zero_is = turn_unknown opens closes remaining contents leaves is_clean saves fails form region size strict y
+        z GoesOn so.none turn in record {
           told = told_on x.sends y.sends z.sends x.applied y.applied z.applied 0 so.told
               (subst (λ u. Told y.sends z.sends y.applied z.applied u) zero_is
               (told_turn y z GoesOn goes so.idle so.none turn (inl refl)));
@@ -261,7 +262,8 @@ module _ {C I O K : Type 0} (opens : C → Option (I × O) → C → Type 0) (cl
         → RunsTurns opens closes remaining contents leaves is_clean saves fails form region size strict x x' went
         → goes ≡ went → x'.unknown ≡ 0
     turns_unknown x x' went idle none (n, y, before, inl (inl (end, turn, is))) on =
-        let so = told_going n x y idle none before in turn_unknown opens closes remaining contents leaves is_clean saves fails
+        let so = told_going n x y idle none before in turn_unknown opens closes remaining contents leaves is_clean saves
+        fails
         form region size strict y x' (Ends end) so.none turn
     turns_unknown x x' went idle none (n, y, before, inl (inr (after, stop, turn, is))) on =
         absurd (goes_not_stopped stop (on ∙ is))

@@ -149,7 +149,8 @@ module _ {C I O K : Type 0} (opens : C → Option (I × O) → C → Type 0) (cl
         let (b, mid, part, next) = turn_part y x' (Ends end) goes turn in
         turns_end a b x y x' mid end went one part next is
         (λ none. turn_unknown opens closes remaining contents leaves is_clean saves fails form region size strict y x'
-        (Ends end) (going_unknown opens closes remaining contents leaves is_clean saves fails form region size strict n x
+        (Ends end) (going_unknown opens closes remaining contents leaves is_clean saves fails form region size strict n
+        x
         y none before) turn)
     turned x x' went (n, y, before, inl (inr (after, stop, turn, is))) =
         let (a, one) = goes_on_part n x y before in

@@ -233,8 +233,8 @@ module _ {C I O K : Type 0} (opens : C → Option (I × O) → C → Type 0) (cl
       }) z went
       × Finishes closes c' z.sends.runs × (x' ≡ ended_of z)
 
-  -- where a run stands with a new server: its messages that were outstanding count as not applied, and what comes behind
-  -- them comes still
+  -- where a run stands with a new server: its messages that were outstanding count as not applied, and what comes
+  -- behind them comes still
   abbrev pub from_anew : Live ServerState K → Standing ServerState K → Live ServerState K
   from_anew x y = record {
     sends = y;

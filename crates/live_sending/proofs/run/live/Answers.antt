@@ -15,12 +15,12 @@ returns-in-Err g c =
         record { runs = now.server; keeper = now.keeper; progress = now.progress; held = held now.writer },
         c.in-Err.stop,
         subst (λ due. Then (TellsTaken c.args.options.now.form) (BeginsAnewIf k.leaves k.is_clean k.saves k.fails
-        c.args.options.now.form due) (record {
-          runs = c.args.server;
-          keeper = c.args.keeper.now;
-          progress = c.args.progress;
-          held = held c.args.writer.now;
-        }) (record { runs = now.server; keeper = now.keeper; progress = now.progress; held = held now.writer })
+            c.args.options.now.form due) (record {
+              runs = c.args.server;
+              keeper = c.args.keeper.now;
+              progress = c.args.progress;
+              held = held c.args.writer.now;
+            }) (record { runs = now.server; keeper = now.keeper; progress = now.progress; held = held now.writer })
             (Err c.in-Err.stop)) c.is_due-due.ensures c.in-Err.ensures.begins,
         refl,
         refl,
@@ -60,12 +60,13 @@ returns-in-Ok g c =
           behind = behind;
         },
         subst (λ due. Then (TellsTaken c.args.options.now.form) (BeginsAnewIf k.leaves k.is_clean k.saves k.fails
-        c.args.options.now.form due) (record {
-          runs = c.args.server;
-          keeper = c.args.keeper.now;
-          progress = c.args.progress;
-          held = held c.args.writer.now;
-        }) (record { runs = now.server; keeper = now.keeper; progress = now.progress; held = held now.writer }) (Ok tt))
+            c.args.options.now.form due) (record {
+              runs = c.args.server;
+              keeper = c.args.keeper.now;
+              progress = c.args.progress;
+              held = held c.args.writer.now;
+            }) (record { runs = now.server; keeper = now.keeper; progress = now.progress; held = held now.writer }) (Ok
+            tt))
             c.is_due-due.ensures c.in-Ok.ensures.begins,
         subst (λ due. RunsFor g.C.Connect.opens g.C.Connect.closes g.C.Input.Read.remaining g.C.Output.Write.contents
             k.leaves k.is_clean k.saves
