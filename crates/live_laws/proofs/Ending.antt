@@ -14,7 +14,8 @@ use Rattle.line_batches.specs.declared.taking.After.TheVariants.{GoesOn}
 use Rattle.line_batches.specs.Intake.{Intake}
 use Rattle.live_sending.specs.Run.{Live, tally_status}
 use Rattle.live_laws.specs.Taken.{at_start}
-use Rattle.live_laws.specs.Told.{was_applied, has_refused, IsStatusOf}
+use Rattle.line_batches.specs.Intake.{has_refused}
+use Rattle.live_laws.specs.Told.{was_applied, IsStatusOf}
 use Rattle.live_laws.specs.Laws.{IsDone, DoneIsKept, WhatACrashLeaves, ToldIsTaken}
 use Rattle.live_laws.proofs.Refusing.{refused_in_all, status_so}
 use Rattle.live_laws.proofs.Runs.{whole}
@@ -92,6 +93,7 @@ module _ {C I O K : Type 0} (opens : C → Option (I × O) → C → Type 0) (cl
           last = w.mid;
           end = end;
           taken = w.takes;
+          passes = w.passes;
           pauses = w.pauses;
           is_unread = unread_is;
         },

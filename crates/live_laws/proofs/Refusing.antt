@@ -6,10 +6,10 @@ use Rattle.std.specs.List.{list_all}
 use Rattle.rds_text.specs.declared.programme_type.Region.{Region}
 use Rattle.uecp_elements.specs.declared.code.Code.{Code}
 use Rattle.line_batches.specs.declared.intake.Given.{Given}
-use Rattle.line_batches.specs.Intake.{Intake, TakesLines, is_refusal}
+use Rattle.line_batches.specs.Intake.{Intake, TakesLines, is_refusal, has_refused}
 use Rattle.live_sending.specs.Run.{tally_status}
 use Rattle.live_laws.specs.Taken.{ComesToEnd}
-use Rattle.live_laws.specs.Told.{was_applied, has_refused, IsStatusOf}
+use Rattle.live_laws.specs.Told.{was_applied, IsStatusOf}
 
 or_assoc : (a b c : Bool) → ((a || b) || c) ≡ (a || (b || c))
 or_assoc true b c = refl
@@ -28,7 +28,7 @@ refused_lines region ((line, given) ∷ more) x y (w, one, rest) =
 
 refused_ending : (region : Region) (strict : Bool) (lines : List (List ℕ × Given)) (x y : Intake)
     → ComesToEnd region strict lines x y → y.refused ≡ x.refused
-refused_ending region strict lines x y (inl (stays, next)) = ap (λ (i : Intake). i.refused) stays
+refused_ending region strict lines x y (inl ((stays, next), none)) = ap (λ (i : Intake). i.refused) stays
 refused_ending region strict lines x y (inr (is_strict, refused, same)) = ap (λ (i : Intake). i.refused) same
 
 -- at the end of a run that began with none

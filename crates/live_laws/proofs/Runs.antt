@@ -23,9 +23,9 @@ use Rattle.output_forms.specs.declared.form.Form.{Form}
 use Rattle.live_sending.specs.Beginning.{TellsTaken, BeginsAnew, BeginsAnewIf}
 use Rattle.live_sending.specs.Forms.{given_up_in, unknown_in}
 use Rattle.live_sending.specs.Run.{Live, Renews, RunsOne, RunsAgain, RunsFor, LivesFrom, ended_as}
-use Rattle.live_laws.specs.Taken.{Pauses, ComesToEnd}
+use Rattle.live_laws.specs.Taken.{Pauses, ComesToEnd, Passes}
 use Rattle.live_laws.specs.Left.{new_kept, OutlivesLive}
-use Rattle.live_laws.proofs.Lines.{messages_count, lines_on, ends_on, Stands, stands_on, stands_pausing}
+use Rattle.live_laws.proofs.Lines.{messages_count, lines_on, ends_on, passes_on, Stands, stands_on, stands_pausing}
 use Rattle.live_laws.proofs.Statuses.{not_so, telling_status, taking_status}
 use Rattle.live_laws.proofs.Begun.{begun_so, has_begun}
 use Rattle.live_laws.proofs.Senders.{Left, ran, ran_out}
@@ -216,6 +216,7 @@ module _ {C I O K : Type 0} (opens : C → Option (I × O) → C → Type 0) (cl
       pub lines : List (List ℕ × Given)
       pub mid : Intake
       pub takes : TakesLines options.reading.region lines x.takes mid
+      pub passes : Passes options.reading.strict lines
       pub pauses : Pauses options.reading.region mid x'.takes
       pub done : goes ≡ went → ComesToEnd options.reading.region options.reading.strict lines mid x'.takes
       pub behind : x.unknown ≡ 0 → 1 ≤ x'.unknown
@@ -238,6 +239,7 @@ module _ {C I O K : Type 0} (opens : C → Option (I × O) → C → Type 0) (cl
           lines = r.lines;
           mid = r.mid;
           takes = r.takes;
+          passes = r.passes;
           pauses = r.pauses;
           done = r.done;
           behind = r.behind;
@@ -291,6 +293,7 @@ module _ {C I O K : Type 0} (opens : C → Option (I × O) → C → Type 0) (cl
       pub mid : Intake
       pub takes : TakesLines options.reading.region lines x.takes mid
       pub once : options.rejoin ≡ false → again ≡ 0
+      pub passes : Passes options.reading.strict lines
       pub pauses : Pauses options.reading.region mid x'.takes
       pub done : goes ≡ went → ComesToEnd options.reading.region options.reading.strict lines mid x'.takes
       pub behind : 1 ≤ x'.unknown
@@ -330,6 +333,7 @@ module _ {C I O K : Type 0} (opens : C → Option (I × O) → C → Type 0) (cl
           mid = r.mid;
           takes = r.takes;
           once = λ never. refl;
+          passes = r.passes;
           pauses = r.pauses;
           done = r.done;
           behind = λ some. r.behind none some;
@@ -396,7 +400,7 @@ module _ {C I O K : Type 0} (opens : C → Option (I × O) → C → Type 0) (cl
         messages_count before.lines r.lines in
         let now : w.progress.taken ≡ x0.progress.taken + earlier =
         ap (λ (p : Progress). p.taken) renews.progress ∙ before.counted in
-        let there : y.takes ≡ before.mid =
+        let (there, none) =
         subst (λ b. Stands options.reading.region options.reading.strict before.lines before.mid y.takes b) is_on
         (before.behind some) in
         record {
@@ -405,11 +409,12 @@ module _ {C I O K : Type 0} (opens : C → Option (I × O) → C → Type 0) (cl
           takes = lines_on options.reading.region before.lines r.lines x.takes before.mid r.mid before.takes
               (subst (λ i. TakesLines options.reading.region r.lines i r.mid) there r.takes);
           once = not_once n rejoin;
+          passes = passes_on options.reading.strict before.lines r.lines none r.passes;
           pauses = r.pauses;
           done = λ on. ends_on options.reading.region options.reading.strict before.lines r.lines r.mid x'.takes
-              (r.done on);
+              none (r.done on);
           behind = λ more. stands_on options.reading.region options.reading.strict before.lines r.lines r.mid x'.takes
-              x'.behind (r.behind refl more);
+              x'.behind none (r.behind refl more);
           clean = λ clean. before.clean (renews.clean (r.clean clean));
           settled = λ on settled clean. r.settled on (renewed y.unknown y.sends w renews (r.clean clean)) clean;
           counted = (let a = r.counted in omega (arith, a, now, all));
@@ -439,6 +444,7 @@ module _ {C I O K : Type 0} (opens : C → Option (I × O) → C → Type 0) (cl
           mid = before.mid;
           takes = before.takes;
           once = not_once n rejoin;
+          passes = before.passes;
           pauses = stands_pausing options.reading.region options.reading.strict before.lines before.mid x'.takes
               (Ends end) stands;
           done = λ on. end_is before.lines before.mid x'.takes end stands (r.done on);
@@ -473,6 +479,7 @@ module _ {C I O K : Type 0} (opens : C → Option (I × O) → C → Type 0) (cl
           mid = before.mid;
           takes = before.takes;
           once = not_once n rejoin;
+          passes = before.passes;
           pauses = before.pauses;
           done = λ on. absurd (goes_not_stopped stop (on ∙ is));
           behind = λ more. absurd (omega (arith, more));
@@ -519,6 +526,7 @@ module _ {C I O K : Type 0} (opens : C → Option (I × O) → C → Type 0) (cl
     pub lines : List (List ℕ × Given)
     pub mid : Intake
     pub takes : TakesLines options.reading.region lines x.takes mid
+    pub passes : Passes options.reading.strict lines
     pub pauses : Pauses options.reading.region mid end
     pub done : goes ≡ went → ComesToEnd options.reading.region options.reading.strict lines mid end
     pub has_taken : goes ≡ went → IsKeptOf x.sends → is_clean k' → (left : KeptServer) → leaves k' left
@@ -543,6 +551,7 @@ module _ {C I O K : Type 0} (opens : C → Option (I × O) → C → Type 0) (cl
         lines = r.lines;
         mid = r.mid;
         takes = r.takes;
+        passes = r.passes;
         pauses = r.pauses;
         done = r.done;
         has_taken = λ on settled clean left leaves_it.
@@ -564,6 +573,7 @@ module _ {C I O K : Type 0} (opens : C → Option (I × O) → C → Type 0) (cl
         lines = [];
         mid = x.takes;
         takes = refl;
+        passes = inl (λ is_strict. refl);
         pauses = inl takes;
         done = λ on. absurd (goes_not_stopped stop (on ∙ is));
         has_taken = λ on. absurd (goes_not_stopped stop (on ∙ is));

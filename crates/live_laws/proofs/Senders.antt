@@ -15,7 +15,7 @@ use Rattle.line_batches.specs.declared.taking.After.TheVariants.{GoesOn, Ends}
 use Rattle.line_batches.specs.Intake.{Intake, TakesLines, messages_in}
 use Rattle.live_sending.specs.declared.options.LiveOptions.{LiveOptions}
 use Rattle.live_sending.specs.Run.{Live, MakesOnce, RunsOn, RunsLive, ended_as}
-use Rattle.live_laws.specs.Taken.{Pauses, ComesToEnd}
+use Rattle.live_laws.specs.Taken.{Pauses, ComesToEnd, Passes}
 use Rattle.live_laws.proofs.Lines.{Stands}
 use Rattle.live_laws.proofs.Unknown.{none_unsettled}
 use Rattle.live_laws.proofs.Making.{makes_idle}
@@ -62,6 +62,7 @@ module _ {C I O K : Type 0} (opens : C → Option (I × O) → C → Type 0) (cl
     pub lines : List (List ℕ × Given)
     pub mid : Intake
     pub takes : TakesLines options.reading.region lines x.takes mid
+    pub passes : Passes options.reading.strict lines
     pub pauses : Pauses options.reading.region mid x'.takes
     pub done : goes ≡ went → ComesToEnd options.reading.region options.reading.strict lines mid x'.takes
     pub behind : x.unknown ≡ 0 → 1 ≤ x'.unknown
@@ -79,15 +80,17 @@ module _ {C I O K : Type 0} (opens : C → Option (I × O) → C → Type 0) (cl
   ran_so : (due : Bool) (x : LiveAt) (y : At) (x' : LiveAt) (went : Went) (lines : List (List ℕ × Given))
       (mid : Intake)
       → IsMaking due x.sends y goes → IsCalled (length (messages_in lines)) y x'.sends went
-      → TakesLines options.reading.region lines x.takes mid → Pauses options.reading.region mid x'.takes
+      → TakesLines options.reading.region lines x.takes mid → Passes options.reading.strict lines
+      → Pauses options.reading.region mid x'.takes
       → (goes ≡ went → ComesToEnd options.reading.region options.reading.strict lines mid x'.takes)
       → (x.unknown ≡ 0 → 1 ≤ x'.unknown
       → Stands options.reading.region options.reading.strict lines mid x'.takes x'.behind)
       → (goes ≡ went → x'.sends.runs.sender.server.held ≡ []) → Ran due x x' went
-  ran_so due x y x' went lines mid made called takes pauses done behind idle = record {
+  ran_so due x y x' went lines mid made called takes passes pauses done behind idle = record {
     lines = lines;
     mid = mid;
     takes = takes;
+    passes = passes;
     pauses = pauses;
     done = done;
     behind = behind;
@@ -123,7 +126,8 @@ module _ {C I O K : Type 0} (opens : C → Option (I × O) → C → Type 0) (cl
       (subst (λ n. IsCalled n y.sends x'.sends went) (none_before (length (messages_in t.lines)))
       (called_on opens closes remaining contents leaves is_clean saves fails 0 (length (messages_in t.lines)) y.sends
       z.sends x'.sends went call t.part.called))
-      (subst (λ k. TakesLines options.reading.region t.lines k t.mid) (takes_on ∙ takes) t.part.takes) t.pauses t.done
+      (subst (λ k. TakesLines options.reading.region t.lines k t.mid) (takes_on ∙ takes) t.part.takes) t.passes t.pauses
+      t.done
       (λ none some. t.behind (none_unsettled opens closes remaining contents leaves is_clean saves fails options.form
       y.sends z.sends y.applied z.applied y.unknown z.unknown (unknown ∙ none) settles) some)
       (λ on. t.part.called.idle on idle)
@@ -133,11 +137,11 @@ module _ {C I O K : Type 0} (opens : C → Option (I × O) → C → Type 0) (cl
       ran_so due x y.sends x' went [] x.takes
       (making_if opens closes remaining contents leaves is_clean saves fails options.form options.reading.size
       options.station.now due x.sends y.sends x.applied y.applied goes made)
-      (subst (λ w. IsCalled 0 y.sends x'.sends w) (sym is) call) refl (inl (takes_on ∙ takes))
+      (subst (λ w. IsCalled 0 y.sends x'.sends w) (sym is) call) refl (inl (λ is_strict. refl)) (inl (takes_on ∙ takes))
       (λ on. absurd (goes_not_stopped stop (on ∙ is)))
       (λ none some. subst
       (λ d. Stands options.reading.region options.reading.strict [] x.takes x'.takes d) (sym (stays ∙ keeps ∙ on))
-      (takes_on ∙ takes)) (λ on. absurd (goes_not_stopped stop (on ∙ is)))
+      (takes_on ∙ takes, λ is_strict. refl)) (λ on. absurd (goes_not_stopped stop (on ∙ is)))
 
   left_making : (due : Bool) (x : At) (left : KeptServer) → (left ≡ kept_at x) ⊎ FirstOf due x left
       → Left due 0 x left
@@ -158,6 +162,7 @@ module _ {C I O K : Type 0} (opens : C → Option (I × O) → C → Type 0) (cl
         lines = [];
         mid = x.takes;
         takes = refl;
+        passes = inl (λ is_strict. refl);
         pauses = inl takes;
         done = λ on. absurd (goes_not_stopped stop (on ∙ is));
         behind = λ none some. absurd (omega (arith, unknown, none, some));

@@ -4,7 +4,7 @@ use Rattle.rds_text.specs.declared.programme_type.Region.{Region}
 use Rattle.uecp_text.specs.declared.run_fault.RunFault.{RunFault}
 use Rattle.line_batches.specs.declared.intake.Given.{Given}
 use Rattle.line_batches.specs.Intake.{Intake, TakesLines, TakesOne, FailsToTake}
-use Rattle.line_batches.specs.Batches.{EndsRefused, LosesMessage}
+use Rattle.line_batches.specs.Batches.{EndsRefused, LosesMessage, NoneRefused}
 use Rattle.live_sending.specs.declared.options.LiveOptions.{LiveOptions}
 
 -- How the taking of lines comes to a stop: nothing was done; or the input was found at its end; or the next line could
@@ -14,21 +14,28 @@ Pauses region x x' =
     (x' ≡ x) ⊎ TakesOne region x x' None
     ⊎ ((fault : RunFault) × (FailsToTake x x' fault ⊎ LosesMessage region x x' fault))
 
--- The input is at its end; or the last of these lines was refused, where that ends the run.
+-- The input is at its end, and none of these lines was refused where that ends the run; or the last of them was, and no
+-- other, and that ends the run.
 abbrev pub ComesToEnd : Region → (strict : Bool) → List (List ℕ × Given) → (x x' : Intake) → Type 0
 ComesToEnd region strict lines x x' =
-    TakesOne region x x' None ⊎ ((strict ≡ true) × EndsRefused lines × (x' ≡ x))
+    (TakesOne region x x' None × NoneRefused strict lines) ⊎ ((strict ≡ true) × EndsRefused lines × (x' ≡ x))
+
+-- Where a line that is refused ends the run, none of these was, or the last and no other.
+abbrev pub Passes : (strict : Bool) → List (List ℕ × Given) → Type 0
+Passes strict lines = NoneRefused strict lines ⊎ ((strict ≡ true) × EndsRefused lines)
 
 -- where the taking of lines stands at the start of a run
 abbrev pub at_start : (unread said : Option (List ℕ)) → Intake
 at_start unread said = record { unread = unread; lines = 0; refused = false; said = said }
 
--- A run took these lines of its input, one after another, and nothing else, and then it took no more.
+-- A run took these lines of its input, one after another, and nothing else, and then it took no more; with `strict` none
+-- of them was refused, or the last alone.
 pub record TakesSome (options : LiveOptions) (unread unread' said : Option (List ℕ)) (lines : List (List ℕ × Given))
     : Type 0 where
   pub last : Intake
   pub end : Intake
   pub taken : TakesLines options.reading.region lines (at_start unread said) last
+  pub passes : Passes options.reading.strict lines
   pub pauses : Pauses options.reading.region last end
   pub is_unread : unread' ≡ end.unread
 

@@ -1,5 +1,5 @@
 -- What a whole run told of the messages of its lines (profile).
-use Rattle.std.specs.Prelude.{◌≡◌, ◌⊎◌, ℕ, zero, suc, ◌+◌, ◌-◌, Bool, true, false, ◌||◌, List, [], ◌∷◌, ◌++◌}
+use Rattle.std.specs.Prelude.{◌≡◌, ◌⊎◌, ℕ, zero, suc, ◌+◌, ◌-◌, Bool, true, false, List, [], ◌∷◌, ◌++◌}
 use Rattle.std.specs.Prelude.{length, Option, Some, None}
 use Rattle.std.specs.List.{list_all}
 use Rattle.uecp_elements.specs.declared.code.Code.{Code}
@@ -11,7 +11,7 @@ use Rattle.output_forms.specs.declared.form.Form.{Form}
 use Rattle.output_forms.specs.declared.form.Form.TheVariants.{Lines, Words, Json}
 use Rattle.uecp_watch.specs.Stamps.{IsStamp}
 use Rattle.line_batches.specs.declared.intake.Given.{Given}
-use Rattle.line_batches.specs.Intake.{is_refusal}
+use Rattle.line_batches.specs.Intake.{has_refused}
 use Rattle.live_objects.specs.Objects as objects
 use Rattle.live_sending.specs.declared.options.LiveOptions.{LiveOptions}
 use Rattle.live_sending.specs.Lines as lines
@@ -48,11 +48,6 @@ AreAnswers form first (answer ∷ answers) text =
 abbrev pub was_applied : Option Code → Bool
 was_applied (Some code) = lines.is_applied code
 was_applied None = false
-
--- whether one of these lines was refused
-abbrev pub has_refused : List (List ℕ × Given) → Bool
-has_refused [] = false
-has_refused ((line, given) ∷ more) = is_refusal given || has_refused more
 
 -- What a status says of a run that came to its end with these lines and answers: 1 that a line was refused; 0 that none
 -- was, and each message was told to be applied; 4 that none was.
