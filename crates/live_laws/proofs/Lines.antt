@@ -54,7 +54,8 @@ pub goes_on_after : (region : Region) (strict : Bool) (taken : List (List ℕ ×
     × NoneRefused strict taken)
     → (z ≡ y) × NoneRefused strict taken
 goes_on_after region strict taken y z (inl (some, passed, same)) = (same, passed)
-goes_on_after region strict taken y z (inr (fault, is, why, passed)) = absurd (let no : GoesOn ≡ Ends (Err fault) = is in cc)
+goes_on_after region strict taken y z (inr (fault, is, why, passed)) = absurd (let no : GoesOn ≡ Ends (Err fault) = is
+    in cc)
 
 refused_append : (a b : List (List ℕ × Given)) → has_refused a ≡ false → has_refused b ≡ false
     → has_refused (a ++ b) ≡ false

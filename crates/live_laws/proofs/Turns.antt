@@ -154,7 +154,8 @@ module _ {C I O K : Type 0} (opens : C → Option (I × O) → C → Type 0) (cl
         let (a, one, none) = goes_on_part n x y before in
         let (b, mid, part, next) = turn_part y x' (Ends end) goes turn in
         turns_end a b x y x' mid end went one part next is none
-        (λ zero_was. turn_unknown opens closes remaining contents leaves is_clean saves fails form region size strict y x'
+        (λ zero_was. turn_unknown opens closes remaining contents leaves is_clean saves fails form region size strict y
+        x'
         (Ends end) (going_unknown opens closes remaining contents leaves is_clean saves fails form region size strict n
         x
         y zero_was before) turn)
@@ -170,7 +171,8 @@ module _ {C I O K : Type 0} (opens : C → Option (I × O) → C → Type 0) (cl
           pauses = pauses_after region strict b mid x'.takes after next;
           done = λ on. absurd (goes_not_stopped stop (on ∙ is));
           behind = λ zero_was some. subst (λ d. Stands region strict (a ++ b) mid x'.takes d) (sym turn.behind)
-              (stands_on region strict a b mid x'.takes after none (stands_after region strict b mid x'.takes after next));
+              (stands_on region strict a b mid x'.takes after none (stands_after region strict b mid x'.takes after
+              next));
         }
     turned x x' went (n, y, before, inr (all, same, is)) =
         let (a, one, none) = goes_on_part n x y before in

@@ -28,7 +28,8 @@ Passes strict lines = NoneRefused strict lines ⊎ ((strict ≡ true) × EndsRef
 abbrev pub at_start : (unread said : Option (List ℕ)) → Intake
 at_start unread said = record { unread = unread; lines = 0; refused = false; said = said }
 
--- A run took these lines of its input, one after another, and nothing else, and then it took no more; with `strict` none
+-- A run took these lines of its input, one after another, and nothing else, and then it took no more; with `strict`
+-- none
 -- of them was refused, or the last alone.
 pub record TakesSome (options : LiveOptions) (unread unread' said : Option (List ℕ)) (lines : List (List ℕ × Given))
     : Type 0 where
