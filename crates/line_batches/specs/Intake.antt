@@ -71,6 +71,11 @@ abbrev pub is_refusal : Given → Bool
 is_refusal (Refused fault) = true
 is_refusal given = false
 
+-- whether one of these lines was refused
+abbrev pub has_refused : List (List ℕ × Given) → Bool
+has_refused [] = false
+has_refused ((line, given) ∷ more) = is_refusal given || has_refused more
+
 -- One line was taken, which gives this, and that was said; then it was looked whether another is there.
 pub record TakesLine (region : Region) (line : List ℕ) (given : Given) (x x' : Intake) : Type 0 where
   pub between : Option (List ℕ)

@@ -10,10 +10,12 @@ use Rattle.kept_jobs.specs.Stops.{Went, stop_status, stop_lines}
 use Rattle.kept_jobs.specs.ServerRun.{Standing}
 use Rattle.kept_jobs.proofs.Outliving.{goes, stopped, goes_not_stopped}
 use Rattle.line_batches.specs.declared.intake.Given.{Given}
+use Rattle.line_batches.specs.declared.taking.After.TheVariants.{GoesOn}
 use Rattle.line_batches.specs.Intake.{Intake}
 use Rattle.live_sending.specs.Run.{Live, tally_status}
 use Rattle.live_laws.specs.Taken.{at_start}
-use Rattle.live_laws.specs.Told.{was_applied, has_refused, IsStatusOf}
+use Rattle.line_batches.specs.Intake.{has_refused}
+use Rattle.live_laws.specs.Told.{was_applied, IsStatusOf}
 use Rattle.live_laws.specs.Laws.{IsDone, DoneIsKept, WhatACrashLeaves, ToldIsTaken}
 use Rattle.live_laws.proofs.Refusing.{refused_in_all, status_so}
 use Rattle.live_laws.proofs.Runs.{whole}
@@ -54,7 +56,13 @@ module _ {C I O K : Type 0} (opens : C → Option (I × O) → C → Type 0) (cl
     (is_clean : K → Type 0) (saves fails : K → KeptServer → K → Type 0) where
   -- where a run stands at its start
   abbrev begins_at : Standing ServerState K → (unread said : Option (List ℕ)) → Live ServerState K
-  begins_at x unread said = record { sends = x; takes = at_start unread said; applied = true; unknown = 0 }
+  begins_at x unread said = record {
+    sends = x;
+    takes = at_start unread said;
+    applied = true;
+    unknown = 0;
+    behind = GoesOn;
+  }
 
   pub done_is_kept_lem : DoneIsKept opens closes remaining contents leaves is_clean saves fails
   done_is_kept_lem options c c' x k' held' unread unread' said said' status
@@ -65,11 +73,9 @@ module _ {C I O K : Type 0} (opens : C → Option (I × O) → C → Type 0) (cl
       let on : goes ≡ went = on_where_done went end applied said' status done w.status ended in (
         w.lines,
         record {
-          stops = w.again;
           last = w.mid;
           end = end;
           taken = w.takes;
-          once = w.once;
           ends = w.done on;
           is_unread = unread_is;
         },
@@ -84,11 +90,10 @@ module _ {C I O K : Type 0} (opens : C → Option (I × O) → C → Type 0) (cl
       end applied went lives in (
         w.lines,
         record {
-          stops = w.again;
           last = w.mid;
           end = end;
           taken = w.takes;
-          once = w.once;
+          passes = w.passes;
           pauses = w.pauses;
           is_unread = unread_is;
         },
@@ -106,20 +111,18 @@ module _ {C I O K : Type 0} (opens : C → Option (I × O) → C → Type 0) (cl
       (begins_at x unread said) k' held' end applied went lives on in (
         t.lines,
         record {
-          stops = t.again;
           last = t.mid;
           end = end;
           taken = t.takes;
-          once = t.once;
           ends = t.ends;
           is_unread = unread_is;
         },
         t.answers,
         t.text,
         t.number,
-        t.tells,
+        (t.again, t.once, t.tells),
         t.appended,
         status_where_done went end applied said' status t.lines t.answers on
-            (refused_in_all options.reading.region options.reading.strict t.again t.lines (at_start unread said) t.mid
+            (refused_in_all options.reading.region options.reading.strict t.lines (at_start unread said) t.mid
             end refl t.takes t.ends) t.applied ended,
       )

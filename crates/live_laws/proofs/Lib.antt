@@ -12,3 +12,4 @@ pub mod Telling
 pub mod Speaking
 pub mod TellingRuns
 pub mod Refusing
+pub mod Unknown

@@ -1,21 +1,25 @@
 -- What a crash leaves of a server by which the encoder is joined and the station made.
-use Rattle.std.proofs.Common.{◌≡◌, ◌⊎◌, ℕ, Bool, true, false, List, Option, Ok, Err, refl, sym, ap, subst, ◌∙◌, inl}
+use Rattle.std.proofs.Common.{zero, suc, [], ◌≡◌, ◌⊎◌, ℕ, Bool, true, false, List, Option, Ok, Err, refl, sym, ap}
+use Rattle.std.proofs.Common.{subst, ◌∙◌, inl}
 use Rattle.std.proofs.Common.{inr}
 use Rattle.uecp_elements.specs.declared.code.Code.{Code}
+use Rattle.uecp_link.specs.Server.{ServerState}
+use Rattle.uecp_net.specs.declared.sending.Outstanding.{Outstanding}
 use Rattle.uecp_net.specs.Sending.{SenderOver}
 use Rattle.uecp_jobs.specs.Batches.{fault_of}
 use Rattle.kept_sending.specs.declared.keep.Progress.{Progress}
 use Rattle.kept_sending.specs.declared.sending.KeptOutstanding.TheVariants as kept
 use Rattle.kept_sending.specs.Keeping.{KeptServer, kept_of, IsKept}
-use Rattle.kept_sending.specs.Joining.{Joined, OutlivesPass, StaysKeptJoining, HasJoined}
+use Rattle.kept_sending.specs.Joining.{Joined, Joins, OutlivesPass, StaysKeptJoining, HasJoined}
+use Rattle.kept_sending.proofs.Joined.{begins_anew_lem}
 use Rattle.kept_jobs.specs.declared.stop.KeptStop.{KeptStop}
 use Rattle.kept_jobs.specs.declared.stop.KeptStop.TheVariants.{Run, StateFailed}
 use Rattle.kept_jobs.specs.Stops.{Went, stop_status}
 use Rattle.kept_jobs.specs.ServerRun.{Standing}
 use Rattle.kept_jobs.proofs.Outliving.{goes, stopped, goes_not_stopped, told_stops}
 use Rattle.output_forms.specs.declared.form.Form.{Form}
-use Rattle.live_sending.specs.Forms.{not_joined_in}
-use Rattle.live_sending.specs.Station.{MakesStation, MakesOne, MakesIf, JoinedTold}
+use Rattle.live_sending.specs.Forms.{not_joined_in, station_in}
+use Rattle.live_sending.specs.Station.{SentFor, MakesStation, MakesOne, MakesIf, JoinedTold}
 use Rattle.live_laws.proofs.Statuses.{not_so, joined_status}
 
 module _ {C I O K : Type 0} (opens : C → Option (I × O) → C → Type 0) (closes : C → I → O → C → Type 0)
@@ -130,3 +134,51 @@ module _ {C I O K : Type 0} (opens : C → Option (I × O) → C → Type 0) (cl
       }
   making_if true x x' applied applied' went (told, joined, one, tells, apply) =
       making _ told joined x x' went one tells
+
+  -- ---- None waits behind it.
+
+  joins_idle : (s s' : SenderOver C I O) → Joins opens closes remaining contents s s' (Ok tt)
+      → s.sender.server.held ≡ [] → s'.sender.server.held ≡ []
+  joins_idle s s' joins idle =
+      let p : Progress = record { taken = 0; joined = false } in
+      let done : Joined = Ok tt in
+      elim (begins_anew_lem opens closes remaining contents p p s s' done (kept_of p s'.sender.server) refl idle
+      (λ has. joins) (inr (refl, tt))) [
+        | inl was ↦ was.1
+        | inr new ↦ new.1
+      ]
+
+  sent_for_idle : (n : ℕ) (messages : List (List ℕ)) (told : List Code) (left : List (List ℕ))
+      (s s' : SenderOver C I O) → SentFor opens closes remaining contents size messages n told left s s'
+      → s.sender.server.held ≡ [] → s'.sender.server.held ≡ []
+  sent_for_idle zero messages told left s s' (none, all, same) idle =
+      ap (λ (d : SenderOver C I O). d.sender.server.held) same ∙ idle
+  sent_for_idle (suc n) messages told left s s'
+      (before, rest, y, more, tries, sent, some, acknowledges, is_told, is_left) idle =
+      ap (λ (d : ServerState). d.held) acknowledges.freed
+
+  station_idle : (told : List Code) (s s' : SenderOver C I O)
+      → MakesStation opens closes remaining contents size station told s s' (Ok tt)
+      → s.sender.server.held ≡ [] → s'.sender.server.held ≡ []
+  station_idle told s s' (inl (y, joins, (batches, sent))) idle =
+      sent_for_idle batches station told [] y s' sent (joins_idle s y joins idle)
+  station_idle told s s' (inr (reason, joins, none, is)) idle = absurd (no_error reason is)
+    where
+      no_error : (reason : Outstanding) → Ok (tt {0}) ≡ Err reason → ⊥
+      no_error reason is = cc
+
+  pub makes_idle : (due : Bool) (x x' : At) (applied applied' : Bool)
+      → MakesIf opens closes remaining contents leaves is_clean saves fails form size station due x x' applied applied'
+      goes
+      → x.runs.sender.server.held ≡ [] → x'.runs.sender.server.held ≡ []
+  makes_idle false x x' applied applied' (same, apply, is) idle =
+      ap (λ (s : At). s.runs.sender.server.held) same ∙ idle
+  makes_idle true x x' applied applied' (told, joined, one, tells, apply) idle = by joined one tells
+    where
+      by : (joined : Joined) → One told joined x x'
+          → JoinedTold form (station_in form station told) joined x.held x'.held goes
+          → x'.runs.sender.server.held ≡ []
+      by (Ok done) one tells = station_idle told x.runs x'.runs one.makes.0 idle
+      by (Err (kept.Outstanding reason)) one tells =
+          absurd (told_stops (not_joined_in form) (Run (fault_of reason)) x.held x'.held goes tells refl)
+      by (Err kept.StateFailed) one (same, is) = absurd (goes_not_stopped StateFailed is)

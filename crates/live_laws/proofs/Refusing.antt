@@ -1,15 +1,15 @@
 -- Whether a line was refused.
-use Rattle.std.proofs.Common.{◌≡◌, ℕ, zero, suc, Bool, true, false, ◌||◌, List, [], ◌∷◌, ◌++◌, refl, sym, ap, ◌∙◌}
+use Rattle.std.proofs.Common.{◌≡◌, ℕ, Bool, true, false, ◌||◌, List, [], ◌∷◌, refl, sym, ap, ◌∙◌}
 use Rattle.std.proofs.Common.{inl, inr}
 use Rattle.std.specs.Prelude.{Option}
 use Rattle.std.specs.List.{list_all}
 use Rattle.rds_text.specs.declared.programme_type.Region.{Region}
 use Rattle.uecp_elements.specs.declared.code.Code.{Code}
 use Rattle.line_batches.specs.declared.intake.Given.{Given}
-use Rattle.line_batches.specs.Intake.{Intake, TakesLines, is_refusal}
+use Rattle.line_batches.specs.Intake.{Intake, TakesLines, is_refusal, has_refused}
 use Rattle.live_sending.specs.Run.{tally_status}
-use Rattle.live_laws.specs.Taken.{Pauses, TakesFor, ComesToEnd}
-use Rattle.live_laws.specs.Told.{was_applied, has_refused, IsStatusOf}
+use Rattle.live_laws.specs.Taken.{ComesToEnd}
+use Rattle.live_laws.specs.Told.{was_applied, IsStatusOf}
 
 or_assoc : (a b c : Bool) → ((a || b) || c) ≡ (a || (b || c))
 or_assoc true b c = refl
@@ -19,12 +19,6 @@ or_false : (a : Bool) → (a || false) ≡ a
 or_false true = refl
 or_false false = refl
 
-refused_append : (a b : List (List ℕ × Given)) → has_refused (a ++ b) ≡ (has_refused a || has_refused b)
-refused_append [] b = refl
-refused_append ((line, given) ∷ a) b =
-    ap (λ r. is_refusal given || r) (refused_append a b)
-    ∙ sym (or_assoc (is_refusal given) (has_refused a) (has_refused b))
-
 refused_lines : (region : Region) (lines : List (List ℕ × Given)) (x y : Intake) → TakesLines region lines x y
     → y.refused ≡ (x.refused || has_refused lines)
 refused_lines region [] x y same = ap (λ (i : Intake). i.refused) same ∙ sym (or_false x.refused)
@@ -32,34 +26,17 @@ refused_lines region ((line, given) ∷ more) x y (w, one, rest) =
     refused_lines region more w y rest ∙ ap (λ r. r || has_refused more) one.refused
     ∙ or_assoc x.refused (is_refusal given) (has_refused more)
 
-refused_pausing : (region : Region) (x y : Intake) → Pauses region x y → y.refused ≡ x.refused
-refused_pausing region x y (inl same) = ap (λ (i : Intake). i.refused) same
-refused_pausing region x y (inr (inl (stays, next))) = ap (λ (i : Intake). i.refused) stays
-refused_pausing region x y (inr (inr (fault, inl (stays, fails)))) = ap (λ (i : Intake). i.refused) stays
-refused_pausing region x y (inr (inr (fault, inr (is, (line, message, takes))))) =
-    takes.refused ∙ or_false x.refused
-
-refused_for : (region : Region) (n : ℕ) (lines : List (List ℕ × Given)) (x y : Intake) → TakesFor region n lines x y
-    → y.refused ≡ (x.refused || has_refused lines)
-refused_for region zero lines x y takes = refused_lines region lines x y takes
-refused_for region (suc n) lines x y (before, more, w, z, first, pauses, rest, is) =
-    refused_lines region more z y rest
-    ∙ ap (λ r. r || has_refused more)
-    (refused_pausing region w z pauses ∙ refused_for region n before x w first)
-    ∙ or_assoc x.refused (has_refused before) (has_refused more)
-    ∙ ap (λ r. x.refused || r) (sym (refused_append before more) ∙ ap has_refused (sym is))
-
 refused_ending : (region : Region) (strict : Bool) (lines : List (List ℕ × Given)) (x y : Intake)
     → ComesToEnd region strict lines x y → y.refused ≡ x.refused
-refused_ending region strict lines x y (inl (stays, next)) = ap (λ (i : Intake). i.refused) stays
+refused_ending region strict lines x y (inl ((stays, next), none)) = ap (λ (i : Intake). i.refused) stays
 refused_ending region strict lines x y (inr (is_strict, refused, same)) = ap (λ (i : Intake). i.refused) same
 
 -- at the end of a run that began with none
-pub refused_in_all : (region : Region) (strict : Bool) (n : ℕ) (lines : List (List ℕ × Given)) (x y z : Intake)
-    → x.refused ≡ false → TakesFor region n lines x y → ComesToEnd region strict lines y z
+pub refused_in_all : (region : Region) (strict : Bool) (lines : List (List ℕ × Given)) (x y z : Intake)
+    → x.refused ≡ false → TakesLines region lines x y → ComesToEnd region strict lines y z
     → has_refused lines ≡ z.refused
-refused_in_all region strict n lines x y z none takes ends =
-    sym (refused_ending region strict lines y z ends ∙ refused_for region n lines x y takes
+refused_in_all region strict lines x y z none takes ends =
+    sym (refused_ending region strict lines y z ends ∙ refused_lines region lines x y takes
     ∙ ap (λ r. r || has_refused lines) none)
 
 pub status_so : (lines : List (List ℕ × Given)) (answers : List (Option Code)) (status : ℕ) (refused applied : Bool)

@@ -1,30 +1,34 @@
 -- What a crash leaves of senders that run one after another, and of a whole run.
 use Rattle.std.proofs.Common.{arith, ◌≡◌, ◌⊎◌, ℕ, zero, suc, ◌+◌, ◌-◌, ◌≤◌, Bool, true, false, ◌||◌, not, List, []}
 use Rattle.std.proofs.Common.{◌++◌}
-use Rattle.std.proofs.Common.{length, Option, Ok, refl, sym, ap, subst, ◌∙◌, inl, inr, append-nil}
+use Rattle.std.proofs.Common.{length, Option, Ok, Err, refl, sym, ap, subst, ◌∙◌, inl, inr}
+use Rattle.std.specs.Prelude.{Result}
+use Rattle.uecp_text.specs.declared.run_fault.RunFault.{RunFault}
 use Rattle.uecp_link.specs.Server.{ServerState, idle_at, waiting}
 use Rattle.kept_sending.specs.declared.keep.Progress.{Progress}
 use Rattle.kept_sending.specs.Keeping.{KeptServer, kept_of, IsKept}
 use Rattle.kept_jobs.specs.declared.stop.KeptStop.{KeptStop}
-use Rattle.kept_jobs.specs.declared.stop.KeptStop.TheVariants.{StateFailed}
+use Rattle.kept_jobs.specs.declared.stop.KeptStop.TheVariants.{Run, StateFailed}
 use Rattle.kept_jobs.specs.Stops.{Went, Then, TellsKept, stop_status}
 use Rattle.kept_jobs.specs.ServerRun.{Standing, sending, is_due}
 use Rattle.kept_jobs.specs.ServerKept.{HasTaken}
 use Rattle.kept_jobs.proofs.Outliving.{goes, stopped, goes_not_stopped, same_status}
 use Rattle.kept_jobs.proofs.Begun.{HasBegun, LeftBegun}
 use Rattle.line_batches.specs.declared.intake.Given.{Given}
+use Rattle.line_batches.specs.declared.taking.After.{After}
+use Rattle.line_batches.specs.declared.taking.After.TheVariants.{GoesOn, Ends}
 use Rattle.line_batches.specs.Intake.{Intake, TakesLines, messages_in}
 use Rattle.live_sending.specs.declared.options.LiveOptions.{LiveOptions}
 use Rattle.output_forms.specs.declared.form.Form.{Form}
 use Rattle.live_sending.specs.Beginning.{TellsTaken, BeginsAnew, BeginsAnewIf}
 use Rattle.live_sending.specs.Forms.{given_up_in, unknown_in}
-use Rattle.live_sending.specs.Run.{Live, Renews, RunsOne, RunsAgain, RunsFor, LivesFrom}
-use Rattle.live_laws.specs.Taken.{Pauses, TakesFor, ComesToEnd}
+use Rattle.live_sending.specs.Run.{Live, Renews, RunsOne, RunsAgain, RunsFor, LivesFrom, ended_as}
+use Rattle.live_laws.specs.Taken.{Pauses, ComesToEnd, Passes}
 use Rattle.live_laws.specs.Left.{new_kept, OutlivesLive}
-use Rattle.live_laws.proofs.Lines.{messages_count, ends_on}
-use Rattle.live_laws.proofs.Statuses.{not_so, telling_status}
+use Rattle.live_laws.proofs.Lines.{messages_count, lines_on, ends_on, passes_on, Stands, stands_on, stands_pausing}
+use Rattle.live_laws.proofs.Statuses.{not_so, telling_status, taking_status}
 use Rattle.live_laws.proofs.Begun.{begun_so, has_begun}
-use Rattle.live_laws.proofs.Senders.{Left, ran}
+use Rattle.live_laws.proofs.Senders.{Left, ran, ran_out}
 
 was_joined : (join joined : Bool) → (join || not joined) ≡ false → joined ≡ true
 was_joined true joined is = absurd (let no : true ≡ false = is in cc)
@@ -62,7 +66,7 @@ module _ {C I O K : Type 0} (opens : C → Option (I × O) → C → Type 0) (cl
 
   -- where a run stands that goes on with a new server
   abbrev anew_at : LiveWas → Was → LiveWas
-  anew_at x y = record { sends = y; takes = x.takes; applied = false; unknown = 0 }
+  anew_at x y = record { sends = y; takes = x.takes; applied = false; unknown = 0; behind = x.behind }
 
   -- ---- The beginning.
 
@@ -212,8 +216,11 @@ module _ {C I O K : Type 0} (opens : C → Option (I × O) → C → Type 0) (cl
       pub lines : List (List ℕ × Given)
       pub mid : Intake
       pub takes : TakesLines options.reading.region lines x.takes mid
+      pub passes : Passes options.reading.strict lines
       pub pauses : Pauses options.reading.region mid x'.takes
       pub done : goes ≡ went → ComesToEnd options.reading.region options.reading.strict lines mid x'.takes
+      pub behind : x.unknown ≡ 0 → 1 ≤ x'.unknown
+          → Stands options.reading.region options.reading.strict lines mid x'.takes x'.behind
       pub clean : is_clean x'.sends.keeper → is_clean x.sends.keeper
       pub settled : goes ≡ went → IsKeptOf x.sends → is_clean x'.sends.keeper → IsKeptOf x'.sends
       pub counted : x'.sends.progress.taken ≡ x.sends.progress.taken + length (messages_in lines)
@@ -223,16 +230,53 @@ module _ {C I O K : Type 0} (opens : C → Option (I × O) → C → Type 0) (cl
           → (loan : ℕ) × (c : C) × LeftOf by (length (messages_in lines)) loan c x.sends left
       pub status : (stop : KeptStop) → went ≡ stopped stop → stop_status stop ≡ 3
 
-    one_so : (by : Bool) (c c' : C) (x x' : LiveWas) (went : Went)
+    one_so : (by : Bool) (c c' : C) (x x' : LiveWas) (went : Went) → x.behind ≡ GoesOn
         → RunsOne opens closes remaining contents leaves is_clean saves fails options by c c' x x' went
         → One by x x' went
-    one_so by c c' x x' went (loan, z, runs, finishes, is) =
-        let r = ran opens closes remaining contents leaves is_clean saves fails options by _ z went runs in
+    one_so by c c' x x' went on (loan, z, runs, finishes, is) =
+        let r = ran opens closes remaining contents leaves is_clean saves fails options by _ z went on runs in
         subst (λ (y : LiveWas). One by x y went) (sym is) (record {
           lines = r.lines;
           mid = r.mid;
           takes = r.takes;
+          passes = r.passes;
           pauses = r.pauses;
+          done = r.done;
+          behind = r.behind;
+          clean = r.clean;
+          settled = r.settled;
+          counted = r.counted;
+          joined = r.joined;
+          idle = r.idle;
+          outlives = λ settled clean left leaves_it. (loan, c, r.outlives settled clean left leaves_it);
+          status = r.status;
+        })
+
+    -- one sender, where the end of the run was found before
+    record Out (by : Bool) (x x' : LiveWas) (end : Result (Unit {0}) RunFault) (went : Went) : Type 0 where
+      pub takes : x'.takes ≡ x.takes
+      pub none : x'.unknown ≡ x.unknown
+      pub done : goes ≡ went → goes ≡ ended_as end
+      pub clean : is_clean x'.sends.keeper → is_clean x.sends.keeper
+      pub settled : goes ≡ went → IsKeptOf x.sends → is_clean x'.sends.keeper → IsKeptOf x'.sends
+      pub counted : x'.sends.progress.taken ≡ x.sends.progress.taken
+      pub joined : goes ≡ went → (by ≡ false → x.sends.progress.joined ≡ true) → x'.sends.progress.joined ≡ true
+      pub idle : goes ≡ went → x.sends.runs.held ≡ [] → x'.sends.runs.held ≡ []
+      pub outlives : IsKeptOf x.sends → is_clean x'.sends.keeper → (left : KeptServer) → leaves x'.sends.keeper left
+          → (loan : ℕ) × (c : C) × LeftOf by 0 loan c x.sends left
+      pub status : ((stop : KeptStop) → ended_as end ≡ stopped stop → stop_status stop ≡ 3) → (stop : KeptStop)
+          → went ≡ stopped stop → stop_status stop ≡ 3
+
+    out_so : (by : Bool) (c c' : C) (x x' : LiveWas) (end : Result (Unit {0}) RunFault) (went : Went)
+        → x.behind ≡ Ends end
+        → RunsOne opens closes remaining contents leaves is_clean saves fails options by c c' x x' went
+        → Out by x x' end went
+    out_so by c c' x x' end went is_end (loan, z, runs, finishes, is) =
+        let r = ran_out opens closes remaining contents leaves is_clean saves fails options by _ z end went is_end runs
+        in
+        subst (λ (y : LiveWas). Out by x y end went) (sym is) (record {
+          takes = r.takes;
+          none = r.none;
           done = r.done;
           clean = r.clean;
           settled = r.settled;
@@ -247,10 +291,13 @@ module _ {C I O K : Type 0} (opens : C → Option (I × O) → C → Type 0) (cl
     pub record Senders (again : ℕ) (x x' : LiveWas) (went : Went) : Type 0 where
       pub lines : List (List ℕ × Given)
       pub mid : Intake
-      pub takes : TakesFor options.reading.region again lines x.takes mid
+      pub takes : TakesLines options.reading.region lines x.takes mid
       pub once : options.rejoin ≡ false → again ≡ 0
+      pub passes : Passes options.reading.strict lines
       pub pauses : Pauses options.reading.region mid x'.takes
       pub done : goes ≡ went → ComesToEnd options.reading.region options.reading.strict lines mid x'.takes
+      pub behind : 1 ≤ x'.unknown
+          → Stands options.reading.region options.reading.strict lines mid x'.takes x'.behind
       pub clean : is_clean x'.sends.keeper → is_clean x.sends.keeper
       pub settled : goes ≡ went → IsKeptOf x.sends → is_clean x'.sends.keeper → IsKeptOf x'.sends
       pub counted : x'.sends.progress.taken ≡ x0.progress.taken + length (messages_in lines)
@@ -277,16 +324,19 @@ module _ {C I O K : Type 0} (opens : C → Option (I × O) → C → Type 0) (cl
     same_address true x (runs, progress) = ap (λ (s : ServerState). s.address) runs
 
     first_sender : (c c' : C) (x x' : LiveWas) (went : Went) → HasBegun leaves is_clean saves fails due x0 x.sends
+        → x.unknown ≡ 0 → x.behind ≡ GoesOn
         → RunsOne opens closes remaining contents leaves is_clean saves fails options due c c' x x' went
         → Senders 0 x x' went
-    first_sender c c' x x' went has runs =
-        let r = one_so due c c' x x' went runs in record {
+    first_sender c c' x x' went has none on runs =
+        let r = one_so due c c' x x' went on runs in record {
           lines = r.lines;
           mid = r.mid;
           takes = r.takes;
           once = λ never. refl;
+          passes = r.passes;
           pauses = r.pauses;
           done = r.done;
+          behind = λ some. r.behind none some;
           clean = r.clean;
           settled = r.settled;
           counted = (let a = r.counted in let b = still_taken due x.sends has in omega (arith, a, b));
@@ -322,26 +372,49 @@ module _ {C I O K : Type 0} (opens : C → Option (I × O) → C → Type 0) (cl
     not_once : (n : ℕ) → options.rejoin ≡ true → options.rejoin ≡ false → suc n ≡ 0
     not_once n rejoin never = absurd (let no : true ≡ false = sym rejoin ∙ never in cc)
 
-    next_sender : (n : ℕ) (address : ℕ) (d c' : C) (x y x' : LiveWas) (stopped_so went : Went)
-        → address ≡ x0.runs.address → options.rejoin ≡ true → Senders n x y stopped_so
-        → RunsAgain opens closes remaining contents leaves is_clean saves fails options address d c' y x' went
-        → Senders (suc n) x x' went
-    next_sender n address d c' x y x' stopped_so went at rejoin before (w, new, inl (renews, runs)) =
-        let r = one_so true d c' (anew_at y w) x' went runs in
+    -- where the end was found behind what is outstanding, it is an end
+    end_is : (lines : List (List ℕ × Given)) (mid end : Intake) (ends : Result (Unit {0}) RunFault)
+        → Stands options.reading.region options.reading.strict lines mid end (Ends ends) → goes ≡ ended_as ends
+        → ComesToEnd options.reading.region options.reading.strict lines mid end
+    end_is lines mid end (Ok done) stands on = stands
+    end_is lines mid end (Err fault) stands on = absurd (goes_not_stopped (Run fault) on)
+
+    end_status : (lines : List (List ℕ × Given)) (mid end : Intake) (ends : Result (Unit {0}) RunFault)
+        → Stands options.reading.region options.reading.strict lines mid end (Ends ends) → (stop : KeptStop)
+        → ended_as ends ≡ stopped stop → stop_status stop ≡ 3
+    end_status lines mid end (Ok done) stands stop is = not_so stop (sym is)
+    end_status lines mid end (Err fault) stands stop is =
+        same_status stop (Run fault) (taking_status options.reading.region mid end fault stands) (sym is)
+
+    next_by : (n : ℕ) (address : ℕ) (d c' : C) (x y x' : LiveWas) (w : Was) (stopped_so went : Went)
+        → address ≡ x0.runs.address → options.rejoin ≡ true → 1 ≤ y.unknown → Senders n x y stopped_so
+        → w.runs ≡ idle_at address
+        → Renews leaves is_clean saves fails options.form y.unknown y.sends w goes
+        → RunsOne opens closes remaining contents leaves is_clean saves fails options true d c' (anew_at y w) x' went
+        → (behind : After) → y.behind ≡ behind → Senders (suc n) x x' went
+    next_by n address d c' x y x' w stopped_so went at rejoin some before new renews runs GoesOn is_on =
+        let r = one_so true d c' (anew_at y w) x' went is_on runs in
         let earlier = length (messages_in before.lines) in
         let most = length (messages_in r.lines) in
         let all : length (messages_in (before.lines ++ r.lines)) ≡ earlier + most =
         messages_count before.lines r.lines in
         let now : w.progress.taken ≡ x0.progress.taken + earlier =
         ap (λ (p : Progress). p.taken) renews.progress ∙ before.counted in
+        let (there, none) =
+        subst (λ b. Stands options.reading.region options.reading.strict before.lines before.mid y.takes b) is_on
+        (before.behind some) in
         record {
           lines = before.lines ++ r.lines;
           mid = r.mid;
-          takes = (before.lines, r.lines, before.mid, y.takes, before.takes, before.pauses, r.takes, refl);
+          takes = lines_on options.reading.region before.lines r.lines x.takes before.mid r.mid before.takes
+              (subst (λ i. TakesLines options.reading.region r.lines i r.mid) there r.takes);
           once = not_once n rejoin;
+          passes = passes_on options.reading.strict before.lines r.lines none r.passes;
           pauses = r.pauses;
           done = λ on. ends_on options.reading.region options.reading.strict before.lines r.lines r.mid x'.takes
-              (r.done on);
+              none (r.done on);
+          behind = λ more. stands_on options.reading.region options.reading.strict before.lines r.lines r.mid x'.takes
+              x'.behind none (r.behind refl more);
           clean = λ clean. before.clean (renews.clean (r.clean clean));
           settled = λ on settled clean. r.settled on (renewed y.unknown y.sends w renews (r.clean clean)) clean;
           counted = (let a = r.counted in omega (arith, a, now, all));
@@ -355,27 +428,61 @@ module _ {C I O K : Type 0} (opens : C → Option (I × O) → C → Type 0) (cl
               (ap (λ (p : Progress). p.joined) renews.progress) most loan c left out));
           status = r.status;
         }
-    next_sender n address d c' x y x' stopped_so went at rejoin before
+    next_by n address d c' x y x' w stopped_so went at rejoin some before new renews runs (Ends end) is_end =
+        let r = out_so true d c' (anew_at y w) x' end went is_end runs in
+        let earlier = length (messages_in before.lines) in
+        let now : w.progress.taken ≡ x0.progress.taken + earlier =
+        ap (λ (p : Progress). p.taken) renews.progress ∙ before.counted in
+        let stands : Stands options.reading.region options.reading.strict before.lines before.mid x'.takes (Ends end) =
+        subst (λ i. Stands options.reading.region options.reading.strict before.lines before.mid i (Ends end))
+        (sym r.takes)
+        (subst (λ b. Stands options.reading.region options.reading.strict before.lines before.mid y.takes b) is_end
+        (before.behind some)) in
+        let none_more_is : earlier + 0 ≡ earlier = sym (none_more earlier) in
+        record {
+          lines = before.lines;
+          mid = before.mid;
+          takes = before.takes;
+          once = not_once n rejoin;
+          passes = before.passes;
+          pauses = stands_pausing options.reading.region options.reading.strict before.lines before.mid x'.takes
+              (Ends end) stands;
+          done = λ on. end_is before.lines before.mid x'.takes end stands (r.done on);
+          behind = λ more. absurd (let zero_is : x'.unknown ≡ 0 = r.none in omega (arith, zero_is, more));
+          clean = λ clean. before.clean (renews.clean (r.clean clean));
+          settled = λ on settled clean. r.settled on (renewed y.unknown y.sends w renews (r.clean clean)) clean;
+          counted = r.counted ∙ now;
+          joined = λ on. r.joined on (λ never. absurd (let no : true ≡ false = never in cc));
+          idle = λ on. r.idle on (ap (λ (s : ServerState). s.held) new);
+          outlives = λ settled clean left leaves_it.
+              (let (loan, c, out) = r.outlives (renewed y.unknown y.sends w renews (r.clean clean)) clean left leaves_it
+              in
+              subst (λ m. OutlivesRun m left) none_more_is
+              (left_again w earlier rejoin (new ∙ ap (λ a. idle_at a) at) now
+              (ap (λ (p : Progress). p.joined) renews.progress) 0 loan c left out));
+          status = r.status (end_status before.lines before.mid x'.takes end stands);
+        }
+
+    next_sender : (n : ℕ) (address : ℕ) (d c' : C) (x y x' : LiveWas) (stopped_so went : Went)
+        → address ≡ x0.runs.address → options.rejoin ≡ true → 1 ≤ y.unknown → Senders n x y stopped_so
+        → RunsAgain opens closes remaining contents leaves is_clean saves fails options address d c' y x' went
+        → Senders (suc n) x x' went
+    next_sender n address d c' x y x' stopped_so went at rejoin some before (w, new, inl (renews, runs)) =
+        next_by n address d c' x y x' w stopped_so went at rejoin some before new renews runs y.behind refl
+    next_sender n address d c' x y x' stopped_so went at rejoin some before
         (w, new, inr (stop, renews, is, connect, same)) =
         let earlier = length (messages_in before.lines) in
         let now : w.progress.taken ≡ x0.progress.taken + earlier =
         ap (λ (p : Progress). p.taken) renews.progress ∙ before.counted in
         subst (λ (v : LiveWas). Senders (suc n) x v went) (sym same) (record {
           lines = before.lines;
-          mid = y.takes;
-          takes = (
-            before.lines,
-            [],
-            before.mid,
-            y.takes,
-            before.takes,
-            before.pauses,
-            refl,
-            sym (append-nil before.lines),
-          );
+          mid = before.mid;
+          takes = before.takes;
           once = not_once n rejoin;
-          pauses = inl refl;
+          passes = before.passes;
+          pauses = before.pauses;
           done = λ on. absurd (goes_not_stopped stop (on ∙ is));
+          behind = λ more. absurd (omega (arith, more));
           clean = λ clean. before.clean (renews.clean clean);
           settled = λ on. absurd (goes_not_stopped stop (on ∙ is));
           counted = now;
@@ -404,23 +511,22 @@ module _ {C I O K : Type 0} (opens : C → Option (I × O) → C → Type 0) (cl
             ))
 
     pub senders : (n : ℕ) (c c' : C) (x x' : LiveWas) (went : Went)
-        → HasBegun leaves is_clean saves fails due x0 x.sends
+        → HasBegun leaves is_clean saves fails due x0 x.sends → x.unknown ≡ 0 → x.behind ≡ GoesOn
         → RunsFor opens closes remaining contents leaves is_clean saves fails options due n c c' x x' went
         → Senders n x x' went
-    senders zero c c' x x' went has runs = first_sender c c' x x' went has runs
-    senders (suc n) c c' x x' went has (d, y, stopped_so, before, rejoin, some, next) =
-        next_sender n x.sends.runs.address d c' x y x' stopped_so went (same_address due x.sends has) rejoin
-        (senders n c d x y stopped_so has before) next
+    senders zero c c' x x' went has none on runs = first_sender c c' x x' went has none on runs
+    senders (suc n) c c' x x' went has none on (d, y, stopped_so, before, rejoin, some, next) =
+        next_sender n x.sends.runs.address d c' x y x' stopped_so went (same_address due x.sends has) rejoin some
+        (senders n c d x y stopped_so has none on before) next
 
   -- ---- A whole run.
 
   -- what a run took, and what a crash leaves of it
   pub record Whole (options : LiveOptions) (x : LiveWas) (k' : K) (end : Intake) (went : Went) : Type 0 where
     pub lines : List (List ℕ × Given)
-    pub again : ℕ
     pub mid : Intake
-    pub takes : TakesFor options.reading.region again lines x.takes mid
-    pub once : options.rejoin ≡ false → again ≡ 0
+    pub takes : TakesLines options.reading.region lines x.takes mid
+    pub passes : Passes options.reading.strict lines
     pub pauses : Pauses options.reading.region mid end
     pub done : goes ≡ went → ComesToEnd options.reading.region options.reading.strict lines mid end
     pub has_taken : goes ≡ went → IsKeptOf x.sends → is_clean k' → (left : KeptServer) → leaves k' left
@@ -439,14 +545,13 @@ module _ {C I O K : Type 0} (opens : C → Option (I × O) → C → Type 0) (cl
       let due = is_due options.join x.sends.progress in
       let begun = begun_so leaves is_clean saves fails options.form due x.sends y goes begins in
       let has = has_begun leaves is_clean saves fails options.form due x.sends y begins in
-      let r = senders options x.sends due refl again c c' _ z went has runs in
+      let r = senders options x.sends due refl again c c' _ z went has refl refl runs in
       subst (λ i. Whole options x k' i went) (sym takes)
       (subst (λ k. Whole options x k z.takes went) (sym keeper) (record {
         lines = r.lines;
-        again = again;
         mid = r.mid;
         takes = r.takes;
-        once = r.once;
+        passes = r.passes;
         pauses = r.pauses;
         done = r.done;
         has_taken = λ on settled clean left leaves_it.
@@ -466,10 +571,9 @@ module _ {C I O K : Type 0} (opens : C → Option (I × O) → C → Type 0) (cl
       let begun = begun_so leaves is_clean saves fails options.form due x.sends y (stopped stop) begins in
       subst (λ k. Whole options x k end went) (sym keeper) (record {
         lines = [];
-        again = 0;
         mid = x.takes;
         takes = refl;
-        once = λ never. refl;
+        passes = inl (λ is_strict. refl);
         pauses = inl takes;
         done = λ on. absurd (goes_not_stopped stop (on ∙ is));
         has_taken = λ on. absurd (goes_not_stopped stop (on ∙ is));

@@ -1,7 +1,7 @@
 -- What one sender tells, from its first line on.
 use Rattle.std.proofs.Common.{arith, ◌≡◌, ◌≢◌, ◌⊎◌, ℕ, zero, suc, ◌+◌, ◌-◌, ◌≤◌, Bool, true, false, List, [], ◌++◌}
 use Rattle.std.proofs.Common.{length}
-use Rattle.std.proofs.Common.{Option, Ok, Err, refl, sym, ap, subst, ◌∙◌, inl, inr}
+use Rattle.std.proofs.Common.{Option, Ok, Err, refl, sym, ap, subst, ◌∙◌, inl, inr, append-nil}
 use Rattle.std.specs.Io.KnownBytes.{Appends}
 use Rattle.std.specs.List.{list_all}
 use Rattle.uecp_elements.specs.declared.code.Code.{Code}
@@ -24,15 +24,18 @@ use Rattle.kept_jobs.specs.Stops.{Went, stop_for}
 use Rattle.kept_jobs.specs.ServerRun.{Standing}
 use Rattle.kept_jobs.proofs.Outliving.{goes, stopped, goes_not_stopped, told_stops}
 use Rattle.live_sending.specs.declared.options.LiveOptions.{LiveOptions}
+use Rattle.line_batches.specs.declared.taking.After.{After}
+use Rattle.line_batches.specs.declared.taking.After.TheVariants.{GoesOn, Ends}
 use Rattle.output_forms.specs.declared.form.Form.{Form}
 use Rattle.live_sending.specs.Lines.{is_applied}
 use Rattle.live_sending.specs.Forms.{AreHeld, station_in, not_joined_in}
 use Rattle.live_sending.specs.Station.{SentFor, MakesStation, MakesOne, MakesIf, JoinedTold}
 use Rattle.live_sending.specs.Run.{Live, AnswersTold, SettlesLive, MakesOnce, SettlesOnce, RunsLive, marks_in}
-use Rattle.live_sending.specs.Run.{are_applied, unknown_of}
+use Rattle.live_sending.specs.Run.{RunsOn, are_applied, unknown_of}
 use Rattle.live_laws.specs.Told.{AreAnswers}
 use Rattle.live_laws.proofs.Answering.{replied}
 use Rattle.live_laws.proofs.Calls.{settles_idle}
+use Rattle.live_laws.proofs.Making.{makes_idle}
 use Rattle.live_laws.proofs.Telling.{both, Onward, told_all, goes_with_none, some_where_stopped, told_turns}
 use Rattle.live_laws.proofs.Telling.{turns_unknown}
 
@@ -43,36 +46,6 @@ module _ {C I O K : Type 0} (opens : C → Option (I × O) → C → Type 0) (cl
   At = Standing (SenderOver C I O) K
 
   -- ---- The joining.
-
-  joins_idle : (s s' : SenderOver C I O) → Joins opens closes remaining contents s s' (Ok tt)
-      → s.sender.server.held ≡ [] → s'.sender.server.held ≡ []
-  joins_idle s s' joins idle =
-      let p : Progress = record { taken = 0; joined = false } in
-      let done : Joined = Ok tt in
-      elim (begins_anew_lem opens closes remaining contents p p s s' done (kept_of p s'.sender.server) refl idle
-      (λ has. joins) (inr (refl, tt))) [
-        | inl was ↦ was.1
-        | inr new ↦ new.1
-      ]
-
-  sent_for_idle : (size n : ℕ) (messages : List (List ℕ)) (told : List Code) (left : List (List ℕ))
-      (s s' : SenderOver C I O) → SentFor opens closes remaining contents size messages n told left s s'
-      → s.sender.server.held ≡ [] → s'.sender.server.held ≡ []
-  sent_for_idle size zero messages told left s s' (none, all, same) idle =
-      ap (λ (d : SenderOver C I O). d.sender.server.held) same ∙ idle
-  sent_for_idle size (suc n) messages told left s s'
-      (before, rest, y, more, tries, sent, some, acknowledges, is_told, is_left) idle =
-      ap (λ (d : ServerState). d.held) acknowledges.freed
-
-  station_idle : (size : ℕ) (station : List (List ℕ)) (told : List Code) (s s' : SenderOver C I O)
-      → MakesStation opens closes remaining contents size station told s s' (Ok tt)
-      → s.sender.server.held ≡ [] → s'.sender.server.held ≡ []
-  station_idle size station told s s' (inl (y, joins, (batches, sent))) idle =
-      sent_for_idle size batches station told [] y s' sent (joins_idle s y joins idle)
-  station_idle size station told s s' (inr (reason, joins, none, is)) idle = absurd (no_error reason is)
-    where
-      no_error : (reason : Outstanding) → Ok (tt {0}) ≡ Err reason → ⊥
-      no_error reason is = cc
 
   -- what was told of an encoder that was joined
   abbrev MadeText : Form → (station : List (List ℕ)) → (x x' : At) → Type 0
@@ -90,20 +63,6 @@ module _ {C I O K : Type 0} (opens : C → Option (I × O) → C → Type 0) (cl
       by (Err (kept.Outstanding reason)) tells =
           absurd (told_stops (not_joined_in form) (Run (fault_of reason)) x.held x'.held goes tells refl)
       by (Err kept.StateFailed) (same, is) = absurd (goes_not_stopped StateFailed is)
-
-  made_idle : (form : Form) (size : ℕ) (station : List (List ℕ)) (x x' : At) (applied applied' : Bool)
-      → MakesIf opens closes remaining contents leaves is_clean saves fails form size station true x x' applied applied'
-      goes
-      → x.runs.sender.server.held ≡ [] → x'.runs.sender.server.held ≡ []
-  made_idle form size station x x' applied applied' (told, joined, one, tells, apply) idle = by joined one tells
-    where
-      by : (joined : Joined)
-          → MakesOne opens closes remaining contents leaves is_clean saves fails form size station told joined x x'
-          → JoinedTold form (station_in form station told) joined x.held x'.held goes → x'.runs.sender.server.held ≡ []
-      by (Ok done) one tells = station_idle size station told x.runs x'.runs one.makes.0 idle
-      by (Err (kept.Outstanding reason)) one tells =
-          absurd (told_stops (not_joined_in form) (Run (fault_of reason)) x.held x'.held goes tells refl)
-      by (Err kept.StateFailed) one (same, is) = absurd (goes_not_stopped StateFailed is)
 
   made_taken : (form : Form) (size : ℕ) (station : List (List ℕ)) (x x' : At) (applied applied' : Bool)
       → MakesIf opens closes remaining contents leaves is_clean saves fails form size station true x x' applied applied'
@@ -206,8 +165,11 @@ module _ {C I O K : Type 0} (opens : C → Option (I × O) → C → Type 0) (cl
       → SettlesLive opens closes remaining contents leaves is_clean saves fails form x x' applied applied' unknown
       unknown'
       went → (x' ≡ x) × (unknown' ≡ unknown) × (went ≡ goes)
-  none_settled form x x' applied applied' unknown unknown' went idle (inl (none, same, apply, are, is)) = (same, are,
-      is)
+  none_settled form x x' applied applied' unknown unknown' went idle (inl (none, same, apply, are, is)) = (
+    same,
+    are,
+    is,
+  )
   none_settled form x x' applied applied' unknown unknown' went idle (inr (some, settles)) = absurd (some idle)
 
   -- ---- Whether all was applied.
@@ -252,10 +214,36 @@ module _ {C I O K : Type 0} (opens : C → Option (I × O) → C → Type 0) (cl
       pub taken : z.sends.progress.taken ≡ x.sends.progress.taken
       pub none : z.unknown ≡ 0
 
+    -- what was told where the encoder was joined, if it was to be
+    record Joining (by : Bool) (x y : LiveAt) : Type 0 where
+      pub text : List ℕ
+      pub is_text : IsFront by x.sends text
+      pub appended : Appends x.sends.held y.sends.held text
+      pub taken : y.sends.progress.taken ≡ x.sends.progress.taken
+
+    joining : (by : Bool) (x y : LiveAt)
+        → MakesOnce opens closes remaining contents leaves is_clean saves fails options by x y goes → Joining by x y
+    joining false x y ((same, apply, is), takes, unknown, keeps) = record {
+      text = [];
+      is_text = inl refl;
+      appended = subst (λ (v : At). Appends x.sends.held v.held []) (sym same) (appends_nothing x.sends.held);
+      taken = ap (λ (v : At). v.progress.taken) same;
+    }
+    joining true x y (made, takes, unknown, keeps) =
+        let (told, appended) = made_told options.form options.reading.size options.station.now x.sends y.sends
+        x.applied y.applied made in
+        record {
+          text = station_in options.form options.station.now told;
+          is_text = (told, refl);
+          appended = appended;
+          taken = made_taken options.form options.reading.size options.station.now x.sends y.sends x.applied y.applied
+              made;
+        }
+
     front : (by : Bool) (x y z : LiveAt) → (by ≡ true → IsIdle x.sends) → x.unknown ≡ 0
         → MakesOnce opens closes remaining contents leaves is_clean saves fails options by x y goes
         → SettlesOnce opens closes remaining contents leaves is_clean saves fails options y z goes → Front by x z
-    front false x y z idle none ((same, apply, is), takes, unknown) (settles, takes_on) =
+    front false x y z idle none ((same, apply, is), takes, unknown, keeps) (settles, takes_on, stays) =
         let s = settled_told options.form x.sends z.sends y.applied z.applied y.unknown z.unknown (unknown ∙ none)
         (subst (λ (v : At). SettlesLive opens closes remaining contents leaves is_clean saves fails options.form v
         z.sends y.applied
@@ -266,13 +254,12 @@ module _ {C I O K : Type 0} (opens : C → Option (I × O) → C → Type 0) (cl
           taken = s.taken;
           none = s.none;
         }
-    front true x y z idle none (made, takes, unknown) (settles, takes_on) =
+    front true x y z idle none (made, takes, unknown, keeps) (settles, takes_on, stays) =
         let (told, appended) = made_told options.form options.reading.size options.station.now x.sends y.sends x.applied
         y.applied
         made in
-        let still = made_idle options.form options.reading.size options.station.now x.sends y.sends x.applied y.applied
-        made
-        (idle refl) in
+        let still = makes_idle opens closes remaining contents leaves is_clean saves fails options.form
+        options.reading.size options.station.now true x.sends y.sends x.applied y.applied made (idle refl) in
         let (same, are, is) = none_settled options.form y.sends z.sends y.applied z.applied y.unknown z.unknown goes
         still settles in
         record {
@@ -304,7 +291,7 @@ module _ {C I O K : Type 0} (opens : C → Option (I × O) → C → Type 0) (cl
         → MakesOnce opens closes remaining contents leaves is_clean saves fails options by x y goes
         → SettlesOnce opens closes remaining contents leaves is_clean saves fails options y x' (stopped stop)
         → Spoke by x.sends x'.sends x.applied x'.applied x'.unknown
-    stopped_settling false x y x' stop idle many ((same, apply, is), takes, unknown) (settles, takes_on) =
+    stopped_settling false x y x' stop idle many ((same, apply, is), takes, unknown, keeps) (settles, takes_on, stays) =
         let u = unsettled options.form x.sends x'.sends y.applied x'.applied y.unknown x'.unknown stop many
         (subst (λ (v : At). SettlesLive opens closes remaining contents leaves is_clean saves fails options.form v
         x'.sends y.applied
@@ -318,30 +305,28 @@ module _ {C I O K : Type 0} (opens : C → Option (I × O) → C → Type 0) (cl
           counted = inr (refl, refl, u.taken, u.all);
           applied = λ all_so. (
             sym apply ∙ settled_applied options.form y.sends x'.sends y.applied x'.applied y.unknown x'.unknown (stopped
-            stop)
+                stop)
                 settles all_so,
             refl,
           );
         }
-    stopped_settling true x y x' stop idle many (made, takes, unknown) (settles, takes_on) =
-        let still = made_idle options.form options.reading.size options.station.now x.sends y.sends x.applied y.applied
-        made
-        (idle refl) in
+    stopped_settling true x y x' stop idle many (made, takes, unknown, keeps) (settles, takes_on, stays) =
+        let still = makes_idle opens closes remaining contents leaves is_clean saves fails options.form
+        options.reading.size options.station.now true x.sends y.sends x.applied y.applied made (idle refl) in
         let (same, are, is) = none_settled options.form y.sends x'.sends y.applied x'.applied y.unknown x'.unknown
         (stopped stop)
         still settles in absurd (goes_not_stopped stop (sym is))
 
-    pub spoke : (by : Bool) (x x' : LiveAt) (went : Went) → (by ≡ true → IsIdle x.sends) → x.unknown ≡ 0
-        → RunsLive opens closes remaining contents leaves is_clean saves fails options by x x' went
+    spoke_on : (by : Bool) (x y x' : LiveAt) (behind : After) (went : Went) → (by ≡ true → IsIdle x.sends)
+        → x.unknown ≡ 0 → MakesOnce opens closes remaining contents leaves is_clean saves fails options by x y goes
+        → RunsOn opens closes remaining contents leaves is_clean saves fails options behind y x' went
         → Onward went x'.unknown → Spoke by x.sends x'.sends x.applied x'.applied x'.unknown
-    spoke by x x' went idle none (inl (y, made, inl (z, settles, turns))) onward =
+    spoke_on by x y x' GoesOn went idle none made (inl (z, settles, turns)) onward =
         let f = front by x y z idle none made settles in
         let still = settles_idle opens closes remaining contents leaves is_clean saves fails options.form y.sends
-        z.sends y.applied
-        z.applied y.unknown z.unknown goes settles.0 refl in
+        z.sends y.applied z.applied y.unknown z.unknown goes settles.0 refl in
         let t = told_turns opens closes remaining contents leaves is_clean saves fails options.form
-        options.reading.region
-        options.reading.size options.reading.strict z x' went still f.none turns onward in
+        options.reading.region options.reading.size options.reading.strict z x' went still f.none turns onward in
         let taken = f.taken in record {
           front = f.text;
           codes = t.codes;
@@ -352,29 +337,59 @@ module _ {C I O K : Type 0} (opens : C → Option (I × O) → C → Type 0) (cl
           counted = inl (let a = t.counted in omega (arith, a, taken));
           applied = λ all_so. (
             made_applied options.form options.reading.size options.station.now by x.sends y.sends x.applied y.applied
-            goes
-                made.0 (settled_applied options.form y.sends z.sends y.applied z.applied y.unknown z.unknown goes
-                settles.0
-                (t.applied all_so).0),
+                goes made.0 (settled_applied options.form y.sends z.sends y.applied z.applied y.unknown z.unknown goes
+                settles.0 (t.applied all_so).0),
             (t.applied all_so).1,
           );
         }
-    spoke by x x' went idle none (inl (y, made, inr (stop, settles, is))) onward =
+    spoke_on by x y x' GoesOn went idle none made (inr (stop, settles, is)) onward =
         stopped_settling by x y x' stop idle (some_where_stopped stop went x'.unknown is onward) made settles
-    spoke by x x' went idle none (inr (stop, (made, takes, unknown), is)) onward =
+    spoke_on by x y x' (Ends end) went idle none made (same, is) onward =
+        let j = joining by x y made in
+        let sends : x'.sends ≡ y.sends = ap (λ (v : LiveAt). v.sends) same in
+        let zero_is : x'.unknown ≡ 0 = ap (λ (v : LiveAt). v.unknown) same ∙ made.2 ∙ none in
+        record {
+          front = j.text;
+          codes = [];
+          lines = [];
+          is_front = j.is_text;
+          answers = refl;
+          appended = subst (λ l. Appends x.sends.held x'.sends.held l) (sym (append-nil j.text))
+              (subst (λ (v : At). Appends x.sends.held v.held j.text) (sym sends) j.appended);
+          counted = inl (let a = ap (λ (v : At). v.progress.taken) sends ∙ j.taken in omega (arith, a, zero_is));
+          applied = λ all_so. (
+            made_applied options.form options.reading.size options.station.now by x.sends y.sends x.applied y.applied
+                goes made.0 (sym (ap (λ (v : LiveAt). v.applied) same) ∙ all_so),
+            refl,
+          );
+        }
+
+    pub spoke : (by : Bool) (x x' : LiveAt) (went : Went) → (by ≡ true → IsIdle x.sends) → x.unknown ≡ 0
+        → RunsLive opens closes remaining contents leaves is_clean saves fails options by x x' went
+        → Onward went x'.unknown → Spoke by x.sends x'.sends x.applied x'.applied x'.unknown
+    spoke by x x' went idle none (inl (y, made, on)) onward = spoke_on by x y x' y.behind went idle none made on onward
+    spoke by x x' went idle none (inr (stop, (made, takes, unknown, keeps), is)) onward =
         absurd (goes_not_stopped stop (goes_with_none went x'.unknown (unknown ∙ none) onward ∙ is))
+
+    on_unknown : (by : Bool) (x y x' : LiveAt) (behind : After) (went : Went) → (by ≡ true → IsIdle x.sends)
+        → x.unknown ≡ 0 → MakesOnce opens closes remaining contents leaves is_clean saves fails options by x y goes
+        → RunsOn opens closes remaining contents leaves is_clean saves fails options behind y x' went → goes ≡ went
+        → x'.unknown ≡ 0
+    on_unknown by x y x' GoesOn went idle none made (inl (z, settles, turns)) on =
+        let f = front by x y z idle none made settles in
+        let still = settles_idle opens closes remaining contents leaves is_clean saves fails options.form y.sends
+        z.sends y.applied z.applied y.unknown z.unknown goes settles.0 refl in
+        turns_unknown opens closes remaining contents leaves is_clean saves fails options.form options.reading.region
+        options.reading.size options.reading.strict z x' went still f.none turns on
+    on_unknown by x y x' GoesOn went idle none made (inr (stop, settles, is)) on =
+        absurd (goes_not_stopped stop (on ∙ is))
+    on_unknown by x y x' (Ends end) went idle none made (same, is) on =
+        ap (λ (v : LiveAt). v.unknown) same ∙ made.2 ∙ none
 
     -- a run that goes on leaves none outstanding
     pub spoke_unknown : (by : Bool) (x x' : LiveAt) (went : Went) → (by ≡ true → IsIdle x.sends) → x.unknown ≡ 0
         → RunsLive opens closes remaining contents leaves is_clean saves fails options by x x' went → goes ≡ went
         → x'.unknown ≡ 0
-    spoke_unknown by x x' went idle none (inl (y, made, inl (z, settles, turns))) on =
-        let f = front by x y z idle none made settles in
-        let still = settles_idle opens closes remaining contents leaves is_clean saves fails options.form y.sends
-        z.sends y.applied
-        z.applied y.unknown z.unknown goes settles.0 refl in
-        turns_unknown opens closes remaining contents leaves is_clean saves fails options.form options.reading.region
-        options.reading.size options.reading.strict z x' went still f.none turns on
-    spoke_unknown by x x' went idle none (inl (y, made, inr (stop, settles, is))) on =
-        absurd (goes_not_stopped stop (on ∙ is))
+    spoke_unknown by x x' went idle none (inl (y, made, on_so)) on =
+        on_unknown by x y x' y.behind went idle none made on_so on
     spoke_unknown by x x' went idle none (inr (stop, made, is)) on = absurd (goes_not_stopped stop (on ∙ is))

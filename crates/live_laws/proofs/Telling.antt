@@ -33,6 +33,7 @@ use Rattle.live_sending.specs.Run.{are_applied}
 use Rattle.live_laws.specs.Told.{AreAnswers}
 use Rattle.live_laws.proofs.Answering.{replied, replied_count, replied_append, replies_told, answers_append}
 use Rattle.live_laws.proofs.Turns.{turn_part}
+use Rattle.live_laws.proofs.Unknown.{turn_unknown}
 
 -- the run goes on, or it stopped with messages outstanding and each try spent
 abbrev pub Onward : Went → (unknown : ℕ) → Type 0
@@ -191,25 +192,6 @@ module _ {C I O K : Type 0} (opens : C → Option (I × O) → C → Type 0) (cl
       (inr (some, (ended, one, tells, apply, are))) onward =
       told_batch batch ended x x' applied applied' unknown' went apply idle one tells are onward
 
-  none_unknown : (batch : List (List ℕ)) (x x' : At) (applied applied' : Bool) (unknown unknown' : ℕ) (went : Went)
-      → unknown ≡ 0
-      → SendsSome opens closes remaining contents leaves is_clean saves fails form batch x x' applied applied' unknown
-      unknown' went → goes ≡ went → unknown' ≡ 0
-  none_unknown batch x x' applied applied' unknown unknown' went zero_is (inl (none, same, apply, are, is)) on =
-      are ∙ zero_is
-  none_unknown batch x x' applied applied' unknown unknown' went zero_is
-      (inr (some, (ended, one, tells, apply, are))) on = by ended tells are
-    where
-      by : (ended : Ended)
-          → AnswersTold (RepliesOf form x'.progress.taken
-          (counters_waiting (submitted_all x.runs batch).sender.server)) x'.runs.sender.server.counts ended x.held
-          x'.held went
-          → unknown' ≡ unknown_of (length batch) ended → unknown' ≡ 0
-      by (Ok settled) tells are = are
-      by (Err (kept.Outstanding reason)) (same, is) are =
-          absurd (goes_not_stopped (stop_for x'.runs.sender.server.counts reason) (on ∙ is))
-      by (Err kept.StateFailed) (same, is) are = absurd (goes_not_stopped StateFailed (on ∙ is))
-
   -- ---- Turns.
 
   module _ (region : Region) (size : ℕ) (strict : Bool) where
@@ -225,10 +207,6 @@ module _ {C I O K : Type 0} (opens : C → Option (I × O) → C → Type 0) (cl
     told_turn x x' after went idle none turn onward =
         told_some turn.messages x.sends x'.sends x.applied x'.applied x.unknown x'.unknown went idle none turn.sends
         onward
-
-    turn_unknown : (x x' : LiveAt) (after : After) → x.unknown ≡ 0 → OneTurn x x' after goes → x'.unknown ≡ 0
-    turn_unknown x x' after none turn =
-        none_unknown turn.messages x.sends x'.sends x.applied x'.applied x.unknown x'.unknown goes none turn.sends refl
 
     turn_idle : (x x' : LiveAt) (after : After) → x.sends.runs.sender.server.held ≡ [] → OneTurn x x' after goes
         → x'.sends.runs.sender.server.held ≡ []
@@ -253,7 +231,8 @@ module _ {C I O K : Type 0} (opens : C → Option (I × O) → C → Type 0) (cl
     })
     told_going (suc n) x z idle none (y, before, turn) =
         let so = told_going n x y idle none before in
-        let zero_is = turn_unknown y z GoesOn so.none turn in record {
+        let zero_is = turn_unknown opens closes remaining contents leaves is_clean saves fails form region size strict y
+        z GoesOn so.none turn in record {
           told = told_on x.sends y.sends z.sends x.applied y.applied z.applied 0 so.told
               (subst (λ u. Told y.sends z.sends y.applied z.applied u) zero_is
               (told_turn y z GoesOn goes so.idle so.none turn (inl refl)));
@@ -283,7 +262,9 @@ module _ {C I O K : Type 0} (opens : C → Option (I × O) → C → Type 0) (cl
         → RunsTurns opens closes remaining contents leaves is_clean saves fails form region size strict x x' went
         → goes ≡ went → x'.unknown ≡ 0
     turns_unknown x x' went idle none (n, y, before, inl (inl (end, turn, is))) on =
-        let so = told_going n x y idle none before in turn_unknown y x' (Ends end) so.none turn
+        let so = told_going n x y idle none before in turn_unknown opens closes remaining contents leaves is_clean saves
+        fails
+        form region size strict y x' (Ends end) so.none turn
     turns_unknown x x' went idle none (n, y, before, inl (inr (after, stop, turn, is))) on =
         absurd (goes_not_stopped stop (on ∙ is))
     turns_unknown x x' went idle none (n, y, before, inr (all, same, is)) on =

@@ -15,13 +15,13 @@ use Rattle.kept_jobs.specs.ServerRun.{Standing, sending, is_due}
 use Rattle.kept_jobs.proofs.Outliving.{goes, stopped, goes_not_stopped}
 use Rattle.kept_jobs.proofs.Begun.{HasBegun}
 use Rattle.line_batches.specs.declared.intake.Given.{Given}
-use Rattle.line_batches.specs.Intake.{Intake, messages_in}
+use Rattle.line_batches.specs.Intake.{Intake, TakesLines, messages_in}
 use Rattle.live_sending.specs.declared.options.LiveOptions.{LiveOptions}
 use Rattle.output_forms.specs.declared.form.Form.{Form}
 use Rattle.live_sending.specs.Beginning.{TellsTaken, BeginsAnew, BeginsAnewIf}
 use Rattle.live_sending.specs.Forms.{AreHeld, taken_in, given_up_in, unknown_in}
 use Rattle.live_sending.specs.Run.{Live, Renews, RunsOne, RunsAgain, RunsFor, LivesFrom, marks_in}
-use Rattle.live_laws.specs.Taken.{TakesFor, ComesToEnd}
+use Rattle.live_laws.specs.Taken.{ComesToEnd}
 use Rattle.live_laws.specs.Told.{was_applied, AreAnswers, anew_lines, IsToldFirst, IsToldBetween, TellsFor, TellsAll}
 use Rattle.live_laws.proofs.Begun.{has_begun}
 use Rattle.live_laws.proofs.Answering.{replied, replied_count, replied_applied, unknown, unknown_count, unknown_told}
@@ -50,7 +50,7 @@ module _ {C I O K : Type 0} (opens : C → Option (I × O) → C → Type 0) (cl
 
     -- where a run stands that goes on with a new server
     abbrev anew_at : LiveWas → Was → LiveWas
-    anew_at x y = record { sends = y; takes = x.takes; applied = false; unknown = 0 }
+    anew_at x y = record { sends = y; takes = x.takes; applied = false; unknown = 0; behind = x.behind }
 
     -- where a sender stands at its start
     abbrev sent_from : C → (loan : ℕ) → LiveWas → Live (SenderOver C I O) K
@@ -59,6 +59,7 @@ module _ {C I O K : Type 0} (opens : C → Option (I × O) → C → Type 0) (cl
       takes = x.takes;
       applied = x.applied;
       unknown = x.unknown;
+      behind = x.behind;
     }
 
     -- the first message of the lines that has a line
@@ -205,6 +206,7 @@ module _ {C I O K : Type 0} (opens : C → Option (I × O) → C → Type 0) (cl
       takes = z.takes;
       applied = z.applied;
       unknown = z.unknown;
+      behind = z.behind;
     }
 
     abbrev SpokeOf : C → (loan : ℕ) → Was → Live (SenderOver C I O) K → Type 0
@@ -347,7 +349,7 @@ module _ {C I O K : Type 0} (opens : C → Option (I × O) → C → Type 0) (cl
     pub lines : List (List ℕ × Given)
     pub again : ℕ
     pub mid : Intake
-    pub takes : TakesFor options.reading.region again lines x.takes mid
+    pub takes : TakesLines options.reading.region lines x.takes mid
     pub once : options.rejoin ≡ false → again ≡ 0
     pub ends : ComesToEnd options.reading.region options.reading.strict lines mid end
     pub answers : List (Option Code)
@@ -366,7 +368,7 @@ module _ {C I O K : Type 0} (opens : C → Option (I × O) → C → Type 0) (cl
       let due = is_due options.join x.sends.progress in
       let has = has_begun leaves is_clean saves fails options.form due x.sends y begins in
       let r = senders opens closes remaining contents leaves is_clean saves fails options x.sends due refl again c c' _
-      z went has runs in
+      z went has refl refl runs in
       let t = told_senders options x.sends due refl again c c' _ z went has refl runs (inl on) in
       let none = none_left options x.sends due refl again c c' _ z went has refl runs on in
       let begun = taken_in options.form x.sends.progress.taken (length (waiting x.sends.runs))

@@ -1,5 +1,5 @@
 -- What a crash leaves of turns, and which lines they take.
-use Rattle.std.proofs.Common.{◌≡◌, ◌⊎◌, ℕ, zero, suc, Bool, List, [], ◌++◌, length, Option, Ok, Err, refl}
+use Rattle.std.proofs.Common.{arith, ◌≤◌, ◌≡◌, ◌⊎◌, ℕ, zero, suc, Bool, List, [], ◌++◌, length, Option, Ok, Err, refl}
 use Rattle.std.proofs.Common.{sym, ap, subst, ◌∙◌, inl, inr}
 use Rattle.std.specs.Prelude.{Result}
 use Rattle.rds_text.specs.declared.programme_type.Region.{Region}
@@ -16,12 +16,13 @@ use Rattle.line_batches.specs.declared.intake.Given.{Given}
 use Rattle.line_batches.specs.declared.taking.After.{After}
 use Rattle.line_batches.specs.declared.taking.After.TheVariants.{GoesOn, Ends}
 use Rattle.line_batches.specs.Intake.{Intake, TakesLines, FailsToTake, messages_in}
-use Rattle.line_batches.specs.Batches.{IsAfter, LosesMessage}
+use Rattle.line_batches.specs.Batches.{IsAfter, LosesMessage, NoneRefused}
 use Rattle.output_forms.specs.declared.form.Form.{Form}
 use Rattle.live_sending.specs.Run.{Live, Turn, GoesOnFor, RunsTurns, ended_as}
-use Rattle.live_laws.specs.Taken.{Pauses, ComesToEnd}
+use Rattle.live_laws.specs.Taken.{Pauses, ComesToEnd, Passes}
 use Rattle.live_laws.proofs.Lines.{same_fault, messages_count, lines_on, pauses_after, goes_on_after, ends_on}
-use Rattle.live_laws.proofs.Lines.{comes_to_end}
+use Rattle.live_laws.proofs.Lines.{comes_to_end, none_on, passes_on, passes_after, Stands, stands_after, stands_on}
+use Rattle.live_laws.proofs.Unknown.{turn_unknown, going_unknown}
 use Rattle.live_laws.proofs.Statuses.{taking_status}
 use Rattle.live_laws.proofs.Calls.{Called, called_none, called_on, called_stops, sends_some}
 
@@ -43,7 +44,8 @@ module _ {C I O K : Type 0} (opens : C → Option (I × O) → C → Type 0) (cl
     abbrev Next : List (List ℕ × Given) → (y z : Intake) → After → Type 0
     Next taken y z after =
         IsAfter region strict taken y z after
-        ⊎ ((fault : RunFault) × (after ≡ Ends (Err fault)) × (FailsToTake y z fault ⊎ LosesMessage region y z fault))
+        ⊎ ((fault : RunFault) × (after ≡ Ends (Err fault)) × (FailsToTake y z fault ⊎ LosesMessage region y z fault)
+        × NoneRefused strict taken)
 
     -- lines were taken up to there, and what they gave was sent
     pub record Part (lines : List (List ℕ × Given)) (x : LiveAt) (mid : Intake) (x' : At) (went : Went) : Type 0 where
@@ -95,14 +97,16 @@ module _ {C I O K : Type 0} (opens : C → Option (I × O) → C → Type 0) (cl
 
     goes_on_part : (n : ℕ) (x y : LiveAt)
         → GoesOnFor opens closes remaining contents leaves is_clean saves fails form region size strict n x y
-        → (lines : List (List ℕ × Given)) × Part lines x y.takes y.sends goes
-    goes_on_part zero x y same = ([], subst (λ (z : LiveAt). Part [] x z.takes z.sends goes) (sym same) (part_none x))
+        → (lines : List (List ℕ × Given)) × Part lines x y.takes y.sends goes × NoneRefused strict lines
+    goes_on_part zero x y same =
+        ([], subst (λ (z : LiveAt). Part [] x z.takes z.sends goes) (sym same) (part_none x), λ is_strict. refl)
     goes_on_part (suc n) x z (y, before, turn) =
-        let (a, one) = goes_on_part n x y before in
-        let (b, mid, part, next) = turn_part y z GoesOn goes turn in (
+        let (a, one, none) = goes_on_part n x y before in
+        let (b, mid, part, next) = turn_part y z GoesOn goes turn in
+        let (same, none_more) = goes_on_after region strict b mid z.takes next in (
           a ++ b,
-          part_on a b x y z.takes z.sends goes one
-              (subst (λ k. Part b y k z.sends goes) (sym (goes_on_after region strict b mid z.takes next)) part),
+          part_on a b x y z.takes z.sends goes one (subst (λ k. Part b y k z.sends goes) (sym same) part),
+          none_on strict a b none none_more,
         )
 
     -- turns up to the last
@@ -110,21 +114,25 @@ module _ {C I O K : Type 0} (opens : C → Option (I × O) → C → Type 0) (cl
       pub lines : List (List ℕ × Given)
       pub mid : Intake
       pub part : Part lines x mid x'.sends went
+      pub passes : Passes strict lines
       pub pauses : Pauses region mid x'.takes
       pub done : goes ≡ went → ComesToEnd region strict lines mid x'.takes
+      pub behind : x.unknown ≡ 0 → 1 ≤ x'.unknown → Stands region strict lines mid x'.takes x'.behind
 
     turns_end : (a b : List (List ℕ × Given)) (x y x' : LiveAt) (mid : Intake) (end : Result (Unit {0}) RunFault)
         (went : Went) → Part a x y.takes y.sends goes → Part b y mid x'.sends goes → Next b mid x'.takes (Ends end)
-        → went ≡ ended_as end → Turned x x' went
-    turns_end a b x y x' mid (Ok done) went one part next is = record {
+        → went ≡ ended_as end → NoneRefused strict a → (x.unknown ≡ 0 → x'.unknown ≡ 0) → Turned x x' went
+    turns_end a b x y x' mid (Ok done) went one part next is before unknown = record {
       lines = a ++ b;
       mid = mid;
       part = subst (λ w. Part (a ++ b) x mid x'.sends w) (sym is) (part_on a b x y mid x'.sends goes one part);
+      passes = passes_on strict a b before (passes_after region strict b mid x'.takes (Ends (Ok done)) next);
       pauses = pauses_after region strict b mid x'.takes (Ends (Ok done)) next;
-      done = λ on. ends_on region strict a b mid x'.takes (comes_to_end region strict b mid x'.takes done next);
+      done = λ on. ends_on region strict a b mid x'.takes before (comes_to_end region strict b mid x'.takes done next);
+      behind = λ zero_was some. absurd (let zero_is = unknown zero_was in omega (arith, zero_is, some));
     }
-    turns_end a b x y x' mid (Err fault) went one part (inl never) is = absurd never
-    turns_end a b x y x' mid (Err fault) went one part (inr (other, same, why)) is =
+    turns_end a b x y x' mid (Err fault) went one part (inl never) is before unknown = absurd never
+    turns_end a b x y x' mid (Err fault) went one part (inr (other, same, why, passed)) is before unknown =
         let fault_is : other ≡ fault = sym (same_fault fault other same) in
         let three : stop_status (Run fault) ≡ 3 = subst (λ f. stop_status (Run f) ≡ 3) fault_is
         (taking_status region mid x'.takes other why) in
@@ -133,36 +141,52 @@ module _ {C I O K : Type 0} (opens : C → Option (I × O) → C → Type 0) (cl
           mid = mid;
           part = subst (λ w. Part (a ++ b) x mid x'.sends w) (sym is)
               (part_stops (a ++ b) x mid x'.sends (Run fault) three (part_on a b x y mid x'.sends goes one part));
+          passes = passes_on strict a b before (inl passed);
           pauses = inr (inr (other, why));
           done = λ on. absurd (goes_not_stopped (Run fault) (on ∙ is));
+          behind = λ zero_was some. absurd (let zero_is = unknown zero_was in omega (arith, zero_is, some));
         }
 
     pub turned : (x x' : LiveAt) (went : Went)
         → RunsTurns opens closes remaining contents leaves is_clean saves fails form region size strict x x' went
         → Turned x x' went
     turned x x' went (n, y, before, inl (inl (end, turn, is))) =
-        let (a, one) = goes_on_part n x y before in
+        let (a, one, none) = goes_on_part n x y before in
         let (b, mid, part, next) = turn_part y x' (Ends end) goes turn in
-        turns_end a b x y x' mid end went one part next is
+        turns_end a b x y x' mid end went one part next is none
+        (λ zero_was. turn_unknown opens closes remaining contents leaves is_clean saves fails form region size strict y
+        x'
+        (Ends end) (going_unknown opens closes remaining contents leaves is_clean saves fails form region size strict n
+        x
+        y zero_was before) turn)
     turned x x' went (n, y, before, inl (inr (after, stop, turn, is))) =
-        let (a, one) = goes_on_part n x y before in
+        let (a, one, none) = goes_on_part n x y before in
         let (b, mid, part, next) = turn_part y x' after (stopped stop) turn in
         record {
           lines = a ++ b;
           mid = mid;
           part = subst (λ w. Part (a ++ b) x mid x'.sends w) (sym is)
               (part_on a b x y mid x'.sends (stopped stop) one part);
+          passes = passes_on strict a b none (passes_after region strict b mid x'.takes after next);
           pauses = pauses_after region strict b mid x'.takes after next;
           done = λ on. absurd (goes_not_stopped stop (on ∙ is));
+          behind = λ zero_was some. subst (λ d. Stands region strict (a ++ b) mid x'.takes d) (sym turn.behind)
+              (stands_on region strict a b mid x'.takes after none (stands_after region strict b mid x'.takes after
+              next));
         }
     turned x x' went (n, y, before, inr (all, same, is)) =
-        let (a, one) = goes_on_part n x y before in
+        let (a, one, none) = goes_on_part n x y before in
         record {
           lines = a;
           mid = y.takes;
           part = subst (λ w. Part a x y.takes x'.sends w) (sym is)
               (subst (λ (z : LiveAt). Part a x y.takes z.sends (stopped (Run run.Reading))) (sym same)
               (part_stops a x y.takes y.sends (Run run.Reading) refl one));
+          passes = inl none;
           pauses = inl (ap (λ (z : LiveAt). z.takes) same);
           done = λ on. absurd (goes_not_stopped (Run run.Reading) (on ∙ is));
+          behind = λ zero_was some.
+              absurd (let zero_is : x'.unknown ≡ 0 = ap (λ (z : LiveAt). z.unknown) same
+              ∙ going_unknown opens closes remaining contents leaves is_clean saves fails form region size strict n x y
+              zero_was before in omega (arith, zero_is, some));
         }

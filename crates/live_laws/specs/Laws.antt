@@ -1,6 +1,6 @@
 -- What holds of whole runs of a server whose lines come as they like: which lines it took, and what a crash leaves of
 -- it (profile).
-use Rattle.std.specs.Prelude.{◌≡◌, ◌⊎◌, ℕ, List, length, Option}
+use Rattle.std.specs.Prelude.{◌≡◌, ◌⊎◌, ℕ, false, List, length, Option}
 use Rattle.std.specs.Io.KnownBytes.{Appends}
 use Rattle.uecp_elements.specs.declared.code.Code.{Code}
 use Rattle.uecp_link.specs.Server.{ServerState}
@@ -49,15 +49,16 @@ module _ {C I O K : Type 0} (opens : C → Option (I × O) → C → Type 0) (cl
       left)
 
   -- A run that came to its end took all lines up to that of its input; and it told of each message that these gave one
-  -- line, in order and under its number, and nothing else but of the server and its encoder; and its status says how
-  -- that went.
+  -- line, in order and under its number, and nothing else but of the server and its encoder, which without `rejoin` is
+  -- taken for a new one at no time; and its status says how that went.
   abbrev pub ToldIsTaken : Type 0
   ToldIsTaken =
       (options : LiveOptions) (c c' : C) (x : Standing ServerState K) (k' : K)
       (held' unread unread' said said' : Option (List ℕ)) (status : ℕ) →
       Lives opens closes remaining contents leaves is_clean saves fails options c c' x k' held' unread unread' said
       said' status → IsDone status →
-      (lines : List (List ℕ × Given)) × (takes : TakesAll options unread unread' said lines)
+      (lines : List (List ℕ × Given)) × TakesAll options unread unread' said lines
       × (answers : List (Option Code)) × (text : List ℕ) × (length answers ≡ length (messages_in lines))
-      × TellsAll options x.progress x.runs takes.stops answers text × Appends x.held held' text
+      × ((again : ℕ) × (options.rejoin ≡ false → again ≡ 0) × TellsAll options x.progress x.runs again answers text)
+      × Appends x.held held' text
       × IsStatusOf lines answers status

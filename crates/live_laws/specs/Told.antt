@@ -1,5 +1,5 @@
 -- What a whole run told of the messages of its lines (profile).
-use Rattle.std.specs.Prelude.{◌≡◌, ◌⊎◌, ℕ, zero, suc, ◌+◌, ◌-◌, Bool, true, false, ◌||◌, List, [], ◌∷◌, ◌++◌}
+use Rattle.std.specs.Prelude.{◌≡◌, ◌⊎◌, ℕ, zero, suc, ◌+◌, ◌-◌, Bool, true, false, List, [], ◌∷◌, ◌++◌}
 use Rattle.std.specs.Prelude.{length, Option, Some, None}
 use Rattle.std.specs.List.{list_all}
 use Rattle.uecp_elements.specs.declared.code.Code.{Code}
@@ -11,7 +11,7 @@ use Rattle.output_forms.specs.declared.form.Form.{Form}
 use Rattle.output_forms.specs.declared.form.Form.TheVariants.{Lines, Words, Json}
 use Rattle.uecp_watch.specs.Stamps.{IsStamp}
 use Rattle.line_batches.specs.declared.intake.Given.{Given}
-use Rattle.line_batches.specs.Intake.{is_refusal}
+use Rattle.line_batches.specs.Intake.{has_refused}
 use Rattle.live_objects.specs.Objects as objects
 use Rattle.live_sending.specs.declared.options.LiveOptions.{LiveOptions}
 use Rattle.live_sending.specs.Lines as lines
@@ -49,11 +49,6 @@ abbrev pub was_applied : Option Code → Bool
 was_applied (Some code) = lines.is_applied code
 was_applied None = false
 
--- whether one of these lines was refused
-abbrev pub has_refused : List (List ℕ × Given) → Bool
-has_refused [] = false
-has_refused ((line, given) ∷ more) = is_refusal given || has_refused more
-
 -- What a status says of a run that came to its end with these lines and answers: 1 that a line was refused; 0 that none
 -- was, and each message was told to be applied; 4 that none was.
 abbrev pub IsStatusOf : List (List ℕ × Given) → (answers : List (Option Code)) → (status : ℕ) → Type 0
@@ -86,8 +81,8 @@ module _ (options : LiveOptions) (before : Progress) (s : ServerState) where
       × (text ≡ waited ++ station_in options.form options.station.now told)
 
   -- What was told by a run behind its first line: first that; and then of each message of its lines one line, in order
-  -- and under its number, with so many times something else in between.
-  abbrev pub TellsFor : (stops : ℕ) → (answers : List (Option Code)) → (text : List ℕ) → Type 0
+  -- and under its number, with so many times in between what is told where the encoder is taken for a new one.
+  abbrev pub TellsFor : (again : ℕ) → (answers : List (Option Code)) → (text : List ℕ) → Type 0
   TellsFor zero answers text =
       (begin : List ℕ) × (rest : List ℕ) × IsToldFirst (is_due options.join before) begin
       × AreAnswers options.form (before.taken + 1) answers rest × (text ≡ begin ++ rest)
@@ -97,8 +92,8 @@ module _ (options : LiveOptions) (before : Progress) (s : ServerState) where
       × AreAnswers options.form (before.taken + 1 + length earlier) more rest × (text ≡ told ++ (between ++ rest))
 
   -- What was told by a whole run: how far the server had come, how many messages are given up, and then that.
-  abbrev pub TellsAll : (stops : ℕ) → (answers : List (Option Code)) → (text : List ℕ) → Type 0
-  TellsAll stops answers text =
-      (told : List ℕ) × TellsFor stops answers told
+  abbrev pub TellsAll : (again : ℕ) → (answers : List (Option Code)) → (text : List ℕ) → Type 0
+  TellsAll again answers text =
+      (told : List ℕ) × TellsFor again answers told
       × (text ≡ (taken_in options.form before.taken (length (waiting s))
       ++ anew_lines options.form (is_due options.join before) s) ++ told)

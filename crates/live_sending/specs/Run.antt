@@ -34,17 +34,24 @@ use Rattle.line_batches.specs.Intake.{Intake}
 use Rattle.line_batches.specs.Batches.{TakesBatch}
 
 -- ---- Where a run stands: what it sends, and where that is kept and told; what it takes; whether all messages that
--- were told were applied; and how many messages are outstanding, of which nothing was told yet.
+-- were told were applied; how many messages are outstanding, of which nothing was told yet; and what comes behind their
+-- batch, where they are one.
 pub record Live (S K : Type 0) : Type 0 where
   pub sends : Standing S K
   pub takes : Intake
   pub applied : Bool
   pub unknown : ℕ
+  pub behind : After
 
 -- how a run went that ends so
 abbrev pub ended_as : Result (Unit {0}) RunFault → Went
 ended_as (Ok done) = Ok tt
 ended_as (Err fault) = Err (Run fault)
+
+-- what comes behind what is outstanding, after a turn that went so and whose batch had this after it (private)
+abbrev pub behind_of : Went → (after before : After) → After
+behind_of (Ok done) after before = before
+behind_of (Err stop) after before = after
 
 -- ---- One batch is sent.
 
@@ -134,12 +141,14 @@ module _ {C I O K : Type 0} (opens : C → Option (I × O) → C → Type 0) (cl
       × (applied' ≡ applied && are_applied ended)
       × (unknown' ≡ unknown_of (length (marks_in x.runs.sender.server)) ended)))
 
-  -- One turn: a batch was taken, and then sent where it has a message; and this comes after it.
+  -- One turn: a batch was taken, and then sent where it has a message; and this comes after it. Where the run stops
+  -- there, it is what comes behind what is outstanding.
   pub record Turn (region : Region) (size : ℕ) (strict : Bool) (x x' : Live (SenderOver C I O) K) (after : After)
       (went : Went) : Type 0 where
     pub messages : List (List ℕ)
     pub takes : TakesBatch region size strict messages after x.takes x'.takes
     pub sends : SendsSome messages x.sends x'.sends x.applied x'.applied x.unknown x'.unknown went
+    pub behind : x'.behind ≡ behind_of went after x.behind
 
   -- So many turns were made, one after another, each from where the one before ended, and the run goes on.
   abbrev pub GoesOnFor : Region → (size : ℕ) → (strict : Bool) → (turns : ℕ) → (x x' : Live (SenderOver C I O) K)
@@ -172,21 +181,27 @@ module _ {C I O K : Type 0} (opens : C → Option (I × O) → C → Type 0) (cl
   MakesOnce options due x x' went =
       MakesIf opens closes remaining contents leaves is_clean saves fails options.form options.reading.size
       options.station.now due x.sends x'.sends x.applied x'.applied went
-      × (x'.takes ≡ x.takes) × (x'.unknown ≡ x.unknown)
+      × (x'.takes ≡ x.takes) × (x'.unknown ≡ x.unknown) × (x'.behind ≡ x.behind)
 
   -- What waits was settled.
   abbrev pub SettlesOnce : LiveOptions → (x x' : Live (SenderOver C I O) K) → Went → Type 0
   SettlesOnce options x x' went =
       SettlesLive opens closes remaining contents leaves is_clean saves fails options.form x.sends x'.sends x.applied
       x'.applied x.unknown x'.unknown went
-      × (x'.takes ≡ x.takes)
+      × (x'.takes ≡ x.takes) × (x'.behind ≡ x.behind)
 
-  -- what a sender does that was given a server so: it joins its encoder and makes the station where that is due,
-  -- settles what waits, and then makes its turns
+  -- What a sender does once its encoder is joined: it settles what waits, and then makes its turns. Or the run ends so,
+  -- which was found behind messages that were outstanding: nothing is settled, and no line is taken.
+  abbrev pub RunsOn : LiveOptions → (behind : After) → (x x' : Live (SenderOver C I O) K) → Went → Type 0
+  RunsOn options GoesOn x x' went =
+      Then (SettlesOnce options) (RunsTurns opens closes remaining contents leaves is_clean saves fails options.form
+      options.reading.region options.reading.size options.reading.strict) x x' went
+  RunsOn options (Ends end) x x' went = (x' ≡ record x { behind = GoesOn }) × (went ≡ ended_as end)
+
+  -- what a sender does that was given a server so: it joins its encoder and makes the station where that is due, and
+  -- then goes on by what comes behind what was outstanding
   abbrev pub RunsLive : LiveOptions → (due : Bool) → (x x' : Live (SenderOver C I O) K) → Went → Type 0
-  RunsLive options due = Then (MakesOnce options due)
-      (Then (SettlesOnce options) (RunsTurns opens closes remaining contents leaves is_clean saves fails options.form
-      options.reading.region options.reading.size options.reading.strict))
+  RunsLive options due = Then (MakesOnce options due) (λ x x' went. RunsOn options x.behind x x' went)
 
   -- ---- A whole run.
 
@@ -202,6 +217,7 @@ module _ {C I O K : Type 0} (opens : C → Option (I × O) → C → Type 0) (cl
     takes = z.takes;
     applied = z.applied;
     unknown = z.unknown;
+    behind = z.behind;
   }
 
   -- One sender ran so with a server, over connections that came from there, and hung up; and this is left.
@@ -213,12 +229,20 @@ module _ {C I O K : Type 0} (opens : C → Option (I × O) → C → Type 0) (cl
         takes = x.takes;
         applied = x.applied;
         unknown = x.unknown;
+        behind = x.behind;
       }) z went
       × Finishes closes c' z.sends.runs × (x' ≡ ended_of z)
 
-  -- where a run stands with a new server: its messages that were outstanding count as not applied
+  -- where a run stands with a new server: its messages that were outstanding count as not applied, and what comes
+  -- behind them comes still
   abbrev pub from_anew : Live ServerState K → Standing ServerState K → Live ServerState K
-  from_anew x y = record { sends = y; takes = x.takes; applied = false; unknown = 0 }
+  from_anew x y = record {
+    sends = y;
+    takes = x.takes;
+    applied = false;
+    unknown = 0;
+    behind = x.behind;
+  }
 
   -- It did so with a server to the encoder at this address that holds nothing, and then another sender ran with that,
   -- which joins its encoder and makes the station first. Or the save failed, or a line could not be written, and no
@@ -263,6 +287,7 @@ module _ {C I O K : Type 0} (opens : C → Option (I × O) → C → Type 0) (cl
         takes = x.takes;
         applied = x.applied;
         unknown = 0;
+        behind = GoesOn;
       }) z went
       × IsLast options again z
       × (k' ≡ z.sends.keeper) × (held' ≡ z.sends.held) × (taken ≡ z.takes) × (applied ≡ z.applied))
@@ -285,6 +310,7 @@ module _ {C I O K : Type 0} (opens : C → Option (I × O) → C → Type 0) (cl
         takes = record { unread = unread; lines = 0; refused = false; said = said };
         applied = true;
         unknown = 0;
+        behind = GoesOn;
       }) k' held' taken applied went
       × (unread' ≡ taken.unread)
       × (((went ≡ Ok tt) × (status ≡ tally_status taken.refused applied) × (said' ≡ taken.said))

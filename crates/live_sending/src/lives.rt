@@ -3,6 +3,8 @@ ghost use Rattle.std.specs.Prelude.{◌≡◌, ◌⊎◌, ◌≤◌, ◌<◌, �
 ghost use Rattle.uecp_frame.specs.Address.{is_exact};
 ghost use Rattle.uecp_link.specs.Server.{ServerState};
 ghost use Rattle.kept_jobs.specs.Stops.{TellsKept};
+ghost use Rattle.line_batches.specs.declared.taking.After.{After as Next};
+ghost use Rattle.line_batches.specs.declared.taking.After.TheVariants.{GoesOn};
 ghost use Rattle.live_sending.specs.Forms.{unknown_in};
 ghost use Rattle.live_sending.specs.Run.{Renews, RunsOne, RunsAgain, RunsFor, IsLast};
 
@@ -12,7 +14,7 @@ use crate::run::run_sender;
 use crate::turn::first_of;
 use kept_jobs::{KeptStop, write_told};
 use kept_sending::{KeepServer, Progress, SaveFailed};
-use line_batches::Tally;
+use line_batches::{After, Tally};
 use line_feed::Feed;
 use output_forms::Form;
 use std::alloc::Global;
@@ -52,7 +54,7 @@ pub(crate) fn run_all<K: KeepServer, F: Feed, W: Write, E: Write, C: Connect, T:
     requires idle { IsTrue due → server.held ≡ [] }
     requires not_joined { IsTrue due → progress.old.joined ≡ false }
     requires countable { progress.old.taken < 2 ^ 63 }
-    ensures runs { (again : ℕ) × (last : ServerState) × (unknown : ℕ)
+    ensures runs { (again : ℕ) × (last : ServerState) × (unknown : ℕ) × (behind : Next)
         × RunsFor C.opens C.closes C.Input.remaining C.Output.contents K.leaves K.is_clean K.saves K.fails
         options.now due again connect.old connect.new (record {
           sends = record {
@@ -69,6 +71,7 @@ pub(crate) fn run_all<K: KeepServer, F: Feed, W: Write, E: Write, C: Connect, T:
           };
           applied = applied.old;
           unknown = 0;
+          behind = GoesOn;
         }) (record {
           sends = record {
             runs = last;
@@ -84,6 +87,7 @@ pub(crate) fn run_all<K: KeepServer, F: Feed, W: Write, E: Write, C: Connect, T:
           };
           applied = applied.new;
           unknown = unknown;
+          behind = behind;
         }) result
         × IsLast C.opens C.closes C.Input.remaining C.Output.contents K.leaves K.is_clean K.saves K.fails options.now
         again (record {
@@ -101,10 +105,12 @@ pub(crate) fn run_all<K: KeepServer, F: Feed, W: Write, E: Write, C: Connect, T:
           };
           applied = applied.new;
           unknown = unknown;
+          behind = behind;
         }) }
 {
     let address = server.address();
     let mut unknown = 0;
+    let mut behind = After::GoesOn;
     let mut ran = run_one(
         alloc,
         due,
@@ -120,6 +126,7 @@ pub(crate) fn run_all<K: KeepServer, F: Feed, W: Write, E: Write, C: Connect, T:
         tally,
         applied,
         &mut unknown,
+        &mut behind,
     );
     for _again in 0..AGAIN_MAX {
         if !goes_on(options.rejoin, unknown, progress.taken) {
@@ -139,6 +146,7 @@ pub(crate) fn run_all<K: KeepServer, F: Feed, W: Write, E: Write, C: Connect, T:
             tally,
             applied,
             &mut unknown,
+            &mut behind,
         );
     }
     ran
@@ -168,6 +176,7 @@ fn run_again<K: KeepServer, F: Feed, W: Write, E: Write, C: Connect, T: Clock>(
     tally: &mut Tally,
     applied: &mut bool,
     unknown: &mut usize,
+    behind: &mut After,
 ) -> Result<(), KeptStop>
     requires some { 1 ≤ options.now.reading.size }
     requires most { options.now.reading.size ≤ 8 }
@@ -190,6 +199,7 @@ fn run_again<K: KeepServer, F: Feed, W: Write, E: Write, C: Connect, T: Clock>(
           };
           applied = applied.old;
           unknown = unknown.old;
+          behind = behind.old;
         }) (record {
           sends = record {
             runs = last;
@@ -205,6 +215,7 @@ fn run_again<K: KeepServer, F: Feed, W: Write, E: Write, C: Connect, T: Clock>(
           };
           applied = applied.new;
           unknown = unknown.new;
+          behind = behind.new;
         }) result }
 {
     let server = Server::new(address);
@@ -223,7 +234,7 @@ fn run_again<K: KeepServer, F: Feed, W: Write, E: Write, C: Connect, T: Clock>(
         Err(stop) => Err(stop),
         Ok(()) => run_one(
             alloc, true, options, server, keeper, progress, feed, writer, errors, connect, clock,
-            tally, applied, unknown,
+            tally, applied, unknown, behind,
         ),
     }
 }
@@ -287,6 +298,7 @@ fn run_one<K: KeepServer, F: Feed, W: Write, E: Write, C: Connect, T: Clock>(
     tally: &mut Tally,
     applied: &mut bool,
     unknown: &mut usize,
+    behind: &mut After,
 ) -> Result<(), KeptStop>
     requires some { 1 ≤ options.now.reading.size }
     requires most { options.now.reading.size ≤ 8 }
@@ -310,6 +322,7 @@ fn run_one<K: KeepServer, F: Feed, W: Write, E: Write, C: Connect, T: Clock>(
           };
           applied = applied.old;
           unknown = unknown.old;
+          behind = behind.old;
         }) (record {
           sends = record {
             runs = last;
@@ -325,6 +338,7 @@ fn run_one<K: KeepServer, F: Feed, W: Write, E: Write, C: Connect, T: Clock>(
           };
           applied = applied.new;
           unknown = unknown.new;
+          behind = behind.new;
         }) result }
 {
     let mut sender = Sender::new(connect, server, options.limits);
@@ -342,6 +356,7 @@ fn run_one<K: KeepServer, F: Feed, W: Write, E: Write, C: Connect, T: Clock>(
         tally,
         applied,
         unknown,
+        behind,
     );
     let _connect = sender.finish();
     ran

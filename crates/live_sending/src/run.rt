@@ -5,7 +5,8 @@ ghost use Rattle.uecp_frame.specs.Address.{is_exact};
 ghost use Rattle.kept_jobs.specs.Stops.{Went};
 ghost use Rattle.kept_jobs.specs.ServerRun.{is_due};
 ghost use Rattle.line_batches.specs.declared.taking.After.{After as Next};
-ghost use Rattle.live_sending.specs.Run.{Turn, ended_as, RunsTurns, RunsLive, LivesFrom, Lives, tally_status};
+ghost use Rattle.line_batches.specs.declared.taking.After.TheVariants.{GoesOn};
+ghost use Rattle.live_sending.specs.Run.{Turn, ended_as, RunsTurns, RunsOn, RunsLive, LivesFrom, Lives, tally_status};
 
 use crate::beginning::begin;
 use crate::lives::run_all;
@@ -19,6 +20,7 @@ use line_feed::Feed;
 use output_forms::Form;
 use std::alloc::Global;
 use std::io::Write;
+use std::mem::replace;
 use std::time::Clock;
 use uecp_link::Server;
 use uecp_net::{Connect, Sender};
@@ -41,7 +43,8 @@ const TURNS_MAX: u64 = 1 << 59;
 /// took, as the clock tells.
 ///
 /// Where messages are outstanding the run stops; or, with `rejoin`, a new server is saved in place of this one, they
-/// are told as unknown and not sent again, and it goes on with that as with one that is not joined.
+/// are told as unknown and not sent again, and it goes on with that as with one that is not joined. Where the end of
+/// the run was found behind them it joins the encoder and makes the station, and then ends so.
 pub fn run_live<K: KeepServer, F: Feed, W: Write, E: Write, C: Connect, T: Clock>(
     alloc: Global,
     options: &LiveOptions<'_>,
@@ -148,6 +151,7 @@ fn live<K: KeepServer, F: Feed, W: Write, E: Write, C: Connect, T: Clock>(
           };
           applied = applied.old;
           unknown = 0;
+          behind = GoesOn;
         }) keeper.new (W.contents writer.new) (record {
           unread = F.remaining feed.new;
           lines = tally.new.lines;
@@ -186,8 +190,8 @@ fn live<K: KeepServer, F: Feed, W: Write, E: Write, C: Connect, T: Clock>(
     }
 }
 
-/// Joins the encoder and makes the station where that is due, settles what waits, and then takes and sends batch after
-/// batch.
+/// Joins the encoder and makes the station where that is due, and then goes on by what comes behind what was
+/// outstanding.
 pub(crate) fn run_sender<K: KeepServer, F: Feed, W: Write, E: Write, C: Connect, T: Clock>(
     alloc: Global,
     due: bool,
@@ -202,6 +206,7 @@ pub(crate) fn run_sender<K: KeepServer, F: Feed, W: Write, E: Write, C: Connect,
     tally: &mut Tally,
     applied: &mut bool,
     unknown: &mut usize,
+    behind: &mut After,
 ) -> Result<(), KeptStop>
     requires some { 1 ≤ options.now.reading.size }
     requires most { options.now.reading.size ≤ 8 }
@@ -224,6 +229,7 @@ pub(crate) fn run_sender<K: KeepServer, F: Feed, W: Write, E: Write, C: Connect,
           };
           applied = applied.old;
           unknown = unknown.old;
+          behind = behind.old;
         }) (record {
           sends = record {
             runs = sender.new;
@@ -239,15 +245,15 @@ pub(crate) fn run_sender<K: KeepServer, F: Feed, W: Write, E: Write, C: Connect,
           };
           applied = applied.new;
           unknown = unknown.new;
+          behind = behind.new;
         }) result }
     ensures loan { sender.new.loan ≡ sender.old.loan }
 {
-    let reading = &options.reading;
     make_if(
         alloc,
         options.form,
         due,
-        reading.size,
+        options.reading.size,
         options.station,
         sender,
         keeper,
@@ -255,6 +261,70 @@ pub(crate) fn run_sender<K: KeepServer, F: Feed, W: Write, E: Write, C: Connect,
         writer,
         applied,
     )?;
+    match replace(behind, After::GoesOn) {
+        After::Ends(ended) => ended_as(ended),
+        After::GoesOn => go_on(
+            alloc, options, sender, keeper, progress, feed, writer, errors, clock, tally, applied,
+            unknown, behind,
+        ),
+    }
+}
+
+/// Settles what waits, and then takes and sends batch after batch.
+fn go_on<K: KeepServer, F: Feed, W: Write, E: Write, C: Connect, T: Clock>(
+    alloc: Global,
+    options: &LiveOptions<'_>,
+    sender: &mut Sender<'_, C>,
+    keeper: &mut K,
+    progress: &mut Progress,
+    feed: &mut F,
+    writer: &mut W,
+    errors: &mut E,
+    clock: &T,
+    tally: &mut Tally,
+    applied: &mut bool,
+    unknown: &mut usize,
+    behind: &mut After,
+) -> Result<(), KeptStop>
+    requires some { 1 ≤ options.now.reading.size }
+    requires most { options.now.reading.size ≤ 8 }
+    requires countable { progress.old.taken < 2 ^ 63 }
+    ensures runs { RunsOn C.opens C.closes C.Input.remaining C.Output.contents K.leaves K.is_clean K.saves K.fails
+        options.now GoesOn (record {
+          sends = record {
+            runs = sender.old;
+            keeper = keeper.old;
+            progress = progress.old;
+            held = W.contents writer.old;
+          };
+          takes = record {
+            unread = F.remaining feed.old;
+            lines = tally.old.lines;
+            refused = tally.old.refused;
+            said = E.contents errors.old;
+          };
+          applied = applied.old;
+          unknown = unknown.old;
+          behind = behind.old;
+        }) (record {
+          sends = record {
+            runs = sender.new;
+            keeper = keeper.new;
+            progress = progress.new;
+            held = W.contents writer.new;
+          };
+          takes = record {
+            unread = F.remaining feed.new;
+            lines = tally.new.lines;
+            refused = tally.new.refused;
+            said = E.contents errors.new;
+          };
+          applied = applied.new;
+          unknown = unknown.new;
+          behind = behind.new;
+        }) result }
+    ensures loan { sender.new.loan ≡ sender.old.loan }
+{
     settle_first(
         alloc,
         options.form,
@@ -269,7 +339,7 @@ pub(crate) fn run_sender<K: KeepServer, F: Feed, W: Write, E: Write, C: Connect,
     run_turns(
         alloc,
         options.form,
-        reading,
+        &options.reading,
         sender,
         keeper,
         progress,
@@ -280,6 +350,7 @@ pub(crate) fn run_sender<K: KeepServer, F: Feed, W: Write, E: Write, C: Connect,
         tally,
         applied,
         unknown,
+        behind,
     )
 }
 
@@ -298,6 +369,7 @@ fn run_turns<K: KeepServer, F: Feed, W: Write, E: Write, C: Connect, T: Clock>(
     tally: &mut Tally,
     applied: &mut bool,
     unknown: &mut usize,
+    behind: &mut After,
 ) -> Result<(), KeptStop>
     requires some { 1 ≤ reading.now.size }
     requires most { reading.now.size ≤ 8 }
@@ -319,6 +391,7 @@ fn run_turns<K: KeepServer, F: Feed, W: Write, E: Write, C: Connect, T: Clock>(
           };
           applied = applied.old;
           unknown = unknown.old;
+          behind = behind.old;
         }) (record {
           sends = record {
             runs = sender.new;
@@ -334,6 +407,7 @@ fn run_turns<K: KeepServer, F: Feed, W: Write, E: Write, C: Connect, T: Clock>(
           };
           applied = applied.new;
           unknown = unknown.new;
+          behind = behind.new;
         }) result }
     ensures loan { sender.new.loan ≡ sender.old.loan }
 {
@@ -341,7 +415,7 @@ fn run_turns<K: KeepServer, F: Feed, W: Write, E: Write, C: Connect, T: Clock>(
     for _turn in 0..TURNS_MAX {
         match make_turn(
             alloc, form, reading, sender, keeper, progress, feed, writer, errors, clock, tally,
-            applied, unknown, &mut line,
+            applied, unknown, behind, &mut line,
         ) {
             Err(stop) => return Err(stop),
             Ok(After::Ends(ended)) => return ended_as(ended),
@@ -361,7 +435,8 @@ fn ended_as(ended: Result<(), RunFault>) -> Result<(), KeptStop>
     }
 }
 
-/// Takes one batch and sends it, and tells what comes after it.
+/// Takes one batch and sends it, and tells what comes after it; where it could not be sent, that is put down as what
+/// comes behind it.
 fn make_turn<K: KeepServer, F: Feed, W: Write, E: Write, C: Connect, T: Clock>(
     alloc: Global,
     form: Form,
@@ -376,6 +451,7 @@ fn make_turn<K: KeepServer, F: Feed, W: Write, E: Write, C: Connect, T: Clock>(
     tally: &mut Tally,
     applied: &mut bool,
     unknown: &mut usize,
+    behind: &mut After,
     line: &mut Vec<u8>,
 ) -> Result<After, KeptStop>
     requires some { 1 ≤ reading.now.size }
@@ -398,6 +474,7 @@ fn make_turn<K: KeepServer, F: Feed, W: Write, E: Write, C: Connect, T: Clock>(
           };
           applied = applied.old;
           unknown = unknown.old;
+          behind = behind.old;
         }) (record {
           sends = record {
             runs = sender.new;
@@ -413,6 +490,7 @@ fn make_turn<K: KeepServer, F: Feed, W: Write, E: Write, C: Connect, T: Clock>(
           };
           applied = applied.new;
           unknown = unknown.new;
+          behind = behind.new;
         }) after (Ok tt)) }
     ensures stopped { IfErr result (λ stop. (after : Next)
         × Turn C.opens C.closes C.Input.remaining C.Output.contents K.leaves K.is_clean
@@ -431,6 +509,7 @@ fn make_turn<K: KeepServer, F: Feed, W: Write, E: Write, C: Connect, T: Clock>(
           };
           applied = applied.old;
           unknown = unknown.old;
+          behind = behind.old;
         }) (record {
           sends = record {
             runs = sender.new;
@@ -446,6 +525,7 @@ fn make_turn<K: KeepServer, F: Feed, W: Write, E: Write, C: Connect, T: Clock>(
           };
           applied = applied.new;
           unknown = unknown.new;
+          behind = behind.new;
         }) after (Err stop)) }
     ensures taken { progress.new.taken ≤ progress.old.taken + 8 }
     ensures idle { IfOk result (λ _. sender.new.sender.server.held ≡ []) }
@@ -465,7 +545,10 @@ fn make_turn<K: KeepServer, F: Feed, W: Write, E: Write, C: Connect, T: Clock>(
         applied,
         unknown,
     ) {
-        Err(stop) => Err(stop),
+        Err(stop) => {
+            *behind = after;
+            Err(stop)
+        }
         Ok(()) => Ok(after),
     }
 }

@@ -3,7 +3,7 @@ use Rattle.line_batches.proofs.taking.take_batch.Given as goal
 
 -- the lines that were taken give the messages of the batch, which has room for another
 abbrev pub invariant-loop-line : goal.invariant-loop-line
-invariant-loop-line g l = HasTaken l.reading.region l.reading.size (record {
+invariant-loop-line g l = HasTaken l.reading.region l.reading.size l.reading.strict (record {
   unread = g.F.Feed.remaining l.fn.feed;
   lines = l.fn.tally.lines;
   refused = l.fn.tally.refused;

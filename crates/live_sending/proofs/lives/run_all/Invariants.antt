@@ -1,4 +1,5 @@
 use Rattle.uecp_link.specs.Server.{ServerState}
+use Rattle.line_batches.specs.declared.taking.After.TheVariants.{GoesOn}
 use Rattle.live_sending.specs.Run.{RunsFor}
 use Rattle.live_sending.proofs.lives.run_all.Given as goal
 
@@ -25,6 +26,7 @@ invariant-loop-again g l =
             };
             applied = l.fn.applied;
             unknown = 0;
+            behind = GoesOn;
           }) (record {
             sends = record {
               runs = last;
@@ -40,5 +42,6 @@ invariant-loop-again g l =
             };
             applied = l.applied;
             unknown = l.unknown;
+            behind = l.behind;
           }) l.ran;
     }

@@ -40,6 +40,7 @@ returns g c =
             };
             applied = sent.new.applied;
             unknown = sent.new.unknown;
+            behind = sent.new.behind;
           },
           subst (λ s. RunsLive g.C.Connect.opens g.C.Connect.closes g.C.Input.Read.remaining g.C.Output.Write.contents
               k.leaves k.is_clean k.saves
@@ -58,6 +59,7 @@ returns g c =
                 };
                 applied = c.args.applied.now;
                 unknown = c.args.unknown.now;
+                behind = c.args.behind.now;
               }) (record {
                 sends = record {
                   runs = sent.new.sender;
@@ -73,6 +75,7 @@ returns g c =
                 };
                 applied = sent.new.applied;
                 unknown = sent.new.unknown;
+                behind = sent.new.behind;
               }) sent.result) start_is sent.ensures.runs,
           (end, hangs_up, c.connect-1.given.1 (sym given ∙ sym sent.ensures.loan ∙ sym same) ∙ end_is),
           refl,

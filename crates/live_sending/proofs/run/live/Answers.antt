@@ -1,5 +1,6 @@
 use Rattle.std.proofs.Common.{Ok, Err, refl, subst, inl, inr}
 use Rattle.kept_jobs.specs.Stops.{Then}
+use Rattle.line_batches.specs.declared.taking.After.TheVariants.{GoesOn}
 use Rattle.live_sending.specs.Beginning.{TellsTaken, BeginsAnewIf}
 use Rattle.live_sending.specs.Run.{RunsFor}
 use Rattle.live_sending.proofs.run.live.Goals as goal
@@ -14,12 +15,12 @@ returns-in-Err g c =
         record { runs = now.server; keeper = now.keeper; progress = now.progress; held = held now.writer },
         c.in-Err.stop,
         subst (λ due. Then (TellsTaken c.args.options.now.form) (BeginsAnewIf k.leaves k.is_clean k.saves k.fails
-        c.args.options.now.form due) (record {
-          runs = c.args.server;
-          keeper = c.args.keeper.now;
-          progress = c.args.progress;
-          held = held c.args.writer.now;
-        }) (record { runs = now.server; keeper = now.keeper; progress = now.progress; held = held now.writer })
+            c.args.options.now.form due) (record {
+              runs = c.args.server;
+              keeper = c.args.keeper.now;
+              progress = c.args.progress;
+              held = held c.args.writer.now;
+            }) (record { runs = now.server; keeper = now.keeper; progress = now.progress; held = held now.writer })
             (Err c.in-Err.stop)) c.is_due-due.ensures c.in-Err.ensures.begins,
         refl,
         refl,
@@ -36,7 +37,7 @@ returns-in-Ok g c =
     let held = g.W.Write.contents in
     let now = c.begin.new in
     let ran = c.run_all in
-    let (again, last, unknown, runs, is_last) = ran.ensures.runs in
+    let (again, last, unknown, behind, runs, is_last) = ran.ensures.runs in
     record {
       lives = inl (
         record { runs = now.server; keeper = now.keeper; progress = now.progress; held = held now.writer },
@@ -56,14 +57,16 @@ returns-in-Ok g c =
           };
           applied = ran.new.applied;
           unknown = unknown;
+          behind = behind;
         },
         subst (λ due. Then (TellsTaken c.args.options.now.form) (BeginsAnewIf k.leaves k.is_clean k.saves k.fails
-        c.args.options.now.form due) (record {
-          runs = c.args.server;
-          keeper = c.args.keeper.now;
-          progress = c.args.progress;
-          held = held c.args.writer.now;
-        }) (record { runs = now.server; keeper = now.keeper; progress = now.progress; held = held now.writer }) (Ok tt))
+            c.args.options.now.form due) (record {
+              runs = c.args.server;
+              keeper = c.args.keeper.now;
+              progress = c.args.progress;
+              held = held c.args.writer.now;
+            }) (record { runs = now.server; keeper = now.keeper; progress = now.progress; held = held now.writer }) (Ok
+            tt))
             c.is_due-due.ensures c.in-Ok.ensures.begins,
         subst (λ due. RunsFor g.C.Connect.opens g.C.Connect.closes g.C.Input.Read.remaining g.C.Output.Write.contents
             k.leaves k.is_clean k.saves
@@ -82,6 +85,7 @@ returns-in-Ok g c =
               };
               applied = c.args.applied.now;
               unknown = 0;
+              behind = GoesOn;
             }) (record {
               sends = record {
                 runs = last;
@@ -97,6 +101,7 @@ returns-in-Ok g c =
               };
               applied = ran.new.applied;
               unknown = unknown;
+              behind = behind;
             }) ran.result)
             c.is_due-due.ensures runs,
         is_last,

@@ -26,6 +26,7 @@ invariant-loop-turn g l =
             };
             applied = l.fn.applied;
             unknown = l.fn.unknown;
+            behind = l.fn.behind;
           }) (record {
             sends = record {
               runs = l.sender;
@@ -41,5 +42,6 @@ invariant-loop-turn g l =
             };
             applied = l.applied;
             unknown = l.unknown;
+            behind = l.behind;
           });
     }

@@ -21,7 +21,7 @@ returns-clause-settles g c =
         sent.result,
         search rules,
         subst (λ (cs : ServerCounts). AnswersTold (AreHeld c.args.form (c.args.progress.taken + 1 - length (marks_in
-        server))
+            server))
             (marks_in server) (counters_waiting server)) cs sent.result (g.W.Write.contents c.args.writer.now)
             (g.W.Write.contents c.tell_held.new.writer) c.tell_held.result) counts
             (subst (λ n. AnswersTold (AreHeld c.args.form n (marks_in server) (counters_waiting server))
