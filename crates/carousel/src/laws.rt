@@ -8,8 +8,8 @@ pub fn each_queued_group_once()
     ensures { EachQueuedGroupOnce }
 {}
 
-/// A text that stays goes out in whole passes, segment by segment: without limit where its transmissions are 0, and else
-/// as many passes as they say.
+/// A text that stays goes out in whole passes, segment by segment: without limit where its transmissions are 0, and
+/// else as many passes as they say.
 pub fn goes_out_in_passes()
     ensures { GoesOutInPasses }
 {}
