@@ -1,3 +1,4 @@
 pub mod Writing
 pub mod Serving
 pub mod Outliving
+pub mod InOrder

@@ -103,7 +103,8 @@ module _ {V K C I O : Type 0} (step : Step V) (leaves : K → Kept V → Type 0)
         outlives = λ settled clean left leaves_it. inl (keeps.settled settled clean left leaves_it);
       }
   served_so x x' end (Err kept.StateFailed) s is =
-      let serves = subst (λ ended. ServesOne step leaves is_clean saves fails opens closes remaining contents turns ended
+      let serves = subst (λ ended. ServesOne step leaves is_clean saves fails opens closes remaining contents turns
+      ended
       x x' s.told) is s.serves in
       record {
         clean = s.keeps.clean;
@@ -156,7 +157,8 @@ module _ {V K C I O : Type 0} (step : Step V) (leaves : K → Kept V → Type 0)
   from_status (suc many) x x' stop (inr (why, first, is)) =
       ap stop_status (same_stop stop why is) ∙ next_status x x' why first
 
-store_status : (asked : Bool) (store : Store) (l l' : Log) (stop : KeptStop) → TellsStore asked store l l' (stopped stop)
+store_status : (asked : Bool) (store : Store) (l l' : Log) (stop : KeptStop)
+    → TellsStore asked store l l' (stopped stop)
     → stop_status stop ≡ 3
 store_status true store l l' stop (written, is) = went_status l'.fault stop is
 store_status false store l l' stop (same, is) = went_status l'.fault stop is

@@ -1,5 +1,6 @@
 -- A run of connections, one by one.
-use Rattle.std.proofs.Common.{◌≡◌, ◌<◌, ℕ, ◌+◌, ◌-◌, suc, List, Option, Some, None, Ok, Err, refl, subst, inl, inr, arith}
+use Rattle.std.proofs.Common.{◌≡◌, ◌<◌, ℕ, ◌+◌, ◌-◌, suc, List, Option, Some, None, Ok, Err, refl, subst, inl, inr}
+use Rattle.std.proofs.Common.{arith}
 use Rattle.uecp_encoder.specs.Target.{Step}
 use Rattle.kept_serving.specs.Keeping.{Kept}
 use Rattle.kept_serving.specs.Serving.{Ended}

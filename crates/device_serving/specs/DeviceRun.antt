@@ -42,7 +42,8 @@ abbrev pub went_after : Option LogFault → Ended → Went
 went_after None ended = ended_so ended
 went_after (Some fault) ended = Err (stop_of fault)
 
--- The lines of the store were told where that is asked for, and else nothing was. The run stops where the log has ended.
+-- The lines of the store were told where that is asked for, and else nothing was. The run stops where the log has
+-- ended.
 abbrev pub TellsStore : (asked : Bool) → Store → (l l' : Log) → Went → Type 0
 TellsStore true store l l' end = WritesLog (store_lines l.form true store) l l' × (end ≡ went l'.fault)
 TellsStore false store l l' end = (l' ≡ l) × (end ≡ went l'.fault)

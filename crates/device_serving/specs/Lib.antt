@@ -3,3 +3,4 @@ pub mod EventLines
 pub mod ConnectionLines
 pub mod Logging
 pub mod DeviceRun
+pub mod Laws

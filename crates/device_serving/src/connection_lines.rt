@@ -3,7 +3,8 @@ ghost use Rattle.std.specs.Prelude.{◌≡◌, decimal};
 ghost use Rattle.uecp_text.specs.Written.{Adds};
 ghost use Rattle.kept_jobs.specs.EncoderRun.{ended_words};
 ghost use Rattle.device_serving.specs.ConnectionLines.{opened_lines, opened_text, opened_object};
-ghost use Rattle.device_serving.specs.ConnectionLines.{ended_lines, ended_text, ended_object, ended_members, number_member};
+ghost use Rattle.device_serving.specs.ConnectionLines.{ended_lines, ended_text, ended_object, ended_members};
+ghost use Rattle.device_serving.specs.ConnectionLines.{number_member};
 
 use crate::event_lines::{open_object, put_time};
 use itoa::Buffer;
@@ -75,12 +76,7 @@ pub(crate) fn put_ended(
 }
 
 /// Puts that down as text.
-fn put_ended_text(
-    stamp: &str,
-    number: u64,
-    ended: Result<Served, KeptFault>,
-    output: &mut Output,
-)
+fn put_ended_text(stamp: &str, number: u64, ended: Result<Served, KeptFault>, output: &mut Output)
     ensures { Adds output.old output.new (ended_text stamp.now number ended) }
 {
     put_time(stamp, output);
@@ -110,12 +106,7 @@ fn put_words(ended: Result<Served, KeptFault>, output: &mut Output)
 }
 
 /// Puts that down as an object.
-fn put_ended_object(
-    stamp: &str,
-    number: u64,
-    ended: Result<Served, KeptFault>,
-    output: &mut Output,
-)
+fn put_ended_object(stamp: &str, number: u64, ended: Result<Served, KeptFault>, output: &mut Output)
     ensures { Adds output.old output.new (ended_object stamp.now number ended) }
 {
     open_object("connection_end", stamp, output);

@@ -215,10 +215,7 @@ fn put_reply(answer: &Answered, sent: bool, output: &mut Output)
                 "\",\"sent\":false"
             });
         }
-        Answered::NotNext
-        | Answered::Unnumbered
-        | Answered::NotForMe
-        | Answered::Dropped(_) => {}
+        Answered::NotNext | Answered::Unnumbered | Answered::NotForMe | Answered::Dropped(_) => {}
     }
 }
 

@@ -1,5 +1,6 @@
 -- What a listener is told, for one part of a stream after another.
-use Rattle.std.proofs.Common.{◌≡◌, ℕ, ◌+◌, Bool, true, List, [], ◌∷◌, ◌++◌, length, take, drop, refl, ◌∙◌, ap, sym, subst}
+use Rattle.std.proofs.Common.{◌≡◌, ℕ, ◌+◌, Bool, true, List, [], ◌∷◌, ◌++◌, length, take, drop, refl, ◌∙◌, ap, sym}
+use Rattle.std.proofs.Common.{subst}
 use Rattle.std.proofs.Common.{arith, Ok, Err}
 use Rattle.std.proofs.Math.Seq.{take-append-add, drop-append-add}
 use Rattle.uecp_frame.specs.Findings.{Finding, OpenPart}

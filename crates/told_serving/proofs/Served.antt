@@ -38,9 +38,11 @@ pub session_told : {V K L I O : Type 0} (step : Step V) (leaves : K → Kept V �
     → reader'.failures ≡ kept_read_failures ended reader.failures
     → reader'.empty ≡ kept_empty_reads ended reader.empty
     → writer'.failures ≡ kept_write_failures ended writer.failures →
-    SessionTold step leaves is_clean saves fails begins hears remaining contents turns old new k k' l0 l' input reader' output
+    SessionTold step leaves is_clean saves fails begins hears remaining contents turns old new k k' l0 l' input reader'
+    output
     writer' ended
-session_told step leaves is_clean saves fails begins hears remaining contents turns old start new k k' l0 l l' input reader
+session_told step leaves is_clean saves fails begins hears remaining contents turns old start new k k' l0 l l' input
+    reader
     reader' output writer writer' ended fits input_is none no_read_failed none_empty output_is no_write_failed lost
     (s, written, consumed, appended, serves, heard, few) begun (n, made, calls) read_failed were_empty write_failed =
     let most = few_reads ended turns n made in

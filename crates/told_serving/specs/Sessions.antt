@@ -26,13 +26,16 @@ pub record SessionTold {V K L I O : Type 0} (step : Step V) (leaves : K → Kept
 
 -- The next connection: it is opened, served, and given back as that left it.
 abbrev pub ServingTold : {V K L C I O : Type 0} → Step V → (K → Kept V → Type 0) → (K → Type 0)
-    → (saves fails : K → Kept V → K → Type 0) → (L → L → Type 0) → (L → Event → Bool → L → Type 0) → (C → Option (I × O) → C → Type 0)
+    → (saves fails : K → Kept V → K → Type 0) → (L → L → Type 0) → (L → Event → Bool → L → Type 0)
+    → (C → Option (I × O) → C → Type 0)
     → (C → I → O → C → Type 0) → (I → Option (List ℕ)) → (O → Option (List ℕ)) → (turns : ℕ) → EncoderState V → K → L
     → C → Ended → EncoderState V → K → L → C → Type 0
-ServingTold {V} {K} {L} {C} {I} {O} step leaves is_clean saves fails begins hears opens closes remaining contents turns e k l c
+ServingTold {V} {K} {L} {C} {I} {O} step leaves is_clean saves fails begins hears opens closes remaining contents turns
+    e k l c
     ended e' k' l' c' =
     (input : I) × (input' : Metered I) × (output : O) × (output' : Metered O) × (between : C)
     × opens c (Some (input, output)) between
-    × SessionTold step leaves is_clean saves fails begins hears remaining contents turns e e' k k' l l' input input' output
+    × SessionTold step leaves is_clean saves fails begins hears remaining contents turns e e' k k' l l' input input'
+    output
     output' ended
     × closes between input'.device output'.device c'

@@ -27,7 +27,8 @@ response_of Unnumbered = answering.Unnumbered
 response_of NotForMe = answering.NotForMe
 response_of (Dropped fault) = answering.Dropped fault
 
--- The code that is told of a reply is the one that it says: the reply is from this address, to the frame that was found.
+-- The code that is told of a reply is the one that it says: the reply is from this address, to the frame that was
+-- found.
 abbrev pub SaysCode : (address : ℕ) → Finding → Answered → Type 0
 SaysCode address x (New code reply) =
     (f : Frame) × (x ≡ Ok f) × (reply.items ≡ spelling (reply_of address f.counter code))

@@ -31,7 +31,8 @@ pub fn serve_connection_told<T: Target, K: KeepEncoder<T>, L: Listener, C: Conne
     turns: u32,
     connect: &mut C,
 ) -> Option<Result<Served, KeptFault>>
-    ensures served { IfSome result (λ ended. ServingTold T.step K.leaves K.is_clean K.saves K.fails L.begins L.hears C.opens
+    ensures served { IfSome result (λ ended. ServingTold T.step K.leaves K.is_clean K.saves K.fails L.begins L.hears
+        C.opens
         C.closes C.Input.remaining C.Output.contents turns encoder.old keeper.old listener.old connect.old ended
         encoder.new keeper.new listener.new connect.new) }
     // From here the next connection goes on.

@@ -14,13 +14,16 @@ returns-clause-served g c =
       s.new.writer,
       c.open.new.self,
       search rules,
-      session_told g.T.Target.step k.leaves k.is_clean k.saves k.fails g.L.Listener.begins g.L.Listener.hears g.C.Input.Read.remaining g.C.Output.Write.contents
+      session_told g.T.Target.step k.leaves k.is_clean k.saves k.fails g.L.Listener.begins g.L.Listener.hears
+          g.C.Input.Read.remaining g.C.Output.Write.contents
           c.args.turns
-          c.args.encoder.now c.line_lost.new.self s.new.encoder c.args.keeper.now s.new.keeper c.args.listener.now c.begin.new.self s.new.listener
+          c.args.encoder.now c.line_lost.new.self s.new.encoder c.args.keeper.now s.new.keeper c.args.listener.now
+          c.begin.new.self s.new.listener
           i.input
           c.new-input.result s.new.reader i.output c.new-output.result s.new.writer s.result c.ranges.turns.fits
           c.new-input.ensures.device c.new-input.ensures.calls c.new-input.ensures.failures c.new-input.ensures.empty
-          c.new-output.ensures.device c.new-output.ensures.failures (search rules) s.ensures.bytes c.begin.ensures s.ensures.reads
+          c.new-output.ensures.device c.new-output.ensures.failures (search rules) s.ensures.bytes c.begin.ensures
+          s.ensures.reads
           s.ensures.read_failures s.ensures.empty_reads s.ensures.write_failures,
       search rules,
     )
