@@ -95,6 +95,22 @@ impl<'a, W: Write, C: Clock> LogLines<'a, W, C> {
         self.fault
     }
 
+    /// The writer back.
+    pub fn into_inner(self) -> W
+        ensures { W.contents result ≡ self.entry.held }
+    {
+        let LogLines {
+            alloc: _,
+            form: _,
+            clock: _,
+            events: _,
+            number: _,
+            fault: _,
+            writer,
+        } = self;
+        writer
+    }
+
     /// What the clock shows, or nothing where there is none.
     fn stamp(&self) -> ArrayString<STAMP_MAX>
         ensures { IsTimeOf self.now.timed result.bytes }
