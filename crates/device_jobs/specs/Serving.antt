@@ -37,8 +37,8 @@ module _ {K C I O : Type 0} (leaves : K → Kept Store → Type 0) (is_clean : K
     (saves fails : K → Kept Store → K → Type 0) (opens : C → Option (I × O) → C → Type 0)
     (closes : C → I → O → C → Type 0) (remaining : I → Option (List ℕ)) (contents : O → Option (List ℕ))
     (turns connections : ℕ) (store : Bool) where
-  -- A device ran from here to there. It came to its end, and nothing was said; or it stopped, and why was said, or begun
-  -- to be said.
+  -- A device ran from here to there. It came to its end, and nothing was said; or it stopped, and why was said, or
+  -- begun to be said.
   abbrev pub EndsDevice : (x x' : Standing Store K C) → (said said' : Option (List ℕ)) → (status : ℕ) → Type 0
   EndsDevice x x' said said' status =
       ((status ≡ 0)
@@ -49,10 +49,11 @@ module _ {K C I O : Type 0} (leaves : K → Kept Store → Type 0) (is_clean : K
       × Begins said said' (stop_lines stop))
 
   -- The state at the path was opened, and its encoder is the one that is asked for; a device ran from there; and then
-  -- the state was closed. Where it came to its end, whatever a crash leaves is the encoder as the last connection left
-  -- it; and however it ended, it is that, or the encoder after some first bytes of the last connection, of whose replies
-  -- all that was sent is.
-  pub record ServesIn (gives : List ℕ → EncoderState Store → K → Type 0) (ends : K → Result (Unit {0}) StateFault → Type 0)
+  -- the state was closed. Where it came to its end, whatever a crash leaves is the encoder as the last connection
+  -- left it; and however it ended, it is that, or the encoder after some first bytes of the last connection, of whose
+  -- replies all that was sent is.
+  pub record ServesIn (gives : List ℕ → EncoderState Store → K → Type 0)
+      (ends : K → Result (Unit {0}) StateFault → Type 0)
       (path : List ℕ) (address sets : ℕ) (services : List ℕ) (c c' : C) (l l' : Log)
       (said said' : Option (List ℕ)) (status' : ℕ) : Type 0 where
     pub encoder : EncoderState Store

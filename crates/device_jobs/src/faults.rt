@@ -37,11 +37,7 @@ pub(crate) fn rules_of<F: Files>(
 }
 
 /// The rules of the lines of the file at this path.
-fn read_file<F: Files>(
-    alloc: Global,
-    path: &str,
-    files: &F,
-) -> Result<Vec<Rule>, FaultsFault> {
+fn read_file<F: Files>(alloc: Global, path: &str, files: &F) -> Result<Vec<Rule>, FaultsFault> {
     let Ok(mut file) = OpenOptions::new().read(true).open(files, path) else {
         return Err(FaultsFault::Unreadable);
     };
@@ -76,7 +72,11 @@ pub(crate) fn fail_faults<E: Write>(fault: &FaultsFault, errors: &mut E) -> u8
 /// Says that the line of this number is no rule.
 fn say_no_rule<E: Write>(line: &[u8], errors: &mut E) {
     let _ = write_parts(
-        &[b"uecp: line ", line, b" of the file of faults: not a rule\n"],
+        &[
+            b"uecp: line ",
+            line,
+            b" of the file of faults: not a rule\n",
+        ],
         errors,
     );
 }

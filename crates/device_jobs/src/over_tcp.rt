@@ -36,8 +36,7 @@ pub fn run_device_over_tcp<
     effects: &mut M,
     net: &N,
     states: &S,
-) -> u8
-{
+) -> u8 {
     match begin(alloc, job, net, errors) {
         Err(status) => status,
         Ok((rules, accepting)) => serve_with(
@@ -60,8 +59,7 @@ fn begin<'a, E: Write, N: Net<Listener = TcpListener, Stream = TcpStream> + Cloc
     job: &DeviceJob,
     net: &'a N,
     errors: &mut E,
-) -> Result<(Vec<Rule>, Accepting<'a, N>), u8>
-{
+) -> Result<(Vec<Rule>, Accepting<'a, N>), u8> {
     let place = match place_of(job) {
         Ok(place) => place,
         Err(fault) => return Err(fail_place(fault, errors)),

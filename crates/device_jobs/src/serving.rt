@@ -51,9 +51,7 @@ pub fn run_device_from<S: OpenStates, W: Write, T: Clock, E: Write, C: Connect>(
             Some(path) => {
                 let address = encoder.address();
                 let path = path.as_str();
-                serve_in(
-                    &setup, address, limits, path, states, log, errors, connect,
-                )
+                serve_in(&setup, address, limits, path, states, log, errors, connect)
             }
             None => serve_unkept(&setup, limits, &mut encoder, log, errors, connect),
         },

@@ -1,6 +1,8 @@
 -- What the words of the command line ask for.
-use Rattle.std.proofs.Common.{◌≡◌, ◌⊎◌, ℕ, List, [], refl, ap, ◌∙◌, sym, subst, Bool, true, false, ◌||◌, inl, inr, codes}
-use Rattle.std.specs.Prelude.{Option, Some, None, Box, option_map, is_some, IfSome, Result, Ok, Err, IsErrAnd, IfErr, if◌then◌else◌}
+use Rattle.std.proofs.Common.{◌≡◌, ◌⊎◌, ℕ, List, [], refl, ap, ◌∙◌, sym, subst, Bool, true, false, ◌||◌, inl, inr}
+use Rattle.std.proofs.Common.{codes}
+use Rattle.std.specs.Prelude.{Option, Some, None, Box, option_map, is_some, IfSome, Result, Ok, Err, IsErrAnd, IfErr}
+use Rattle.std.specs.Prelude.{if◌then◌else◌}
 use Rattle.std.specs.Box.{box_value}
 use Rattle.clap.specs.Walk.{Row, Text, first_of, one_of}
 use Rattle.std.specs.String.{string_bytes}
@@ -23,7 +25,8 @@ use Rattle.send_jobs.specs.declared.job.SendJob.{SendJob}
 use Rattle.uecp_cli.specs.declared.task.Task.{Task}
 use Rattle.uecp_cli.specs.declared.task.Task.TheVariants.{Plain, Kept, Send, Device, State}
 use Rattle.uecp_cli.specs.declared.usage.Usage.{Usage}
-use Rattle.uecp_cli.specs.Ranges.{AreInRange, IsInRange, IsDeviceInRange, IsLiveInRange, IsPlaceInRange, IsSetupInRange, Lies}
+use Rattle.uecp_cli.specs.Ranges.{AreInRange, IsInRange, IsDeviceInRange, IsLiveInRange, IsPlaceInRange, IsSetupInRange}
+use Rattle.uecp_cli.specs.Ranges.{Lies}
 use Rattle.uecp_cli.specs.Usages.{SaysError}
 use Rattle.uecp_cli.specs.CommandLine.{AreOptions, Asks, IsEnd, IsJobOf, IsKeptAs, IsLive, IsOption, IsPlace}
 use Rattle.uecp_cli.specs.CommandLine.{IsTaskOf, RefusesList, RefusesWords}
@@ -304,9 +307,11 @@ plain_asked rows job port (Plain same) o plain is =
     subst (λ j. IsTaskOf (codes "encoder") rows (Plain j)) (sym is.0)
     ((refl, o.are_options, listening rows job port o plain), no_word string_bytes job.state _ is.1 o.is_state)
 plain_asked rows job port (Kept same path) o plain is =
-    subst (λ j. IsTaskOf (codes "encoder") rows (Kept j path)) (sym is.0)
-    ((refl, o.are_options, listening rows job port o plain), tt,
-        sym o.is_state ∙ ap (option_map string_bytes) is.1)
+    subst (λ j. IsTaskOf (codes "encoder") rows (Kept j path)) (sym is.0) (
+      (refl, o.are_options, listening rows job port o plain),
+      tt,
+      sym o.is_state ∙ ap (option_map string_bytes) is.1,
+    )
 plain_asked rows job port (Send send) o plain is = absurd is
 plain_asked rows job port (Device device) o plain is = absurd is
 plain_asked rows job port (State path) o plain is = absurd is

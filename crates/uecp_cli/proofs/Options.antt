@@ -1,5 +1,6 @@
 -- What options and lists of the command line spell.
-use Rattle.std.proofs.Common.{◌≡◌, true, false, ℕ, ◌<◌, ◌^◌, zero, suc, List, [], ◌∷◌, length, get_or, map, refl, ap, sym}
+use Rattle.std.proofs.Common.{◌≡◌, true, false, ℕ, ◌<◌, ◌^◌, zero, suc, List, [], ◌∷◌, length, get_or, map, refl, ap}
+use Rattle.std.proofs.Common.{sym}
 use Rattle.std.proofs.Common.{◌∙◌, subst, arith}
 use Rattle.std.specs.Prelude.{Option, Some, None, Result, Ok, Err, IsErr, option_map, unwrap_or}
 use Rattle.std.specs.Str.Parse.{ParsesUnsigned}

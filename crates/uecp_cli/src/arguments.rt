@@ -35,12 +35,12 @@ pub fn maybe_number<'a>(alloc: Global, option: &NumberOption) -> Arg<'a>
 }
 
 /// An option with a word that may be left out.
-pub fn maybe_word<'a>(alloc: Global, name: &'a str, value: &'a str, help: &'a str) -> Arg<'a>
-    ensures rule { rule_of result ≡ maybe_word name.now }
+pub fn maybe_word<'a>(alloc: Global, option: &'a str, value: &'a str, help: &'a str) -> Arg<'a>
+    ensures rule { rule_of result ≡ maybe_word option.now }
     ensures own { result.global ≡ false }
 {
-    Arg::new(alloc, name)
-        .long(name)
+    Arg::new(alloc, option)
+        .long(option)
         .value_name(value)
         .help(help)
         .action(ArgAction::Set)

@@ -14,9 +14,7 @@ use crate::arguments::{
 };
 use crate::device_job::encoder_of;
 use crate::live_job::send_of;
-use crate::matched::{
-    answer_of, line_of, make_of, server_of, show_of, state_of, watch_of,
-};
+use crate::matched::{answer_of, line_of, make_of, server_of, show_of, state_of, watch_of};
 use crate::numbers::{
     CONNECTIONS, ENCODER, GIVE_UP, IDLE, PORT, RECONNECTS, RETRY_EVERY, SEED, SERVE_TURNS, SETS,
     SILENT, SITE, TIMEOUT, TRIES, TRY_TURNS, WINDOW,

@@ -70,7 +70,11 @@ fn told_in(found: &ArgMatches<'_>) -> Form
 }
 
 /// The text of an option, if it is given.
-pub(crate) fn word_of(alloc: Global, found: &ArgMatches<'_>, name: &str) -> Result<Option<String>, AllocError>
+pub(crate) fn word_of(
+    alloc: Global,
+    found: &ArgMatches<'_>,
+    name: &str,
+) -> Result<Option<String>, AllocError>
     ensures { IfOk result (λ word. option_map string_bytes word ≡ first_of name.now (rows_of (found_of found.now))) }
 {
     match found.get_str(name) {

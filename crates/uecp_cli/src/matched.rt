@@ -56,8 +56,9 @@ pub(crate) fn given_of(found: &ArgMatches<'_>, option: &NumberOption) -> Option<
     ensures { IsMaybe (one_of option.now.name.now (rows_of (found_of found.now))) option.now.least option.now.most
         result }
 {
+    let (least, most) = (option.least, option.most);
     match found.get_one::<u32>(option.name) {
-        Some(number) => Some(number.clamp(option.least, option.most) as u16),
+        Some(number) => Some(number.clamp(least, most) as u16),
         None => None,
     }
 }

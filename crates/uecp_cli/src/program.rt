@@ -57,8 +57,8 @@ pub enum Ran {
 
 /// Does what the words of a command line ask for, the first being the program's name, and answers the exit status: 0
 /// done, 1 a line of input was refused, 2 the words or the services were refused, 3 memory, reading, writing or a
-/// connection failed. Where they ask to send messages for as long as lines come, or for what only a device does, that is
-/// answered, and nothing is done.
+/// connection failed. Where they ask to send messages for as long as lines come, or for what only a device does, that
+/// is answered, and nothing is done.
 pub fn run_words<
     R: Read,
     W: Write,

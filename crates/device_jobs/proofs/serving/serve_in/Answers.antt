@@ -9,19 +9,19 @@ returns-in-Ok g c =
     let run = c.run_device-status in
     let k = g.S.EncoderKeeper.KeepEncoder in
     let ended = ends (λ (went : Went). RunsDevice k.leaves k.is_clean k.saves k.fails g.C.Connect.opens
-        g.C.Connect.closes g.C.Input.Read.remaining g.C.Output.Write.contents c.args.limits.turns
-        c.args.limits.connections c.args.limits.store (record {
-          encoder = c.in-Ok.encoder;
-          keeper = c.in-Ok.keeper;
-          connect = c.args.connect.now;
-          log = c.args.log.now;
-        }) (record {
-          encoder = run.new.encoder;
-          keeper = run.new.keeper;
-          connect = run.new.connect;
-          log = run.new.log;
-        }) went) g.E.Write.contents c.args.errors.now run.new.errors run.result run.ensures.status run.ensures.done
-        run.ensures.failed in
+    g.C.Connect.closes g.C.Input.Read.remaining g.C.Output.Write.contents c.args.limits.turns
+    c.args.limits.connections c.args.limits.store (record {
+      encoder = c.in-Ok.encoder;
+      keeper = c.in-Ok.keeper;
+      connect = c.args.connect.now;
+      log = c.args.log.now;
+    }) (record {
+      encoder = run.new.encoder;
+      keeper = run.new.keeper;
+      connect = run.new.connect;
+      log = run.new.log;
+    }) went) g.E.Write.contents c.args.errors.now run.new.errors run.result run.ensures.status run.ensures.done
+    run.ensures.failed in
     inl (record {
       encoder = c.in-Ok.encoder;
       keeper = c.in-Ok.keeper;

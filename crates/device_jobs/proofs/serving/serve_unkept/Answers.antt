@@ -11,19 +11,19 @@ pub returns : goal.returns
 returns g c =
     let run = c.run_device in
     let ended = ends (λ (went : Went). RunsDevice (λ k left. Unit {0}) (λ k. ⊥) (λ k left k'. k' ≡ k) (λ k left k'. ⊥)
-        g.C.Connect.opens g.C.Connect.closes g.C.Input.Read.remaining g.C.Output.Write.contents c.args.limits.turns
-        c.args.limits.connections c.args.limits.store (record {
-          encoder = c.args.encoder.now;
-          keeper = _;
-          connect = c.args.connect.now;
-          log = c.args.log.now;
-        }) (record {
-          encoder = run.new.encoder;
-          keeper = run.new.keeper;
-          connect = run.new.connect;
-          log = run.new.log;
-        }) went) g.E.Write.contents c.args.errors.now run.new.errors run.result run.ensures.status run.ensures.done
-        run.ensures.failed in (
+    g.C.Connect.opens g.C.Connect.closes g.C.Input.Read.remaining g.C.Output.Write.contents c.args.limits.turns
+    c.args.limits.connections c.args.limits.store (record {
+      encoder = c.args.encoder.now;
+      keeper = _;
+      connect = c.args.connect.now;
+      log = c.args.log.now;
+    }) (record {
+      encoder = run.new.encoder;
+      keeper = run.new.keeper;
+      connect = run.new.connect;
+      log = run.new.log;
+    }) went) g.E.Write.contents c.args.errors.now run.new.errors run.result run.ensures.status run.ensures.done
+    run.ensures.failed in (
       _,
       run.new.keeper,
       run.new.encoder,
