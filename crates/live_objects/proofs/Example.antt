@@ -11,8 +11,7 @@ use Rattle.live_objects.specs.Objects.{joined_line, refused_lines, station_appli
 abbrev stamp : List ℕ
 stamp = codes "2026-11-26T09:00:00.123Z"
 
-applied : answer_line stamp 1 12 3 5 Applied ≡ codes
-    "{\"format\":1,\"kind\":\"answer\",\"number\":3,\"time\":\"2026-11-26T09:00:00.123Z\",\"counter\":5,\"code\":\"00\",\"meaning\":\"applied\",\"tries\":1,\"milliseconds\":12}\n"
+applied : answer_line stamp 1 12 3 5 Applied ≡ codes "{\"format\":1,\"kind\":\"answer\",\"number\":3,\"time\":\"2026-11-26T09:00:00.123Z\",\"counter\":5,\"code\":\"00\",\"meaning\":\"applied\",\"tries\":1,\"milliseconds\":12}\n"
 unfolding line_of object_of escape_byte encode_with digits
 applied = refl
 
@@ -30,8 +29,7 @@ unfolding line_of object_of escape_byte encode_with digits
 joined = refl
 
 station : refused_lines 1 (Applied ∷ BufferFull ∷ [])
-    ≡ codes "{\"format\":1,\"kind\":\"station_refused\",\"number\":2,\"code\":\"0B\",\"meaning\":\"the buffer is
-        full\"}\n"
+    ≡ codes "{\"format\":1,\"kind\":\"station_refused\",\"number\":2,\"code\":\"0B\",\"meaning\":\"the buffer is full\"}\n"
 unfolding line_of object_of escape_byte encode_with digits
 station = refl
 
