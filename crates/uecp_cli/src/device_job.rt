@@ -1,5 +1,6 @@
 //! The job that the matches of the command `encoder` ask for (profile).
-ghost use Rattle.std.specs.Prelude.{◌≡◌, codes, IfOk, IfErr, IfSome, IfNone};
+ghost use Rattle.std.specs.Prelude.{◌≡◌, List, codes, IfOk, IfErr};
+ghost use Rattle.clap.specs.Walk.{Row};
 ghost use Rattle.clap.specs.Words.{found_of, one_of, rows_of};
 ghost use Rattle.uecp_cli.specs.CommandLine.{IsTaskOf, IsTimed, RefusesList, services_text, IsDevice, plain_port};
 ghost use Rattle.uecp_cli.specs.CommandLine.{IsPlainTask};
@@ -21,10 +22,20 @@ pub fn encoder_of(alloc: Global, found: &ArgMatches<'_>) -> Result<Task, Usage>
     ensures job { IfOk result (IsTaskOf (codes "encoder") (rows_of (found_of found.now))) }
     ensures refused { IfErr result (RefusesList (services_text (rows_of (found_of found.now)))) }
 {
-    let job = device_of(alloc, found)?;
+    match device_of(alloc, found) {
+        Err(why) => Err(why),
+        Ok(job) => Ok(task_of(job)),
+    }
+}
+
+/// The task of a device's job: that of an encoder that is none, where it asks for nothing that only a device does.
+#[tactic(auto, using(crate::proofs::Asked::plain_asked))]
+fn task_of(job: DeviceJob) -> Task
+    ensures { (rows : List Row) → IsDevice rows job → IsTaskOf (codes "encoder") rows result }
+{
     match plain_port(&job) {
-        Some(port) => Ok(plain_task(job, port)),
-        None => Ok(Task::Device(job)),
+        Some(port) => plain_task(job, port),
+        None => Task::Device(job),
     }
 }
 
