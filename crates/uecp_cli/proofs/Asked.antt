@@ -4,6 +4,7 @@ use Rattle.std.proofs.Common.{codes}
 use Rattle.std.specs.Prelude.{Option, Some, None, Box, option_map, is_some, IfSome, Result, Ok, Err, IsErrAnd, IfErr}
 use Rattle.std.specs.Prelude.{if◌then◌else◌}
 use Rattle.std.specs.Box.{box_value}
+use Rattle.std.proofs.lemmas.Bool.{eqb-true}
 use Rattle.clap.specs.Walk.{Row, Text, first_of, one_of}
 use Rattle.std.specs.String.{string_bytes}
 use Rattle.clap.specs.Simple.{App, HasMatchesOf, is_simple, subcommand_of, subcommand_rows, subcommand_rows_of}
@@ -204,9 +205,8 @@ some_in_range : (text : Option Text) (least greatest : ℕ) (number : Option ℕ
 some_in_range text least greatest None o = tt
 some_in_range text least greatest (Some n) o = o.range
 
-device_in_range : (rows : List Row) (job : DeviceJob) → IsDevice rows job × (plain_port job ≡ None)
-    → IsDeviceInRange job
-device_in_range rows job is = let o = is.0 in (
+device_in_range : (rows : List Row) (job : DeviceJob) → IsDevice rows job → IsDeviceInRange job
+device_in_range rows job o = (
   setup_in_range rows job.site job.encoder job.sets job.services.items o.are_options,
   some_in_range _ _ _ _ o.is_port,
   in_range _ _ _ _ o.is_connections,
@@ -284,7 +284,7 @@ listening rows job port o plain =
     let b = neither _ _ a.1 in
     let c = neither _ _ b.1 in
     let d = neither _ _ c.1 in
-    let idle : job.idle ≡ 0 = search (two.0) in
+    let idle : job.idle ≡ 0 = eqb-true job.idle 0 two.0 in
     record {
       is_port = subst (IsMaybe (one_of (codes "port") rows) 1 65535) three.1 o.is_port;
       is_connections = o.is_connections;

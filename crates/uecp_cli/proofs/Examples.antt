@@ -31,8 +31,12 @@ command_of_a_server : option_map {U = List ℕ} (λ p. p.0) (subcommand_of uecp_
 unfolding walked
 command_of_a_server = refl
 
--- an encoder has to be given its port
-encoder_without_a_port : fault_of uecp_app (codes "uecp" ∷ codes "encoder" ∷ []) ≡ kind.MissingRequiredArgument ∷ []
+-- a server has to be given its port; an encoder may have it in its address
+server_without_a_port : fault_of uecp_app (codes "uecp" ∷ codes "server" ∷ []) ≡ kind.MissingRequiredArgument ∷ []
+unfolding walk_fault walked defaults_fault
+server_without_a_port = refl
+
+encoder_without_a_port : fault_of uecp_app (codes "uecp" ∷ codes "encoder" ∷ []) ≡ []
 unfolding walk_fault walked defaults_fault
 encoder_without_a_port = refl
 

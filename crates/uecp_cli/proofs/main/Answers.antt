@@ -1,4 +1,4 @@
 use Rattle.uecp_cli.proofs.main.Goals as goal
 
-pub send-requires : goal.send-requires
-send-requires c = (c.run_words-ran.ensures.sends c.in-Sends.job c.in-Sends.is).1
+pub send-status-requires : goal.send-status-requires
+send-status-requires c = (c.run_words-ran.ensures.sends c.in-Sends.job c.in-Sends.is).1

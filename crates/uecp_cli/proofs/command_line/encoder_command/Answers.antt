@@ -34,6 +34,6 @@ returns c =
     c.maybe_word-2.ensures.rule in
     let twelve = arg_added _ _ c.number-4.result _ _ c.in_ok-arg-11.ensures c.number-4.ensures.own eleven
     c.number-4.ensures.rule in
-    IfOk-weaker c.arg-12.result _ _ (λ whole added. arg_added _ whole c.state.result _ _ added c.state.ensures.own
+    IfOk-weaker c.arg-13.result _ _ (λ whole added. arg_added _ whole c.state.result _ _ added c.state.ensures.own
     twelve
-    c.state.ensures.rule) c.arg-12.ensures
+    c.state.ensures.rule) c.arg-13.ensures
