@@ -171,7 +171,11 @@ fn frames_are_lost_doubled_and_damaged(rt: HostRuntime) -> Result<(), AllocError
         faulty.close(input, output);
     }
     same!(rt; all.taken(), b"ab\xFE2\xFF\xFE2\xFF\xFE3\xFF\xFEc\xFE\x14\xFF".as_slice());
-    told(&rt, &lines, b"frame 1 lost\nframe 2 twice\nframe 4 damaged at byte 2\n");
+    told(
+        &rt,
+        &lines,
+        b"frame 1 lost\nframe 2 twice\nframe 4 damaged at byte 2\n",
+    );
     holds!(rt; time.slept.get() > 0 && time.slept.get() % 200 == 0);
     Ok(())
 }

@@ -21,7 +21,7 @@ pub still_same : (before now after : Direction) (waiting : List ℕ) → now ≡
     → after ≡ record now { waiting = waiting } → after ≡ record before { waiting = after.waiting }
 still_same before now after waiting same gives =
     gives ∙ ap (λ (x : List ℕ). let d : Direction = record now { waiting = x } in d)
-        (sym (ap (λ (d : Direction). d.waiting) gives))
+    (sym (ap (λ (d : Direction). d.waiting) gives))
     ∙ ap (λ (n : Direction). let d : Direction = record n { waiting = after.waiting } in d) same
 
 pub take_least : (bytes : List ℕ) (count : ℕ) → count ≡ min (length bytes) 512 → take count bytes ≡ take 512 bytes

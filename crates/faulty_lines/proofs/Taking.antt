@@ -53,22 +53,22 @@ pub takes_more : (a b : Cutting) (c : Cutting) (start middle after bytes : List 
     (record { cutting = b; waiting = middle; is_broken = false }) bytes used
     → more ≤ length (take (length bytes - used) (drop used bytes)) → is_broken ≡ breaks_behind fate
     → (made : List ℕ) × (after ≡ middle ++ made) × Crosses b c
-        (take more (take (length bytes - used) (drop used bytes))) made (option_to_list fate)
+    (take more (take (length bytes - used) (drop used bytes))) made (option_to_list fate)
     → Takes (record { cutting = a; waiting = start; is_broken = false })
     (record { cutting = c; waiting = after; is_broken = is_broken }) bytes (used + more)
 takes_more a b c start middle after bytes used more is_broken fate takes within breaks (made, after_is, crosses) =
     record {
-  out = takes.out ++ made;
-  fates = takes.fates ++ option_to_list fate;
-  within = omega (arith, takes.within, within, ap length (rest_is bytes used), length-drop used bytes);
-  crosses = subst (λ x. Crosses a c x (takes.out ++ made) (takes.fates ++ option_to_list fate))
-      (sym (take-add used more bytes))
-      (in_parts_lem a b c (take used bytes) (take more (drop used bytes)) takes.out made takes.fates
-      (option_to_list fate) takes.crosses
-      (subst (λ x. Crosses b c (take more x) made (option_to_list fate)) (rest_is bytes used) crosses));
-  waits = after_is ∙ ap (λ (x : List ℕ). x ++ made) takes.waits ∙ append_assoc start takes.out made;
-  breaks = breaks_then takes.fates fate is_broken takes.breaks breaks;
-}
+      out = takes.out ++ made;
+      fates = takes.fates ++ option_to_list fate;
+      within = omega (arith, takes.within, within, ap length (rest_is bytes used), length-drop used bytes);
+      crosses = subst (λ x. Crosses a c x (takes.out ++ made) (takes.fates ++ option_to_list fate))
+          (sym (take-add used more bytes))
+          (in_parts_lem a b c (take used bytes) (take more (drop used bytes)) takes.out made takes.fates
+          (option_to_list fate) takes.crosses
+          (subst (λ x. Crosses b c (take more x) made (option_to_list fate)) (rest_is bytes used) crosses));
+      waits = after_is ∙ ap (λ (x : List ℕ). x ++ made) takes.waits ∙ append_assoc start takes.out made;
+      breaks = breaks_then takes.fates fate is_broken takes.breaks breaks;
+    }
 
 -- the same where the connection holds
 pub holding : (a b : Cutting) (start middle bytes : List ℕ) (used : ℕ) (is_broken : Bool) → is_broken ≡ false

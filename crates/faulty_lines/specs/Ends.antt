@@ -60,7 +60,7 @@ Reads {D} {E} remaining old new result buffer =
     ((length buffer ≡ 0) × (new ≡ old) × IfOk result (λ count. count ≡ 0))
     ⊎ MatchResult result
     (λ count. ((filled : End D) × FillsUp {E = E} remaining old filled (Ok true)
-        × HandsOn filled new (take count buffer)
+    × HandsOn filled new (take count buffer)
     × (0 < count))
     ⊎ (FillsUp {E = E} remaining old new (Ok false) × (count ≡ 0)))
     (λ fault. FillsUp remaining old new (Err fault))

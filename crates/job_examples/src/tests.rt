@@ -12,8 +12,8 @@ mod memory;
 mod network;
 mod order;
 
-use asserting::same;
 use crate::tests::network::Prepared;
+use asserting::same;
 use faulty_devices::{FaultyReader, FaultyWriter};
 use std::alloc::Global;
 use std::process::Abort;

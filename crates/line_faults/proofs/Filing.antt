@@ -35,7 +35,7 @@ pub none_left : (all before : List (ℕ × List ℕ)) (number : ℕ) (rest : Lis
     → all ≡ before ++ numbered number (lines_of rest) → AreSpelled before rules → AreSpelled all rules
 none_left all before number rest rules none cut spelled =
     let is : all ≡ before = cut ∙ ap (λ (x : List ℕ). before ++ numbered number (lines_of x)) none
-        ∙ ap (λ (x : List (ℕ × List ℕ)). before ++ x) (no_lines number) ∙ append-nil before in
+    ∙ ap (λ (x : List (ℕ × List ℕ)). before ++ x) (no_lines number) ∙ append-nil before in
     subst (λ lines. AreSpelled lines rules) (sym is) spelled
 
 pub nothing_left : (rest : List ℕ) → true ≡ eqb (length rest) 0 → rest ≡ []

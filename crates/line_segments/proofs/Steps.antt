@@ -51,7 +51,7 @@ are_cut-loose (byte ∷ bytes) held none is_held =
 -- FE comes: what was held comes out, since it is no segment.
 pub begins : (held : List ℕ) (faults : Passing) → IsHeld held
     → Crosses (record { held = held; faults = faults }) (record { held = 0xFE ∷ []; faults = faults }) (0xFE ∷ []) held
-        []
+    []
 begins [] faults is_held = record {
   pieces = [];
   joined = refl;

@@ -98,7 +98,7 @@ comes_lost : (way : Way) (number size : ℕ) (fate : Fate) → MayCome (only way
     → fate.copies ≡ 0
 comes_lost way number size fate (chance, may_do, is) =
     let gone : (l : Bool) → l ≡ true → (built l chance.lost false None chance.place false).copies ≡ 0 =
-        λ l e. rw (built, e) in
+    λ l e. rw (built, e) in
     ap (λ (f : Fate). f.copies) is ∙ gone (list_any (loses way number) (only way number)) (is_lost way number)
 
 comes_kept : (way : Way) (number other size : ℕ) (fate : Fate) → other ≢ number
@@ -118,7 +118,7 @@ after_it way number passed after (Byte byte ∷ pieces) small behind ruled =
 after_it way number passed after (Segment segment fate ∷ pieces) small behind ruled =
     let next = min (passed + 1) (2 ^ 64 - 1) in
     let is = comes_kept way number next (length segment) fate
-        (λ (e : min (passed + 1) (2 ^ 64 - 1) ≡ number). omega (arith, e)) ruled.0 in
+    (λ (e : min (passed + 1) (2 ^ 64 - 1) ≡ number). omega (arith, e)) ruled.0 in
     ap (λ (x : List ℕ). x ++ out_of pieces) (out_of_plain fate segment is)
     ∙ ap (λ (x : List ℕ). segment ++ x) (after_it way number next after pieces small (omega arith) ruled.1)
 
@@ -141,7 +141,7 @@ up_to_it way number passed zero after (Segment segment fate ∷ pieces) small th
 up_to_it way number passed (suc ahead) after (Segment segment fate ∷ pieces) small there ruled =
     let next = min (passed + 1) (2 ^ 64 - 1) in
     let is = comes_kept way number next (length segment) fate
-        (λ (e : min (passed + 1) (2 ^ 64 - 1) ≡ number). omega (arith, e)) ruled.0 in
+    (λ (e : min (passed + 1) (2 ^ 64 - 1) ≡ number). omega (arith, e)) ruled.0 in
     ap (λ (x : List ℕ). x ++ out_of pieces) (out_of_plain fate segment is)
     ∙ ap (λ (x : List ℕ). segment ++ x) (up_to_it way number next ahead after pieces small (omega arith) ruled.1)
 

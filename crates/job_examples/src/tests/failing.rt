@@ -1,6 +1,6 @@
 //! Reads, writes and flushes that are short or fail, and runs that read and write nothing.
-use crate::tests::asserting::same;
 use super::{Comes, Ends, NOT_HEX, PIECES, REPLY, answer, comes_to};
+use crate::tests::asserting::same;
 use faulty_devices::{FaultyReader, FaultyWriter};
 use std::alloc::Global;
 use std::process::Abort;

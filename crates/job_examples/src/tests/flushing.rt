@@ -1,7 +1,7 @@
 //! When the output is flushed: at the end of a job, and by the jobs with connections after each line.
-use crate::tests::asserting::same;
 use super::network::{APPLIED_BOTH, Given, Prepared, REPLY_SIZE, encoder_job, server_job};
 use super::{Comes, Ends, NOT_HEX, PIECES, REPLY, answer, came_to, comes_to};
+use crate::tests::asserting::same;
 use faulty_devices::{FaultyWriter, Taken};
 use std::alloc::Global;
 use std::process::Abort;

@@ -1,8 +1,8 @@
 //! The program where memory is wanting: each request is refused in turn, until a run has all that it asks for.
 ghost use Rattle.uecp_jobs.specs.Jobs.{IsLocal};
 
-use crate::tests::asserting::holds;
 use super::{Ends, REPLY, answer};
+use crate::tests::asserting::holds;
 use faulty_devices::ScarceMemory;
 use std::alloc::Global;
 use std::process::Abort;

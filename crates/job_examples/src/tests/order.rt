@@ -1,6 +1,6 @@
 //! When a run of `server` writes: its frames and its lines tell the time by one clock.
-use crate::tests::asserting::same;
 use super::network::{APPLIED_BOTH, REPLY_SIZE, server_job};
+use crate::tests::asserting::same;
 use arrayvec::ArrayVec;
 use faulty_devices::{FaultyReader, FaultyWriter};
 use std::cell::Cell;

@@ -2,9 +2,9 @@
 ghost use Rattle.uecp_jobs.specs.EncoderRun.{IsEncoder};
 ghost use Rattle.uecp_jobs.specs.ServerRun.{IsServer};
 
-use crate::tests::asserting::holds;
 use super::{APPLIED_BOTH, EMPTY_BOTH, Given, Prepared, REPLY_SIZE, encoder_job, server_job};
 use crate::tests::Ends;
+use crate::tests::asserting::holds;
 use crate::tests::memory::{ROOM, TIMES, wrote};
 use faulty_devices::{ADD_1, APPLIED_1, EMPTY_1, ScarceMemory, Taken};
 use std::alloc::Global;

@@ -18,7 +18,7 @@ loop-rest-preserved-in-Ok-push c =
       spelled = subst (λ rules. AreSpelled (inv.before ++ (c.loop-rest.number + 1, c.in-Some.text.now) ∷ []) rules)
           (sym c.in-Ok-push.ensures.items)
           (one_more inv.before c.loop-rest.rules.items (c.loop-rest.number + 1, c.in-Some.text.now) c.in-Ok.rule
-              inv.spelled
+          inv.spelled
           c.in-Ok.ensures.spelled);
       within = omega (arith, inv.within, c.first_input_line.ensures.shorter);
     }
@@ -28,12 +28,17 @@ returns-in-Err-clause-refused c =
     let inv = c.loop-rest.invariant in
     let line = c.first_input_line.result.0.now in
     let more = c.first_input_line.result.1.now in
-    let behind : List (ℕ × List ℕ) = numbered (c.loop-rest.number + 1 + 1) (lines_of more) in
-    (inv.before, c.in-Some.text.now, behind, c.loop-rest.rules.items,
-    next_line _ inv.before (c.loop-rest.number + 1) c.loop-rest.rest.now line more (Some c.in-Some.text.now)
-    inv.cut c.first_input_line.ensures.lines (sym c.in-Some.ensures)
-    ∙ append_assoc inv.before ((c.loop-rest.number + 1, c.in-Some.text.now) ∷ []) behind,
-    inv.spelled, c.in-Err.ensures.refused)
+    let behind : List (ℕ × List ℕ) = numbered (c.loop-rest.number + 1 + 1) (lines_of more) in (
+      inv.before,
+      c.in-Some.text.now,
+      behind,
+      c.loop-rest.rules.items,
+      next_line _ inv.before (c.loop-rest.number + 1) c.loop-rest.rest.now line more (Some c.in-Some.text.now)
+          inv.cut c.first_input_line.ensures.lines (sym c.in-Some.ensures)
+          ∙ append_assoc inv.before ((c.loop-rest.number + 1, c.in-Some.text.now) ∷ []) behind,
+      inv.spelled,
+      c.in-Err.ensures.refused,
+    )
 
 pub loop-rest-preserved : goal.loop-rest-preserved
 loop-rest-preserved c =

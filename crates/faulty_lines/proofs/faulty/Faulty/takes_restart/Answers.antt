@@ -10,12 +10,12 @@ returns-in-Some g c =
     asks_some c.args.self.now _ c.in-Some.frames c.restarts-due.result
     (sym (ap (λ l. l.frames) c.self.view_is) ∙ c.in-Some.is)
     (c.restarts-due.ensures ∙ ap (λ (rules : List Rule).
-        list_any (is_restart c.self.inside.asked c.passed-passed.result) rules)
+    list_any (is_restart c.self.inside.asked c.passed-passed.result) rules)
     (c.as_slice.ensures.value ∙ ap (λ l. l.rules) c.self.view_is)
     ∙ ap (λ (asked : ℕ). list_any (is_restart asked c.passed-passed.result) c.args.self.now.rules)
     (ap (λ l. l.asked) c.self.view_is)
     ∙ ap (λ (passed : ℕ). list_any (is_restart c.args.self.now.asked passed) c.args.self.now.rules)
-        c.passed-passed.ensures)
+    c.passed-passed.ensures)
     (ap {A = Line g.row.C.Denot} (λ l. record l { asked = c.passed-passed.result }) c.self.view_is
     ∙ ap (λ (n : ℕ). let l : Line g.row.C.Denot = record c.args.self.now { asked = n } in l) c.passed-passed.ensures)
 

@@ -8,7 +8,7 @@ pub returns-in-Ok-true-clause-reads : goal.returns-in-Ok-true-clause-reads
 returns-in-Ok-true-clause-reads g c =
     let up : FillsUp {E = ℕ} g.R.Read.remaining c.args.self.now c.fill_up.new.self (Ok true) =
     subst (λ some. FillsUp {E = ℕ} g.R.Read.remaining c.args.self.now c.fill_up.new.self (Ok some))
-        c.in-Ok-true.field-0-test
+    c.in-Ok-true.field-0-test
     c.in-Ok-true.ensures in
     inr (inl (
       c.fill_up.new.self,
@@ -16,7 +16,7 @@ returns-in-Ok-true-clause-reads g c =
       c.hand_on.ensures.hands,
       positive c.hand_on.result
           (λ none. up.3.1 (c.hand_on.ensures.none none (some_held c.args.buf.now
-              (sym c.if-is_empty.false ∙ c.is_empty.ensures)))),
+          (sym c.if-is_empty.false ∙ c.is_empty.ensures)))),
     ))
 
 pub returns-in-Ok-false-clause-reads : goal.returns-in-Ok-false-clause-reads

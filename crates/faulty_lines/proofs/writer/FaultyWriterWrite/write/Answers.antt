@@ -5,8 +5,12 @@ use Rattle.faulty_lines.proofs.writer.FaultyWriterWrite.write.Goals as goal
 
 pub returns-else-is_broken-clause-bound : goal.returns-else-is_broken-clause-bound
 returns-else-is_broken-clause-bound g c =
-    omega (arith, c.take-count.ensures.takes.takes.within, ap length c.first.ensures.first,
-        length-take 512 c.args.buf.now)
+    omega (
+      arith,
+      c.take-count.ensures.takes.takes.within,
+      ap length c.first.ensures.first,
+      length-take 512 c.args.buf.now,
+    )
 
 pub returns-else-is_broken-clause-writes : goal.returns-else-is_broken-clause-writes
 returns-else-is_broken-clause-writes g c = (
