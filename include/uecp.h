@@ -3,9 +3,10 @@
  * Each function is written in Rattle and proved to do what stands at its declaration, on every input that the caller's
  * duties below allow. docs/LIBRARY.md names for each the clause that is proved.
  *
- * What holds for every function. It keeps nothing between two calls and keeps no pointer, it prints nothing, reads no
- * file, waits for nothing and never ends the program; it ends, and writes only where it says. It takes no memory, but
- * for uecp_words and uecp_message_of. Any number of threads may call at once, each with buffers of its own.
+ * What holds for every function. It keeps no pointer, it prints nothing, reads no file, waits for nothing and never ends
+ * the program; it ends, and writes only where it says. What is kept between two calls is behind a handle, and nowhere
+ * else. No memory is taken but by uecp_words, uecp_message_of and what makes an object. Any number of threads may call
+ * at once, each with buffers and handles of its own.
  *
  * The caller's duties, which nothing checks:
  *   - No pointer is NULL, also where the length beside it is 0: any address will do then.
@@ -13,6 +14,8 @@
  *   - What one call is given to write to overlaps nothing else that it is given.
  *   - A struct that is handed over is initialized once before its first use, as by `uecp_finding finding = {0};`.
  *   - A bool is true or false.
+ *   - A handle is all zero before its first use; then only this library changes it. It is not copied, and its object is
+ *     used through that one handle: by one call at a time, and on the thread that made it.
  * Every length from 0 on is allowed, of bytes to read and of room to write.
  *
  * Functions that write into `out` follow one rule. They answer how many bytes they have to write, whatever room there
@@ -203,6 +206,218 @@ typedef struct {
  * first phrase with which the line says nothing, or right behind that phrase; at most two letters of `nearest` differ
  * from what stands there. What the answer does not name stays as it was. */
 uint8_t uecp_message_of(bool is_north_america, const uint8_t *text, size_t length, uecp_told *told);
+
+/* ---- Objects (memory is taken by malloc where one is made, and given back by uecp_free) ---- */
+
+/* What keeps an object: a deframer, an encoder's end or a server's end. It is the caller's, may lie anywhere, and begins
+ * as `uecp_handle handle = UECP_NO_OBJECT;`. No call but uecp_free gives the object back. */
+typedef struct {
+    void *at;   /* where the object lies */
+    bool there; /* whether there is one */
+} uecp_handle;
+
+#ifdef __cplusplus
+#define UECP_NO_OBJECT {}
+#else
+#define UECP_NO_OBJECT {0}
+#endif
+
+/* What a call with a handle answers. Where it is not UECP_DONE, nothing has changed and nothing was written. Memory that
+ * was refused is UECP_OUT_OF_MEMORY, 4, as above. */
+enum {
+    UECP_DONE = 0,           /* the call did what it is for */
+    UECP_OCCUPIED = 1,       /* a new object was to go into a handle that has one */
+    UECP_EMPTY = 2,          /* the handle has no object, as after uecp_free */
+    UECP_OTHER_KIND = 3,     /* its object is of another kind than the call is for */
+    UECP_NO_ADDRESS = 5,     /* not one encoder's own address: the site is not 1 to 1023, or the encoder not 1 to 63 */
+    UECP_SET_COUNT = 6,      /* not 1 to 8 data sets */
+    UECP_SERVICE_COUNT = 7,  /* not 1 to 8 services */
+    UECP_SERVICE_ZERO = 8,   /* a service has the number 00 */
+    UECP_SERVICE_TWICE = 9,  /* a service is listed twice */
+    UECP_MESSAGE_LENGTH = 10, /* a message of more than 255 bytes */
+    UECP_WINDOW_FULL = 11,   /* the server holds eight messages */
+    UECP_NOT_THERE = 12,     /* there is no such set, service, text or group */
+    UECP_NEWER_IMAGE = 13,   /* bytes begin as an image of a newer version */
+    UECP_OTHER_IMAGE = 14,   /* they begin as an image of the other kind of object, and end with their check */
+    UECP_DAMAGED_IMAGE = 15  /* they are no image */
+};
+
+/* Gives back the object of a handle and all its memory. The handle has none then, so that every other call answers
+ * UECP_EMPTY, a second uecp_free does nothing, and a new object may be made there. */
+void uecp_free(uecp_handle *handle);
+
+/* The line of any object was lost: the segment that has not ended is forgotten, and nothing else. UECP_DONE or
+ * UECP_EMPTY. */
+uint8_t uecp_line_lost(uecp_handle *handle);
+
+/* The calls that take a piece of a stream follow one rule. They use the bytes of the piece up to and with the one at which
+ * the next finding is judged, or all where there is none, and tell how many in `used`: at least 1 of a piece that is
+ * not empty. What that finding brought is told; what `kind` does not name stays as it was. The rest of the piece is to be
+ * given next. Cuts make no difference. UECP_DONE, UECP_EMPTY or UECP_OTHER_KIND. */
+
+/* Puts a new deframer into an empty handle: nothing is open. UECP_DONE, UECP_OCCUPIED or UECP_OUT_OF_MEMORY. */
+uint8_t uecp_deframer_new(uecp_handle *handle);
+
+/* Feeds a deframer with a piece of its stream, by the rule above; tells what uecp_find tells. It keeps what it needs of a
+ * segment that has not ended, which is less than 1,000 bytes however long that is. */
+uint8_t uecp_deframer_feed(uecp_handle *handle, const uint8_t *piece, size_t length, size_t *used, uecp_finding *finding);
+
+/* ---- An encoder's end of the line, over its store ---- */
+
+/* Puts a new encoder into an empty handle, at its address, with so many data sets and these services (`count` of them,
+ * the main one first) as a new store has them. It keeps no reply; its next message is the one under counter 01. All its
+ * memory is taken here. UECP_OCCUPIED, else UECP_NO_ADDRESS, else the first of UECP_SET_COUNT .. UECP_SERVICE_TWICE that
+ * holds, else UECP_DONE or UECP_OUT_OF_MEMORY. */
+uint8_t uecp_encoder_new(uecp_handle *handle, uint16_t site, uint8_t encoder, uint8_t sets, const uint8_t *services,
+                         size_t count);
+
+/* What an encoder answers to a finding. */
+enum {
+    UECP_REPLY = 1,      /* a numbered frame for it, with the next counter or a repeat: the reply is to be sent */
+    UECP_NOT_FOR_ME = 2, /* a frame whose address does not reach it */
+    UECP_UNNUMBERED = 3, /* a frame with counter 00 */
+    UECP_NOT_NEXT = 4,   /* a numbered frame for it that is no repeat and not the next: for later, there is no reply */
+    UECP_NO_FRAME = 5    /* a segment that is no frame */
+};
+
+typedef struct {
+    uint8_t kind;      /* UECP_NOTHING, or one of those above */
+    bool is_fresh;     /* of a reply whether its message was applied now; else it is the kept one, given again */
+    uint8_t fault;     /* of UECP_NO_FRAME the fault, 1 to 6 */
+    uint8_t length;    /* of a reply how many bytes it has, 11 to 16 */
+    uint8_t reply[16]; /* of a reply its bytes, at the start */
+    size_t place;      /* of UECP_BAD_STUFFING the place of the FD, from 0 at the segment's FE; of another fault 0 */
+} uecp_answer;
+
+/* Feeds an encoder with a piece of what comes over its line, by the rule for pieces. Each message acts once and in its
+ * turn: a fresh reply says that it was applied to the store now, whole or not at all, and with which code; a repeat of
+ * one of the last 127 gets the reply that it got, and changes nothing. */
+uint8_t uecp_encoder_feed(uecp_handle *handle, const uint8_t *piece, size_t length, size_t *used, uecp_answer *answer);
+
+typedef struct {
+    uint8_t sets;    /* how many data sets there are, 1 to 8 */
+    uint8_t current; /* the current data set, from 1 */
+    size_t services; /* how many services there are, 1 to 8 */
+    size_t groups;   /* how many groups wait, at most 32 */
+} uecp_store;
+
+/* Tells what the store of an encoder has. UECP_DONE, UECP_EMPTY or UECP_OTHER_KIND. */
+uint8_t uecp_encoder_store(uecp_handle *handle, uecp_store *store);
+
+/* The calls below answer UECP_DONE, UECP_EMPTY, UECP_OTHER_KIND, or UECP_NOT_THERE where there is nothing of that
+ * place or number. Places count from 0, data sets from 1. */
+
+/* Tells the number of the service at a place of the order in which they were given, the main one at 0. */
+uint8_t uecp_encoder_service_number(uecp_handle *handle, size_t place, uint8_t *number);
+
+typedef struct {
+    uint16_t pi;                  /* the programme identification, 0000 in a new store */
+    uint8_t name[8];              /* the programme service name, eight spaces in a new store */
+    bool is_traffic_programme;    /* TP */
+    bool is_traffic_announcement; /* TA */
+    bool is_music;                /* MS: music, else speech */
+    uint8_t programme_type;       /* PTY, 00 to 1F */
+    uint8_t texts;                /* how many RadioTexts it has, at most 8 */
+} uecp_service;
+
+/* Tells what the service of that number has in a data set. Neither 00 nor FE and FF name one here. */
+uint8_t uecp_encoder_service(uecp_handle *handle, uint8_t set, uint8_t number, uecp_service *service);
+
+typedef struct {
+    bool toggle;           /* by which a receiver tells a new text from a repeated one */
+    uint8_t transmissions; /* how many times it is to be sent, 0 to 15; 0 is without limit */
+    uint8_t length;        /* how many bytes it has, 0 to 64 */
+    uint8_t text[64];      /* its bytes, at the start */
+} uecp_text;
+
+/* Tells the RadioText at a place, the oldest first, that a service has in a data set. */
+uint8_t uecp_encoder_text(uecp_handle *handle, uint8_t set, uint8_t number, size_t place, uecp_text *text);
+
+typedef struct {
+    uint8_t kind;    /* the group type times two, plus 1 for version B: 00 to 1F */
+    uint8_t bits;    /* the last five bits of block 2: 00 to 1F */
+    uint16_t block3; /* block 3 as it is sent, high byte first */
+    uint16_t block4; /* block 4 as it is sent, high byte first */
+} uecp_group;
+
+/* Tells the free-format group at a place, the first to go out at 0; it waits on. */
+uint8_t uecp_encoder_group(uecp_handle *handle, size_t place, uecp_group *group);
+
+/* Takes the group that is to go out next, and tells it; it waits no more, and nothing else changes. */
+uint8_t uecp_encoder_take_group(uecp_handle *handle, uecp_group *group);
+
+/* ---- A server's end of the line, with its window ---- */
+
+/* Puts a new server into an empty handle, for the encoder at this address: it has sent nothing, and its first message
+ * will have counter 01. UECP_OCCUPIED, else UECP_NO_ADDRESS, else UECP_DONE or UECP_OUT_OF_MEMORY. */
+uint8_t uecp_server_new(uecp_handle *handle, uint16_t site, uint8_t encoder);
+
+/* Gives a server a message to send, under its next counter, 01 to FF and then 01 again: its frame is then the last of
+ * those that wait. UECP_EMPTY, UECP_OTHER_KIND, else UECP_MESSAGE_LENGTH, else UECP_WINDOW_FULL, else UECP_DONE. A server
+ * holds a message until it and all older ones were acknowledged. */
+uint8_t uecp_server_submit(uecp_handle *handle, const uint8_t *message, size_t length);
+
+/* How many messages wait for their reply, at most 8; 0 also where the handle has no server. */
+size_t uecp_server_waiting(uecp_handle *handle);
+
+/* Writes the frame of one of the messages that wait, the oldest at place 0: the same 8 to 524 bytes each time, to be sent
+ * as often as no reply has come. Answers its length; 0, and nothing is written, exactly where there is no such place, or
+ * the handle has no server. */
+size_t uecp_server_frame(uecp_handle *handle, size_t place, uint8_t *out, size_t room);
+
+/* What a server says to a finding. */
+enum {
+    UECP_ACKNOWLEDGED = 1, /* the reply to a message that waited, which waits no more, whatever the code */
+    UECP_STRAY = 2,        /* another frame, as a reply that came again */
+    UECP_NOT_HEARD = 3     /* a segment that is no frame */
+};
+
+typedef struct {
+    uint8_t kind;    /* UECP_NOTHING, or one of those above */
+    uint8_t counter; /* of an acknowledgement the counter of the message */
+    uint8_t code;    /* of an acknowledgement the reply code, one of UECP_APPLIED .. UECP_BUFFER_FULL */
+    uint8_t fault;   /* of UECP_NOT_HEARD the fault, 1 to 6 */
+    size_t place;    /* of UECP_BAD_STUFFING the place of the FD, from 0 at the segment's FE; of another fault 0 */
+} uecp_heard;
+
+/* Lets a server hear a piece of what comes over its line, by the rule for pieces. Only a reply from the encoder's own
+ * address, with the counter of a message that waits and a code of the table, acknowledges, and that message alone. */
+uint8_t uecp_server_hear(uecp_handle *handle, const uint8_t *piece, size_t length, size_t *used, uecp_heard *heard);
+
+/* ---- Kept images (memory is taken) ---- */
+
+/* An image is what is to be kept of an end over a crash: of an encoder its address, its store and its kept replies, of a
+ * server its address, its last counter and the messages that it holds. What is open of the line is not kept, nor what was
+ * counted. Bytes are read only where they are the image of the object that is read, so of any bytes that were damaged
+ * the check of 16 bits notices what it notices of a frame. What is written before a reply is sent, and before a frame is,
+ * is what makes each message act once over a crash: that order is the caller's. */
+
+/* Tells in `length` how many bytes the image of an encoder has, and puts it at the start of `out`; where `room` is less
+ * than that, all of `out` is as it was. UECP_DONE, UECP_EMPTY, UECP_OTHER_KIND or UECP_OUT_OF_MEMORY. */
+uint8_t uecp_encoder_image(uecp_handle *handle, uint8_t *out, size_t room, size_t *length);
+
+/* Puts the encoder that these bytes are the image of into an empty handle, as a start leaves it: nothing is open. Its
+ * next message is the one after the newest kept reply. UECP_OCCUPIED, UECP_DONE, UECP_OUT_OF_MEMORY, or UECP_NEWER_IMAGE,
+ * UECP_OTHER_IMAGE or UECP_DAMAGED_IMAGE; the image of each encoder that this library made is read, unless memory was
+ * refused. */
+uint8_t uecp_encoder_of_image(uecp_handle *handle, const uint8_t *bytes, size_t length);
+
+/* The same of a server, with what its program keeps beside it: whether it has joined, and how many messages of its input
+ * it has taken. */
+uint8_t uecp_server_image(uecp_handle *handle, bool has_joined, uint64_t taken, uint8_t *out, size_t room, size_t *length);
+
+/* The same of a server; where it is UECP_DONE, `has_joined` and `taken` are what was kept, and else they stay. */
+uint8_t uecp_server_of_image(uecp_handle *handle, const uint8_t *bytes, size_t length, bool *has_joined, uint64_t *taken);
+
+/* ---- Joining (no memory is taken) ---- */
+
+/* A server that knows nothing of the counters that an encoder has kept, as after it was lost, joins it on a connection of
+ * its own: it sends an empty message under each of the counters 01, 02 .. FF, in this order and each once, by
+ * uecp_encode with the length 0, and reads until this says true of all the bytes that were read on the connection: they hold the reply of the encoder
+ * at this address to 81 and, after it, the one to FF, whatever the codes. The encoder expects 01 then, its store is as it
+ * was, nothing of the pass or of its replies is still to come, and a new server may begin (uecp_server_new). Where nothing
+ * is lost both replies come. False where site and encoder are no address. */
+bool uecp_is_joined(uint16_t site, uint8_t encoder, const uint8_t *bytes, size_t length);
 
 #ifdef __cplusplus
 }

@@ -193,6 +193,286 @@ static void want_of_memory(void)
     CHECK(kind == UECP_OUT_OF_MEMORY ? is_unused(&told, sizeof told) : kind == UECP_SAID && told.length == 4);
 }
 
+/* A whole frame that applies `message`, under this counter, to the encoder 1 of site 1. */
+static size_t frame_of(const void *said, size_t length, uint8_t counter, uint8_t *out)
+{
+    return uecp_encode(1, 1, counter, (const uint8_t *)said, length, out, UECP_FRAME_MAX);
+}
+
+/* Feeds a whole piece to an encoder, and tells the last answer. */
+static uint8_t answered(uecp_handle *encoder, const uint8_t *piece, size_t length, uecp_answer *answer)
+{
+    uint8_t status = UECP_DONE;
+    for (size_t place = 0, used = 0; place < length && status == UECP_DONE; place += used)
+        status = uecp_encoder_feed(encoder, piece + place, length - place, &used, answer);
+    return status;
+}
+
+/* A handle with an object of one kind, or with none. */
+static void handles(void)
+{
+    static const uint8_t service[] = {0x01};
+    uecp_handle none_here = UECP_NO_OBJECT, deframer = UECP_NO_OBJECT, encoder = UECP_NO_OBJECT, server = UECP_NO_OBJECT;
+    uecp_handle *const every[] = {&none_here, &deframer, &encoder, &server};
+    uint8_t out[8];
+    CHECK(uecp_deframer_new(&deframer) == UECP_DONE && uecp_encoder_new(&encoder, 1, 1, 1, service, 1) == UECP_DONE);
+    CHECK(uecp_server_new(&server, 1, 1) == UECP_DONE && deframer.there && encoder.there && server.there && !none_here.there);
+    for (size_t i = 0; i < 4; i++) {
+        uecp_handle *handle = every[i], as_it_was = *handle;
+        uint8_t other = i == 0 ? UECP_EMPTY : UECP_OTHER_KIND, number = UNUSED;
+        size_t used = 77;
+        struct { uecp_finding finding; uecp_answer answer; uecp_heard heard; uecp_store store; uecp_service service; uecp_text text;
+                 uecp_group group; } told;
+        memset(&told, UNUSED, sizeof told);
+        memset(out, UNUSED, sizeof out);
+        if (i != 0) {
+            CHECK(uecp_deframer_new(handle) == UECP_OCCUPIED && uecp_server_new(handle, 1, 1) == UECP_OCCUPIED);
+            CHECK(uecp_encoder_new(handle, 0, 0, 0, service, 1) == UECP_OCCUPIED);
+        }
+        if (i != 1)
+            CHECK(uecp_deframer_feed(handle, frame, 13, &used, &told.finding) == other);
+        if (i != 2) {
+            CHECK(uecp_encoder_feed(handle, frame, 13, &used, &told.answer) == other);
+            CHECK(uecp_encoder_store(handle, &told.store) == other && uecp_encoder_service_number(handle, 0, &number) == other);
+            CHECK(uecp_encoder_service(handle, 1, 1, &told.service) == other && uecp_encoder_text(handle, 1, 1, 0, &told.text) == other);
+            CHECK(uecp_encoder_group(handle, 0, &told.group) == other && uecp_encoder_take_group(handle, &told.group) == other);
+        }
+        if (i != 3) {
+            CHECK(uecp_server_submit(handle, message, 5) == other && uecp_server_waiting(handle) == 0);
+            CHECK(uecp_server_frame(handle, 0, out, sizeof out) == 0 && uecp_server_hear(handle, frame, 13, &used, &told.heard) == other);
+        }
+        CHECK(used == 77 && number == UNUSED && is_unused(&told, sizeof told) && is_unused(out, sizeof out));
+        CHECK(uecp_line_lost(handle) == (i == 0 ? UECP_EMPTY : UECP_DONE) && !memcmp(handle, &as_it_was, sizeof as_it_was));
+    }
+    for (size_t i = 0; i < 4; i++) {
+        uecp_free(every[i]);
+        CHECK(!every[i]->there && uecp_line_lost(every[i]) == UECP_EMPTY);
+        uecp_free(every[i]); /* and once more */
+        CHECK(uecp_deframer_new(every[i]) == UECP_DONE);
+        uecp_free(every[i]);
+    }
+}
+
+static void deframers(void)
+{
+    static const uint8_t bad[] = {0x00, 0xFE, 0x00, 0xFD, 0x07, 0xFF};
+    uecp_handle handle = UECP_NO_OBJECT;
+    uecp_finding finding, as_it_was;
+    size_t used = 0;
+    CHECK(uecp_deframer_new(&handle) == UECP_DONE);
+    memset(&finding, UNUSED, sizeof finding);
+    as_it_was = finding;
+    as_it_was.kind = UECP_NOTHING;
+    /* byte by byte: the frame is found at its FF */
+    for (size_t i = 0; i < 12; i++) {
+        CHECK(uecp_deframer_feed(&handle, frame + i, 1, &used, &finding) == UECP_DONE && used == 1);
+        CHECK(!memcmp(&finding, &as_it_was, sizeof finding));
+    }
+    CHECK(uecp_deframer_feed(&handle, none, 0, &used, &finding) == UECP_DONE && used == 0 && finding.kind == UECP_NOTHING);
+    CHECK(uecp_deframer_feed(&handle, frame + 12, 1, &used, &finding) == UECP_DONE && used == 1 && finding.kind == UECP_FRAME);
+    CHECK(finding.site == 1 && finding.encoder == 1 && finding.counter == 1 && finding.length == 5);
+    CHECK(!memcmp(finding.message, message, 5) && is_unused(finding.message + 5, 250) && finding.fault == UNUSED);
+    CHECK(uecp_deframer_feed(&handle, bad, 6, &used, &finding) == UECP_DONE && used == 6 && finding.kind == UECP_DROPPED);
+    CHECK(finding.fault == UECP_BAD_STUFFING && finding.place == 2);
+    /* a lost line forgets what is open */
+    CHECK(uecp_deframer_feed(&handle, frame, 12, &used, &finding) == UECP_DONE && used == 12);
+    CHECK(uecp_line_lost(&handle) == UECP_DONE);
+    CHECK(uecp_deframer_feed(&handle, frame + 12, 1, &used, &finding) == UECP_DONE && finding.kind == UECP_NOTHING);
+    uecp_free(&handle);
+}
+
+static void encoders(void)
+{
+    static const uint8_t services[] = {0x01, 0x05}, zero[] = {0x01, 0x00}, twice[] = {0x07, 0x07}, nine[9] = {1, 2, 3, 4, 5, 6, 7, 8, 9};
+    static const uint8_t text[] = {0x0A, 0x02, 0x05, 0x03, 0x05, 'H', 'I'};
+    static const uint8_t groups[] = {0x24, 0x10, 0x03, 0x12, 0x34, 0x56, 0x78, 0x24, 0x11, 0x44, 0x9A, 0xBC, 0xDE, 0xF0};
+    static const uint8_t half[] = {0x05, 0x00, 0x00, 0x01, 0x99};
+    uecp_handle handle = UECP_NO_OBJECT;
+    uecp_answer answer, first;
+    uecp_store store = {0};
+    uecp_service service = {0};
+    uecp_text told;
+    uecp_group group = {0};
+    uint8_t out[UECP_FRAME_MAX], number = 0;
+    CHECK(uecp_encoder_new(&handle, 0, 1, 1, services, 2) == UECP_NO_ADDRESS && uecp_encoder_new(&handle, 1, 0, 1, services, 2) == UECP_NO_ADDRESS);
+    CHECK(uecp_encoder_new(&handle, 1024, 1, 1, services, 2) == UECP_NO_ADDRESS && uecp_encoder_new(&handle, 1, 64, 0, zero, 0) == UECP_NO_ADDRESS);
+    CHECK(uecp_encoder_new(&handle, 1, 1, 0, zero, 2) == UECP_SET_COUNT && uecp_encoder_new(&handle, 1, 1, 9, services, 2) == UECP_SET_COUNT);
+    CHECK(uecp_encoder_new(&handle, 1, 1, 2, services, 0) == UECP_SERVICE_COUNT && uecp_encoder_new(&handle, 1, 1, 8, nine, 9) == UECP_SERVICE_COUNT);
+    CHECK(uecp_encoder_new(&handle, 1, 1, 2, zero, 2) == UECP_SERVICE_ZERO && uecp_encoder_new(&handle, 1, 1, 2, twice, 2) == UECP_SERVICE_TWICE);
+    CHECK(!handle.there && uecp_encoder_new(&handle, 1, 1, 2, services, 2) == UECP_DONE);
+    memset(&answer, UNUSED, sizeof answer);
+    size_t length = frame_of(message, 5, 1, out), used = 0;
+    CHECK(answered(&handle, out, length, &answer) == UECP_DONE && answer.kind == UECP_REPLY && answer.is_fresh);
+    CHECK(answer.length == 11 && answer.reply[0] == 0xFE && answer.reply[10] == 0xFF && is_unused(answer.reply + 11, 5));
+    CHECK(!memcmp(answer.reply + 1, "\x00\x41\x00\x03\x18\x00\x01", 7) && answer.fault == UNUSED);
+    first = answer;
+    CHECK(answered(&handle, out, length, &answer) == UECP_DONE && answer.kind == UECP_REPLY && !answer.is_fresh);
+    CHECK(answer.length == first.length && !memcmp(answer.reply, first.reply, sizeof first.reply));
+    CHECK(answered(&handle, out, frame_of(text, 7, 3, out), &answer) == UECP_DONE && answer.kind == UECP_NOT_NEXT);
+    CHECK(answered(&handle, out, frame_of(text, 7, 0, out), &answer) == UECP_DONE && answer.kind == UECP_UNNUMBERED);
+    CHECK(answered(&handle, out, uecp_encode(1, 2, 2, text, 7, out, sizeof out), &answer) == UECP_DONE && answer.kind == UECP_NOT_FOR_ME);
+    CHECK(answered(&handle, out, frame_of(half, 5, 2, out), &answer) == UECP_DONE && answer.kind == UECP_REPLY && answer.is_fresh);
+    CHECK(answer.reply[6] == UECP_UNKNOWN_ELEMENT && answer.reply[7] == 2);
+    CHECK(answered(&handle, out, frame_of(text, 7, 3, out), &answer) == UECP_DONE && answer.kind == UECP_REPLY && answer.is_fresh);
+    CHECK(answered(&handle, out, frame_of(groups, 14, 4, out), &answer) == UECP_DONE && answer.kind == UECP_REPLY && answer.reply[6] == 0);
+    /* two segments in one piece: the first ends at the FE of the second */
+    CHECK(uecp_encoder_feed(&handle, (const uint8_t *)"\xFE\x01\xFE\x02\xFF", 5, &used, &answer) == UECP_DONE && used == 3);
+    CHECK(answer.kind == UECP_NO_FRAME && answer.fault == UECP_UNENDED && answer.place == 0);
+    CHECK(uecp_encoder_feed(&handle, (const uint8_t *)"\x02\xFF", 2, &used, &answer) == UECP_DONE && used == 2 && answer.fault == UECP_TOO_SHORT);
+    CHECK(uecp_encoder_feed(&handle, none, 0, &used, &answer) == UECP_DONE && used == 0 && answer.kind == UECP_NOTHING);
+    CHECK(uecp_encoder_store(&handle, &store) == UECP_DONE && store.sets == 2 && store.current == 1 && store.services == 2 && store.groups == 2);
+    CHECK(uecp_encoder_service_number(&handle, 1, &number) == UECP_DONE && number == 5);
+    CHECK(uecp_encoder_service_number(&handle, 2, &number) == UECP_NOT_THERE && number == 5);
+    CHECK(uecp_encoder_service(&handle, 1, 1, &service) == UECP_DONE && service.pi == 0xC201 && !service.is_music);
+    CHECK(!memcmp(service.name, "        ", 8) && service.texts == 0 && service.programme_type == 0);
+    CHECK(uecp_encoder_service(&handle, 2, 5, &service) == UECP_DONE && service.pi == 0 && service.texts == 1);
+    CHECK(uecp_encoder_service(&handle, 0, 1, &service) == UECP_NOT_THERE && uecp_encoder_service(&handle, 3, 1, &service) == UECP_NOT_THERE);
+    CHECK(uecp_encoder_service(&handle, 1, 0, &service) == UECP_NOT_THERE && service.texts == 1);
+    memset(&told, UNUSED, sizeof told);
+    CHECK(uecp_encoder_text(&handle, 2, 5, 1, &told) == UECP_NOT_THERE && uecp_encoder_text(&handle, 2, 9, 0, &told) == UECP_NOT_THERE);
+    CHECK(is_unused(&told, sizeof told) && uecp_encoder_text(&handle, 2, 5, 0, &told) == UECP_DONE);
+    CHECK(told.toggle && told.transmissions == 2 && told.length == 2 && !memcmp(told.text, "HI", 2) && is_unused(told.text + 2, 62));
+    CHECK(uecp_encoder_group(&handle, 1, &group) == UECP_DONE && group.kind == 0x11 && group.bits == 0x04 && group.block4 == 0xDEF0);
+    CHECK(uecp_encoder_group(&handle, 2, &group) == UECP_NOT_THERE && uecp_encoder_take_group(&handle, &group) == UECP_DONE);
+    CHECK(group.kind == 0x10 && group.bits == 0x03 && group.block3 == 0x1234 && group.block4 == 0x5678);
+    CHECK(uecp_encoder_take_group(&handle, &group) == UECP_DONE && uecp_encoder_take_group(&handle, &group) == UECP_NOT_THERE);
+    CHECK(group.kind == 0x11 && answered(&handle, out, frame_of(text, 7, 3, out), &answer) == UECP_DONE && !answer.is_fresh);
+    uecp_free(&handle);
+}
+
+static void servers(void)
+{
+    static const uint8_t service[] = {0x01};
+    uint8_t out[UECP_FRAME_MAX], longest[256] = {0};
+    uecp_handle server = UECP_NO_OBJECT, encoder = UECP_NO_OBJECT;
+    uecp_heard heard;
+    uecp_answer answer = {0}, fifth = {0};
+    size_t used = 0;
+    CHECK(uecp_server_new(&server, 0, 1) == UECP_NO_ADDRESS && uecp_server_new(&server, 1, 64) == UECP_NO_ADDRESS && !server.there);
+    CHECK(uecp_server_new(&server, 1, 1) == UECP_DONE && uecp_encoder_new(&encoder, 1, 1, 1, service, 1) == UECP_DONE);
+    CHECK(uecp_server_waiting(&server) == 0 && uecp_server_frame(&server, 0, out, sizeof out) == 0);
+    CHECK(uecp_server_submit(&server, longest, 256) == UECP_MESSAGE_LENGTH && uecp_server_submit(&server, message, 5) == UECP_DONE);
+    for (size_t i = 1; i < 8; i++)
+        CHECK(uecp_server_submit(&server, longest, i == 7 ? 0 : 255) == UECP_DONE && uecp_server_waiting(&server) == i + 1);
+    CHECK(uecp_server_submit(&server, message, 5) == UECP_WINDOW_FULL && uecp_server_submit(&server, longest, 256) == UECP_MESSAGE_LENGTH);
+    memset(out, UNUSED, sizeof out);
+    CHECK(uecp_server_frame(&server, 0, out, 12) == 13 && is_unused(out, sizeof out));
+    CHECK(uecp_server_frame(&server, 0, out, 13) == 13 && !memcmp(out, frame, 13) && is_unused(out + 13, sizeof out - 13));
+    CHECK(uecp_server_frame(&server, 8, out, sizeof out) == 0);
+    for (size_t i = 0; i < 8; i++) {
+        CHECK(answered(&encoder, out, uecp_server_frame(&server, i, out, sizeof out), &answer) == UECP_DONE && answer.is_fresh);
+        if (i == 4)
+            fifth = answer;
+    }
+    /* the fifth is acknowledged first: it waits no more, and is held as long as older ones wait */
+    memset(&heard, UNUSED, sizeof heard);
+    CHECK(uecp_server_hear(&server, fifth.reply, fifth.length, &used, &heard) == UECP_DONE && used == fifth.length);
+    CHECK(heard.kind == UECP_ACKNOWLEDGED && heard.counter == 5 && heard.code == UECP_UNKNOWN_ELEMENT && heard.fault == UNUSED);
+    CHECK(uecp_server_waiting(&server) == 7 && uecp_server_submit(&server, message, 5) == UECP_WINDOW_FULL);
+    CHECK(uecp_server_hear(&server, fifth.reply, fifth.length, &used, &heard) == UECP_DONE && heard.kind == UECP_STRAY);
+    CHECK(uecp_server_hear(&server, frame, 12, &used, &heard) == UECP_DONE && used == 12 && heard.kind == UECP_NOTHING);
+    CHECK(uecp_server_hear(&server, frame, 13, &used, &heard) == UECP_DONE && used == 1 && heard.kind == UECP_NOT_HEARD && heard.fault == UECP_UNENDED);
+    CHECK(uecp_line_lost(&server) == UECP_DONE && uecp_server_waiting(&server) == 7);
+    CHECK(uecp_server_hear(&server, frame + 1, 12, &used, &heard) == UECP_DONE && used == 12 && heard.kind == UECP_NOTHING);
+    uecp_free(&server);
+    uecp_free(&encoder);
+}
+
+static void images(void)
+{
+    static const uint8_t service[] = {0x01};
+    uint8_t out[UECP_FRAME_MAX], image[600], other[600], newer[] = {0x02};
+    uecp_handle encoder = UECP_NO_OBJECT, server = UECP_NO_OBJECT, again = UECP_NO_OBJECT;
+    uecp_answer answer = {0}, first;
+    uecp_store store = {0};
+    size_t length = 77, same = 0, used = 0;
+    bool joined = false;
+    uint64_t taken = 7;
+    memset(image, UNUSED, sizeof image);
+    CHECK(uecp_encoder_image(&encoder, image, sizeof image, &length) == UECP_EMPTY && uecp_server_image(&server, true, 3, image, sizeof image, &length) == UECP_EMPTY);
+    CHECK(length == 77 && is_unused(image, sizeof image));
+    CHECK(uecp_encoder_new(&encoder, 1, 1, 2, service, 1) == UECP_DONE && uecp_server_new(&server, 1, 1) == UECP_DONE);
+    CHECK(uecp_encoder_image(&server, image, sizeof image, &length) == UECP_OTHER_KIND && uecp_server_image(&encoder, true, 3, image, sizeof image, &length) == UECP_OTHER_KIND);
+    CHECK(answered(&encoder, out, frame_of(message, 5, 1, out), &answer) == UECP_DONE && answer.is_fresh);
+    first = answer;
+    CHECK(uecp_encoder_feed(&encoder, frame, 12, &used, &answer) == UECP_DONE);
+    CHECK(uecp_encoder_image(&encoder, image, 0, &length) == UECP_DONE && length > 20 && is_unused(image, sizeof image));
+    CHECK(uecp_encoder_image(&encoder, image, length - 1, &same) == UECP_DONE && same == length && is_unused(image, sizeof image));
+    CHECK(uecp_encoder_image(&encoder, image, length, &same) == UECP_DONE && image[0] == 0x01 && image[1] == 0x45 && is_unused(image + length, 600 - length));
+    CHECK(uecp_encoder_of_image(&encoder, image, length) == UECP_OCCUPIED && uecp_encoder_of_image(&again, newer, 1) == UECP_NEWER_IMAGE);
+    CHECK(uecp_encoder_of_image(&again, image, length - 1) == UECP_DAMAGED_IMAGE && uecp_encoder_of_image(&again, none, 0) == UECP_DAMAGED_IMAGE);
+    CHECK(uecp_server_of_image(&again, image, length, &joined, &taken) == UECP_OTHER_IMAGE && !again.there && taken == 7);
+    CHECK(uecp_encoder_of_image(&again, image, length) == UECP_DONE && again.there);
+    /* nothing is open, and the message is known */
+    CHECK(answered(&again, frame, 13, &answer) == UECP_DONE && answer.kind == UECP_REPLY && !answer.is_fresh);
+    CHECK(!memcmp(answer.reply, first.reply, sizeof first.reply) && uecp_encoder_store(&again, &store) == UECP_DONE && store.sets == 2);
+    CHECK(uecp_encoder_image(&again, other, sizeof other, &same) == UECP_DONE && same == length && !memcmp(image, other, length));
+    uecp_free(&again);
+    CHECK(uecp_server_submit(&server, message, 5) == UECP_DONE && uecp_server_image(&server, true, 3, image, sizeof image, &length) == UECP_DONE);
+    CHECK(uecp_server_of_image(&server, image, length, &joined, &taken) == UECP_OCCUPIED && taken == 7 && image[1] == 0x53);
+    CHECK(uecp_encoder_of_image(&again, image, length) == UECP_OTHER_IMAGE);
+    CHECK(uecp_server_of_image(&again, image, length, &joined, &taken) == UECP_DONE && joined && taken == 3);
+    CHECK(uecp_server_waiting(&again) == 1 && uecp_server_frame(&again, 0, out, sizeof out) == 13 && !memcmp(out, frame, 13));
+    uecp_free(&again);
+    uecp_free(&server);
+    uecp_free(&encoder);
+}
+
+static void joining(void)
+{
+    static const uint8_t service[] = {0x01};
+    static uint8_t replies[255 * 16];
+    uint8_t out[UECP_FRAME_MAX];
+    uecp_handle encoder = UECP_NO_OBJECT;
+    uecp_answer answer = {0};
+    size_t held = 0, first = 0;
+    CHECK(uecp_encoder_new(&encoder, 1, 1, 1, service, 1) == UECP_DONE);
+    for (uint8_t counter = 1; counter <= 7; counter++) /* what another server left */
+        CHECK(answered(&encoder, out, frame_of(message, 5, counter, out), &answer) == UECP_DONE && answer.is_fresh);
+    CHECK(!uecp_is_joined(1, 1, none, 0));
+    for (unsigned counter = 1; counter <= 255; counter++) {
+        if (answered(&encoder, out, frame_of(none, 0, (uint8_t)counter, out), &answer) != UECP_DONE || answer.kind != UECP_REPLY)
+            failed++;
+        memcpy(replies + held, answer.reply, answer.length);
+        held += answer.length;
+        if (counter == 0x81)
+            first = held;
+        if (counter == 0x81 || counter == 254)
+            CHECK(!uecp_is_joined(1, 1, replies, held));
+    }
+    CHECK(uecp_is_joined(1, 1, replies, held) && !uecp_is_joined(1, 1, replies, held - 1));
+    CHECK(!uecp_is_joined(1, 1, replies + first, held - first) && !uecp_is_joined(1, 2, replies, held));
+    CHECK(!uecp_is_joined(1024, 1, replies, held) && !uecp_is_joined(0, 65, replies, held));
+    CHECK(answered(&encoder, out, frame_of(message, 5, 1, out), &answer) == UECP_DONE && answer.is_fresh);
+    uecp_free(&encoder);
+}
+
+/* With one allocation refused nothing is made, and what was taken is given back; or it is made. */
+static void want_of_objects(void)
+{
+    static const uint8_t services[] = {0x01, 0x05};
+    uecp_handle handle = UECP_NO_OBJECT;
+    for (int kind = 0; kind < 3; kind++) {
+        uint8_t status = kind == 0 ? uecp_deframer_new(&handle) : kind == 1 ? uecp_server_new(&handle, 1, 1)
+            : uecp_encoder_new(&handle, 1, 1, 8, services, 2);
+        CHECK(status == UECP_OUT_OF_MEMORY ? !handle.there : status == UECP_DONE && handle.there);
+        CHECK(uecp_line_lost(&handle) == (status == UECP_DONE ? UECP_DONE : UECP_EMPTY));
+        if (kind == 2 && status == UECP_DONE) {
+            /* and its image, written and read */
+            uecp_handle again = UECP_NO_OBJECT;
+            static uint8_t image[5000];
+            size_t length = 77;
+            status = uecp_encoder_image(&handle, image, sizeof image, &length);
+            if (status == UECP_DONE)
+                status = uecp_encoder_of_image(&again, image, length);
+            if (status == UECP_OUT_OF_MEMORY ? again.there : status != UECP_DONE || !again.there)
+                failed++;
+            uecp_free(&again);
+        }
+        uecp_free(&handle);
+    }
+}
+
 /* malloc and realloc as the library calls them, where this file is linked with -Wl,--wrap: one call is refused. */
 long calls_left = -1;
 void *__real_malloc(size_t size);
@@ -207,6 +487,7 @@ int main(int count, char **given)
     if (count > 1) {
         calls_left = atol(given[1]);
         want_of_memory();
+        want_of_objects();
         printf("%s\n", calls_left >= 0 ? "not reached" : "reached");
     } else {
         checks_and_frames();
@@ -214,6 +495,12 @@ int main(int count, char **given)
         elements();
         names_and_characters();
         words();
+        handles();
+        deframers();
+        encoders();
+        servers();
+        images();
+        joining();
     }
     printf("%u passed, %u failed\n", passed, failed);
     return failed != 0;

@@ -1,13 +1,24 @@
 //! The frames of standard input, a line each: address, counter and message in words; or why a segment is none.
-//! `uecp-show again` writes the frames as they are sent instead.
+//! `uecp-show again` writes the frames as they are sent instead, and `uecp-show answer SITE ENCODER SETS SERVICE ..` the
+//! replies of an encoder to them, the services in hexadecimal digits.
 
+mod encoder;
 mod uecp;
 
-use std::io::{self, Write};
+use encoder::{Answer, Encoder};
+use std::error::Error;
+use std::io::{self, Read, Write};
 use uecp::{Findings, Found};
 
-fn main() -> io::Result<()> {
-    let is_again = std::env::args().nth(1).as_deref() == Some("again");
+fn main() -> Result<(), Box<dyn Error>> {
+    let given: Vec<String> = std::env::args().skip(1).collect();
+    match given.first().map(String::as_str) {
+        Some("answer") => answer(&given[1..]),
+        first => Ok(show(first == Some("again"))?),
+    }
+}
+
+fn show(is_again: bool) -> io::Result<()> {
     let mut out = io::stdout().lock();
     for found in Findings::new(io::stdin().lock()) {
         match found? {
@@ -22,4 +33,25 @@ fn main() -> io::Result<()> {
         }
     }
     Ok(())
+}
+
+fn answer(given: &[String]) -> Result<(), Box<dyn Error>> {
+    let [site, number, sets, services @ ..] = given else {
+        return Err("answer SITE ENCODER SETS SERVICE ..".into());
+    };
+    let services: Vec<u8> = services.iter().map(|digits| u8::from_str_radix(digits, 16)).collect::<Result<_, _>>()?;
+    let mut encoder = Encoder::new(site.parse()?, number.parse()?, sets.parse()?, &services)?;
+    let (mut input, mut out, mut piece) = (io::stdin().lock(), io::stdout().lock(), [0; 4096]);
+    loop {
+        match input.read(&mut piece)? {
+            0 => return Ok(()),
+            count => {
+                for answer in encoder.feed(&piece[..count]) {
+                    if let Answer::Reply { bytes, .. } = answer {
+                        out.write_all(&bytes)?;
+                    }
+                }
+            }
+        }
+    }
 }

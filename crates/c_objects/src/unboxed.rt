@@ -1,0 +1,39 @@
+//! A box as its pointer. Source: profile.
+ghost use Rattle.std.specs.Prelude.{◌≡◌};
+ghost use Rattle.std.specs.Box.Ownership.{box_owns};
+
+use std::alloc::Allocator;
+use std::marker::Model;
+
+/// What is left of a box whose pointer was taken: it owns what the box owned.
+pub(crate) struct Unboxed<T, A: Allocator> {
+    pub(crate) at: *mut T,
+    pub(crate) alloc: A,
+    pub(crate) ghost value: { T },
+}
+
+impl<T, A: Allocator> Model for Unboxed<T, A> {
+    ghost use Rattle.std.specs.Box.Ownership.{box_owns};
+
+    ghost also_owns = { λ u. box_owns (A.dealloc_token u.alloc) T.row u.at u.value };
+}
+
+impl<T, A: Allocator> Unboxed<T, A> {
+    /// Takes the box apart.
+    pub(crate) fn of(object: Box<T, A>) -> Unboxed<T, A>
+    where
+        T: Drop,
+        ensures { result.value ≡ object.value }
+    {
+        let (at, alloc) = Box::into_raw_with_allocator(object);
+        Unboxed { at, alloc }
+    }
+
+    /// The box again.
+    pub(crate) fn into_box(self) -> Box<T, A>
+        ensures { result.value ≡ self.value }
+    {
+        let Unboxed { at, alloc } = self;
+        unsafe { Box::from_raw(alloc, at) }
+    }
+}

@@ -1,0 +1,4 @@
+-- What the contracts of the library's handles cite.
+pub mod Faults
+pub mod Told
+pub mod Windows

@@ -1,0 +1,2 @@
+-- What the contracts of images for C cite.
+pub mod Images

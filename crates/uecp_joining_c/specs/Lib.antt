@@ -1,0 +1,2 @@
+-- What the contracts of joining for C cite.
+pub mod Joining
