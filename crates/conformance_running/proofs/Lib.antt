@@ -1,0 +1,4 @@
+pub mod Chain
+pub mod Heard
+pub mod Parts
+pub mod Told
