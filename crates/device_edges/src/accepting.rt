@@ -56,7 +56,7 @@ impl<'a, N: Net<Listener = TcpListener, Stream = TcpStream> + Clock> Accepting<'
     ) -> Result<Accepting<'a, N>, BindFault>
         ensures { IfOk result (λ accepting. accepting ≡ record { place = place; idle = idle; was_idle = false }) }
     {
-        match TcpListener::bind(net, place) {
+        match bind(net, place) {
             Ok(listener) => Ok(Accepting {
                 net,
                 place,
@@ -64,7 +64,7 @@ impl<'a, N: Net<Listener = TcpListener, Stream = TcpStream> + Clock> Accepting<'
                 listener,
                 was_idle: false,
             }),
-            Err(error) => Err(fault_of(&error)),
+            Err(fault) => Err(fault),
         }
     }
 
@@ -78,7 +78,10 @@ impl<'a, N: Net<Listener = TcpListener, Stream = TcpStream> + Clock> Accepting<'
     /// Accepts a connection.
     fn accept(&self) -> io::Result<(Idle<TcpStream>, TcpStream)> {
         let (stream, _) = self.listener.accept()?;
-        two_ends(stream, self.idle)
+        let limit = self
+            .idle
+            .map(|seconds| Duration::from_secs(u64::from(seconds)));
+        two_ends(stream, limit, limit)
     }
 }
 
@@ -107,6 +110,19 @@ impl<'a, N: Net<Listener = TcpListener, Stream = TcpStream> + Clock> Connect for
     }
 }
 
+/// Listens at an address and a port from now on.
+///
+/// Errors: as [`BindFault`] has them.
+pub fn bind<N: Net<Listener = TcpListener, Stream = TcpStream>>(
+    net: &N,
+    place: SocketAddr,
+) -> Result<TcpListener, BindFault> {
+    match TcpListener::bind(net, place) {
+        Ok(listener) => Ok(listener),
+        Err(error) => Err(fault_of(&error)),
+    }
+}
+
 /// What the system's fault comes to.
 fn fault_of(error: &Error) -> BindFault {
     match error.kind() {
@@ -117,12 +133,16 @@ fn fault_of(error: &Error) -> BindFault {
     }
 }
 
-/// The two ends of a stream, with its limits of time. The system is asked to send each reply as soon as it is written;
-/// where that is refused the connection is slower, and no more than that.
-fn two_ends(stream: TcpStream, idle: Option<u32>) -> io::Result<(Idle<TcpStream>, TcpStream)> {
-    let limit = idle.map(|seconds| Duration::from_secs(u64::from(seconds)));
-    stream.set_read_timeout(limit)?;
-    stream.set_write_timeout(limit)?;
+/// The two ends of a connection that was accepted, with a limit of time for a read and one for a write. The system is
+/// asked to send each reply as soon as it is written; where that is refused the connection is slower, and no more than
+/// that. Whether the other end is there is asked where nothing came for a minute, and a read fails where it is not.
+pub fn two_ends(
+    stream: TcpStream,
+    read: Option<Duration>,
+    write: Option<Duration>,
+) -> io::Result<(Idle<TcpStream>, TcpStream)> {
+    stream.set_read_timeout(read)?;
+    stream.set_write_timeout(write)?;
     let _ = stream.set_nodelay(true);
     keep_alive(&stream);
     let copy = stream.try_clone()?;

@@ -5,12 +5,13 @@
 //! - [`Accepting`]: a [`Connect`](uecp_net::Connect) that listens there and accepts one connection after another;
 //!   [`BindFault`] says why nobody can listen there. Its connections are read through [`Idle`], which notes whether a
 //!   read was given up since nothing came.
+//! - [`bind`], [`two_ends`]: the same in parts, for whoever waits for more than connections.
 #![tactic(auto)]
 
 mod accepting;
 mod address;
 mod idle;
 
-pub use accepting::{Accepting, BindFault};
+pub use accepting::{Accepting, BindFault, bind, two_ends};
 pub use address::{AddressFault, HERE, listen_address};
 pub use idle::Idle;

@@ -17,6 +17,10 @@ pub struct DeviceJob {
     pub listen: Option<String>,
     /// The port on which it listens, 1 to 65535, where it is given apart.
     pub port: Option<u16>,
+    /// The port at which the groups go out as they are on the air, 1 to 65535, if they do.
+    pub air: Option<u16>,
+    /// Whether they go out as bits.
+    pub air_bits: bool,
     /// How many connections are served, 1 to 1000.
     pub connections: u32,
     /// How many reads one connection may take, 1 to 1000000.

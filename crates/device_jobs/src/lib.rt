@@ -3,8 +3,11 @@
 //! - [`DeviceJob`]: what its options ask for.
 //! - [`run_device_from`]: the device over connections that come from anywhere; [`run_device_over_tcp`] over TCP, where
 //!   the job has it listen, and with what a bad line does to them where the job has rules for that.
+//! - [`place_of`], [`fail_place`], [`fail_bind`]: where a job listens, and what is said where it can't.
+//! - [`limits_of`]: the [`Limits`] of a job; [`closed_device`]: the exit status once the state is closed.
 #![tactic(auto)]
 
+mod connections;
 mod faults;
 mod job;
 mod limits;
@@ -13,5 +16,6 @@ mod serving;
 mod telling;
 
 pub use job::DeviceJob;
-pub use over_tcp::run_device_over_tcp;
-pub use serving::run_device_from;
+pub use limits::{Limits, limits_of};
+pub use over_tcp::{fail_bind, fail_place, place_of, run_device_over_tcp};
+pub use serving::{closed_device, run_device_from};

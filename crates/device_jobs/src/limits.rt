@@ -4,16 +4,23 @@ ghost use Rattle.device_jobs.specs.Limits.{connections_of, turns_of};
 
 use crate::job::DeviceJob;
 
-/// How many connections are served, and how many reads one may take.
+/// The limits of a device.
 #[derive(Clone, Copy, Debug)]
-pub(crate) struct Limits {
-    pub(crate) connections: u64,
-    pub(crate) turns: u32,
-    pub(crate) store: bool,
+pub struct Limits {
+    /// How many connections are served.
+    pub connections: u64,
+    /// How many reads one may take.
+    pub turns: u32,
+    /// Whether the store is told at the end.
+    pub store: bool,
 }
 
 /// Those of a job: without end as many as can be counted.
-pub(crate) fn limits_of(job: &DeviceJob) -> Limits
+///
+/// ```
+/// let limits = limits_of(&job); // forever: u64::MAX connections of u32::MAX reads
+/// ```
+pub fn limits_of(job: &DeviceJob) -> Limits
     ensures connections { result.connections ≡ connections_of job.now }
     ensures turns { result.turns ≡ turns_of job.now }
     ensures store { result.store ≡ job.now.store }

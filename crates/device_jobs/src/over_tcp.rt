@@ -1,10 +1,12 @@
 //! A device over TCP. Source: profile.
 ghost use Rattle.std.specs.Prelude.{◌≤◌};
 
+use crate::connections::{Attended, Restarting};
 use crate::faults::{fail_faults, rules_of};
 use crate::job::DeviceJob;
 use crate::serving::run_device_from;
 use crate::telling::Told;
+use arrayvec::ArrayVec;
 use device_edges::{Accepting, AddressFault, BindFault, HERE, listen_address};
 use device_serving::LogLines;
 use faulty_lines::Faulty;
@@ -13,11 +15,13 @@ use line_faults::Rule;
 use state_jobs::OpenStates;
 use std::alloc::Global;
 use std::fs::Files;
+use std::io;
 use std::io::Write;
 use std::net::{Net, SocketAddr, TcpListener, TcpStream};
 use std::time::Clock;
 use uecp_jobs::{Setup, fail, new_encoder};
-use uecp_text::RunFault;
+use uecp_net::Connect;
+use uecp_text::{RunFault, write_parts};
 
 /// Is the device that the job asks for, over TCP, and answers the exit status: that of
 /// [`run_device_from`](crate::run_device_from), or 2 where the address is none or a line of the file of faults is no
@@ -84,7 +88,7 @@ fn begin<'a, E: Write, N: Net<Listener = TcpListener, Stream = TcpStream> + Cloc
 }
 
 /// The address and port at which the job listens.
-fn place_of(job: &DeviceJob) -> Result<SocketAddr, AddressFault> {
+pub fn place_of(job: &DeviceJob) -> Result<SocketAddr, AddressFault> {
     match &job.listen {
         Some(text) => listen_address(text.as_str(), job.port),
         None => listen_address(HERE, job.port),
@@ -97,7 +101,7 @@ fn limit_of(seconds: u32) -> Option<u32> {
 }
 
 /// Says why the job asks for no address and port, and answers the exit status.
-fn fail_place<E: Write>(fault: AddressFault, errors: &mut E) -> u8
+pub fn fail_place<E: Write>(fault: AddressFault, errors: &mut E) -> u8
     ensures { (2 ≤ result) × (result ≤ 3) }
 {
     let text = match fault {
@@ -111,7 +115,7 @@ fn fail_place<E: Write>(fault: AddressFault, errors: &mut E) -> u8
 }
 
 /// Says why nobody can listen there, and answers the exit status.
-fn fail_bind<E: Write>(fault: BindFault, errors: &mut E) -> u8
+pub fn fail_bind<E: Write>(fault: BindFault, errors: &mut E) -> u8
     ensures { (2 ≤ result) × (result ≤ 3) }
 {
     let status = fail(&RunFault::Listening, errors);
@@ -144,14 +148,80 @@ fn serve_with<
     states: &S,
 ) -> u8 {
     let clock = if job.log && job.time { Some(net) } else { None };
-    let mut log = LogLines::new(alloc, job.form, clock, job.log, writer);
-    let mut accepting = accepting;
-    if rules.is_empty() {
-        return run_device_from(alloc, job, states, &mut log, errors, &mut accepting);
-    }
     let told = Told::new(job.log, job.form, clock, effects);
-    match Faulty::new(alloc, accepting, rules, u64::from(job.seed), net, &told) {
+    let mut log = LogLines::new(alloc, job.form, clock, job.log, writer);
+    let mut attended = Attended::new(accepting, job.idle, &told);
+    if rules.is_empty() {
+        return run_device_from(alloc, job, states, &mut log, errors, &mut attended);
+    }
+    match Faulty::new(alloc, attended, rules, u64::from(job.seed), net, &told) {
         Err(_) => fail(&RunFault::OutOfMemory, errors),
-        Ok(mut faulty) => run_device_from(alloc, job, states, &mut log, errors, &mut faulty),
+        Ok(mut faulty) => serve_restarting(
+            alloc,
+            job,
+            states,
+            &mut log,
+            errors,
+            &mut faulty,
+            &told,
+        ),
+    }
+}
+
+/// Serves over a bad line, and again with an encoder that begins anew each time that the line asks for it: with a state
+/// in a file from that, and else with a new one.
+fn serve_restarting<S: OpenStates, W: Write, C: Clock, E: Write, M: Write, K: Connect + Drop>(
+    alloc: Global,
+    job: &DeviceJob,
+    states: &S,
+    log: &mut LogLines<'_, W, C>,
+    errors: &mut E,
+    faulty: &mut Faulty<'_, K, C, Told<'_, M, C>>,
+    told: &Told<'_, M, C>,
+) -> u8 {
+    for _restart in 0..u64::MAX {
+        let mut said = Said::new();
+        let mut line = Restarting::new(faulty);
+        let status = run_device_from(alloc, job, states, log, &mut said, &mut line);
+        if !line.is_restart() {
+            let _ = write_parts(&[said.bytes()], errors);
+            return status;
+        }
+        told.tell_restart();
+    }
+    0
+}
+
+/// What is said of a run, kept until it is known whether it ended for good.
+#[derive(Drop)]
+struct Said {
+    bytes: ArrayVec<u8, SAID_MAX>,
+}
+
+/// How much of it is kept.
+const SAID_MAX: usize = 512;
+
+impl Said {
+    fn new() -> Said {
+        Said {
+            bytes: ArrayVec::new(),
+        }
+    }
+
+    fn bytes(&self) -> &[u8] {
+        self.bytes.as_slice()
+    }
+}
+
+impl Write for Said {
+    fn write(&mut self, buf: &[u8]) -> io::Result<usize> {
+        for byte in buf {
+            let _ = self.bytes.try_push(*byte);
+        }
+        Ok(buf.len())
+    }
+
+    fn flush(&mut self) -> io::Result<()> {
+        Ok(())
     }
 }

@@ -98,7 +98,11 @@ fn serve_in<S: OpenStates, W: Write, T: Clock, E: Write, C: Connect>(
 
 /// The exit status of a run that ended with this one, and whose state was then closed so: where the run was done and
 /// the state could not be closed, that is said.
-fn closed_device<E: Write>(status: u8, closed: Result<(), StateFault>, errors: &mut E) -> u8
+///
+/// ```
+/// let status = closed_device(status, states.close_encoder(keeper), &mut errors);
+/// ```
+pub fn closed_device<E: Write>(status: u8, closed: Result<(), StateFault>, errors: &mut E) -> u8
     ensures { IsClosed status closed result (E.contents errors.old) (E.contents errors.new) }
 {
     match closed {

@@ -1,7 +1,8 @@
-//! What a bad line did, as it is told (profile).
+//! What a bad line did, and that nothing came on a connection, as it is told (profile).
 
 use arrayvec::ArrayVec;
 use faulty_lines::{Effect, Effects, write_effect};
+use itoa::Buffer;
 use output_forms::Form;
 use std::cell::RefCell;
 use std::io;
@@ -13,8 +14,8 @@ use uecp_watch::stamp_of;
 /// How many bytes a line has at most.
 const LINE_MAX: usize = 192;
 
-/// Tells what a bad line did, a line each behind the time, if there is a clock, or an object of JSON; or nothing. Both
-/// ends of a connection borrow it, and no contract says what it writes.
+/// Tells what a bad line did, and that nothing came on a connection, a line each behind the time, if there is a clock,
+/// or an object of JSON; or nothing. Both ends of a connection borrow it, and no contract says what it writes.
 #[derive(Drop)]
 pub(crate) struct Told<'a, W: Write, C: Clock> {
     form: Form,
@@ -44,15 +45,39 @@ impl<'a, W: Write, C: Clock> Told<'a, W, C> {
 
 impl<'a, W: Write, C: Clock> Effects for Told<'a, W, C> {
     fn tell(&self, effect: Effect) {
+        let mut text = Line::new();
+        let _ = write_effect(effect, &mut text);
+        self.say(b"bad_line", &text);
+    }
+}
+
+impl<'a, W: Write, C: Clock> Told<'a, W, C> {
+    /// Tells that a connection is closed since nothing came on it for so many seconds.
+    pub(crate) fn tell_idle(&self, seconds: u32) {
+        let mut buffer = Buffer::new();
+        let mut text = Line::new();
+        text.put(b"idle for ");
+        text.put(buffer.format(seconds).as_bytes());
+        text.put(b" s\n");
+        self.say(b"idle", &text);
+    }
+
+    /// Tells that the encoder begins anew.
+    pub(crate) fn tell_restart(&self) {
+        let mut text = Line::new();
+        text.put(b"encoder restarted\n");
+        self.say(b"bad_line", &text);
+    }
+
+    /// Tells this line, as what it is where it is an object.
+    fn say(&self, kind: &[u8], text: &Line) {
         let Some(lines) = &self.lines else {
             return;
         };
-        let mut line = Line {
-            bytes: ArrayVec::new(),
-        };
+        let mut line = Line::new();
         match self.form {
-            Form::Json => put_object(self.clock, effect, &mut line),
-            Form::Lines | Form::Words(_) => put_line(self.clock, effect, &mut line),
+            Form::Json => put_object(self.clock, kind, text, &mut line),
+            Form::Lines | Form::Words(_) => put_line(self.clock, text, &mut line),
         }
         if let Ok(mut writer) = lines.try_borrow_mut() {
             let _ = write_parts(&[line.bytes.as_slice()], &mut **writer);
@@ -60,19 +85,21 @@ impl<'a, W: Write, C: Clock> Effects for Told<'a, W, C> {
     }
 }
 
-/// Puts an effect down as a line, behind the time if there is a clock.
-fn put_line<C: Clock>(clock: Option<&C>, effect: Effect, line: &mut Line) {
+/// Puts what is told down as a line, behind the time if there is a clock.
+fn put_line<C: Clock>(clock: Option<&C>, text: &Line, line: &mut Line) {
     if let Some(clock) = clock {
         let stamp = stamp_of(clock);
         line.put(stamp.as_str().as_bytes());
         line.put(b" ");
     }
-    let _ = write_effect(effect, line);
+    line.put(text.bytes.as_slice());
 }
 
 /// Puts it down as an object, with the time if there is a clock. What is said of it needs no escape in JSON.
-fn put_object<C: Clock>(clock: Option<&C>, effect: Effect, line: &mut Line) {
-    line.put(b"{\"format\":1,\"kind\":\"bad_line\"");
+fn put_object<C: Clock>(clock: Option<&C>, kind: &[u8], text: &Line, line: &mut Line) {
+    line.put(b"{\"format\":1,\"kind\":\"");
+    line.put(kind);
+    line.put(b"\"");
     if let Some(clock) = clock {
         let stamp = stamp_of(clock);
         line.put(b",\"time\":\"");
@@ -80,7 +107,7 @@ fn put_object<C: Clock>(clock: Option<&C>, effect: Effect, line: &mut Line) {
         line.put(b"\"");
     }
     line.put(b",\"text\":\"");
-    let _ = write_effect(effect, line);
+    line.put(text.bytes.as_slice());
     line.end_text();
     line.put(b"\"}\n");
 }
@@ -92,6 +119,13 @@ struct Line {
 }
 
 impl Line {
+    /// Nothing yet.
+    fn new() -> Line {
+        Line {
+            bytes: ArrayVec::new(),
+        }
+    }
+
     /// Puts this behind what it has, as far as there is room.
     fn put(&mut self, part: &[u8]) {
         for byte in part {
