@@ -1,11 +1,12 @@
 //! Check words as another program computes them, groups that a receiver of another maker was given, and a store that
 //! sends them.
 
-use crate::vectors::{FIRST, SECOND, THIRD};
+use crate::vectors::{FIRST, SECOND, SENT_BITS, THIRD};
 use carousel::Carousel;
 use rds_groups::{check_word, line, read_line};
 use rds_receiver::{HeardGroup, Receiver};
 use rds_store::RdsStore;
+use rds_sync::Synchroniser;
 
 /// Whether each line is a group's; the receiver hears them.
 fn is_heard(receiver: &mut Receiver, lines: &[&str]) -> bool {
@@ -16,6 +17,21 @@ fn is_heard(receiver: &mut Receiver, lines: &[&str]) -> bool {
         }
     }
     true
+}
+
+/// How many groups these bits have; the receiver hears them.
+fn groups_heard_in(receiver: &mut Receiver, lines: &[&str]) -> u64 {
+    let mut synchroniser = Synchroniser::new();
+    let mut count: u64 = 0;
+    for line in lines {
+        for character in line.as_bytes() {
+            if let Some(heard) = synchroniser.take_character(*character) {
+                receiver.hear(&heard);
+                count = count.saturating_add(1);
+            }
+        }
+    }
+    count
 }
 
 /// Whether the receiver shows this text.
@@ -102,4 +118,12 @@ fn store_sent(rt: HostRuntime) {
     // A group of type 6A waits, and has the text's turn.
     store.apply(&[0x24, 0x0c, 0x15, 0x12, 0x34, 0x56, 0x78]);
     assert!(rt; is_sent(&mut carousel, &mut store, &["C201 6555 1234 5678"]));
+}
+
+#[test]
+fn bits_of_another_sender(rt: HostRuntime) {
+    let mut receiver = Receiver::new();
+    assert_eq!(rt; groups_heard_in(&mut receiver, SENT_BITS), 4);
+    assert_eq!(rt; receiver.pi, Some(0xd393));
+    assert_eq!(rt; receiver.name, Some(*b"WDR 3   "));
 }

@@ -1,6 +1,6 @@
 -- Which group is next: the name has every other turn, and a free-format group or else the text the turns between.
 use Rattle.std.specs.Prelude.{ℕ, ◌+◌, ◌*◌, Bool, true, false, List, [], ◌∷◌, ◌++◌, slice_index, slice_index_or, nat_lt}
-use Rattle.std.specs.Prelude.{bytes_eq, if◌then◌else◌}
+use Rattle.std.specs.Prelude.{bytes_eq, drop, if◌then◌else◌}
 use Rattle.rds_groups.specs.Groups.{group, name_a, text_a}
 use Rattle.rds_groups.specs.declared.group.Group.{Group}
 use Rattle.rds_groups.specs.declared.group.Head.{Head}
@@ -88,3 +88,8 @@ is_queued v c = if c.is_other then is_waiting v.groups else false
 abbrev pub aired : Store → Carousel → Group × Store × Carousel
 aired v c =
     ((next_group v c).0, (if is_queued v c then (group_taken v).0 else v), (next_group v c).1)
+
+-- ---- A store that stays.
+-- The store without the first so many groups that wait.
+abbrev pub behind : (taken : ℕ) → Store → Store
+behind taken v = record v { groups = drop taken v.groups }

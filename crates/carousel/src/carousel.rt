@@ -1,6 +1,6 @@
 //! What goes out, group by group. Source: IEC 62106, type 0 and type 2 groups; RDS Forum SPB 490, RadioText; profile
 //! for the order.
-ghost use Rattle.std.specs.Prelude.{◌≡◌, ◌<◌, ◌≤◌, length, slice_get, IfSome};
+ghost use Rattle.std.specs.Prelude.{◌≡◌, ◌<◌, ◌≤◌, length, drop, slice_get, IfSome};
 ghost use Rattle.carousel.specs.Carousel.{switched_on};
 ghost use Rattle.carousel.specs.Texts as choice;
 ghost use Rattle.carousel.specs.Next as air;
@@ -89,6 +89,16 @@ impl Carousel {
         ensures queued { result.is_queued ≡ air.is_queued store.now self.old }
         ensures after { self.new ≡ (air.next_group store.now self.old).1 }
     {
+        self.next_group_behind(store, 0)
+    }
+
+    /// The same of the store without the first so many groups that wait. So the groups of a store that stays can be
+    /// told with none taken: a caller counts those that were queued.
+    pub fn next_group_behind(&mut self, store: &RdsStore, taken: usize) -> NextGroup
+        ensures group { result.group ≡ (air.next_group (air.behind taken store.now) self.old).0 }
+        ensures queued { result.is_queued ≡ air.is_queued (air.behind taken store.now) self.old }
+        ensures after { self.new ≡ (air.next_group (air.behind taken store.now) self.old).1 }
+    {
         let station = main_service(store);
         if !self.is_other {
             return NextGroup {
@@ -96,7 +106,7 @@ impl Carousel {
                 is_queued: false,
             };
         }
-        match first_waiting(store) {
+        match first_waiting(store, taken) {
             None => NextGroup {
                 group: self.send_text(&station),
                 is_queued: false,
@@ -229,12 +239,12 @@ fn text_in(bytes: &[u8]) -> ArrayVec<u8, 64>
     text
 }
 
-/// The first group that waits.
-fn first_waiting(store: &RdsStore) -> Option<StoredGroup>
-    ensures value { result ≡ slice_get store.now.groups 0 }
+/// The first group that waits behind so many.
+fn first_waiting(store: &RdsStore, taken: usize) -> Option<StoredGroup>
+    ensures value { result ≡ slice_get (drop taken store.now.groups) 0 }
     ensures in_range { IfSome result (λ group. (group.kind < 32) × (group.bits < 32)) }
 {
-    store.groups().first().copied()
+    store.groups().get(taken).copied()
 }
 
 /// The segment that comes next of so many, after the last one the first.

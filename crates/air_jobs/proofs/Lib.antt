@@ -1,0 +1,2 @@
+pub mod AirLines
+pub mod Doing

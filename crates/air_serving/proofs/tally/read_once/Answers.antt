@@ -1,0 +1,48 @@
+use Rattle.std.proofs.Common.{rules, ◌≡◌, ◌≤◌, ◌^◌, ◌-◌, length, sym, ap, subst, ◌∙◌}
+use Rattle.std.specs.Io.KnownBytes.{Appends, Consumes}
+use Rattle.uecp_encoder.specs.Answering.{responses_to}
+use Rattle.uecp_encoder.specs.Serving.{replies_among}
+use Rattle.kept_serving.specs.Serving.{ServesKept}
+use Rattle.told_serving.specs.Telling.{HasHeard}
+use Rattle.air_serving.specs.declared.tally.Tally.{Tally}
+use Rattle.air_serving.specs.Lines.{sent_too}
+use Rattle.air_serving.proofs.Tallying.{has_counted, all_written}
+use Rattle.air_serving.proofs.tally.read_once.Goals as goal
+
+pub returns-clause-reads : goal.returns-clause-reads
+returns-clause-reads g c =
+    let step = g.T.Target.step in
+    let k = g.K.KeepEncoder in
+    let called = c.serve_told-ended in
+    let (s, written, consumed, appended, serves, heard, few) = called.ensures.bytes in
+    let replies : c.args.line.sent.replies ≤ 2 ^ 64 - 1 = search rules in
+    let bytes : c.args.line.sent.bytes ≤ 2 ^ 64 - 1 = search rules in
+    let counted = has_counted g.L.Listener.hears (λ (t : Tally g.row.L.Denot). t.listener.now)
+    (λ (t : Tally g.row.L.Denot). t.sent) (λ (t : Tally g.row.L.Denot). t.listener.ghost_name) step
+    c.args.encoder.now called.new.encoder _ called.new.listener s written called.result
+    (record { replies = replies; bytes = bytes }) heard in
+    let same = counted.same in
+    let last : c.listener-1.given.0 ≡ called.new.listener.listener.now = search rules in
+    let input : c.into_inner.result ≡ called.new.reader.device = c.into_inner.ensures in
+    let output : c.into_inner-2.result ≡ called.new.writer.device = c.into_inner-2.ensures in
+    record {
+      read = s;
+      sent = written;
+      consumed = subst (λ d. Consumes (g.I.Read.remaining c.args.line.input) (g.I.Read.remaining d) s) (sym input)
+          (subst (λ d. Consumes (g.I.Read.remaining d) (g.I.Read.remaining called.new.reader.device) s)
+          c.new-reader.ensures.device consumed);
+      appended = subst (λ d. Appends (g.O.Write.contents c.args.line.output) (g.O.Write.contents d) written)
+          (sym output)
+          (subst (λ d. Appends (g.O.Write.contents d) (g.O.Write.contents called.new.writer.device) written)
+          c.new-writer.ensures.device appended);
+      serves = subst (λ d. ServesKept step k.leaves k.is_clean k.saves k.fails c.args.encoder.now called.new.encoder
+          c.args.keeper.now called.new.keeper s written (g.I.Read.remaining d) 1 called.result) (sym input) serves;
+      heard = subst (λ l. HasHeard g.L.Listener.hears step c.args.encoder.now called.new.encoder c.args.listener.now l s
+          written called.result) (sym last) counted.heard;
+      few_bytes = few;
+      left = c.saturating_sub.ensures;
+      counted = λ is. counted.counted is
+          ∙ ap (λ bytes. sent_too c.args.line.sent (replies_among (responses_to step c.args.encoder.now s))
+          (length bytes))
+          (sym (all_written step c.args.encoder.now called.new.encoder s written _ 1 called.result is serves.serves));
+    }

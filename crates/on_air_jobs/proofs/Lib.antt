@@ -1,0 +1,2 @@
+-- What is shared by the proofs of a device on the air.
+mod Ending

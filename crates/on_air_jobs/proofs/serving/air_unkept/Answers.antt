@@ -1,0 +1,29 @@
+use Rattle.std.proofs.Common.{◌≡◌, ℕ, subst}
+use Rattle.rds_store.specs.Value.{Store}
+use Rattle.carousel.specs.Carousel.{Carousel}
+use Rattle.uecp_encoder.specs.State.{EncoderState}
+use Rattle.kept_jobs.specs.Stops.{Went}
+use Rattle.air_serving.specs.AirRun.{RunsOnAir}
+use Rattle.on_air_jobs.specs.Serving.{standing, EndsOnAir}
+use Rattle.on_air_jobs.proofs.Ending.{ends}
+use Rattle.on_air_jobs.proofs.serving.air_unkept.Goals as goal
+
+pub returns : goal.returns
+returns g c =
+    let run = c.run_on_air in
+    let m = g.M.Moments in
+    let ended = ends (λ (start : Carousel) (left : ℕ) (went : Went). RunsOnAir (λ k left. Unit {0}) (λ k. ⊥)
+    (λ k left k'. k' ≡ k) (λ k left k'. ⊥) m.waits m.closes m.sends g.M.Input.Read.remaining
+    g.M.Output.Write.contents c.args.limits.turns c.args.limits.store (standing c.args.encoder.now _ c.args.log.now
+    c.args.moments.now start c.args.limits.connections) (standing run.new.encoder run.new.keeper run.new.log
+    run.new.moments run.new.carousel left) went) g.E.Write.contents c.args.errors.now run.new.errors run.result
+    c.new-carousel.result c.new-carousel.ensures run.ensures.status run.ensures.done run.ensures.failed in (
+      _,
+      run.new.keeper,
+      run.new.encoder,
+      subst (λ (e : EncoderState Store). EndsOnAir (λ k left. Unit {0}) (λ k. ⊥) (λ k left k'. k' ≡ k)
+          (λ k left k'. ⊥) m.waits m.closes m.sends g.M.Input.Read.remaining g.M.Output.Write.contents
+          c.args.limits.turns c.args.limits.connections c.args.limits.store e run.new.encoder _ run.new.keeper
+          c.args.moments.now run.new.moments c.args.log.now run.new.log (g.E.Write.contents c.args.errors.now)
+          (g.E.Write.contents run.new.errors) run.result) c.requires (run.new.carousel, ended.0, ended.1),
+    )

@@ -1,0 +1,2 @@
+-- The definitions that the contracts of the command `encoder` on the air cite.
+pub mod Serving

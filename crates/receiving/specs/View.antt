@@ -1,0 +1,45 @@
+-- What the code's values hold, and what the parts of a run say to one another. No public clause cites this.
+use Rattle.std.specs.Prelude.{◌≡◌, ◌⊎◌, ℕ, Bool, List, Option, Some, None}
+use Rattle.std.specs.Io.KnownBytes.{Keeps, IsAtEnd}
+use Rattle.uecp_text.specs.declared.run_fault.RunFault.{RunFault}
+use Rattle.uecp_text.specs.declared.run_fault.RunFault.TheVariants.{Reading, Writing, OutOfMemory}
+use Rattle.uecp_text.specs.Written.{Begins}
+use Rattle.line_feed.specs.declared.feed_fault.FeedFault.TheVariants as feed
+use Rattle.line_feed.specs.Lines.{IsFirstLine, IsUntaken}
+use Rattle.rds_receiver.specs.View.{receiver_of}
+use Rattle.shown_lines.specs.declared.shown_form.ShownForm.{ShownForm}
+use Rattle.shown_lines.specs.Shown.{Shown}
+use Rattle.shown_lines.specs.Told.{IsTold}
+use Rattle.heard_lines.specs.declared.group_line.GroupLine.{GroupLine}
+use Rattle.receiving.specs.declared.hearing.Hearing.{Hearing}
+use Rattle.receiving.specs.Receiving.{Standing, Takes}
+
+-- Where receiving stands, by what was heard.
+abbrev pub standing_of : Hearing → (unread held said : Option (List ℕ)) → Standing
+standing_of h unread held said = record {
+  unread = unread;
+  lines = h.lines;
+  refused = h.refused;
+  heard = receiver_of h.receiver;
+  held = held;
+  said = said;
+}
+
+-- The next line was taken, which is this; or the input is at its end.
+abbrev pub NextIs : (unread unread' : Option (List ℕ)) → Option GroupLine → Type 0
+NextIs unread unread' None = Keeps unread unread' × IsAtEnd unread'
+NextIs unread unread' (Some is) = Takes unread unread' is
+
+-- No line was told what it is, for this.
+abbrev pub NextFails : (unread unread' : Option (List ℕ)) → RunFault → Type 0
+NextFails unread unread' Reading = IsUntaken unread unread' feed.Reading
+NextFails unread unread' OutOfMemory = Keeps unread unread' ⊎ ((line : List ℕ) × IsFirstLine unread unread' line)
+NextFails unread unread' fault = ⊥
+
+-- Telling a change failed for this.
+abbrev pub FailsToTell : ShownForm → (timed : Bool) → (before after : Shown) → (held held' : Option (List ℕ)) → RunFault
+    → Type 0
+FailsToTell form timed before after held held' OutOfMemory = held' ≡ held
+FailsToTell form timed before after held held' Writing =
+    (told : List ℕ) × IsTold form timed before after told × Begins held held' told
+FailsToTell form timed before after held held' fault = ⊥

@@ -1,0 +1,12 @@
+//! What is asked of `receive` (profile).
+
+use shown_lines::ShownForm;
+
+/// The command `receive` with its options.
+#[derive(Debug, Drop, PartialEq, Eq)]
+pub struct ReceiveJob {
+    /// The form.
+    pub form: ShownForm,
+    /// Whether the time stands before what is told.
+    pub time: bool,
+}
