@@ -24,15 +24,18 @@ use Rattle.output_forms.specs.declared.form.Form.{Form}
 use Rattle.output_forms.specs.declared.form.Form.TheVariants.{Lines, Words, Json}
 use Rattle.send_jobs.specs.declared.job.SendJob.{SendJob}
 use Rattle.uecp_cli.specs.declared.task.Task.{Task}
-use Rattle.uecp_cli.specs.declared.task.Task.TheVariants.{Plain, Kept, Send, Device, State}
+use Rattle.uecp_cli.specs.declared.task.Task.TheVariants.{Plain, Kept, Send, Device, OnAir, Receive, Conformance, State}
+use Rattle.air_jobs.specs.declared.air_job.AirJob.{AirJob}
+use Rattle.conformance_running.specs.declared.job.ConformanceJob.{ConformanceJob}
+use Rattle.conformance_running.specs.Conformance.{IsInRange as IsConformanceInRange}
 use Rattle.uecp_cli.specs.declared.usage.Usage.{Usage}
 use Rattle.uecp_cli.specs.Ranges.{AreInRange, IsInRange, IsDeviceInRange, IsLiveInRange, IsPlaceInRange, IsSetupInRange}
-use Rattle.uecp_cli.specs.Ranges.{Lies}
+use Rattle.uecp_cli.specs.Ranges.{Lies, IsOnAirInRange}
 use Rattle.uecp_cli.specs.Usages.{SaysError}
 use Rattle.uecp_cli.specs.CommandLine.{AreOptions, Asks, IsEnd, IsJobOf, IsKeptAs, IsLive, IsOption, IsPlace}
 use Rattle.uecp_cli.specs.CommandLine.{IsTaskOf, RefusesList, RefusesWords}
 use Rattle.uecp_cli.specs.CommandLine.{services_text, uecp_app, AreListening, IsDevice, IsFlag, IsForm, IsMaybe}
-use Rattle.uecp_cli.specs.CommandLine.{IsPlainTask, IsStore, if_lines, plain_port}
+use Rattle.uecp_cli.specs.CommandLine.{IsPlainTask, IsStore, if_lines, plain_port, IsOnAir, IsConformance}
 use Rattle.uecp_cli.proofs.Helps.{one_named}
 
 -- ---- by what clap's clauses say of a parse
@@ -85,7 +88,7 @@ asks words m name rows task e f met none is = record {
   is_task = is;
 }
 
--- the words with no fault name one of the nine commands
+-- the words with no fault name one of the eleven commands
 pub no_other : (words : List Text) (m : ArgMatches) (o : Option Text) → o ≡ subcommand_name_of m
     → subcommand_rows_of m ≡ subcommand_of uecp_app words → fault_of uecp_app words ≡ []
     → (o ≡ Some (codes "answer") → ⊥)
@@ -97,8 +100,12 @@ pub no_other : (words : List Text) (m : ArgMatches) (o : Option Text) → o ≡ 
     → (o ≡ Some (codes "send") → ⊥)
     → (o ≡ Some (codes "watch") → ⊥)
     → (o ≡ Some (codes "state") → ⊥)
+    → (o ≡ Some (codes "receive") → ⊥)
+    → (o ≡ Some (codes "conformance") → ⊥)
     → ⊥
-no_other words m o e met none no_answer no_line no_make no_show no_encoder no_server no_send no_watch no_state =
+no_other words m o e met none no_answer no_line no_make no_show no_encoder no_server no_send no_watch no_state
+    no_receive
+    no_conformance =
     let n = one_named words none in
     let name : o ≡ Some n.0.0 = e ∙ name_met (out-ArgMatches m).subcommand ∙ ap (option_map (λ p. p.0)) (met ∙ n.1) in
     elim n.2 [
@@ -110,7 +117,9 @@ no_other words m o e met none no_answer no_line no_make no_show no_encoder no_se
       | inr (inr (inr (inr (inr (inl is))))) ↦ no_server (name ∙ ap Some is)
       | inr (inr (inr (inr (inr (inr (inl is)))))) ↦ no_send (name ∙ ap Some is)
       | inr (inr (inr (inr (inr (inr (inr (inl is))))))) ↦ no_watch (name ∙ ap Some is)
-      | inr (inr (inr (inr (inr (inr (inr (inr (is)))))))) ↦ no_state (name ∙ ap Some is)
+      | inr (inr (inr (inr (inr (inr (inr (inr (inl is)))))))) ↦ no_state (name ∙ ap Some is)
+      | inr (inr (inr (inr (inr (inr (inr (inr (inr (inl is))))))))) ↦ no_receive (name ∙ ap Some is)
+      | inr (inr (inr (inr (inr (inr (inr (inr (inr (inr (is)))))))))) ↦ no_conformance (name ∙ ap Some is)
     ]
 
 pub gives_no_list : (words : List Text) (m : ArgMatches) (name : Text) (rows : List Row) (why : Usage)
@@ -209,17 +218,36 @@ device_in_range : (rows : List Row) (job : DeviceJob) → IsDevice rows job → 
 device_in_range rows job o = (
   setup_in_range rows job.site job.encoder job.sets job.services.items o.are_options,
   some_in_range _ _ _ _ o.is_port,
+  some_in_range _ _ _ _ o.is_air,
   in_range _ _ _ _ o.is_connections,
   in_range _ _ _ _ o.is_turns,
   in_range _ _ _ _ o.is_idle,
   in_range _ _ _ _ o.is_seed,
 )
 
+on_air_in_range : (rows : List Row) (job : AirJob) → IsOnAir rows job → IsOnAirInRange job
+on_air_in_range rows job o = (
+  setup_in_range rows job.site job.encoder job.sets job.services.items o.are_options,
+  some_in_range _ _ _ _ o.is_groups,
+)
+
+conformance_in_range : (rows : List Row) (job : ConformanceJob) → IsConformance rows job
+    → IsConformanceInRange job
+conformance_in_range rows job o = record {
+  site = in_range _ _ _ _ o.is_place.0;
+  encoder = in_range _ _ _ _ o.is_place.1;
+  timeout = o.is_timeout.at_least;
+  quiet = o.is_quiet.at_least;
+}
+
 pub are_in_range : (name : Text) (rows : List Row) (task : Task) → IsTaskOf name rows task → AreInRange task
 are_in_range name rows (Plain job) is = is_in_range name rows job is.0
 are_in_range name rows (Kept job path) is = is_in_range name rows job is.0
 are_in_range name rows (Send job) is = live_in_range rows job is.1
 are_in_range name rows (Device job) is = device_in_range rows job is.1
+are_in_range name rows (OnAir job) is = on_air_in_range rows job is.1
+are_in_range name rows (Receive job) is = tt
+are_in_range name rows (Conformance job) is = conformance_in_range rows job is.1
 are_in_range name rows (State path) is = tt
 
 -- ---- with its state in a file or without
@@ -231,6 +259,9 @@ kept_job name rows job (Kept same path) is end unkept how =
     (subst (IsJobOf name rows) (sym how.0) is, subst IsEnd (sym how.0) end, how.1)
 kept_job name rows job (Send send) is end unkept how = absurd how
 kept_job name rows job (Device device) is end unkept how = absurd how
+kept_job name rows job (OnAir air) is end unkept how = absurd how
+kept_job name rows job (Receive receive) is end unkept how = absurd how
+kept_job name rows job (Conformance cases) is end unkept how = absurd how
 kept_job name rows job (State path) is end unkept how = absurd how
 
 pub kept_server : (name : Text) (rows : List Row) (site encoder : ℕ) (host : _)
@@ -282,7 +313,9 @@ listening rows job port o plain =
     let three = in_lines_alone job.form job.port port two.1 in
     let a = neither _ _ one.0 in
     let b = neither _ _ a.1 in
-    let c = neither _ _ b.1 in
+    let e = neither _ _ b.1 in
+    let f = neither _ _ e.1 in
+    let c = neither _ _ f.1 in
     let d = neither _ _ c.1 in
     let idle : job.idle ≡ 0 = eqb-true job.idle 0 two.0 in
     record {
@@ -292,6 +325,8 @@ listening rows job port o plain =
       are_no_device = record {
         no_listen = no_word string_bytes job.listen _ (none_of _ a.0) o.is_listen;
         no_faults = no_word string_bytes job.faults _ (none_of _ b.0) o.is_faults;
+        no_air = subst (IsMaybe (one_of (codes "air") rows) 1 65535) (none_of _ e.0) o.is_air;
+        no_air_bits = subst (IsFlag (one_of (codes "air-bits") rows)) f.0 o.is_air_bits;
         not_forever = subst (IsFlag (one_of (codes "forever") rows)) c.0 o.is_forever;
         not_idle = subst (IsOption (one_of (codes "idle") rows) 0 86400) idle o.is_idle;
         no_log = subst (IsFlag (one_of (codes "log") rows)) d.0 o.is_log;
@@ -314,4 +349,7 @@ plain_asked rows job port (Kept same path) o plain is =
     )
 plain_asked rows job port (Send send) o plain is = absurd is
 plain_asked rows job port (Device device) o plain is = absurd is
+plain_asked rows job port (OnAir air) o plain is = absurd is
+plain_asked rows job port (Receive receive) o plain is = absurd is
+plain_asked rows job port (Conformance cases) o plain is = absurd is
 plain_asked rows job port (State path) o plain is = absurd is

@@ -19,7 +19,12 @@ use Rattle.uecp_jobs.specs.declared.job.Job.TheVariants.{Line, LineAs, Encoder, 
 use Rattle.send_jobs.specs.declared.job.SendJob.{SendJob}
 use Rattle.uecp_cli.specs.declared.task.Task.{Task}
 use Rattle.device_jobs.specs.declared.job.DeviceJob.{DeviceJob}
-use Rattle.uecp_cli.specs.declared.task.Task.TheVariants.{Plain, Kept, Send, Device, State}
+use Rattle.air_jobs.specs.declared.air_job.AirJob.{AirJob}
+use Rattle.receiving.specs.declared.receive_job.ReceiveJob.{ReceiveJob}
+use Rattle.shown_lines.specs.declared.shown_form.ShownForm.{ShownForm}
+use Rattle.shown_lines.specs.declared.shown_form.ShownForm.TheVariants as shown
+use Rattle.conformance_running.specs.declared.job.ConformanceJob.{ConformanceJob}
+use Rattle.uecp_cli.specs.declared.task.Task.TheVariants.{Plain, Kept, Send, Device, OnAir, Receive, Conformance, State}
 use Rattle.output_forms.specs.declared.form.Form.{Form}
 use Rattle.output_forms.specs.declared.form.Form.TheVariants.{Lines, Words, Json}
 use Rattle.rds_text.specs.declared.programme_type.Region.{Region}
@@ -119,6 +124,8 @@ IsPort rows port = IsOption (one_of (codes "port") rows) 1 65535 port
 pub record AreNoDevice (rows : List Row) : Type 0 where
   pub no_listen : first_of (codes "listen") rows ≡ None
   pub no_faults : first_of (codes "faults") rows ≡ None
+  pub no_air : IsMaybe (one_of (codes "air") rows) 1 65535 None
+  pub no_air_bits : IsFlag (one_of (codes "air-bits") rows) false
   pub not_forever : IsFlag (one_of (codes "forever") rows) false
   pub not_idle : IsOption (one_of (codes "idle") rows) 0 86400 0
   pub no_log : IsFlag (one_of (codes "log") rows) false
@@ -146,12 +153,18 @@ pub record AreSending (rows : List Row) (host : List ℕ) (port tries timeout tu
   pub is_window : IsOption (one_of (codes "window") rows) 1 8 window
   pub is_join : IsFlag (one_of (codes "join") rows) join
 
+-- The matches of the command `answer` ask for no groups on the air.
+abbrev pub IsOffAir : (rows : List Row) → Type 0
+IsOffAir rows = IsMaybe (one_of (codes "air") rows) 1 1000000 None
+
 -- The job is that of the command of this name, with the options that its matches have.
 abbrev pub IsJobOf : (name : List ℕ) → List Row → Job → Type 0
 IsJobOf name rows (Answer site encoder sets services store) =
     (name ≡ codes "answer") × AreOptions rows site encoder sets services.items × IsStore rows store × IsForm rows Lines
+    × IsOffAir rows
 IsJobOf name rows (AnswerAs site encoder sets services store form) =
     (name ≡ codes "answer") × AreOptions rows site encoder sets services.items × IsStore rows store × IsForm rows form
+    × IsOffAir rows
 IsJobOf name rows (Line site encoder sets services store) =
     (name ≡ codes "line") × AreOptions rows site encoder sets services.items × IsStore rows store × IsForm rows Lines
 IsJobOf name rows (LineAs site encoder sets services store form) =
@@ -208,6 +221,8 @@ pub record IsDevice (rows : List Row) (job : DeviceJob) : Type 0 where
   pub are_options : AreOptions rows job.site job.encoder job.sets job.services.items
   pub is_listen : option_map string_bytes job.listen ≡ first_of (codes "listen") rows
   pub is_port : IsMaybe (one_of (codes "port") rows) 1 65535 job.port
+  pub is_air : IsMaybe (one_of (codes "air") rows) 1 65535 job.air
+  pub is_air_bits : IsFlag (one_of (codes "air-bits") rows) job.air_bits
   pub is_connections : IsOption (one_of (codes "connections") rows) 1 1000 job.connections
   pub is_turns : IsOption (one_of (codes "turns") rows) 1 1000000 job.turns
   pub is_forever : IsFlag (one_of (codes "forever") rows) job.forever
@@ -220,6 +235,32 @@ pub record IsDevice (rows : List Row) (job : DeviceJob) : Type 0 where
   pub is_seed : IsOption (one_of (codes "seed") rows) 0 1000000000 job.seed
   pub is_state : option_map string_bytes job.state ≡ first_of (codes "state") rows
 
+-- What an encoder answers, and then has on the air, is what the matches of the command `answer` ask for.
+pub record IsOnAir (rows : List Row) (job : AirJob) : Type 0 where
+  pub are_options : AreOptions rows job.site job.encoder job.sets job.services.items
+  pub is_store : IsStore rows job.store
+  pub is_form : IsForm rows job.form
+  pub is_groups : IsMaybe (one_of (codes "air") rows) 1 1000000 (Some job.groups)
+
+-- What is shown is told in objects of JSON where a flag asks for them, else in words.
+abbrev pub IsShownForm : (rows : List Row) → ShownForm → Type 0
+IsShownForm rows form = (json : Bool) × (region : Region) × IsFlag (one_of (codes "json") rows) json
+    × IsRegion rows region × (form ≡ (if json then shown.Json else shown.Words region))
+
+-- What a receiver shows is told as the matches of the command `receive` ask for.
+pub record IsReceive (rows : List Row) (job : ReceiveJob) : Type 0 where
+  pub is_form : IsShownForm rows job.form
+  pub is_time : IsTimed rows job.time
+
+-- The cases are run as the matches of the command `conformance` ask for.
+pub record IsConformance (rows : List Row) (job : ConformanceJob) : Type 0 where
+  pub is_place : IsPlace rows job.site job.encoder
+  pub is_where : string_bytes job.place ≡ word_text (codes "place") [] rows
+  pub is_only : option_map string_bytes job.only ≡ first_of (codes "only") rows
+  pub is_timeout : IsOption (one_of (codes "timeout") rows) 1 60000 job.timeout
+  pub is_quiet : IsOption (one_of (codes "quiet") rows) 1 60000 job.quiet
+  pub is_json : IsFlag (one_of (codes "json") rows) job.json
+
 -- This, where the form is lines.
 abbrev pub if_lines : Form → Option ℕ → Option ℕ
 if_lines Lines port = port
@@ -229,7 +270,8 @@ if_lines Json port = None
 -- The port of a job that asks for nothing that only a device does, if it has one.
 abbrev pub plain_port : DeviceJob → Option ℕ
 plain_port job =
-    if is_some job.listen || (is_some job.faults || (job.forever || (job.log || job.store))) then None
+    if is_some job.listen || (is_some job.faults || (is_some job.air || (job.air_bits
+    || (job.forever || (job.log || job.store))))) then None
     else if job.idle == 0 then if_lines job.form job.port else None
 
 -- The task is the job of `encoder` with these options, on this port, with the file of its state where one is given.
@@ -241,6 +283,9 @@ IsPlainTask job port (Kept same path) =
     × (job.state ≡ Some path)
 IsPlainTask job port (Send send) = ⊥
 IsPlainTask job port (Device device) = ⊥
+IsPlainTask job port (OnAir air) = ⊥
+IsPlainTask job port (Receive receive) = ⊥
+IsPlainTask job port (Conformance cases) = ⊥
 IsPlainTask job port (State path) = ⊥
 
 -- The job is that of one of the two ends, which have a state.
@@ -262,16 +307,23 @@ IsKeptAs rows job (Plain same) = (same ≡ job) × (first_of (codes "state") row
 IsKeptAs rows job (Kept same path) = (same ≡ job) × (first_of (codes "state") rows ≡ Some (string_bytes path))
 IsKeptAs rows job (Send send) = ⊥
 IsKeptAs rows job (Device device) = ⊥
+IsKeptAs rows job (OnAir air) = ⊥
+IsKeptAs rows job (Receive receive) = ⊥
+IsKeptAs rows job (Conformance cases) = ⊥
 IsKeptAs rows job (State path) = ⊥
 
 -- The task is that of the command of this name: its job, with the file for the state of its end where one is given; or
--- to send for as long as lines come; or what a device does; or what is in the file that is named.
+-- to send for as long as lines come; or what a device does; or what an encoder answers and then has on the air; or what
+-- a receiver shows; or conformance cases; or what is in the file that is named.
 abbrev pub IsTaskOf : (name : List ℕ) → List Row → Task → Type 0
 IsTaskOf name rows (Plain job) = IsJobOf name rows job × IsUnkept rows job
 IsTaskOf name rows (Kept job path) =
     IsJobOf name rows job × IsEnd job × (first_of (codes "state") rows ≡ Some (string_bytes path))
 IsTaskOf name rows (Send job) = (name ≡ codes "send") × IsLive rows job
 IsTaskOf name rows (Device job) = (name ≡ codes "encoder") × IsDevice rows job × (plain_port job ≡ None)
+IsTaskOf name rows (OnAir job) = (name ≡ codes "answer") × IsOnAir rows job
+IsTaskOf name rows (Receive job) = (name ≡ codes "receive") × IsReceive rows job
+IsTaskOf name rows (Conformance job) = (name ≡ codes "conformance") × IsConformance rows job
 IsTaskOf name rows (State path) =
     (name ≡ codes "state") × (string_bytes path ≡ word_text (codes "file") [] rows)
 
@@ -359,6 +411,26 @@ command_with name options = record (new_shape name) { rules = options }
 abbrev pub store_command : (name : List ℕ) → Shape
 store_command name = command_with name (encoder_options ++ flag (codes "store") ∷ form_flags)
 
+-- The command `answer`: the same, and how many groups it is to have on the air.
+abbrev pub answering_command : Shape
+answering_command = command_with (codes "answer")
+    (encoder_options ++ flag (codes "store") ∷ form_flags ++ maybe_number (codes "air") 1 1000000 ∷ [])
+
+-- The command `receive`.
+abbrev pub receiving_command : Shape
+receiving_command = command_with (codes "receive")
+    (flag (codes "rbds") ∷ flag (codes "json") ∷ flag (codes "no-time") ∷ [])
+
+-- Where the encoder listens whose rules are tried, which has to be named.
+abbrev pub place_argument : Rule
+place_argument = record (new_rule (codes "place")) { action = Some Set; value_names = 1; required = true }
+
+-- The command `conformance`.
+abbrev pub trying_command : Shape
+trying_command = command_with (codes "conformance") (place_options ++ place_argument ∷ maybe_word (codes "only")
+    ∷ number_option (codes "timeout") 1 60000 (Some (codes "3000"))
+    ∷ number_option (codes "quiet") 1 60000 (Some (codes "300")) ∷ flag (codes "json") ∷ [])
+
 -- The command `show`.
 abbrev pub showing_command : Shape
 showing_command = command_with (codes "show") form_flags
@@ -380,7 +452,8 @@ listening_command =
     ∷ number_option (codes "turns") 1 1000000 (Some (codes "100000")) ∷ flag (codes "forever")
     ∷ number_option (codes "idle") 0 86400 (Some (codes "0")) ∷ flag (codes "log") ∷ flag (codes "store")
     ∷ form_flags ++ flag (codes "no-time") ∷ maybe_word (codes "faults")
-    ∷ number_option (codes "seed") 0 1000000000 (Some (codes "0")) ∷ state_option ∷ [])
+    ∷ number_option (codes "seed") 0 1000000000 (Some (codes "0")) ∷ maybe_number (codes "air") 1 65535
+    ∷ flag (codes "air-bits") ∷ state_option ∷ [])
 
 -- The options of a server's bounds.
 abbrev pub bound_options : List Rule
@@ -414,13 +487,13 @@ live_command = command_with (codes "send") (place_options ++ word_option (codes 
 abbrev pub looking_command : Shape
 looking_command = command_with (codes "state") (file_argument ∷ [])
 
--- The program: it has a version, and one of nine commands has to be named.
+-- The program: it has a version, and one of eleven commands has to be named.
 abbrev pub uecp_app : App
 uecp_app = record {
   top = record (new_shape (codes "uecp")) { is_leaf = false; has_version = true; subcommand_required = true };
-  subs = store_command (codes "answer") ∷ showing_command ∷ making_command
+  subs = answering_command ∷ showing_command ∷ making_command
       ∷ store_command (codes "line") ∷ listening_command ∷ sending_command ∷ live_command ∷ watching_command
-      ∷ looking_command ∷ [];
+      ∷ looking_command ∷ receiving_command ∷ trying_command ∷ [];
 }
 
 -- The words have no fault, and ask for this: they name its command, and give its options.

@@ -22,7 +22,7 @@ use Rattle.kept_sending.specs.declared.keep.Progress.{Progress}
 use Rattle.kept_sending.specs.Keeping as sending
 use Rattle.state_files.specs.declared.reading.Found.{Found}
 use Rattle.uecp_cli.specs.declared.task.Task.{Task}
-use Rattle.uecp_cli.specs.declared.task.Task.TheVariants.{Plain, Kept, Send, Device, State}
+use Rattle.uecp_cli.specs.declared.task.Task.TheVariants.{Plain, Kept, Send, Device, OnAir, Receive, Conformance, State}
 use Rattle.uecp_cli.specs.Kept.{IsKeptDone, IsKeptRefused, IsKeptStopped, IsKeptIn, HasTold, HasNotTold}
 use Rattle.uecp_cli.specs.CommandLine.{uecp_app, Asks, GivesNoList, IsEnd}
 use Rattle.uecp_cli.specs.Unreached.{MaySayUnreached}
@@ -92,13 +92,16 @@ HasNotEnded job unread unread' held held' told told' =
     × MaySayUnreached job between told') ⊎ ((HasStopped job held held' told told' × (unread' ≡ unread))
     ⊎ HasStoppedWatching job unread unread' held held' told told'))
 
--- It is run as a job that comes to an end by itself: one with its state in a file is that of an end. To send for as
--- long as lines come, and to be a device, are other matters.
+-- It is run as a job of `run_job` and its like: one with its state in a file is that of an end. To send for as long as
+-- lines come, to be a device, what is on the air, and conformance cases are other matters.
 abbrev pub IsRunnable : Task → Type 0
 IsRunnable (Plain job) = Unit {0}
 IsRunnable (Kept job path) = IsEnd job
 IsRunnable (Send job) = ⊥
 IsRunnable (Device job) = ⊥
+IsRunnable (OnAir job) = ⊥
+IsRunnable (Receive job) = ⊥
+IsRunnable (Conformance job) = ⊥
 IsRunnable (State path) = Unit {0}
 
 -- The options of what is asked for describe no encoder, or no address of one, and that was said, or begun to be said.
@@ -107,6 +110,9 @@ IsTaskUndescribed (Plain job) told told' = IsUndescribed job told told'
 IsTaskUndescribed (Kept job path) told told' = IsUndescribed job told told'
 IsTaskUndescribed (Send job) told told' = ⊥
 IsTaskUndescribed (Device job) told told' = ⊥
+IsTaskUndescribed (OnAir job) told told' = ⊥
+IsTaskUndescribed (Receive job) told told' = ⊥
+IsTaskUndescribed (Conformance job) told told' = ⊥
 IsTaskUndescribed (State path) told told' = ⊥
 
 -- What is asked for was done.
@@ -117,6 +123,9 @@ IsTaskDone finds (Plain job) unread unread' held held' = IsAllDone job unread un
 IsTaskDone finds (Kept job path) unread unread' held held' = IsKeptDone job unread unread' held held'
 IsTaskDone finds (Send job) unread unread' held held' = ⊥
 IsTaskDone finds (Device job) unread unread' held held' = ⊥
+IsTaskDone finds (OnAir job) unread unread' held held' = ⊥
+IsTaskDone finds (Receive job) unread unread' held held' = ⊥
+IsTaskDone finds (Conformance job) unread unread' held held' = ⊥
 IsTaskDone finds (State path) unread unread' held held' = HasTold finds (string_bytes path) unread unread' held held'
 
 -- A line of its input was refused.
@@ -125,6 +134,9 @@ IsTaskRefused (Plain job) unread unread' held held' told told' = HasLineRefused 
 IsTaskRefused (Kept job path) unread unread' held held' told told' = IsKeptRefused unread unread' told told'
 IsTaskRefused (Send job) unread unread' held held' told told' = ⊥
 IsTaskRefused (Device job) unread unread' held held' told told' = ⊥
+IsTaskRefused (OnAir job) unread unread' held held' told told' = ⊥
+IsTaskRefused (Receive job) unread unread' held held' told told' = ⊥
+IsTaskRefused (Conformance job) unread unread' held held' told told' = ⊥
 IsTaskRefused (State path) unread unread' held held' told told' = ⊥
 
 -- It came to no end, and that was said.
@@ -136,6 +148,9 @@ IsTaskStopped finds (Kept job path) unread unread' held held' told told' =
     IsKeptStopped job unread unread' told told'
 IsTaskStopped finds (Send job) unread unread' held held' told told' = ⊥
 IsTaskStopped finds (Device job) unread unread' held held' told told' = ⊥
+IsTaskStopped finds (OnAir job) unread unread' held held' told told' = ⊥
+IsTaskStopped finds (Receive job) unread unread' held held' told told' = ⊥
+IsTaskStopped finds (Conformance job) unread unread' held held' told told' = ⊥
 IsTaskStopped finds (State path) unread unread' held held' told told' =
     HasNotTold finds (string_bytes path) unread unread' held held' told told'
 
@@ -154,6 +169,12 @@ IsTaskKept gives_encoder encoder_leaves encoder_clean gives_server server_leaves
 IsTaskKept gives_encoder encoder_leaves encoder_clean gives_server server_leaves server_clean (Send job) unread
     unread' held held' = ⊥
 IsTaskKept gives_encoder encoder_leaves encoder_clean gives_server server_leaves server_clean (Device job) unread
+    unread' held held' = ⊥
+IsTaskKept gives_encoder encoder_leaves encoder_clean gives_server server_leaves server_clean (OnAir job) unread
+    unread' held held' = ⊥
+IsTaskKept gives_encoder encoder_leaves encoder_clean gives_server server_leaves server_clean (Receive job) unread
+    unread' held held' = ⊥
+IsTaskKept gives_encoder encoder_leaves encoder_clean gives_server server_leaves server_clean (Conformance job) unread
     unread' held held' = ⊥
 IsTaskKept gives_encoder encoder_leaves encoder_clean gives_server server_leaves server_clean (State path) unread
     unread'

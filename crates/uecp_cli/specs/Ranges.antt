@@ -6,7 +6,9 @@ use Rattle.uecp_jobs.specs.declared.job.Job.TheVariants.{Line, LineAs, Encoder, 
 use Rattle.send_jobs.specs.declared.job.SendJob.{SendJob}
 use Rattle.device_jobs.specs.declared.job.DeviceJob.{DeviceJob}
 use Rattle.uecp_cli.specs.declared.task.Task.{Task}
-use Rattle.uecp_cli.specs.declared.task.Task.TheVariants.{Plain, Kept, Send, Device, State}
+use Rattle.air_jobs.specs.declared.air_job.AirJob.{AirJob}
+use Rattle.conformance_running.specs.Conformance.{IsInRange as IsConformanceInRange}
+use Rattle.uecp_cli.specs.declared.task.Task.TheVariants.{Plain, Kept, Send, Device, OnAir, Receive, Conformance, State}
 
 -- A number lies from the least to the greatest.
 abbrev pub Lies : (least greatest number : ℕ) → Type 0
@@ -46,7 +48,12 @@ IsLiveInRange job = IsPlaceInRange job.site job.encoder × Lies 1 65535 job.port
 -- Each number of what a device does.
 abbrev pub IsDeviceInRange : DeviceJob → Type 0
 IsDeviceInRange job = IsSetupInRange job.site job.encoder job.sets × IfSome job.port (Lies 1 65535)
+    × IfSome job.air (Lies 1 65535)
     × Lies 1 1000 job.connections × Lies 1 1000000 job.turns × Lies 0 86400 job.idle × Lies 0 1000000000 job.seed
+
+-- Each number of what an encoder answers and then has on the air.
+abbrev pub IsOnAirInRange : AirJob → Type 0
+IsOnAirInRange job = IsSetupInRange job.site job.encoder job.sets × Lies 1 1000000 job.groups
 
 -- Each number of what is asked for is in its range.
 abbrev pub AreInRange : Task → Type 0
@@ -54,4 +61,7 @@ AreInRange (Plain job) = IsInRange job
 AreInRange (Kept job path) = IsInRange job
 AreInRange (Send job) = IsLiveInRange job
 AreInRange (Device job) = IsDeviceInRange job
+AreInRange (OnAir job) = IsOnAirInRange job
+AreInRange (Receive job) = Unit {0}
+AreInRange (Conformance job) = IsConformanceInRange job
 AreInRange (State path) = Unit {0}

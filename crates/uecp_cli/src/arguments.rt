@@ -2,7 +2,7 @@
 ghost use Rattle.std.specs.Prelude.{◌≡◌, false, codes, Some};
 ghost use Rattle.clap.specs.Words.{rule_of};
 ghost use Rattle.uecp_cli.specs.CommandLine.{rule_for, word_option, services_option, state_option};
-ghost use Rattle.uecp_cli.specs.CommandLine.{file_argument, flag, maybe_word, station_option};
+ghost use Rattle.uecp_cli.specs.CommandLine.{file_argument, flag, maybe_word, station_option, place_argument};
 
 use crate::numbers::NumberOption;
 use clap::{Arg, ArgAction, value_parser};
@@ -119,6 +119,18 @@ pub fn file<'a>(alloc: Global) -> Arg<'a>
     Arg::new(alloc, "file")
         .value_name("FILE")
         .help("The state file")
+        .action(ArgAction::Set)
+        .required(true)
+}
+
+/// Where the encoder listens whose rules are tried.
+pub fn place<'a>(alloc: Global) -> Arg<'a>
+    ensures rule { rule_of result ≡ place_argument }
+    ensures own { result.global ≡ false }
+{
+    Arg::new(alloc, "place")
+        .value_name("HOST:PORT")
+        .help("Where the encoder listens, as tx1:4000, 192.0.2.7:4000 or [::1]:4000")
         .action(ArgAction::Set)
         .required(true)
 }

@@ -5,21 +5,24 @@ ghost use Rattle.clap.specs.Words.{app_of, rule_of, shape_of};
 ghost use Rattle.clap.specs.Simple.{Shape, new_shape};
 ghost use Rattle.uecp_cli.specs.Ranges.{AreInRange};
 ghost use Rattle.uecp_cli.specs.CommandLine.{uecp_app, Asks, RefusesWords, command_with, place_options};
-ghost use Rattle.uecp_cli.specs.CommandLine.{encoder_options};
+ghost use Rattle.uecp_cli.specs.CommandLine.{encoder_options, answering_command, receiving_command, trying_command};
 ghost use Rattle.uecp_cli.specs.CommandLine.{store_command, showing_command, making_command, listening_command};
 ghost use Rattle.uecp_cli.specs.CommandLine.{sending_command, live_command, watching_command, looking_command, flag};
 
 use crate::arguments::{
-    file, flag, host, maybe_number, maybe_word, number, services, state, station,
+    file, flag, host, maybe_number, maybe_word, number, place, services, state, station,
 };
 use crate::device_job::encoder_of;
 use crate::live_job::send_of;
 use crate::matched::{answer_of, line_of, make_of, server_of, show_of, state_of, watch_of};
 use crate::numbers::{
-    CONNECTIONS, ENCODER, GIVE_UP, IDLE, PORT, RECONNECTS, RETRY_EVERY, SEED, SERVE_TURNS, SETS,
-    SILENT, SITE, TIMEOUT, TRIES, TRY_TURNS, WINDOW,
+    AIR_GROUPS, AIR_PORT, CASE_TIMEOUT, CONNECTIONS, ENCODER, GIVE_UP, IDLE, PORT, QUIET,
+    RECONNECTS, RETRY_EVERY, SEED, SERVE_TURNS, SETS, SILENT, SITE, TIMEOUT, TRIES, TRY_TURNS,
+    WINDOW,
 };
+use crate::receive_job::receive_of;
 use crate::task::Task;
+use crate::trying_job::conformance_of;
 use crate::usage::Usage;
 use clap::{Arg, Command};
 use std::alloc::{AllocError, Global};
@@ -28,7 +31,7 @@ const VERSION: &str = "0.1.0";
 
 /// What the exit statuses say, below the list of commands.
 const STATUSES: &str =
-    "Each command but encoder and state reads standard input to its end, at most 1 MiB (1,048,576 bytes);\nwatch and send go on as it comes, and have no limit.\n'uecp COMMAND --help' has its options and an example.\nExit status: 0 done, 1 an input line was refused, 2 the command line or the services were refused,\n3 memory, reading, writing, a connection or a state failed.";
+    "Each command but encoder, state and conformance reads standard input to its end, at most 1 MiB (1,048,576 bytes);\nwatch, send and receive go on as it comes, and have no limit.\n'uecp COMMAND --help' has its options and an example.\nExit status: 0 done, 1 an input line was refused, 2 the command line or the services were refused,\n3 memory, reading, writing, a connection or a state failed.";
 
 /// Reads the words of a command line, the first being the program's name.
 pub fn parse(alloc: Global, words: &[String]) -> Result<Task, Usage>
@@ -49,6 +52,8 @@ pub fn parse(alloc: Global, words: &[String]) -> Result<Task, Usage>
         Some(("send", found)) => send_of(alloc, found),
         Some(("watch", found)) => Ok(watch_of(found)),
         Some(("state", found)) => state_of(alloc, found),
+        Some(("receive", found)) => Ok(receive_of(found)),
+        Some(("conformance", found)) => conformance_of(alloc, found),
         _ => unreachable!(),
     }
 }
@@ -71,18 +76,21 @@ pub fn program<'a>(alloc: Global) -> Result<Command<'a>, AllocError>
         .subcommand(server_command(alloc)?)?
         .subcommand(send_command(alloc)?)?
         .subcommand(watch_command(alloc)?)?
-        .subcommand(state_command(alloc)?)
+        .subcommand(state_command(alloc)?)?
+        .subcommand(receive_command(alloc)?)?
+        .subcommand(conformance_command(alloc)?)
 }
 
 fn answer_command<'a>(alloc: Global) -> Result<Command<'a>, AllocError>
-    ensures { IfOk result (λ command. shape_of command ≡ store_command (codes "answer")) }
+    ensures { IfOk result (λ command. shape_of command ≡ answering_command) }
 {
     with_store(
         alloc,
         Command::new(alloc, "answer")
             .about("Say what an encoder answers to hexadecimal pieces, one a line")
             .after_help("Example: echo FE004101006293FF | uecp answer --store"),
-    )
+    )?
+    .arg(maybe_number(alloc, &AIR_GROUPS))
 }
 
 fn show_command<'a>(alloc: Global) -> Result<Command<'a>, AllocError>
@@ -171,6 +179,12 @@ fn encoder_command<'a>(alloc: Global) -> Result<Command<'a>, AllocError>
             "The file with the rules of a bad line, one a line, as lose reply 5..9",
         ))?
         .arg(number(alloc, &SEED))?
+        .arg(maybe_number(alloc, &AIR_PORT))?
+        .arg(flag(
+            alloc,
+            "air-bits",
+            "With --air, each group as a line of its 104 bits",
+        ))?
         .arg(state(alloc))
 }
 
@@ -248,6 +262,44 @@ fn state_command<'a>(alloc: Global) -> Result<Command<'a>, AllocError>
         .about("Tell what is in the state file of an encoder or a server")
         .after_help("Standard input is not read.\nExample: uecp state studio.db")
         .arg(file(alloc))
+}
+
+fn receive_command<'a>(alloc: Global) -> Result<Command<'a>, AllocError>
+    ensures { IfOk result (λ command. shape_of command ≡ receiving_command) }
+{
+    Command::new(alloc, "receive")
+        .about("Tell what a receiver shows of RDS groups, one a line, as they come")
+        .after_help(
+            "A line is a group's four words, as C201 0548 E0E0 5241; a block that was not heard is ----.\nExample: nc tx1 4001 | uecp receive",
+        )
+        .arg(flag(
+            alloc,
+            "rbds",
+            "With North America's names of programme types",
+        ))?
+        .arg(json(alloc))?
+        .arg(flag(alloc, "no-time", "Without the time before what is told"))
+}
+
+fn conformance_command<'a>(alloc: Global) -> Result<Command<'a>, AllocError>
+    ensures { IfOk result (λ command. shape_of command ≡ trying_command) }
+{
+    let command = Command::new(alloc, "conformance")
+        .about("Try which rules of the protocol an encoder keeps, case by case")
+        .after_help(
+            "Not on the air: the cases set the programme identification and the RadioText, and queue groups.\nWhat is told is TAP. Exit status: 0 all rules that count are kept, 1 one is not.\nExample: uecp conformance tx1:4000",
+        );
+    with_place(alloc, command)?
+        .arg(place(alloc))?
+        .arg(maybe_word(
+            alloc,
+            "only",
+            "NAME",
+            "The cases of this group, or the case of this name, alone",
+        ))?
+        .arg(number(alloc, &CASE_TIMEOUT))?
+        .arg(number(alloc, &QUIET))?
+        .arg(json(alloc))
 }
 
 /// The command with the options of an encoder, the flag for its store and those for a form.

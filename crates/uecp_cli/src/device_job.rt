@@ -8,7 +8,7 @@ ghost use Rattle.uecp_cli.specs.CommandLine.{IsPlainTask};
 use crate::forms::{flag_of, form_of};
 use crate::live_job::word_of;
 use crate::matched::{given_of, list_of, number_of, short_of, small_of};
-use crate::numbers::{CONNECTIONS, ENCODER, IDLE, PORT, SEED, SERVE_TURNS, SETS, SITE};
+use crate::numbers::{AIR_PORT, CONNECTIONS, ENCODER, IDLE, PORT, SEED, SERVE_TURNS, SETS, SITE};
 use crate::task::Task;
 use crate::usage::Usage;
 use clap::ArgMatches;
@@ -51,6 +51,8 @@ fn device_of(alloc: Global, found: &ArgMatches<'_>) -> Result<DeviceJob, Usage>
         services: list_of(alloc, found)?,
         listen: word_of(alloc, found, "listen")?,
         port: given_of(found, &PORT),
+        air: given_of(found, &AIR_PORT),
+        air_bits: flag_of(found, "air-bits"),
         connections: number_of(found, &CONNECTIONS),
         turns: number_of(found, &SERVE_TURNS),
         forever: flag_of(found, "forever"),
@@ -76,7 +78,10 @@ fn is_timed(found: &ArgMatches<'_>) -> bool
 fn plain_port(job: &DeviceJob) -> Option<u16>
     ensures { result ≡ plain_port job.now }
 {
-    if job.listen.is_some() || job.faults.is_some() || job.forever || job.log || job.store {
+    if job.listen.is_some() || job.faults.is_some() || job.air.is_some() || job.air_bits {
+        return None;
+    }
+    if job.forever || job.log || job.store {
         return None;
     }
     if job.idle != 0 {
@@ -100,6 +105,8 @@ fn plain_task(job: DeviceJob, port: u16) -> Task
         services,
         listen: _,
         port: _,
+        air: _,
+        air_bits: _,
         connections,
         turns,
         forever: _,

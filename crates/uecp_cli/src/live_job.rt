@@ -48,7 +48,7 @@ pub fn send_of(alloc: Global, found: &ArgMatches<'_>) -> Result<Task, Usage>
 }
 
 /// Of which region the names of programme types are.
-fn region_of(found: &ArgMatches<'_>) -> Region
+pub(crate) fn region_of(found: &ArgMatches<'_>) -> Region
     ensures { IsRegion (rows_of (found_of found.now)) result }
 {
     if flag_of(found, "rbds") {

@@ -18,17 +18,22 @@ mod live_job;
 mod matched;
 mod numbers;
 mod program;
+mod receive_job;
 mod services;
 mod task;
+mod trying_job;
 mod unreached;
 mod usage;
 
 use crate::command_line::program;
-use crate::program::{Ran, refuse, run_words, send};
+use crate::program::{Ran, receive, refuse, run_words, send};
 use crate::usage::Usage;
+use air_jobs::run_answer_on_air;
 use clap::error;
+use conformance_running::run_conformance_over_tcp;
 use device_jobs::run_device_over_tcp;
 use live_edges::{Polled, Watch};
+use on_air_jobs::run_on_air_over_tcp;
 use std::env;
 use std::io::{ErrorKind, Input, Lock};
 use std::process::ExitCode;
@@ -73,6 +78,27 @@ fn main(rt: HostRuntime) -> ExitCode {
                     );
                     watch.finish();
                     status
+                }
+                Ran::Airs(job) => {
+                    run_answer_on_air(rt.alloc(), &job, &mut reader, &mut writer, &mut errors)
+                }
+                Ran::Receives(job) => {
+                    receive(rt.alloc(), &job, &rt, &mut reader, &mut writer, &mut errors)
+                }
+                Ran::Tries(job) => {
+                    run_conformance_over_tcp(rt.alloc(), &job, &mut writer, &mut errors, &rt)
+                }
+                Ran::Serves(job) if job.air.is_some() || job.air_bits => {
+                    let mut notices = rt.stderr().lock();
+                    run_on_air_over_tcp(
+                        rt.alloc(),
+                        &job,
+                        &mut writer,
+                        &mut errors,
+                        &mut notices,
+                        &rt,
+                        &rt,
+                    )
                 }
                 Ran::Serves(job) => {
                     let mut effects = rt.stdout().lock();

@@ -1,18 +1,20 @@
 //! The jobs that the matches of the program's commands ask for (profile).
-ghost use Rattle.std.specs.Prelude.{◌≡◌, ◌≤◌, codes, IfOk, IfErr};
+ghost use Rattle.std.specs.Prelude.{◌≡◌, ◌≤◌, [], codes, IfOk, IfErr};
 ghost use Rattle.std.specs.String.{string_bytes};
 ghost use Rattle.clap.specs.Words.{found_of, one_of, rows_of};
 ghost use Rattle.uecp_cli.specs.CommandLine.{IsOption, IsList, IsTaskOf, RefusesList, services_text, host_text};
-ghost use Rattle.uecp_cli.specs.CommandLine.{IsEnd, IsKeptAs, IsMaybe};
+ghost use Rattle.uecp_cli.specs.CommandLine.{IsEnd, IsKeptAs, IsMaybe, word_text};
 ghost use Rattle.uecp_cli.specs.declared.usage.Usage.TheVariants.{OutOfMemory};
 
 use crate::forms::{flag_of, form_of, wording_of};
 use crate::numbers::{
-    ENCODER, NumberOption, PORT, RECONNECTS, SETS, SITE, TIMEOUT, TRIES, TRY_TURNS, WINDOW,
+    AIR_GROUPS, ENCODER, NumberOption, PORT, RECONNECTS, SETS, SITE, TIMEOUT, TRIES, TRY_TURNS,
+    WINDOW,
 };
 use crate::services::services_of;
 use crate::task::Task;
 use crate::usage::Usage;
+use air_jobs::AirJob;
 use clap::ArgMatches;
 use std::alloc::{AllocError, Global};
 use uecp_jobs::{Form, Job};
@@ -56,9 +58,21 @@ pub(crate) fn given_of(found: &ArgMatches<'_>, option: &NumberOption) -> Option<
     ensures { IsMaybe (one_of option.now.name.now (rows_of (found_of found.now))) option.now.least option.now.most
         result }
 {
+    match maybe_of(found, option) {
+        Some(number) => Some(number as u16),
+        None => None,
+    }
+}
+
+/// The number of an option that may be left out.
+pub(crate) fn maybe_of(found: &ArgMatches<'_>, option: &NumberOption) -> Option<u32>
+    requires { option.now.least ≤ option.now.most }
+    ensures { IsMaybe (one_of option.now.name.now (rows_of (found_of found.now))) option.now.least option.now.most
+        result }
+{
     let (least, most) = (option.least, option.most);
     match found.get_one::<u32>(option.name) {
-        Some(number) => Some(number.clamp(least, most) as u16),
+        Some(number) => Some(number.clamp(least, most)),
         None => None,
     }
 }
@@ -88,15 +102,24 @@ pub fn answer_of(alloc: Global, found: &ArgMatches<'_>) -> Result<Task, Usage>
     let sets = small_of(found, &SETS);
     let services = list_of(alloc, found)?;
     let store = flag_of(found, "store");
-    match form_of(found) {
-        Form::Lines => Ok(Task::Plain(Job::Answer {
+    match (maybe_of(found, &AIR_GROUPS), form_of(found)) {
+        (Some(groups), form) => Ok(Task::OnAir(AirJob {
+            site,
+            encoder,
+            sets,
+            services,
+            store,
+            form,
+            groups,
+        })),
+        (None, Form::Lines) => Ok(Task::Plain(Job::Answer {
             site,
             encoder,
             sets,
             services,
             store,
         })),
-        form => Ok(Task::Plain(Job::AnswerAs {
+        (None, form) => Ok(Task::Plain(Job::AnswerAs {
             site,
             encoder,
             sets,
@@ -201,6 +224,16 @@ pub fn state_of(alloc: Global, found: &ArgMatches<'_>) -> Result<Task, Usage>
     ensures job { IfOk result (IsTaskOf (codes "state") (rows_of (found_of found.now))) }
     ensures refused { IfErr result (λ why. why ≡ OutOfMemory) }
 {
-    let path = found.get_str("file").unwrap_or("");
-    Ok(Task::State(String::from_str(alloc, path)?))
+    Ok(Task::State(argument_of(alloc, found, "file")?))
+}
+
+/// The text of an argument that has to be given.
+pub(crate) fn argument_of(
+    alloc: Global,
+    found: &ArgMatches<'_>,
+    name: &str,
+) -> Result<String, AllocError>
+    ensures { IfOk result (λ text. string_bytes text ≡ word_text name.now [] (rows_of (found_of found.now))) }
+{
+    String::from_str(alloc, found.get_str(name).unwrap_or(""))
 }

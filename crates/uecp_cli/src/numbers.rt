@@ -60,6 +60,42 @@ pub const IDLE: NumberOption = NumberOption {
     help: "After how many seconds with nothing read a connection is closed, 0 for never, up to 86400",
 };
 
+/// The port of those who listen to what `encoder` has on the air.
+pub const AIR_PORT: NumberOption = NumberOption {
+    name: "air",
+    least: 1,
+    most: 65_535,
+    default: None,
+    help: "The port at which the groups go out as they are on the air, a line each, 1 to 65535",
+};
+
+/// How many groups `answer` writes of what is on the air.
+pub const AIR_GROUPS: NumberOption = NumberOption {
+    name: "air",
+    least: 1,
+    most: 1_000_000,
+    default: None,
+    help: "How many groups to write, as the store has them on the air at the end, 1 to 1000000",
+};
+
+/// How many milliseconds `conformance` waits for a connection, or for a reply that is missing.
+pub const CASE_TIMEOUT: NumberOption = NumberOption {
+    name: "timeout",
+    least: 1,
+    most: 60_000,
+    default: Some("3000"),
+    help: "How many milliseconds connecting, a write or a missing reply may take, 1 to 60000",
+};
+
+/// After how many milliseconds with nothing read `conformance` judges a case.
+pub const QUIET: NumberOption = NumberOption {
+    name: "quiet",
+    least: 1,
+    most: 60_000,
+    default: Some("300"),
+    help: "After how many milliseconds with nothing read a case is judged, 1 to 60000",
+};
+
 /// What chance begins with on a bad line of `encoder`.
 pub const SEED: NumberOption = NumberOption {
     name: "seed",

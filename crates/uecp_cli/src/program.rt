@@ -18,20 +18,27 @@ ghost use Rattle.kept_jobs.specs.ServerKept.{IsReadWith};
 ghost use Rattle.uecp_cli.specs.Unreached.{MaySayUnreached};
 ghost use Rattle.state_jobs.specs.Kept.{HasServedKept, HasSentKept, SaysWhy};
 ghost use Rattle.send_jobs.specs.declared.job.SendJob.{SendJob};
-ghost use Rattle.uecp_cli.specs.declared.program.Ran.TheVariants.{Ended, Sends, Serves};
+ghost use Rattle.uecp_cli.specs.declared.program.Ran.TheVariants.{Ended, Sends, Serves, Airs, Receives, Tries};
 ghost use Rattle.device_jobs.specs.declared.job.DeviceJob.{DeviceJob};
-ghost use Rattle.uecp_cli.specs.declared.task.Task.TheVariants.{Send, Device};
-ghost use Rattle.uecp_cli.specs.Ranges.{IsLiveInRange, IsDeviceInRange};
+ghost use Rattle.air_jobs.specs.declared.air_job.AirJob.{AirJob};
+ghost use Rattle.receiving.specs.declared.receive_job.ReceiveJob.{ReceiveJob};
+ghost use Rattle.conformance_running.specs.declared.job.ConformanceJob.{ConformanceJob};
+ghost use Rattle.conformance_running.specs.Conformance.{IsInRange as IsConformanceInRange};
+ghost use Rattle.uecp_cli.specs.declared.task.Task.TheVariants.{Send, Device, OnAir, Receive, Conformance};
+ghost use Rattle.uecp_cli.specs.Ranges.{IsLiveInRange, IsDeviceInRange, IsOnAirInRange};
 ghost use Rattle.uecp_cli.specs.CommandLine.{Asks, IsEnd};
 
 use crate::command_line::parse;
 use crate::task::Task;
 use crate::unreached::say_unreached;
 use crate::usage::Usage;
+use air_jobs::AirJob;
 use clap::Error;
+use conformance_running::ConformanceJob;
 use device_jobs::DeviceJob;
-use line_feed::Arrival;
+use line_feed::{Arrival, LineFeed};
 use live_edges::Watch;
+use receiving::{ReceiveJob, run_receive};
 use send_jobs::{SendJob, run_send_over_tcp};
 use state_jobs::{OpenStates, run_encoder_in, run_server_in, tell_state};
 use std::alloc::Global;
@@ -53,12 +60,18 @@ pub enum Ran {
     Sends(SendJob),
     /// They ask for what only a device does. Nothing was done yet.
     Serves(DeviceJob),
+    /// They ask for what an encoder answers and then has on the air. Nothing was done yet.
+    Airs(AirJob),
+    /// They ask for what a receiver shows. Nothing was done yet.
+    Receives(ReceiveJob),
+    /// They ask which rules an encoder keeps. Nothing was done yet.
+    Tries(ConformanceJob),
 }
 
 /// Does what the words of a command line ask for, the first being the program's name, and answers the exit status: 0
 /// done, 1 a line of input was refused, 2 the words or the services were refused, 3 memory, reading, writing or a
-/// connection failed. Where they ask to send messages for as long as lines come, or for what only a device does, that
-/// is answered, and nothing is done.
+/// connection failed. Where they ask to send messages for as long as lines come, for what only a device does, for what
+/// is on the air, for what a receiver shows, or which rules an encoder keeps, that is answered, and nothing is done.
 pub fn run_words<
     R: Read,
     W: Write,
@@ -81,6 +94,16 @@ pub fn run_words<
     // What only a device does was asked for so. Nothing was read, written or said.
     ensures serves { (job : DeviceJob) → result ≡ Serves job → Asks (map string_bytes words.now) (Device job)
         × IsDeviceInRange job × (reader.new ≡ reader.old) × (writer.new ≡ writer.old) × (errors.new ≡ errors.old) }
+    // So was what an encoder answers and then has on the air.
+    ensures airs { (job : AirJob) → result ≡ Airs job → Asks (map string_bytes words.now) (OnAir job)
+        × IsOnAirInRange job × (reader.new ≡ reader.old) × (writer.new ≡ writer.old) × (errors.new ≡ errors.old) }
+    // So was what a receiver shows.
+    ensures receives { (job : ReceiveJob) → result ≡ Receives job → Asks (map string_bytes words.now) (Receive job)
+        × (reader.new ≡ reader.old) × (writer.new ≡ writer.old) × (errors.new ≡ errors.old) }
+    // So was which rules an encoder keeps.
+    ensures tries { (job : ConformanceJob) → result ≡ Tries job → Asks (map string_bytes words.now) (Conformance job)
+        × IsConformanceInRange job × (reader.new ≡ reader.old) × (writer.new ≡ writer.old)
+        × (errors.new ≡ errors.old) }
     // 0: what the words ask for was done; or they ask for a text, and nothing was read. Nothing was said on `errors`.
     ensures done { result ≡ Ended 0
         → (HasDone (S.finds states.now) (map string_bytes words.now) (R.remaining reader.old)
@@ -104,6 +127,9 @@ pub fn run_words<
     match parse(alloc, words) {
         Ok(Task::Send(job)) => Ran::Sends(job),
         Ok(Task::Device(job)) => Ran::Serves(job),
+        Ok(Task::OnAir(job)) => Ran::Airs(job),
+        Ok(Task::Receive(job)) => Ran::Receives(job),
+        Ok(Task::Conformance(job)) => Ran::Tries(job),
         Ok(task) => Ran::Ended(run_task(alloc, &task, reader, writer, errors, net, states)),
         Err(usage) => Ran::Ended(refuse(&usage, writer, errors)),
     }
@@ -136,6 +162,34 @@ pub fn send<
     run_send_over_tcp(
         alloc, job, reader, arrival, writer, errors, watch, notices, net, states,
     )
+}
+
+/// Tells what a receiver shows for as long as lines come, as `run_receive` says, and answers the exit status; or 3
+/// where there is no memory to begin with. Its promise is not said again here.
+pub fn receive<R: Read, W: Write, E: Write, C: Clock>(
+    alloc: Global,
+    job: &ReceiveJob,
+    clock: &C,
+    reader: &mut R,
+    writer: &mut W,
+    errors: &mut E,
+) -> u8 {
+    match LineFeed::new(alloc, reader, AtOnce) {
+        Ok(mut feed) => run_receive(alloc, job, Some(clock), &mut feed, writer, errors),
+        Err(_) => fail(&RunFault::OutOfMemory, errors),
+    }
+}
+
+/// Lines are read as soon as they are asked for.
+#[derive(Drop)]
+struct AtOnce;
+
+impl Arrival for AtOnce {
+    fn wait(&mut self, _milliseconds: Option<u64>) -> bool {
+        true
+    }
+
+    fn pause(&mut self, _milliseconds: u64) {}
 }
 
 /// Does what is asked for, and answers the exit status.
@@ -178,6 +232,7 @@ fn run_task<
             run_kept(alloc, job, path, reader, writer, errors, net, states)
         }
         Task::Send(_) | Task::Device(_) => unreachable!(),
+        Task::OnAir(_) | Task::Receive(_) | Task::Conformance(_) => unreachable!(),
         Task::State(path) => tell_state(alloc, path.as_str(), states, writer, errors),
     }
 }

@@ -1,6 +1,9 @@
 //! What the words of a command line ask for (profile).
 
+use air_jobs::AirJob;
+use conformance_running::ConformanceJob;
 use device_jobs::DeviceJob;
+use receiving::ReceiveJob;
 use send_jobs::SendJob;
 use uecp_jobs::Job;
 
@@ -15,6 +18,12 @@ pub enum Task {
     Send(SendJob),
     /// What the command `encoder` asks for with an option that only a device has.
     Device(DeviceJob),
+    /// What an encoder answers, and then has on the air.
+    OnAir(AirJob),
+    /// What a receiver shows.
+    Receive(ReceiveJob),
+    /// Which rules an encoder keeps.
+    Conformance(ConformanceJob),
     /// What is in the state file at this path.
     State(String),
 }

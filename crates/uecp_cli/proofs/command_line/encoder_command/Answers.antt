@@ -34,6 +34,10 @@ returns c =
     c.maybe_word-2.ensures.rule in
     let twelve = arg_added _ _ c.number-4.result _ _ c.in_ok-arg-11.ensures c.number-4.ensures.own eleven
     c.number-4.ensures.rule in
-    IfOk-weaker c.arg-13.result _ _ (λ whole added. arg_added _ whole c.state.result _ _ added c.state.ensures.own
-    twelve
-    c.state.ensures.rule) c.arg-13.ensures
+    let thirteen = arg_added _ _ c.maybe_number-2.result _ _ c.in_ok-arg-12.ensures c.maybe_number-2.ensures.own twelve
+    c.maybe_number-2.ensures.rule in
+    let fourteen = arg_added _ _ c.flag-5.result _ _ c.in_ok-arg-13.ensures c.flag-5.ensures.own thirteen
+    c.flag-5.ensures.rule in
+    IfOk-weaker c.arg-15.result _ _ (λ whole added. arg_added _ whole c.state.result _ _ added c.state.ensures.own
+    fourteen
+    c.state.ensures.rule) c.arg-15.ensures

@@ -201,6 +201,42 @@ returns-in-Some-state-default-clause-refused c =
     IfErr-weaker c.state_of.result _ _ (λ why is. subst (RefusesWords (map string_bytes c.args.words.now)) (sym is) tt)
     c.state_of.ensures.refused
 
+pub returns-in-Some-receive-default-clause-range : goal.returns-in-Some-receive-default-clause-range
+returns-in-Some-receive-default-clause-range c = are_in_range _ _ c.receive_of.result c.receive_of.ensures
+
+pub returns-in-Some-receive-default-clause-asked : goal.returns-in-Some-receive-default-clause-asked
+returns-in-Some-receive-default-clause-asked c =
+    let words = map string_bytes c.args.words.now in
+    let now = c.in-Some-receive-default in
+    let rows = rows_of (found_of now.found.now) in
+    let met = met_of _ words c.in_ok-matches.matches c.in_ok-program.ensures c.in_ok-matches.ensures.matches in
+    let none = faultless_of _ words c.in_ok-program.ensures c.in_ok-matches.ensures.kinds in
+    asks words c.in_ok-matches.matches now.field-0-0.now rows c.receive_of.result now.ensures.name now.ensures.rows met
+    none
+    (subst (λ name. IsTaskOf name rows c.receive_of.result) (sym now.is-receive) c.receive_of.ensures)
+
+pub returns-in-Some-conformance-default-clause-range : goal.returns-in-Some-conformance-default-clause-range
+returns-in-Some-conformance-default-clause-range c =
+    IfOk-weaker c.conformance_of.result _ _ (λ job is. are_in_range _ _ job is) c.conformance_of.ensures.job
+
+pub returns-in-Some-conformance-default-clause-asked : goal.returns-in-Some-conformance-default-clause-asked
+returns-in-Some-conformance-default-clause-asked c =
+    let words = map string_bytes c.args.words.now in
+    let now = c.in-Some-conformance-default in
+    let rows = rows_of (found_of now.found.now) in
+    let met = met_of _ words c.in_ok-matches.matches c.in_ok-program.ensures c.in_ok-matches.ensures.matches in
+    let none = faultless_of _ words c.in_ok-program.ensures c.in_ok-matches.ensures.kinds in
+    IfOk-weaker c.conformance_of.result _ _
+    (λ job is. asks words c.in_ok-matches.matches now.field-0-0.now rows job now.ensures.name now.ensures.rows met none
+    (subst (λ name. IsTaskOf name rows job) (sym now.is-conformance) is))
+    c.conformance_of.ensures.job
+
+pub returns-in-Some-conformance-default-clause-refused : goal.returns-in-Some-conformance-default-clause-refused
+returns-in-Some-conformance-default-clause-refused c =
+    IfErr-weaker c.conformance_of.result _ _ (λ why is.
+    subst (RefusesWords (map string_bytes c.args.words.now)) (sym is) tt)
+    c.conformance_of.ensures.refused
+
 pub unreachable-requires : goal.unreachable-requires
 unreachable-requires c =
     let words = map string_bytes c.args.words.now in
@@ -211,7 +247,8 @@ unreachable-requires c =
       | goal.in_default-via-in-Some+in_default w ↦
           no_other words c.in_ok-matches.matches name c.subcommand.ensures.name met none
           (λ e. search rules) (λ e. search rules) (λ e. search rules) (λ e. search rules) (λ e. search rules)
-          (λ e. search rules) (λ e. search rules) (λ e. search rules) (λ e. search rules)
+          (λ e. search rules) (λ e. search rules) (λ e. search rules) (λ e. search rules) (λ e. search rules)
+          (λ e. search rules)
       | goal.in_default-via-in_default w ↦
           no_other words c.in_ok-matches.matches name c.subcommand.ensures.name met none
           (none_named _ c.subcommand.result (codes "answer") w.in_default.is)
@@ -223,4 +260,6 @@ unreachable-requires c =
           (none_named _ c.subcommand.result (codes "send") w.in_default.is)
           (none_named _ c.subcommand.result (codes "watch") w.in_default.is)
           (none_named _ c.subcommand.result (codes "state") w.in_default.is)
+          (none_named _ c.subcommand.result (codes "receive") w.in_default.is)
+          (none_named _ c.subcommand.result (codes "conformance") w.in_default.is)
     ]

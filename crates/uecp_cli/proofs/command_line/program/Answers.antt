@@ -20,5 +20,7 @@ returns c =
     let six = sub_added _ _ _ _ _ c.in_ok-subcommand-6.ensures refl five c.in_ok-server_command.ensures in
     let seven = sub_added _ _ _ _ _ c.in_ok-subcommand-7.ensures refl six c.in_ok-send_command.ensures in
     let eight = sub_added _ _ _ _ _ c.in_ok-subcommand-8.ensures refl seven c.in_ok-watch_command.ensures in
-    IfOk-weaker c.subcommand-9.result _ _ (λ whole added.
-    sub_added _ _ whole _ _ added refl eight c.in_ok-state_command.ensures) c.subcommand-9.ensures
+    let nine = sub_added _ _ _ _ _ c.in_ok-subcommand-9.ensures refl eight c.in_ok-state_command.ensures in
+    let ten = sub_added _ _ _ _ _ c.in_ok-subcommand-10.ensures refl nine c.in_ok-receive_command.ensures in
+    IfOk-weaker c.subcommand-11.result _ _ (λ whole added.
+    sub_added _ _ whole _ _ added refl ten c.in_ok-conformance_command.ensures) c.subcommand-11.ensures

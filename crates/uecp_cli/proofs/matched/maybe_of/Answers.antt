@@ -4,7 +4,7 @@ use Rattle.std.specs.Str.Parse.{ParsesUnsigned, ExplainsUnsignedError, HasUnsign
 use Rattle.clap.specs.Words.{found_of}
 use Rattle.clap.proofs.WalkLemmas.{one_text-rows}
 use Rattle.uecp_cli.proofs.Options.{reads_number, none_read}
-use Rattle.uecp_cli.proofs.matched.given_of.Goals as goal
+use Rattle.uecp_cli.proofs.matched.maybe_of.Goals as goal
 
 pub returns-in-Some : goal.returns-in-Some
 returns-in-Some c =
