@@ -1,5 +1,7 @@
 //! Connections with faults over others whose bytes are known, and a clock that goes on by itself.
 mod asserting;
+mod fates;
+mod rules;
 
 use asserting::{holds, same};
 use faulty_devices::{FaultyReader, FaultyWriter};

@@ -13,6 +13,3 @@ pub use fault::KeepFault;
 pub use file::{StateFile, open, open_from, open_value, open_value_from};
 pub use kept::{Kept, Opened};
 pub use saved::{Found, Image, Saved};
-
-#[cfg(test)]
-mod tests;

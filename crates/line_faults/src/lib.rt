@@ -13,8 +13,6 @@ mod numbers;
 mod passing;
 mod reading;
 mod rule;
-#[cfg(test)]
-mod tests;
 mod words;
 
 pub use fate::Fate;

@@ -9,8 +9,6 @@
 mod columns;
 pub mod laws;
 mod reading;
-#[cfg(test)]
-mod tests;
 mod token;
 mod writing;
 

@@ -11,8 +11,6 @@ mod basic_set;
 pub mod laws;
 mod programme_type;
 mod quoted;
-#[cfg(test)]
-mod tests;
 
 pub use basic_set::{byte_of, character_of};
 pub use programme_type::{Region, name_of, number_of};

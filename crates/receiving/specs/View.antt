@@ -1,5 +1,5 @@
 -- What the code's values hold, and what the parts of a run say to one another. No public clause cites this.
-use Rattle.std.specs.Prelude.{◌≡◌, ◌⊎◌, ℕ, Bool, List, Option, Some, None}
+use Rattle.std.specs.Prelude.{◌≡◌, ◌⊎◌, ℕ, Bool, true, false, List, Option, Some, None}
 use Rattle.std.specs.Io.KnownBytes.{Keeps, IsAtEnd}
 use Rattle.uecp_text.specs.declared.run_fault.RunFault.{RunFault}
 use Rattle.uecp_text.specs.declared.run_fault.RunFault.TheVariants.{Reading, Writing, OutOfMemory}
@@ -11,7 +11,9 @@ use Rattle.shown_lines.specs.declared.shown_form.ShownForm.{ShownForm}
 use Rattle.shown_lines.specs.Shown.{Shown}
 use Rattle.shown_lines.specs.Told.{IsTold}
 use Rattle.heard_lines.specs.declared.group_line.GroupLine.{GroupLine}
+use Rattle.receiving.specs.declared.bit_hearing.BitHearing.{BitHearing}
 use Rattle.receiving.specs.declared.hearing.Hearing.{Hearing}
+use Rattle.receiving.specs.Bits.{BitStanding, SaysForeign}
 use Rattle.receiving.specs.Receiving.{Standing, Takes}
 
 -- Where receiving stands, by what was heard.
@@ -43,3 +45,12 @@ FailsToTell form timed before after held held' OutOfMemory = held' ≡ held
 FailsToTell form timed before after held held' Writing =
     (told : List ℕ) × IsTold form timed before after told × Begins held held' told
 FailsToTell form timed before after held held' fault = ⊥
+
+-- Where hearing bits stands, by what was heard.
+abbrev pub bits_of_hearing : BitHearing → (held : Option (List ℕ)) → BitStanding
+bits_of_hearing h held = record { place = h.synchroniser; heard = receiver_of h.receiver; held = held }
+
+-- What is said of characters that are neither bits nor white space: nothing where it was said before.
+abbrev pub SaysMore : (before foreign : Bool) → (said said' : Option (List ℕ)) → Type 0
+SaysMore true foreign said said' = said' ≡ said
+SaysMore false foreign said said' = SaysForeign foreign said said'

@@ -87,7 +87,7 @@ pub(crate) fn hear_next<F: Feed, W: Write, E: Write, C: Clock>(
 /// The receiver hears what a line is, and what changed in what it shows is told.
 ///
 /// Errors: `OutOfMemory` where there was none for the lines, and none of them is written; `Writing`.
-fn hear_group<W: Write, C: Clock>(
+pub(crate) fn hear_group<W: Write, C: Clock>(
     form: ShownForm,
     clock: Option<&C>,
     group: &GroupLine,

@@ -9,4 +9,6 @@ pub struct ReceiveJob {
     pub form: ShownForm,
     /// Whether the time stands before what is told.
     pub time: bool,
+    /// Whether the input is a stream of bits, and not lines of groups.
+    pub bits: bool,
 }

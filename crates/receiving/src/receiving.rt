@@ -75,7 +75,7 @@ fn receive<F: Feed, W: Write, E: Write, C: Clock>(
 }
 
 /// Says why a run stopped, and answers its status.
-fn fail<E: Write>(fault: &RunFault, errors: &mut E) -> u8
+pub(crate) fn fail<E: Write>(fault: &RunFault, errors: &mut E) -> u8
     ensures status { result ≡ status_of fault.now }
     ensures said { Begins (E.contents errors.old) (E.contents errors.new) (error_lines fault.now) }
 {

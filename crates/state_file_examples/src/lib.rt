@@ -1,4 +1,4 @@
-//! The worked examples of state files, each a test, and nothing else.
+//! The worked examples of kept images and state files, each a test, and nothing else.
 #![tactic(auto)]
 
 #[cfg(test)]

@@ -1,4 +1,6 @@
 //! An encoder and a server, each in a database in memory, saved, and refused where another is asked for.
+mod keeping;
+
 ghost use Rattle.std.specs.Prelude.{IsTrue};
 ghost use Rattle.sqlite.specs.State.{HasCleanDisk, Opens};
 ghost use Rattle.sqlite.specs.Held.{state};

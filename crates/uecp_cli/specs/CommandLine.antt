@@ -251,6 +251,7 @@ IsShownForm rows form = (json : Bool) × (region : Region) × IsFlag (one_of (co
 pub record IsReceive (rows : List Row) (job : ReceiveJob) : Type 0 where
   pub is_form : IsShownForm rows job.form
   pub is_time : IsTimed rows job.time
+  pub is_bits : IsFlag (one_of (codes "bits") rows) job.bits
 
 -- The cases are run as the matches of the command `conformance` ask for.
 pub record IsConformance (rows : List Row) (job : ConformanceJob) : Type 0 where
@@ -419,7 +420,7 @@ answering_command = command_with (codes "answer")
 -- The command `receive`.
 abbrev pub receiving_command : Shape
 receiving_command = command_with (codes "receive")
-    (flag (codes "rbds") ∷ flag (codes "json") ∷ flag (codes "no-time") ∷ [])
+    (flag (codes "bits") ∷ flag (codes "rbds") ∷ flag (codes "json") ∷ flag (codes "no-time") ∷ [])
 
 -- Where the encoder listens whose rules are tried, which has to be named.
 abbrev pub place_argument : Rule

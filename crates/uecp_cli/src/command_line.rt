@@ -268,10 +268,15 @@ fn receive_command<'a>(alloc: Global) -> Result<Command<'a>, AllocError>
     ensures { IfOk result (λ command. shape_of command ≡ receiving_command) }
 {
     Command::new(alloc, "receive")
-        .about("Tell what a receiver shows of RDS groups, one a line, as they come")
+        .about("Tell what a receiver shows of RDS groups, one a line or in bits, as they come")
         .after_help(
             "A line is a group's four words, as C201 0548 E0E0 5241; a block that was not heard is ----.\nExample: nc tx1 4001 | uecp receive",
         )
+        .arg(flag(
+            alloc,
+            "bits",
+            "The input is a stream of bits, the characters 0 and 1",
+        ))?
         .arg(flag(
             alloc,
             "rbds",

@@ -1,5 +1,5 @@
 //! The program from its words to its exit status (profile).
-ghost use Rattle.std.specs.Prelude.{◌≡◌, ◌≢◌, ◌⊎◌, ◌≤◌, ℕ, List, Option, None, map, is_some, Ok, Err, IfErr};
+ghost use Rattle.std.specs.Prelude.{◌≡◌, ◌≢◌, ◌⊎◌, ◌≤◌, ℕ, List, Option, None, map, is_some, Ok, Err, IfErr, IsTrue};
 ghost use Rattle.std.specs.String.{string_bytes};
 ghost use Rattle.uecp_text.specs.declared.run_fault.RunFault.{RunFault};
 ghost use Rattle.uecp_text.specs.declared.run_fault.RunFault.TheVariants.{Writing};
@@ -21,6 +21,7 @@ ghost use Rattle.send_jobs.specs.declared.job.SendJob.{SendJob};
 ghost use Rattle.uecp_cli.specs.declared.program.Ran.TheVariants.{Ended, Sends, Serves, Airs, Receives, Tries};
 ghost use Rattle.device_jobs.specs.declared.job.DeviceJob.{DeviceJob};
 ghost use Rattle.air_jobs.specs.declared.air_job.AirJob.{AirJob};
+ghost use Rattle.receiving.specs.Bits.{ReceivesBits};
 ghost use Rattle.receiving.specs.declared.receive_job.ReceiveJob.{ReceiveJob};
 ghost use Rattle.conformance_running.specs.declared.job.ConformanceJob.{ConformanceJob};
 ghost use Rattle.conformance_running.specs.Conformance.{IsInRange as IsConformanceInRange};
@@ -38,7 +39,7 @@ use conformance_running::ConformanceJob;
 use device_jobs::DeviceJob;
 use line_feed::{Arrival, LineFeed};
 use live_edges::Watch;
-use receiving::{ReceiveJob, run_receive};
+use receiving::{ReceiveJob, run_receive, run_receive_bits};
 use send_jobs::{SendJob, run_send_over_tcp};
 use state_jobs::{OpenStates, run_encoder_in, run_server_in, tell_state};
 use std::alloc::Global;
@@ -164,8 +165,9 @@ pub fn send<
     )
 }
 
-/// Tells what a receiver shows for as long as lines come, as `run_receive` says, and answers the exit status; or 3
-/// where there is no memory to begin with. Its promise is not said again here.
+/// Tells what a receiver shows for as long as lines or bits come, and answers the exit status, as `run_receive_bits`
+/// says of bits. Of lines it is `run_receive`, or 3 where there is no memory to begin with: that promise is not said
+/// again here.
 pub fn receive<R: Read, W: Write, E: Write, C: Clock>(
     alloc: Global,
     job: &ReceiveJob,
@@ -173,7 +175,14 @@ pub fn receive<R: Read, W: Write, E: Write, C: Clock>(
     reader: &mut R,
     writer: &mut W,
     errors: &mut E,
-) -> u8 {
+) -> u8
+    ensures { IsTrue job.now.bits → ReceivesBits job.now.form job.now.time result
+        (R.remaining reader.old) (R.remaining reader.new) (W.contents writer.old) (W.contents writer.new)
+        (E.contents errors.old) (E.contents errors.new) }
+{
+    if job.bits {
+        return run_receive_bits(alloc, job, Some(clock), reader, writer, errors);
+    }
     match LineFeed::new(alloc, reader, AtOnce) {
         Ok(mut feed) => run_receive(alloc, job, Some(clock), &mut feed, writer, errors),
         Err(_) => fail(&RunFault::OutOfMemory, errors),

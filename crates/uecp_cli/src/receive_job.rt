@@ -16,6 +16,7 @@ pub fn receive_of(found: &ArgMatches<'_>) -> Task
     Task::Receive(ReceiveJob {
         form: shown_form(found),
         time: !flag_of(found, "no-time"),
+        bits: flag_of(found, "bits"),
     })
 }
 

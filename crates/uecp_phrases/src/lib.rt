@@ -12,8 +12,6 @@ mod choices;
 mod contents;
 mod expectation;
 mod expected;
-#[cfg(test)]
-mod expected_tests;
 mod fits;
 mod groups;
 mod head;
@@ -23,8 +21,6 @@ mod message_line;
 mod nearest;
 mod phrase;
 mod place;
-#[cfg(test)]
-mod tests;
 mod told;
 mod traffic_name;
 mod walk;

@@ -10,6 +10,7 @@ returns c =
     ap shape_of_fields c.after_help.ensures ∙ ap shape_of_fields c.about.ensures
     ∙ ap (λ (a : App). a.top) c.new.ensures.app in
     let one = arg_added _ _ c.flag.result _ _ c.in_ok-arg.ensures c.flag.ensures.own is_new c.flag.ensures.rule in
-    let two = arg_added _ _ c.json.result _ _ c.in_ok-arg-2.ensures c.json.ensures.own one c.json.ensures.rule in
-    IfOk-weaker c.arg-3.result _ _ (λ whole added. arg_added _ whole c.flag-2.result _ _ added c.flag-2.ensures.own two
-    c.flag-2.ensures.rule) c.arg-3.ensures
+    let two = arg_added _ _ c.flag-2.result _ _ c.in_ok-arg-2.ensures c.flag-2.ensures.own one c.flag-2.ensures.rule in
+    let three = arg_added _ _ c.json.result _ _ c.in_ok-arg-3.ensures c.json.ensures.own two c.json.ensures.rule in
+    IfOk-weaker c.arg-4.result _ _ (λ whole added. arg_added _ whole c.flag-3.result _ _ added c.flag-3.ensures.own
+    three c.flag-3.ensures.rule) c.arg-4.ensures

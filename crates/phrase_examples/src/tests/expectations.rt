@@ -1,8 +1,9 @@
-use super::*;
+//! Lines that say nothing, and what was expected where.
 use phrase_tokens::tokens_of;
 use rds_text::Region;
 use std::alloc::Global;
 use std::test::Fail;
+use uecp_phrases::{Expectation, Expected, expected_in};
 
 /// Lines that say nothing, the index at which something else was expected, what, and the nearest word.
 const WRONG: &[(&str, usize, &str, Option<&str>)] = &[

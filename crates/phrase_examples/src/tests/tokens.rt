@@ -1,4 +1,5 @@
-use super::*;
+//! Lines and their tokens.
+use phrase_tokens::{Token, TokenFault, Unread, column_of, put_behind, put_tokens, tokens_of};
 use std::alloc::Global;
 use std::test::Fail;
 use uecp_text::Output;

@@ -1,7 +1,7 @@
 //! What comes of segments.
 
 use crate::tests::asserting::{holds, same};
-use crate::{Fate, LineFaults, Rule, Span, Way};
+use line_faults::{Fate, LineFaults, Rule, Span, Way};
 use std::alloc::AllocError;
 
 /// The rules of the table.

@@ -1,7 +1,7 @@
 //! Lines and the rules that they spell.
 
 use crate::tests::asserting::same;
-use crate::{Rule, RuleFault, Span, Way, read_rule};
+use line_faults::{Rule, RuleFault, Span, Way, read_rule};
 
 const fn span(first: u32, last: u32) -> Span {
     Span { first, last }

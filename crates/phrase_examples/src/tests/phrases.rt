@@ -1,10 +1,11 @@
-use super::*;
+//! Phrases, and the bytes that they add.
 use phrase_tokens::{put_tokens, tokens_of};
 use rds_text::Region;
 use std::alloc::Global;
 use std::test::Fail;
 use uecp_elements::elements;
 use uecp_frame::Message;
+use uecp_phrases::{message_in, phrase_in, phrase_of, put_message};
 use uecp_text::Output;
 
 /// Phrases as they are written, and the bytes that each adds.

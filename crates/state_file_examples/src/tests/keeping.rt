@@ -2,7 +2,7 @@
 ghost use Rattle.std.specs.Prelude.{◌≡◌, ◌∷◌, [], slice_index_or};
 ghost use Rattle.std.proofs.Common.{ap, sym, ◌∙◌};
 
-use super::*;
+use kept_state::{Found, Image, KeepFault, Kept, Opened, Saved};
 use sqlite::{Connection, MemStore};
 use std::alloc::{AllocError, Global};
 use std::test::Fail;

@@ -1,3 +1,0 @@
-mod asserting;
-mod fates;
-mod rules;
