@@ -1,16 +1,14 @@
 -- Lines that are heard one after another, and how that begins and ends.
-use Rattle.std.proofs.Common.{◌≡◌, ℕ, Bool, false, List, [], ◌∷◌, ◌++◌, Option, refl, sym, ap, subst, ◌∙◌}
-use Rattle.std.proofs.Common.{inl, inr}
+use Rattle.std.proofs.Common.{◌≡◌, ℕ, Bool, false, List, [], ◌∷◌, ◌++◌, Option, refl, ap, subst, ◌∙◌}
 use Rattle.uecp_text.specs.declared.run_fault.RunFault.{RunFault}
 use Rattle.uecp_text.specs.declared.run_fault.RunFault.TheVariants as run
-use Rattle.uecp_text.specs.Faults.{status_of, error_lines}
-use Rattle.uecp_text.specs.Written.{Begins}
+use Rattle.uecp_text.specs.Faults.{status_of}
 use Rattle.rds_receiver.specs.Shown.{Receiver, switched_on}
 use Rattle.rds_receiver.specs.View.{receiver_of}
 use Rattle.shown_lines.specs.declared.shown_form.ShownForm.{ShownForm}
 use Rattle.heard_lines.specs.declared.group_line.GroupLine.{GroupLine}
 use Rattle.receiving.specs.declared.hearing.Hearing.{Hearing}
-use Rattle.receiving.specs.Receiving.{Standing, at_first, Hears, HearsEach, FailsFor, Fails}
+use Rattle.receiving.specs.Receiving.{Standing, at_first, Hears, HearsEach, FailsFor}
 use Rattle.receiving.specs.View.{standing_of}
 
 abbrev standing_with : (unread : Option (List ℕ)) (lines : ℕ) (refused : Bool) (heard : Receiver)

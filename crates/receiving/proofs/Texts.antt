@@ -1,10 +1,10 @@
 -- Texts of bits that are heard one after another.
 use Rattle.std.proofs.Common.{◌≡◌, ℕ, Bool, List, [], ◌∷◌, ◌++◌, Option, refl, sym, ap, subst, ◌∙◌, append_assoc}
-use Rattle.std.proofs.Common.{append-nil}
-use Rattle.std.specs.Io.KnownBytes.{Appends}
+use Rattle.std.proofs.Common.{append-nil, inl, inr}
 use Rattle.uecp_text.specs.declared.run_fault.RunFault.{RunFault}
+use Rattle.uecp_text.specs.declared.run_fault.RunFault.TheVariants as run
 use Rattle.uecp_text.specs.Written.{Begins}
-use Rattle.uecp_text.proofs.Begun.{appends_nothing, appends_then, begun_on}
+use Rattle.uecp_text.proofs.Begun.{appends_nothing, appends_then, all_begun, begun_on}
 use Rattle.rds_receiver.specs.declared.heard.HeardGroup.{HeardGroup}
 use Rattle.rds_receiver.specs.Shown.{Receiver, hears}
 use Rattle.rds_sync.specs.Text.{character_step}
@@ -12,7 +12,10 @@ use Rattle.rds_sync.specs.Laws.{found_in_text, after_text}
 use Rattle.rds_sync.specs.declared.synchroniser.Synchroniser.{Synchroniser}
 use Rattle.rds_sync.proofs.Reading.{texts_add_up}
 use Rattle.shown_lines.specs.declared.shown_form.ShownForm.{ShownForm}
+use Rattle.shown_lines.specs.Shown.{shown_by}
+use Rattle.shown_lines.specs.Told.{IsTold}
 use Rattle.receiving.specs.Bits.{heard_all, AreTold, BitStanding, HearsText, FailsInText}
+use Rattle.receiving.specs.View.{FailsToTell}
 
 heard_more : (groups others : List HeardGroup) (r : Receiver)
     → heard_all (groups ++ others) r ≡ heard_all others (heard_all groups r)
@@ -105,3 +108,34 @@ fails_still form timed one other x held' fault fails = record {
   begun = fails.begun;
   for_this = fails.for_this;
 }
+
+-- a group was found with this character, and telling what it changed failed
+module _ (form : ShownForm) (timed : Bool) (character : ℕ) (x : BitStanding) (g : HeardGroup) (r : Receiver)
+    (held' : Option (List ℕ)) (found : found_in_text (character ∷ []) x.place ≡ g ∷ []) (same : r ≡ hears g x.heard) where
+  pub fails_for_group : (fault : RunFault) → FailsToTell form timed (shown_by x.heard) (shown_by r) x.held held' fault
+      → FailsInText form timed (character ∷ []) x held' fault
+  fails_for_group run.Writing (told, is_told, begun) = record {
+    heard = g ∷ [];
+    others = [];
+    groups = found;
+    told = told;
+    are_told = (
+      told,
+      [],
+      subst (λ r. IsTold form timed (shown_by x.heard) (shown_by r) told) same is_told,
+      sym (append-nil told),
+      refl,
+    );
+    begun = begun;
+    for_this = inr refl;
+  }
+  fails_for_group run.OutOfMemory stays = record {
+    heard = [];
+    others = g ∷ [];
+    groups = found;
+    told = [];
+    are_told = refl;
+    begun = subst (λ h. Begins x.held h []) (sym stays) (all_begun x.held x.held [] (appends_nothing x.held));
+    for_this = inl refl;
+  }
+  fails_for_group fault fails = absurd fails

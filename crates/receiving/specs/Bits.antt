@@ -83,7 +83,7 @@ pub record EndsWith (form : ShownForm) (timed : Bool) (status : ℕ)
   pub text : List ℕ
   pub last : BitStanding
   pub hears : HearsText form timed text (bits_at_first held) last
-  pub held : held' ≡ last.held
+  pub holds : held' ≡ last.held
   pub consumed : Consumes unread unread' text
   pub ended : IsAtEnd unread'
   pub says : SaysForeign (list_any is_foreign text) said said'

@@ -56,10 +56,9 @@ fn receive_bits<R: Read, W: Write, E: Write, C: Clock>(
             Ok(count) => {
                 let bytes = &buffer[..count];
                 note_foreign(bytes, &mut hearing, errors);
-                if let Err(fault) =
-                    hear_bits(form, clock, bytes, &mut hearing, &mut output, writer)
-                {
-                    return fail(&fault, errors);
+                match hear_bits(form, clock, bytes, &mut hearing, &mut output, writer) {
+                    Ok(()) => {}
+                    Err(fault) => return fail(&fault, errors),
                 }
             }
             Err(error) if error.kind() == ErrorKind::Interrupted => {}

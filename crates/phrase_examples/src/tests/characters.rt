@@ -1,5 +1,7 @@
 //! The basic character set, names of programme types, and bytes as they are written between quotes.
-use rds_text::{QuotedFault, Region, byte_of, character_of, first_byte, name_of, number_of, written};
+use rds_text::{
+    QuotedFault, Region, byte_of, character_of, first_byte, name_of, number_of, written,
+};
 use std::test::Fail;
 
 /// The characters of 80 to FE in the repertoire of digital radio (ETSI TS 101 756), as Debian's dablin 1.14.0 has them.
