@@ -51,8 +51,8 @@ fn write(
 }
 
 /// Tells in `length` how many bytes the lines of phrases have that make the store of a handle's encoder, and puts them
-/// at the start of `out`, in UTF-8, each with its line feed. Where `out` is shorter than that, nothing is written there.
-/// The encoder stays as it was.
+/// at the start of `out`, in UTF-8, each with its line feed; `is_north_america` says whose names programme types have.
+/// Where `out` is shorter than that, nothing is written there. The encoder stays as it was.
 #[unsafe(no_mangle)]
 pub extern "C" fn uecp_encoder_words(
     alloc: Global,
