@@ -9,8 +9,8 @@
     >>> with Server(1, 1) as server, Encoder(1, 1) as encoder:
     ...     server.submit(message_of('ps "RADIO 1"'))
     ...     replies = b"".join(encoder.answer(frame) for frame in server.frames())
-    ...     list(server.hear(replies)), encoder.service(1, 1).name
-    ([Acknowledged(counter=1, code=0)], b'RADIO 1 ')
+    ...     list(server.hear(replies)), encoder.service(1, 1).name, encoder.words()[1]
+    ([Acknowledged(counter=1, code=0)], b'RADIO 1 ', 'in 1 for 01 ps "RADIO 1"')
 
 Bytes come in and go out as `bytes`, findings and elements as iterators, refusals as exceptions below `UecpError`. A `Deframer`, an
 `Encoder` and a `Server` keep what they need in the library until they are closed, by `close`, by `with`, or with the last name for
