@@ -5,8 +5,8 @@
  *
  * What holds for every function. It keeps no pointer, it prints nothing, reads no file, waits for nothing and never ends
  * the program; it ends, and writes only where it says. What is kept between two calls is behind a handle, and nowhere
- * else. No memory is taken but by uecp_words, uecp_message_of and what makes an object. Any number of threads may call
- * at once, each with buffers and handles of its own.
+ * else. No memory is taken but by uecp_words, uecp_message_of, uecp_encoder_words, images and what makes an object. Any
+ * number of threads may call at once, each with buffers and handles of its own.
  *
  * The caller's duties, which nothing checks:
  *   - No pointer is NULL, also where the length beside it is 0: any address will do then.
@@ -409,14 +409,27 @@ uint8_t uecp_server_image(uecp_handle *handle, bool has_joined, uint64_t taken, 
 /* The same of a server; where it is UECP_DONE, `has_joined` and `taken` are what was kept, and else they stay. */
 uint8_t uecp_server_of_image(uecp_handle *handle, const uint8_t *bytes, size_t length, bool *has_joined, uint64_t *taken);
 
+/* ---- The store in words (memory is taken) ---- */
+
+/* Tells in `length` how many bytes the lines have that make the store of an encoder, and puts these at the start of
+ * `out`, in UTF-8, each with a line feed at its end; where `room` is less than that, all of `out` is as it was. The
+ * encoder stays as it was. UECP_DONE, UECP_EMPTY, UECP_OTHER_KIND or UECP_OUT_OF_MEMORY.
+ *
+ * Each line says one message, as uecp_message_of reads it with the same bool: of each data set from 1 each service in the
+ * order in which they were given, with its PI, name, flags, programme type and texts; then the groups that wait, and the
+ * current set. Whatever an encoder with as many data sets and these services holds: where it takes these messages in
+ * their order, it answers each with UECP_APPLIED, and has this store then; only where no group waits in this store do
+ * those that wait in the other stay. */
+uint8_t uecp_encoder_words(uecp_handle *handle, bool is_north_america, uint8_t *out, size_t room, size_t *length);
+
 /* ---- Joining (no memory is taken) ---- */
 
 /* A server that knows nothing of the counters that an encoder has kept, as after it was lost, joins it on a connection of
  * its own: it sends an empty message under each of the counters 01, 02 .. FF, in this order and each once, by
- * uecp_encode with the length 0, and reads until this says true of all the bytes that were read on the connection: they hold the reply of the encoder
- * at this address to 81 and, after it, the one to FF, whatever the codes. The encoder expects 01 then, its store is as it
- * was, nothing of the pass or of its replies is still to come, and a new server may begin (uecp_server_new). Where nothing
- * is lost both replies come. False where site and encoder are no address. */
+ * uecp_encode with the length 0, and reads until this says true of all the bytes that were read on the connection: they
+ * hold the reply of the encoder at this address to 81 and, after it, the one to FF, whatever the codes. The encoder
+ * expects 01 then, its store is as it was, nothing of the pass or of its replies is still to come, and a new server may
+ * begin (uecp_server_new). Where nothing is lost both replies come. False where site and encoder are no address. */
 bool uecp_is_joined(uint16_t site, uint8_t encoder, const uint8_t *bytes, size_t length);
 
 #ifdef __cplusplus

@@ -418,6 +418,39 @@ static void images(void)
     uecp_free(&encoder);
 }
 
+static void stores_in_words(void)
+{
+    static const uint8_t service[] = {0x01}, name[] = "\x02\x02\x00RADIO 1 \x07\x02\x00\x0A", radiotext[] = {0x0A, 2, 0, 3, 0x41, 'H', 'I'};
+    static const char before[] = "in 1 for 01 pi 0000\nin 1 for 01 ps \"\"\nin 1 for 01 traffic none\nin 1 for 01 speech\n"
+        "in 1 for 01 pty \"None\"\nin 1 for 01 rt clear\nin 2 for 01 pi 0000\nin 2 for 01 ps \"RADIO 1\"\nin 2 for 01 traffic none\n"
+        "in 2 for 01 speech\nin 2 for 01 pty \"";
+    static const char behind[] = "\"\nin 2 for 01 rt \"HI\" toggle\nset 1\n";
+    uint8_t out[UECP_FRAME_MAX], words[600];
+    char wanted[600];
+    uecp_handle encoder = UECP_NO_OBJECT;
+    uecp_answer answer = {0};
+    size_t length = 77, same = 0;
+    memset(words, UNUSED, sizeof words);
+    CHECK(uecp_encoder_words(&encoder, false, words, sizeof words, &length) == UECP_EMPTY && length == 77);
+    CHECK(uecp_server_new(&encoder, 1, 1) == UECP_DONE);
+    CHECK(uecp_encoder_words(&encoder, false, words, sizeof words, &length) == UECP_OTHER_KIND && length == 77);
+    CHECK(is_unused(words, sizeof words));
+    uecp_free(&encoder);
+    CHECK(uecp_encoder_new(&encoder, 1, 1, 2, service, 1) == UECP_DONE);
+    CHECK(answered(&encoder, out, frame_of(name, 15, 1, out), &answer) == UECP_DONE && answer.reply[6] == UECP_APPLIED);
+    CHECK(answered(&encoder, out, frame_of(radiotext, 7, 2, out), &answer) == UECP_DONE && answer.reply[6] == UECP_APPLIED);
+    snprintf(wanted, sizeof wanted, "%sPop Music%s", before, behind);
+    CHECK(uecp_encoder_words(&encoder, false, words, 0, &length) == UECP_DONE && length == strlen(wanted) && is_unused(words, sizeof words));
+    CHECK(uecp_encoder_words(&encoder, false, words, length - 1, &same) == UECP_DONE && same == length && is_unused(words, sizeof words));
+    CHECK(uecp_encoder_words(&encoder, false, words, length, &same) == UECP_DONE && is_text(words, same, wanted));
+    CHECK(is_unused(words + length, sizeof words - length));
+    snprintf(wanted, sizeof wanted, "%sCountry%s", before, behind);
+    CHECK(uecp_encoder_words(&encoder, true, words, sizeof words, &same) == UECP_DONE && is_text(words, same, wanted));
+    /* the encoder is as it was */
+    CHECK(answered(&encoder, out, frame_of(radiotext, 7, 2, out), &answer) == UECP_DONE && answer.kind == UECP_REPLY && !answer.is_fresh);
+    uecp_free(&encoder);
+}
+
 static void joining(void)
 {
     static const uint8_t service[] = {0x01};
@@ -458,10 +491,13 @@ static void want_of_objects(void)
         CHECK(status == UECP_OUT_OF_MEMORY ? !handle.there : status == UECP_DONE && handle.there);
         CHECK(uecp_line_lost(&handle) == (status == UECP_DONE ? UECP_DONE : UECP_EMPTY));
         if (kind == 2 && status == UECP_DONE) {
-            /* and its image, written and read */
+            /* and its words; and its image, written and read */
             uecp_handle again = UECP_NO_OBJECT;
             static uint8_t image[5000];
             size_t length = 77;
+            status = uecp_encoder_words(&handle, false, image, sizeof image, &length);
+            if (status == UECP_OUT_OF_MEMORY ? length != 77 || image[0] : status != UECP_DONE || memcmp(image, "in 1 for 01 pi 0000\n", 20))
+                failed++;
             status = uecp_encoder_image(&handle, image, sizeof image, &length);
             if (status == UECP_DONE)
                 status = uecp_encoder_of_image(&again, image, length);
@@ -500,6 +536,7 @@ int main(int count, char **given)
         encoders();
         servers();
         images();
+        stores_in_words();
         joining();
     }
     printf("%u passed, %u failed\n", passed, failed);

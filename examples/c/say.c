@@ -5,8 +5,7 @@
 #include <string.h>
 #include <uecp.h>
 
-int main(void)
-{
+int main(void) {
     static char line[8192];
     static uecp_told told;
     uint8_t frame[UECP_FRAME_MAX], counter = 0;

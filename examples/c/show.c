@@ -4,8 +4,7 @@
 #include <string.h>
 #include <uecp.h>
 
-static void digits(const uint8_t *bytes, size_t length)
-{
+static void digits(const uint8_t *bytes, size_t length) {
     putchar(' ');
     if (length == 0)
         putchar('-');
@@ -13,8 +12,7 @@ static void digits(const uint8_t *bytes, size_t length)
         printf("%02X", bytes[i]);
 }
 
-static void show_element(const uecp_element *e)
-{
+static void show_element(const uecp_element *e) {
     switch (e->code) {
     case UECP_PI: printf("pi %02X %02X %04X", e->dsn, e->psn, e->pi); break;
     case UECP_PS: printf("ps %02X %02X", e->dsn, e->psn); digits(e->name, sizeof e->name); break;
@@ -35,8 +33,7 @@ static void show_element(const uecp_element *e)
     putchar('\n');
 }
 
-static void show_message(const uint8_t *message, size_t length)
-{
+static void show_message(const uint8_t *message, size_t length) {
     uecp_element element = {0};
     for (size_t place = 0, used; place < length; place += used) {
         uint8_t code = uecp_read_element(message + place, length - place, &element, &used);
@@ -48,8 +45,7 @@ static void show_message(const uint8_t *message, size_t length)
     }
 }
 
-static void show(const uecp_finding *finding)
-{
+static void show(const uecp_finding *finding) {
     if (finding->kind == UECP_FRAME) {
         printf("frame %04X %02X\n", finding->site * 64u + finding->encoder, finding->counter);
         show_message(finding->message, finding->length);
@@ -63,8 +59,7 @@ static void show(const uecp_finding *finding)
     putchar('\n');
 }
 
-int main(void)
-{
+int main(void) {
     static uint8_t bytes[1024];
     uecp_finding finding = {0};
     size_t held = 0, got;

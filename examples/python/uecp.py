@@ -9,8 +9,8 @@
     >>> with Server(1, 1) as server, Encoder(1, 1) as encoder:
     ...     server.submit(message_of('ps "RADIO 1"'))
     ...     replies = b"".join(encoder.answer(frame) for frame in server.frames())
-    ...     list(server.hear(replies)), encoder.service(1, 1).name
-    ([Acknowledged(counter=1, code=0)], b'RADIO 1 ')
+    ...     list(server.hear(replies)), encoder.service(1, 1).name, encoder.words()[1]
+    ([Acknowledged(counter=1, code=0)], b'RADIO 1 ', 'in 1 for 01 ps "RADIO 1"')
 
 Bytes come in and go out as `bytes`, findings and elements as iterators, refusals as exceptions below `UecpError`. A `Deframer`, an
 `Encoder` and a `Server` keep what they need in the library until they are closed, by `close`, by `with`, or with the last name for
@@ -147,6 +147,7 @@ def _loaded():
         ("encoder_of_image", Byte, [handle, *data]),
         ("server_image", Byte, [handle, ctypes.c_bool, ctypes.c_uint64, *room, used]),
         ("server_of_image", Byte, [handle, *data, to(ctypes.c_bool), to(ctypes.c_uint64)]),
+        ("encoder_words", Byte, [handle, ctypes.c_bool, *room, used]),
         ("is_joined", ctypes.c_bool, [*place, *data]),
     ):
         function = getattr(library, f"uecp_{name}")
@@ -399,8 +400,8 @@ class _Kept:
         """Forgets a segment that has not ended, as where the line was lost, and nothing else."""
         _require(_LIBRARY.uecp_line_lost(self._handle))
 
-    def _image(self, write, *given):
-        """What is to be kept of it."""
+    def _told(self, write, *given):
+        """What a function writes, which tells first how long it is."""
         length = Size()
         _require(write(self._handle, *given, b"", 0, length))
         out = ctypes.create_string_buffer(length.value)
@@ -491,7 +492,11 @@ class Encoder(_Kept):
 
     def image(self) -> bytes:
         """What is to be kept of it over a crash, before a fresh reply is sent: address, store and kept replies."""
-        return self._image(_LIBRARY.uecp_encoder_image)
+        return self._told(_LIBRARY.uecp_encoder_image)
+
+    def words(self, rbds: bool = False) -> list:
+        """The lines of phrases that make its store: `message_of` each, in order, is a message to an encoder with these services."""
+        return self._told(_LIBRARY.uecp_encoder_words, rbds).decode().split("\n")[:-1]
 
     def feed(self, piece: bytes) -> Iterator[Union[Reply, Ignored, Dropped]]:
         """What a piece brings, in order. All of it is used, however far the iterator is taken."""
@@ -594,7 +599,7 @@ class Server(_Kept):
         """What is to be kept of it over a crash, before a frame is sent: with what the program keeps beside it."""
         if not 0 <= taken < 1 << 64:
             raise UecpError(f"out of range: {taken}")
-        return self._image(_LIBRARY.uecp_server_image, joined, taken)
+        return self._told(_LIBRARY.uecp_server_image, joined, taken)
 
     def submit(self, message: bytes):
         """Gives it a message to send. `WindowFull` where it holds eight."""

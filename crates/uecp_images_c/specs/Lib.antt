@@ -1,2 +1,3 @@
--- What the contracts of images for C cite.
+-- What the contracts of images and of a store in words for C cite.
 pub mod Images
+pub mod Words

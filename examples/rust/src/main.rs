@@ -12,15 +12,18 @@ use uecp::{Findings, Found};
 
 fn main() -> Result<(), Box<dyn Error>> {
     let given: Vec<String> = std::env::args().skip(1).collect();
+    run(&given, io::stdin().lock(), io::stdout().lock())
+}
+
+pub(crate) fn run(given: &[String], input: impl Read, out: impl Write) -> Result<(), Box<dyn Error>> {
     match given.first().map(String::as_str) {
-        Some("answer") => answer(&given[1..]),
-        first => Ok(show(first == Some("again"))?),
+        Some("answer") => answer(&given[1..], input, out),
+        first => Ok(show(first == Some("again"), input, out)?),
     }
 }
 
-fn show(is_again: bool) -> io::Result<()> {
-    let mut out = io::stdout().lock();
-    for found in Findings::new(io::stdin().lock()) {
+fn show(is_again: bool, input: impl Read, mut out: impl Write) -> io::Result<()> {
+    for found in Findings::new(input) {
         match found? {
             Found::Frame(frame) if is_again => out.write_all(&frame.encode().expect("a frame that was found"))?,
             Found::Dropped { .. } if is_again => {}
@@ -35,13 +38,13 @@ fn show(is_again: bool) -> io::Result<()> {
     Ok(())
 }
 
-fn answer(given: &[String]) -> Result<(), Box<dyn Error>> {
+fn answer(given: &[String], mut input: impl Read, mut out: impl Write) -> Result<(), Box<dyn Error>> {
     let [site, number, sets, services @ ..] = given else {
         return Err("answer SITE ENCODER SETS SERVICE ..".into());
     };
     let services: Vec<u8> = services.iter().map(|digits| u8::from_str_radix(digits, 16)).collect::<Result<_, _>>()?;
     let mut encoder = Encoder::new(site.parse()?, number.parse()?, sets.parse()?, &services)?;
-    let (mut input, mut out, mut piece) = (io::stdin().lock(), io::stdout().lock(), [0; 4096]);
+    let mut piece = [0; 4096];
     loop {
         match input.read(&mut piece)? {
             0 => return Ok(()),
