@@ -1,5 +1,6 @@
 -- Reads of bits that are heard one after another.
-use Rattle.std.proofs.Common.{◌≡◌, ◌⊎◌, ℕ, Bool, true, false, ◌||◌, List, [], ◌++◌, Option, Some, None, refl, sym, ap, subst}
+use Rattle.std.proofs.Common.{◌≡◌, ◌⊎◌, ℕ, Bool, true, false, ◌||◌, List, [], ◌++◌, Option, Some, None, refl, sym, ap}
+use Rattle.std.proofs.Common.{subst}
 use Rattle.std.proofs.Common.{◌∙◌, inl, inr}
 use Rattle.std.proofs.lemmas.List.Folds.{list_any-append}
 use Rattle.std.specs.List.{list_any}
@@ -110,7 +111,8 @@ module _ (form : ShownForm) (timed : Bool) (unread between unread' held before s
     heard_on held' h'' hears stays = (
       left.0 ++ bytes,
       hears_more form timed left.0 bytes (bits_at_first held) (bits_of_hearing h before) left.1
-          (bits_of_hearing h'' held') (subst (λ x. HearsText form timed bytes x (bits_of_hearing h'' held')) same hears),
+          (bits_of_hearing h'' held') (subst (λ x. HearsText form timed bytes x (bits_of_hearing h'' held')) same
+          hears),
       consumed,
       says,
       stays ∙ foreign ∙ ap (λ b. b || list_any is_foreign bytes) left.4 ∙ sym any,

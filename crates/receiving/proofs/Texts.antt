@@ -66,7 +66,8 @@ module _ (form : ShownForm) (timed : Bool) (one other : List ℕ) (x y : BitStan
   pub hears_more : (z : BitStanding) → HearsText form timed other y z → HearsText form timed (one ++ other) x z
   hears_more z then = record {
     told = first.told ++ then.told;
-    are_told = subst (λ gs. AreTold form timed x.heard gs (first.told ++ then.told)) (sym (texts_add_up one other x.place))
+    are_told = subst (λ gs. AreTold form timed x.heard gs (first.told ++ then.told))
+        (sym (texts_add_up one other x.place))
         (told_more form timed x.heard groups others first.told then.told first.are_told
         (from_first others then.told
         (subst (λ p. AreTold form timed y.heard (found_in_text other p) then.told) first.place then.are_told)));
@@ -90,7 +91,8 @@ module _ (form : ShownForm) (timed : Bool) (one other : List ℕ) (x y : BitStan
     told = first.told ++ fails.told;
     are_told = told_more form timed x.heard groups fails.heard first.told fails.told first.are_told
         (from_first fails.heard fails.told fails.are_told);
-    begun = begun_on x.held y.held held' first.told fails.told (first.told ++ fails.told) refl first.written fails.begun;
+    begun = begun_on x.held y.held held' first.told fails.told (first.told ++ fails.told) refl first.written
+        fails.begun;
     for_this = fails.for_this;
   }
 
@@ -111,7 +113,8 @@ fails_still form timed one other x held' fault fails = record {
 
 -- a group was found with this character, and telling what it changed failed
 module _ (form : ShownForm) (timed : Bool) (character : ℕ) (x : BitStanding) (g : HeardGroup) (r : Receiver)
-    (held' : Option (List ℕ)) (found : found_in_text (character ∷ []) x.place ≡ g ∷ []) (same : r ≡ hears g x.heard) where
+    (held' : Option (List ℕ)) (found : found_in_text (character ∷ []) x.place ≡ g ∷ [])
+    (same : r ≡ hears g x.heard) where
   pub fails_for_group : (fault : RunFault) → FailsToTell form timed (shown_by x.heard) (shown_by r) x.held held' fault
       → FailsInText form timed (character ∷ []) x held' fault
   fails_for_group run.Writing (told, is_told, begun) = record {
