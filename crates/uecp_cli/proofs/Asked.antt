@@ -24,7 +24,8 @@ use Rattle.output_forms.specs.declared.form.Form.{Form}
 use Rattle.output_forms.specs.declared.form.Form.TheVariants.{Lines, Words, Json}
 use Rattle.send_jobs.specs.declared.job.SendJob.{SendJob}
 use Rattle.uecp_cli.specs.declared.task.Task.{Task}
-use Rattle.uecp_cli.specs.declared.task.Task.TheVariants.{Plain, Kept, Send, Device, OnAir, Receive, Conformance, State}
+use Rattle.uecp_cli.specs.declared.task.Task.TheVariants.{Plain, Kept, Send, Device, OnAir, Receive, Conformance, Page}
+use Rattle.uecp_cli.specs.declared.task.Task.TheVariants.{State}
 use Rattle.air_jobs.specs.declared.air_job.AirJob.{AirJob}
 use Rattle.conformance_running.specs.declared.job.ConformanceJob.{ConformanceJob}
 use Rattle.conformance_running.specs.Conformance.{IsInRange as IsConformanceInRange}
@@ -102,10 +103,11 @@ pub no_other : (words : List Text) (m : ArgMatches) (o : Option Text) → o ≡ 
     → (o ≡ Some (codes "state") → ⊥)
     → (o ≡ Some (codes "receive") → ⊥)
     → (o ≡ Some (codes "conformance") → ⊥)
+    → (o ≡ Some (codes "page") → ⊥)
     → ⊥
 no_other words m o e met none no_answer no_line no_make no_show no_encoder no_server no_send no_watch no_state
     no_receive
-    no_conformance =
+    no_conformance no_page =
     let n = one_named words none in
     let name : o ≡ Some n.0.0 = e ∙ name_met (out-ArgMatches m).subcommand ∙ ap (option_map (λ p. p.0)) (met ∙ n.1) in
     elim n.2 [
@@ -119,7 +121,8 @@ no_other words m o e met none no_answer no_line no_make no_show no_encoder no_se
       | inr (inr (inr (inr (inr (inr (inr (inl is))))))) ↦ no_watch (name ∙ ap Some is)
       | inr (inr (inr (inr (inr (inr (inr (inr (inl is)))))))) ↦ no_state (name ∙ ap Some is)
       | inr (inr (inr (inr (inr (inr (inr (inr (inr (inl is))))))))) ↦ no_receive (name ∙ ap Some is)
-      | inr (inr (inr (inr (inr (inr (inr (inr (inr (inr (is)))))))))) ↦ no_conformance (name ∙ ap Some is)
+      | inr (inr (inr (inr (inr (inr (inr (inr (inr (inr (inl is)))))))))) ↦ no_conformance (name ∙ ap Some is)
+      | inr (inr (inr (inr (inr (inr (inr (inr (inr (inr (inr is)))))))))) ↦ no_page (name ∙ ap Some is)
     ]
 
 pub gives_no_list : (words : List Text) (m : ArgMatches) (name : Text) (rows : List Row) (why : Usage)
@@ -248,6 +251,7 @@ are_in_range name rows (Device job) is = device_in_range rows job is.1
 are_in_range name rows (OnAir job) is = on_air_in_range rows job is.1
 are_in_range name rows (Receive job) is = tt
 are_in_range name rows (Conformance job) is = conformance_in_range rows job is.1
+are_in_range name rows (Page job) is = tt
 are_in_range name rows (State path) is = tt
 
 -- ---- with its state in a file or without
@@ -262,6 +266,7 @@ kept_job name rows job (Device device) is end unkept how = absurd how
 kept_job name rows job (OnAir air) is end unkept how = absurd how
 kept_job name rows job (Receive receive) is end unkept how = absurd how
 kept_job name rows job (Conformance cases) is end unkept how = absurd how
+kept_job name rows job (Page page) is end unkept how = absurd how
 kept_job name rows job (State path) is end unkept how = absurd how
 
 pub kept_server : (name : Text) (rows : List Row) (site encoder : ℕ) (host : _)
@@ -352,4 +357,5 @@ plain_asked rows job port (Device device) o plain is = absurd is
 plain_asked rows job port (OnAir air) o plain is = absurd is
 plain_asked rows job port (Receive receive) o plain is = absurd is
 plain_asked rows job port (Conformance cases) o plain is = absurd is
+plain_asked rows job port (Page page) o plain is = absurd is
 plain_asked rows job port (State path) o plain is = absurd is

@@ -123,32 +123,40 @@ walk_stop s names (word ∷ rest) w off e f =
     (then_none (turn_fault s names w word) (walk_fault s names (walked s.rules names w word) rest) f)
 
 -- ---- the program's commands
-pick : {X : Type 0} (a b c d e f g i j k l h s : X) (t u v w x y z r q p o end : Bool) → end ≡ false
-    → cond t (Some a) (cond u (Some b) (cond v (Some c)
-    (cond w (Some d) (cond x (Some e) (cond y (Some f)
-    (cond z (Some g) (cond r (Some i) (cond q (Some j)
-    (cond p (Some k) (cond o (Some l) (cond end (Some h) None))))))))))) ≡ Some s
-    → (s ≡ a) ⊎ ((s ≡ b) ⊎ ((s ≡ c)
-    ⊎ ((s ≡ d) ⊎ ((s ≡ e) ⊎ ((s ≡ f) ⊎ ((s ≡ g) ⊎ ((s ≡ i) ⊎ ((s ≡ j) ⊎ ((s ≡ k) ⊎ ((s ≡ l)))))))))))
-pick a b c d e f g i j k l h s true u v w x y z r q p o end off is = inl cc
-pick a b c d e f g i j k l h s false true v w x y z r q p o end off is = inr (inl cc)
-pick a b c d e f g i j k l h s false false true w x y z r q p o end off is = inr (inr (inl cc))
-pick a b c d e f g i j k l h s false false false true x y z r q p o end off is = inr (inr (inr (inl cc)))
-pick a b c d e f g i j k l h s false false false false true y z r q p o end off is = inr (inr (inr (inr (inl cc))))
-pick a b c d e f g i j k l h s false false false false false true z r q p o end off is =
+pick : {X : Type 0} (a b c d e f g i j k l m h s : X) (t u v w x y z r q p o n end : Bool) → end ≡ false
+    → cond t (Some a) (cond u (Some b) (cond v (Some c) (cond w (Some d)
+    (cond x (Some e) (cond y (Some f) (cond z (Some g) (cond r (Some i)
+    (cond q (Some j) (cond p (Some k) (cond o (Some l) (cond n (Some m)
+    (cond end (Some h) None)))))))))))) ≡ Some s
+    → (s ≡ a) ⊎ ((s ≡ b) ⊎ ((s ≡ c) ⊎ ((s ≡ d) ⊎ ((s ≡ e)
+    ⊎ ((s ≡ f) ⊎ ((s ≡ g) ⊎ ((s ≡ i) ⊎ ((s ≡ j) ⊎ ((s ≡ k)
+    ⊎ ((s ≡ l) ⊎ ((s ≡ m))))))))))))
+pick a b c d e f g i j k l m h s true u v w x y z r q p o n end off is =
+    inl cc
+pick a b c d e f g i j k l m h s false true v w x y z r q p o n end off is =
+    inr (inl cc)
+pick a b c d e f g i j k l m h s false false true w x y z r q p o n end off is =
+    inr (inr (inl cc))
+pick a b c d e f g i j k l m h s false false false true x y z r q p o n end off is =
+    inr (inr (inr (inl cc)))
+pick a b c d e f g i j k l m h s false false false false true y z r q p o n end off is =
+    inr (inr (inr (inr (inl cc))))
+pick a b c d e f g i j k l m h s false false false false false true z r q p o n end off is =
     inr (inr (inr (inr (inr (inl cc)))))
-pick a b c d e f g i j k l h s false false false false false false true r q p o end off is =
+pick a b c d e f g i j k l m h s false false false false false false true r q p o n end off is =
     inr (inr (inr (inr (inr (inr (inl cc))))))
-pick a b c d e f g i j k l h s false false false false false false false true q p o end off is =
+pick a b c d e f g i j k l m h s false false false false false false false true q p o n end off is =
     inr (inr (inr (inr (inr (inr (inr (inl cc)))))))
-pick a b c d e f g i j k l h s false false false false false false false false true p o end off is =
+pick a b c d e f g i j k l m h s false false false false false false false false true p o n end off is =
     inr (inr (inr (inr (inr (inr (inr (inr (inl cc))))))))
-pick a b c d e f g i j k l h s false false false false false false false false false true o end off is =
+pick a b c d e f g i j k l m h s false false false false false false false false false true o n end off is =
     inr (inr (inr (inr (inr (inr (inr (inr (inr (inl cc)))))))))
-pick a b c d e f g i j k l h s false false false false false false false false false false true end off is =
-    inr (inr (inr (inr (inr (inr (inr (inr (inr (inr (cc))))))))))
-pick a b c d e f g i j k l h s false false false false false false false false false false false true off is = cc
-pick a b c d e f g i j k l h s false false false false false false false false false false false false off is = cc
+pick a b c d e f g i j k l m h s false false false false false false false false false false true n end off is =
+    inr (inr (inr (inr (inr (inr (inr (inr (inr (inr (inl cc))))))))))
+pick a b c d e f g i j k l m h s false false false false false false false false false false false true end off is =
+    inr (inr (inr (inr (inr (inr (inr (inr (inr (inr (inr cc))))))))))
+pick a b c d e f g i j k l m h s false false false false false false false false false false false false true off is = cc
+pick a b c d e f g i j k l m h s false false false false false false false false false false false false false off is = cc
 
 not_help : (name : Text) → bytes_eq name (codes "help") ≡ false → bytes_eq (codes "help") name ≡ false
 not_help name e = go (bytes_eq (codes "help") name) refl
@@ -161,44 +169,52 @@ not_help name e = go (bytes_eq (codes "help") name) refl
         subst (λ x. bytes_eq x (codes "help") ≡ false) (sym same) e in
         cc
 
-pick_in : {X : Type 0} (test : X → Bool) (a b c d e f g i j k l h s : X) → test h ≡ false
-    → find test (a ∷ b ∷ c ∷ d ∷ e ∷ f ∷ g ∷ i ∷ j ∷ k ∷ l ∷ h ∷ []) ≡ Some s
-    → (s ≡ a) ⊎ ((s ≡ b) ⊎ ((s ≡ c)
-    ⊎ ((s ≡ d) ⊎ ((s ≡ e) ⊎ ((s ≡ f) ⊎ ((s ≡ g) ⊎ ((s ≡ i) ⊎ ((s ≡ j) ⊎ ((s ≡ k) ⊎ ((s ≡ l)))))))))))
-pick_in test a b c d e f g i j k l h s off is = pick a b c d e f g i j k l h s (test a) (test b) (test c) (test d)
-    (test e) (test f) (test g) (test i) (test j) (test k) (test l) (test h) off is
+pick_in : {X : Type 0} (test : X → Bool) (a b c d e f g i j k l m h s : X) → test h ≡ false
+    → find test (a ∷ b ∷ c ∷ d ∷ e ∷ f ∷ g ∷ i ∷ j ∷ k ∷ l ∷ m ∷ h ∷ []) ≡ Some s
+    → (s ≡ a) ⊎ ((s ≡ b) ⊎ ((s ≡ c) ⊎ ((s ≡ d) ⊎ ((s ≡ e)
+    ⊎ ((s ≡ f) ⊎ ((s ≡ g) ⊎ ((s ≡ i) ⊎ ((s ≡ j) ⊎ ((s ≡ k)
+    ⊎ ((s ≡ l) ⊎ ((s ≡ m))))))))))))
+pick_in test a b c d e f g i j k l m h s off is = pick a b c d e f g i j k l m h s (test a) (test b) (test c) (test d) (test e) (test f)
+    (test g) (test i) (test j) (test k) (test l) (test m) (test h) off is
 
 abbrev place : ℕ → Shape
 place i = get_or (built uecp_app).subs i help_shape
 
--- the name is one of the eleven
+-- the name is one of the twelve
 abbrev pub IsCommand : Text → Type 0
-IsCommand name = (name ≡ codes "answer") ⊎ ((name ≡ codes "show")
-    ⊎ ((name ≡ codes "make") ⊎ ((name ≡ codes "line")
-    ⊎ ((name ≡ codes "encoder") ⊎ ((name ≡ codes "server")
-    ⊎ ((name ≡ codes "send") ⊎ ((name ≡ codes "watch")
-    ⊎ ((name ≡ codes "state") ⊎ ((name ≡ codes "receive") ⊎ ((name ≡ codes "conformance")))))))))))
+IsCommand name = (name ≡ codes "answer") ⊎ ((name ≡ codes "show") ⊎ ((name ≡ codes "make") ⊎ ((name ≡ codes "line") ⊎ ((name ≡ codes "encoder")
+    ⊎ ((name ≡ codes "server") ⊎ ((name ≡ codes "send") ⊎ ((name ≡ codes "watch") ⊎ ((name ≡ codes "state") ⊎ ((name ≡ codes "receive")
+    ⊎ ((name ≡ codes "conformance") ⊎ ((name ≡ codes "page"))))))))))))
 
-name_of : (s : Shape) → (s ≡ place 0) ⊎ ((s ≡ place 1)
-    ⊎ ((s ≡ place 2) ⊎ ((s ≡ place 3) ⊎ ((s ≡ place 4)
-    ⊎ ((s ≡ place 5) ⊎ ((s ≡ place 6) ⊎ ((s ≡ place 7) ⊎ ((s ≡ place 8) ⊎ ((s ≡ place 9) ⊎ ((s ≡ place 10)))))))))))
+name_of : (s : Shape) → (s ≡ place 0) ⊎ ((s ≡ place 1) ⊎ ((s ≡ place 2) ⊎ ((s ≡ place 3) ⊎ ((s ≡ place 4)
+    ⊎ ((s ≡ place 5) ⊎ ((s ≡ place 6) ⊎ ((s ≡ place 7) ⊎ ((s ≡ place 8) ⊎ ((s ≡ place 9)
+    ⊎ ((s ≡ place 10) ⊎ ((s ≡ place 11))))))))))))
     → IsCommand s.name
 name_of s h = elim h [
-  | inl e ↦ inl (ap (λ (x : Shape). x.name) e)
-  | inr (inl e) ↦ inr (inl (ap (λ (x : Shape). x.name) e))
-  | inr (inr (inl e)) ↦ inr (inr (inl (ap (λ (x : Shape). x.name) e)))
-  | inr (inr (inr (inl e))) ↦ inr (inr (inr (inl (ap (λ (x : Shape). x.name) e))))
-  | inr (inr (inr (inr (inl e)))) ↦ inr (inr (inr (inr (inl (ap (λ (x : Shape). x.name) e)))))
-  | inr (inr (inr (inr (inr (inl e))))) ↦ inr (inr (inr (inr (inr (inl (ap (λ (x : Shape). x.name) e))))))
-  | inr (inr (inr (inr (inr (inr (inl e)))))) ↦ inr (inr (inr (inr (inr (inr (inl (ap (λ (x : Shape). x.name) e)))))))
-  | inr (inr (inr (inr (inr (inr (inr (inl e))))))) ↦ inr
-      (inr (inr (inr (inr (inr (inr (inl (ap (λ (x : Shape). x.name) e))))))))
-  | inr (inr (inr (inr (inr (inr (inr (inr (inl e)))))))) ↦ inr
-      (inr (inr (inr (inr (inr (inr (inr (inl (ap (λ (x : Shape). x.name) e)))))))))
-  | inr (inr (inr (inr (inr (inr (inr (inr (inr (inl e))))))))) ↦ inr
-      (inr (inr (inr (inr (inr (inr (inr (inr (inl (ap (λ (x : Shape). x.name) e))))))))))
-  | inr (inr (inr (inr (inr (inr (inr (inr (inr (inr (e)))))))))) ↦ inr
-      (inr (inr (inr (inr (inr (inr (inr (inr (inr ((ap (λ (x : Shape). x.name) e)))))))))))
+  | inl e ↦
+      inl (ap (λ (x : Shape). x.name) e)
+  | inr (inl e) ↦
+      inr (inl (ap (λ (x : Shape). x.name) e))
+  | inr (inr (inl e)) ↦
+      inr (inr (inl (ap (λ (x : Shape). x.name) e)))
+  | inr (inr (inr (inl e))) ↦
+      inr (inr (inr (inl (ap (λ (x : Shape). x.name) e))))
+  | inr (inr (inr (inr (inl e)))) ↦
+      inr (inr (inr (inr (inl (ap (λ (x : Shape). x.name) e)))))
+  | inr (inr (inr (inr (inr (inl e))))) ↦
+      inr (inr (inr (inr (inr (inl (ap (λ (x : Shape). x.name) e))))))
+  | inr (inr (inr (inr (inr (inr (inl e)))))) ↦
+      inr (inr (inr (inr (inr (inr (inl (ap (λ (x : Shape). x.name) e)))))))
+  | inr (inr (inr (inr (inr (inr (inr (inl e))))))) ↦
+      inr (inr (inr (inr (inr (inr (inr (inl (ap (λ (x : Shape). x.name) e))))))))
+  | inr (inr (inr (inr (inr (inr (inr (inr (inl e)))))))) ↦
+      inr (inr (inr (inr (inr (inr (inr (inr (inl (ap (λ (x : Shape). x.name) e)))))))))
+  | inr (inr (inr (inr (inr (inr (inr (inr (inr (inl e))))))))) ↦
+      inr (inr (inr (inr (inr (inr (inr (inr (inr (inl (ap (λ (x : Shape). x.name) e))))))))))
+  | inr (inr (inr (inr (inr (inr (inr (inr (inr (inr (inl e)))))))))) ↦
+      inr (inr (inr (inr (inr (inr (inr (inr (inr (inr (inl (ap (λ (x : Shape). x.name) e)))))))))))
+  | inr (inr (inr (inr (inr (inr (inr (inr (inr (inr (inr e)))))))))) ↦
+      inr (inr (inr (inr (inr (inr (inr (inr (inr (inr (inr (ap (λ (x : Shape). x.name) e)))))))))))
 ]
 
 entered_one : (stop : Option (Text × List Text)) → is_some (entered (built uecp_app) stop) ≡ true → is_help stop ≡ false
@@ -215,7 +231,7 @@ entered_one (Some p) has off = go (find (λ s. answers_to p.0 (label_of s)) (bui
       rows_at s p.1,
       ap (option_map (λ (x : Shape). rows_at x p.1)) is,
       name_of s (pick_in (λ x. answers_to p.0 (label_of x)) (place 0) (place 1) (place 2) (place 3) (place 4) (place 5)
-          (place 6) (place 7) (place 8) (place 9) (place 10) (place 11) s (ap (λ b. b || false) (not_help p.0 off)) is),
+          (place 6) (place 7) (place 8) (place 9) (place 10) (place 11) (place 12) s (ap (λ b. b || false) (not_help p.0 off)) is),
     )
 
 -- ---- what no fault says

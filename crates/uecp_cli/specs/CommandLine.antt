@@ -24,7 +24,9 @@ use Rattle.receiving.specs.declared.receive_job.ReceiveJob.{ReceiveJob}
 use Rattle.shown_lines.specs.declared.shown_form.ShownForm.{ShownForm}
 use Rattle.shown_lines.specs.declared.shown_form.ShownForm.TheVariants as shown
 use Rattle.conformance_running.specs.declared.job.ConformanceJob.{ConformanceJob}
-use Rattle.uecp_cli.specs.declared.task.Task.TheVariants.{Plain, Kept, Send, Device, OnAir, Receive, Conformance, State}
+use Rattle.page_edges.specs.declared.page_job.PageJob.{PageJob}
+use Rattle.uecp_cli.specs.declared.task.Task.TheVariants.{Plain, Kept, Send, Device, OnAir, Receive, Conformance, Page}
+use Rattle.uecp_cli.specs.declared.task.Task.TheVariants.{State}
 use Rattle.output_forms.specs.declared.form.Form.{Form}
 use Rattle.output_forms.specs.declared.form.Form.TheVariants.{Lines, Words, Json}
 use Rattle.rds_text.specs.declared.programme_type.Region.{Region}
@@ -253,6 +255,11 @@ pub record IsReceive (rows : List Row) (job : ReceiveJob) : Type 0 where
   pub is_time : IsTimed rows job.time
   pub is_bits : IsFlag (one_of (codes "bits") rows) job.bits
 
+-- The page is served where the matches of the command `page` say.
+pub record IsPage (rows : List Row) (job : PageJob) : Type 0 where
+  pub is_listen : option_map string_bytes job.listen ≡ first_of (codes "listen") rows
+  pub is_port : IsMaybe (one_of (codes "port") rows) 1 65535 job.port
+
 -- The cases are run as the matches of the command `conformance` ask for.
 pub record IsConformance (rows : List Row) (job : ConformanceJob) : Type 0 where
   pub is_place : IsPlace rows job.site job.encoder
@@ -287,6 +294,7 @@ IsPlainTask job port (Device device) = ⊥
 IsPlainTask job port (OnAir air) = ⊥
 IsPlainTask job port (Receive receive) = ⊥
 IsPlainTask job port (Conformance cases) = ⊥
+IsPlainTask job port (Page page) = ⊥
 IsPlainTask job port (State path) = ⊥
 
 -- The job is that of one of the two ends, which have a state.
@@ -311,11 +319,12 @@ IsKeptAs rows job (Device device) = ⊥
 IsKeptAs rows job (OnAir air) = ⊥
 IsKeptAs rows job (Receive receive) = ⊥
 IsKeptAs rows job (Conformance cases) = ⊥
+IsKeptAs rows job (Page page) = ⊥
 IsKeptAs rows job (State path) = ⊥
 
 -- The task is that of the command of this name: its job, with the file for the state of its end where one is given; or
 -- to send for as long as lines come; or what a device does; or what an encoder answers and then has on the air; or what
--- a receiver shows; or conformance cases; or what is in the file that is named.
+-- a receiver shows; or conformance cases; or a live page; or what is in the file that is named.
 abbrev pub IsTaskOf : (name : List ℕ) → List Row → Task → Type 0
 IsTaskOf name rows (Plain job) = IsJobOf name rows job × IsUnkept rows job
 IsTaskOf name rows (Kept job path) =
@@ -325,6 +334,7 @@ IsTaskOf name rows (Device job) = (name ≡ codes "encoder") × IsDevice rows jo
 IsTaskOf name rows (OnAir job) = (name ≡ codes "answer") × IsOnAir rows job
 IsTaskOf name rows (Receive job) = (name ≡ codes "receive") × IsReceive rows job
 IsTaskOf name rows (Conformance job) = (name ≡ codes "conformance") × IsConformance rows job
+IsTaskOf name rows (Page job) = (name ≡ codes "page") × IsPage rows job
 IsTaskOf name rows (State path) =
     (name ≡ codes "state") × (string_bytes path ≡ word_text (codes "file") [] rows)
 
@@ -422,6 +432,11 @@ abbrev pub receiving_command : Shape
 receiving_command = command_with (codes "receive")
     (flag (codes "bits") ∷ flag (codes "rbds") ∷ flag (codes "json") ∷ flag (codes "no-time") ∷ [])
 
+-- The command `page`.
+abbrev pub paging_command : Shape
+paging_command = command_with (codes "page")
+    (maybe_word (codes "listen") ∷ maybe_number (codes "port") 1 65535 ∷ [])
+
 -- Where the encoder listens whose rules are tried, which has to be named.
 abbrev pub place_argument : Rule
 place_argument = record (new_rule (codes "place")) { action = Some Set; value_names = 1; required = true }
@@ -488,13 +503,13 @@ live_command = command_with (codes "send") (place_options ++ word_option (codes 
 abbrev pub looking_command : Shape
 looking_command = command_with (codes "state") (file_argument ∷ [])
 
--- The program: it has a version, and one of eleven commands has to be named.
+-- The program: it has a version, and one of twelve commands has to be named.
 abbrev pub uecp_app : App
 uecp_app = record {
   top = record (new_shape (codes "uecp")) { is_leaf = false; has_version = true; subcommand_required = true };
   subs = answering_command ∷ showing_command ∷ making_command
       ∷ store_command (codes "line") ∷ listening_command ∷ sending_command ∷ live_command ∷ watching_command
-      ∷ looking_command ∷ receiving_command ∷ trying_command ∷ [];
+      ∷ looking_command ∷ receiving_command ∷ trying_command ∷ paging_command ∷ [];
 }
 
 -- The words have no fault, and ask for this: they name its command, and give its options.

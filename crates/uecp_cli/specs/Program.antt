@@ -22,7 +22,8 @@ use Rattle.kept_sending.specs.declared.keep.Progress.{Progress}
 use Rattle.kept_sending.specs.Keeping as sending
 use Rattle.state_files.specs.declared.reading.Found.{Found}
 use Rattle.uecp_cli.specs.declared.task.Task.{Task}
-use Rattle.uecp_cli.specs.declared.task.Task.TheVariants.{Plain, Kept, Send, Device, OnAir, Receive, Conformance, State}
+use Rattle.uecp_cli.specs.declared.task.Task.TheVariants.{Plain, Kept, Send, Device, OnAir, Receive, Conformance, Page}
+use Rattle.uecp_cli.specs.declared.task.Task.TheVariants.{State}
 use Rattle.uecp_cli.specs.Kept.{IsKeptDone, IsKeptRefused, IsKeptStopped, IsKeptIn, HasTold, HasNotTold}
 use Rattle.uecp_cli.specs.CommandLine.{uecp_app, Asks, GivesNoList, IsEnd}
 use Rattle.uecp_cli.specs.Unreached.{MaySayUnreached}
@@ -93,7 +94,7 @@ HasNotEnded job unread unread' held held' told told' =
     ⊎ HasStoppedWatching job unread unread' held held' told told'))
 
 -- It is run as a job of `run_job` and its like: one with its state in a file is that of an end. To send for as long as
--- lines come, to be a device, what is on the air, and conformance cases are other matters.
+-- lines come, to be a device, what is on the air, conformance cases and a live page are other matters.
 abbrev pub IsRunnable : Task → Type 0
 IsRunnable (Plain job) = Unit {0}
 IsRunnable (Kept job path) = IsEnd job
@@ -102,6 +103,7 @@ IsRunnable (Device job) = ⊥
 IsRunnable (OnAir job) = ⊥
 IsRunnable (Receive job) = ⊥
 IsRunnable (Conformance job) = ⊥
+IsRunnable (Page job) = ⊥
 IsRunnable (State path) = Unit {0}
 
 -- The options of what is asked for describe no encoder, or no address of one, and that was said, or begun to be said.
@@ -113,6 +115,7 @@ IsTaskUndescribed (Device job) told told' = ⊥
 IsTaskUndescribed (OnAir job) told told' = ⊥
 IsTaskUndescribed (Receive job) told told' = ⊥
 IsTaskUndescribed (Conformance job) told told' = ⊥
+IsTaskUndescribed (Page job) told told' = ⊥
 IsTaskUndescribed (State path) told told' = ⊥
 
 -- What is asked for was done.
@@ -126,6 +129,7 @@ IsTaskDone finds (Device job) unread unread' held held' = ⊥
 IsTaskDone finds (OnAir job) unread unread' held held' = ⊥
 IsTaskDone finds (Receive job) unread unread' held held' = ⊥
 IsTaskDone finds (Conformance job) unread unread' held held' = ⊥
+IsTaskDone finds (Page job) unread unread' held held' = ⊥
 IsTaskDone finds (State path) unread unread' held held' = HasTold finds (string_bytes path) unread unread' held held'
 
 -- A line of its input was refused.
@@ -137,6 +141,7 @@ IsTaskRefused (Device job) unread unread' held held' told told' = ⊥
 IsTaskRefused (OnAir job) unread unread' held held' told told' = ⊥
 IsTaskRefused (Receive job) unread unread' held held' told told' = ⊥
 IsTaskRefused (Conformance job) unread unread' held held' told told' = ⊥
+IsTaskRefused (Page job) unread unread' held held' told told' = ⊥
 IsTaskRefused (State path) unread unread' held held' told told' = ⊥
 
 -- It came to no end, and that was said.
@@ -151,6 +156,7 @@ IsTaskStopped finds (Device job) unread unread' held held' told told' = ⊥
 IsTaskStopped finds (OnAir job) unread unread' held held' told told' = ⊥
 IsTaskStopped finds (Receive job) unread unread' held held' told told' = ⊥
 IsTaskStopped finds (Conformance job) unread unread' held held' told told' = ⊥
+IsTaskStopped finds (Page job) unread unread' held held' told told' = ⊥
 IsTaskStopped finds (State path) unread unread' held held' told told' =
     HasNotTold finds (string_bytes path) unread unread' held held' told told'
 
@@ -175,6 +181,8 @@ IsTaskKept gives_encoder encoder_leaves encoder_clean gives_server server_leaves
 IsTaskKept gives_encoder encoder_leaves encoder_clean gives_server server_leaves server_clean (Receive job) unread
     unread' held held' = ⊥
 IsTaskKept gives_encoder encoder_leaves encoder_clean gives_server server_leaves server_clean (Conformance job) unread
+    unread' held held' = ⊥
+IsTaskKept gives_encoder encoder_leaves encoder_clean gives_server server_leaves server_clean (Page job) unread
     unread' held held' = ⊥
 IsTaskKept gives_encoder encoder_leaves encoder_clean gives_server server_leaves server_clean (State path) unread
     unread'

@@ -8,7 +8,8 @@ use Rattle.device_jobs.specs.declared.job.DeviceJob.{DeviceJob}
 use Rattle.uecp_cli.specs.declared.task.Task.{Task}
 use Rattle.air_jobs.specs.declared.air_job.AirJob.{AirJob}
 use Rattle.conformance_running.specs.Conformance.{IsInRange as IsConformanceInRange}
-use Rattle.uecp_cli.specs.declared.task.Task.TheVariants.{Plain, Kept, Send, Device, OnAir, Receive, Conformance, State}
+use Rattle.uecp_cli.specs.declared.task.Task.TheVariants.{Plain, Kept, Send, Device, OnAir, Receive, Conformance, Page}
+use Rattle.uecp_cli.specs.declared.task.Task.TheVariants.{State}
 
 -- A number lies from the least to the greatest.
 abbrev pub Lies : (least greatest number : ℕ) → Type 0
@@ -64,4 +65,5 @@ AreInRange (Device job) = IsDeviceInRange job
 AreInRange (OnAir job) = IsOnAirInRange job
 AreInRange (Receive job) = Unit {0}
 AreInRange (Conformance job) = IsConformanceInRange job
+AreInRange (Page job) = Unit {0}
 AreInRange (State path) = Unit {0}

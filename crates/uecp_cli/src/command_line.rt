@@ -6,6 +6,7 @@ ghost use Rattle.clap.specs.Simple.{Shape, new_shape};
 ghost use Rattle.uecp_cli.specs.Ranges.{AreInRange};
 ghost use Rattle.uecp_cli.specs.CommandLine.{uecp_app, Asks, RefusesWords, command_with, place_options};
 ghost use Rattle.uecp_cli.specs.CommandLine.{encoder_options, answering_command, receiving_command, trying_command};
+ghost use Rattle.uecp_cli.specs.CommandLine.{paging_command};
 ghost use Rattle.uecp_cli.specs.CommandLine.{store_command, showing_command, making_command, listening_command};
 ghost use Rattle.uecp_cli.specs.CommandLine.{sending_command, live_command, watching_command, looking_command, flag};
 
@@ -16,10 +17,11 @@ use crate::device_job::encoder_of;
 use crate::live_job::send_of;
 use crate::matched::{answer_of, line_of, make_of, server_of, show_of, state_of, watch_of};
 use crate::numbers::{
-    AIR_GROUPS, AIR_PORT, CASE_TIMEOUT, CONNECTIONS, ENCODER, GIVE_UP, IDLE, PORT, QUIET,
-    RECONNECTS, RETRY_EVERY, SEED, SERVE_TURNS, SETS, SILENT, SITE, TIMEOUT, TRIES, TRY_TURNS,
-    WINDOW,
+    AIR_GROUPS, AIR_PORT, CASE_TIMEOUT, CONNECTIONS, ENCODER, GIVE_UP, IDLE, PAGE_PORT, PORT,
+    QUIET, RECONNECTS, RETRY_EVERY, SEED, SERVE_TURNS, SETS, SILENT, SITE, TIMEOUT, TRIES,
+    TRY_TURNS, WINDOW,
 };
+use crate::page_task::page_of;
 use crate::receive_job::receive_of;
 use crate::task::Task;
 use crate::trying_job::conformance_of;
@@ -31,7 +33,7 @@ const VERSION: &str = "0.1.0";
 
 /// What the exit statuses say, below the list of commands.
 const STATUSES: &str =
-    "Each command but encoder, state and conformance reads standard input to its end, at most 1 MiB (1,048,576 bytes);\nwatch, send and receive go on as it comes, and have no limit.\n'uecp COMMAND --help' has its options and an example.\nExit status: 0 done, 1 an input line was refused, 2 the command line or the services were refused,\n3 memory, reading, writing, a connection or a state failed.";
+    "Each command but encoder, state and conformance reads standard input to its end, at most 1 MiB (1,048,576 bytes);\nwatch, send, receive and page go on as it comes, and have no limit.\n'uecp COMMAND --help' has its options and an example.\nExit status: 0 done, 1 an input line was refused, 2 the command line or the services were refused,\n3 memory, reading, writing, a connection or a state failed.";
 
 /// Reads the words of a command line, the first being the program's name.
 pub fn parse(alloc: Global, words: &[String]) -> Result<Task, Usage>
@@ -54,6 +56,7 @@ pub fn parse(alloc: Global, words: &[String]) -> Result<Task, Usage>
         Some(("state", found)) => state_of(alloc, found),
         Some(("receive", found)) => Ok(receive_of(found)),
         Some(("conformance", found)) => conformance_of(alloc, found),
+        Some(("page", found)) => page_of(alloc, found),
         _ => unreachable!(),
     }
 }
@@ -78,7 +81,8 @@ pub fn program<'a>(alloc: Global) -> Result<Command<'a>, AllocError>
         .subcommand(watch_command(alloc)?)?
         .subcommand(state_command(alloc)?)?
         .subcommand(receive_command(alloc)?)?
-        .subcommand(conformance_command(alloc)?)
+        .subcommand(conformance_command(alloc)?)?
+        .subcommand(page_command(alloc)?)
 }
 
 fn answer_command<'a>(alloc: Global) -> Result<Command<'a>, AllocError>
@@ -284,6 +288,23 @@ fn receive_command<'a>(alloc: Global) -> Result<Command<'a>, AllocError>
         ))?
         .arg(json(alloc))?
         .arg(flag(alloc, "no-time", "Without the time before what is told"))
+}
+
+fn page_command<'a>(alloc: Global) -> Result<Command<'a>, AllocError>
+    ensures { IfOk result (λ command. shape_of command ≡ paging_command) }
+{
+    Command::new(alloc, "page")
+        .about("Serve a live page of what lines of JSON tell, for a browser")
+        .after_help(
+            "It reads what encoder, answer, send, watch and receive write with --json, and writes to no station.\nExample: uecp encoder --port 4000 --forever --log --json | uecp page",
+        )
+        .arg(maybe_word(
+            alloc,
+            "listen",
+            "ADDRESS[:PORT]",
+            "The IP address at which it listens; 127.0.0.1 where it is not given",
+        ))?
+        .arg(maybe_number(alloc, &PAGE_PORT))
 }
 
 fn conformance_command<'a>(alloc: Global) -> Result<Command<'a>, AllocError>

@@ -17,6 +17,7 @@ mod forms;
 mod live_job;
 mod matched;
 mod numbers;
+mod page_task;
 mod program;
 mod receive_job;
 mod services;
@@ -34,6 +35,7 @@ use conformance_running::run_conformance_over_tcp;
 use device_jobs::run_device_over_tcp;
 use live_edges::{Polled, Watch};
 use on_air_jobs::run_on_air_over_tcp;
+use page_edges::run_page_over_tcp;
 use std::env;
 use std::io::{ErrorKind, Input, Lock};
 use std::process::ExitCode;
@@ -85,6 +87,14 @@ fn main(rt: HostRuntime) -> ExitCode {
                 Ran::Receives(job) => {
                     receive(rt.alloc(), &job, &rt, &mut reader, &mut writer, &mut errors)
                 }
+                Ran::Pages(job) => run_page_over_tcp(
+                    rt.alloc(),
+                    &job,
+                    &mut reader,
+                    STANDARD_INPUT,
+                    &mut errors,
+                    &rt,
+                ),
                 Ran::Tries(job) => {
                     run_conformance_over_tcp(rt.alloc(), &job, &mut writer, &mut errors, &rt)
                 }

@@ -69,6 +69,15 @@ pub const AIR_PORT: NumberOption = NumberOption {
     help: "The port at which the groups go out as they are on the air, a line each, 1 to 65535",
 };
 
+/// The port of a page.
+pub const PAGE_PORT: NumberOption = NumberOption {
+    name: "port",
+    least: 1,
+    most: 65_535,
+    default: None,
+    help: "The port, 1 to 65535; 8080 where it is not given",
+};
+
 /// How many groups `answer` writes of what is on the air.
 pub const AIR_GROUPS: NumberOption = NumberOption {
     name: "air",

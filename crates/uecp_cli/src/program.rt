@@ -18,14 +18,15 @@ ghost use Rattle.kept_jobs.specs.ServerKept.{IsReadWith};
 ghost use Rattle.uecp_cli.specs.Unreached.{MaySayUnreached};
 ghost use Rattle.state_jobs.specs.Kept.{HasServedKept, HasSentKept, SaysWhy};
 ghost use Rattle.send_jobs.specs.declared.job.SendJob.{SendJob};
-ghost use Rattle.uecp_cli.specs.declared.program.Ran.TheVariants.{Ended, Sends, Serves, Airs, Receives, Tries};
+ghost use Rattle.uecp_cli.specs.declared.program.Ran.TheVariants.{Ended, Sends, Serves, Airs, Receives, Tries, Pages};
 ghost use Rattle.device_jobs.specs.declared.job.DeviceJob.{DeviceJob};
 ghost use Rattle.air_jobs.specs.declared.air_job.AirJob.{AirJob};
+ghost use Rattle.page_edges.specs.declared.page_job.PageJob.{PageJob};
 ghost use Rattle.receiving.specs.Bits.{ReceivesBits};
 ghost use Rattle.receiving.specs.declared.receive_job.ReceiveJob.{ReceiveJob};
 ghost use Rattle.conformance_running.specs.declared.job.ConformanceJob.{ConformanceJob};
 ghost use Rattle.conformance_running.specs.Conformance.{IsInRange as IsConformanceInRange};
-ghost use Rattle.uecp_cli.specs.declared.task.Task.TheVariants.{Send, Device, OnAir, Receive, Conformance};
+ghost use Rattle.uecp_cli.specs.declared.task.Task.TheVariants.{Send, Device, OnAir, Receive, Conformance, Page};
 ghost use Rattle.uecp_cli.specs.Ranges.{IsLiveInRange, IsDeviceInRange, IsOnAirInRange};
 ghost use Rattle.uecp_cli.specs.CommandLine.{Asks, IsEnd};
 
@@ -39,6 +40,7 @@ use conformance_running::ConformanceJob;
 use device_jobs::DeviceJob;
 use line_feed::{Arrival, LineFeed};
 use live_edges::Watch;
+use page_edges::PageJob;
 use receiving::{ReceiveJob, run_receive, run_receive_bits};
 use send_jobs::{SendJob, run_send_over_tcp};
 use state_jobs::{OpenStates, run_encoder_in, run_server_in, tell_state};
@@ -67,6 +69,8 @@ pub enum Ran {
     Receives(ReceiveJob),
     /// They ask which rules an encoder keeps. Nothing was done yet.
     Tries(ConformanceJob),
+    /// They ask for a live page. Nothing was done yet.
+    Pages(PageJob),
 }
 
 /// Does what the words of a command line ask for, the first being the program's name, and answers the exit status: 0
@@ -105,6 +109,9 @@ pub fn run_words<
     ensures tries { (job : ConformanceJob) → result ≡ Tries job → Asks (map string_bytes words.now) (Conformance job)
         × IsConformanceInRange job × (reader.new ≡ reader.old) × (writer.new ≡ writer.old)
         × (errors.new ≡ errors.old) }
+    // So was a live page.
+    ensures pages { (job : PageJob) → result ≡ Pages job → Asks (map string_bytes words.now) (Page job)
+        × (reader.new ≡ reader.old) × (writer.new ≡ writer.old) × (errors.new ≡ errors.old) }
     // 0: what the words ask for was done; or they ask for a text, and nothing was read. Nothing was said on `errors`.
     ensures done { result ≡ Ended 0
         → (HasDone (S.finds states.now) (map string_bytes words.now) (R.remaining reader.old)
@@ -131,6 +138,7 @@ pub fn run_words<
         Ok(Task::OnAir(job)) => Ran::Airs(job),
         Ok(Task::Receive(job)) => Ran::Receives(job),
         Ok(Task::Conformance(job)) => Ran::Tries(job),
+        Ok(Task::Page(job)) => Ran::Pages(job),
         Ok(task) => Ran::Ended(run_task(alloc, &task, reader, writer, errors, net, states)),
         Err(usage) => Ran::Ended(refuse(&usage, writer, errors)),
     }
@@ -241,7 +249,8 @@ fn run_task<
             run_kept(alloc, job, path, reader, writer, errors, net, states)
         }
         Task::Send(_) | Task::Device(_) => unreachable!(),
-        Task::OnAir(_) | Task::Receive(_) | Task::Conformance(_) => unreachable!(),
+        Task::OnAir(_) | Task::Receive(_) => unreachable!(),
+        Task::Conformance(_) | Task::Page(_) => unreachable!(),
         Task::State(path) => tell_state(alloc, path.as_str(), states, writer, errors),
     }
 }

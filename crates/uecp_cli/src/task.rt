@@ -3,6 +3,7 @@
 use air_jobs::AirJob;
 use conformance_running::ConformanceJob;
 use device_jobs::DeviceJob;
+use page_edges::PageJob;
 use receiving::ReceiveJob;
 use send_jobs::SendJob;
 use uecp_jobs::Job;
@@ -24,6 +25,8 @@ pub enum Task {
     Receive(ReceiveJob),
     /// Which rules an encoder keeps.
     Conformance(ConformanceJob),
+    /// A live page of what comes.
+    Page(PageJob),
     /// What is in the state file at this path.
     State(String),
 }

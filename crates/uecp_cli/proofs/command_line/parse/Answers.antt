@@ -237,6 +237,28 @@ returns-in-Some-conformance-default-clause-refused c =
     subst (RefusesWords (map string_bytes c.args.words.now)) (sym is) tt)
     c.conformance_of.ensures.refused
 
+pub returns-in-Some-page-default-clause-range : goal.returns-in-Some-page-default-clause-range
+returns-in-Some-page-default-clause-range c =
+    IfOk-weaker c.page_of.result _ _ (λ job is. are_in_range _ _ job is) c.page_of.ensures.job
+
+pub returns-in-Some-page-default-clause-asked : goal.returns-in-Some-page-default-clause-asked
+returns-in-Some-page-default-clause-asked c =
+    let words = map string_bytes c.args.words.now in
+    let now = c.in-Some-page-default in
+    let rows = rows_of (found_of now.found.now) in
+    let met = met_of _ words c.in_ok-matches.matches c.in_ok-program.ensures c.in_ok-matches.ensures.matches in
+    let none = faultless_of _ words c.in_ok-program.ensures c.in_ok-matches.ensures.kinds in
+    IfOk-weaker c.page_of.result _ _
+    (λ job is. asks words c.in_ok-matches.matches now.field-0-0.now rows job now.ensures.name now.ensures.rows met none
+    (subst (λ name. IsTaskOf name rows job) (sym now.is-page) is))
+    c.page_of.ensures.job
+
+pub returns-in-Some-page-default-clause-refused : goal.returns-in-Some-page-default-clause-refused
+returns-in-Some-page-default-clause-refused c =
+    IfErr-weaker c.page_of.result _ _ (λ why is.
+    subst (RefusesWords (map string_bytes c.args.words.now)) (sym is) tt)
+    c.page_of.ensures.refused
+
 pub unreachable-requires : goal.unreachable-requires
 unreachable-requires c =
     let words = map string_bytes c.args.words.now in
@@ -248,7 +270,7 @@ unreachable-requires c =
           no_other words c.in_ok-matches.matches name c.subcommand.ensures.name met none
           (λ e. search rules) (λ e. search rules) (λ e. search rules) (λ e. search rules) (λ e. search rules)
           (λ e. search rules) (λ e. search rules) (λ e. search rules) (λ e. search rules) (λ e. search rules)
-          (λ e. search rules)
+          (λ e. search rules) (λ e. search rules)
       | goal.in_default-via-in_default w ↦
           no_other words c.in_ok-matches.matches name c.subcommand.ensures.name met none
           (none_named _ c.subcommand.result (codes "answer") w.in_default.is)
@@ -262,4 +284,5 @@ unreachable-requires c =
           (none_named _ c.subcommand.result (codes "state") w.in_default.is)
           (none_named _ c.subcommand.result (codes "receive") w.in_default.is)
           (none_named _ c.subcommand.result (codes "conformance") w.in_default.is)
+          (none_named _ c.subcommand.result (codes "page") w.in_default.is)
     ]

@@ -22,5 +22,6 @@ returns c =
     let eight = sub_added _ _ _ _ _ c.in_ok-subcommand-8.ensures refl seven c.in_ok-watch_command.ensures in
     let nine = sub_added _ _ _ _ _ c.in_ok-subcommand-9.ensures refl eight c.in_ok-state_command.ensures in
     let ten = sub_added _ _ _ _ _ c.in_ok-subcommand-10.ensures refl nine c.in_ok-receive_command.ensures in
-    IfOk-weaker c.subcommand-11.result _ _ (λ whole added.
-    sub_added _ _ whole _ _ added refl ten c.in_ok-conformance_command.ensures) c.subcommand-11.ensures
+    let eleven = sub_added _ _ _ _ _ c.in_ok-subcommand-11.ensures refl ten c.in_ok-conformance_command.ensures in
+    IfOk-weaker c.subcommand-12.result _ _ (λ whole added.
+    sub_added _ _ whole _ _ added refl eleven c.in_ok-page_command.ensures) c.subcommand-12.ensures
