@@ -1,5 +1,5 @@
 -- Events that were put behind what waits, and bytes that were written of it.
-use Rattle.std.proofs.Common.{rules, ◌≡◌, ℕ, ◌+◌, ◌<◌, ◌≤◌, List, [], ◌∷◌, ◌++◌, length, take, drop, flat_map, ◌∙◌, ap, sym, refl, arith, Option, Some, None, subst}
+use Rattle.std.proofs.Common.{◌≡◌, ℕ, ◌+◌, List, [], ◌∷◌, ◌++◌, length, take, drop, flat_map, ◌∙◌, ap, sym, refl, arith, Option, Some, None, subst}
 use Rattle.std.specs.Io.KnownBytes.{Appends, Keeps}
 use Rattle.std.proofs.lemmas.List.{append-nil, append_assoc, take-append-drop, length-append, length_push}
 use Rattle.std.proofs.lemmas.Grind.{flat_map-append}

@@ -48,11 +48,11 @@ impl Client {
             return Ok(());
         }
         for _event in 0..u64::MAX {
-            if self.output.len() >= WAITING_MAX {
-                return Ok(());
-            }
             if self.due < history.first() {
                 return Err(EndOfEvents::Lost);
+            }
+            if self.output.len() >= WAITING_MAX {
+                return Ok(());
             }
             let Some(line) = history.line(self.due) else {
                 return Ok(());

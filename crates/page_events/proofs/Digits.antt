@@ -1,5 +1,5 @@
 -- The digits of a number are a text.
-use Rattle.std.proofs.Common.{◌≡◌, ◌<◌, ◌^◌, ◌==◌, ℕ, true, List, [], ◌∷◌, subst, sym, refl, arith}
+use Rattle.std.proofs.Common.{◌≡◌, ◌<◌, ◌^◌, ℕ, true, List, [], ◌∷◌, subst, sym, refl, arith}
 use lib.Pointwise.{pointwise}
 use Rattle.std.proofs.Math.Dec.{eqb}
 use Rattle.std.specs.Prelude.{decimal}

@@ -1,11 +1,11 @@
 -- A browser is sent each event once, over every schedule.
-use Rattle.std.proofs.Common.{rules, ◌≡◌, ℕ, zero, suc, ◌+◌, ◌-◌, ◌<◌, ◌≤◌, ◌⊎◌, inl, inr, Bool, true, false, cond, List, [], ◌∷◌, ◌++◌, length, take, drop, map, get_or, refl, ◌∙◌, ap, sym, subst, arith, Option, Some, None}
+use Rattle.std.proofs.Common.{◌≡◌, ℕ, zero, suc, ◌+◌, ◌-◌, ◌<◌, ◌≤◌, ◌⊎◌, inl, inr, Bool, true, false, cond, List, [], ◌∷◌, ◌++◌, length, take, drop, map, get_or, refl, ◌∙◌, ap, sym, subst, arith, Some}
 use Rattle.std.specs.Prelude.{nat_lt, nat_le, max, option_map}
-use Rattle.std.proofs.lemmas.Bool.{cases_Bool, cases_lt}
+use Rattle.std.proofs.lemmas.Bool.{cases_lt}
 use Rattle.std.specs.List.{slice_get}
 use Rattle.std.proofs.lemmas.List.{append-nil, append_assoc, length_push, drop_all, length-map}
 use Rattle.std.proofs.lemmas.Option.{same_Some, slice_get-map, slice_get_read}
-use Rattle.page_events.specs.Events.{Event, Past, numbered, kept, next, surplus, with_line, from, due}
+use Rattle.page_events.specs.Events.{Event, Past, numbered, kept, next, surplus, with_line, from}
 use Rattle.page_events.specs.Laws.{Step, comes, sends, World, waiting, IsLost, happens, run, lines_in, events_in, begins, EachOnce, BeginningOnce, OwedNewer}
 
 -- ---- events from a number on

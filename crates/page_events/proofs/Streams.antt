@@ -1,5 +1,5 @@
 -- A browser takes each part of a stream.
-use Rattle.std.proofs.Common.{rules, ◌≡◌, ℕ, ◌+◌, ◌<◌, ◌^◌, ◌%◌, ◌==◌, true, false, cond, ◌||◌, List, [], ◌∷◌, ◌++◌, refl, ◌∙◌, ap, sym, arith, Bool, Option, Some, None, codes, All, flat_map}
+use Rattle.std.proofs.Common.{◌≡◌, ℕ, ◌+◌, ◌<◌, ◌^◌, ◌%◌, ◌==◌, false, cond, ◌||◌, List, [], ◌∷◌, ◌++◌, refl, ◌∙◌, ap, sym, arith, Some, None, codes, flat_map}
 use Rattle.std.specs.Prelude.{decimal}
 use Rattle.std.specs.List.{list_any, AllByRecursion}
 use Rattle.std.proofs.lemmas.Fmt.{decimal_by_steps}
@@ -8,7 +8,7 @@ use Rattle.std.proofs.lemmas.List.Folds.{list_any-append}
 use Rattle.std.proofs.lemmas.List.Concat.{flat_map-cons}
 use Rattle.std.proofs.lemmas.List.Elements.{recursion_from_All}
 use Rattle.page_events.specs.Events.{IsOneLine, ends_line}
-use Rattle.page_events.specs.Stream.{Part, carries, gap, alive, part_text, Message, Held, name_of, value_of, with_field, at_end, messages_from, messages, nothing_held}
+use Rattle.page_events.specs.Stream.{Part, carries, gap, alive, part_text, Held, at_end, messages_from}
 use Rattle.page_events.specs.Laws.{IsPart, told, TakenAsSent}
 
 step : (part : List ℕ) (held : Held) (b : ℕ) (bs : List ℕ) → b == 10 ≡ false → messages_from part held (b ∷ bs) ≡ messages_from (part ++ b ∷ []) held bs

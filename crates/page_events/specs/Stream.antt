@@ -1,6 +1,6 @@
 -- Server-Sent Events: what is sent, and what a browser takes from it (the HTML standard, "Parsing an event stream" and
 -- "Interpreting an event stream"), of streams that have neither a carriage return nor a byte order mark.
-use Rattle.std.specs.Prelude.{ℕ, Bool, ◌==◌, List, [], ◌∷◌, ◌++◌, codes, decimal, Option, Some, None, option_to_list}
+use Rattle.std.specs.Prelude.{ℕ, ◌==◌, List, [], ◌∷◌, ◌++◌, codes, decimal, Option, Some, None}
 use Rattle.std.specs.Prelude.{if◌then◌else◌}
 use Rattle.std.specs.List.{list_any}
 use Rattle.std.specs.Str.{bytes_eq}

@@ -1,5 +1,9 @@
 //! Laws of the events of a page, each the contract of a function that does nothing.
+ghost use Rattle.std.specs.Prelude.{◌≡◌};
+ghost use Rattle.page_events.specs.Stream.{part_text, gap, alive};
 ghost use Rattle.page_events.specs.Laws.{TakenAsSent, EachOnce, BeginningOnce, OwedNewer};
+
+use crate::stream::{ALIVE, GAP};
 
 /// A browser takes each line from a stream, under its number, once and in order, and nothing else.
 pub fn taken_as_sent()
@@ -20,4 +24,10 @@ pub fn beginning_once()
 /// A browser that names an event is owed exactly those of the kept ones that are newer.
 pub fn owed_newer()
     ensures { OwedNewer }
+{}
+
+/// The other parts of a stream are sent as they are defined.
+pub fn other_parts()
+    ensures gap { GAP.now ≡ part_text gap }
+    ensures alive { ALIVE.now ≡ part_text alive }
 {}

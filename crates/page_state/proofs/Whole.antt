@@ -1,12 +1,12 @@
 -- What is told of a state has no number with a fraction; parts that were added are the whole.
-use Rattle.std.proofs.Common.{rules, ◌≡◌, ℕ, Bool, true, false, ◌||◌, List, [], ◌∷◌, ◌++◌, map, refl, ◌∙◌, ap, sym, arith, Option, Some, None}
+use Rattle.std.proofs.Common.{◌≡◌, ℕ, Bool, false, List, [], ◌∷◌, ◌++◌, map, refl, ◌∙◌, ap, Option, Some, None}
 use Rattle.std.proofs.lemmas.List.{append_assoc}
-use Rattle.serde_json.specs.Data.{Data, Items, no_items, item}
+use Rattle.serde_json.specs.Data.{item}
 use Rattle.serde_json.specs.View.{items_of}
 use Rattle.serde_json.specs.Written.{has_float, items_have_float}
 use Rattle.page_state.specs.Shown.{Service}
 use Rattle.page_state.specs.State.{State}
-use Rattle.page_state.specs.Texts.{text_data, flag_data, number_data, service_data, services_data, counts_data, state_data}
+use Rattle.page_state.specs.Texts.{text_data, flag_data, number_data, service_data, services_data, state_data}
 
 no_text : (o : Option (List ℕ)) → has_float (text_data o) ≡ false
 no_text None = refl

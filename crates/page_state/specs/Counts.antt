@@ -1,5 +1,5 @@
 -- What is counted of lines of JSON (profile).
-use Rattle.std.specs.Prelude.{ℕ, ◌+◌, ◌-◌, ◌^◌, min, Bool, true, List, ◌&&◌, ◌||◌, not, codes, Option, Some, None, if◌then◌else◌}
+use Rattle.std.specs.Prelude.{ℕ, ◌+◌, ◌-◌, ◌^◌, min, Bool, true, List, ◌&&◌, ◌||◌, not, codes, if◌then◌else◌}
 use Rattle.serde_json.specs.Data.{Data}
 use Rattle.page_state.specs.Members.{flag_at, says, is_flag}
 

@@ -1,5 +1,5 @@
 -- How a line is taken (profile).
-use Rattle.std.specs.Prelude.{◌≡◌, ◌⊎◌, ℕ, true, false, List, Some, None, string_bytes, ◌≤◌}
+use Rattle.std.specs.Prelude.{◌≡◌, ℕ, true, false, List, Some, string_bytes, ◌≤◌}
 use Rattle.std.specs.Str.{IsUtf8}
 use Rattle.serde_json.specs.Data.{Data, depth}
 use Rattle.serde_json.specs.Read.{read, max_depth}

@@ -1,5 +1,5 @@
 -- What contracts see of what is kept.
-use Rattle.std.specs.Prelude.{List, map, option_map, string_bytes}
+use Rattle.std.specs.Prelude.{map, option_map, string_bytes}
 use Rattle.serde_json.specs.View.{view}
 use Rattle.page_state.specs.declared.row.Row.{Row}
 use Rattle.page_state.specs.declared.counts.Counts.{Counts as Counted}

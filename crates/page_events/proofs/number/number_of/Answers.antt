@@ -1,5 +1,5 @@
 -- The digits of a number are a text, which is parsed as the number, and are what is written of it.
-use Rattle.std.proofs.Common.{◌≡◌, ℕ, Ok, true, false, sym, ◌∙◌, ap}
+use Rattle.std.proofs.Common.{◌≡◌, Ok, sym, ◌∙◌, ap}
 use Rattle.std.specs.Prelude.{decimal}
 use Rattle.std.proofs.lemmas.Fmt.{parse-decimal}
 use Rattle.page_events.proofs.Digits.{utf8_decimal, like_itself}

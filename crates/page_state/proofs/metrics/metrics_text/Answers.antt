@@ -1,4 +1,3 @@
-use Rattle.std.proofs.Common.{[]}
 use Rattle.page_state.proofs.Whole.{eight}
 use Rattle.page_state.proofs.metrics.metrics_text.Goals as goal
 

@@ -1,7 +1,7 @@
-use Rattle.std.proofs.Common.{◌≡◌, ℕ, ◌≤◌, length, take, map, ◌∙◌, ap, arith, rules}
+use Rattle.std.proofs.Common.{◌≤◌, length, map, ◌∙◌, ap, rules}
 use Rattle.std.proofs.lemmas.List.{take_all}
 use Rattle.serde_json.specs.Data.{array}
-use Rattle.serde_json.specs.View.{view, items_of}
+use Rattle.serde_json.specs.View.{items_of}
 use Rattle.serde_json.proofs.Views.{view-Array}
 use Rattle.page_state.specs.Texts.{service_data}
 use Rattle.page_state.specs.View.{service_of}

@@ -1,4 +1,4 @@
-use Rattle.std.proofs.Common.{rules, refl, [], ◌∷◌, ◌++◌, ◌∙◌}
+use Rattle.std.proofs.Common.{refl, [], ◌∷◌, ◌++◌, ◌∙◌}
 use Rattle.page_events.specs.Events.{Event}
 use Rattle.page_clients.specs.View.{standing_of}
 use Rattle.page_clients.proofs.Delivered.{nothing_sent, one_more}

@@ -1,5 +1,5 @@
 -- Each turn puts events behind what waits, and writes a beginning of that.
-use Rattle.std.proofs.Common.{rules, refl, [], ◌∷◌, ◌++◌, ◌∙◌, ap}
+use Rattle.std.proofs.Common.{refl, ◌∙◌, ap}
 use Rattle.page_clients.specs.Sending.{Standing, IsLive}
 use Rattle.page_clients.specs.View.{standing_of}
 use Rattle.page_clients.proofs.Delivered.{told_nothing, told_more, told_written, told_kept}
