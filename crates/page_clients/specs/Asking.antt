@@ -4,7 +4,8 @@ use Rattle.std.specs.Prelude.{if◌then◌else◌, nat_le, Option, Some, None}
 use Rattle.std.specs.List.{list_all, starts_with}
 use Rattle.std.specs.Str.{bytes_eq}
 use Rattle.page_clients.specs.declared.asking.Route.{Route}
-use Rattle.page_clients.specs.declared.asking.Route.TheVariants.{Page, Events, State, Metrics, NotFound, NotGet, Foreign}
+use Rattle.page_clients.specs.declared.asking.Route.TheVariants.{Page, Events, State, Metrics, NotFound, NotGet}
+use Rattle.page_clients.specs.declared.asking.Route.TheVariants.{Foreign}
 
 -- Which of the four pages a target names, to the letter.
 abbrev pub page_of : (target : List ℕ) → Route

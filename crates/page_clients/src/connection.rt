@@ -48,7 +48,10 @@ impl Client {
     /// Errors: those of the writer; nothing changes then.
     pub fn write_to<W: Write>(&mut self, writer: &mut W) -> io::Result<usize>
         ensures ok { IfOk result (λ count. (count ≤ length (standing_of self.old).output)
-            × (standing_of self.new ≡ record (standing_of self.old) { output = drop count (standing_of self.old).output })
+            × (standing_of self.new ≡ record (standing_of self.old) {
+              output =
+                  drop count (standing_of self.old).output;
+            })
             × Appends (W.contents writer.old) (W.contents writer.new) (take count (standing_of self.old).output)) }
         ensures err { OnErr result ((standing_of self.new ≡ standing_of self.old)
             × Keeps (W.contents writer.old) (W.contents writer.new)) }

@@ -68,7 +68,8 @@ impl Client {
     fn send(&mut self, alloc: Global, line: &[u8]) -> Result<(), EndOfEvents>
         requires { self.old.phase ≡ Phase.Live }
         ensures output { OnOk result (self.new.output.items
-            ≡ self.old.output.items ++ data_text (writing self.old.server) (part_text (carries self.old.due line.now))) }
+            ≡ self.old.output.items ++ data_text (writing self.old.server)
+            (part_text (carries self.old.due line.now))) }
         ensures due { OnOk result (self.new.due ≡ self.old.due + 1) }
         ensures writing { writing self.new.server ≡ writing self.old.server }
         ensures phase { self.new.phase ≡ self.old.phase }

@@ -81,8 +81,8 @@ impl<'a, R: Read, E: Write, N: Net<Listener = TcpListener, Stream = TcpStream> +
     E,
     N,
 > {
-    /// A page of which nothing came yet, and says where it is found. A regular file is never waited for. The first event
-    /// gets the time in microseconds for its number.
+    /// A page of which nothing came yet, and says where it is found. A regular file is never waited for. The first
+    /// event gets the time in microseconds for its number.
     pub(crate) fn new(
         alloc: Global,
         net: &'a N,

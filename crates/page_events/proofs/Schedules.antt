@@ -1,12 +1,14 @@
 -- A browser is sent each event once, over every schedule.
-use Rattle.std.proofs.Common.{◌≡◌, ℕ, zero, suc, ◌+◌, ◌-◌, ◌<◌, ◌≤◌, ◌⊎◌, inl, inr, Bool, true, false, cond, List, [], ◌∷◌, ◌++◌, length, take, drop, map, get_or, refl, ◌∙◌, ap, sym, subst, arith, Some}
+use Rattle.std.proofs.Common.{◌≡◌, ℕ, zero, suc, ◌+◌, ◌-◌, ◌<◌, ◌≤◌, ◌⊎◌, inl, inr, Bool, true, false, cond, List, []}
+use Rattle.std.proofs.Common.{◌∷◌, ◌++◌, length, take, drop, map, get_or, refl, ◌∙◌, ap, sym, subst, arith, Some}
 use Rattle.std.specs.Prelude.{nat_lt, nat_le, max, option_map}
 use Rattle.std.proofs.lemmas.Bool.{cases_lt}
 use Rattle.std.specs.List.{slice_get}
 use Rattle.std.proofs.lemmas.List.{append-nil, append_assoc, length_push, drop_all, length-map}
 use Rattle.std.proofs.lemmas.Option.{same_Some, slice_get-map, slice_get_read}
 use Rattle.page_events.specs.Events.{Event, Past, numbered, kept, next, surplus, with_line, from}
-use Rattle.page_events.specs.Laws.{Step, comes, sends, World, waiting, IsLost, happens, run, lines_in, events_in, begins, EachOnce, BeginningOnce, OwedNewer}
+use Rattle.page_events.specs.Laws.{Step, comes, sends, World, waiting, IsLost, happens, run, lines_in, events_in}
+use Rattle.page_events.specs.Laws.{begins, EachOnce, BeginningOnce, OwedNewer}
 
 -- ---- events from a number on
 event : ℕ → List ℕ → Event
@@ -16,7 +18,8 @@ from_all : (d f : ℕ) (ls : List (List ℕ)) → d ≤ f → from d (numbered f
 from_all d f [] h = refl
 from_all d f (l ∷ ls) h =
     let here : nat_le d f ≡ true = grind (arith, h) in
-    ap (λ t. cond t (record { number = f; line = l } ∷ from d (numbered (f + 1) ls)) (from d (numbered (f + 1) ls))) here
+    ap (λ t. cond t (record { number = f; line = l } ∷ from d (numbered (f + 1) ls)) (from d (numbered (f + 1) ls)))
+    here
     ∙ ap (λ es. record { number = f; line = l } ∷ es) (from_all d (f + 1) ls (omega arith))
 
 from_later : (k f : ℕ) (ls : List (List ℕ)) → from (f + k) (numbered f ls) ≡ numbered (f + k) (drop k ls)
@@ -27,7 +30,8 @@ from_later (suc k) f [] = refl
 from_later (suc k) f (l ∷ ls) =
     let here : nat_le (f + suc k) f ≡ false = grind arith in
     let same : f + suc k ≡ (f + 1) + k = omega arith in
-    ap (λ t. cond t (record { number = f; line = l } ∷ from (f + suc k) (numbered (f + 1) ls)) (from (f + suc k) (numbered (f + 1) ls))) here
+    ap (λ t. cond t (record { number = f; line = l } ∷ from (f + suc k) (numbered (f + 1) ls))
+    (from (f + suc k) (numbered (f + 1) ls))) here
     ∙ ap (λ n. from n (numbered (f + 1) ls)) same
     ∙ from_later k (f + 1) ls
     ∙ ap (λ n. numbered n (drop k ls)) (sym same)
@@ -45,7 +49,8 @@ numbered-append f [] ys =
     ap (λ n. numbered n ys) same
 numbered-append f (x ∷ xs) ys =
     let same : (f + 1) + length xs ≡ f + suc (length xs) = omega arith in
-    ap (λ es. record { number = f; line = x } ∷ es) (numbered-append (f + 1) xs ys ∙ ap (λ n. numbered (f + 1) xs ++ numbered n ys) same)
+    ap (λ es. record { number = f; line = x } ∷ es) (numbered-append (f + 1) xs ys
+    ∙ ap (λ n. numbered (f + 1) xs ++ numbered n ys) same)
 
 length-numbered : (f : ℕ) (ls : List (List ℕ)) → length (numbered f ls) ≡ length ls
 length-numbered f [] = refl
@@ -61,7 +66,8 @@ drop_nil zero = refl
 drop_nil (suc n) = refl
 
 -- what is taken of a front of a list, and what is behind it
-taken_front : (n d : ℕ) (xs more : List (List ℕ)) → drop d (xs ++ more) ≡ take n (drop d xs) ++ drop (d + length (take n (drop d xs))) (xs ++ more)
+taken_front : (n d : ℕ) (xs more : List (List ℕ))
+    → drop d (xs ++ more) ≡ take n (drop d xs) ++ drop (d + length (take n (drop d xs))) (xs ++ more)
 taken_front zero d xs more =
     let same : d ≡ d + 0 = omega arith in
     ap (λ k. drop k (xs ++ more)) same
@@ -79,7 +85,8 @@ taken_front (suc n) (suc d) (x ∷ xs) more =
     taken_front (suc n) d xs more ∙ ap (λ k. take (suc n) (drop d xs) ++ drop k (x ∷ (xs ++ more))) same
 
 -- ---- a line comes
-drop-drop_append : (k : ℕ) (xs ys : List (List ℕ)) (d : ℕ) → k ≤ length xs → drop d (drop k xs ++ ys) ≡ drop (k + d) (xs ++ ys)
+drop-drop_append : (k : ℕ) (xs ys : List (List ℕ)) (d : ℕ) → k ≤ length xs
+    → drop d (drop k xs ++ ys) ≡ drop (k + d) (xs ++ ys)
 drop-drop_append zero xs ys d h =
     let same : d ≡ 0 + d = omega arith in
     ap (λ n. drop n (xs ++ ys)) same
@@ -89,7 +96,9 @@ drop-drop_append (suc k) (x ∷ xs) ys d h =
     let less : k ≤ length xs = omega (arith, h) in
     drop-drop_append k xs ys d less ∙ ap (λ n. drop n (x ∷ (xs ++ ys))) same
 
-came : (past : Past) (line : List ℕ) (later : List (List ℕ)) (owed : ℕ) → (with_line past line).first ≤ owed → from owed (numbered (with_line past line).first ((with_line past line).lines ++ later)) ≡ from owed (numbered past.first (past.lines ++ line ∷ later))
+came : (past : Past) (line : List ℕ) (later : List (List ℕ)) (owed : ℕ) → (with_line past line).first ≤ owed
+    → from owed (numbered (with_line past line).first ((with_line past line).lines ++ later))
+    ≡ from owed (numbered past.first (past.lines ++ line ∷ later))
 came past line later owed h =
     let gone = surplus (length past.lines + 1) in
     let all = past.lines ++ line ∷ [] in
@@ -98,12 +107,14 @@ came past line later owed h =
     let before : past.first ≤ owed = omega (arith, h) in
     let place : gone + (owed - (past.first + gone)) ≡ owed - past.first = omega (arith, h) in
     from_drop owed (past.first + gone) (drop gone all ++ later) h
-    ∙ ap (numbered owed) (drop-drop_append gone all later (owed - (past.first + gone)) few ∙ ap (λ n. drop n (all ++ later)) place
+    ∙ ap (numbered owed) (drop-drop_append gone all later (owed - (past.first + gone)) few
+    ∙ ap (λ n. drop n (all ++ later)) place
     ∙ ap (drop (owed - past.first)) (append_assoc past.lines (line ∷ []) later))
     ∙ sym (from_drop owed past.first (past.lines ++ line ∷ later) before)
 
 -- ---- a browser is sent some
-sent_some : (n f d : ℕ) (xs more : List (List ℕ)) → f ≤ d → let events = take n (from d (numbered f xs)) in from d (numbered f (xs ++ more)) ≡ events ++ from (d + length events) (numbered f (xs ++ more))
+sent_some : (n f d : ℕ) (xs more : List (List ℕ)) → f ≤ d → let events = take n (from d (numbered f xs)) in
+    from d (numbered f (xs ++ more)) ≡ events ++ from (d + length events) (numbered f (xs ++ more))
 sent_some n f d xs more h =
     let lines = take n (drop (d - f) xs) in
     let events = take n (from d (numbered f xs)) in
@@ -127,7 +138,8 @@ not_sent w n h =
     let events = take n (waiting w) in
     ap (λ t. cond t w (record w { owed = w.owed + length events; sent = w.sent ++ events })) lost
 
-is_sent : (w : World) (n : ℕ) → w.past.first ≤ w.owed → let events = take n (waiting w) in happens w (sends n) ≡ record w { owed = w.owed + length events; sent = w.sent ++ events }
+is_sent : (w : World) (n : ℕ) → w.past.first ≤ w.owed → let events = take n (waiting w) in
+    happens w (sends n) ≡ record w { owed = w.owed + length events; sent = w.sent ++ events }
 is_sent w n h =
     let holds : nat_lt w.owed w.past.first ≡ false = grind (arith, h) in
     let events = take n (waiting w) in
@@ -142,7 +154,8 @@ stays_lost (sends n ∷ steps) w h =
 
 -- ---- the laws
 Exact : World → List Step → Type 0
-Exact w steps = IsLost (run w steps) ⊎ ((run w steps).sent ++ waiting (run w steps) ≡ w.sent ++ from w.owed (events_in w.past steps))
+Exact w steps = IsLost (run w steps) ⊎ ((run w steps).sent ++ waiting (run w steps) ≡ w.sent
+    ++ from w.owed (events_in w.past steps))
 
 exact : (steps : List Step) (w : World) → Exact w steps
 unfolding Exact
@@ -157,11 +170,13 @@ exact (comes line ∷ steps) w =
     ]
 exact (sends n ∷ steps) w =
     elim (cases_lt w.owed w.past.first) [
-      | inl lost ↦ inl (let P : World → Type 0 = λ v. IsLost (run v steps) in subst P (sym (not_sent w n lost)) (stays_lost steps w lost).0)
+      | inl lost ↦ inl (let P : World → Type 0 = λ v. IsLost (run v steps) in
+          subst P (sym (not_sent w n lost)) (stays_lost steps w lost).0)
       | inr holds ↦
           let events = take n (waiting w) in
           let v : World = record w { owed = w.owed + length events; sent = w.sent ++ events } in
-          let P : World → Type 0 = λ u. IsLost (run u steps) ⊎ ((run u steps).sent ++ waiting (run u steps) ≡ w.sent ++ from w.owed (events_in w.past steps)) in
+          let P : World → Type 0 = λ u. IsLost (run u steps)
+          ⊎ ((run u steps).sent ++ waiting (run u steps) ≡ w.sent ++ from w.owed (events_in w.past steps)) in
           subst P (sym (is_sent w n holds)) (elim (exact steps v) [
             | inl lost ↦ inl lost
             | inr same ↦ inr (same ∙ append_assoc w.sent events (from v.owed (events_in w.past steps))
@@ -181,8 +196,13 @@ unfolding Begun
 begun [] w = (from w.owed (events_in w.past []), refl)
 begun (comes line ∷ steps) w =
     elim (cases_lt w.owed (with_line w.past line).first) [
-      | inl lost ↦ (from w.owed (events_in w.past (comes line ∷ steps)), ap (λ s. s ++ from w.owed (events_in w.past (comes line ∷ steps))) (stays_lost steps (happens w (comes line)) lost).1)
-      | inr holds ↦ let h = begun steps (happens w (comes line)) in (h.0, h.1 ∙ ap (λ es. w.sent ++ es) (came w.past line (lines_in steps) w.owed holds))
+      | inl lost ↦ (
+        from w.owed (events_in w.past (comes line ∷ steps)),
+        ap (λ s. s ++ from w.owed (events_in w.past (comes line ∷ steps)))
+            (stays_lost steps (happens w (comes line)) lost).1,
+      )
+      | inr holds ↦ let h = begun steps (happens w (comes line)) in
+          (h.0, h.1 ∙ ap (λ es. w.sent ++ es) (came w.past line (lines_in steps) w.owed holds))
     ]
 begun (sends n ∷ steps) w =
     elim (cases_lt w.owed w.past.first) [
@@ -193,7 +213,8 @@ begun (sends n ∷ steps) w =
       | inr holds ↦
           let events = take n (waiting w) in
           let v : World = record w { owed = w.owed + length events; sent = w.sent ++ events } in
-          let P : World → Type 0 = λ u. (rest : List Event) × ((run u steps).sent ++ rest ≡ w.sent ++ from w.owed (events_in w.past steps)) in
+          let P : World → Type 0 = λ u. (rest : List Event)
+          × ((run u steps).sent ++ rest ≡ w.sent ++ from w.owed (events_in w.past steps)) in
           let h = begun steps v in
           subst P (sym (is_sent w n holds)) (
             h.0,
@@ -207,17 +228,20 @@ unfolding Begun
 beginning_once_lem past owed steps = begun steps (begins past owed)
 
 -- ---- what a browser is owed
-newer : (last first : ℕ) (ls : List (List ℕ)) → from (max (last + 1) first) (numbered first ls) ≡ from (last + 1) (numbered first ls)
+newer : (last first : ℕ) (ls : List (List ℕ)) → from (max (last + 1) first) (numbered first ls)
+    ≡ from (last + 1) (numbered first ls)
 newer last first ls = elim (cases_lt last first) [
   | inl before ↦
       let same : max (last + 1) first ≡ first = omega (arith, before) in
-      ap (λ n. from n (numbered first ls)) same ∙ from_all first first ls (omega arith) ∙ sym (from_all (last + 1) first ls (omega (arith, before)))
+      ap (λ n. from n (numbered first ls)) same ∙ from_all first first ls (omega arith)
+      ∙ sym (from_all (last + 1) first ls (omega (arith, before)))
   | inr behind ↦
       let same : max (last + 1) first ≡ last + 1 = omega (arith, behind) in
       ap (λ n. from n (numbered first ls)) same
 ]
 
-chosen : (b : Bool) (d first last : ℕ) (ls : List (List ℕ)) → d ≡ max (last + 1) first → from (cond b d first) (numbered first ls) ≡ cond b (from (last + 1) (numbered first ls)) (numbered first ls)
+chosen : (b : Bool) (d first last : ℕ) (ls : List (List ℕ)) → d ≡ max (last + 1) first
+    → from (cond b d first) (numbered first ls) ≡ cond b (from (last + 1) (numbered first ls)) (numbered first ls)
 chosen true d first last ls h = ap (λ n. from n (numbered first ls)) h ∙ newer last first ls
 chosen false d first last ls h = from_all first first ls (omega arith)
 
@@ -235,24 +259,33 @@ drop_get (x ∷ xs) (suc k) l h =
     let same : suc (k + 1) ≡ suc k + 1 = omega arith in
     drop_get xs k l h ∙ ap (λ n. l ∷ drop n (x ∷ xs)) same
 
-pub first_from : (f n : ℕ) (ls : List (List ℕ)) (l : List ℕ) → f ≤ n → slice_get ls (n - f) ≡ Some l → from n (numbered f ls) ≡ record { number = n; line = l } ∷ from (n + 1) (numbered f ls)
+pub first_from : (f n : ℕ) (ls : List (List ℕ)) (l : List ℕ) → f ≤ n → slice_get ls (n - f) ≡ Some l
+    → from n (numbered f ls) ≡ record { number = n; line = l } ∷ from (n + 1) (numbered f ls)
 first_from f n ls l h is =
     let later : f ≤ n + 1 = omega (arith, h) in
     let place : (n - f) + 1 ≡ (n + 1) - f = omega (arith, h) in
     from_drop n f ls h ∙ ap (numbered n) (drop_get ls (n - f) l is)
-    ∙ ap (λ es. record { number = n; line = l } ∷ es) (ap (λ k. numbered (n + 1) (drop k ls)) place ∙ sym (from_drop (n + 1) f ls later))
+    ∙ ap (λ es. record { number = n; line = l } ∷ es)
+    (ap (λ k. numbered (n + 1) (drop k ls)) place ∙ sym (from_drop (n + 1) f ls later))
 
 pub none_from : (f n : ℕ) (ls : List (List ℕ)) → f ≤ n → length ls ≤ n - f → from n (numbered f ls) ≡ []
 none_from f n ls h past = from_drop n f ls h ∙ ap (numbered n) (drop_all (n - f) ls past)
 
 -- the same of what is kept in another form
-pub first_seen : {X : Type 0} (f : X → List ℕ) (first n : ℕ) (xs : List X) (x : X) (l : List ℕ) (past : Past) → record { first = first; lines = map f xs } ≡ past → first ≤ n → n - first < length xs → x ≡ get_or xs (n - first) x → l ≡ f x → (past.first ≤ n) × (from n (kept past) ≡ record { number = n; line = l } ∷ from (n + 1) (kept past))
+pub first_seen : {X : Type 0} (f : X → List ℕ) (first n : ℕ) (xs : List X) (x : X) (l : List ℕ) (past : Past)
+    → record { first = first; lines = map f xs } ≡ past → first ≤ n → n - first < length xs
+    → x ≡ get_or xs (n - first) x → l ≡ f x → (past.first ≤ n)
+    × (from n (kept past) ≡ record { number = n; line = l } ∷ from (n + 1) (kept past))
 first_seen f first n xs x l past view h within is line =
-    let P : Past → Type 0 = λ p. (p.first ≤ n) × (from n (kept p) ≡ record { number = n; line = l } ∷ from (n + 1) (kept p)) in
-    let read = slice_get-map f xs (n - first) ∙ ap (option_map f) (slice_get_read xs (length xs) (n - first) x refl within is) ∙ ap Some (sym line) in
+    let P : Past → Type 0 = λ p. (p.first ≤ n) × (from n (kept p) ≡ record { number = n; line = l }
+    ∷ from (n + 1) (kept p)) in
+    let read = slice_get-map f xs (n - first) ∙ ap (option_map f)
+    (slice_get_read xs (length xs) (n - first) x refl within is) ∙ ap Some (sym line) in
     subst P view (h, first_from first n (map f xs) l h read)
 
-pub none_seen : {X : Type 0} (f : X → List ℕ) (first n : ℕ) (xs : List X) (past : Past) → record { first = first; lines = map f xs } ≡ past → first ≤ n → length xs ≤ n - first → past.first ≤ n → from n (kept past) ≡ []
+pub none_seen : {X : Type 0} (f : X → List ℕ) (first n : ℕ) (xs : List X) (past : Past)
+    → record { first = first; lines = map f xs } ≡ past → first ≤ n → length xs ≤ n - first → past.first ≤ n
+    → from n (kept past) ≡ []
 none_seen f first n xs past view h end =
     let P : Past → Type 0 = λ p. p.first ≤ n → from n (kept p) ≡ [] in
     let past_end : length (map f xs) ≤ n - first = rw length-map end in

@@ -1,5 +1,6 @@
 -- Laws of the events of a live page.
-use Rattle.std.specs.Prelude.{◌≡◌, ℕ, ◌+◌, ◌<◌, ◌^◌, ◌⊎◌, List, [], ◌∷◌, ◌++◌, length, take, codes, decimal, All, flat_map}
+use Rattle.std.specs.Prelude.{◌≡◌, ℕ, ◌+◌, ◌<◌, ◌^◌, ◌⊎◌, List, [], ◌∷◌, ◌++◌, length, take, codes, decimal, All}
+use Rattle.std.specs.Prelude.{flat_map}
 use Rattle.std.specs.Prelude.{if◌then◌else◌, nat_lt, Some, None}
 use Rattle.page_events.specs.Events.{Event, IsOneLine, Past, numbered, kept, next, with_line, from, due}
 use Rattle.page_events.specs.Stream.{Part, carries, gap, alive, part_text, Message, messages}

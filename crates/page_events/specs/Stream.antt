@@ -56,7 +56,8 @@ with_data (Some said) line = said ++ 10 ∷ line
 abbrev pub with_field : (name value : List ℕ) → Held → Held
 with_field name value held =
     if bytes_eq name (codes "data") then record held { said = Some (with_data held.said value) }
-    else if bytes_eq name (codes "id") then (if list_any (λ byte. byte == 0) value then held else record held { id = value })
+    else if bytes_eq name (codes "id") then (if list_any (λ byte. byte == 0)
+    value then held else record held { id = value })
     else if bytes_eq name (codes "event") then record held { type = value }
     else held
 

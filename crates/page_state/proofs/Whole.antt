@@ -31,12 +31,16 @@ pub no_float : (s : State) → has_float (state_data s) ≡ false
 no_float s = rw (no_services s.services) refl
 
 -- the objects of services
-pub each_service : {X : Type 0} (f : X → Service) (xs : List X) → items_of (map (λ x. service_data (f x)) xs) ≡ services_data (map f xs)
+pub each_service : {X : Type 0} (f : X → Service) (xs : List X)
+    → items_of (map (λ x. service_data (f x)) xs) ≡ services_data (map f xs)
 each_service f [] = refl
 each_service f (x ∷ xs) = ap (item (service_data (f x))) (each_service f xs)
 
-pub eight : (t0 t1 t2 t3 t4 t5 t6 t7 t8 p1 p2 p3 p4 p5 p6 p7 p8 : List ℕ) → t0 ≡ [] → t1 ≡ t0 ++ p1 → t2 ≡ t1 ++ p2 → t3 ≡ t2 ++ p3 → t4 ≡ t3 ++ p4 → t5 ≡ t4 ++ p5 → t6 ≡ t5 ++ p6 → t7 ≡ t6 ++ p7 → t8 ≡ t7 ++ p8 → t8 ≡ p1 ++ (p2 ++ (p3 ++ (p4 ++ (p5 ++ (p6 ++ (p7 ++ p8))))))
+pub eight : (t0 t1 t2 t3 t4 t5 t6 t7 t8 p1 p2 p3 p4 p5 p6 p7 p8 : List ℕ) → t0 ≡ [] → t1 ≡ t0 ++ p1 → t2 ≡ t1 ++ p2
+    → t3 ≡ t2 ++ p3 → t4 ≡ t3 ++ p4 → t5 ≡ t4 ++ p5 → t6 ≡ t5 ++ p6 → t7 ≡ t6 ++ p7 → t8 ≡ t7 ++ p8
+    → t8 ≡ p1 ++ (p2 ++ (p3 ++ (p4 ++ (p5 ++ (p6 ++ (p7 ++ p8))))))
 eight t0 t1 t2 t3 t4 t5 t6 t7 t8 p1 p2 p3 p4 p5 p6 p7 p8 h0 h1 h2 h3 h4 h5 h6 h7 h8 =
-    h8 ∙ ap (λ t. t ++ p8) (h7 ∙ ap (λ t. t ++ p7) (h6 ∙ ap (λ t. t ++ p6) (h5 ∙ ap (λ t. t ++ p5) (h4 ∙ ap (λ t. t ++ p4)
+    h8 ∙ ap (λ t. t ++ p8) (h7 ∙ ap (λ t. t ++ p7) (h6
+    ∙ ap (λ t. t ++ p6) (h5 ∙ ap (λ t. t ++ p5) (h4 ∙ ap (λ t. t ++ p4)
     (h3 ∙ ap (λ t. t ++ p3) (h2 ∙ ap (λ t. t ++ p2) (h1 ∙ ap (λ t. t ++ p1) h0)))))))
     ∙ simp append_assoc

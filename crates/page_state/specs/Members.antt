@@ -1,5 +1,6 @@
 -- What a member of an object of JSON says (profile).
-use Rattle.std.specs.Prelude.{ℕ, ◌==◌, Bool, true, false, List, codes, Option, Some, None, option_and_then, unwrap_or, ◌&&◌}
+use Rattle.std.specs.Prelude.{ℕ, ◌==◌, Bool, true, false, List, codes, Option, Some, None, option_and_then, unwrap_or}
+use Rattle.std.specs.Prelude.{◌&&◌}
 use Rattle.std.specs.Str.{bytes_eq}
 use Rattle.serde_json.specs.Data.{Data}
 use Rattle.serde_json.specs.Find.{get, as_str, as_bool, as_number, as_u64}

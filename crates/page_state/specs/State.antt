@@ -1,5 +1,6 @@
 -- What a live page shows: the fold of the objects that came (profile).
-use Rattle.std.specs.Prelude.{ℕ, ◌==◌, Bool, true, false, ◌&&◌, List, [], ◌∷◌, codes, Option, Some, None, option_and_then, unwrap_or}
+use Rattle.std.specs.Prelude.{ℕ, ◌==◌, Bool, true, false, ◌&&◌, List, [], ◌∷◌, codes, Option, Some, None}
+use Rattle.std.specs.Prelude.{option_and_then, unwrap_or}
 use Rattle.std.specs.Prelude.{if◌then◌else◌}
 use Rattle.serde_json.specs.Data.{Data, Items, no_items, item}
 use Rattle.serde_json.specs.Find.{get, as_array}
@@ -27,7 +28,10 @@ set_of s d = if number_or_0 (codes "set") d == 0 then s.current else number_or_0
 abbrev pub after_telling : Data → State → State
 after_telling d s =
     if is_element (codes "select") d then record s { current = unwrap_or (number_at (codes "set") d) s.current }
-    else if tells d then record s { services = told_among 128 (set_of s d) (number_or_0 (codes "service") d) d s.services }
+    else if tells d then record s {
+      services = told_among 128 (set_of s d) (number_or_0 (codes "service") d) d
+          s.services;
+    }
     else s
 
 -- Behind elements, in order.

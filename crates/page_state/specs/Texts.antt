@@ -1,6 +1,7 @@
 -- What is told of the state: as JSON, and as metrics (profile; the text form of Prometheus, version 0.0.4).
 use Rattle.std.specs.Prelude.{ℕ, Bool, List, [], ◌∷◌, ◌++◌, codes, decimal, Option, Some, None}
-use Rattle.serde_json.specs.Data.{Data, null, boolean, number, unsigned, string, array, object, Items, no_items, item, no_members, member}
+use Rattle.serde_json.specs.Data.{Data, null, boolean, number, unsigned, string, array, object, Items, no_items, item}
+use Rattle.serde_json.specs.Data.{no_members, member}
 use Rattle.page_state.specs.Shown.{Service}
 use Rattle.page_state.specs.Counts.{Counts}
 use Rattle.page_state.specs.State.{State}

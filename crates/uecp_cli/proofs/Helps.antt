@@ -155,8 +155,10 @@ pick a b c d e f g i j k l m h s false false false false false false false false
     inr (inr (inr (inr (inr (inr (inr (inr (inr (inr (inl cc))))))))))
 pick a b c d e f g i j k l m h s false false false false false false false false false false false true end off is =
     inr (inr (inr (inr (inr (inr (inr (inr (inr (inr (inr cc))))))))))
-pick a b c d e f g i j k l m h s false false false false false false false false false false false false true off is = cc
-pick a b c d e f g i j k l m h s false false false false false false false false false false false false false off is = cc
+pick a b c d e f g i j k l m h s false false false false false false false false false false false false true off is =
+    cc
+pick a b c d e f g i j k l m h s false false false false false false false false false false false false false off is =
+    cc
 
 not_help : (name : Text) → bytes_eq name (codes "help") ≡ false → bytes_eq (codes "help") name ≡ false
 not_help name e = go (bytes_eq (codes "help") name) refl
@@ -174,7 +176,8 @@ pick_in : {X : Type 0} (test : X → Bool) (a b c d e f g i j k l m h s : X) →
     → (s ≡ a) ⊎ ((s ≡ b) ⊎ ((s ≡ c) ⊎ ((s ≡ d) ⊎ ((s ≡ e)
     ⊎ ((s ≡ f) ⊎ ((s ≡ g) ⊎ ((s ≡ i) ⊎ ((s ≡ j) ⊎ ((s ≡ k)
     ⊎ ((s ≡ l) ⊎ ((s ≡ m))))))))))))
-pick_in test a b c d e f g i j k l m h s off is = pick a b c d e f g i j k l m h s (test a) (test b) (test c) (test d) (test e) (test f)
+pick_in test a b c d e f g i j k l m h s off is =
+    pick a b c d e f g i j k l m h s (test a) (test b) (test c) (test d) (test e) (test f)
     (test g) (test i) (test j) (test k) (test l) (test m) (test h) off is
 
 abbrev place : ℕ → Shape
@@ -182,8 +185,10 @@ place i = get_or (built uecp_app).subs i help_shape
 
 -- the name is one of the twelve
 abbrev pub IsCommand : Text → Type 0
-IsCommand name = (name ≡ codes "answer") ⊎ ((name ≡ codes "show") ⊎ ((name ≡ codes "make") ⊎ ((name ≡ codes "line") ⊎ ((name ≡ codes "encoder")
-    ⊎ ((name ≡ codes "server") ⊎ ((name ≡ codes "send") ⊎ ((name ≡ codes "watch") ⊎ ((name ≡ codes "state") ⊎ ((name ≡ codes "receive")
+IsCommand name = (name ≡ codes "answer") ⊎ ((name ≡ codes "show")
+    ⊎ ((name ≡ codes "make") ⊎ ((name ≡ codes "line") ⊎ ((name ≡ codes "encoder")
+    ⊎ ((name ≡ codes "server") ⊎ ((name ≡ codes "send")
+    ⊎ ((name ≡ codes "watch") ⊎ ((name ≡ codes "state") ⊎ ((name ≡ codes "receive")
     ⊎ ((name ≡ codes "conformance") ⊎ ((name ≡ codes "page"))))))))))))
 
 name_of : (s : Shape) → (s ≡ place 0) ⊎ ((s ≡ place 1) ⊎ ((s ≡ place 2) ⊎ ((s ≡ place 3) ⊎ ((s ≡ place 4)
@@ -231,7 +236,8 @@ entered_one (Some p) has off = go (find (λ s. answers_to p.0 (label_of s)) (bui
       rows_at s p.1,
       ap (option_map (λ (x : Shape). rows_at x p.1)) is,
       name_of s (pick_in (λ x. answers_to p.0 (label_of x)) (place 0) (place 1) (place 2) (place 3) (place 4) (place 5)
-          (place 6) (place 7) (place 8) (place 9) (place 10) (place 11) (place 12) s (ap (λ b. b || false) (not_help p.0 off)) is),
+          (place 6) (place 7) (place 8) (place 9) (place 10) (place 11) (place 12) s
+          (ap (λ b. b || false) (not_help p.0 off)) is),
     )
 
 -- ---- what no fault says

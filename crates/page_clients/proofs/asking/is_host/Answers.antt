@@ -7,6 +7,7 @@ use Rattle.page_clients.proofs.asking.is_host.Goals as goal
 
 pub returns-then-starts_with : goal.returns-then-starts_with
 returns-then-starts_with c =
-    let begins : starts_with nat_eq c.args.host.now c.args.name.now ≡ true = sym c.starts_with.ensures.value ∙ c.if-starts_with.true in
+    let begins : starts_with nat_eq c.args.host.now c.args.name.now ≡ true =
+    sym c.starts_with.ensures.value ∙ c.if-starts_with.true in
     c.is_port.ensures ∙ ap is_port (take_rest c.args.host.now (length c.args.name.now))
     ∙ ap (λ b. b && is_port (drop (length c.args.name.now) c.args.host.now)) (sym begins)

@@ -10,13 +10,16 @@ returns-in_default-clause-none c = λ n small is. c.in_default.ensures.cases.0 (
 
 pub returns-in_default-parse-clause-none : goal.returns-in_default-parse-clause-none
 returns-in_default-parse-clause-none c = λ n small is.
-    c.in_default-parse.not-Ok n (parse-decimal 64 n c.in-Ok.digits.now c.parse.result small small (c.in-Ok.ensures.cases.0 ∙ is) c.parse.ensures.value.0)
+    c.in_default-parse.not-Ok n (parse-decimal 64 n c.in-Ok.digits.now c.parse.result small small
+    (c.in-Ok.ensures.cases.0 ∙ is) c.parse.ensures.value.0)
 
 pub returns-else-eq-clause-none : goal.returns-else-eq-clause-none
 returns-else-eq-clause-none c = λ n small is.
-    let parsed : c.parse.result ≡ Ok n = parse-decimal 64 n c.in-Ok.digits.now c.parse.result small small (c.in-Ok.ensures.cases.0 ∙ is) c.parse.ensures.value.0 in
+    let parsed : c.parse.result ≡ Ok n = parse-decimal 64 n c.in-Ok.digits.now c.parse.result small small
+    (c.in-Ok.ensures.cases.0 ∙ is) c.parse.ensures.value.0 in
     let number : c.in-Ok-parse.number ≡ n = cc (parsed, c.in-Ok-parse.is) in
-    let alike : c.as_bytes.result.now ≡ c.args.text.now = c.as_bytes.ensures.value ∙ c.format.ensures.text ∙ ap decimal number ∙ sym is in
+    let alike : c.as_bytes.result.now ≡ c.args.text.now =
+    c.as_bytes.ensures.value ∙ c.format.ensures.text ∙ ap decimal number ∙ sym is in
     let yes = like_itself c.as_bytes.result.now c.args.text.now alike in
     let no = c.eq.ensures in
     cc (yes, no, c.if-eq.false)

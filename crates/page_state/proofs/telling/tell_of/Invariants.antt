@@ -8,6 +8,7 @@ use Rattle.page_state.proofs.telling.tell_of.Given as goal
 
 abbrev pub invariant-loop-place : goal.invariant-loop-place
 invariant-loop-place l = record {
-  rest : told_among 128 l.set l.service (view l.value) (map service_of l.fn.rows.items) ≡ after_some service_of l.set l.service (view l.value) l.place l.rows.items;
+  rest : told_among 128 l.set l.service (view l.value) (map service_of l.fn.rows.items)
+      ≡ after_some service_of l.set l.service (view l.value) l.place l.rows.items;
   same : l.rows ≡ l.fn.rows;
 }

@@ -5,7 +5,10 @@ use Rattle.page_clients.proofs.Delivered.{nothing_sent, one_more}
 use Rattle.page_clients.proofs.client.Client.catch_up.Goals as goal
 
 pub loop-event-init : goal.loop-event-init
-loop-event-init c = record { sends = λ live. ([], nothing_sent c.args.history.now (standing_of c.args.self.now)); phase = refl }
+loop-event-init c = record {
+  sends = λ live. ([], nothing_sent c.args.history.now (standing_of c.args.self.now));
+  phase = refl;
+}
 
 pub loop-event-preserved : goal.loop-event-preserved
 loop-event-preserved c =
@@ -14,8 +17,10 @@ loop-event-preserved c =
       sends = λ live.
           let h = c.loop-event.invariant.sends live in (
             h.0 ++ e ∷ [],
-            one_more c.args.history.now h.0 (standing_of c.args.self.now) (standing_of c.loop-event.self) (standing_of c.send.new.self) e h.1
-                c.in-Some.ensures.some.1 c.in_ok-send.ensures.due c.in_ok-send.ensures.output c.in_ok-send.ensures.writing,
+            one_more c.args.history.now h.0 (standing_of c.args.self.now) (standing_of c.loop-event.self)
+                (standing_of c.send.new.self) e h.1
+                c.in-Some.ensures.some.1 c.in_ok-send.ensures.due c.in_ok-send.ensures.output
+                c.in_ok-send.ensures.writing,
           );
       phase = c.in_ok-send.ensures.phase ∙ c.loop-event.invariant.phase;
     }

@@ -7,6 +7,7 @@ use Rattle.page_clients.proofs.client.Client.catch_up.Given as goal
 
 abbrev pub invariant-loop-event : goal.invariant-loop-event
 invariant-loop-event l = record {
-  sends : IsLive (standing_of l.fn.self) → (events : List Event) × Delivers l.history events [] (standing_of l.fn.self) (standing_of l.self);
+  sends : IsLive (standing_of l.fn.self) → (events : List Event)
+      × Delivers l.history events [] (standing_of l.fn.self) (standing_of l.self);
   phase : l.self.phase ≡ l.fn.self.phase;
 }

@@ -8,7 +8,8 @@ use Rattle.page_clients.proofs.client.Client.deliver.Given as goal
 
 abbrev pub invariant-loop-write : goal.invariant-loop-write
 invariant-loop-write g l = record {
-  told : IsLive (standing_of l.fn.self) → (events : List Event) × (written : List ℕ) × Appends (g.W.Write.contents l.fn.writer) (g.W.Write.contents l.writer) written
+  told : IsLive (standing_of l.fn.self) → (events : List Event) × (written : List ℕ)
+      × Appends (g.W.Write.contents l.fn.writer) (g.W.Write.contents l.writer) written
       × Delivers l.history events written (standing_of l.fn.self) (standing_of l.self);
   phase : l.self.phase ≡ l.fn.self.phase;
 }

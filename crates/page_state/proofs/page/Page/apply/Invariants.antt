@@ -7,4 +7,5 @@ use Rattle.page_state.proofs.page.Page.apply.Given as goal
 
 abbrev pub invariant-loop-element : goal.invariant-loop-element
 invariant-loop-element l =
-    after_items (items_view (drop l.element-index l.element-items)) (state_of l.self) ≡ after_items (items_view l.element-items) (state_of l.fn.self)
+    after_items (items_view (drop l.element-index l.element-items)) (state_of l.self)
+    ≡ after_items (items_view l.element-items) (state_of l.fn.self)
