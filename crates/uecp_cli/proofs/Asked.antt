@@ -89,7 +89,7 @@ asks words m name rows task e f met none is = record {
   is_task = is;
 }
 
--- the words with no fault name one of the eleven commands
+-- the words with no fault name one of the twelve commands
 pub no_other : (words : List Text) (m : ArgMatches) (o : Option Text) → o ≡ subcommand_name_of m
     → subcommand_rows_of m ≡ subcommand_of uecp_app words → fault_of uecp_app words ≡ []
     → (o ≡ Some (codes "answer") → ⊥)
