@@ -1,5 +1,5 @@
 -- More bytes of a reading.
-use Rattle.std.proofs.Common.{◌≡◌, ◌<◌, ◌≤◌, ◌+◌, ℕ, suc, true, false, List, [], ◌∷◌, ◌++◌, refl, ◌∙◌, ap, length}
+use Rattle.std.proofs.Common.{◌≡◌, ◌<◌, ◌≤◌, ◌+◌, ℕ, suc, true, false, List, [], ◌∷◌, ◌++◌, refl, ◌∙◌, ap, sym, length}
 use Rattle.std.proofs.Common.{get_or, arith, length-append}
 use Rattle.std.proofs.lemmas.Bool.{le-ltb, lt-ltb, le-leb, ne_eqb}
 use Rattle.std.proofs.lemmas.List.{append-nil}
@@ -9,7 +9,8 @@ use Rattle.std.specs.Prelude.{Bool, Option, None, Err}
 use Rattle.uecp_frame.specs.declared.fault.FrameFault.{FrameFault}
 use Rattle.uecp_frame.specs.declared.fault.FrameFault.TheVariants.{BadStuffing, TooLong}
 use Rattle.uecp_frame.specs.Segment.{judged, content}
-use Rattle.uecp_frame.specs.OpenSegment.{inside_of}
+use Rattle.uecp_frame.specs.declared.open_segment.OpenSegment.{OpenSegment}
+use Rattle.uecp_frame.specs.OpenSegment.{inside_of, IsOpenSegment}
 use Rattle.uecp_frame.specs.Beyond.{resumed, prolonged}
 use Rattle.uecp_frame.proofs.Reading.{judged_read, unstuffed-nil, unstuffed-plain, unstuffed-escaped, unstuffed-stuck}
 use Rattle.uecp_frame.proofs.Codes.{stuffed-nil, stuffed-cons, stuffed-append, code-plain}
@@ -76,6 +77,11 @@ step_escaped p b small room =
     ap progress (ap (after p) (unstuffed-escaped 253 b [] refl small ∙ ap (after ((253 + b) ∷ [])) unstuffed-nil))
     ∙ progress-part (open_reading (p ++ (253 + b) ∷ [])) refl (rw e refl)
 
+pub step_pair : (p : List ℕ) (b : ℕ) → b < 3 → length p ≤ 260
+    → prolonged (Part (record { plain = p; rest = [] })) (253 ∷ b ∷ [])
+    ≡ Part (record { plain = p ++ (253 + b) ∷ []; rest = [] })
+step_pair p b small room = step_escaped p b small room
+
 pub step_bad : (p : List ℕ) (b : ℕ) → 3 ≤ b → length p ≤ 260
     → prolonged (Part (record { plain = p; rest = 253 ∷ [] })) (b ∷ []) ≡ Doomed (BadStuffing (1 + length (stuffed p)))
 step_bad p b large room =
@@ -113,3 +119,10 @@ inside_escaping fault p e none on = ap (λ f. inside_of f p e) none ∙ ap (λ i
 pub inside_plain : (fault : Option FrameFault) (p : List ℕ) (e : Bool) → fault ≡ None → e ≡ false
     → inside_of fault p e ≡ Part (record { plain = p; rest = [] })
 inside_plain fault p e none off = ap (λ f. inside_of f p e) none ∙ ap (λ i. inside_of None p i) off
+
+-- ---- what holds of a segment with no plain bytes
+pub opens_kept : (s : OpenSegment) → s.plain.items ≡ [] → s.sent ≡ 0 → s.is_escaping ≡ false → IsOpenSegment s
+opens_kept s none count plain = record {
+  counted = λ e. count ∙ sym (ap (λ q. length (stuffed q)) none ∙ ap length stuffed-nil);
+  room = λ e. let k : false ≡ true = sym plain ∙ e in absurd (cc);
+}

@@ -1,4 +1,4 @@
--- A table of the check by one step for eight bits.
+-- The tables of the check: one step for eight bits, and one for the first eight of sixteen.
 use Rattle.std.proofs.Common.{◌≡◌, ◌<◌, ◌+◌, ◌*◌, ◌/◌, ◌%◌, ℕ, List, [], ◌∷◌, refl, ◌∙◌, ap, sym, fold, map, replicate}
 use Rattle.std.proofs.Common.{arith, get_or, subst}
 use Rattle.std.specs.List.{range_with_len, AllByRecursion}
@@ -189,3 +189,63 @@ one_step r b hr hb =
     ∙ ap (λ x. bit_xor x (lo * 256)) (folds_byte b (b * 256) (i * 256) (omega arith) (omega arith)
     ∙ ap (λ x. bit_xor x (entry i)) (at_cancelled b hb) ∙ xor_zero_l (entry i) ∙ sym (at_entry i hi_lt))
     ∙ xor_comm (get_or table i 0) (lo * 256) ∙ ap (λ x. bit_xor x (get_or table i 0)) (sym same)
+
+-- ---- two bytes at a step
+abbrev second : List ℕ
+second = 0x0000 ∷ 0x3331 ∷ 0x6662 ∷ 0x5553 ∷ 0xCCC4 ∷ 0xFFF5 ∷ 0xAAA6 ∷ 0x9997 ∷ 0x89A9 ∷ 0xBA98 ∷ 0xEFCB ∷ 0xDCFA
+    ∷ 0x456D ∷ 0x765C ∷ 0x230F ∷ 0x103E ∷ 0x0373 ∷ 0x3042 ∷ 0x6511 ∷ 0x5620 ∷ 0xCFB7 ∷ 0xFC86 ∷ 0xA9D5 ∷ 0x9AE4 ∷ 0x8ADA
+    ∷ 0xB9EB ∷ 0xECB8 ∷ 0xDF89 ∷ 0x461E ∷ 0x752F ∷ 0x207C ∷ 0x134D ∷ 0x06E6 ∷ 0x35D7 ∷ 0x6084 ∷ 0x53B5 ∷ 0xCA22 ∷ 0xF913
+    ∷ 0xAC40 ∷ 0x9F71 ∷ 0x8F4F ∷ 0xBC7E ∷ 0xE92D ∷ 0xDA1C ∷ 0x438B ∷ 0x70BA ∷ 0x25E9 ∷ 0x16D8 ∷ 0x0595 ∷ 0x36A4 ∷ 0x63F7
+    ∷ 0x50C6 ∷ 0xC951 ∷ 0xFA60 ∷ 0xAF33 ∷ 0x9C02 ∷ 0x8C3C ∷ 0xBF0D ∷ 0xEA5E ∷ 0xD96F ∷ 0x40F8 ∷ 0x73C9 ∷ 0x269A ∷ 0x15AB
+    ∷ 0x0DCC ∷ 0x3EFD ∷ 0x6BAE ∷ 0x589F ∷ 0xC108 ∷ 0xF239 ∷ 0xA76A ∷ 0x945B ∷ 0x8465 ∷ 0xB754 ∷ 0xE207 ∷ 0xD136 ∷ 0x48A1
+    ∷ 0x7B90 ∷ 0x2EC3 ∷ 0x1DF2 ∷ 0x0EBF ∷ 0x3D8E ∷ 0x68DD ∷ 0x5BEC ∷ 0xC27B ∷ 0xF14A ∷ 0xA419 ∷ 0x9728 ∷ 0x8716 ∷ 0xB427
+    ∷ 0xE174 ∷ 0xD245 ∷ 0x4BD2 ∷ 0x78E3 ∷ 0x2DB0 ∷ 0x1E81 ∷ 0x0B2A ∷ 0x381B ∷ 0x6D48 ∷ 0x5E79 ∷ 0xC7EE ∷ 0xF4DF ∷ 0xA18C
+    ∷ 0x92BD ∷ 0x8283 ∷ 0xB1B2 ∷ 0xE4E1 ∷ 0xD7D0 ∷ 0x4E47 ∷ 0x7D76 ∷ 0x2825 ∷ 0x1B14 ∷ 0x0859 ∷ 0x3B68 ∷ 0x6E3B ∷ 0x5D0A
+    ∷ 0xC49D ∷ 0xF7AC ∷ 0xA2FF ∷ 0x91CE ∷ 0x81F0 ∷ 0xB2C1 ∷ 0xE792 ∷ 0xD4A3 ∷ 0x4D34 ∷ 0x7E05 ∷ 0x2B56 ∷ 0x1867 ∷ 0x1B98
+    ∷ 0x28A9 ∷ 0x7DFA ∷ 0x4ECB ∷ 0xD75C ∷ 0xE46D ∷ 0xB13E ∷ 0x820F ∷ 0x9231 ∷ 0xA100 ∷ 0xF453 ∷ 0xC762 ∷ 0x5EF5 ∷ 0x6DC4
+    ∷ 0x3897 ∷ 0x0BA6 ∷ 0x18EB ∷ 0x2BDA ∷ 0x7E89 ∷ 0x4DB8 ∷ 0xD42F ∷ 0xE71E ∷ 0xB24D ∷ 0x817C ∷ 0x9142 ∷ 0xA273 ∷ 0xF720
+    ∷ 0xC411 ∷ 0x5D86 ∷ 0x6EB7 ∷ 0x3BE4 ∷ 0x08D5 ∷ 0x1D7E ∷ 0x2E4F ∷ 0x7B1C ∷ 0x482D ∷ 0xD1BA ∷ 0xE28B ∷ 0xB7D8 ∷ 0x84E9
+    ∷ 0x94D7 ∷ 0xA7E6 ∷ 0xF2B5 ∷ 0xC184 ∷ 0x5813 ∷ 0x6B22 ∷ 0x3E71 ∷ 0x0D40 ∷ 0x1E0D ∷ 0x2D3C ∷ 0x786F ∷ 0x4B5E ∷ 0xD2C9
+    ∷ 0xE1F8 ∷ 0xB4AB ∷ 0x879A ∷ 0x97A4 ∷ 0xA495 ∷ 0xF1C6 ∷ 0xC2F7 ∷ 0x5B60 ∷ 0x6851 ∷ 0x3D02 ∷ 0x0E33 ∷ 0x1654 ∷ 0x2565
+    ∷ 0x7036 ∷ 0x4307 ∷ 0xDA90 ∷ 0xE9A1 ∷ 0xBCF2 ∷ 0x8FC3 ∷ 0x9FFD ∷ 0xACCC ∷ 0xF99F ∷ 0xCAAE ∷ 0x5339 ∷ 0x6008 ∷ 0x355B
+    ∷ 0x066A ∷ 0x1527 ∷ 0x2616 ∷ 0x7345 ∷ 0x4074 ∷ 0xD9E3 ∷ 0xEAD2 ∷ 0xBF81 ∷ 0x8CB0 ∷ 0x9C8E ∷ 0xAFBF ∷ 0xFAEC ∷ 0xC9DD
+    ∷ 0x504A ∷ 0x637B ∷ 0x3628 ∷ 0x0519 ∷ 0x10B2 ∷ 0x2383 ∷ 0x76D0 ∷ 0x45E1 ∷ 0xDC76 ∷ 0xEF47 ∷ 0xBA14 ∷ 0x8925 ∷ 0x991B
+    ∷ 0xAA2A ∷ 0xFF79 ∷ 0xCC48 ∷ 0x55DF ∷ 0x66EE ∷ 0x33BD ∷ 0x008C ∷ 0x13C1 ∷ 0x20F0 ∷ 0x75A3 ∷ 0x4692 ∷ 0xDF05 ∷ 0xEC34
+    ∷ 0xB967 ∷ 0x8A56 ∷ 0x9A68 ∷ 0xA959 ∷ 0xFC0A ∷ 0xCF3B ∷ 0x56AC ∷ 0x659D ∷ 0x30CE ∷ 0x03FF ∷ []
+
+second_is : map (λ (i : ℕ). fold with_bit (entry i) zeros) (range_with_len 0 256) ≡ second
+unfolding with_bit
+second_is = refl
+
+at_second : (i : ℕ) → i < 256 → get_or second i 0 ≡ fold with_bit (entry i) zeros
+at_second i h = ap (λ xs. get_or xs i 0) (sym second_is)
+    ∙ from-zero (λ (i : ℕ). fold with_bit (entry i) zeros) 256 i h
+
+entry-lt : (i : ℕ) → i < 256 → entry i < 0x10000
+entry-lt i h =
+    with_bit-lt _ 0 (omega arith) (with_bit-lt _ 0 (omega arith) (with_bit-lt _ 0 (omega arith)
+    (with_bit-lt _ 0 (omega arith) (with_bit-lt _ 0 (omega arith) (with_bit-lt _ 0 (omega arith)
+    (with_bit-lt _ 0 (omega arith) (with_bit-lt (i * 256) 0 (omega arith) (omega arith))))))))
+
+-- sixteen bit steps are one step by two tables
+pub two_steps : (r a b : ℕ) → r < 0x10000 → a < 0x100 → b < 0x100
+    → fold with_bit (fold with_bit r (bits a)) (bits b)
+    ≡ bit_xor (get_or second (bit_xor (r / 256) a) 0) (get_or table (bit_xor (r % 256) b) 0)
+two_steps r a b hr ha hb =
+    let i = bit_xor (r / 256) a in
+    let lo = r % 256 in
+    let hlo : lo < 256 = omega arith in
+    let hhi : r / 256 < 256 = omega arith in
+    let hi_lt : i < 256 = xor_lt 8 (r / 256) a hhi ha in
+    let same : r * 256 % 0x10000 ≡ lo * 256 = omega arith in
+    let none : lo * 256 * 256 % 0x10000 ≡ 0 = omega arith in
+    let upper : lo * 256 / 256 ≡ lo = omega arith in
+    ap (λ x. fold with_bit x (bits b)) (one_step r a hr ha ∙ ap (λ x. bit_xor x (get_or table i 0)) same
+    ∙ ap (bit_xor (lo * 256)) (at_entry i hi_lt))
+    ∙ folds_byte b (lo * 256) (entry i) (omega arith) (entry-lt i hi_lt)
+    ∙ ap (bit_xor (fold with_bit (lo * 256) (bits b))) (sym (at_second i hi_lt))
+    ∙ ap (λ x. bit_xor x (get_or second i 0)) (one_step (lo * 256) b (omega arith) hb
+    ∙ ap (λ x. bit_xor x (get_or table (bit_xor (lo * 256 / 256) b) 0)) none
+    ∙ xor_zero_l (get_or table (bit_xor (lo * 256 / 256) b) 0)
+    ∙ ap (λ x. get_or table (bit_xor x b) 0) upper)
+    ∙ xor_comm (get_or table (bit_xor lo b) 0) (get_or second i 0)

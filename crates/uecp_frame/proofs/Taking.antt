@@ -94,6 +94,10 @@ none_below (b ∷ z) h =
     rw (ne_eqb b 254 (λ e. absurd (omega (arith, below, e))), ne_eqb b 255 (λ e. absurd (omega (arith, below, e))))
     (none_below z (λ k l. h (suc k) (omega arith)))
 
+pub none_in_one : (b : ℕ) → b < 254 → HasNone (b ∷ [])
+none_in_one b below =
+    rw (ne_eqb b 254 (λ e. absurd (omega (arith, below, e))), ne_eqb b 255 (λ e. absurd (omega (arith, below, e)))) refl
+
 pub none_before : (z : List ℕ) (n : ℕ) → ((k : ℕ) → k < n → get_or z k 0 < 254) → n ≤ length z → (m : ℕ) → m ≤ n
     → HasNone (take m z)
 none_before z n h fits m le = none_below (take m z) (first_at z (λ b. b < 254) n h fits m le)
@@ -145,6 +149,17 @@ takes_run o rest used new some fits finds leaves = record {
   answer = finds used (omega arith);
   first = λ k l. finds k (omega arith);
   left = leaves;
+}
+
+-- a first step that uses the whole piece, or comes to a finding
+pub feeds_step : (o : OpenPart) (piece : List ℕ) (fed : Fed) (new : OpenPart) → Takes o piece fed new →
+    (fed.found ≡ Nothing → length piece ≤ fed.used) → Feeds o piece fed new
+feeds_step o piece fed new takes all = record {
+  used = takes.fits;
+  answer = takes.answer;
+  first = takes.first;
+  all = λ none. omega (arith, takes.fits, all none);
+  left = takes.left;
 }
 
 -- ---- a piece, step after step

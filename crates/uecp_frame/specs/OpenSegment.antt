@@ -1,5 +1,5 @@
 -- A segment that is read as its bytes come.
-use Rattle.std.specs.Prelude.{◌≡◌, ℕ, ◌-◌, ◌<◌, ◌≤◌, Bool, true, if◌then◌else◌, List, [], ◌∷◌, length, take, Option}
+use Rattle.std.specs.Prelude.{◌≡◌, ℕ, ◌<◌, ◌≤◌, Bool, true, false, if◌then◌else◌, List, [], ◌∷◌, length, take, Option}
 use Rattle.std.specs.Prelude.{Some, None}
 use Rattle.uecp_frame.specs.declared.fault.FrameFault.{FrameFault}
 use Rattle.uecp_frame.specs.declared.fed.Found.{Found}
@@ -9,7 +9,6 @@ use Rattle.uecp_frame.specs.declared.open_segment.OpenSegment.{OpenSegment}
 use Rattle.uecp_frame.specs.declared.open_segment.Ended.{Ended}
 use Rattle.uecp_frame.specs.declared.open_segment.Ended.TheVariants as ended
 use Rattle.uecp_frame.specs.declared.open_segment.Advanced.{Advanced}
-use Rattle.uecp_frame.specs.Check.{register_after}
 use Rattle.uecp_frame.specs.Stuffing.{stuffed}
 use Rattle.uecp_frame.specs.Segment.{frame_of, number_at}
 use Rattle.uecp_frame.specs.Findings.{OpenPart, Closed, Doomed, Part}
@@ -26,16 +25,20 @@ inside_of None plain is_escaping = Part (record { plain = plain; rest = if is_es
 abbrev pub part_of : OpenSegment → OpenPart
 part_of s = if s.is_open then inside_of s.fault s.plain.items s.is_escaping else Closed
 
--- Plain bytes but the last two are those that the check runs over, should these two be the check (profile).
-abbrev pub checked : List ℕ → List ℕ
-checked plain = take (length plain - 2) plain
-
--- While no fault is certain, the bytes that the plain ones were sent as are counted, and the register is the one after
--- the plain bytes but the last two. After an FD there is room for a plain byte (profile).
+-- While no fault is certain, the bytes that the plain ones were sent as are counted. After an FD there is room for a
+-- plain byte (profile).
 pub record IsOpenSegment (s : OpenSegment) : Type 0 where
   pub counted : s.fault ≡ None → s.sent ≡ length (stuffed s.plain.items)
-  pub register : s.fault ≡ None → s.register ≡ register_after 0xFFFF (checked s.plain.items)
   pub room : s.is_escaping ≡ true → length s.plain.items ≤ 260
+
+-- A byte below FD is a plain one more where a segment is open, its fault is not certain, no FD waits for its next byte,
+-- and there is room (profile).
+pub record TakesPlain (s : OpenSegment) (byte : ℕ) : Type 0 where
+  pub opened : s.is_open ≡ true
+  pub certain : s.fault ≡ None
+  pub plain : s.is_escaping ≡ false
+  pub below : byte < 0xFD
+  pub room : length s.plain.items < 261
 
 -- What was ended stands for what was found, a frame being that of the plain bytes (profile).
 abbrev pub found_ended : Ended → List ℕ → Found

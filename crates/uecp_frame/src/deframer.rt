@@ -1,6 +1,7 @@
 //! Frames out of a stream. Source: RDS Forum SPB 490, frame format, for segments; profile for the order of faults.
+use crate::fault::FrameFault;
 use crate::fed::Fed;
-use crate::fed_ref::FedRef;
+use crate::fed_ref::{FedRef, FoundRef};
 use crate::lending::{address_in, found_of, lent};
 use crate::open_segment::OpenSegment;
 use std::marker::Model;
@@ -90,6 +91,18 @@ impl Deframer {
         ensures lends { LendsAtMost 255 result.found }
         ensures* rests { sem 𝓛 (Rests the_row self.entry (λ d. d ≡ open_beyond self.old (take result.used piece.now))) }
     {
+        if self.segment.end_at_once(piece) {
+            return FedRef {
+                used: 1,
+                found: FoundRef::Refused(FrameFault::Unended),
+            };
+        }
+        if self.segment.add_at_once(piece) {
+            return FedRef {
+                used: 1,
+                found: FoundRef::Nothing,
+            };
+        }
         let advanced = self.segment.advance(piece);
         self.segment.address = address_in(advanced.ended, self.segment.plain.as_slice());
         FedRef {

@@ -1,7 +1,6 @@
 //! The segment that has not ended: where it begins, where it ends, and what it is then. Source: RDS Forum SPB 490,
 //! frame format; profile for the order of the faults.
 use crate::address::Address;
-use crate::check::OPENING;
 use crate::fault::FrameFault;
 use crate::frame::{END, PlainBytes, START};
 use crate::judging::judge;
@@ -35,19 +34,19 @@ pub(crate) struct OpenSegment {
     pub(crate) is_escaping: bool,
     /// How many bytes the plain ones were sent as.
     pub(crate) sent: usize,
-    /// The register of the check after the plain bytes but the last two, which may be the check.
-    pub(crate) register: u16,
     /// The address of the frame that ended last, for lending it: a deframer lends one part of itself.
     pub(crate) address: Address,
 }
 
 impl OpenSegment {
-    ghost use Rattle.std.specs.Prelude.{◌≡◌, ◌≤◌, ◌<◌, [], length};
+    ghost use Rattle.std.specs.Prelude.{◌≡◌, ◌≤◌, ◌<◌, ◌↔◌, true, false, [], length, slice_index, IsTrue};
+    ghost use Rattle.uecp_frame.specs.declared.fed.Found.TheVariants.{Nothing, Refused};
+    ghost use Rattle.uecp_frame.specs.declared.fault.FrameFault.TheVariants.{Unended};
     ghost use Rattle.uecp_frame.specs.Findings.{Closed, Part};
     ghost use Rattle.uecp_frame.specs.Beyond.{closing, unended};
     ghost use Rattle.uecp_frame.specs.Feeding.{Feeds, findings_of};
     ghost use Rattle.uecp_frame.specs.OpenSegment.{inside_of, part_of, IsOpenSegment, found_ended, fed_ended, IsWhole};
-    ghost use Rattle.uecp_frame.specs.OpenSegment.{Takes};
+    ghost use Rattle.uecp_frame.specs.OpenSegment.{Takes, TakesPlain};
 
     /// No segment is open.
     pub(crate) fn new() -> OpenSegment
@@ -60,7 +59,6 @@ impl OpenSegment {
             plain: PlainBytes::new(),
             is_escaping: false,
             sent: 0,
-            register: OPENING,
             address: Address::from_value(0),
         }
     }
@@ -79,7 +77,6 @@ impl OpenSegment {
                 plain,
                 is_escaping: self.is_escaping,
                 sent: self.sent,
-                register: self.register,
                 address: self.address,
             },
             Err(_) => unreachable!(),
@@ -93,6 +90,43 @@ impl OpenSegment {
         ensures kept { IsOpenSegment self.new }
     {
         self.is_open = false;
+    }
+
+    /// Where a segment is open and the piece begins with FE, ends it and opens the next. Tells whether it did.
+    #[inline(always)]
+    pub(crate) fn end_at_once(&mut self, piece: &[u8]) -> bool
+        requires { IsOpenSegment self.old }
+        ensures when { IsTrue result ↔ ((self.old.is_open ≡ true) × (0 < length piece.now)
+            × (slice_index piece.now 0 ≡ 254)) }
+        ensures yes { IsTrue result → Feeds (part_of self.old) piece.now (record { used = 1; found = Refused Unended })
+            (part_of self.new) }
+        ensures no { result ≡ false → self.new ≡ self.old }
+        ensures kept { IsOpenSegment self.new }
+    {
+        if self.is_open && !piece.is_empty() && piece[0] == START {
+            self.open();
+            return true;
+        }
+        false
+    }
+
+    /// Adds the one byte of a piece that is a plain one more. Tells whether it did.
+    #[inline(always)]
+    pub(crate) fn add_at_once(&mut self, piece: &[u8]) -> bool
+        requires { IsOpenSegment self.old }
+        ensures when { IsTrue result ↔ ((length piece.now ≡ 1) × TakesPlain self.old (slice_index piece.now 0)) }
+        ensures yes { IsTrue result → Feeds (part_of self.old) piece.now (record { used = 1; found = Nothing })
+            (part_of self.new) }
+        ensures no { result ≡ false → self.new ≡ self.old }
+        ensures kept { IsOpenSegment self.new }
+    {
+        if let [byte] = piece
+            && self.takes_plain(*byte)
+        {
+            self.add_one(*byte);
+            return true;
+        }
+        false
     }
 
     /// Uses the bytes of the piece up to and with the one that ends a segment, or all where none does.
@@ -154,6 +188,7 @@ impl OpenSegment {
     }
 
     /// Opens a segment at an FE, which ends one that was open.
+    #[inline(always)]
     fn open(&mut self) -> Ended
         requires { IsOpenSegment self.old }
         ensures ended { findings_of (found_ended result self.new.plain.items) ≡ unended (part_of self.old) }
@@ -167,7 +202,6 @@ impl OpenSegment {
         self.plain.clear();
         self.is_escaping = false;
         self.sent = 0;
-        self.register = OPENING;
         if was_open {
             Ended::Refused(FrameFault::Unended)
         } else {
@@ -188,7 +222,7 @@ impl OpenSegment {
                 if self.is_escaping {
                     return Ended::Refused(FrameFault::BadStuffing(1 + self.sent));
                 }
-                match judge(self.plain.as_slice(), !self.register) {
+                match judge(self.plain.as_slice()) {
                     Ok(()) => Ended::Frame,
                     Err(fault) => Ended::Refused(fault),
                 }

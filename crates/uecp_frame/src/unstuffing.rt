@@ -1,14 +1,13 @@
 //! The bytes of an open segment, taken out of their stuffing as they come. Source: RDS Forum SPB 490, byte stuffing;
 //! profile for the order of the faults.
-ghost use Rattle.std.specs.Prelude.{◌≡◌, ◌-◌, ◌≤◌, ◌<◌, ℕ, false, true, None, [], ◌∷◌, length, take, slice_index};
+ghost use Rattle.std.specs.Prelude.{◌≡◌, ◌≤◌, ◌<◌, ◌↔◌, ℕ, false, true, None, [], ◌∷◌, length, take, slice_index};
+ghost use Rattle.std.specs.Prelude.{IsTrue};
 ghost use Rattle.uecp_frame.specs.Findings.{Part};
 ghost use Rattle.uecp_frame.specs.Beyond.{prolonged};
-ghost use Rattle.uecp_frame.specs.OpenSegment.{inside_of, IsOpenSegment, checked};
-ghost use Rattle.uecp_frame.specs.Check.{register_after};
+ghost use Rattle.uecp_frame.specs.OpenSegment.{inside_of, IsOpenSegment, TakesPlain};
 
-use crate::check::after_bytes;
 use crate::fault::FrameFault;
-use crate::frame::{CHECK, ESCAPE, START, STUFFED};
+use crate::frame::{ESCAPE, START, STUFFED};
 use crate::open_segment::OpenSegment;
 use crate::searching::run_below;
 
@@ -44,7 +43,8 @@ impl OpenSegment {
         }
     }
 
-    /// Reads an FD, and the byte after it where that is there and the two stand for a plain byte.
+    /// Reads an FD: with the byte after it where the two stand for a plain byte, and with as many more such pairs as
+    /// follow at once and fit; else alone.
     fn keep_escape(&mut self, rest: &[u8]) -> usize
         requires kept { IsOpenSegment self.old }
         requires certain { self.old.fault ≡ None }
@@ -59,12 +59,21 @@ impl OpenSegment {
         ensures open { self.new.is_open ≡ self.old.is_open }
         ensures kept { IsOpenSegment self.new }
     {
-        self.escape();
-        if self.is_escaping && rest.len() > 1 && rest[1] < STUFFED {
-            self.unescape(rest[1]);
-            return 2;
+        let mut used = 0;
+        while rest.len() - used >= 2
+            && rest[used] == ESCAPE
+            && rest[used + 1] < STUFFED
+            && !self.plain.is_full()
+        {
+            self.plain.push(ESCAPE + rest[used + 1]);
+            self.sent += 2;
+            used += 2;
         }
-        1
+        if used == 0 {
+            self.escape();
+            return 1;
+        }
+        used
     }
 
     /// Reads an FD.
@@ -99,10 +108,35 @@ impl OpenSegment {
             self.plain.push(ESCAPE + byte);
             self.is_escaping = false;
             self.sent += 2;
-            self.check_more(1);
         } else {
             self.fault = Some(FrameFault::BadStuffing(1 + self.sent));
         }
+    }
+
+    /// Whether the next byte is one below FD that is a plain one more, and there is room for it.
+    #[inline(always)]
+    pub(crate) fn takes_plain(&self, byte: u8) -> bool
+        ensures { IsTrue result ↔ TakesPlain self.now byte }
+    {
+        byte < ESCAPE
+            && self.is_open
+            && self.fault.is_none()
+            && !self.is_escaping
+            && !self.plain.is_full()
+    }
+
+    /// Reads one byte below FD.
+    #[inline(always)]
+    pub(crate) fn add_one(&mut self, byte: u8)
+        requires kept { IsOpenSegment self.old }
+        requires takes { TakesPlain self.old byte }
+        ensures part { prolonged (Part (record { plain = self.old.plain.items; rest = [] })) (byte ∷ [])
+            ≡ inside_of self.new.fault self.new.plain.items self.new.is_escaping }
+        ensures open { self.new.is_open ≡ self.old.is_open }
+        ensures kept { IsOpenSegment self.new }
+    {
+        self.plain.push(byte);
+        self.sent += 1;
     }
 
     /// Reads a run of bytes below FD.
@@ -118,23 +152,8 @@ impl OpenSegment {
         ensures kept { IsOpenSegment self.new }
     {
         match self.plain.try_extend_from_slice(run) {
-            Ok(()) => {
-                self.sent += run.len();
-                self.check_more(run.len());
-            }
+            Ok(()) => self.sent += run.len(),
             Err(_) => self.fault = Some(FrameFault::TooLong),
         }
-    }
-
-    /// Takes the register along after so many more plain bytes.
-    fn check_more(&mut self, more: usize)
-        requires fits { more ≤ length self.old.plain.items }
-        requires before { self.old.register ≡ register_after 0xFFFF
-            (checked (take (length self.old.plain.items - more) self.old.plain.items)) }
-        ensures { self.new ≡ record self.old { register = register_after 0xFFFF (checked self.old.plain.items) } }
-    {
-        let end = self.plain.len().saturating_sub(CHECK);
-        let start = (self.plain.len() - more).saturating_sub(CHECK);
-        self.register = after_bytes(self.register, &self.plain.as_slice()[start..end]);
     }
 }

@@ -1,10 +1,8 @@
-use Rattle.std.proofs.Common.{◌-◌, ◌+◌, ◌∙◌, ℕ, ap, sym, length, arith, Ok, Err, [], ◌∷◌}
+use Rattle.std.proofs.Common.{◌+◌, ◌∙◌, ℕ, ap, sym, length, arith, Ok, Err, [], ◌∷◌}
 use Rattle.uecp_frame.specs.declared.fault.FrameFault.TheVariants.{BadStuffing}
-use Rattle.uecp_frame.specs.Check.{check}
 use Rattle.uecp_frame.specs.Segment.{content, frame_of}
 use Rattle.uecp_frame.specs.Findings.{Finding}
 use Rattle.uecp_frame.specs.Beyond.{closing}
-use Rattle.uecp_frame.specs.OpenSegment.{checked}
 use Rattle.uecp_frame.proofs.Resumed.{length-stuffed-le}
 use Rattle.uecp_frame.proofs.Steps.{close_escaping, close_whole, inside_escaping, inside_plain}
 use Rattle.uecp_frame.proofs.open_segment.OpenSegment.judged.Goals as goal
@@ -23,11 +21,6 @@ returns-then-self-clause-findings c =
     ap (λ o. closing o [] 255) (inside_escaping now.fault now.plain.items now.is_escaping c.in-None.is c.if-self.true)
     ∙ ap (λ j. j ∷ []) (close_escaping now.plain.items (c.requires.room c.if-self.true)
     ∙ ap (λ (n : ℕ). let f : Finding = Err (BadStuffing (1 + n)) in f) (sym (c.requires.counted c.in-None.is)))
-
-pub judge-requires-clause-check : goal.judge-requires-clause-check
-unfolding check
-judge-requires-clause-check c = ap (λ (r : ℕ). 65535 - r) (c.requires.register c.in-None.is)
-    ∙ ap (λ p. check (checked p)) (sym c.as_slice.ensures.value)
 
 pub returns-in-Ok-clause-findings : goal.returns-in-Ok-clause-findings
 returns-in-Ok-clause-findings c =

@@ -1,8 +1,7 @@
-use Rattle.std.proofs.Common.{◌≡◌, ◌+◌, ◌∙◌, ℕ, [], ap, sym, refl, length, arith, true, false, subst}
+use Rattle.std.proofs.Common.{◌≡◌, ◌+◌, ◌∙◌, ℕ, [], ap, sym, refl, length, arith, true, false}
 use Rattle.uecp_frame.specs.declared.fault.FrameFault.TheVariants.{BadStuffing}
 use Rattle.uecp_frame.specs.Stuffing.{stuffed}
 use Rattle.uecp_frame.specs.Findings.{Doomed, Part}
-use Rattle.uecp_frame.specs.OpenSegment.{inside_of, IsOpenSegment}
 use Rattle.uecp_frame.proofs.Codes.{length-stuffed-escaped}
 use Rattle.uecp_frame.proofs.Resumed.{length-stuffed-le}
 use Rattle.uecp_frame.proofs.Steps.{step_escaped, step_bad, inside_plain}
@@ -28,18 +27,16 @@ pub returns-then-byte-lt-STUFFED-clause-part : goal.returns-then-byte-lt-STUFFED
 returns-then-byte-lt-STUFFED-clause-part c =
     let now = c.args.self.now in
     step_escaped now.plain.items c.args.byte c.if-byte-lt-STUFFED.true (c.requires.kept.room c.requires.escaping)
-    ∙ sym (ap (λ s. inside_of s.fault s.plain.items s.is_escaping) c.check_more.ensures
-    ∙ inside_plain now.fault c.push.new.self.items false c.requires.certain refl
+    ∙ sym (inside_plain now.fault c.push.new.self.items false c.requires.certain refl
     ∙ ap (λ q. Part (record { plain = q; rest = [] })) c.push.ensures.items)
 
 pub returns-then-byte-lt-STUFFED-clause-kept : goal.returns-then-byte-lt-STUFFED-clause-kept
-returns-then-byte-lt-STUFFED-clause-kept c = subst IsOpenSegment (sym c.check_more.ensures) (record {
+returns-then-byte-lt-STUFFED-clause-kept c = record {
   counted = λ e. ap (λ (n : ℕ). n + 2) (c.requires.kept.counted c.requires.certain)
       ∙ sym (ap (λ q. length (stuffed q)) c.push.ensures.items
       ∙ length-stuffed-escaped c.args.self.now.plain.items c.args.byte c.if-byte-lt-STUFFED.true);
-  register = λ e. refl;
   room = λ e. let k : false ≡ true = e in absurd (cc);
-})
+}
 
 pub returns-else-byte-lt-STUFFED-clause-part : goal.returns-else-byte-lt-STUFFED-clause-part
 returns-else-byte-lt-STUFFED-clause-part c =
