@@ -1,5 +1,6 @@
 //! Frames and segments that are none, as lines (profile).
-ghost use Rattle.std.specs.Prelude.{flat_map};
+ghost use Rattle.std.specs.Prelude.{◌≢◌, flat_map};
+ghost use Rattle.uecp_frame.specs.declared.fault.FrameFault.TheVariants.{Unended};
 ghost use Rattle.uecp_frame.specs.Feeding.{findings_of};
 ghost use Rattle.uecp_elements.specs.Reading.{items};
 ghost use Rattle.uecp_elements.specs.View.{item_of};
@@ -58,12 +59,23 @@ fn put_item(read: Result<Element<'_>, ElementFault>, output: &mut Output)
 }
 
 /// The line of a segment that is no frame: the number and the name of its fault, and its place if it has one.
-#[inline]
+#[inline(always)]
 pub fn put_fault(fault: FrameFault, output: &mut Output)
     ensures { Adds output.old output.new (dropped_line fault) }
 {
     match fault {
         FrameFault::Unended => output.text("dropped 1 Unended\n"),
+        _ => put_judged(fault, output),
+    }
+}
+
+/// The same where an FF ended the segment.
+fn put_judged(fault: FrameFault, output: &mut Output)
+    requires { fault ≢ Unended }
+    ensures { Adds output.old output.new (dropped_line fault) }
+{
+    match fault {
+        FrameFault::Unended => unreachable!(),
         FrameFault::BadStuffing(place) => {
             output.text("dropped 2 BadStuffing");
             output.decimal(place);

@@ -7,3 +7,5 @@ pub mod Wholes
 pub mod Decimals
 pub mod Pieces
 pub mod Parts
+pub mod TwoDigits
+pub mod DigitValues

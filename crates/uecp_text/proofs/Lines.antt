@@ -1,10 +1,12 @@
 -- The first line of an input.
 use Rattle.std.proofs.Common.{◌≡◌, ℕ, ◌+◌, ◌<◌, ◌==◌, suc, true, false, not, cond, get_or, List, [], ◌∷◌, length, take}
-use Rattle.std.proofs.Common.{drop, refl, ◌∙◌, ap, sym, arith, inl, inr, Bool}
+use Rattle.std.proofs.Common.{drop, refl, ◌∙◌, ap, sym, arith, inl, inr, Bool, ◌-◌, ◌≤◌, subst}
 use Rattle.std.specs.List.{prefix_len, onto_first}
 use Rattle.std.proofs.lemmas.Bool.{cases_Bool, eqb-true}
 use Rattle.std.proofs.lemmas.List.Sums.{prefix_len_is}
 use Rattle.memchr.specs.Find.{is_byte, Passes, Nowhere, NoneBefore}
+use Rattle.memchr.proofs.lemmas.FindLemmas.{Nowhere-then, Nowhere-more}
+use Rattle.std.proofs.lemmas.List.{get_or-drop, length-drop}
 use Rattle.uecp_text.specs.Input.{lines_of}
 
 -- the number of bytes before the first line feed
@@ -94,3 +96,52 @@ first_alone input some nowhere =
 pub empty_is : (xs : List ℕ) → true ≡ (length xs == 0) → xs ≡ []
 empty_is [] h = refl
 empty_is (x ∷ xs) h = absurd (let k : suc (length xs) ≡ 0 = eqb-true (suc (length xs)) 0 (sym h) in omega arith)
+
+-- ---- a line feed near the start, or behind
+-- behind this many bytes there is none at the places before this one of the rest
+nowhere_behind : (input : List ℕ) (near count : ℕ) → Nowhere (Passes (is_byte 0x0A) (drop near input)) 0 count
+    → Nowhere (Passes (is_byte 0x0A) input) near (near + count)
+nowhere_behind input near count nowhere k low below there =
+    let place : near + (k - near) ≡ k = omega arith in
+    nowhere (k - near) (omega arith) (omega arith)
+    (ap (λ byte. byte == 0x0A) (get_or-drop near input (k - near) 0)
+    ∙ ap (λ i. get_or input i 0 == 0x0A) place ∙ there)
+
+pub near_more : (input : List ℕ) (place : ℕ) → Nowhere (Passes (is_byte 0x0A) input) 0 place
+    → (get_or input place 0 ≡ 0x0A → ⊥) → Nowhere (Passes (is_byte 0x0A) input) 0 (place + 1)
+near_more input place nowhere other = Nowhere-more nowhere (λ there. other (eqb-true (get_or input place 0) 0x0A there))
+
+pub near_found : (input : List ℕ) (place : ℕ) → Nowhere (Passes (is_byte 0x0A) input) 0 place → place < length input
+    → get_or input place 0 ≡ 0x0A → NoneBefore (Passes (is_byte 0x0A) input) 0 (length input) place
+    × Passes (is_byte 0x0A) input place
+near_found input place nowhere within there = (
+  record {
+    low = omega arith;
+    high = within;
+    before = nowhere;
+  },
+  ap (λ byte. byte == 0x0A) there,
+)
+
+pub behind_found : (input rest : List ℕ) (near place : ℕ) → near ≤ length input → rest ≡ drop near input
+    → Nowhere (Passes (is_byte 0x0A) input) 0 near
+    → NoneBefore (Passes (is_byte 0x0A) rest) 0 (length rest) place × Passes (is_byte 0x0A) rest place
+    → NoneBefore (Passes (is_byte 0x0A) input) 0 (length input) (near + place)
+    × Passes (is_byte 0x0A) input (near + place)
+behind_found input rest near place within is nowhere (first, at) = (
+  record {
+    low = omega arith;
+    high = let high = first.high in omega (arith, high, length-drop near input, ap length is);
+    before = Nowhere-then nowhere (nowhere_behind input near place
+        (subst (λ r. Nowhere (Passes (is_byte 0x0A) r) 0 place) is first.before));
+  },
+  ap (λ byte. byte == 0x0A) (sym (get_or-drop near input place 0)) ∙ subst (λ r. Passes (is_byte 0x0A) r place) is at,
+)
+
+pub behind_none : (input rest : List ℕ) (near : ℕ) → near ≤ length input → rest ≡ drop near input
+    → Nowhere (Passes (is_byte 0x0A) input) 0 near → Nowhere (Passes (is_byte 0x0A) rest) 0 (length rest)
+    → Nowhere (Passes (is_byte 0x0A) input) 0 (length input)
+behind_none input rest near within is nowhere none =
+    let all : near + length rest ≡ length input = omega (arith, length-drop near input, ap length is) in
+    Nowhere-then nowhere (subst (λ n. Nowhere (Passes (is_byte 0x0A) input) near n) all
+    (nowhere_behind input near (length rest) (subst (λ r. Nowhere (Passes (is_byte 0x0A) r) 0 (length rest)) is none)))

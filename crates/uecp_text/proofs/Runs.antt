@@ -1,6 +1,6 @@
 -- Runs over texts, part by part.
 use Rattle.std.proofs.Common.{◌≡◌, ℕ, ◌+◌, List, [], ◌∷◌, ◌++◌, Option, Some, None, Err, refl, sym, ap, ◌∙◌}
-use Rattle.std.proofs.Common.{append_assoc, append-nil, inl, inr, subst, true, Result, Ok, ◌⊎◌}
+use Rattle.std.proofs.Common.{append_assoc, append-nil, inl, inr, subst, true, ◌⊎◌}
 use Rattle.uecp_text.specs.declared.text_fault.TextFault.{TextFault}
 use Rattle.uecp_text.specs.declared.text_fault.TextFault.TheVariants as flaw
 use Rattle.uecp_text.specs.declared.run_fault.RunFault.{RunFault}
@@ -92,48 +92,43 @@ refuses_one : {V : Type 0} (meaning : Meaning V) (v v' : V) (number : ℕ) (text
     → meaning v text (Refuses fault) v' → Runs meaning v ((number, text) ∷ []) [] (Some (run.Text number fault)) v'
 refuses_one meaning v v' number text fault said = inr (inl (fault, said, refl, refl))
 
--- what says how a run goes on after a text that was taken
-abbrev pub gone_on : Taken → Result (Unit {0}) RunFault
-gone_on taken.GoesOn = Ok tt
-gone_on taken.Ends = Err run.Outstanding
-
--- a text that brought its lines into an empty output, which were then added
-pub taken_one : {V : Type 0} (meaning : Meaning V) (v v' : V) (number : ℕ) (text : Option (List ℕ)) (said : List ℕ)
-    (turn : Taken) (empty took before after : Kept) →
-    text ≡ Some said → empty.bytes ≡ [] → empty.is_whole ≡ true
-    → (lines : List ℕ) × meaning v said (outcome_of turn lines) v' × Writes empty took lines →
-    after.bytes ≡ before.bytes ++ took.bytes → after.is_whole ≡ before.is_whole
-    → RunsOn meaning v (under number text []) before (gone_on turn) v' after
-taken_one meaning v v' number text said turn empty took before after text_is none whole (lines, came, writes) added
-    same =
-    subst (λ t. RunsOn meaning v (under number t []) before (gone_on turn) v' after) (sym text_is) (by_turn turn came)
-  where
-    wrote : Writes before after lines
-    wrote = writes_added empty took before after lines none whole writes added same
-
-    by_turn : (turn : Taken) → meaning v said (outcome_of turn lines) v'
-        → RunsOn meaning v ((number, said) ∷ []) before (gone_on turn) v' after
-    by_turn taken.GoesOn came = (lines, takes_one meaning v v' number said lines came, wrote)
-    by_turn taken.Ends came = inr (lines, inr (inr (came, refl)), wrote)
+-- a text that was taken, and ends the run
+pub ended_one : {V : Type 0} (meaning : Meaning V) (v v' : V) (number : ℕ) (text : Option (List ℕ)) (said : List ℕ)
+    (turn : Taken) (before after : Kept) →
+    text ≡ Some said → turn ≡ taken.Ends
+    → (lines : List ℕ) × meaning v said (outcome_of turn lines) v' × Writes before after lines
+    → (lines : List ℕ) × Runs meaning v (under number text []) lines (Some run.Outstanding) v'
+    × Writes before after lines
+ended_one meaning v v' number text said turn before after text_is ends (lines, came, wrote) = (
+  lines,
+  subst (λ t. Runs meaning v (under number t []) lines (Some run.Outstanding) v') (sym text_is)
+      (inr (inr (subst (λ t. meaning v said (outcome_of t lines) v') ends came, refl))),
+  wrote,
+)
 
 -- a text whose taking failed with this fault, which the run reports under the line's number
 pub failed_one : {V : Type 0} (meaning : Meaning V) (v v' : V) (number : ℕ) (text : Option (List ℕ)) (said : List ℕ)
-    (fault : TextFault) (reported : RunFault) (empty took out : Kept) →
+    (fault : TextFault) (reported : RunFault) (before after : Kept) →
     text ≡ Some said → reported ≡ fault_at number fault
-    → (fault ≡ flaw.OutOfMemory) ⊎ (meaning v said (Refuses fault) v' × Writes empty took []) →
-    RunsOn meaning v (under number text []) out (Err reported) v' out
-failed_one meaning v v' number text said fault reported empty took out text_is reported_is failed =
-    subst (λ t. RunsOn meaning v (under number t []) out (Err reported) v' out) (sym text_is)
-    (subst (λ r. RunsOn meaning v ((number, said) ∷ []) out (Err r) v' out) (sym reported_is) (by_fault fault failed))
+    → (fault ≡ flaw.OutOfMemory) ⊎ (meaning v said (Refuses fault) v' × Writes before after [])
+    → (reported ≡ run.OutOfMemory) ⊎ ((lines : List ℕ)
+    × Runs meaning v (under number text []) lines (Some reported) v' × Writes before after lines)
+failed_one {V} meaning v v' number text said fault reported before after text_is reported_is failed =
+    subst (λ t. Failed t reported) (sym text_is) (subst (λ r. Failed (Some said) r) (sym reported_is)
+    (by_fault fault failed))
   where
-    named : (fault : TextFault) → meaning v said (Refuses fault) v' × Writes empty took []
-        → RunsOn meaning v ((number, said) ∷ []) out (Err (run.Text number fault)) v' out
-    named fault (refused, writes) = inr ([], refuses_one meaning v v' number said fault refused, writes_nothing out)
+    Failed : Option (List ℕ) → RunFault → Type 0
+    Failed text reported = (reported ≡ run.OutOfMemory) ⊎ ((lines : List ℕ)
+        × Runs meaning v (under number text []) lines (Some reported) v' × Writes before after lines)
+
+    named : (fault : TextFault) → meaning v said (Refuses fault) v' × Writes before after []
+        → Failed (Some said) (run.Text number fault)
+    named fault (refused, writes) = inr ([], refuses_one meaning v v' number said fault refused, writes)
 
     by_fault : (fault : TextFault) → (fault ≡ flaw.OutOfMemory)
-        ⊎ (meaning v said (Refuses fault) v' × Writes empty took [])
-        → RunsOn meaning v ((number, said) ∷ []) out (Err (fault_at number fault)) v' out
-    by_fault flaw.OutOfMemory h = wanting meaning v v' ((number, said) ∷ []) out
+        ⊎ (meaning v said (Refuses fault) v' × Writes before after [])
+        → Failed (Some said) (fault_at number fault)
+    by_fault flaw.OutOfMemory h = inl refl
     by_fault flaw.NotHex h = elim h [
       | inl e ↦ absurd (let n : flaw.NotHex ≡ flaw.OutOfMemory = e in cc)
       | inr s ↦ named flaw.NotHex s
@@ -154,6 +149,41 @@ failed_one meaning v v' number text said fault reported empty took out text_is r
       | inl e ↦ absurd (let n : flaw.Unsaid unsaid ≡ flaw.OutOfMemory = e in cc)
       | inr s ↦ named (flaw.Unsaid unsaid) s
     ]
+
+-- ---- lines that are kept until there are many
+-- What is kept once the lines are added to the output.
+abbrev pub both : Kept → Kept → Kept
+both output lines = record { bytes = output.bytes ++ lines.bytes; is_whole = output.is_whole }
+
+-- more lines, behind those that are whole
+pub both_more : (output before after : Kept) (more : List ℕ) → before.is_whole ≡ true → Writes before after more
+    → Writes (both output before) (both output after) more
+both_more output before after more whole wrote = λ w. (
+  w,
+  ap (λ bytes. output.bytes ++ bytes) (wrote whole).1 ∙ sym (append_assoc output.bytes before.bytes more),
+)
+
+pub still_whole : (before after : Kept) (more : List ℕ) → before.is_whole ≡ true → Writes before after more
+    → after.is_whole ≡ true
+still_whole before after more whole wrote = (wrote whole).0
+
+-- they were added, and no line is kept
+pub both_added : (output output' lines none : Kept) → output'.bytes ≡ output.bytes ++ lines.bytes
+    → output'.is_whole ≡ output.is_whole → none.bytes ≡ [] → both output lines ≡ both output' none
+both_added output output' lines none added same empty = λ i. record {
+  bytes = (sym added ∙ sym (append-nil output'.bytes) ∙ ap (λ l. output'.bytes ++ l) (sym empty)) i;
+  is_whole = sym same i;
+}
+
+pub both_out : (output output' lines : Kept) → output'.bytes ≡ output.bytes ++ lines.bytes
+    → output'.is_whole ≡ output.is_whole → both output lines ≡ output'
+both_out output output' lines added same = λ i. record { bytes = sym added i; is_whole = sym same i }
+
+pub both_none : (output none : Kept) → none.bytes ≡ [] → both output none ≡ output
+both_none output none empty = λ i. record {
+  bytes = (ap (λ l. output.bytes ++ l) empty ∙ append-nil output.bytes) i;
+  is_whole = output.is_whole;
+}
 
 -- ---- one line after another
 -- The texts before these were taken, and what they brought is written.
@@ -233,6 +263,36 @@ module _ {V : Type 0} (meaning : Meaning V) (start v : V) (texts : List (ℕ × 
       writes_then first out out' led.0 lines led.2 wrote,
     )
   ]
+
+-- so what was written is what some first texts bring
+pub led_some : {V : Type 0} (meaning : Meaning V) (start v : V) (texts : List (ℕ × List ℕ)) (first : Kept)
+    (left : List (ℕ × List ℕ)) (out : Kept) →
+    Led meaning start texts first v left out
+    → (lines : List ℕ) × RunsFirst meaning start texts lines × Writes first out lines
+led_some meaning start v texts first left out (so_far, done, wrote, texts_are, ran) =
+    (so_far, (done, left, v, texts_are, ran), wrote)
+
+-- The texts so far were taken, and what they brought is written or kept in whole lines; what is written is what some
+-- first texts bring.
+abbrev pub Waits : {V : Type 0} → Meaning V → V → List (ℕ × List ℕ) → Kept → V → List (ℕ × List ℕ)
+    → (output lines : Kept)
+    → Type 0
+Waits meaning start texts first v left output lines =
+    (lines.is_whole ≡ true) × Led meaning start texts first v left (both output lines)
+    × ((written : List ℕ) × RunsFirst meaning start texts written × Writes first output written)
+
+-- the lines were added to the output
+pub waits_added : {V : Type 0} (meaning : Meaning V) (start v : V) (texts left : List (ℕ × List ℕ))
+    (first output output' lines none : Kept) →
+    Waits meaning start texts first v left output lines → output'.bytes ≡ output.bytes ++ lines.bytes
+    → output'.is_whole ≡ output.is_whole → none.bytes ≡ [] → none.is_whole ≡ true
+    → Waits meaning start texts first v left output' none
+waits_added meaning start v texts left first output output' lines none (whole, led, some) added same empty now_whole = (
+  now_whole,
+  subst (λ out. Led meaning start texts first v left out) (both_added output output' lines none added same empty) led,
+  led_some meaning start v texts first left output'
+      (subst (λ out. Led meaning start texts first v left out) (both_out output output' lines added same) led),
+)
 
 pub led_end : {V : Type 0} (meaning : Meaning V) (start v : V) (texts : List (ℕ × List ℕ)) (first out : Kept)
     (number : ℕ) (rest : List ℕ) →

@@ -59,6 +59,16 @@ Takes meaning v text before result v' after =
     (λ taken. (lines : List ℕ) × meaning v text (outcome_of taken lines) v' × Writes before after lines)
     (λ fault. (fault ≡ flaw.OutOfMemory) ⊎ (meaning v text (Refuses fault) v' × Writes before after []))
 
+-- What the text of a line brings, if there is one, was added to the lines, and where the run stops there the result
+-- says why; or memory was wanting, and nothing is said of the lines.
+abbrev pub TakesLine : {V : Type 0} → Meaning V → V → List (ℕ × List ℕ) → Kept → Result (Unit {0}) RunFault → V → Kept
+    → Type 0
+TakesLine meaning v texts before result v' after =
+    MatchResult result
+    (λ _. (lines : List ℕ) × Runs meaning v texts lines None v' × Writes before after lines)
+    (λ fault. (fault ≡ run.OutOfMemory) ⊎ ((lines : List ℕ) × Runs meaning v texts lines (Some fault) v'
+    × Writes before after lines))
+
 -- Some first texts of these, or all, were taken one after another, and bring these lines.
 abbrev pub RunsFirst : {V : Type 0} → Meaning V → V → List (ℕ × List ℕ) → List ℕ → Type 0
 RunsFirst {V} meaning v texts lines = (first : List (ℕ × List ℕ)) × (later : List (ℕ × List ℕ)) × (v' : V)

@@ -1,5 +1,6 @@
 //! Standard input and its lines (profile).
 ghost use Rattle.std.specs.Prelude.{◌≡◌, ◌<◌, ◌≤◌, ◌∷◌, ℕ, List, Err, IfOk, IfErr, option_copied, length, drop};
+ghost use Rattle.memchr.specs.Find.{IsFirstByte, is_byte};
 ghost use Rattle.uecp_text.specs.Input.{lines_of, without_end, without_last_spaces, trimmed, said};
 ghost use Rattle.uecp_text.specs.Run.{IsInput, IsUnread};
 
@@ -13,6 +14,9 @@ const INPUT_MAX: usize = 1_048_576;
 
 /// The most bytes that one read asks for.
 const READ_MAX: usize = 4096;
+
+/// So many bytes of a line are looked at one by one for its end.
+const NEAR: usize = 3;
 
 /// All of the input up to its end.
 ///
@@ -77,9 +81,26 @@ pub fn first_input_line(input: &[u8]) -> (&[u8], &[u8])
     ensures lines { lines_of input.now ≡ result.0.now ∷ lines_of result.1.now }
     ensures shorter { length result.1.now < length input.now }
 {
-    match memchr(b'\n', input) {
+    match line_feed(input) {
         Some(place) => input.split_at(place + 1),
         None => (input, &[]),
+    }
+}
+
+/// The place of the first line feed. The first bytes are looked at one by one, since in a short line it is among them.
+#[inline(always)]
+fn line_feed(input: &[u8]) -> Option<usize>
+    ensures { IsFirstByte (is_byte 0x0A) input.now result }
+{
+    let near = input.len().min(NEAR);
+    'near: for place in 0..near {
+        if input[place] == b'\n' {
+            return Some(place);
+        }
+    }
+    match memchr(b'\n', &input[near..]) {
+        Some(place) => Some(near + place),
+        None => None,
     }
 }
 

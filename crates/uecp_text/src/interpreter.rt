@@ -1,6 +1,6 @@
 //! What takes the texts of an input, and the run over them (profile).
-ghost use Rattle.std.specs.Prelude.{ℕ, List, []};
-ghost use Rattle.uecp_text.specs.Run.{Meaning, Takes, RunsOn, RunsInto, RunsWhole};
+ghost use Rattle.std.specs.Prelude.{◌≡◌, ℕ, List, [], true};
+ghost use Rattle.uecp_text.specs.Run.{Meaning, Takes, TakesLine, RunsOn, RunsInto, RunsWhole};
 ghost use Rattle.uecp_text.specs.Input.{said, under, texts_of};
 ghost use Rattle.uecp_text.specs.Written.{Adds};
 
@@ -77,7 +77,8 @@ fn run_into<I: Interpreter>(
     Ok(output.append(&lines)?)
 }
 
-/// Takes what the lines of the input say, up to the first text at which the run stops.
+/// Takes what the lines of the input say, up to the first text at which the run stops. What they bring is kept in
+/// `lines` until that is long, and then added to the output; so where memory is wanting the output stays.
 fn run_lines<I: Interpreter>(
     alloc: Global,
     input: &[u8],
@@ -85,21 +86,34 @@ fn run_lines<I: Interpreter>(
     lines: &mut Output,
     output: &mut Output,
 ) -> Result<(), RunFault>
+    requires empty { lines.old.bytes ≡ [] }
+    requires whole { lines.old.is_whole ≡ true }
     ensures { RunsOn I.meaning interpreter.old (texts_of input.now) output.old result interpreter.new output.new }
 {
     let mut rest = input;
     let mut number = 1;
     while !rest.is_empty() {
         let (line, more) = first_input_line(rest);
-        take_line(alloc, number, line, interpreter, lines, output)?;
+        match take_line(alloc, number, line, interpreter, lines) {
+            Ok(()) => {}
+            Err(RunFault::OutOfMemory) => return Err(RunFault::OutOfMemory),
+            Err(fault) => {
+                output.append(lines)?;
+                return Err(fault);
+            }
+        }
+        if lines.is_long() {
+            output.append(lines)?;
+            lines.clear();
+        }
         rest = more;
         number += 1;
     }
-    Ok(())
+    Ok(output.append(lines)?)
 }
 
-/// Takes what the line of this number says, if it says anything. What it brings is kept in `lines` until it is whole,
-/// and then added to the output; so where memory is wanting the output stays.
+/// Takes what the line of this number says, if it says anything, and adds what it brings to the lines. Where memory is
+/// wanting nothing is said of them.
 #[inline(always)]
 fn take_line<I: Interpreter>(
     alloc: Global,
@@ -107,22 +121,16 @@ fn take_line<I: Interpreter>(
     line: &[u8],
     interpreter: &mut I,
     lines: &mut Output,
-    output: &mut Output,
 ) -> Result<(), RunFault>
-    ensures { RunsOn I.meaning interpreter.old (under number (said line.now) []) output.old result interpreter.new
-        output.new }
+    ensures { TakesLine I.meaning interpreter.old (under number (said line.now) []) lines.old result interpreter.new
+        lines.new }
 {
     let Some(text) = text_of(line) else {
         return Ok(());
     };
-    lines.clear();
-    let taken = match interpreter.take(alloc, text, lines) {
-        Ok(taken) => taken,
-        Err(fault) => return Err(fault.at(number)),
-    };
-    output.append(lines)?;
-    match taken {
-        Taken::GoesOn => Ok(()),
-        Taken::Ends => Err(RunFault::Outstanding),
+    match interpreter.take(alloc, text, lines) {
+        Ok(Taken::GoesOn) => Ok(()),
+        Ok(Taken::Ends) => Err(RunFault::Outstanding),
+        Err(fault) => Err(fault.at(number)),
     }
 }

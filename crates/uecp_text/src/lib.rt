@@ -12,6 +12,7 @@
 //! - [`PieceBuffer`]: the bytes that a whole text spells, in room that is kept from one text to the next.
 #![tactic(auto)]
 
+mod digit_tables;
 mod input;
 mod interpreter;
 pub mod laws;

@@ -1,5 +1,6 @@
 //! The lines that a run writes (profile).
-ghost use Rattle.std.specs.Prelude.{◌≡◌, ◌==◌, ◌*◌, ◌/◌, ◌%◌, ◌++◌, ◌↔◌, [], ◌∷◌, length, slice_index, true, IsOk};
+ghost use Rattle.std.specs.Prelude.{◌≡◌, ◌==◌, ◌*◌, ◌/◌, ◌%◌, ◌++◌, ◌↔◌, [], ◌∷◌, length, slice_index, nat_le, true};
+ghost use Rattle.std.specs.Prelude.{IsOk};
 ghost use Rattle.std.specs.Prelude.{OnOk, OnErr, IfErr, IsTrue, codes, decimal, if◌then◌else◌};
 ghost use Rattle.std.specs.Io.KnownBytes.{Appends};
 ghost use Rattle.hex.specs.Hex.{encode_upper, upper_digits};
@@ -7,15 +8,13 @@ ghost use Rattle.uecp_text.specs.Digits.{byte_word, number_word, row_word, decim
 ghost use Rattle.uecp_text.specs.declared.run_fault.RunFault.TheVariants.{Writing};
 ghost use Rattle.uecp_text.specs.Written.{Kept, Adds, AddsFirst, Begins};
 
+use crate::digit_tables::PAIRS;
 use crate::run_fault::RunFault;
 use crate::whole_writes::write_whole;
 use itoa::Buffer;
 use std::alloc::{AllocError, Global};
 use std::io::Write;
 use std::marker::Model;
-
-/// The digits of 0 to 15, in upper case.
-const DIGITS: &[u8; 16] = b"0123456789ABCDEF";
 
 /// How many bytes are copied at once.
 const PIECE: usize = 4096;
@@ -54,6 +53,14 @@ impl Output {
     {
         self.bytes.truncate(0);
         self.is_whole = true;
+    }
+
+    /// Whether it keeps so much that copying it costs more than the call.
+    #[inline(always)]
+    pub(crate) fn is_long(&self) -> bool
+        ensures { result ≡ nat_le 4096 (length self.now.bytes) }
+    {
+        self.bytes.len() >= PIECE
     }
 
     /// Adds what another output keeps; nothing where memory is refused.
@@ -232,12 +239,10 @@ fn spell(bytes: &[u8], room: &mut [u8])
 }
 
 /// The two upper case digits of the byte, that of its high four bits first.
-#[inline]
+#[inline(always)]
+#[tactic(auto, using(crate::proofs::TwoDigits::entry_at))]
 fn pair(byte: u8) -> [u8; 2]
     ensures { result ≡ slice_index upper_digits (byte / 16) ∷ slice_index upper_digits (byte % 16) ∷ [] }
 {
-    [
-        DIGITS[usize::from(byte >> 4)],
-        DIGITS[usize::from(byte & 0x0f)],
-    ]
+    PAIRS[usize::from(byte)]
 }

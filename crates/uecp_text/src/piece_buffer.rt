@@ -1,12 +1,17 @@
 //! Room for the bytes of one text after another (profile).
-ghost use Rattle.std.specs.Prelude.{◌≡◌, ◌⊎◌, ◌==◌, not, filter, true, false, Ok, IfOk, IfErr, IsErr};
-ghost use Rattle.hex.specs.Hex.{decode_of};
+ghost use Rattle.std.specs.Prelude.{◌≡◌, ◌<◌, ◌≤◌, ◌*◌, ◌⊎◌, ◌==◌, ℕ, not, filter, length, true, false, Ok, IfOk};
+ghost use Rattle.std.specs.Prelude.{IfErr, IsErr};
+ghost use Rattle.hex.specs.Hex.{decode_of, pair_value};
 ghost use Rattle.uecp_text.specs.declared.text_fault.TextFault.TheVariants.{NotHex, OutOfMemory};
 ghost use Rattle.uecp_text.specs.Words.{bytes_in};
 
+use crate::digit_tables::{HIGH, LOW};
 use crate::text_fault::TextFault;
 use std::alloc::{AllocError, Global};
 use std::marker::Model;
+
+/// What two characters come to, or more, where one of them is no digit.
+const NO_BYTE: u16 = 0x100;
 
 /// Room for the bytes that a text spells. It is kept from one text to the next, so memory is taken only for a text that
 /// is longer than all before it. Contracts see nothing of what it holds.
@@ -77,8 +82,53 @@ fn decode(text: &[u8], bytes: &mut Vec<u8>) -> Result<bool, AllocError>
     ensures bytes { result ≡ Ok true → decode_of text.now ≡ Ok bytes.new.items }
     ensures refused { result ≡ Ok false → IsErr (decode_of text.now) }
 {
+    if text.len() % 2 != 0 {
+        return Ok(false);
+    }
     bytes.resize(text.len() / 2, 0)?;
-    Ok(hex::decode_to_slice(text, bytes.as_mut_slice()).is_ok())
+    Ok(fill(text, bytes.as_mut_slice()))
+}
+
+/// Fills the room with the bytes of hexadecimal digits, two for each, and says whether the text is nothing else. Four
+/// bytes are judged at once.
+#[inline(always)]
+fn fill(text: &[u8], room: &mut [u8]) -> bool
+    requires { length text.now ≡ 2 * length room.old }
+    ensures bytes { result ≡ true → decode_of text.now ≡ Ok room.new }
+    ensures refused { result ≡ false → IsErr (decode_of text.now) }
+{
+    let fours = room.len() / 4;
+    'fours: for i in 0..fours {
+        let first = spelled(text[8 * i], text[8 * i + 1]);
+        let second = spelled(text[8 * i + 2], text[8 * i + 3]);
+        let third = spelled(text[8 * i + 4], text[8 * i + 5]);
+        let fourth = spelled(text[8 * i + 6], text[8 * i + 7]);
+        if first | second | third | fourth >= NO_BYTE {
+            return false;
+        }
+        room[4 * i] = first as u8;
+        room[4 * i + 1] = second as u8;
+        room[4 * i + 2] = third as u8;
+        room[4 * i + 3] = fourth as u8;
+    }
+    'others: for i in 4 * fours..room.len() {
+        let byte = spelled(text[2 * i], text[2 * i + 1]);
+        if byte >= NO_BYTE {
+            return false;
+        }
+        room[i] = byte as u8;
+    }
+    true
+}
+
+/// The byte that two digits spell, in either case; 100 or more where one of them is no digit.
+#[inline(always)]
+#[tactic(auto, using(crate::proofs::DigitValues::pair_reads, crate::proofs::DigitValues::pair_fails))]
+fn spelled(high: u8, low: u8) -> u16
+    ensures byte { result < 0x100 → (place : ℕ) → pair_value high low place ≡ Ok result }
+    ensures other { 0x100 ≤ result → (place : ℕ) → IsErr (pair_value high low place) }
+{
+    HIGH[usize::from(high)] + LOW[usize::from(low)]
 }
 
 /// Puts in a text without its spaces.
