@@ -5,3 +5,5 @@ pub mod Copying
 pub mod LawProofs
 pub mod MessageLaws
 pub mod Examples
+pub mod OneSet
+pub mod Judged

@@ -119,7 +119,7 @@ applied_message_is_whole v m reading bytes reads h =
     (both.0, subst (PutsEach v reading.elements) (sym left) both.1)
 
 -- the other way round
-where_first : (done : Store × Code) (others : Store → Store × Code) → done.1 ≡ Applied
+pub where_first : (done : Store × Code) (others : Store → Store × Code) → done.1 ≡ Applied
     → where_applied done others ≡ others done.0
 where_first (w, Applied) others h = refl
 where_first (w, UnknownElement) others h = cc

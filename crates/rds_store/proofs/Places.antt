@@ -1,7 +1,7 @@
 -- The finite map that the services in each set stand for.
 use Rattle.std.proofs.Common.{◌≡◌, ℕ, suc, ◌+◌, ◌-◌, ◌<◌, ◌≤◌, Bool, true, false, cond, ◌&&◌, ◌||◌, eqb, List, [], ◌∷◌}
 use Rattle.std.proofs.Common.{◌++◌, length, map, Option, Some, None, refl, sym, ap, subst, ◌∙◌, slice_get, nat_lt}
-use Rattle.std.proofs.Common.{nat_le, ◌==◌, arith, ◌⊎◌, inl, inr, is_some, IfSome, if◌then◌else◌}
+use Rattle.std.proofs.Common.{nat_le, ◌==◌, arith, ◌⊎◌, inl, inr, is_some, if◌then◌else◌}
 use Rattle.std.proofs.lemmas.Bool.Decides.{nat_tests}
 use Rattle.std.proofs.lemmas.Bool.{false≢true, cases_order, cases_lt, lt-ltb, le-ltb, le-leb, lt-leb, eq-eqb, ne_eqb}
 use Rattle.std.proofs.lemmas.Bool.{eqb-true}
@@ -230,7 +230,7 @@ some-changed_service p t change (e ∷ es) h =
     ]
 
 -- ---- What stands at a place.
-in_set_more : (n s : ℕ) (x : ServiceData) (xs : List ServiceData)
+pub in_set_more : (n s : ℕ) (x : ServiceData) (xs : List ServiceData)
     → cond (eqb s n) (Some x) (in_set (n + 1) xs s) ≡ in_set n (x ∷ xs) s
 in_set_more n s x xs = by (cases_order s n)
   where
@@ -256,7 +256,7 @@ cond_same : {A : Type 0} (b : Bool) (o : A) → cond b o o ≡ o
 cond_same true o = refl
 cond_same false o = refl
 
-if_none : {A : Type 0} (b : Bool) (o : Option A) → o ≡ None → (if b then None else o) ≡ None
+pub if_none : {A : Type 0} (b : Bool) (o : Option A) → o ≡ None → (if b then None else o) ≡ None
 if_none true o e = refl
 if_none false o e = e
 
@@ -341,12 +341,6 @@ any_full t g n (x ∷ xs) h =
     λ k l. subst (λ m. g m ≡ slice_get xs k) (omega arith) (h (suc k) (omega arith)) in
     λ i. (t n && option_map_or is_full (first i) false) || any_full t g (n + 1) xs rest i
 
-pub none_full : (t : ℕ → Bool) (g : ℕ → Option ServiceData) (ks : List ℕ) → ((k : ℕ) → g k ≡ None)
-    → list_any (λ s. t s && option_map_or is_full (g s) false) ks ≡ false
-none_full t g [] h = refl
-none_full t g (k ∷ ks) h = (λ i. (t k && option_map_or is_full (h k i) false) || none_full t g ks h i)
-    ∙ ap (λ b. b || false) (and_false (t k))
-
 length_found : (sets p : ℕ) (es : List (ℕ × List ServiceData)) (held : List ServiceData)
     → AllByRecursion (λ e. length e.1 ≡ sets) es → lookup (eqb p) es ≡ Some held → length held ≡ sets
 length_found sets p [] held all h = none_some h
@@ -379,12 +373,6 @@ module _ (t : ℕ → Bool) (sets p : ℕ) (es : List (ℕ × List ServiceData))
       (λ k l. get-all_places sets (1 + k) p es all ∙ ap (option_and_then (λ r. in_set 1 r (1 + k))) (sym h)
       ∙ in_set_at held k)
 
-  pub no_full_set : None ≡ lookup (eqb p) es
-      → list_any (λ s. t s && option_map_or is_full (get (from_entries {R = place_cmp} (all_places es)) (s, p)) false)
-      (count_up sets 1) ≡ false
-  no_full_set h = none_full t (λ s. get (from_entries {R = place_cmp} (all_places es)) (s, p)) (count_up sets 1)
-      (λ s. get-all_places sets s p es all ∙ ap (option_and_then (λ r. in_set 1 r s)) (sym h))
-
 -- a key of a map is one that a look-up finds
 pub listed : (p : ℕ) (es : List (ℕ × List ServiceData))
     → is_some (lookup (eqb p) es) ≡ list_any (λ k. eqb p k) (keys_of es)
@@ -395,10 +383,6 @@ listed p (e ∷ es) = by (eqb p e.0) (listed p es)
         → is_some (cond b (Some e.1) (lookup (eqb p) es)) ≡ (b || list_any (λ k. eqb p k) (keys_of es))
     by true h = refl
     by false h = h
-
-pub room : (a b : Bool) → (a && b) ≡ false → a ≡ true → b ≡ false
-room true b h e = h
-room false b h e = absurd (false≢true e)
 
 pub listed_service : (p : ℕ) (es : List (ℕ × List ServiceData)) → (p ≡ 0 → ⊥) → is_some (lookup (eqb p) es) ≡ true
     → Some p ≡ service_of (keys_of es) p
@@ -413,17 +397,6 @@ not_listed p es apart there =
     let a : eqb p 0 ≡ false = ne_eqb p 0 apart in
     let b : list_any (λ k. eqb p k) (keys_of es) ≡ false = sym (listed p es) ∙ there in
     rw (a, b) refl
-
-pub not_full : (t : ℕ → Bool) (sets p : ℕ) (es : List (ℕ × List ServiceData))
-    → AllByRecursion (λ e. length e.1 ≡ sets) es
-    → list_any (λ s. t s && option_map_or is_full (get (from_entries {R = place_cmp} (all_places es)) (s, p)) false)
-    (count_up sets 1) ≡ false
-    → IfSome (lookup (eqb p) es) (λ held. any_set_full 1 t held ≡ false)
-not_full t sets p es all h = by (lookup (eqb p) es) refl
-  where
-    by : (o : Option (List ServiceData)) → o ≡ lookup (eqb p) es → IfSome o (λ held. any_set_full 1 t held ≡ false)
-    by None e = tt
-    by (Some held) e = sym (full_set t sets p es all held e) ∙ h
 
 pub kept_changed : (sets current p : ℕ) (t : ℕ → Bool) (change : ServiceData → ServiceData)
     (es : List (ℕ × List ServiceData)) (groups : List Group)

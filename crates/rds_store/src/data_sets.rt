@@ -65,23 +65,21 @@ impl DataSets {
     }
 
     /// Puts the elements of a message in turn, up to the first that is refused or does not read, and answers the code
-    /// of that one, or 00; and whether an element was put.
-    #[tactic(auto, unfolding(uecp_elements::specs::Folding::folded), using(crate::proofs::LawProofs::refusal_changes_nothing))]
-    pub(crate) fn put_each(&mut self, message: &[u8]) -> (Code, bool)
-        ensures value { (self.new, result.0) ≡ element_by_element self.old message.now }
-        ensures none_put { result.1 ≡ false → self.new ≡ self.old }
+    /// of that one, or 00.
+    #[tactic(auto, unfolding(uecp_elements::specs::Folding::folded))]
+    pub(crate) fn put_each(&mut self, message: &[u8]) -> Code
+        ensures { (self.new, result) ≡ element_by_element self.old message.now }
     {
-        let mut is_any_put = false;
         for item in elements(message) {
             match item {
                 Ok(element) => match self.put(&element) {
-                    Code::Applied => is_any_put = true,
-                    refused => return (refused, is_any_put),
+                    Code::Applied => {}
+                    refused => return refused,
                 },
-                Err(fault) => return (fault.code, is_any_put),
+                Err(fault) => return fault.code,
             }
         }
-        (Code::Applied, is_any_put)
+        Code::Applied
     }
 
     /// Becomes what others with the same sets and services are. It takes no memory.

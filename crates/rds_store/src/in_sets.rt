@@ -1,5 +1,6 @@
 //! What one service has in each data set. Source: profile.
-ghost use Rattle.std.specs.Prelude.{◌≡◌, ◌≤◌, length, replicate, slice_get, IsTrue, IfOk, IfSome, nat_eq, false};
+ghost use Rattle.std.specs.Prelude.{◌≡◌, ◌≤◌, ◌==◌, ◌&&◌, length, replicate, slice_get, IsTrue, IfOk, IfSome, nat_eq};
+ghost use Rattle.std.specs.Prelude.{false, true, None, not, if◌then◌else◌};
 ghost use Rattle.std.specs.Option.{option_copied};
 ghost use Rattle.indexmap.specs.IndexMap as index;
 ghost use Rattle.uecp_elements.specs.Grammar as grammar;
@@ -9,9 +10,10 @@ ghost use Rattle.rds_store.specs.Content.{opening_service, taken};
 ghost use Rattle.rds_store.specs.Refusals.{is_out_of_range, adds_text};
 ghost use Rattle.std.specs.Map.{values_of};
 ghost use Rattle.indexmap.specs.Layout.{set_value_at};
-ghost use Rattle.rds_store.specs.Kept.{changed_sets, changed_service, any_set_full, in_set, shape_of};
+ghost use Rattle.rds_store.specs.Kept.{changed_sets, any_set_full, in_set, shape_of};
 
 use crate::named_sets::NamedSets;
+use crate::rules::adds_text;
 use crate::service::Service;
 use indexmap::IndexMap;
 use std::alloc::{AllocError, Global};
@@ -65,11 +67,35 @@ impl ServiceInSets {
     pub(crate) fn is_full(&self, named: NamedSets) -> bool
         ensures { result ≡ any_set_full 1 (names_set named.dsn named.current) self.now }
     {
-        is_any_full(self.sets.as_slice(), named)
+        match named.only() {
+            Some(set) => match self.get(set) {
+                Some(service) => service.is_full(),
+                None => false,
+            },
+            None => is_any_full(self.sets.as_slice(), named),
+        }
+    }
+
+    /// Each named set takes the element's content, and the answer is true; or one of them has no room for it, and all
+    /// stay.
+    pub(crate) fn put(&mut self, named: NamedSets, element: &Element<'_>) -> bool
+        requires short { grammar.IsElement (element_of element.now) }
+        requires in_range { is_out_of_range (element_of element.now) ≡ false }
+        ensures room { result ≡ not (adds_text (element_of element.now)
+            && any_set_full 1 (names_set named.dsn named.current) self.old) }
+        ensures taken { self.new ≡ (if result
+            then changed_sets 1 (names_set named.dsn named.current) (taken (element_of element.now)) self.old
+            else self.old) }
+    {
+        if adds_text(element) && self.is_full(named) {
+            return false;
+        }
+        self.change(named, element);
+        true
     }
 
     /// Each named set takes the element's content.
-    pub(crate) fn change(&mut self, named: NamedSets, element: &Element<'_>)
+    fn change(&mut self, named: NamedSets, element: &Element<'_>)
         requires short { grammar.IsElement (element_of element.now) }
         requires in_range { is_out_of_range (element_of element.now) ≡ false }
         requires room { IsTrue (adds_text (element_of element.now))
@@ -77,7 +103,10 @@ impl ServiceInSets {
         ensures { self.new ≡ changed_sets 1 (names_set named.dsn named.current) (taken (element_of element.now))
             self.old }
     {
-        change_each(self.sets.as_mut_slice(), named, element);
+        match named.only() {
+            Some(set) => change_one(self.sets.as_mut_slice(), set, element),
+            None => change_each(self.sets.as_mut_slice(), named, element),
+        }
     }
 
     /// Becomes what another service of as many sets is.
@@ -114,6 +143,23 @@ fn is_any_full(sets: &[Service], named: NamedSets) -> bool
     false
 }
 
+/// The service takes the element in the set of this number, if that is there; in the others it stays.
+fn change_one(sets: &mut [Service], set: u8, element: &Element<'_>)
+    requires short { grammar.IsElement (element_of element.now) }
+    requires in_range { is_out_of_range (element_of element.now) ≡ false }
+    requires room { IsTrue (adds_text (element_of element.now))
+        → any_set_full 1 (λ k. k == set) sets.old ≡ false }
+    ensures { sets.new ≡ changed_sets 1 (λ k. k == set) (taken (element_of element.now)) sets.old }
+{
+    if set == 0 {
+        return;
+    }
+    let place = usize::from(set - 1);
+    if place < sets.len() {
+        sets[place].take(element);
+    }
+}
+
 fn change_each(sets: &mut [Service], named: NamedSets, element: &Element<'_>)
     requires few { length sets.old ≤ 8 }
     requires short { grammar.IsElement (element_of element.now) }
@@ -131,25 +177,28 @@ fn change_each(sets: &mut [Service], named: NamedSets, element: &Element<'_>)
     }
 }
 
-/// One service takes the element in each named set; the others stay.
-pub(crate) fn change_service(
+/// The service at a place of the order takes the element in each named set, and the answer is true; or one of them has
+/// no room for it, and all stay. The other services stay.
+pub(crate) fn put_into_service(
     services: &mut IndexMap<u8, ServiceInSets>,
-    number: u8,
+    place: usize,
     named: NamedSets,
     element: &Element<'_>,
-)
+) -> bool
     requires short { grammar.IsElement (element_of element.now) }
     requires in_range { is_out_of_range (element_of element.now) ≡ false }
-    requires room { IsTrue (adds_text (element_of element.now))
-        → IfSome (index.get nat_eq services.old number) (λ held. any_set_full 1 (names_set named.dsn named.current) held
-        ≡ false) }
-    ensures services { services.new.entries ≡ changed_service number (names_set named.dsn named.current)
-        (taken (element_of element.now)) services.old.entries }
+    ensures room { IfSome (slice_get (values_of services.old.entries) place) (λ held. result
+        ≡ not (adds_text (element_of element.now) && any_set_full 1 (names_set named.dsn named.current) held)) }
+    ensures taken { IfSome (slice_get (values_of services.old.entries) place) (λ held. result ≡ true
+        → services.new.entries ≡ set_value_at services.old.entries place
+        (changed_sets 1 (names_set named.dsn named.current) (taken (element_of element.now)) held)) }
+    ensures absent { slice_get (values_of services.old.entries) place ≡ None → result ≡ false }
+    ensures kept { result ≡ false → services.new.entries ≡ services.old.entries }
     ensures unique { index.IsUnique nat_eq services.old }
 {
-    match services.get_mut(&number) {
-        Some(service) => service.change(named, element),
-        None => {}
+    match services.get_index_mut(place) {
+        Some(service) => service.put(named, element),
+        None => false,
     }
 }
 

@@ -15,6 +15,7 @@ mod data_sets;
 mod fault;
 mod group;
 mod in_sets;
+mod judging;
 pub mod laws;
 mod named_sets;
 mod opening;

@@ -1,6 +1,6 @@
 //! How an element is put into a store. Source: RDS Forum SPB 490 for what a DSN and a PSN name, profile for the
 //! refusals.
-ghost use Rattle.std.specs.Prelude.{◌≡◌, ◌&&◌, false, Some};
+ghost use Rattle.std.specs.Prelude.{◌≡◌, ◌&&◌, ℕ, false, true, not, Some, None, IfSome, MatchOption, slice_get};
 ghost use Rattle.uecp_elements.specs.Grammar as grammar;
 ghost use Rattle.uecp_elements.specs.View.{element_of};
 ghost use Rattle.rds_store.specs.Names.{address, names_set, is_dsn, service_of};
@@ -11,64 +11,51 @@ ghost use Rattle.rds_store.specs.Kept.{at_service};
 
 use crate::data_sets::DataSets;
 use crate::group::Group;
-use crate::in_sets::change_service;
+use crate::in_sets::put_into_service;
 use crate::named_sets::NamedSets;
-use crate::rules::{TYPE_MAX, adds, adds_text, is_out_of_range, is_wrong_rule};
+use crate::rules::{TYPE_MAX, adds, is_out_of_range, is_wrong_rule};
 use uecp_elements::{Code, Element};
 
 impl DataSets {
     /// Whether an element may have that DSN.
-    fn is_dsn(&self, dsn: u8) -> bool
+    pub(crate) fn is_dsn(&self, dsn: u8) -> bool
         ensures { result ≡ is_dsn self.now.sets dsn }
     {
         dsn <= self.sets || dsn == 0xfe || dsn == 0xff
     }
 
-    /// The number of the service that a PSN names.
-    fn service_of(&self, psn: u8) -> Option<u8>
-        ensures { result ≡ service_of self.now.services psn }
+    /// The place in configured order of the service that a PSN names.
+    pub(crate) fn place_of(&self, psn: u8) -> Option<usize>
+        ensures { MatchOption result (service_of self.now.services psn ≡ None) (λ place. (number : ℕ)
+            × (service_of self.now.services psn ≡ Some number) × (slice_get self.now.services place ≡ Some number)) }
     {
         if psn == 0 {
-            match self.services.get_index(0) {
-                Some((number, _)) => Some(*number),
-                None => None,
-            }
-        } else if self.services.contains_key(&psn) {
-            Some(psn)
+            Some(0)
         } else {
-            None
+            self.services.get_index_of(&psn)
         }
     }
 
-    /// Whether the service has no room for a text in one of the sets that a DSN names.
-    fn has_full_set(&self, dsn: u8, number: u8) -> bool
-        ensures { result ≡ has_full_set self.now dsn number }
-    {
-        let named = NamedSets {
-            dsn,
-            current: self.current,
-        };
-        match self.services.get(&number) {
-            Some(service) => service.is_full(named),
-            None => false,
-        }
-    }
-
-    /// The service takes the element's content in each set that a DSN names.
-    fn change(&mut self, dsn: u8, number: u8, element: &Element<'_>)
+    /// The service at a place of the order takes the element's content in each set that a DSN names, and the answer is
+    /// true; or one of them has no room for it, and nothing has changed.
+    fn put_into(&mut self, dsn: u8, place: usize, element: &Element<'_>) -> bool
         requires short { grammar.IsElement (element_of element.now) }
         requires in_range { is_out_of_range (element_of element.now) ≡ false }
-        requires room { (adds_text (element_of element.now) && has_full_set self.old dsn number) ≡ false }
-        ensures { self.new ≡ record self.old {
-          places = change_where (at_service (names_set dsn self.old.current) number) (taken (element_of element.now))
-              self.old.places;
-        } }
+        ensures room { IfSome (slice_get self.old.services place) (λ number. result
+            ≡ not (adds_text (element_of element.now) && has_full_set self.old dsn number)) }
+        ensures taken { IfSome (slice_get self.old.services place) (λ number. result ≡ true
+            → self.new ≡ record self.old {
+              places = change_where (at_service (names_set dsn self.old.current) number)
+                  (taken (element_of element.now))
+                  self.old.places;
+            }) }
+        ensures kept { result ≡ false → self.new ≡ self.old }
     {
         let named = NamedSets {
             dsn,
             current: self.current,
         };
-        change_service(&mut self.services, number, named, element);
+        put_into_service(&mut self.services, place, named, element)
     }
 
     /// Puts an element that has this DSN and PSN.
@@ -80,17 +67,17 @@ impl DataSets {
         if !self.is_dsn(dsn) {
             return Code::DataSet;
         }
-        let Some(number) = self.service_of(psn) else {
+        let Some(place) = self.place_of(psn) else {
             return Code::Service;
         };
         if is_out_of_range(element) {
             return Code::OutOfRange;
         }
-        if adds_text(element) && self.has_full_set(dsn, number) {
-            return Code::BufferFull;
+        if self.put_into(dsn, place, element) {
+            Code::Applied
+        } else {
+            Code::BufferFull
         }
-        self.change(dsn, number, element);
-        Code::Applied
     }
 
     /// Makes a set current; 00 keeps the one that is. There are at most 8 sets, so FE and FF are no set's numbers.

@@ -10,7 +10,7 @@ ghost use Rattle.uecp_elements.specs.Grammar as grammar;
 ghost use Rattle.uecp_elements.specs.View.{element_of};
 ghost use Rattle.rds_store.specs.Value.{IsGroup};
 ghost use Rattle.rds_store.specs.Put.{put};
-ghost use Rattle.rds_store.specs.Step.{step, group_taken};
+ghost use Rattle.rds_store.specs.Step.{element_by_element, step, group_taken};
 ghost use Rattle.rds_store.specs.Opening.{opening, fault_of};
 
 use crate::data_sets::DataSets;
@@ -30,7 +30,8 @@ use uecp_elements::{Code, Element, elements};
 pub struct RdsStore {
     /// What the store holds.
     main: DataSets,
-    /// Where a message is tried; between messages the same as `main`.
+    /// Where a message that adds a text beside other elements is tried. It has the sets and the services of `main`;
+    /// what else it has is left from the last try.
     trial: DataSets,
 }
 
@@ -44,7 +45,7 @@ impl Model for RdsStore {
 
     ghost view = { λ s. s.main };
 
-    ghost invariant = { λ s. s.trial ≡ s.main };
+    ghost invariant = { λ s. (s.trial.sets ≡ s.main.sets) × (s.trial.services ≡ s.main.services) };
 }
 
 impl RdsStore {
@@ -84,14 +85,13 @@ impl RdsStore {
         requires { grammar.IsElement (element_of element.now) }
         ensures { (self.new, result) ≡ put self.old (element_of element.now) }
     {
-        self.trial.put(element);
         self.main.put(element)
     }
 
     /// Applies a message, whole or not at all, and answers its code: that of its first element that is refused or does
     /// not read, or 00. After a code but 00 nothing has changed, also not by what came before that element.
     ///
-    /// It takes no memory. A message of one element needs no trial.
+    /// It takes no memory. Only a message that adds a text and has other elements needs a trial.
     #[tactic(auto, unfolding(uecp_elements::specs::Folding::folded), using(crate::proofs::MessageLaws::one_element))]
     pub fn apply(&mut self, message: &[u8]) -> Code
         ensures { (self.new, result) ≡ step self.old message.now }
@@ -102,22 +102,32 @@ impl RdsStore {
             Some(Err(fault)) => fault.code,
             Some(Ok(only)) => match read.next() {
                 None => self.apply_element(&only),
-                Some(_) => self.try_message(message),
+                Some(_) => self.apply_longer(message),
             },
         }
     }
 
-    /// Applies a message by way of the trial.
-    fn try_message(&mut self, message: &[u8]) -> Code
+    /// Applies a message whose code is told first.
+    fn apply_longer(&mut self, message: &[u8]) -> Code
         ensures { (self.new, result) ≡ step self.old message.now }
     {
-        let (code, is_any_put) = self.trial.put_each(message);
+        let code = match self.main.judged(message) {
+            Some(code) => code,
+            None => self.tried(message),
+        };
         if code == Code::Applied {
             self.main.put_each(message);
-        } else if is_any_put {
-            self.trial.copy_from(&self.main);
         }
         code
+    }
+
+    /// The code with which a message is answered, by the trial. The store stays.
+    fn tried(&mut self, message: &[u8]) -> Code
+        ensures code { result ≡ (element_by_element self.old message.now).1 }
+        ensures stays { self.new ≡ self.old }
+    {
+        self.trial.copy_from(&self.main);
+        self.trial.put_each(message)
     }
 
     /// Removes the first group that waits, and gives it; nothing else changes. None exactly where none waits.
@@ -129,7 +139,6 @@ impl RdsStore {
     pub fn take_group(&mut self) -> Option<Group>
         ensures { (self.new, result) ≡ group_taken self.old }
     {
-        self.trial.take_group();
         self.main.take_group()
     }
 
