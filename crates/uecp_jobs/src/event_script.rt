@@ -96,8 +96,8 @@ fn replace(form: Form, line: &mut Line<RdsStore>, output: &mut Output)
     put_given_up(form, line.replace_server(), output);
 }
 
-/// The event as it happens on the line.
-fn line_event(event: &EventLine) -> LineEvent<'_>
+/// The event of a line of a script as it happens on the line.
+pub fn line_event(event: &EventLine) -> LineEvent<'_>
     ensures { event_of result ≡ event_seen event.now }
 {
     match event {
@@ -125,8 +125,8 @@ fn reply_event(number: usize, cut: &[u16]) -> LineEvent<'_>
     LineEvent::Reply { number, cut }
 }
 
-/// The number of the message that the event names, or 0 where it names none.
-fn named_message(event: &LineEvent<'_>) -> usize
+/// The number of the message that the event names, counted from 0, or 0 where it names none.
+pub fn named_message(event: &LineEvent<'_>) -> usize
     ensures { result ≡ named_message (event_of event.now) }
 {
     match *event {

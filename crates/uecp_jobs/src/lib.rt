@@ -22,9 +22,10 @@ mod showing;
 
 pub use batches::{fault_of, put_settled};
 pub use encoder_run::run_encoder;
+pub use event_script::{line_event, named_message};
 pub use job::Job;
 pub use messages::{Messages, messages_of};
 pub use output_forms::Form;
 pub use run::{fail, run_job};
 pub use server_run::{batch_size, run_server};
-pub use setup::{Setup, address_of, new_encoder};
+pub use setup::{Setup, address_of, new_encoder, new_line};

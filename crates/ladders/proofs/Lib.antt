@@ -1,0 +1,4 @@
+pub mod Doing
+pub mod Examples
+pub mod Left
+pub mod Lengths

@@ -1,0 +1,71 @@
+//! A job from its input to its exit status (profile).
+ghost use Rattle.std.specs.Prelude.{◌≡◌, ◌⊎◌, ◌≤◌, Err, IfOk};
+ghost use Rattle.uecp_text.specs.declared.run_fault.RunFault.{RunFault};
+ghost use Rattle.uecp_text.specs.declared.run_fault.RunFault.TheVariants.{OutOfMemory};
+ghost use Rattle.uecp_jobs.specs.Setups.{IsSetup, RefusesSetup};
+ghost use Rattle.ladders.specs.Jobs.{options_of, IsDone, IsRefused, IsUndescribed, HasFailed, DoesLadder};
+
+use crate::drawing::LadderForm;
+use crate::playing::Drawing;
+use std::alloc::Global;
+use std::io::{Read, Write};
+use uecp_jobs::fail;
+use uecp_text::{RunFault, run};
+
+/// The command `line` that draws a ladder. `uecp_cli`'s `parse` answers no other numbers than the ranges named here.
+#[derive(Debug, Drop, PartialEq, Eq)]
+pub struct LadderJob {
+    /// The site of both ends, 1 to 1023.
+    pub site: u16,
+    /// The encoder's number at its site, 1 to 63.
+    pub encoder: u8,
+    /// How many data sets it has, 1 to 8.
+    pub sets: u8,
+    /// The numbers of its services, the main one first. The store judges them.
+    pub services: Vec<u8>,
+    /// How the ladder is drawn.
+    pub form: LadderForm,
+}
+
+/// Does the job and answers the exit status: 0 done, 1 a line was refused, 2 the services were refused, 3 memory,
+/// reading or writing failed. Nothing is drawn of a script with a line that is refused. Why a run stopped is said on
+/// `errors`, as far as that takes it.
+pub fn run_ladder<R: Read, W: Write, E: Write>(
+    alloc: Global,
+    job: &LadderJob,
+    reader: &mut R,
+    writer: &mut W,
+    errors: &mut E,
+) -> u8
+    ensures status { result ≤ 3 }
+    ensures done { result ≡ 0 → IsDone job.now (R.remaining reader.old) (R.remaining reader.new) (W.contents writer.old)
+        (W.contents writer.new) × (errors.new ≡ errors.old) }
+    ensures refused { result ≡ 1 → IsRefused job.now (R.remaining reader.old) (R.remaining reader.new)
+        (W.contents writer.old) (W.contents writer.new) (E.contents errors.old) (E.contents errors.new) }
+    ensures undescribed { result ≡ 2 → IsUndescribed job.now (E.contents errors.old) (E.contents errors.new)
+        × (reader.new ≡ reader.old) × (writer.new ≡ writer.old) }
+    ensures failed { result ≡ 3 → HasFailed job.now (R.remaining reader.old) (R.remaining reader.new)
+        (W.contents writer.old) (W.contents writer.new) (E.contents errors.old) (E.contents errors.new) }
+{
+    match draw_ladder(alloc, job, reader, writer) {
+        Ok(()) => 0,
+        Err(fault) => fail(&fault, errors),
+    }
+}
+
+/// Does the job. The options are judged before anything is read or written.
+fn draw_ladder<R: Read, W: Write>(
+    alloc: Global,
+    job: &LadderJob,
+    reader: &mut R,
+    writer: &mut W,
+) -> Result<(), RunFault>
+    ensures described { IfOk result (λ _. IsSetup (options_of job.now)) }
+    ensures does { ((fault : RunFault) × (result ≡ Err fault) × ((fault ≡ OutOfMemory)
+        ⊎ RefusesSetup (options_of job.now) fault) × (reader.new ≡ reader.old) × (writer.new ≡ writer.old))
+        ⊎ DoesLadder job.now (R.remaining reader.old) (R.remaining reader.new) (W.contents writer.old)
+        (W.contents writer.new) result }
+{
+    let mut drawing = Drawing::new(alloc, job)?;
+    run(alloc, reader, &mut drawing, writer)
+}
