@@ -25,7 +25,7 @@ use Rattle.output_forms.specs.declared.form.Form.TheVariants.{Lines, Words, Json
 use Rattle.send_jobs.specs.declared.job.SendJob.{SendJob}
 use Rattle.uecp_cli.specs.declared.task.Task.{Task}
 use Rattle.uecp_cli.specs.declared.task.Task.TheVariants.{Plain, Kept, Send, Device, OnAir, Receive, Conformance, Page}
-use Rattle.uecp_cli.specs.declared.task.Task.TheVariants.{State}
+use Rattle.uecp_cli.specs.declared.task.Task.TheVariants.{State, Ladder}
 use Rattle.air_jobs.specs.declared.air_job.AirJob.{AirJob}
 use Rattle.conformance_running.specs.declared.job.ConformanceJob.{ConformanceJob}
 use Rattle.conformance_running.specs.Conformance.{IsInRange as IsConformanceInRange}
@@ -34,7 +34,7 @@ use Rattle.uecp_cli.specs.Ranges.{AreInRange, IsInRange, IsDeviceInRange, IsLive
 use Rattle.uecp_cli.specs.Ranges.{Lies, IsOnAirInRange}
 use Rattle.uecp_cli.specs.Usages.{SaysError}
 use Rattle.uecp_cli.specs.CommandLine.{AreOptions, Asks, IsEnd, IsJobOf, IsKeptAs, IsLive, IsOption, IsPlace}
-use Rattle.uecp_cli.specs.CommandLine.{IsTaskOf, RefusesList, RefusesWords}
+use Rattle.uecp_cli.specs.CommandLine.{IsTaskOf, RefusesLine, RefusesList, RefusesWords}
 use Rattle.uecp_cli.specs.CommandLine.{services_text, uecp_app, AreListening, IsDevice, IsFlag, IsForm, IsMaybe}
 use Rattle.uecp_cli.specs.CommandLine.{IsPlainTask, IsStore, if_lines, plain_port, IsOnAir, IsConformance}
 use Rattle.uecp_cli.proofs.Helps.{one_named}
@@ -140,6 +140,22 @@ gives_no_list words m name rows why e f met has_encoder refused = elim refused [
     no_list = none.1;
   })
 ]
+
+-- what the matches of `line` ask for was refused
+pub refuses_line : (words : List Text) (m : ArgMatches) (name : Text) (rows : List Row) (why : Usage)
+    → Some name ≡ subcommand_name_of m → Some rows ≡ option_map (λ p. p.1) (subcommand_rows_of m)
+    → subcommand_rows_of m ≡ subcommand_of uecp_app words → name ≡ codes "line"
+    → RefusesLine rows why → RefusesWords words why
+refuses_line words m name rows why e f met is_line (inl list) =
+    gives_no_list words m name rows why e f met (inr (inl is_line)) list
+refuses_line words m name rows why e f met is_line (inr (is, asks, no_form)) =
+    subst (RefusesWords words) (sym is) (record {
+      rows = rows;
+      command = sym met ∙ both_met (out-ArgMatches m).subcommand name rows e f
+          ∙ ap (λ (n : Text). Some (n, rows)) is_line;
+      asks = asks;
+      no_form = no_form;
+    })
 
 says_why : (words : List Text) (e : Error) (why : Usage) → HasKind (fault_of uecp_app words) e → SaysError e why
     → RefusesWords words why
@@ -253,6 +269,8 @@ are_in_range name rows (Receive job) is = tt
 are_in_range name rows (Conformance job) is = conformance_in_range rows job is.1
 are_in_range name rows (Page job) is = tt
 are_in_range name rows (State path) is = tt
+are_in_range name rows (Ladder job) is =
+    setup_in_range rows job.site job.encoder job.sets job.services.items is.1.are_options
 
 -- ---- with its state in a file or without
 kept_job : (name : Text) (rows : List Row) (job : Job) (task : Task) → IsJobOf name rows job → IsEnd job
@@ -268,6 +286,7 @@ kept_job name rows job (Receive receive) is end unkept how = absurd how
 kept_job name rows job (Conformance cases) is end unkept how = absurd how
 kept_job name rows job (Page page) is end unkept how = absurd how
 kept_job name rows job (State path) is end unkept how = absurd how
+kept_job name rows job (Ladder ladder) is end unkept how = absurd how
 
 pub kept_server : (name : Text) (rows : List Row) (site encoder : ℕ) (host : _)
     (port tries timeout turns reconnects window : ℕ) (join : _) (task : Task)
@@ -359,3 +378,4 @@ plain_asked rows job port (Receive receive) o plain is = absurd is
 plain_asked rows job port (Conformance cases) o plain is = absurd is
 plain_asked rows job port (Page page) o plain is = absurd is
 plain_asked rows job port (State path) o plain is = absurd is
+plain_asked rows job port (Ladder ladder) o plain is = absurd is

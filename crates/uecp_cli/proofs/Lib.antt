@@ -6,3 +6,4 @@ pub mod Helps
 pub mod Examples
 pub mod Watched
 pub mod Kept
+pub mod Refusals

@@ -1,13 +1,15 @@
 -- What options and lists of the command line spell.
 use Rattle.std.proofs.Common.{◌≡◌, true, false, ℕ, ◌<◌, ◌^◌, zero, suc, List, [], ◌∷◌, length, get_or, map, refl, ap}
-use Rattle.std.proofs.Common.{sym}
+use Rattle.std.proofs.Common.{sym, codes}
 use Rattle.std.proofs.Common.{◌∙◌, subst, arith}
 use Rattle.std.specs.Prelude.{Option, Some, None, Result, Ok, Err, IsErr, option_map, unwrap_or}
 use Rattle.std.specs.Str.Parse.{ParsesUnsigned}
 use Rattle.std.specs.Borrow.{Bor}
 use Rattle.hex.specs.Hex.{decode_sized}
 use Rattle.clap.specs.Matches.{ReadsOne}
-use Rattle.uecp_cli.specs.CommandLine.{Spells}
+use Rattle.ladders.specs.declared.drawing.LadderForm.{LadderForm}
+use Rattle.ladders.specs.declared.drawing.LadderForm.TheVariants.{Picture, Text}
+use Rattle.uecp_cli.specs.CommandLine.{Spells, ladder_word}
 
 -- what `get_one` reads of a text that spells a number
 pub reads_number : (E : Type 0) (G : List ℕ → Result ℕ E → Type 0) (k n : ℕ) (t : List ℕ) (r : Option ℕ)
@@ -39,3 +41,11 @@ text_or (Some s) other text e = rw (← e) refl
 -- what is something is not nothing
 pub none_read : {X : Type 0} (r : Option X) (x : X) → r ≡ Some x → r ≡ None → ⊥
 none_read r x is none = absurd (let bad : Some x ≡ None = sym is ∙ none in cc)
+
+-- a word that is that of neither form of a ladder
+pub no_form : (text : Option (List ℕ)) (word : List ℕ) → text ≡ Some word → (word ≡ codes "svg" → ⊥)
+    → (word ≡ codes "text" → ⊥) → (form : LadderForm) → text ≡ Some (ladder_word form) → ⊥
+no_form text word given no_svg no_text Picture is =
+    no_svg (let same : Some word ≡ Some (codes "svg") = sym given ∙ is in cc)
+no_form text word given no_svg no_text Text is =
+    no_text (let same : Some word ≡ Some (codes "text") = sym given ∙ is in cc)

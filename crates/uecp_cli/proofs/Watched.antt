@@ -1,7 +1,6 @@
 -- Why watching stops.
-use Rattle.std.proofs.Common.{◌≡◌, ℕ, List, Option, Bool, Err, refl, ap, subst, sym, inl, inr}
+use Rattle.std.proofs.Common.{◌≡◌, ℕ, List, Option, Bool, Err, refl, subst, sym, inl, inr}
 use Rattle.uecp_text.specs.declared.run_fault.RunFault.{RunFault}
-use Rattle.uecp_text.specs.declared.run_fault.RunFault.TheVariants.{Reading, Writing, OutOfMemory}
 use Rattle.uecp_text.specs.Faults.{Fails, status_of}
 use Rattle.output_forms.specs.declared.form.Form.{Form}
 use Rattle.uecp_watch.specs.Watching.{Watches}

@@ -26,14 +26,17 @@ use Rattle.shown_lines.specs.declared.shown_form.ShownForm.TheVariants as shown
 use Rattle.conformance_running.specs.declared.job.ConformanceJob.{ConformanceJob}
 use Rattle.page_edges.specs.declared.page_job.PageJob.{PageJob}
 use Rattle.uecp_cli.specs.declared.task.Task.TheVariants.{Plain, Kept, Send, Device, OnAir, Receive, Conformance, Page}
-use Rattle.uecp_cli.specs.declared.task.Task.TheVariants.{State}
+use Rattle.uecp_cli.specs.declared.task.Task.TheVariants.{State, Ladder}
+use Rattle.ladders.specs.declared.ladder_job.LadderJob.{LadderJob}
+use Rattle.ladders.specs.declared.drawing.LadderForm.{LadderForm}
+use Rattle.ladders.specs.declared.drawing.LadderForm.TheVariants.{Picture, Text}
 use Rattle.output_forms.specs.declared.form.Form.{Form}
 use Rattle.output_forms.specs.declared.form.Form.TheVariants.{Lines, Words, Json}
 use Rattle.rds_text.specs.declared.programme_type.Region.{Region}
 use Rattle.rds_text.specs.declared.programme_type.Region.TheVariants.{Europe, NorthAmerica}
 use Rattle.uecp_cli.specs.declared.numbers.NumberOption.{NumberOption}
 use Rattle.uecp_cli.specs.declared.usage.Usage.{Usage}
-use Rattle.uecp_cli.specs.declared.usage.Usage.TheVariants.{Refused, NotAList, OutOfMemory}
+use Rattle.uecp_cli.specs.declared.usage.Usage.TheVariants.{Refused, NotAList, NotAForm, OutOfMemory}
 
 -- The parts of a list between its commas are two hexadecimal digits each, and spell these bytes in order.
 abbrev pub IsList : (list bytes : List ℕ) → Type 0
@@ -159,6 +162,10 @@ pub record AreSending (rows : List Row) (host : List ℕ) (port tries timeout tu
 abbrev pub IsOffAir : (rows : List Row) → Type 0
 IsOffAir rows = IsMaybe (one_of (codes "air") rows) 1 1000000 None
 
+-- The matches of the command `line` ask for no ladder.
+abbrev pub IsUndrawn : (rows : List Row) → Type 0
+IsUndrawn rows = first_of (codes "ladder") rows ≡ None
+
 -- The job is that of the command of this name, with the options that its matches have.
 abbrev pub IsJobOf : (name : List ℕ) → List Row → Job → Type 0
 IsJobOf name rows (Answer site encoder sets services store) =
@@ -169,8 +176,10 @@ IsJobOf name rows (AnswerAs site encoder sets services store form) =
     × IsOffAir rows
 IsJobOf name rows (Line site encoder sets services store) =
     (name ≡ codes "line") × AreOptions rows site encoder sets services.items × IsStore rows store × IsForm rows Lines
+    × IsUndrawn rows
 IsJobOf name rows (LineAs site encoder sets services store form) =
     (name ≡ codes "line") × AreOptions rows site encoder sets services.items × IsStore rows store × IsForm rows form
+    × IsUndrawn rows
 IsJobOf name rows (Encoder site encoder sets services port connections turns) =
     (name ≡ codes "encoder") × AreOptions rows site encoder sets services.items
     × AreListening rows port connections turns
@@ -244,6 +253,23 @@ pub record IsOnAir (rows : List Row) (job : AirJob) : Type 0 where
   pub is_form : IsForm rows job.form
   pub is_groups : IsMaybe (one_of (codes "air") rows) 1 1000000 (Some job.groups)
 
+-- The word for a ladder's form.
+abbrev pub ladder_word : LadderForm → List ℕ
+ladder_word Picture = codes "svg"
+ladder_word Text = codes "text"
+
+-- Why what the matches of the command `line` ask for was refused: the list of services is none, or the form of the
+-- ladder is none. Or there was no memory.
+abbrev pub RefusesLine : (rows : List Row) → Usage → Type 0
+RefusesLine rows why = RefusesList (services_text rows) why ⊎ ((why ≡ NotAForm)
+    × (is_some (first_of (codes "ladder") rows) ≡ true)
+    × ((form : LadderForm) → first_of (codes "ladder") rows ≡ Some (ladder_word form) → ⊥))
+
+-- A ladder is drawn as the matches of the command `line` ask for it.
+pub record IsLadder (rows : List Row) (job : LadderJob) : Type 0 where
+  pub are_options : AreOptions rows job.site job.encoder job.sets job.services.items
+  pub is_form : first_of (codes "ladder") rows ≡ Some (ladder_word job.form)
+
 -- What is shown is told in objects of JSON where a flag asks for them, else in words.
 abbrev pub IsShownForm : (rows : List Row) → ShownForm → Type 0
 IsShownForm rows form = (json : Bool) × (region : Region) × IsFlag (one_of (codes "json") rows) json
@@ -296,6 +322,7 @@ IsPlainTask job port (Receive receive) = ⊥
 IsPlainTask job port (Conformance cases) = ⊥
 IsPlainTask job port (Page page) = ⊥
 IsPlainTask job port (State path) = ⊥
+IsPlainTask job port (Ladder ladder) = ⊥
 
 -- The job is that of one of the two ends, which have a state.
 abbrev pub IsEnd : Job → Type 0
@@ -321,10 +348,11 @@ IsKeptAs rows job (Receive receive) = ⊥
 IsKeptAs rows job (Conformance cases) = ⊥
 IsKeptAs rows job (Page page) = ⊥
 IsKeptAs rows job (State path) = ⊥
+IsKeptAs rows job (Ladder ladder) = ⊥
 
 -- The task is that of the command of this name: its job, with the file for the state of its end where one is given; or
 -- to send for as long as lines come; or what a device does; or what an encoder answers and then has on the air; or what
--- a receiver shows; or conformance cases; or a live page; or what is in the file that is named.
+-- a receiver shows; or conformance cases; or a live page; or what is in the file that is named; or a ladder.
 abbrev pub IsTaskOf : (name : List ℕ) → List Row → Task → Type 0
 IsTaskOf name rows (Plain job) = IsJobOf name rows job × IsUnkept rows job
 IsTaskOf name rows (Kept job path) =
@@ -337,6 +365,7 @@ IsTaskOf name rows (Conformance job) = (name ≡ codes "conformance") × IsConfo
 IsTaskOf name rows (Page job) = (name ≡ codes "page") × IsPage rows job
 IsTaskOf name rows (State path) =
     (name ≡ codes "state") × (string_bytes path ≡ word_text (codes "file") [] rows)
+IsTaskOf name rows (Ladder job) = (name ≡ codes "line") × IsLadder rows job
 
 -- ---- the command line that the program takes
 
@@ -385,6 +414,13 @@ station_option = maybe_word (codes "station")
 abbrev pub file_argument : Rule
 file_argument = record (new_rule (codes "file")) { action = Some Set; value_names = 1; required = true }
 
+-- The option with the form of a ladder, which may be left out, and so may its word: then it is svg.
+abbrev pub ladder_option : Rule
+ladder_option = record (maybe_word (codes "ladder")) {
+  range = Some (record { start_inclusive = 0; end_inclusive = 1 });
+  missing = codes "svg" ∷ [];
+}
+
 -- The option with the list of services, 01 where it is not given.
 abbrev pub services_option : Rule
 services_option = word_option (codes "services") (Some (codes "01"))
@@ -426,6 +462,11 @@ store_command name = command_with name (encoder_options ++ flag (codes "store") 
 abbrev pub answering_command : Shape
 answering_command = command_with (codes "answer")
     (encoder_options ++ flag (codes "store") ∷ form_flags ++ maybe_number (codes "air") 1 1000000 ∷ [])
+
+-- The command `line`: the same, and whether it draws a ladder.
+abbrev pub playing_command : Shape
+playing_command =
+    command_with (codes "line") (encoder_options ++ flag (codes "store") ∷ form_flags ++ ladder_option ∷ [])
 
 -- The command `receive`.
 abbrev pub receiving_command : Shape
@@ -503,13 +544,19 @@ live_command = command_with (codes "send") (place_options ++ word_option (codes 
 abbrev pub looking_command : Shape
 looking_command = command_with (codes "state") (file_argument ∷ [])
 
--- The program: it has a version, and one of twelve commands has to be named.
+-- A command that takes its options from a file too: the file may be named, and it may be looked at alone.
+abbrev pub configurable : Shape → Shape
+configurable shape = record shape {
+  rules = (shape.rules ++ maybe_word (codes "config") ∷ []) ++ flag (codes "check-config") ∷ [];
+}
+
+-- The program: it has a version, and one of twelve commands has to be named, each of which takes a file of options.
 abbrev pub uecp_app : App
 uecp_app = record {
   top = record (new_shape (codes "uecp")) { is_leaf = false; has_version = true; subcommand_required = true };
-  subs = answering_command ∷ showing_command ∷ making_command
-      ∷ store_command (codes "line") ∷ listening_command ∷ sending_command ∷ live_command ∷ watching_command
-      ∷ looking_command ∷ receiving_command ∷ trying_command ∷ paging_command ∷ [];
+  subs = map configurable (answering_command ∷ showing_command ∷ making_command
+      ∷ playing_command ∷ listening_command ∷ sending_command ∷ live_command ∷ watching_command
+      ∷ looking_command ∷ receiving_command ∷ trying_command ∷ paging_command ∷ []);
 }
 
 -- The words have no fault, and ask for this: they name its command, and give its options.
@@ -528,8 +575,16 @@ pub record GivesNoList (words : List (List ℕ)) : Type 0 where
   pub has_encoder : (name ≡ codes "answer") ⊎ ((name ≡ codes "line") ⊎ (name ≡ codes "encoder"))
   pub no_list : (bytes : List ℕ) → IsList (services_text rows) bytes → ⊥
 
--- Why the words were refused: they have a fault of this kind, or give no list. Or there was no memory.
+-- The words ask for a ladder in a form that there is none of.
+pub record GivesNoForm (words : List (List ℕ)) : Type 0 where
+  pub rows : List Row
+  pub command : subcommand_of uecp_app words ≡ Some (codes "line", rows)
+  pub asks : is_some (first_of (codes "ladder") rows) ≡ true
+  pub no_form : (form : LadderForm) → first_of (codes "ladder") rows ≡ Some (ladder_word form) → ⊥
+
+-- Why the words were refused: they have a fault of this kind, or give no list, or no form. Or there was no memory.
 abbrev pub RefusesWords : (words : List (List ℕ)) → Usage → Type 0
 RefusesWords words (Refused error) = IsAmong (kind_of error) (fault_of uecp_app words)
 RefusesWords words NotAList = GivesNoList words
+RefusesWords words NotAForm = GivesNoForm words
 RefusesWords words OutOfMemory = Unit {0}

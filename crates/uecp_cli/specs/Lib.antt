@@ -5,3 +5,5 @@ pub mod CommandLine
 pub mod Unreached
 pub mod Kept
 pub mod Program
+pub mod FileLines
+pub mod Settled

@@ -13,7 +13,7 @@ use Rattle.uecp_net.specs.Tcp.{Dials}
 use Rattle.uecp_jobs.specs.declared.job.Job.{Job}
 use Rattle.uecp_jobs.specs.declared.job.Job.TheVariants.{Encoder, Server, Watch}
 use Rattle.uecp_cli.specs.declared.usage.Usage.{Usage}
-use Rattle.uecp_cli.specs.declared.usage.Usage.TheVariants.{Refused, NotAList, OutOfMemory}
+use Rattle.uecp_cli.specs.declared.usage.Usage.TheVariants.{Refused, NotAList, NotAForm, OutOfMemory}
 use Rattle.rds_store.specs.Value.{Store}
 use Rattle.uecp_encoder.specs.State.{EncoderState}
 use Rattle.uecp_link.specs.Server.{ServerState}
@@ -23,9 +23,9 @@ use Rattle.kept_sending.specs.Keeping as sending
 use Rattle.state_files.specs.declared.reading.Found.{Found}
 use Rattle.uecp_cli.specs.declared.task.Task.{Task}
 use Rattle.uecp_cli.specs.declared.task.Task.TheVariants.{Plain, Kept, Send, Device, OnAir, Receive, Conformance, Page}
-use Rattle.uecp_cli.specs.declared.task.Task.TheVariants.{State}
+use Rattle.uecp_cli.specs.declared.task.Task.TheVariants.{State, Ladder}
 use Rattle.uecp_cli.specs.Kept.{IsKeptDone, IsKeptRefused, IsKeptStopped, IsKeptIn, HasTold, HasNotTold}
-use Rattle.uecp_cli.specs.CommandLine.{uecp_app, Asks, GivesNoList, IsEnd}
+use Rattle.uecp_cli.specs.CommandLine.{uecp_app, Asks, GivesNoForm, GivesNoList, IsEnd}
 use Rattle.uecp_cli.specs.Unreached.{MaySayUnreached}
 use Rattle.uecp_watch.specs.Watching.{Watches}
 use Rattle.uecp_jobs.specs.Jobs.{IsDone, IsRefused, IsUndescribed, HasFailed}
@@ -57,6 +57,10 @@ AreMistaken words = (kind : ErrorKind) × IsAmong kind (fault_of uecp_app words)
 -- What is said of a list of services that is none.
 abbrev pub no_list_line : List ℕ
 no_list_line = codes "uecp: services: NotAList\n"
+
+-- What is said of a form of a ladder that is none.
+abbrev pub no_form_line : List ℕ
+no_form_line = codes "uecp: ladder: svg or text\n"
 
 -- What came was told as it came, up to its end.
 abbrev pub HasWatched : Job → (unread unread' held held' : Option (List ℕ)) → Type 0
@@ -94,7 +98,7 @@ HasNotEnded job unread unread' held held' told told' =
     ⊎ HasStoppedWatching job unread unread' held held' told told'))
 
 -- It is run as a job of `run_job` and its like: one with its state in a file is that of an end. To send for as long as
--- lines come, to be a device, what is on the air, conformance cases and a live page are other matters.
+-- lines come, to be a device, what is on the air, conformance cases, a live page and a ladder are other matters.
 abbrev pub IsRunnable : Task → Type 0
 IsRunnable (Plain job) = Unit {0}
 IsRunnable (Kept job path) = IsEnd job
@@ -105,6 +109,7 @@ IsRunnable (Receive job) = ⊥
 IsRunnable (Conformance job) = ⊥
 IsRunnable (Page job) = ⊥
 IsRunnable (State path) = Unit {0}
+IsRunnable (Ladder job) = ⊥
 
 -- The options of what is asked for describe no encoder, or no address of one, and that was said, or begun to be said.
 abbrev pub IsTaskUndescribed : Task → (told told' : Option (List ℕ)) → Type 0
@@ -117,6 +122,7 @@ IsTaskUndescribed (Receive job) told told' = ⊥
 IsTaskUndescribed (Conformance job) told told' = ⊥
 IsTaskUndescribed (Page job) told told' = ⊥
 IsTaskUndescribed (State path) told told' = ⊥
+IsTaskUndescribed (Ladder job) told told' = ⊥
 
 -- What is asked for was done.
 abbrev pub IsTaskDone : (finds : (path : List ℕ) → Found → Type 0) → Task
@@ -131,6 +137,7 @@ IsTaskDone finds (Receive job) unread unread' held held' = ⊥
 IsTaskDone finds (Conformance job) unread unread' held held' = ⊥
 IsTaskDone finds (Page job) unread unread' held held' = ⊥
 IsTaskDone finds (State path) unread unread' held held' = HasTold finds (string_bytes path) unread unread' held held'
+IsTaskDone finds (Ladder job) unread unread' held held' = ⊥
 
 -- A line of its input was refused.
 abbrev pub IsTaskRefused : Task → (unread unread' held held' told told' : Option (List ℕ)) → Type 0
@@ -143,6 +150,7 @@ IsTaskRefused (Receive job) unread unread' held held' told told' = ⊥
 IsTaskRefused (Conformance job) unread unread' held held' told told' = ⊥
 IsTaskRefused (Page job) unread unread' held held' told told' = ⊥
 IsTaskRefused (State path) unread unread' held held' told told' = ⊥
+IsTaskRefused (Ladder job) unread unread' held held' told told' = ⊥
 
 -- It came to no end, and that was said.
 abbrev pub IsTaskStopped : (finds : (path : List ℕ) → Found → Type 0) → Task
@@ -159,6 +167,7 @@ IsTaskStopped finds (Conformance job) unread unread' held held' told told' = ⊥
 IsTaskStopped finds (Page job) unread unread' held held' told told' = ⊥
 IsTaskStopped finds (State path) unread unread' held held' told told' =
     HasNotTold finds (string_bytes path) unread unread' held held' told told'
+IsTaskStopped finds (Ladder job) unread unread' held held' told told' = ⊥
 
 -- What is kept in the file of an end's state, where that is asked for.
 abbrev pub IsTaskKept : {E S : Type 0} → (gives_encoder : (path : List ℕ) → EncoderState Store → E → Type 0)
@@ -185,8 +194,9 @@ IsTaskKept gives_encoder encoder_leaves encoder_clean gives_server server_leaves
 IsTaskKept gives_encoder encoder_leaves encoder_clean gives_server server_leaves server_clean (Page job) unread
     unread' held held' = ⊥
 IsTaskKept gives_encoder encoder_leaves encoder_clean gives_server server_leaves server_clean (State path) unread
-    unread'
-    held held' = Unit {0}
+    unread' held held' = Unit {0}
+IsTaskKept gives_encoder encoder_leaves encoder_clean gives_server server_leaves server_clean (Ladder job) unread
+    unread' held held' = ⊥
 
 -- The words ask for something, and it was done.
 abbrev pub HasDone : (finds : (path : List ℕ) → Found → Type 0) → (words : List (List ℕ))
@@ -209,23 +219,26 @@ HasBrokenOff finds words unread unread' held held' told told' =
 abbrev pub SaysFailure : (told told' : Option (List ℕ)) → Type 0
 SaysFailure told told' = (fault : RunFault) × Fails fault × Begins told told' (error_lines fault)
 
--- The words ask for nothing that can be done: they are mistaken, or give a list of services that is none, or ask for a
--- job whose options describe no encoder. The last two were said on standard error, or begun to be said; the first is
--- said by clap.
+-- The words ask for nothing that can be done: they are mistaken, or give a list of services that is none or a form of a
+-- ladder that is none, or ask for a job whose options describe no encoder. The first is said by clap, and the others
+-- were said on standard error, or begun to be said.
 abbrev pub HasRefusedWords : (words : List (List ℕ)) → (told told' : Option (List ℕ)) → Type 0
 HasRefusedWords words told told' =
     AreMistaken words ⊎ ((GivesNoList words × Begins told told' no_list_line)
-    ⊎ ((task : Task) × Asks words task × IsTaskUndescribed task told told'))
+    ⊎ ((GivesNoForm words × Begins told told' no_form_line)
+    ⊎ ((task : Task) × Asks words task × IsTaskUndescribed task told told')))
 
 -- ---- by the refusal of the words
 -- It is a question for a text.
 abbrev pub AsksForText : Usage → Type 0
 AsksForText (Refused error) = (kind_of error ≡ DisplayHelp) ⊎ (kind_of error ≡ DisplayVersion)
 AsksForText NotAList = ⊥
+AsksForText NotAForm = ⊥
 AsksForText OutOfMemory = ⊥
 
--- It is a mistake, and of a list of services that was said, or begun to be said.
+-- It is a mistake, and of a list of services and of a ladder's form that was said, or begun to be said.
 abbrev pub SaysMistake : Usage → (told told' : Option (List ℕ)) → Type 0
 SaysMistake (Refused error) told told' = (kind_of error ≢ DisplayHelp) × (kind_of error ≢ DisplayVersion)
 SaysMistake NotAList told told' = Begins told told' no_list_line
+SaysMistake NotAForm told told' = Begins told told' no_form_line
 SaysMistake OutOfMemory told told' = ⊥

@@ -9,7 +9,7 @@ use Rattle.uecp_cli.specs.declared.task.Task.{Task}
 use Rattle.air_jobs.specs.declared.air_job.AirJob.{AirJob}
 use Rattle.conformance_running.specs.Conformance.{IsInRange as IsConformanceInRange}
 use Rattle.uecp_cli.specs.declared.task.Task.TheVariants.{Plain, Kept, Send, Device, OnAir, Receive, Conformance, Page}
-use Rattle.uecp_cli.specs.declared.task.Task.TheVariants.{State}
+use Rattle.uecp_cli.specs.declared.task.Task.TheVariants.{State, Ladder}
 
 -- A number lies from the least to the greatest.
 abbrev pub Lies : (least greatest number : ℕ) → Type 0
@@ -67,3 +67,4 @@ AreInRange (Receive job) = Unit {0}
 AreInRange (Conformance job) = IsConformanceInRange job
 AreInRange (Page job) = Unit {0}
 AreInRange (State path) = Unit {0}
+AreInRange (Ladder job) = IsSetupInRange job.site job.encoder job.sets

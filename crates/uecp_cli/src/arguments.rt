@@ -2,7 +2,8 @@
 ghost use Rattle.std.specs.Prelude.{◌≡◌, false, codes, Some};
 ghost use Rattle.clap.specs.Words.{rule_of};
 ghost use Rattle.uecp_cli.specs.CommandLine.{rule_for, word_option, services_option, state_option};
-ghost use Rattle.uecp_cli.specs.CommandLine.{file_argument, flag, maybe_word, station_option, place_argument};
+ghost use Rattle.uecp_cli.specs.CommandLine.{file_argument, flag, ladder_option, maybe_word, station_option};
+ghost use Rattle.uecp_cli.specs.CommandLine.{place_argument};
 
 use crate::numbers::NumberOption;
 use clap::{Arg, ArgAction, value_parser};
@@ -83,6 +84,22 @@ pub fn host<'a>(alloc: Global) -> Arg<'a>
         .help("Where the encoder listens, a name or an address")
         .action(ArgAction::Set)
         .default_value("127.0.0.1")
+}
+
+/// The option `ladder`.
+pub fn ladder<'a>(alloc: Global) -> Arg<'a>
+    ensures rule { rule_of result ≡ ladder_option }
+    ensures own { result.global ≡ false }
+{
+    Arg::new(alloc, "ladder")
+        .long("ladder")
+        .value_name("FORM")
+        .help(
+            "Draw the line as a ladder, as SVG, or with 'text' for a terminal; it goes before the form and the store",
+        )
+        .action(ArgAction::Set)
+        .num_args(0..=1)
+        .default_missing_value("svg")
 }
 
 /// The option `state`.

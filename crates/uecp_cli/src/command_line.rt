@@ -6,14 +6,15 @@ ghost use Rattle.clap.specs.Simple.{Shape, new_shape};
 ghost use Rattle.uecp_cli.specs.Ranges.{AreInRange};
 ghost use Rattle.uecp_cli.specs.CommandLine.{uecp_app, Asks, RefusesWords, command_with, place_options};
 ghost use Rattle.uecp_cli.specs.CommandLine.{encoder_options, answering_command, receiving_command, trying_command};
-ghost use Rattle.uecp_cli.specs.CommandLine.{paging_command};
+ghost use Rattle.uecp_cli.specs.CommandLine.{paging_command, playing_command};
 ghost use Rattle.uecp_cli.specs.CommandLine.{store_command, showing_command, making_command, listening_command};
 ghost use Rattle.uecp_cli.specs.CommandLine.{sending_command, live_command, watching_command, looking_command, flag};
 
 use crate::arguments::{
-    file, flag, host, maybe_number, maybe_word, number, place, services, state, station,
+    file, flag, host, ladder, maybe_number, maybe_word, number, place, services, state, station,
 };
 use crate::device_job::encoder_of;
+use crate::file_options::configurable;
 use crate::live_job::send_of;
 use crate::matched::{answer_of, line_of, make_of, server_of, show_of, state_of, watch_of};
 use crate::numbers::{
@@ -29,7 +30,8 @@ use crate::usage::Usage;
 use clap::{Arg, Command};
 use std::alloc::{AllocError, Global};
 
-const VERSION: &str = "0.1.0";
+/// The version. `packaging/stamp` writes the commit over the word in brackets once the program is built.
+const VERSION: &str = "1.0.0 (unreleased)";
 
 /// What the exit statuses say, below the list of commands.
 const STATUSES: &str =
@@ -71,18 +73,18 @@ pub fn program<'a>(alloc: Global) -> Result<Command<'a>, AllocError>
         .about("Both ends of an RDS encoder's control line (UECP)")
         .after_help(STATUSES)
         .subcommand_required(true)
-        .subcommand(answer_command(alloc)?)?
-        .subcommand(show_command(alloc)?)?
-        .subcommand(make_command(alloc)?)?
-        .subcommand(line_command(alloc)?)?
-        .subcommand(encoder_command(alloc)?)?
-        .subcommand(server_command(alloc)?)?
-        .subcommand(send_command(alloc)?)?
-        .subcommand(watch_command(alloc)?)?
-        .subcommand(state_command(alloc)?)?
-        .subcommand(receive_command(alloc)?)?
-        .subcommand(conformance_command(alloc)?)?
-        .subcommand(page_command(alloc)?)
+        .subcommand(configurable(alloc, answer_command(alloc)?)?)?
+        .subcommand(configurable(alloc, show_command(alloc)?)?)?
+        .subcommand(configurable(alloc, make_command(alloc)?)?)?
+        .subcommand(configurable(alloc, line_command(alloc)?)?)?
+        .subcommand(configurable(alloc, encoder_command(alloc)?)?)?
+        .subcommand(configurable(alloc, server_command(alloc)?)?)?
+        .subcommand(configurable(alloc, send_command(alloc)?)?)?
+        .subcommand(configurable(alloc, watch_command(alloc)?)?)?
+        .subcommand(configurable(alloc, state_command(alloc)?)?)?
+        .subcommand(configurable(alloc, receive_command(alloc)?)?)?
+        .subcommand(configurable(alloc, conformance_command(alloc)?)?)?
+        .subcommand(configurable(alloc, page_command(alloc)?)?)
 }
 
 fn answer_command<'a>(alloc: Global) -> Result<Command<'a>, AllocError>
@@ -131,7 +133,7 @@ fn make_command<'a>(alloc: Global) -> Result<Command<'a>, AllocError>
 }
 
 fn line_command<'a>(alloc: Global) -> Result<Command<'a>, AllocError>
-    ensures { IfOk result (λ command. shape_of command ≡ store_command (codes "line")) }
+    ensures { IfOk result (λ command. shape_of command ≡ playing_command) }
 {
     with_store(
         alloc,
@@ -140,7 +142,8 @@ fn line_command<'a>(alloc: Global) -> Result<Command<'a>, AllocError>
             .after_help(
                 "Lines: submit HEX, frame N, reply N, noise-encoder HEX, noise-server HEX, line-lost encoder or server, take, restart server\nExample: printf 'submit -\\nframe 0\\nreply 0\\n' | uecp line",
             ),
-    )
+    )?
+    .arg(ladder(alloc))
 }
 
 fn encoder_command<'a>(alloc: Global) -> Result<Command<'a>, AllocError>

@@ -13,6 +13,8 @@
 mod arguments;
 mod command_line;
 mod device_job;
+mod file_fault;
+mod file_options;
 mod forms;
 mod live_job;
 mod matched;
@@ -21,6 +23,7 @@ mod page_task;
 mod program;
 mod receive_job;
 mod services;
+mod settling;
 mod task;
 mod trying_job;
 mod unreached;
@@ -28,16 +31,18 @@ mod usage;
 
 use crate::command_line::program;
 use crate::program::{Ran, receive, refuse, run_words, send};
+use crate::settling::settle;
 use crate::usage::Usage;
 use air_jobs::run_answer_on_air;
 use clap::error;
 use conformance_running::run_conformance_over_tcp;
 use device_jobs::run_device_over_tcp;
+use ladders::run_ladder;
 use live_edges::{Polled, Watch};
 use on_air_jobs::run_on_air_over_tcp;
 use page_edges::run_page_over_tcp;
 use std::env;
-use std::io::{ErrorKind, Input, Lock};
+use std::io::{ErrorKind, Input, Lock, Write};
 use std::process::ExitCode;
 
 /// The descriptor of standard input.
@@ -47,7 +52,7 @@ fn main(rt: HostRuntime) -> ExitCode {
     let mut reader = rt.stdin().lock();
     let mut writer = rt.stdout().lock();
     let mut errors = rt.stderr().lock();
-    let status = match words_of(&rt) {
+    let status = match settled_words(&rt, &mut writer, &mut errors) {
         Ok(words) => {
             let words = words.as_slice();
             let ran = run_words(
@@ -83,6 +88,9 @@ fn main(rt: HostRuntime) -> ExitCode {
                 }
                 Ran::Airs(job) => {
                     run_answer_on_air(rt.alloc(), &job, &mut reader, &mut writer, &mut errors)
+                }
+                Ran::Draws(job) => {
+                    run_ladder(rt.alloc(), &job, &mut reader, &mut writer, &mut errors)
                 }
                 Ran::Receives(job) => {
                     receive(rt.alloc(), &job, &rt, &mut reader, &mut writer, &mut errors)
@@ -124,9 +132,22 @@ fn main(rt: HostRuntime) -> ExitCode {
                 }
             }
         }
-        Err(usage) => refuse(&usage, &mut writer, &mut errors),
+        Err(status) => status,
     };
     ExitCode::from(status)
+}
+
+/// The words of the command line, with the options of the file that they name; or the exit status where they are none,
+/// or where that file was looked at alone.
+fn settled_words<W: Write, E: Write>(
+    rt: &HostRuntime,
+    writer: &mut W,
+    errors: &mut E,
+) -> Result<Vec<String>, u8> {
+    match words_of(rt) {
+        Ok(words) => settle(rt.alloc(), words, rt, writer, errors),
+        Err(usage) => Err(refuse(&usage, writer, errors)),
+    }
 }
 
 /// The words of the command line as the machine gives them.

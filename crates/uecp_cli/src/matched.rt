@@ -1,10 +1,11 @@
 //! The jobs that the matches of the program's commands ask for (profile).
-ghost use Rattle.std.specs.Prelude.{◌≡◌, ◌≤◌, [], codes, IfOk, IfErr};
+ghost use Rattle.std.specs.Prelude.{◌≡◌, ◌≤◌, [], true, codes, is_some, option_map, Some, IfOk, IfErr};
 ghost use Rattle.std.specs.String.{string_bytes};
-ghost use Rattle.clap.specs.Words.{found_of, one_of, rows_of};
+ghost use Rattle.clap.specs.Words.{first_of, found_of, one_of, rows_of};
 ghost use Rattle.uecp_cli.specs.CommandLine.{IsOption, IsList, IsTaskOf, RefusesList, services_text, host_text};
-ghost use Rattle.uecp_cli.specs.CommandLine.{IsEnd, IsKeptAs, IsMaybe, word_text};
-ghost use Rattle.uecp_cli.specs.declared.usage.Usage.TheVariants.{OutOfMemory};
+ghost use Rattle.uecp_cli.specs.CommandLine.{IsEnd, IsKeptAs, IsMaybe, RefusesLine, ladder_word, word_text};
+ghost use Rattle.uecp_cli.specs.declared.usage.Usage.TheVariants.{NotAForm, OutOfMemory};
+ghost use Rattle.ladders.specs.declared.drawing.LadderForm.{LadderForm};
 
 use crate::forms::{flag_of, form_of, wording_of};
 use crate::numbers::{
@@ -16,6 +17,7 @@ use crate::task::Task;
 use crate::usage::Usage;
 use air_jobs::AirJob;
 use clap::ArgMatches;
+use ladders::{LadderForm, LadderJob};
 use std::alloc::{AllocError, Global};
 use uecp_jobs::{Form, Job};
 
@@ -133,22 +135,29 @@ pub fn answer_of(alloc: Global, found: &ArgMatches<'_>) -> Result<Task, Usage>
 /// The job of the command `line`.
 pub fn line_of(alloc: Global, found: &ArgMatches<'_>) -> Result<Task, Usage>
     ensures job { IfOk result (IsTaskOf (codes "line") (rows_of (found_of found.now))) }
-    ensures refused { IfErr result (RefusesList (services_text (rows_of (found_of found.now)))) }
+    ensures refused { IfErr result (RefusesLine (rows_of (found_of found.now))) }
 {
     let site = short_of(found, &SITE);
     let encoder = small_of(found, &ENCODER);
     let sets = small_of(found, &SETS);
     let services = list_of(alloc, found)?;
     let store = flag_of(found, "store");
-    match form_of(found) {
-        Form::Lines => Ok(Task::Plain(Job::Line {
+    match (ladder_of(found)?, form_of(found)) {
+        (Some(form), _) => Ok(Task::Ladder(LadderJob {
+            site,
+            encoder,
+            sets,
+            services,
+            form,
+        })),
+        (None, Form::Lines) => Ok(Task::Plain(Job::Line {
             site,
             encoder,
             sets,
             services,
             store,
         })),
-        form => Ok(Task::Plain(Job::LineAs {
+        (None, form) => Ok(Task::Plain(Job::LineAs {
             site,
             encoder,
             sets,
@@ -156,6 +165,23 @@ pub fn line_of(alloc: Global, found: &ArgMatches<'_>) -> Result<Task, Usage>
             store,
             form,
         })),
+    }
+}
+
+/// The form of a ladder, where one is asked for; `NotAForm` where there is none of that name.
+fn ladder_of(found: &ArgMatches<'_>) -> Result<Option<LadderForm>, Usage>
+    ensures form { IfOk result (λ form. option_map ladder_word form
+        ≡ first_of (codes "ladder") (rows_of (found_of found.now))) }
+    ensures refused { IfErr result (λ why. (why ≡ NotAForm)
+        × (is_some (first_of (codes "ladder") (rows_of (found_of found.now))) ≡ true)
+        × ((form : LadderForm) → first_of (codes "ladder") (rows_of (found_of found.now)) ≡ Some (ladder_word form)
+        → ⊥)) }
+{
+    match found.get_str("ladder") {
+        None => Ok(None),
+        Some("svg") => Ok(Some(LadderForm::Picture)),
+        Some("text") => Ok(Some(LadderForm::Text)),
+        Some(_) => Err(Usage::NotAForm),
     }
 }
 

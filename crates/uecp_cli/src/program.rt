@@ -19,6 +19,8 @@ ghost use Rattle.uecp_cli.specs.Unreached.{MaySayUnreached};
 ghost use Rattle.state_jobs.specs.Kept.{HasServedKept, HasSentKept, SaysWhy};
 ghost use Rattle.send_jobs.specs.declared.job.SendJob.{SendJob};
 ghost use Rattle.uecp_cli.specs.declared.program.Ran.TheVariants.{Ended, Sends, Serves, Airs, Receives, Tries, Pages};
+ghost use Rattle.uecp_cli.specs.declared.program.Ran.TheVariants.{Draws};
+ghost use Rattle.ladders.specs.declared.ladder_job.LadderJob.{LadderJob};
 ghost use Rattle.device_jobs.specs.declared.job.DeviceJob.{DeviceJob};
 ghost use Rattle.air_jobs.specs.declared.air_job.AirJob.{AirJob};
 ghost use Rattle.page_edges.specs.declared.page_job.PageJob.{PageJob};
@@ -27,7 +29,8 @@ ghost use Rattle.receiving.specs.declared.receive_job.ReceiveJob.{ReceiveJob};
 ghost use Rattle.conformance_running.specs.declared.job.ConformanceJob.{ConformanceJob};
 ghost use Rattle.conformance_running.specs.Conformance.{IsInRange as IsConformanceInRange};
 ghost use Rattle.uecp_cli.specs.declared.task.Task.TheVariants.{Send, Device, OnAir, Receive, Conformance, Page};
-ghost use Rattle.uecp_cli.specs.Ranges.{IsLiveInRange, IsDeviceInRange, IsOnAirInRange};
+ghost use Rattle.uecp_cli.specs.declared.task.Task.TheVariants.{Ladder};
+ghost use Rattle.uecp_cli.specs.Ranges.{IsLiveInRange, IsDeviceInRange, IsOnAirInRange, IsSetupInRange};
 ghost use Rattle.uecp_cli.specs.CommandLine.{Asks, IsEnd};
 
 use crate::command_line::parse;
@@ -38,6 +41,7 @@ use air_jobs::AirJob;
 use clap::Error;
 use conformance_running::ConformanceJob;
 use device_jobs::DeviceJob;
+use ladders::LadderJob;
 use line_feed::{Arrival, LineFeed};
 use live_edges::Watch;
 use page_edges::PageJob;
@@ -51,7 +55,7 @@ use std::net::{Net, TcpListener, TcpStream};
 use std::time::Clock;
 use uecp_jobs::{Form, Job, fail, run_encoder, run_job, run_server};
 use uecp_net::{Dialing, Local};
-use uecp_text::RunFault;
+use uecp_text::{RunFault, write_parts};
 use uecp_watch::watch;
 
 /// What came of the words of a command line.
@@ -71,12 +75,15 @@ pub enum Ran {
     Tries(ConformanceJob),
     /// They ask for a live page. Nothing was done yet.
     Pages(PageJob),
+    /// They ask for a ladder of a line. Nothing was done yet.
+    Draws(LadderJob),
 }
 
 /// Does what the words of a command line ask for, the first being the program's name, and answers the exit status: 0
 /// done, 1 a line of input was refused, 2 the words or the services were refused, 3 memory, reading, writing or a
 /// connection failed. Where they ask to send messages for as long as lines come, for what only a device does, for what
-/// is on the air, for what a receiver shows, or which rules an encoder keeps, that is answered, and nothing is done.
+/// is on the air, for what a receiver shows, which rules an encoder keeps, a live page or a ladder, that is answered,
+/// and nothing is done.
 pub fn run_words<
     R: Read,
     W: Write,
@@ -112,6 +119,10 @@ pub fn run_words<
     // So was a live page.
     ensures pages { (job : PageJob) → result ≡ Pages job → Asks (map string_bytes words.now) (Page job)
         × (reader.new ≡ reader.old) × (writer.new ≡ writer.old) × (errors.new ≡ errors.old) }
+    // So was a ladder of a line.
+    ensures draws { (job : LadderJob) → result ≡ Draws job → Asks (map string_bytes words.now) (Ladder job)
+        × IsSetupInRange job.site job.encoder job.sets × (reader.new ≡ reader.old) × (writer.new ≡ writer.old)
+        × (errors.new ≡ errors.old) }
     // 0: what the words ask for was done; or they ask for a text, and nothing was read. Nothing was said on `errors`.
     ensures done { result ≡ Ended 0
         → (HasDone (S.finds states.now) (map string_bytes words.now) (R.remaining reader.old)
@@ -139,6 +150,7 @@ pub fn run_words<
         Ok(Task::Receive(job)) => Ran::Receives(job),
         Ok(Task::Conformance(job)) => Ran::Tries(job),
         Ok(Task::Page(job)) => Ran::Pages(job),
+        Ok(Task::Ladder(job)) => Ran::Draws(job),
         Ok(task) => Ran::Ended(run_task(alloc, &task, reader, writer, errors, net, states)),
         Err(usage) => Ran::Ended(refuse(&usage, writer, errors)),
     }
@@ -250,7 +262,7 @@ fn run_task<
         }
         Task::Send(_) | Task::Device(_) => unreachable!(),
         Task::OnAir(_) | Task::Receive(_) => unreachable!(),
-        Task::Conformance(_) | Task::Page(_) => unreachable!(),
+        Task::Conformance(_) | Task::Page(_) | Task::Ladder(_) => unreachable!(),
         Task::State(path) => tell_state(alloc, path.as_str(), states, writer, errors),
     }
 }
@@ -485,6 +497,10 @@ pub fn refuse<W: Write, E: Write>(usage: &Usage, writer: &mut W, errors: &mut E)
             Err(fault) => fail(&fault, errors),
         },
         Usage::NotAList => fail(&RunFault::NotAList, errors),
+        Usage::NotAForm => {
+            let _ = write_parts(&[b"uecp: ladder: svg or text\n"], errors);
+            2
+        }
         Usage::OutOfMemory => fail(&RunFault::OutOfMemory, errors),
     }
 }

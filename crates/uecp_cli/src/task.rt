@@ -3,6 +3,7 @@
 use air_jobs::AirJob;
 use conformance_running::ConformanceJob;
 use device_jobs::DeviceJob;
+use ladders::LadderJob;
 use page_edges::PageJob;
 use receiving::ReceiveJob;
 use send_jobs::SendJob;
@@ -29,4 +30,6 @@ pub enum Task {
     Page(PageJob),
     /// What is in the state file at this path.
     State(String),
+    /// A ladder of a line.
+    Ladder(LadderJob),
 }

@@ -14,6 +14,8 @@ pub enum Usage {
     Refused(Error),
     /// The services are not two-digit hexadecimal numbers between single commas.
     NotAList,
+    /// The form of a ladder is neither `svg` nor `text`.
+    NotAForm,
     /// There was no memory to read the words.
     OutOfMemory,
 }

@@ -4,7 +4,7 @@ use Rattle.std.proofs.lemmas.Result.{IfOk-weaker, IfErr-weaker}
 use Rattle.clap.specs.Words.{found_of, rows_of}
 use Rattle.uecp_cli.specs.CommandLine.{IsTaskOf, RefusesWords}
 use Rattle.uecp_cli.proofs.Asked.{asks, no_other, faultless_of, faulty_of, gives_no_list, are_in_range, met_of}
-use Rattle.uecp_cli.proofs.Asked.{none_named, refuses_words}
+use Rattle.uecp_cli.proofs.Asked.{none_named, refuses_line, refuses_words}
 use Rattle.uecp_cli.proofs.command_line.parse.Goals as goal
 
 pub returns-in_err-matches-clause-refused : goal.returns-in_err-matches-clause-refused
@@ -65,8 +65,8 @@ returns-in-Some-line-default-clause-refused c =
     let rows = rows_of (found_of now.found.now) in
     let met = met_of _ words c.in_ok-matches.matches c.in_ok-program.ensures c.in_ok-matches.ensures.matches in
     IfErr-weaker c.line_of.result _ _
-    (λ why no. gives_no_list words c.in_ok-matches.matches now.field-0-0.now rows why now.ensures.name now.ensures.rows
-    met (inr (inl now.is-line)) no)
+    (λ why no. refuses_line words c.in_ok-matches.matches now.field-0-0.now rows why now.ensures.name now.ensures.rows
+    met now.is-line no)
     c.line_of.ensures.refused
 
 pub returns-in-Some-encoder-default-clause-range : goal.returns-in-Some-encoder-default-clause-range

@@ -1,4 +1,4 @@
-use Rattle.std.proofs.Common.{◌≡◌, refl, sym, ap, ◌∙◌, option_map, Some, None}
+use Rattle.std.proofs.Common.{sym, ap, ◌∙◌, option_map, Some}
 use Rattle.clap.specs.Words.{found_of}
 use Rattle.clap.proofs.WalkLemmas.{first_value-rows}
 use Rattle.uecp_cli.proofs.live_job.word_of.Goals as goal

@@ -1,4 +1,4 @@
-use Rattle.std.proofs.Common.{◌≡◌, refl, sym, ap, ◌∙◌, codes, option_map, Some, None}
+use Rattle.std.proofs.Common.{refl, sym, ap, ◌∙◌, codes, option_map, Some}
 use Rattle.clap.specs.Words.{found_of}
 use Rattle.clap.proofs.WalkLemmas.{first_value-rows}
 use Rattle.uecp_cli.proofs.matched.task_of.Goals as goal
