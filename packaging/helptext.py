@@ -5,7 +5,7 @@ import subprocess
 from typing import NamedTuple, Optional
 
 SECONDS = 30
-OPTION = re.compile(r"(?:(-\w), |    )(--[\w-]+)(?: <([^>]+)>)?(?:  +(.*))?")
+OPTION = re.compile(r"(?:(-\w), |    )(--[\w-]+)(?: \[?<([^>]+)>\]?)?(?:  +(.*))?")
 DEFAULT = re.compile(r"(.*?) ?\[default: ([^\]]*)\]")
 
 
@@ -84,7 +84,7 @@ def command_of(name, text):
 
 def read(program):
     """Of a program, given by the words that start it."""
-    name, version = said(program, "--version").split()
+    name, version = said(program, "--version").split()[:2]
     text = said(program, "--help")
     commands = [(word, text.strip()) for word, text in pairs_of(parts_of(text)[2]["Commands"])]
     each = {word: command_of(word, said(program, word, "--help")) for word, _ in commands if word != "help"}
