@@ -9,3 +9,4 @@ pub mod Pieces
 pub mod Parts
 pub mod TwoDigits
 pub mod DigitValues
+pub mod Spaced

@@ -11,7 +11,7 @@ abbrev pub is_kept : ℕ → Bool
 is_kept byte = not (byte == 0x20)
 
 -- a digit is no space
-digit_kept : (c : ℕ) → is_hex_digit c ≡ true → is_kept c ≡ true
+pub digit_kept : (c : ℕ) → is_hex_digit c ≡ true → is_kept c ≡ true
 digit_kept c digit = grind arith
 
 -- taking spaces out of digits leaves them as they are

@@ -26,7 +26,7 @@ mod words;
 
 pub use input::{first_input_line, read_all, rest_after, text_of};
 pub use interpreter::{Interpreter, Taken, run};
-pub use output::Output;
+pub use output::{Output, digits_of_byte};
 pub use piece_buffer::PieceBuffer;
 pub use reporting::{report, write_parts};
 pub use run_fault::RunFault;

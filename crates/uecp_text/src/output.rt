@@ -78,7 +78,7 @@ impl Output {
 
     /// Adds the bytes as they are.
     #[inline]
-    fn add(&mut self, bytes: &[u8])
+    pub fn add(&mut self, bytes: &[u8])
         ensures added { Adds self.old self.new bytes.now }
         ensures begun { AddsFirst self.old self.new bytes.now }
     {
@@ -112,7 +112,7 @@ impl Output {
         ensures added { Adds self.old self.new (byte_word byte) }
         ensures begun { AddsFirst self.old self.new (byte_word byte) }
     {
-        let [high, low] = pair(byte);
+        let [high, low] = digits_of_byte(byte);
         self.add(&[b' ', high, low]);
     }
 
@@ -123,8 +123,8 @@ impl Output {
         ensures begun { AddsFirst self.old self.new (number_word number) }
     {
         let [high, low] = number.to_be_bytes();
-        let first = pair(high);
-        let last = pair(low);
+        let first = digits_of_byte(high);
+        let last = digits_of_byte(low);
         self.add(&[b' ', first[0], first[1], last[0], last[1]]);
     }
 
@@ -232,7 +232,7 @@ fn spell(bytes: &[u8], room: &mut [u8])
     ensures { room.new ≡ encode_upper bytes.now }
 {
     'bytes: for i in 0..bytes.len() {
-        let [high, low] = pair(bytes[i]);
+        let [high, low] = digits_of_byte(bytes[i]);
         room[2 * i] = high;
         room[2 * i + 1] = low;
     }
@@ -241,7 +241,7 @@ fn spell(bytes: &[u8], room: &mut [u8])
 /// The two upper case digits of the byte, that of its high four bits first.
 #[inline(always)]
 #[tactic(auto, using(crate::proofs::TwoDigits::entry_at))]
-fn pair(byte: u8) -> [u8; 2]
+pub fn digits_of_byte(byte: u8) -> [u8; 2]
     ensures { result ≡ slice_index upper_digits (byte / 16) ∷ slice_index upper_digits (byte % 16) ∷ [] }
 {
     PAIRS[usize::from(byte)]

@@ -1,5 +1,5 @@
 //! Room for the bytes of one text after another (profile).
-ghost use Rattle.std.specs.Prelude.{◌≡◌, ◌<◌, ◌≤◌, ◌*◌, ◌⊎◌, ◌==◌, ℕ, not, filter, length, true, false, Ok, IfOk};
+ghost use Rattle.std.specs.Prelude.{◌≡◌, ◌<◌, ◌≤◌, ◌+◌, ◌*◌, ◌⊎◌, ◌==◌, ℕ, not, filter, length, true, false, Ok, IfOk};
 ghost use Rattle.std.specs.Prelude.{IfErr, IsErr};
 ghost use Rattle.hex.specs.Hex.{decode_of, pair_value};
 ghost use Rattle.uecp_text.specs.declared.text_fault.TextFault.TheVariants.{NotHex, OutOfMemory};
@@ -19,7 +19,7 @@ const NO_BYTE: u16 = 0x100;
 pub struct PieceBuffer {
     /// The bytes of the last text.
     bytes: Vec<u8>,
-    /// The digits of the last text that had spaces.
+    /// The digits of the last text whose spaces were taken out.
     digits: Vec<u8>,
 }
 
@@ -57,15 +57,14 @@ impl PieceBuffer {
     }
 }
 
-/// Puts in the bytes of a text, its spaces taken out. Most texts have none, so they are looked for only in a text that
-/// does not decode as it stands.
+/// Puts in the bytes of a text, its spaces taken out. Most texts have none, or one between two pairs of digits, so
+/// spaces are taken out only of a text that is of neither form.
 #[inline(always)]
-#[tactic(auto, using(crate::proofs::Pieces::piece_as_it_stands))]
 fn put_bytes(text: &[u8], bytes: &mut Vec<u8>, digits: &mut Vec<u8>) -> Result<(), TextFault>
     ensures piece { IfOk result (λ _. bytes_in text.now ≡ Ok bytes.new.items) }
     ensures refused { IfErr result (λ e. (e ≡ OutOfMemory) ⊎ ((e ≡ NotHex) × IsErr (bytes_in text.now))) }
 {
-    if decode(text, bytes)? {
+    if decode_as_it_stands(text, bytes)? {
         return Ok(());
     }
     put_digits(text, digits)?;
@@ -74,6 +73,65 @@ fn put_bytes(text: &[u8], bytes: &mut Vec<u8>, digits: &mut Vec<u8>) -> Result<(
     } else {
         Err(TextFault::NotHex)
     }
+}
+
+/// Puts in the bytes of a text of pairs of digits, all with one space between or all with none, and says whether the
+/// text is nothing else. What stands behind the first pair tells which of the two it can be.
+#[inline(always)]
+#[tactic(auto, using(crate::proofs::Pieces::piece_as_it_stands))]
+fn decode_as_it_stands(text: &[u8], bytes: &mut Vec<u8>) -> Result<bool, AllocError>
+    ensures { result ≡ Ok true → bytes_in text.now ≡ Ok bytes.new.items }
+{
+    if text.len() > 2 && text[2] == b' ' {
+        decode_spaced(text, bytes)
+    } else {
+        decode(text, bytes)
+    }
+}
+
+/// Puts in the bytes of pairs of digits with one space between, and says whether the text is nothing else.
+#[inline(always)]
+fn decode_spaced(text: &[u8], bytes: &mut Vec<u8>) -> Result<bool, AllocError>
+    ensures { result ≡ Ok true → bytes_in text.now ≡ Ok bytes.new.items }
+{
+    if text.len() % 3 != 2 {
+        return Ok(false);
+    }
+    bytes.resize(text.len() / 3 + 1, 0)?;
+    Ok(fill_spaced(text, bytes.as_mut_slice()))
+}
+
+/// Fills the room with the bytes of pairs of digits with one space between, and says whether the text is nothing else.
+/// Two bytes are judged at once.
+#[inline(always)]
+fn fill_spaced(text: &[u8], room: &mut [u8]) -> bool
+    requires { length text.now + 1 ≡ 3 * length room.old }
+    ensures { result ≡ true → bytes_in text.now ≡ Ok room.new }
+{
+    let pairs = room.len() - 1;
+    let twos = pairs / 2;
+    'twos: for i in 0..twos {
+        let first = spelled(text[6 * i], text[6 * i + 1]);
+        let second = spelled(text[6 * i + 3], text[6 * i + 4]);
+        if first | second >= NO_BYTE || text[6 * i + 2] != b' ' || text[6 * i + 5] != b' ' {
+            return false;
+        }
+        room[2 * i] = first as u8;
+        room[2 * i + 1] = second as u8;
+    }
+    'others: for i in 2 * twos..pairs {
+        let byte = spelled(text[3 * i], text[3 * i + 1]);
+        if byte >= NO_BYTE || text[3 * i + 2] != b' ' {
+            return false;
+        }
+        room[i] = byte as u8;
+    }
+    let last = spelled(text[3 * pairs], text[3 * pairs + 1]);
+    if last >= NO_BYTE {
+        return false;
+    }
+    room[pairs] = last as u8;
+    true
 }
 
 /// Puts in the bytes of hexadecimal digits, two for each, and says whether the text is nothing else.

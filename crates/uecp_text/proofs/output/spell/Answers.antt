@@ -8,7 +8,7 @@ bytes-preserved c =
     let first : List ℕ → ℕ = λ digits. slice_index digits 0 in
     let second : List ℕ → ℕ = λ digits. slice_index digits 1 in
     encode_step upper_digits c.args.bytes.now c.bytes.room c.bytes.i _ _ (omega arith) (omega arith)
-    (ap first c.pair.ensures) (ap second c.pair.ensures) c.bytes.invariant
+    (ap first c.digits_of_byte.ensures) (ap second c.digits_of_byte.ensures) c.bytes.invariant
 
 pub returns : goal.returns
 returns c = encode_done upper_digits _ _ c.bytes.i (omega arith) (omega arith) c.bytes.invariant
