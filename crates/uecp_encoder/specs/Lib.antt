@@ -3,6 +3,7 @@ pub mod Target
 pub mod State
 pub mod Answering
 pub mod ReplyCodes
+pub mod Outcomes
 pub mod Holdings
 pub mod Laws
 pub mod Joining

@@ -9,11 +9,13 @@ ghost use Rattle.uecp_frame.specs.Frame.{spelling};
 ghost use Rattle.uecp_encoder.specs.State.{opening, restarted, fed};
 ghost use Rattle.uecp_encoder.specs.Answering.{AnswersPiece, Replied, reply_of, responses_to};
 ghost use Rattle.uecp_encoder.specs.ReplyCodes.{replies};
+ghost use Rattle.uecp_encoder.specs.Outcomes.{said_of};
 ghost use Rattle.uecp_encoder.specs.contracts.encoder.Encoder.{the_row};
 
 use crate::answer::{Answer, Coded, ReplyBytes, What};
 use crate::counts::Counts;
-use crate::holdings::{Holdings, Outcome};
+use crate::holdings::Holdings;
+use crate::outcome::{FedOutcome, Outcome};
 use crate::replying::spell_reply;
 use crate::target::Target;
 use rds_store::Group;
@@ -161,6 +163,29 @@ impl<T: Target> Encoder<T> {
                 | Outcome::Unnumbered
                 | Outcome::NotNext => None,
             },
+        }
+    }
+
+    /// As `feed`, for a caller that spells replies itself, or has them spelled already: of a reply it tells the code,
+    /// the counter and whether it is fresh.
+    ///
+    /// ```
+    /// let fed = encoder.feed_outcome(&[0xfe, 0xff, 0x00]); // used 2, Outcome::Dropped(FrameFault::TooShort)
+    /// ```
+    #[inline(always)]
+    pub fn feed_outcome(&mut self, piece: &[u8]) -> FedOutcome
+        ensures fits { result.used ≤ length piece.now }
+        ensures moves { 0 < length piece.now → 0 < result.used }
+        ensures state { self.new ≡ fed T.step self.old (take result.used piece.now) }
+        ensures says { responses_to T.step self.old (take result.used piece.now)
+            ≡ said_of self.old.address result.outcome }
+        // A reply goes out from the address that the encoder still has.
+        ensures address { self.new.address ≡ self.old.address }
+    {
+        let brought = self.deframer.feed_ref(piece);
+        FedOutcome {
+            used: brought.used,
+            outcome: self.holdings.take(&brought.found),
         }
     }
 

@@ -7,13 +7,14 @@ ghost use Rattle.uecp_frame.specs.Lent.{found_lent, frame_lent};
 ghost use Rattle.uecp_encoder.specs.State.{next_after, after_finding, after_findings};
 ghost use Rattle.uecp_encoder.specs.Answering.{response_to, responses};
 ghost use Rattle.uecp_encoder.specs.ReplyCodes.{replies_to};
-ghost use Rattle.uecp_encoder.specs.Holdings.{with_part, said_of, coded_of};
+ghost use Rattle.uecp_encoder.specs.Holdings.{with_part};
+ghost use Rattle.uecp_encoder.specs.Outcomes.{said_of, coded_of};
 
 use crate::counts::Counts;
+use crate::outcome::Outcome;
 use crate::target::Target;
 use reply_ring::ReplyRing;
-use uecp_elements::Code;
-use uecp_frame::{Address, FoundRef, FrameFault, FrameRef};
+use uecp_frame::{Address, FoundRef, FrameRef};
 
 /// The greatest counter of a numbered frame; 01 follows it.
 const LAST_COUNTER: u8 = 255;
@@ -29,21 +30,6 @@ pub(crate) struct Holdings<T> {
     pub(crate) ring: ReplyRing,
     /// What came, by kind.
     pub(crate) counts: Counts,
-}
-
-/// What a finding came to. It owns what it says, so that the reply can be spelled once the target is at rest.
-#[derive(Clone, Copy, Debug)]
-pub(crate) enum Outcome {
-    Nothing,
-    Dropped(FrameFault),
-    NotForMe,
-    Unnumbered,
-    NotNext,
-    Reply {
-        code: Code,
-        counter: u8,
-        fresh: bool,
-    },
 }
 
 impl<T: Target> Holdings<T> {

@@ -5,7 +5,8 @@
 //! message does is the matter of a [`Target`]; the store of RDS data is one. The modulator's side takes queued groups
 //! one by one by [`Encoder::take_group`].
 //!
-//! - [`Encoder`]: the state machine over bytes, with [`Answer`] and [`What`] as its answers, or [`Coded`].
+//! - [`Encoder`]: the state machine over bytes, with [`Answer`] and [`What`] as its answers, or [`Coded`], or
+//!   [`FedOutcome`] and [`Outcome`].
 //! - [`Target`]: what messages are applied to, and what the modulator takes its groups from.
 //! - [`Counts`]: what came, by kind.
 //! - [`serve`]: the encoder over a reader and a writer, each in a [`Meter`].
@@ -21,6 +22,7 @@ mod encoder;
 mod holdings;
 pub mod laws;
 mod meter;
+mod outcome;
 mod replying;
 mod serving;
 mod target;
@@ -29,5 +31,7 @@ pub use answer::{Answer, Coded, ReplyBytes, What};
 pub use counts::Counts;
 pub use encoder::{Encoder, EncoderFault};
 pub use meter::{Failed, Meter};
+pub use outcome::{FedOutcome, Outcome};
+pub use replying::spell_reply;
 pub use serving::{ServeFault, Served, serve};
 pub use target::Target;

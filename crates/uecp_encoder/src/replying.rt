@@ -7,8 +7,9 @@ use crate::answer::ReplyBytes;
 use uecp_elements::{ACK, Code};
 use uecp_frame::{Address, FrameRef, encode_ref};
 
-/// Replaces the content of `bytes` by the reply of the encoder at this address to a counter.
-pub(crate) fn spell_reply(address: Address, code: Code, counter: u8, bytes: &mut ReplyBytes)
+/// Replaces the content of `bytes` by the reply of the encoder at this address to a counter: from FE to FF, the bytes
+/// that [`Encoder::feed`](crate::Encoder::feed) lends.
+pub fn spell_reply(address: Address, code: Code, counter: u8, bytes: &mut ReplyBytes)
     ensures { bytes.new.items ≡ spelling (reply_of address counter code) }
 {
     let message = [ACK, code.byte(), counter];

@@ -5,7 +5,8 @@ use Rattle.uecp_frame.specs.Beyond.{open_beyond}
 use Rattle.uecp_frame.specs.Lent.{fed_lent}
 use Rattle.uecp_encoder.specs.State.{EncoderState, fed}
 use Rattle.uecp_encoder.specs.Answering.{Response, Replied, reply_of, responses_of, AnswersPiece}
-use Rattle.uecp_encoder.specs.Holdings.{with_part, said_of}
+use Rattle.uecp_encoder.specs.Holdings.{with_part}
+use Rattle.uecp_encoder.specs.Outcomes.{said_of}
 use Rattle.uecp_encoder.proofs.Feeding.{fed_is, answers_piece}
 use Rattle.uecp_encoder.proofs.encoder.Encoder.feed.Goals as goal
 use Rattle.uecp_encoder.proofs.encoder.Encoder.feed.Goals.{in-Nothing, in-Dropped, in-NotForMe, in-Unnumbered}
