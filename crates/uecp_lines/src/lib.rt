@@ -11,11 +11,13 @@
 
 mod element_lines;
 mod finding_lines;
+mod reply_lines;
 mod response_lines;
 mod step_lines;
 mod store_lines;
 
 pub use finding_lines::{put_fault, put_found};
+pub use reply_lines::ReplyLines;
 pub use response_lines::put_answer;
 pub use step_lines::{put_given_up, put_step, put_totals};
 pub use store_lines::put_last;
