@@ -24,12 +24,17 @@ class Device:
         self.child = subprocess.Popen(words, stdin=subprocess.DEVNULL, stdout=self.log, stderr=subprocess.PIPE)
 
     def __enter__(self):
+        self.listens_at(self.port)
+        return self
+
+    def listens_at(self, port):
+        """Waits until it does."""
         end = time.monotonic() + SECONDS
         while True:
             assert self.child.poll() is None and time.monotonic() < end, f"it doesn't listen; its status is {self.child.poll()}"
             with contextlib.suppress(OSError), open("/proc/net/tcp6" if ":" in self.host else "/proc/net/tcp", encoding="ascii") as table:
-                if re.search(f":{self.port:04X} [0-9A-F]+:0000 0A", table.read()):
-                    return self
+                if re.search(f":{port:04X} [0-9A-F]+:0000 0A", table.read()):
+                    return
             time.sleep(0.01)
 
     def __exit__(self, *_):

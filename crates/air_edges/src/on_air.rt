@@ -34,7 +34,8 @@ pub struct Places {
 }
 
 /// Listens at two places: at one connections of the studio are accepted, one at a time; at the other those who get the
-/// groups as they go out, from the next on, at most 64. Who does not take them in time is let go, which is said.
+/// groups as they go out, from the next on, at most 64. Who does not take them in time is let go, which is said; and so
+/// it is said that there are 64 and more want to listen, once until one of them is let go.
 #[derive(Drop)]
 pub struct OnAir<'a, N: Net<Listener = TcpListener, Stream = TcpStream> + Clock, W: Write> {
     net: &'a N,
@@ -49,6 +50,7 @@ pub struct OnAir<'a, N: Net<Listener = TcpListener, Stream = TcpStream> + Clock,
     line: Option<RawFd>,
     heard: u64,
     hearers: Hearers,
+    is_full_told: bool,
 }
 
 impl<'a, N: Net<Listener = TcpListener, Stream = TcpStream> + Clock, W: Write> OnAir<'a, N, W> {
@@ -80,6 +82,7 @@ impl<'a, N: Net<Listener = TcpListener, Stream = TcpStream> + Clock, W: Write> O
                 line: None,
                 heard: 0,
                 hearers: Hearers::new(alloc),
+                is_full_told: false,
             }),
             _ => Err(BindFault::Failed),
         }
@@ -143,7 +146,7 @@ impl<'a, N: Net<Listener = TcpListener, Stream = TcpStream> + Clock, W: Write> O
         }
     }
 
-    /// Accepts one who listens to the air.
+    /// Accepts one who listens to the air, or closes the connection where there is no room.
     fn accept_hearer(&mut self) {
         match self.air.accept() {
             Ok((stream, _)) => {
@@ -151,10 +154,19 @@ impl<'a, N: Net<Listener = TcpListener, Stream = TcpStream> + Clock, W: Write> O
                 if self.hearers.has_room() && stream.set_nonblocking(true).is_ok() {
                     self.hearers.add(stream);
                 } else {
-                    self.say(b"uecp: air: too many listen, and one more is not taken\n");
+                    self.tell_full();
                 }
             }
             Err(error) => self.rest(&error),
+        }
+    }
+
+    /// Says that one more is not taken, once until one of those who listen is let go: who comes again and again would
+    /// fill what takes the notices, and hold the encoder.
+    fn tell_full(&mut self) {
+        if !self.is_full_told {
+            self.say(b"uecp: air: too many listen, and one more is not taken\n");
+            self.is_full_told = true;
         }
     }
 
@@ -235,6 +247,9 @@ impl<'a, N: Net<Listener = TcpListener, Stream = TcpStream> + Clock, W: Write> M
     fn send(&mut self, group: &Group) {
         let bytes = bytes_of(group, self.form);
         let let_go = self.hearers.send(bytes.as_slice());
+        if self.hearers.has_room() {
+            self.is_full_told = false;
+        }
         for _one in 0..let_go.slow {
             self.say(b"uecp: air: one who listens does not keep up, and is closed\n");
         }

@@ -3,6 +3,7 @@ ghost use Rattle.std.specs.Prelude.{◌≡◌, ◌<◌, ◌≤◌, ◌⊎◌, If
 ghost use Rattle.rds_store.specs.Step.{step};
 ghost use Rattle.uecp_encoder.specs.State.{fed};
 ghost use Rattle.uecp_encoder.specs.Answering.{responses_to};
+ghost use Rattle.uecp_lines.specs.Lines.{response_line};
 ghost use Rattle.uecp_text.specs.Written.{Adds};
 ghost use Rattle.uecp_text.specs.declared.run_fault.RunFault.TheVariants.{OutOfMemory};
 ghost use Rattle.uecp_jobs.specs.Commands.{AnswersIn};
@@ -15,6 +16,7 @@ use output_forms::{Form, put_answer, put_store};
 use rds_store::RdsStore;
 use std::alloc::Global;
 use uecp_encoder::Encoder;
+use uecp_lines::ReplyLines;
 use uecp_text::{Interpreter, Output, PieceBuffer, RunFault, Taken, TextFault, rest_after};
 
 /// Feeds pieces to an encoder and says what it answers to each; then, where that is asked for, its store.
@@ -25,6 +27,8 @@ pub struct Answering {
     asked: Asked,
     /// Room for one piece after another.
     room: PieceBuffer,
+    /// The lines of the replies, as they were written before.
+    replies: ReplyLines,
 }
 
 impl Answering {
@@ -36,10 +40,12 @@ impl Answering {
         ensures refused { IfErr result (λ fault. (fault ≡ OutOfMemory) ⊎ RefusesSetup (options_of setup.now) fault) }
     {
         let encoder = new_encoder(alloc, setup)?;
+        let replies = ReplyLines::new(alloc, encoder.address())?;
         Ok(Answering {
             encoder,
             asked,
             room: PieceBuffer::new(alloc),
+            replies,
         })
     }
 }
@@ -58,7 +64,13 @@ impl Interpreter for Answering {
         output: &mut Output,
     ) -> Result<Taken, TextFault> {
         let piece = self.room.read(text)?;
-        answer_piece(self.asked.form, &mut self.encoder, piece, output);
+        answer_piece(
+            self.asked.form,
+            &mut self.encoder,
+            &mut self.replies,
+            piece,
+            output,
+        );
         output.check()?;
         Ok(Taken::GoesOn)
     }
@@ -74,14 +86,20 @@ impl Interpreter for Answering {
 }
 
 /// Feeds one piece to its end.
-fn answer_piece(form: Form, encoder: &mut Encoder<RdsStore>, piece: &[u8], output: &mut Output)
+fn answer_piece(
+    form: Form,
+    encoder: &mut Encoder<RdsStore>,
+    replies: &mut ReplyLines,
+    piece: &[u8],
+    output: &mut Output,
+)
     ensures lines { Adds output.old output.new (flat_map (answer_lines form)
         (responses_to step encoder.old piece.now)) }
     ensures left { encoder.new ≡ fed step encoder.old piece.now }
 {
     let mut rest = piece;
     while !rest.is_empty() {
-        let used = answer_first(form, encoder, rest, output);
+        let used = answer_first(form, encoder, replies, rest, output);
         rest = rest_after(rest, used);
     }
 }
@@ -90,6 +108,7 @@ fn answer_piece(form: Form, encoder: &mut Encoder<RdsStore>, piece: &[u8], outpu
 fn answer_first(
     form: Form,
     encoder: &mut Encoder<RdsStore>,
+    replies: &mut ReplyLines,
     piece: &[u8],
     output: &mut Output,
 ) -> usize
@@ -100,7 +119,29 @@ fn answer_first(
         (responses_to step encoder.old (take result piece.now))) }
     ensures left { encoder.new ≡ fed step encoder.old (take result piece.now) }
 {
+    if form == Form::Lines {
+        return answer_in_lines(encoder, replies, piece, output);
+    }
     let answer = encoder.feed(piece);
     put_answer(form, answer.what, output);
     answer.used
+}
+
+/// The same in lines, with those of the replies as they were written before.
+fn answer_in_lines(
+    encoder: &mut Encoder<RdsStore>,
+    replies: &mut ReplyLines,
+    piece: &[u8],
+    output: &mut Output,
+) -> usize
+    requires { 0 < length piece.now }
+    ensures used { result ≤ length piece.now }
+    ensures moves { 0 < result }
+    ensures lines { Adds output.old output.new (flat_map response_line
+        (responses_to step encoder.old (take result piece.now))) }
+    ensures left { encoder.new ≡ fed step encoder.old (take result piece.now) }
+{
+    let fed = encoder.feed_outcome(piece);
+    replies.put(encoder.address(), fed.outcome, output);
+    fed.used
 }
