@@ -1,4 +1,5 @@
 mod asserting;
+mod faults;
 mod joining;
 mod line;
 mod sockets;

@@ -2,18 +2,25 @@
 ghost use Rattle.std.specs.Prelude.{◌≡◌};
 ghost use Rattle.rds_store.specs.Fault.{number_of, name_of};
 
+use thiserror::Error;
+
 /// The faults in the order in which they are looked for.
-#[derive(Clone, Copy, Debug, PartialEq, Eq)]
+#[derive(Clone, Copy, Debug, PartialEq, Eq, Error)]
 pub enum StoreFault {
     /// The number of data sets is not 1 to 8.
+    #[error("SetCount")]
     SetCount,
     /// The number of services is not 1 to 8.
+    #[error("ServiceCount")]
     ServiceCount,
     /// A service has the number 00.
+    #[error("ServiceZero")]
     ServiceZero,
     /// A service is listed twice.
+    #[error("ServiceTwice")]
     ServiceTwice,
     /// There was no memory for the store.
+    #[error("OutOfMemory")]
     OutOfMemory,
 }
 

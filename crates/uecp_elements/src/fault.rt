@@ -1,8 +1,10 @@
 //! The fault that ends a reading. Source: profile.
 use crate::code::Code;
+use thiserror::Error;
 
 /// Where no element could be read.
-#[derive(Clone, Copy, Debug, PartialEq, Eq)]
+#[derive(Clone, Copy, Debug, PartialEq, Eq, Error)]
+#[error("no element can be read at byte {place}: {code:?}")]
 pub struct ElementFault {
     /// The place of the byte at which an element was to begin, counted from 0 in the message.
     pub place: usize,

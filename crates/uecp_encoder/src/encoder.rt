@@ -22,10 +22,12 @@ use rds_store::Group;
 use reply_ring::ReplyRing;
 use std::alloc::Global;
 use std::marker::Model;
+use thiserror::Error;
 use uecp_frame::{Address, Deframer};
 
 /// There was no memory for an encoder. It hands back the target as it was given.
-#[derive(Debug, Drop)]
+#[derive(Debug, Drop, Error)]
+#[error("there was no memory for an encoder")]
 pub struct EncoderFault<T> {
     /// The target that was given.
     pub target: T,

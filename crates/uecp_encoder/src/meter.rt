@@ -6,9 +6,11 @@ ghost use Rattle.uecp_encoder.specs.Metered.{counted, failures_after, empty_afte
 
 use std::io::{Read, Write};
 use std::marker::Model;
+use thiserror::Error;
 
 /// A call of a meter moved nothing: its device failed, or a write took no byte.
-#[derive(Clone, Copy, Debug, PartialEq, Eq)]
+#[derive(Clone, Copy, Debug, PartialEq, Eq, Error)]
+#[error("the device failed, or took no byte")]
 pub struct Failed;
 
 /// A reader or a writer, with how often it was called, how often it failed, and how often a read brought nothing. It is

@@ -11,6 +11,7 @@ use crate::encoder::Encoder;
 use crate::meter::{Failed, Meter};
 use crate::target::Target;
 use std::io::{Read, Write};
+use thiserror::Error;
 
 /// How many bytes one read takes at most.
 const READ_MAX: usize = 512;
@@ -25,16 +26,19 @@ pub struct Served {
 }
 
 /// Why a call ended before its input did.
-#[derive(Clone, Copy, Debug, PartialEq, Eq)]
+#[derive(Clone, Copy, Debug, PartialEq, Eq, Error)]
 pub enum ServeFault {
     /// A read failed. All replies to what was read before are written.
+    #[error("reading failed")]
     ReadFailed,
     /// A write failed, or took no byte.
+    #[error("writing failed after {written} bytes")]
     WriteFailed {
         /// Bytes written in this call.
         written: u64,
     },
     /// As many reads were made as the caller allowed. All replies are written.
+    #[error("all reads that were allowed are made")]
     TurnsSpent,
 }
 

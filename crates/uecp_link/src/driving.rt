@@ -9,6 +9,7 @@ ghost use Rattle.uecp_link.specs.Listening.{Listens};
 use crate::feeding::give_piece;
 use crate::server::Server;
 use std::io::{Read, Write};
+use thiserror::Error;
 use uecp_elements::Code;
 use uecp_encoder::{Failed, Meter};
 use uecp_frame::Message;
@@ -26,16 +27,19 @@ pub struct Driven {
 }
 
 /// Why a message is still outstanding after a call.
-#[derive(Clone, Copy, Debug, PartialEq, Eq)]
+#[derive(Clone, Copy, Debug, PartialEq, Eq, Error)]
 pub enum DriveFault {
     /// A write failed, or took no byte.
+    #[error("writing failed after {written} bytes")]
     WriteFailed {
         /// Bytes written in this call, whole copies of the frame and a part of one.
         written: u64,
     },
     /// The reader came to the end of its input.
+    #[error("the input ended")]
     Closed,
     /// Every try that the caller allowed ended without the reply.
+    #[error("all tries ended without an acknowledgement")]
     TriesSpent,
 }
 

@@ -1,6 +1,7 @@
 mod asserting;
 mod elements;
 mod encoder;
+mod faults;
 mod frame;
 mod making;
 mod ring;
