@@ -20,14 +20,14 @@ use std::alloc::{AllocError, Global};
 use std::marker::Model;
 use uecp_elements::Element;
 
-/// What one service has in each data set, set 1 first. A clause sees the list.
+/// What one service has in each data set, set 1 first, in room for these alone. A clause sees the list.
 #[derive(Drop)]
 pub(crate) struct ServiceInSets {
     sets: Vec<Service>,
 }
 
 impl Model for ServiceInSets {
-    ghost use Rattle.std.specs.Prelude.{List, length, ◌≤◌};
+    ghost use Rattle.std.specs.Prelude.{List, length, ◌≤◌, ◌≡◌, vec_capacity};
     ghost use Rattle.std.specs.Coded.{coded_list};
     ghost use Rattle.rds_store.specs.Value.{ServiceData, coded_service};
 
@@ -37,7 +37,7 @@ impl Model for ServiceInSets {
 
     ghost view = { λ r. r.sets.items };
 
-    ghost invariant = { λ r. length r.sets.items ≤ 8 };
+    ghost invariant = { λ r. (length r.sets.items ≤ 8) × (vec_capacity r.sets ≡ length r.sets.items) };
 }
 
 impl ServiceInSets {
@@ -48,7 +48,7 @@ impl ServiceInSets {
     {
         let mut in_sets = Vec::with_capacity(alloc, usize::from(sets))?;
         for _ in 0..sets {
-            in_sets.push(Service::new())?;
+            in_sets.push_reserved(Service::new());
         }
         Ok(ServiceInSets { sets: in_sets })
     }
@@ -195,6 +195,8 @@ pub(crate) fn put_into_service(
     ensures absent { slice_get (values_of services.old.entries) place ≡ None → result ≡ false }
     ensures kept { result ≡ false → services.new.entries ≡ services.old.entries }
     ensures unique { index.IsUnique nat_eq services.old }
+    // The map has the room that it had.
+    ensures spare { index.spare services.new ≡ index.spare services.old }
 {
     match services.get_index_mut(place) {
         Some(service) => service.put(named, element),
@@ -208,7 +210,9 @@ pub(crate) fn copy_services(
     others: &IndexMap<u8, ServiceInSets>,
 )
     requires { shape_of services.old.entries ≡ shape_of others.now.entries }
-    ensures { services.new.entries ≡ others.now.entries }
+    ensures entries { services.new.entries ≡ others.now.entries }
+    // The map has the room that it had.
+    ensures spare { index.spare services.new ≡ index.spare services.old }
 {
     for place in 0..others.len() {
         match others.get_index(place) {
@@ -221,7 +225,8 @@ pub(crate) fn copy_services(
 /// The service at a place of the order becomes what another is.
 fn copy_service(services: &mut IndexMap<u8, ServiceInSets>, place: usize, other: &ServiceInSets)
     requires { IfSome (slice_get (values_of services.old.entries) place) (λ held. length held ≡ length other.now) }
-    ensures { services.new.entries ≡ set_value_at services.old.entries place other.now }
+    ensures entries { services.new.entries ≡ set_value_at services.old.entries place other.now }
+    ensures spare { index.spare services.new ≡ index.spare services.old }
 {
     match services.get_index_mut(place) {
         Some(service) => service.copy_from(other),
