@@ -36,3 +36,4 @@ pub mod JoinedOver
 pub mod WholePass
 pub mod Replaced
 pub mod Resumed
+pub mod RoomFor

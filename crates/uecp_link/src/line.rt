@@ -34,7 +34,7 @@ pub struct Line<T: Target> {
     pub(crate) encoder: Encoder<T>,
     /// The messages by number, from 0.
     pub(crate) sent: Vec<Message>,
-    /// The codes of the applied numbers, from 0, with room for all that were sent.
+    /// The codes of the applied numbers, from 0, in as much room as the messages have.
     pub(crate) codes: Vec<Code>,
 }
 
@@ -52,7 +52,7 @@ impl<T: Target> Model for Line<T> {
       server = l.server;
       sent = l.sent.items;
       codes = l.codes.items;
-    }) (vec_capacity l.codes) };
+    }) (vec_capacity l.sent) (vec_capacity l.codes) };
 }
 
 impl<T: Target> Line<T> {

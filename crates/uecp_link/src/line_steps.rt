@@ -1,6 +1,6 @@
 //! What a line does at each kind of event. Source: profile.
 ghost use Rattle.std.specs.Prelude.{◌≡◌, ◌+◌, ◌%◌, ◌≤◌, ◌<◌, ◌++◌, ◌∷◌, [], ℕ, Bool, true, Some, None, if◌then◌else◌};
-ghost use Rattle.std.specs.Prelude.{slice_get, IfOk, IfErr, length, vec_len, vec_capacity};
+ghost use Rattle.std.specs.Prelude.{slice_get, IfOk, IfErr, OnOk, OnErr, length, vec_len, vec_capacity};
 ghost use Rattle.std.specs.List.{last_or};
 ghost use Rattle.uecp_elements.specs.declared.code.Code.{Code as CodeValue};
 ghost use Rattle.uecp_encoder.specs.State.{fed};
@@ -13,6 +13,7 @@ ghost use Rattle.uecp_link.specs.Once.{ServerRestart, Take};
 ghost use Rattle.uecp_link.specs.Events.{lost_of};
 ghost use Rattle.uecp_link.specs.Law.{Fits, frame_of, reply_bytes};
 ghost use Rattle.uecp_link.specs.Holds.{once_of};
+ghost use Rattle.uecp_link.specs.Whole.{room_for};
 ghost use Rattle.uecp_link.specs.Next.{Goes, Stops, codes_by, delivered_by, stepped_by};
 
 use crate::counters::{counter_of, is_recent};
@@ -22,6 +23,7 @@ use crate::line::Line;
 use crate::refusal::LineRefusal;
 use crate::server::{REPLY, Server};
 use crate::stepped::Stepped;
+use std::alloc::{AllocError, Global};
 use uecp_elements::Code;
 use uecp_encoder::{Encoder, Target};
 use uecp_frame::{Address, Frame, FrameBytes, Message, encode};
@@ -40,15 +42,46 @@ fn spelled(address: Address, counter: u8, message: Message) -> FrameBytes
     bytes
 }
 
-/// Adds a value for which there is room.
-fn add<A: Drop>(values: &mut Vec<A>, value: A)
-    requires { vec_len values.old < vec_capacity values.old }
-    ensures items { values.new.items ≡ values.old.items ++ value ∷ [] }
-    ensures room { vec_capacity values.old ≤ vec_capacity values.new }
+/// The same codes in this much room.
+fn copy_of(alloc: Global, codes: &[Code], room: usize) -> Result<Vec<Code>, AllocError>
+    requires { length codes.now ≤ room }
+    ensures items { IfOk result (λ copy. copy.items ≡ codes.now) }
+    ensures room { IfOk result (λ copy. vec_capacity copy ≡ room) }
 {
-    if values.push(value).is_err() {
-        unreachable!();
+    let mut copy = Vec::with_capacity(alloc, room)?;
+    for code in codes {
+        copy.push_reserved(*code);
     }
+    Ok(copy)
+}
+
+/// Makes room for one message more, and for as many codes: where the room is full it is then twice as large and eight
+/// more. Where there is no memory for that, both lists are as before, and so is their room.
+#[tactic(auto, using(crate::proofs::RoomFor::room_when_full, crate::proofs::RoomFor::room_when_left))]
+fn make_room(sent: &mut Vec<Message>, codes: &mut Vec<Code>) -> Result<(), AllocError>
+    requires applied { vec_len codes.old ≤ vec_len sent.old }
+    requires sent_room { vec_capacity sent.old ≡ room_for (vec_len sent.old) }
+    requires code_room { vec_capacity codes.old ≡ room_for (vec_len sent.old) }
+    ensures sent { sent.new.items ≡ sent.old.items }
+    ensures sent_len { vec_len sent.new ≡ vec_len sent.old }
+    ensures codes { codes.new.items ≡ codes.old.items }
+    ensures left { OnOk result (vec_len sent.old < vec_capacity sent.new) }
+    ensures made { OnOk result ((vec_capacity sent.new ≡ room_for (vec_len sent.old + 1))
+        × (vec_capacity codes.new ≡ room_for (vec_len sent.old + 1))) }
+    ensures kept { OnErr result ((vec_capacity sent.new ≡ vec_capacity sent.old)
+        × (vec_capacity codes.new ≡ vec_capacity codes.old)) }
+{
+    let number = sent.len();
+    if number < sent.capacity() {
+        return Ok(());
+    }
+    let Some(room) = number.checked_add(number + 8) else {
+        return Err(AllocError);
+    };
+    let more = copy_of(*codes.allocator(), codes.as_slice(), room)?;
+    sent.reserve_exact(number + 8)?;
+    *codes = more;
+    Ok(())
 }
 
 /// Feeds the encoder a frame, and keeps the code of a fresh reply; None where there is no reply.
@@ -63,11 +96,11 @@ fn take_in<T: Target>(
     ensures state { encoder.new ≡ fed T.step encoder.old bytes.now }
     ensures reply { result ≡ last_or None (replies T.step encoder.old bytes.now) }
     ensures codes { codes.new.items ≡ codes_by codes.old.items result }
-    ensures room { vec_capacity codes.old ≤ vec_capacity codes.new }
+    ensures room { vec_capacity codes.new ≡ vec_capacity codes.old }
 {
     let reply = give_cut(encoder, bytes, cut);
     if let Some((true, code)) = reply {
-        add(codes, code);
+        codes.push_reserved(code);
     }
     reply
 }
@@ -105,13 +138,10 @@ impl<T: Target> Line<T> {
             return Err(LineRefusal::Busy);
         }
         let number = self.sent.len();
-        if self.sent.reserve(1).is_err() {
+        let Ok(()) = make_room(&mut self.sent, &mut self.codes) else {
             return Err(LineRefusal::OutOfMemory);
-        }
-        if self.codes.reserve(1 + (number - self.codes.len())).is_err() {
-            return Err(LineRefusal::OutOfMemory);
-        }
-        add(&mut self.sent, copy);
+        };
+        self.sent.push_reserved(copy);
         self.server.submit(message);
         Ok(Stepped::Numbered(number))
     }

@@ -1,5 +1,5 @@
 //! A line whose server is replaced by a new one, which knows nothing and joins. Source: profile.
-ghost use Rattle.std.specs.Prelude.{◌≡◌};
+ghost use Rattle.std.specs.Prelude.{◌≡◌, [], vec_capacity};
 ghost use Rattle.uecp_encoder.specs.State.{fed};
 ghost use Rattle.uecp_link.specs.Joining.{pass_sent};
 ghost use Rattle.uecp_link.specs.Once.{at_first};
@@ -17,7 +17,7 @@ impl<T: Target> Line<T> {
     /// whole. It answers how many messages waited at the old one. These are given up: the new one knows nothing of
     /// them, and whether they were applied no end can tell. The line goes on from there as one of a new server and this
     /// encoder ([`of_encoder`](Line::of_encoder)): nothing is sent, the next message has the number 0, and what came
-    /// before has no numbers any more. It takes no memory.
+    /// before has no numbers any more. It takes no memory, and gives the room of the messages back.
     ///
     /// This server knows nothing of what was before. One that kept what it held goes on from that and does not join:
     /// that is the event [`ServerRestart`](crate::LineEvent::ServerRestart).
@@ -37,10 +37,19 @@ impl<T: Target> Line<T> {
         self.server.begin_again();
         self.encoder.line_lost();
         give_pass(self.address, &mut self.encoder);
-        self.sent.clear();
-        self.codes.clear();
+        forget(&mut self.sent);
+        forget(&mut self.codes);
         given_up
     }
+}
+
+/// Empties a list, and gives its room back.
+fn forget<A: Drop>(values: &mut Vec<A>)
+    ensures items { values.new.items ≡ [] }
+    ensures room { vec_capacity values.new ≡ 0 }
+{
+    values.clear();
+    values.shrink_to_fit();
 }
 
 /// Feeds an encoder a pass to this address.

@@ -40,6 +40,8 @@ invariant_of-self g c =
       is_line = goes_stays g.T.Target.step g.T.Target.taken line _ (ReplyComes k) _ tt goes;
       address_is = c.self.invariant.address_is;
       fits = c.self.invariant.fits;
+      sent_room_is = c.self.invariant.sent_room_is;
+      code_room_is = c.self.invariant.code_room_is;
     }
 
 pub returns-clause-goes : goal.returns-clause-goes

@@ -61,6 +61,8 @@ invariant_of-self g c =
       is_line = goes_stays g.T.Target.step g.T.Target.taken line _ (FrameComes k) (delivered_by reply) tt goes;
       address_is = address ∙ c.self.invariant.address_is;
       fits = omega (arith, c.self.invariant.fits, c.take_in-reply.ensures.room);
+      sent_room_is = c.self.invariant.sent_room_is;
+      code_room_is = c.take_in-reply.ensures.room ∙ c.self.invariant.code_room_is;
     }
 
 pub returns-clause-goes : goal.returns-clause-goes

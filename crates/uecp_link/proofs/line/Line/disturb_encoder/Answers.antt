@@ -33,4 +33,6 @@ invariant_of-self g c =
       address_is = ap (λ (x : EncoderState _). x.address) c.give_cut.ensures.state
           ∙ fed_address g.T.Target.step c.self.inside.encoder c.args.noise.now ∙ c.self.invariant.address_is;
       fits = c.self.invariant.fits;
+      sent_room_is = c.self.invariant.sent_room_is;
+      code_room_is = c.self.invariant.code_room_is;
     }

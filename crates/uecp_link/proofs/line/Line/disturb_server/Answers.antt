@@ -32,4 +32,6 @@ invariant_of-self g c =
           c.self.invariant.is_line);
       address_is = c.self.invariant.address_is;
       fits = c.self.invariant.fits;
+      sent_room_is = c.self.invariant.sent_room_is;
+      code_room_is = c.self.invariant.code_room_is;
     }

@@ -1,6 +1,7 @@
-use Rattle.std.proofs.Common.{◌≡◌, sym, subst, rules}
+use Rattle.std.proofs.Common.{◌≡◌, ◌∙◌, ap, length, sym, subst, rules}
 use Rattle.uecp_link.specs.Once.{at_first}
 use Rattle.uecp_link.specs.Holds.{LineState, IsLine, Holds, line_from}
+use Rattle.uecp_link.specs.Whole.{room_for}
 use Rattle.uecp_link.proofs.Opening.{holds_from}
 use Rattle.uecp_link.proofs.Played.{line_ready}
 use Rattle.uecp_link.proofs.line.Line.of_encoder.Goals as goal
@@ -12,6 +13,8 @@ invariant_of-result g c =
       is_line = subst IsLine (sym made) (line_ready c.args.encoder c.requires.ready c.requires.closed);
       address_is = c.requires.own;
       fits = search rules;
+      sent_room_is = c.new-2.ensures.capacity ∙ ap room_for (sym (ap length c.new-2.ensures.items));
+      code_room_is = c.new-3.ensures.capacity ∙ ap room_for (sym (ap length c.new-2.ensures.items));
     }
 
 pub returns-clause-holds : goal.returns-clause-holds
