@@ -122,6 +122,16 @@ fn a_submission_is_refused_where_memory_is_wanting_and_taken_later(rt: HostRunti
     goes_over(&rt, &mut line, Code::Applied);
 }
 
+/// Noise and a loss, a new start of each end, and a take.
+fn goes_on(rt: &impl Abort, line: &mut Line<CountTarget>) {
+    let noise = LineEvent::NoiseToEncoder(b"\xFE\xFF\x00");
+    steps(rt, line, &noise, Ok(Stepped::Noise { dropped: 1 }));
+    is_lost(rt, line, Side::Server);
+    steps(rt, line, &LineEvent::EncoderRestart, Ok(Stepped::Restarted));
+    steps(rt, line, &LineEvent::ServerRestart, Ok(Stepped::Restarted));
+    steps(rt, line, &LineEvent::Take, Ok(Stepped::Taken(None)));
+}
+
 /// The last message goes over the line, and then comes again many times.
 fn comes_again(rt: &impl Abort, line: &mut Line<CountTarget>) {
     let noise = LineEvent::NoiseToServer(b"\xFE\xFF\x00");
@@ -141,6 +151,7 @@ fn a_line_takes_no_memory_for_what_goes_over_it(rt: HostRuntime) {
     is_taken(&rt, &mut line, &ADD);
     let _memory = ScarceMemory::take_all(rt.alloc(), 0).expect(&rt, "scarce memory");
     comes_again(&rt, &mut line);
+    goes_on(&rt, &mut line);
 }
 
 /// The reply comes many times again, and then another message is submitted.
@@ -152,6 +163,9 @@ fn hears_strays(rt: &impl Abort, server: &mut Server) {
     holds!(rt; server.is_idle());
     server.submit(&Message::new());
     holds!(rt; server.outgoing().is_some());
+    server.line_lost();
+    server.restart();
+    same!(rt; server.waiting(), 1);
 }
 
 #[test]

@@ -38,6 +38,8 @@ fn comes_again(rt: &impl Abort, encoder: &mut Encoder<RdsStore>) {
     for _ in 0..10_000 {
         holds!(rt; replies(encoder, &PI_1, &APPLIED_1, false));
         same!(rt; encoder.feed(b"\xFE\x00\xFF\xFE").used, 3);
+        encoder.line_lost();
+        holds!(rt; encoder.take_group().is_none());
     }
 }
 

@@ -5,7 +5,7 @@ use crate::tests::making::store_of;
 use faulty_devices::ScarceMemory;
 use rds_store::{RdsStore, StoreFault};
 use std::test::Fail;
-use uecp_elements::Code;
+use uecp_elements::{Code, Element};
 
 /// A message with each element, in all sets.
 const ALL: [u8; 44] =
@@ -41,5 +41,7 @@ fn a_store_takes_no_memory_for_messages(rt: HostRuntime) -> Result<(), Fail> {
         return Err("no service".into());
     };
     same!(rt; (shown.pi(), shown.texts().len(), store.groups().len()), (0x1234, 8, 8));
+    same!(rt; store.apply_element(&Element::Select { dsn: 2 }), Code::Applied);
+    holds!(rt; store.take_group().is_some());
     Ok(())
 }
