@@ -132,8 +132,16 @@ def imported(words, at):
 
 
 def generics(words, at):
-    """The names between the angle brackets at this place, if there are any."""
-    return names(words[at : first_of(words, at, ">")]) if words[at : at + 1] == ["<"] else set()
+    """The parameters between the angle brackets at this place, if there are any."""
+    found, depth = set(), 0
+    for place in range(at, len(words)):
+        word = words[place]
+        depth += (word in "<([{") - (word in ">)]}") - 2 * (word == ">>")
+        if depth <= 0 or words[at] != "<":
+            break
+        if depth == 1 and word in ("<", ","):
+            found |= names(words[place + 1 : place + 3] if words[place + 1] == "const" else words[place + 1 : place + 2])
+    return found
 
 
 def in_scope(text):
@@ -143,7 +151,7 @@ def in_scope(text):
         depth += (word == "{") - (word == "}")
         if word in ("impl", "trait") and depth == 0:
             is_impl = True
-            found.update({name: [] for name in generics(words, at + 1 if word == "impl" else at + 2)})
+            found.update({name: [] for name in generics(words, at + 1 if word == "impl" else at + 2) if name not in found})
         elif word == "}" and depth == 0:
             is_impl = False
         if word == "use":
