@@ -3,34 +3,46 @@ ghost use Rattle.std.specs.Prelude.{◌≡◌};
 ghost use Rattle.uecp_text.specs.Faults.{status_of};
 ghost use Rattle.uecp_text.specs.declared.run_fault.RunFault.TheVariants.{OutOfMemory};
 
-use crate::text_fault::TextFault;
+use crate::text_fault::{BehindNumber, TextFault};
 use rds_store::StoreFault;
 use std::alloc::{AllocError, AllocFailed};
+use thiserror::Error;
 
-/// Why a run stopped before its end. `report` has what is said of each.
-#[derive(Debug, Drop)]
+/// Why a run stopped before its end. Its text is what `report` says of it behind `uecp: `.
+#[derive(Debug, Drop, Error)]
 pub enum RunFault {
     /// The text of the line of this number, counted from 1, was refused.
+    #[error("line {0}{refusal}", refusal = BehindNumber(.1))]
     Text(usize, TextFault),
     /// The services or the number of data sets were refused by the store.
+    #[error("services: {0}")]
     Services(StoreFault),
     /// The services are no list of hexadecimal numbers.
+    #[error("services: NotAList")]
     NotAList,
     /// The address is not that of one encoder. The command line gives no such address.
+    #[error("address: NotExact")]
     Address,
     /// The input has more than 1,048,576 bytes.
+    #[error("input too long")]
     TooLong,
     /// The input could not be read.
+    #[error("reading failed")]
     Reading,
     /// The output could not be written.
+    #[error("writing failed")]
     Writing,
     /// There was no memory.
+    #[error("out of memory")]
     OutOfMemory,
     /// A connection could not be accepted, or the port not be listened on.
+    #[error("listening failed")]
     Listening,
     /// A connection broke or was refused, and what was sent on it is outstanding.
+    #[error("connection failed")]
     Connection,
     /// A text ended the run, since what it asks for is outstanding. Nothing is said of that on standard error.
+    #[error("messages are outstanding")]
     Outstanding,
 }
 

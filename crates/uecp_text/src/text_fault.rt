@@ -1,13 +1,13 @@
 //! Why a line of input was refused (profile).
-ghost use Rattle.std.specs.Prelude.{◌≡◌, None};
+ghost use Rattle.std.specs.Prelude.{◌≡◌};
 ghost use Rattle.uecp_text.specs.Faults.{refusal_text, IsPlain};
 ghost use Rattle.uecp_text.specs.Run.{fault_at};
 ghost use Rattle.uecp_text.specs.declared.text_fault.TextFault.TheVariants.{OutOfMemory};
 
 use crate::run_fault::RunFault;
 use std::alloc::{AllocError, AllocFailed};
-use std::error::Error;
 use std::fmt;
+use thiserror::Error;
 
 /// At which character a line of phrases says nothing, and what was expected there.
 #[derive(Clone, Copy, Debug, PartialEq, Eq)]
@@ -24,20 +24,54 @@ pub struct Unsaid {
     pub nearest: Option<&'static str>,
 }
 
-/// What is wrong with one line, in the order in which it is looked for.
-#[derive(Clone, Copy, Debug, PartialEq, Eq)]
+/// What `report` says of it behind the line's number and the column.
+impl fmt::Display for Unsaid {
+    fn fmt<W: fmt::Write>(&self, f: &mut fmt::Formatter<W>) -> fmt::Result {
+        match self.character {
+            Some(character) => write!(f, "'{character}' {}", self.what)?,
+            None => write!(f, "expected {}", self.what)?,
+        }
+        match self.nearest {
+            Some(word) => write!(f, "; did you mean {word}?"),
+            None => Ok(()),
+        }
+    }
+}
+
+/// A refusal as it is said behind the number of its line: the column where it is known, and the text.
+#[derive(Clone, Copy)]
+pub(crate) struct BehindNumber<'a>(pub(crate) &'a TextFault);
+
+impl fmt::Display for BehindNumber<'_> {
+    fn fmt<W: fmt::Write>(&self, f: &mut fmt::Formatter<W>) -> fmt::Result {
+        match self.0 {
+            TextFault::Unsaid(unsaid) => write!(f, ", column {}: {unsaid}", unsaid.column),
+            refusal => write!(f, ": {refusal}"),
+        }
+    }
+}
+
+/// What is wrong with one line, in the order in which it is looked for. Its text is what `report` says of it behind the
+/// line's number, and the column where that is known.
+#[derive(Clone, Copy, Debug, PartialEq, Eq, Error)]
 pub enum TextFault {
     /// A line of pieces has another character than a digit, or an odd number of digits.
+    #[error("not hex")]
     NotHex,
     /// A line of a script has an unknown first word, a wrong number of words or wrong digits.
+    #[error("not a command")]
     NotACommand,
     /// An element stands before any frame.
+    #[error("no frame")]
     NoFrame,
     /// The message would have more than 255 bytes.
+    #[error("message too long")]
     MessageTooLong,
     /// A line of phrases says nothing.
+    #[error("{0}")]
     Unsaid(Unsaid),
     /// There was no memory: the line itself is not at fault.
+    #[error("out of memory")]
     OutOfMemory,
 }
 
@@ -66,16 +100,6 @@ impl TextFault {
         }
     }
 }
-
-impl fmt::Display for TextFault {
-    ghost output = { λ _. None };
-
-    fn fmt<W: fmt::Write>(&self, f: &mut fmt::Formatter<W>) -> fmt::Result {
-        f.write_str(self.text())
-    }
-}
-
-impl Error for TextFault {}
 
 impl From<AllocError> for TextFault {
     ghost from_gives = { λ _ e. e ≡ OutOfMemory };
