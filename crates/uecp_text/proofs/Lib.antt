@@ -8,5 +8,6 @@ pub mod Decimals
 pub mod Pieces
 pub mod Parts
 pub mod TwoDigits
+mod UpperCase
 pub mod DigitValues
 pub mod Spaced

@@ -231,10 +231,8 @@ fn spell(bytes: &[u8], room: &mut [u8])
     requires { length room.old ≡ 2 * length bytes.now }
     ensures { room.new ≡ encode_upper bytes.now }
 {
-    'bytes: for i in 0..bytes.len() {
-        let [high, low] = digits_of_byte(bytes[i]);
-        room[2 * i] = high;
-        room[2 * i + 1] = low;
+    if hex::encode_to_slice(bytes, room).is_ok() {
+        room.make_ascii_uppercase();
     }
 }
 

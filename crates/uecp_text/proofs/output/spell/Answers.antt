@@ -1,14 +1,11 @@
-use Rattle.std.proofs.Common.{ℕ, List, slice_index, arith, ap}
-use Rattle.hex.specs.Hex.{upper_digits}
-use Rattle.hex.proofs.Pairs.{encode_step, encode_done}
+use Rattle.std.proofs.Common.{◌≡◌, map, ap, ◌∙◌, rules}
+use Rattle.std.specs.Char.{to_ascii_uppercase}
+use Rattle.hex.specs.Hex.{encode_lower}
+use Rattle.uecp_text.proofs.UpperCase.{upper_case}
 use Rattle.uecp_text.proofs.output.spell.Goals as goal
 
-pub bytes-preserved : goal.bytes-preserved
-bytes-preserved c =
-    let first : List ℕ → ℕ = λ digits. slice_index digits 0 in
-    let second : List ℕ → ℕ = λ digits. slice_index digits 1 in
-    encode_step upper_digits c.args.bytes.now c.bytes.room c.bytes.i _ _ (omega arith) (omega arith)
-    (ap first c.digits_of_byte.ensures) (ap second c.digits_of_byte.ensures) c.bytes.invariant
-
-pub returns : goal.returns
-returns c = encode_done upper_digits _ _ c.bytes.i (omega arith) (omega arith) c.bytes.invariant
+pub returns-then-is_ok : goal.returns-then-is_ok
+returns-then-is_ok c =
+    let bytes = c.args.bytes.now in
+    let lower : c.encode_to_slice.new.output ≡ encode_lower bytes = search rules in
+    c.make_ascii_uppercase.ensures.after ∙ ap (map to_ascii_uppercase) lower ∙ upper_case bytes
