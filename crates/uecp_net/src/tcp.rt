@@ -90,18 +90,23 @@ impl<'a, N: Net<Listener = TcpListener, Stream = TcpStream>> Connect for Local<'
     fn close(&mut self, _input: TcpStream, _output: TcpStream) {}
 }
 
-/// Why a connection could not be made.
-#[derive(Clone, Copy, Debug, PartialEq, Eq)]
+/// Why a connection could not be made. Its text is what the program says of it behind the host and the port.
+#[derive(Clone, Copy, Debug, PartialEq, Eq, thiserror::Error)]
 pub enum DialFault {
     /// The host has no address, or its name could not be looked up.
+    #[error("no such host")]
     NoSuchHost,
     /// Nobody listens on the port.
+    #[error("refused")]
     Refused,
     /// No answer came within the limit of time.
+    #[error("timed out")]
     TimedOut,
     /// No way leads to the host.
+    #[error("unreachable")]
     Unreachable,
     /// The system told another fault.
+    #[error("failed")]
     Failed,
 }
 
