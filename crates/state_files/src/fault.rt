@@ -5,37 +5,53 @@ ghost use Rattle.state_files.specs.Faults.{keep_fault, image_fault};
 use kept_images::ImageFault;
 use kept_state::KeepFault;
 use rds_store::StoreFault;
+use thiserror::Error;
 
-/// Why there is no end with this state file, or why a state was not saved. No refusal overwrites what the file has.
-#[derive(Clone, Copy, Debug, PartialEq, Eq)]
+/// Why there is no end with this state file, or why a state was not saved. No refusal overwrites what the file has. Its
+/// text is what the program says of it behind `uecp: `.
+#[derive(Clone, Copy, Debug, PartialEq, Eq, Error)]
 pub enum StateFault {
     /// Another process has the file open.
+    #[error("state in use")]
     InUse,
     /// The file is another database, or no database.
+    #[error("state is not ours")]
     NotOurs,
     /// It was written by a newer program: the version of its format.
+    #[error("state is of a later version")]
     Newer(u32),
     /// It was written by an older program: the version of its format.
+    #[error("state is of an earlier version")]
     Older(u32),
     /// It has the image of the other end.
+    #[error("state is of the other end")]
     OtherEnd,
     /// It has the image of no end: it was damaged.
+    #[error("state damaged")]
     Damaged,
     /// The end in it has another address.
+    #[error("state is of another address")]
     OtherAddress,
     /// The encoder in it has another number of data sets.
+    #[error("state is of another number of data sets")]
     OtherSets,
     /// The encoder in it has other services, or has them in another order.
+    #[error("state is of other services")]
     OtherServices,
     /// No store has these data sets and services.
+    #[error("{0}")]
     Store(StoreFault),
     /// The path can't be opened.
+    #[error("state out of reach")]
     Unreachable,
     /// The disk is full.
+    #[error("no room for the state")]
     Full,
     /// There was no memory.
+    #[error("out of memory")]
     OutOfMemory,
     /// Any other failure of the disk, and each save after one that failed.
+    #[error("state failed")]
     Failed,
 }
 
