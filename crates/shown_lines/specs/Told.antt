@@ -36,9 +36,9 @@ abbrev pub said : {A : Type 0} → (A → Element) → Option A → List Element
 said element None = []
 said element (Some thing) = element thing ∷ []
 
--- A RadioText with no choice made. (SPB 490, element 0A)
+-- A RadioText with no choice made, so with its toggle set. (SPB 490, element 0A)
 abbrev pub radio_text : List ℕ → Element
-radio_text text = Rt 0x00 0x00 (Text 0x00 text)
+radio_text text = Rt 0x00 0x00 (Text 0x01 text)
 
 -- What is new, as elements: PI, PS, TA/TP, MS, PTY and RadioText. (SPB 490, elements 01, 02, 03, 05, 07 and 0A)
 abbrev pub new_elements : (before after : Shown) → List Element

@@ -218,7 +218,7 @@ fn put_radio_text(region: Region, text: Option<&[u8]>, output: &mut Output)
         (said radio_text (option_map (λ text. text.now) text.entry))) }
 {
     if let Some(text) = text {
-        let part = RtPart::Text { head: 0, text };
+        let part = RtPart::Text { head: 1, text };
         let element = Element::Rt {
             dsn: 0,
             psn: 0,

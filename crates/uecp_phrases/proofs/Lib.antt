@@ -14,3 +14,4 @@ pub mod Faulting
 pub mod SaidMessages
 pub mod LineTokens
 pub mod WritingLines
+pub mod Turning

@@ -14,7 +14,7 @@ use Rattle.phrase_tokens.specs.Tokens.{Token, Word, Quoted}
 use Rattle.uecp_phrases.specs.declared.head.Head.{Head}
 use Rattle.uecp_phrases.specs.declared.head.Head.TheVariants as head
 use Rattle.uecp_phrases.specs.Phrases.{AreBits, IsPi, IsName, IsTrafficWord, IsTraffic, IsProgrammeType, Choice, Adds}
-use Rattle.uecp_phrases.specs.Phrases.{Toggles, Times}
+use Rattle.uecp_phrases.specs.Phrases.{Toggles, Stays, Times}
 use Rattle.uecp_phrases.specs.Phrases.{Choices}
 use Rattle.uecp_phrases.specs.Phrases.{choice_tokens, AreMade, no_choice, head_of, IsRadioText, IsGroupType}
 use Rattle.uecp_phrases.specs.Phrases.{added_tokens, IsGroup, IsAck, AreRaw, IsSelected, Tells, head_word, IsPhrase}
@@ -121,6 +121,7 @@ type_one region tokens a b (inr (inr x)) (inr (inr y)) = bits_one tokens a b x y
 no_choice_left : (choice : Choice) (rest : List Token) → choice_tokens choice ++ rest ≡ [] → ⊥
 no_choice_left Adds rest e = cc e
 no_choice_left Toggles rest e = cc e
+no_choice_left Stays rest e = cc e
 no_choice_left (Times count) rest e = cc e
 
 made_one : (cs ds : List Choice) (before a b : Choices) (tokens : List Token) → tokens ≡ flat_map choice_tokens cs

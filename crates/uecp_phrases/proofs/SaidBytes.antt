@@ -10,7 +10,7 @@ use Rattle.std.proofs.lemmas.List.FromFn.{get_or-map-range_with_len}
 use Rattle.std.proofs.lemmas.Bool.{and_parts, leb-true, eqb-true}
 use Rattle.uecp_text.specs.Words.{decimal_in, decimal_value}
 use Rattle.phrase_tokens.specs.Tokens.{Word}
-use Rattle.uecp_phrases.specs.Phrases.{IsGroupType, Choice, Adds, Toggles, Times, Choices, AreMade, Make}
+use Rattle.uecp_phrases.specs.Phrases.{IsGroupType, Choice, Adds, Stays, Times, Choices, AreMade, Make}
 use Rattle.uecp_phrases.specs.Phrases.{choice_tokens, no_choice, head_of}
 use Rattle.uecp_phrases.specs.Written.{is_named_head, is_named_group, choices_tokens}
 
@@ -50,17 +50,17 @@ nibble_number n h = at_each (read 15) (λ n. Some n) None 16 n nibbles h
 
 -- ---- The choices behind a text.
 
-abbrev pub made_of : (adds toggles unsaid : Bool) → ℕ → Choices
-made_of a t u n = record { adds = a; toggles = t; times = if u then None else Some n }
+abbrev pub made_of : (adds stays unsaid : Bool) → ℕ → Choices
+made_of a s u n = record { adds = a; turns = if s then Some false else None; times = if u then None else Some n }
 
-abbrev choices_of : (adds toggles unsaid : Bool) → ℕ → List Choice
-choices_of a t u n =
-    (if a then Adds ∷ [] else []) ++ ((if t then Toggles ∷ [] else []) ++ (if u then [] else Times (decimal n) ∷ []))
+abbrev choices_of : (adds stays unsaid : Bool) → ℕ → List Choice
+choices_of a s u n =
+    (if a then Adds ∷ [] else []) ++ ((if s then Stays ∷ [] else []) ++ (if u then [] else Times (decimal n) ∷ []))
 
-tokens_made : (a t u : Bool) (n : ℕ) →
-    (if a then Word (codes "add") ∷ [] else []) ++ ((if t then Word (codes "toggle") ∷ [] else [])
+tokens_made : (a s u : Bool) (n : ℕ) →
+    (if a then Word (codes "add") ∷ [] else []) ++ ((if s then Word (codes "same") ∷ [] else [])
     ++ (if u then [] else Word (codes "times") ∷ Word (decimal n) ∷ []))
-    ≡ flat_map choice_tokens (choices_of a t u n)
+    ≡ flat_map choice_tokens (choices_of a s u n)
 tokens_made true true true n = refl
 tokens_made true true false n = refl
 tokens_made true false true n = refl
@@ -70,8 +70,8 @@ tokens_made false true false n = refl
 tokens_made false false true n = refl
 tokens_made false false false n = refl
 
-are_made : (a t u : Bool) (n : ℕ) → decimal_in 15 (decimal n) ≡ Some n
-    → AreMade no_choice (choices_of a t u n) (made_of a t u n)
+are_made : (a s u : Bool) (n : ℕ) → decimal_in 15 (decimal n) ≡ Some n
+    → AreMade no_choice (choices_of a s u n) (made_of a s u n)
 are_made true true true n h = (refl, (refl, refl))
 are_made true true false n h = (refl, (refl, (refl, (n, h, refl))))
 are_made true false true n h = (refl, refl)
@@ -82,14 +82,14 @@ are_made false false true n h = refl
 are_made false false false n h = (refl, (n, h, refl))
 
 abbrev pub made_in : ℕ → Choices
-made_in head = made_of (head / 0x40 % 2 == 1) (head % 2 == 1) (head / 2 % 16 == 0) (head / 2 % 16)
+made_in head = made_of (head / 0x40 % 2 == 1) (head % 2 == 0) (head / 2 % 16 == 0) (head / 2 % 16)
 
 pub choices_made : (head : ℕ) → Make no_choice (choices_tokens head) (made_in head)
 choices_made head =
     let n = nibble_number (head / 2 % 16) (omega arith) in (
-      choices_of (head / 0x40 % 2 == 1) (head % 2 == 1) (head / 2 % 16 == 0) (head / 2 % 16),
-      tokens_made (head / 0x40 % 2 == 1) (head % 2 == 1) (head / 2 % 16 == 0) (head / 2 % 16),
-      are_made (head / 0x40 % 2 == 1) (head % 2 == 1) (head / 2 % 16 == 0) (head / 2 % 16) n,
+      choices_of (head / 0x40 % 2 == 1) (head % 2 == 0) (head / 2 % 16 == 0) (head / 2 % 16),
+      tokens_made (head / 0x40 % 2 == 1) (head % 2 == 0) (head / 2 % 16 == 0) (head / 2 % 16),
+      are_made (head / 0x40 % 2 == 1) (head % 2 == 0) (head / 2 % 16 == 0) (head / 2 % 16) n,
     )
 
 heads : map (λ h. if is_named_head h then head_of (made_in h) else h) (range_with_len 0 0x100)

@@ -78,7 +78,7 @@ types region raw = by (name_of region raw) (nat_le raw 31) refl refl
 choices : (head : ℕ) → None_ends (choices_tokens head)
 choices head =
     both _ _ (either (head / 0x40 % 2 == 1) _ [] (refl, tt) tt)
-    (both _ _ (either (head % 2 == 1) _ [] (refl, tt) tt)
+    (both _ _ (either (head % 2 == 0) _ [] (refl, tt) tt)
     (either (head / 2 % 16 == 0) [] (Word (codes "times") ∷ Word (decimal (head / 2 % 16)) ∷ []) tt (refl, (refl, tt))))
 
 texts : (part : Part) → None_ends (text_tokens part)

@@ -1,11 +1,11 @@
 -- Choices one by one.
-use Rattle.std.proofs.Common.{◌≡◌, ◌≢◌, ℕ, true, List, [], ◌∷◌, ◌++◌, codes, Some, refl, sym, ◌∙◌}
+use Rattle.std.proofs.Common.{◌≡◌, ◌≢◌, ℕ, true, false, List, [], ◌∷◌, ◌++◌, codes, Some, refl, sym, ◌∙◌}
 use Rattle.std.proofs.Common.{ap, subst, flat_map}
 use Rattle.uecp_text.specs.Words.{decimal_in}
 use Rattle.phrase_tokens.specs.Tokens.{Token, Word}
 use Rattle.uecp_phrases.specs.declared.choices.ChoiceName.{ChoiceName}
 use Rattle.uecp_phrases.specs.declared.choices.ChoiceName.TheVariants as name
-use Rattle.uecp_phrases.specs.Phrases.{Choice, Adds, Toggles, Times, Choices, choice_tokens, AreMade, Make}
+use Rattle.uecp_phrases.specs.Phrases.{Choice, Adds, Toggles, Stays, Times, Choices, choice_tokens, AreMade, Make}
 use Rattle.uecp_phrases.specs.Reading.{choice_word, IsStep}
 
 -- A choice and then others.
@@ -14,6 +14,7 @@ pub made_behind : (before mid made : Choices) (choice : Choice) (choices : List 
     → AreMade mid choices made → AreMade before (choice ∷ choices) made
 made_behind before mid made Adds choices (free, is) others = (free, subst (λ m. AreMade m choices made) is others)
 made_behind before mid made Toggles choices (free, is) others = (free, subst (λ m. AreMade m choices made) is others)
+made_behind before mid made Stays choices (free, is) others = (free, subst (λ m. AreMade m choices made) is others)
 made_behind before mid made (Times count) choices (free, (number, counted, is)) others =
     (free, (number, counted, subst (λ m. AreMade m choices made) is others))
 
@@ -39,7 +40,12 @@ parted before made Adds choices (free, others) = record {
   others = others;
 }
 parted before made Toggles choices (free, others) = record {
-  mid = record before { toggles = true };
+  mid = record before { turns = Some true };
+  one = (free, refl);
+  others = others;
+}
+parted before made Stays choices (free, others) = record {
+  mid = record before { turns = Some false };
   one = (free, refl);
   others = others;
 }
@@ -69,6 +75,8 @@ one_step_of before a b tokens r s Adds Adds p q (free, is) (free', is') =
     record { made = is ∙ sym is'; rest = cc }
 one_step_of before a b tokens r s Adds Toggles p q _ _ =
     let e : Word (codes "add") ∷ r ≡ Word (codes "toggle") ∷ s = sym p ∙ q in cc e
+one_step_of before a b tokens r s Adds Stays p q _ _ =
+    let e : Word (codes "add") ∷ r ≡ Word (codes "same") ∷ s = sym p ∙ q in cc e
 one_step_of before a b tokens r s Adds (Times count) p q _ _ =
     let e : Word (codes "add") ∷ r ≡ Word (codes "times") ∷ Word count ∷ s = sym p ∙ q in cc e
 one_step_of before a b tokens r s Toggles Adds p q _ _ =
@@ -76,12 +84,25 @@ one_step_of before a b tokens r s Toggles Adds p q _ _ =
 one_step_of before a b tokens r s Toggles Toggles p q (free, is) (free', is') =
     let e : Word (codes "toggle") ∷ r ≡ Word (codes "toggle") ∷ s = sym p ∙ q in
     record { made = is ∙ sym is'; rest = cc }
+one_step_of before a b tokens r s Toggles Stays p q _ _ =
+    let e : Word (codes "toggle") ∷ r ≡ Word (codes "same") ∷ s = sym p ∙ q in cc e
 one_step_of before a b tokens r s Toggles (Times count) p q _ _ =
     let e : Word (codes "toggle") ∷ r ≡ Word (codes "times") ∷ Word count ∷ s = sym p ∙ q in cc e
+one_step_of before a b tokens r s Stays Adds p q _ _ =
+    let e : Word (codes "same") ∷ r ≡ Word (codes "add") ∷ s = sym p ∙ q in cc e
+one_step_of before a b tokens r s Stays Toggles p q _ _ =
+    let e : Word (codes "same") ∷ r ≡ Word (codes "toggle") ∷ s = sym p ∙ q in cc e
+one_step_of before a b tokens r s Stays Stays p q (free, is) (free', is') =
+    let e : Word (codes "same") ∷ r ≡ Word (codes "same") ∷ s = sym p ∙ q in
+    record { made = is ∙ sym is'; rest = cc }
+one_step_of before a b tokens r s Stays (Times count) p q _ _ =
+    let e : Word (codes "same") ∷ r ≡ Word (codes "times") ∷ Word count ∷ s = sym p ∙ q in cc e
 one_step_of before a b tokens r s (Times count) Adds p q _ _ =
     let e : Word (codes "times") ∷ Word count ∷ r ≡ Word (codes "add") ∷ s = sym p ∙ q in cc e
 one_step_of before a b tokens r s (Times count) Toggles p q _ _ =
     let e : Word (codes "times") ∷ Word count ∷ r ≡ Word (codes "toggle") ∷ s = sym p ∙ q in cc e
+one_step_of before a b tokens r s (Times count) Stays p q _ _ =
+    let e : Word (codes "times") ∷ Word count ∷ r ≡ Word (codes "same") ∷ s = sym p ∙ q in cc e
 one_step_of before a b tokens r s (Times count) (Times again) p q (free, (n, counted, is)) (free', (m, counted', is')) =
     let e : Word (codes "times") ∷ Word count ∷ r ≡ Word (codes "times") ∷ Word again ∷ s = sym p ∙ q in
     let word : again ≡ count = cc in
@@ -103,6 +124,7 @@ none_behind_step before mid tokens rest step none made ([], is, others) =
     none_begins : (choice : Choice) → choice_tokens choice ++ rest ≡ [] → ⊥
     none_begins Adds e = cc e
     none_begins Toggles e = cc e
+    none_begins Stays e = cc e
     none_begins (Times count) e = cc e
 none_behind_step before mid tokens rest step none made (choice ∷ choices, is, others) =
     let parts = parted before made choice choices others in
@@ -120,6 +142,9 @@ no_word_of before made tokens rest more first Adds p none q =
 no_word_of before made tokens rest more first Toggles p none q =
     let e : first ∷ rest ≡ Word (codes "toggle") ∷ more = sym p ∙ q in
     let f : first ≡ Word (codes "toggle") = cc in none (codes "toggle") name.Toggle f refl
+no_word_of before made tokens rest more first Stays p none q =
+    let e : first ∷ rest ≡ Word (codes "same") ∷ more = sym p ∙ q in
+    let f : first ≡ Word (codes "same") = cc in none (codes "same") name.Same f refl
 no_word_of before made tokens rest more first (Times count) p none q =
     let e : first ∷ rest ≡ Word (codes "times") ∷ Word count ∷ more = sym p ∙ q in
     let f : first ≡ Word (codes "times") = cc in none (codes "times") name.Times f refl

@@ -1,9 +1,9 @@
 -- Laws of phrases (profile).
-use Rattle.std.specs.Prelude.{◌≡◌, ◌≤◌, ℕ, List, length}
+use Rattle.std.specs.Prelude.{◌≡◌, ◌≢◌, ◌≤◌, ◌%◌, ℕ, List, length, codes, flat_map}
 use Rattle.std.specs.List.{AllByRecursion}
-use Rattle.uecp_elements.specs.Grammar.{Element, IsElement, AreBytes, spelling}
+use Rattle.uecp_elements.specs.Grammar.{Element, Rt, Text, IsElement, AreBytes, spelling}
 use Rattle.rds_text.specs.declared.programme_type.Region.{Region}
-use Rattle.phrase_tokens.specs.Tokens.{Token, IsToken}
+use Rattle.phrase_tokens.specs.Tokens.{Token, Word, IsToken}
 use Rattle.uecp_phrases.specs.Phrases.{IsPhrase}
 use Rattle.uecp_phrases.specs.Written.{phrase_of, raw_phrase, line_of}
 use Rattle.uecp_phrases.specs.Lines.{Say}
@@ -37,3 +37,30 @@ IsMessageSaid = (region : Region) (message : List ℕ) → AreBytes message → 
 abbrev pub IsLineWritable : Type 0
 IsLineWritable =
     (region : Region) (message : List ℕ) → AreBytes message → AllByRecursion IsToken (line_of region message)
+
+-- ---- The A/B flag.
+-- A token that can be written, and is none of the words `same`, `bits` and `raw`: it lets the flag turn, and tells no
+-- byte as it is.
+pub record IsPlain (token : Token) : Type 0 where
+  pub writable : IsToken token
+  pub not_same : token ≢ Word (codes "same")
+  pub not_bits : token ≢ Word (codes "bits")
+  pub not_raw : token ≢ Word (codes "raw")
+
+-- The flag turns with the element's text, if it has one: bit 0 of its head is set (SPB 490, RadioText; bits: profile).
+abbrev pub Turns : Element → Type 0
+Turns (Rt dsn psn (Text head text)) = head % 2 ≡ 1
+Turns _ = Unit {0}
+
+-- The message is whole elements, one after another, and the flag turns with each text of them.
+pub record AreTurning (message : List ℕ) : Type 0 where
+  pub elements : List Element
+  pub joined : message ≡ flat_map spelling elements
+  pub each : AllByRecursion IsElement elements
+  pub turning : AllByRecursion Turns elements
+
+-- Law: of a line with none of the words `same`, `bits` and `raw`, whatever else it says, the flag turns with each text.
+abbrev pub TextsTurn : Type 0
+TextsTurn =
+    (region : Region) (tokens : List Token) (message : List ℕ) → AllByRecursion IsPlain tokens
+    → Say region tokens message → AreTurning message

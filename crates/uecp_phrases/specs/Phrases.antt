@@ -88,30 +88,36 @@ IsProgrammeType region tokens raw =
     ((name : List ℕ) × (tokens ≡ Quoted name ∷ []) × HasName region raw name)
     ⊎ (((word : List ℕ) × (tokens ≡ Word word ∷ []) × (decimal_in 31 word ≡ Some raw)) ⊎ AreBits tokens raw)
 
--- What stands behind a RadioText: it is added to the texts that are there, its toggle is set, or how often it is sent.
+-- What stands behind a RadioText: it is added to the texts that are there; the A/B flag turns, as it does where nothing
+-- is said, or stays the same; or how often it is sent.
 pub data Choice : Type 0 where
   Adds : Choice
   Toggles : Choice
+  Stays : Choice
   Times : (count : List ℕ) → Choice
 
 -- The words of a choice.
 abbrev pub choice_tokens : Choice → List Token
 choice_tokens Adds = Word (codes "add") ∷ []
 choice_tokens Toggles = Word (codes "toggle") ∷ []
+choice_tokens Stays = Word (codes "same") ∷ []
 choice_tokens (Times count) = Word (codes "times") ∷ Word count ∷ []
 
--- Which choices were made, and how often the text is sent.
+-- Which choices were made: whether the flag turns, and how often the text is sent, each if it is said.
 pub record Choices : Type 0 where
   pub adds : Bool
-  pub toggles : Bool
+  pub turns : Option Bool
   pub times : Option ℕ
 
--- Each is made once at most, behind those that were made before; a text is sent 0 to 15 times, 0 without limit.
+-- Each is made once at most, behind those that were made before, and of the flag one thing is said; a text is sent 0 to
+-- 15 times, 0 without limit.
 abbrev pub AreMade : (before : Choices) → List Choice → (made : Choices) → Type 0
 AreMade before [] made = made ≡ before
 AreMade before (Adds ∷ others) made = (before.adds ≡ false) × AreMade (record before { adds = true }) others made
 AreMade before (Toggles ∷ others) made =
-    (before.toggles ≡ false) × AreMade (record before { toggles = true }) others made
+    (before.turns ≡ None) × AreMade (record before { turns = Some true }) others made
+AreMade before (Stays ∷ others) made =
+    (before.turns ≡ None) × AreMade (record before { turns = Some false }) others made
 AreMade before (Times count ∷ others) made =
     (before.times ≡ None) × ((number : ℕ) × (decimal_in 15 count ≡ Some number)
     × AreMade (record before { times = Some number }) others made)
@@ -123,18 +129,23 @@ Make before tokens made =
 
 -- No choice was made.
 abbrev pub no_choice : Choices
-no_choice = record { adds = false; toggles = false; times = None }
+no_choice = record { adds = false; turns = None; times = None }
 
 -- How often: 0 where it is not said.
 abbrev pub times_of : Option ℕ → ℕ
 times_of None = 0
 times_of (Some number) = number
 
+-- The flag turns, where nothing else is said, so that a receiver does not mix the text with the one before.
+abbrev pub is_turned : Option Bool → Bool
+is_turned None = true
+is_turned (Some turns) = turns
+
 -- The head of a RadioText: buffer rule 10 where it is added, else 00; the number of transmissions from bit 1 on; the
 -- toggle in bit 0 (SPB 490, RadioText; bits: profile).
 abbrev pub head_of : Choices → ℕ
 head_of made =
-    (if made.adds then 0x40 else 0x00) + (2 * times_of made.times + (if made.toggles then 1 else 0))
+    (if made.adds then 0x40 else 0x00) + (2 * times_of made.times + (if is_turned made.turns then 1 else 0))
 
 -- A RadioText: none, which empties the buffer; a text and its choices; or a text and the byte of its head.
 abbrev pub IsRadioText : List Token → Part → Type 0

@@ -13,12 +13,13 @@ use Rattle.uecp_phrases.specs.Phrases.{Choice, Choices, choice_tokens, AreMade}
 
 -- The choices that were made.
 abbrev pub choices_of : Made → Choices
-choices_of made = record { adds = made.adds; toggles = made.toggles; times = made.times }
+choices_of made = record { adds = made.adds; turns = made.turns; times = made.times }
 
 -- The word of a choice.
 abbrev pub choice_word : ChoiceName → List ℕ
 choice_word name.Add = codes "add"
 choice_word name.Toggle = codes "toggle"
+choice_word name.Same = codes "same"
 choice_word name.Times = codes "times"
 
 -- The first tokens make one choice, behind those that were made before, and the others are left.

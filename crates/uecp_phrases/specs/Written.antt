@@ -69,11 +69,11 @@ programme_type_tokens region raw = by_name (name_of region raw)
     by_name (Some name) = Quoted name ∷ []
     by_name None = if nat_le raw 31 then Word (decimal raw) ∷ [] else bits_tokens raw
 
--- The choices behind a text.
+-- The choices behind a text: that the flag turns is not said.
 abbrev pub choices_tokens : (head : ℕ) → List Token
 choices_tokens head =
     (if head / 0x40 % 2 == 1 then Word (codes "add") ∷ [] else [])
-    ++ ((if head % 2 == 1 then Word (codes "toggle") ∷ [] else [])
+    ++ ((if head % 2 == 0 then Word (codes "same") ∷ [] else [])
     ++ (if head / 2 % 16 == 0 then [] else Word (codes "times") ∷ Word (decimal (head / 2 % 16)) ∷ []))
 
 -- Each bit of the head of a RadioText has a name: bit 7 is 0, and the buffer rule 00 or 10.

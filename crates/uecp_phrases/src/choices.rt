@@ -12,11 +12,11 @@ use uecp_text::decimal_of;
 /// The most transmissions that a RadioText's head can ask for.
 pub const TIMES_MAX: u32 = 15;
 
-/// Which choices were made, and how often the text is sent, if it is said.
+/// Which choices were made: whether the A/B flag turns, and how often the text is sent, each if it is said.
 #[derive(Clone, Copy, Debug)]
 pub struct Made {
     adds: bool,
-    toggles: bool,
+    turns: Option<bool>,
     times: Option<u8>,
 }
 
@@ -25,6 +25,7 @@ pub struct Made {
 pub enum ChoiceName {
     Add,
     Toggle,
+    Same,
     Times,
 }
 
@@ -36,7 +37,7 @@ pub fn head_in(tokens: &[Token]) -> Option<u8>
 {
     let none = Made {
         adds: false,
-        toggles: false,
+        turns: None,
         times: None,
     };
     let made = made_in(tokens, none)?;
@@ -76,8 +77,12 @@ fn first_choice(tokens: &[Token], before: Made) -> Option<(Made, &[Token])>
             made.adds = true;
             Some((made, rest))
         }
-        ChoiceName::Toggle if !before.toggles => {
-            made.toggles = true;
+        ChoiceName::Toggle if before.turns.is_none() => {
+            made.turns = Some(true);
+            Some((made, rest))
+        }
+        ChoiceName::Same if before.turns.is_none() => {
+            made.turns = Some(false);
             Some((made, rest))
         }
         ChoiceName::Times if before.times.is_none() => {
@@ -98,17 +103,19 @@ fn choice_named(word: &[u8]) -> Option<ChoiceName>
     match word {
         b"add" => Some(ChoiceName::Add),
         b"toggle" => Some(ChoiceName::Toggle),
+        b"same" => Some(ChoiceName::Same),
         b"times" => Some(ChoiceName::Times),
         _ => None,
     }
 }
 
-/// The head of a RadioText.
+/// The head of a RadioText: the A/B flag turns, where nothing else is said.
 fn head(made: Made) -> u8
     requires { times_of made.times ≤ 15 }
     ensures { result ≡ head_of (choices_of made) }
 {
     let rule = if made.adds { 0x40 } else { 0x00 };
     let times = made.times.unwrap_or(0);
-    rule + 2 * times + u8::from(made.toggles)
+    let turns = made.turns.unwrap_or(true);
+    rule + 2 * times + u8::from(turns)
 }

@@ -33,8 +33,8 @@ pub enum Expectation {
     Choice {
         /// `add` may.
         add: bool,
-        /// `toggle` may.
-        toggle: bool,
+        /// `same` may.
+        same: bool,
         /// `times` may.
         times: bool,
     },
@@ -79,7 +79,7 @@ impl Expectation {
             Expectation::ProgrammeType => {
                 "a name of a programme type between quotes, a number up to 31, or bits"
             }
-            Expectation::Choice { add, toggle, times } => choice_text(add, toggle, times),
+            Expectation::Choice { add, same, times } => choice_text(add, same, times),
             Expectation::Times => "a number of times, 0 to 15",
             Expectation::GroupType => "a type of group, 0A to 15B, or bits",
             Expectation::FiveBits => "two hexadecimal digits, 00 to 1F",
@@ -93,14 +93,14 @@ impl Expectation {
 }
 
 /// How the choices that may still be made are said.
-fn choice_text(add: bool, toggle: bool, times: bool) -> &'static str {
-    match (add, toggle, times) {
-        (true, true, true) => "add, toggle, times or the end of the phrase",
-        (true, true, false) => "add, toggle or the end of the phrase",
+fn choice_text(add: bool, same: bool, times: bool) -> &'static str {
+    match (add, same, times) {
+        (true, true, true) => "add, same, times or the end of the phrase",
+        (true, true, false) => "add, same or the end of the phrase",
         (true, false, true) => "add, times or the end of the phrase",
         (true, false, false) => "add or the end of the phrase",
-        (false, true, true) => "toggle, times or the end of the phrase",
-        (false, true, false) => "toggle or the end of the phrase",
+        (false, true, true) => "same, times or the end of the phrase",
+        (false, true, false) => "same or the end of the phrase",
         (false, false, true) => "times or the end of the phrase",
         (false, false, false) => "the end of the phrase",
     }

@@ -1,6 +1,6 @@
 //! The laws of phrases, each as the contract of a function that does nothing (profile).
 ghost use Rattle.uecp_phrases.specs.Laws.{IsSaidAsWritten, IsWritable, IsOneMeaning, IsRawSaid, IsMessageSaid};
-ghost use Rattle.uecp_phrases.specs.Laws.{IsLineWritable};
+ghost use Rattle.uecp_phrases.specs.Laws.{IsLineWritable, TextsTurn};
 
 /// What is written of an element is a phrase, and adds that element's spelling.
 #[tactic(auto, using(crate::proofs::Said::said_as_written))]
@@ -33,4 +33,9 @@ pub fn message_said()
 /// The tokens of that line are such as can be written, so that by the laws of `phrase_tokens` its text reads as them.
 pub fn line_writable()
     ensures { IsLineWritable }
+{}
+
+/// Of a line with none of the words `same`, `bits` and `raw` the A/B flag turns with each text.
+pub fn texts_turn()
+    ensures { TextsTurn }
 {}

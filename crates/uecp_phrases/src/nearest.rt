@@ -118,20 +118,20 @@ fn words(what: Expectation) -> &'static [&'static str] {
         Expectation::Traffic => &["none", "eon", "programme", "announcement", "bits"],
         Expectation::Bits | Expectation::ProgrammeType | Expectation::GroupType => &["bits"],
         Expectation::Added => &["add"],
-        Expectation::Choice { add, toggle, times } => choices(add, toggle, times),
+        Expectation::Choice { add, same, times } => choices(add, same, times),
         _ => &[],
     }
 }
 
 /// The choices that may still be made.
-fn choices(add: bool, toggle: bool, times: bool) -> &'static [&'static str] {
-    match (add, toggle, times) {
-        (true, true, true) => &["add", "toggle", "times"],
-        (true, true, false) => &["add", "toggle"],
+fn choices(add: bool, same: bool, times: bool) -> &'static [&'static str] {
+    match (add, same, times) {
+        (true, true, true) => &["add", "same", "times"],
+        (true, true, false) => &["add", "same"],
         (true, false, true) => &["add", "times"],
         (true, false, false) => &["add"],
-        (false, true, true) => &["toggle", "times"],
-        (false, true, false) => &["toggle"],
+        (false, true, true) => &["same", "times"],
+        (false, true, false) => &["same"],
         (false, false, true) => &["times"],
         (false, false, false) => &[],
     }

@@ -159,20 +159,20 @@ fn is_text_first(tokens: &[Token]) -> bool {
 fn walk_choices(region: Region, tokens: &[Token]) -> Result<(), Stop>
     ensures { IfErr result (λ stop. stop.left ≤ length tokens.now) }
 {
-    let (mut add, mut toggle, mut times) = (true, true, true);
+    let (mut add, mut same, mut times) = (true, true, true);
     let mut rest = tokens;
     while let Some((first, more)) = rest.split_first() {
         if add && first.is_word(b"add") {
             add = false;
             rest = more;
-        } else if toggle && first.is_word(b"toggle") {
-            toggle = false;
+        } else if same && (first.is_word(b"same") || first.is_word(b"toggle")) {
+            same = false;
             rest = more;
         } else if times && first.is_word(b"times") {
             times = false;
             rest = walk_each(region, &[Expectation::Times], more)?;
         } else {
-            let what = Expectation::Choice { add, toggle, times };
+            let what = Expectation::Choice { add, same, times };
             return Err(stop_at(what, rest));
         }
     }

@@ -334,7 +334,7 @@ fn put_choices(head: u8, out: &mut Phrase)
     ensures { tokens_of out.new.items ≡ tokens_of out.old.items ++ choices_tokens head }
 {
     put_where(head / 0x40 % 2 == 1, b"add", out);
-    put_where(head % 2 == 1, b"toggle", out);
+    put_where(head % 2 == 0, b"same", out);
     put_times(head / 2 % 16, out);
 }
 
