@@ -424,7 +424,7 @@ static void stores_in_words(void)
     static const char before[] = "in 1 for 01 pi 0000\nin 1 for 01 ps \"\"\nin 1 for 01 traffic none\nin 1 for 01 speech\n"
         "in 1 for 01 pty \"None\"\nin 1 for 01 rt clear\nin 2 for 01 pi 0000\nin 2 for 01 ps \"RADIO 1\"\nin 2 for 01 traffic none\n"
         "in 2 for 01 speech\nin 2 for 01 pty \"";
-    static const char behind[] = "\"\nin 2 for 01 rt \"HI\" toggle\nset 1\n";
+    static const char behind[] = "\"\nin 2 for 01 rt \"HI\"\nset 1\n";
     uint8_t out[UECP_FRAME_MAX], words[600];
     char wanted[600];
     uecp_handle encoder = UECP_NO_OBJECT;

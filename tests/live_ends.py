@@ -52,7 +52,8 @@ def spoken(chance, count, first=0):
         blocks = chance.randbytes(4)
         spelt = f"{blocks[:2].hex().upper()} {blocks[2:].hex().upper()}"
         kinds = {
-            (f'rt "{text}" add', bytes([0x0A, 0, 0, 3, 0x40]) + text.encode()): 10,
+            (f'rt "{text}" add', bytes([0x0A, 0, 0, 3, 0x41]) + text.encode()): 10,
+            (f'rt "{text}" add same', bytes([0x0A, 0, 0, 3, 0x40]) + text.encode()): 2,
             ("rt clear", bytes([0x0A, 0, 0, 0])): 2,
             (f"group 0A 00 {spelt} add", bytes([0x24, 0, 0x40]) + blocks): 6,
             (f"group 0A 00 {spelt}", bytes([0x24, 0, 0x00]) + blocks): 1,
