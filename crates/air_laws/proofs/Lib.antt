@@ -8,5 +8,6 @@ pub mod Lines
 pub mod TextRuns
 pub mod NamesInOrder
 pub mod Mixing
+pub mod Saying
 pub mod Showing
 pub mod EachPass

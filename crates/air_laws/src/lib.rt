@@ -3,6 +3,7 @@
 
 ghost use Rattle.air_laws.specs.Laws.{ServiceIsShown, TextIsShown, TrafficIsTold, NoNameIsMixed};
 ghost use Rattle.air_laws.specs.Laws.{NoTextIsMixed, NothingFalseIsShown, EachPassIsShown};
+ghost use Rattle.air_laws.specs.Said.{TogglesStaySet, NoSaidTextIsMixed};
 
 /// A service that stays is shown after 16 groups.
 pub fn service_is_shown()
@@ -32,6 +33,16 @@ pub fn no_name_is_mixed()
 /// Where each text has its toggle set, no text is mixed.
 pub fn no_text_is_mixed()
     ensures { NoTextIsMixed }
+{}
+
+/// What is said in words, none of them `same`, `bits` or `raw`, keeps the toggle of each text set.
+pub fn toggles_stay_set()
+    ensures { TogglesStaySet }
+{}
+
+/// Where a station is said in such words, no text is mixed.
+pub fn no_said_text_is_mixed()
+    ensures { NoSaidTextIsMixed }
 {}
 
 /// Whatever comes damaged, nothing false is shown.

@@ -80,7 +80,8 @@ text_turns : (dsn psn : ℕ) (part : Part) (tokens : List Token) (bytes : List �
     → IsRadioText tokens part → bytes ≡ spelling (Rt dsn psn part) → AddsTurning bytes
 text_turns dsn psn NoText tokens bytes plain is spelled =
     record { element = Rt dsn psn NoText; spelled = spelled; is_one = tt; turns = tt }
-text_turns dsn psn (Text head text) tokens bytes plain (inl (choices, made, whole, (list, same, are), head_is)) spelled =
+text_turns dsn psn (Text head text) tokens bytes plain (inl (choices, made, whole, (list, same, are), head_is))
+    spelled =
     let both = subst ArePlain whole plain in
     record {
       element = Rt dsn psn (Text head text);

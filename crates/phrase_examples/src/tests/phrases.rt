@@ -27,10 +27,7 @@ const WRITTEN: &[(&str, &[u8])] = &[
     ("rt clear", &[0x0a, 0, 0, 0]),
     (r#"rt "HI""#, &[0x0a, 0, 0, 3, 0x01, 0x48, 0x49]),
     (r#"rt "HI" same"#, &[0x0a, 0, 0, 3, 0x00, 0x48, 0x49]),
-    (
-        r#"rt "HI" add times 3"#,
-        &[0x0a, 0, 0, 3, 0x47, 0x48, 0x49],
-    ),
+    (r#"rt "HI" add times 3"#, &[0x0a, 0, 0, 3, 0x47, 0x48, 0x49]),
     (
         r#"rt "HI" add same times 3"#,
         &[0x0a, 0, 0, 3, 0x46, 0x48, 0x49],
