@@ -1,16 +1,16 @@
 -- One call more, one connection more, and one broken connection more.
 use Rattle.std.proofs.Common.{◌≡◌, ◌≢◌, ℕ, suc, ◌+◌, ◌-◌, ◌<◌, List, [], Option, Some, None, IsSome, IfSome, inl, inr}
-use Rattle.std.proofs.Common.{Result, Ok, Err, refl, subst, sym, ap, ◌∙◌, arith}
+use Rattle.std.proofs.Common.{Result, Ok, Err, true, refl, subst, sym, ap, ◌∙◌, arith}
 use Rattle.uecp_frame.specs.Findings as frame
 use Rattle.uecp_encoder.specs.Metered.{Metered}
 use Rattle.uecp_link.specs.Server.{ServerState, heard}
-use Rattle.uecp_link.specs.Window.{Windows}
 use Rattle.uecp_link.specs.declared.driving.DriveFault.{DriveFault}
 use Rattle.uecp_link.specs.declared.driving.DriveFault.TheVariants.{WriteFailed, Closed, TriesSpent}
 use Rattle.uecp_link.specs.declared.window.Windowed.TheVariants.{Idle, Spent}
 use Rattle.uecp_link.proofs.FeedingLemmas.{heard_none}
 use Rattle.uecp_net.specs.Sending.{SenderOver, Marks, GoesOn, Opens, unused, Underway, underway, Calls, SpentCalls}
 use Rattle.uecp_net.specs.Sending.{Tried, Attempts, Delivers, HangsUp, reason_of, without_ends, reconnecting}
+use Rattle.uecp_net.specs.Sending.{opens_another}
 use Rattle.uecp_net.specs.declared.sending.TwoEnds.{TwoEnds}
 use Rattle.uecp_net.specs.declared.sending.Outstanding.{Outstanding}
 
@@ -104,7 +104,7 @@ module _ {I O : Type 0} (remaining : I → Option (List ℕ)) (contents : O → 
     pub delivers_on : (old last next after new : SenderOver C I O) (marks some marks' : Marks)
         (result : Result ℕ Outstanding) (ended : ℕ) (before reason : Outstanding) (fault : DriveFault) →
         Attempts opens remaining contents old last marks some (Err fault) → HangsUp closes last next
-        → 0 < next.sender.left → after ≡ reconnecting next → reason ≡ reason_of fault →
+        → opens_another next.sender (reason_of fault) ≡ true → after ≡ reconnecting next → reason ≡ reason_of fault →
         Delivers opens closes remaining contents ended reason after new some marks' result
         → Delivers opens closes remaining contents (ended + 1) before old new marks marks' result
     delivers_on old last next after new marks some marks' result ended before reason fault attempts hangs_up left

@@ -1,7 +1,7 @@
 -- A server with its connection as one value, and how it goes on connections; a reader has to believe it. Source:
 -- profile.
-use Rattle.std.specs.Prelude.{◌≡◌, ◌≢◌, ◌⊎◌, ℕ, ◌+◌, ◌-◌, ◌<◌, ◌≤◌, zero, suc, true, false, List, [], ◌∷◌, ◌++◌, length}
-use Rattle.std.specs.Prelude.{map, Option, Some, None, IsSome, Result, Ok, Err}
+use Rattle.std.specs.Prelude.{◌≡◌, ◌≢◌, ◌⊎◌, ℕ, ◌+◌, ◌-◌, ◌<◌, ◌≤◌, zero, suc, Bool, true, false, nat_lt, ◌&&◌, List}
+use Rattle.std.specs.Prelude.{[], ◌∷◌, ◌++◌, length, map, Option, Some, None, IsSome, Result, Ok, Err}
 use Rattle.uecp_frame.specs.Findings.{Closed}
 use Rattle.uecp_encoder.specs.Metered.{Metered}
 use Rattle.uecp_link.specs.declared.driving.DriveFault.{DriveFault}
@@ -15,12 +15,14 @@ use Rattle.uecp_net.specs.declared.sending.TwoEnds.{TwoEnds}
 use Rattle.uecp_net.specs.declared.sending.Outstanding.{Outstanding}
 use Rattle.uecp_net.specs.declared.sending.Outstanding.TheVariants as out
 
--- The server; how many tries and turns each connection has; and how many reconnects are left.
+-- The server; how many tries and turns each connection has; how many reconnects are left; and whether one is made also
+-- where tries were spent, as on a silent line.
 pub record SenderState : Type 0 where
   pub server : ServerState
   pub tries : ℕ
   pub turns : ℕ
   pub left : ℕ
+  pub reconnect_silent : Bool
 
 -- A sender with where its connections come from, by the name of the loan under which it has that, and the two ends of
 -- the connection that it has, if it has one.
@@ -121,6 +123,12 @@ reason_of (drive.WriteFailed written) = out.ConnectionFailed
 reason_of drive.Closed = out.ConnectionFailed
 reason_of drive.TriesSpent = out.TriesSpent
 
+-- Whether a sender opens another connection where one ended for this reason: a reconnect is left, and the connection
+-- broke, or a silent one leads to another too.
+abbrev pub opens_another : SenderState → Outstanding → Bool
+opens_another s out.ConnectionFailed = nat_lt 0 s.left
+opens_another s out.TriesSpent = s.reconnect_silent && nat_lt 0 s.left
+
 -- The sender hangs up: the two ends of the connection that it has, if it has one, go back to where connections come
 -- from, as they are.
 abbrev pub HangsUp : {C I O : Type 0} → (closes : C → I → O → C → Type 0) → SenderOver C I O → SenderOver C I O → Type 0
@@ -138,17 +146,17 @@ abbrev pub without_ends : {C I O : Type 0} → SenderOver C I O → SenderOver C
 without_ends s = record s { ends = None }
 
 -- The messages that wait were sent over one connection after another, from one state of the sender to another; the
--- marks of one are kept for the next. First so many connections ended with messages that wait: each broke or its tries
--- were spent, was hung up, and cost a reconnect. Then came the last acknowledgement, after so many calls on this
--- connection; or there was no connection to be had, and the reason is that of the one before, or of this where there
--- was none; or one more ended so where no reconnect was left.
+-- marks of one are kept for the next. First so many connections ended with messages that wait, each for a reason after
+-- which another is opened: it was hung up, and cost a reconnect. Then came the last acknowledgement, after so many
+-- calls on this connection; or there was no connection to be had, and the reason is that of the one before, or this
+-- where there was none; or one more ended so, for a reason after which no other is opened.
 abbrev pub Delivers : {C I O : Type 0} → (opens : C → Option (I × O) → C → Type 0) → (closes : C → I → O → C → Type 0)
     → (remaining : I → Option (List ℕ)) → (contents : O → Option (List ℕ)) → (ended : ℕ) → (before : Outstanding)
     → (old new : SenderOver C I O) → (marks marks' : Marks) → Result ℕ Outstanding → Type 0
 Delivers {C} {I} {O} opens closes remaining contents (suc n) before s s' marks marks' result =
     (fault : DriveFault) × (last : SenderOver C I O) × (next : SenderOver C I O) × (some : Marks)
     × Attempts opens remaining contents s last marks some (Err fault) × HangsUp closes last next
-    × (0 < next.sender.left)
+    × (opens_another next.sender (reason_of fault) ≡ true)
     × Delivers opens closes remaining contents n (reason_of fault) (reconnecting next) s' some marks' result
 Delivers opens closes remaining contents zero before s s' marks marks' (Ok calls) =
     Attempts opens remaining contents s s' marks marks' (Ok calls)
@@ -156,7 +164,7 @@ Delivers {C} {I} {O} opens closes remaining contents zero before s s' marks mark
     (OpensNone opens s s' × (marks' ≡ marks) × (reason ≡ before))
     ⊎ ((fault : DriveFault) × (last : SenderOver C I O)
     × Attempts opens remaining contents s last marks marks' (Err fault) × HangsUp closes last s'
-    × (s'.sender.left ≡ 0) × (reason ≡ reason_of fault))
+    × (opens_another s'.sender (reason_of fault) ≡ false) × (reason ≡ reason_of fault))
 
 -- How it went on one connection, or there was none to be had (private).
 abbrev pub Goes : {C I O : Type 0} → (opens : C → Option (I × O) → C → Type 0) → (remaining : I → Option (List ℕ))

@@ -3,7 +3,7 @@ ghost use Rattle.std.specs.Prelude.{◌≡◌, ◌≢◌, ℕ, ◌<◌, ◌≤�
 ghost use Rattle.uecp_link.specs.Server.{waiting};
 ghost use Rattle.uecp_net.specs.declared.sending.Outstanding.TheVariants.{ConnectionFailed};
 ghost use Rattle.uecp_net.specs.Sending.{SenderOver, Marks, Follows, Delivers, HangsUp, reason_of, submitted_to};
-ghost use Rattle.uecp_net.specs.Sending.{AreTold, AreFreed, StillWait};
+ghost use Rattle.uecp_net.specs.Sending.{AreTold, AreFreed, StillWait, opens_another};
 
 mod connections;
 mod joining;
@@ -22,8 +22,8 @@ use uecp_link::{DriveFault, Server, WINDOW_MAX};
 /// Why messages are still outstanding.
 #[derive(Clone, Copy, Debug, PartialEq, Eq)]
 pub enum Outstanding {
-    /// Every try on the last connection ended without all replies, and no reconnect was left or no other connection to
-    /// be had.
+    /// Every try on the last connection ended without all replies; and where that leads to another one, no reconnect
+    /// was left or none to be had.
     TriesSpent,
     /// The last connection broke with no reconnect left or no other one to be had; or there was none to be had from the
     /// start.
@@ -48,6 +48,9 @@ pub struct Limits {
     pub turns: u32,
     /// How many connections may be opened in all after the first.
     pub reconnects: u32,
+    /// Whether another connection is opened also where every try on one was spent, as on a silent line. Else one is
+    /// only where a connection broke.
+    pub reconnect_silent: bool,
 }
 
 /// The two ends of a connection, each in a meter of its own.
@@ -79,6 +82,7 @@ impl<'a, C: Connect> Model for Sender<'a, C> {
         tries = s.limits.tries;
         turns = s.limits.turns;
         left = s.limits.reconnects;
+        reconnect_silent = s.limits.reconnect_silent;
       };
       connect = s.connect.now;
       loan = s.connect.ghost_name;
@@ -95,6 +99,7 @@ impl<'a, C: Connect> Sender<'a, C> {
             tries = limits.tries;
             turns = limits.turns;
             left = limits.reconnects;
+            reconnect_silent = limits.reconnect_silent;
           };
           connect = connect.old;
           loan = connect.entry.ghost_name;
@@ -141,8 +146,9 @@ impl<'a, C: Connect> Sender<'a, C> {
     }
 
     /// Sends the messages that wait until all are acknowledged: on the connection that there is, or on a new one; where
-    /// that breaks, or brings not all replies in as many tries as it has, on a new one as long as reconnects are left.
-    /// Some message waits.
+    /// that breaks, on a new one as long as reconnects are left. Where one brings not all replies in as many tries as
+    /// it has, that is the end; or with [`reconnect_silent`](Limits::reconnect_silent) it is as if it broke. Some
+    /// message waits.
     ///
     /// Where all are acknowledged the server is idle again; else messages are outstanding, and the connection is let
     /// go. Those may be settled again, with what reconnects are left.
@@ -155,8 +161,8 @@ impl<'a, C: Connect> Sender<'a, C> {
         ensures stays { record self.new.sender { server = self.old.sender.server; left = self.old.sender.left }
             ≡ self.old.sender }
         ensures loan { self.new.loan ≡ self.old.loan }
-        // What each connection did, and nothing else: no batch is given up before its tries and its connections are
-        // spent. Each message is told the code of its own reply.
+        // What each connection did, and nothing else: no batch is given up before its tries on a connection are spent,
+        // or its connections; and with `reconnect_silent` both. Each message is told the code of its own reply.
         ensures delivers { IfOk result (λ settled. (ended : ℕ) × (marks : Marks)
             × Delivers C.opens C.closes C.Input.remaining C.Output.contents ended ConnectionFailed self.old self.new []
             marks (Ok settled.tries)
@@ -174,8 +180,8 @@ impl<'a, C: Connect> Sender<'a, C> {
         })
     }
 
-    /// Sends the messages that wait on the connection that there is, and on new ones as long as reconnects are left,
-    /// and answers how many tries the last one took.
+    /// Sends the messages that wait on the connection that there is, and on new ones as long as one ended so that
+    /// another is opened, and answers how many tries the last one took.
     fn send_on_any(
         &mut self,
         marks: &mut ArrayVec<(u8, Code), WINDOW_MAX>,
@@ -200,10 +206,21 @@ impl<'a, C: Connect> Sender<'a, C> {
                 Some(Err(fault)) => reason = reason_of(fault),
             }
             self.hang_up();
-            if self.limits.reconnects == 0 {
+            if !self.opens_another(reason) {
                 return Err(reason);
             }
             self.limits.reconnects -= 1;
+        }
+    }
+
+    /// Whether another connection is opened where one ended for this reason.
+    fn opens_another(&self, reason: Outstanding) -> bool
+        ensures value { result ≡ opens_another self.now.sender reason }
+        ensures left { IsTrue result → 0 < self.now.sender.left }
+    {
+        match reason {
+            Outstanding::ConnectionFailed => self.limits.reconnects > 0,
+            Outstanding::TriesSpent => self.limits.reconnect_silent && self.limits.reconnects > 0,
         }
     }
 }

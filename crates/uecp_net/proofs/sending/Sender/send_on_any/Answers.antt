@@ -1,5 +1,5 @@
-use Rattle.std.proofs.Common.{rules, arith, ◌≡◌, ◌<◌, ◌+◌, [], Ok, Err, ap, sym, subst, ◌∙◌, inl, inr, refl}
-use Rattle.uecp_net.specs.Sending.{Attempts, Follows, reason_of}
+use Rattle.std.proofs.Common.{rules, ◌≡◌, ◌+◌, [], true, false, Ok, Err, ap, sym, subst, ◌∙◌, inl, inr, refl}
+use Rattle.uecp_net.specs.Sending.{Attempts, Follows, reason_of, opens_another}
 use Rattle.uecp_net.proofs.Breaking.{hung_sender, one_fewer, delivers_on}
 use Rattle.uecp_net.proofs.Told.{follows_on}
 use Rattle.uecp_net.proofs.sending.Sender.send_on_any.Goals as goal
@@ -20,8 +20,8 @@ returns-in-Some-Ok-clause-delivers g c =
     rw (← c.in-Some-Ok.tries-is) at (c.connections.invariant.on c.send_on_one.new.self c.send_on_one.new.marks.items
     (Ok c.in-Some-Ok.tries) 0 there)
 
-pub returns-then-self-eq0-clause-follows : goal.returns-then-self-eq0-clause-follows
-returns-then-self-eq0-clause-follows g c =
+pub returns-then-not-opens_another-clause-follows : goal.returns-then-not-opens_another-clause-follows
+returns-then-not-opens_another-clause-follows g c =
     let same : c.hang_up.new.self.sender.server ≡ c.send_on_one.new.self.sender.server =
     ap (λ s. s.server) (hung_sender g.C.Input.Read.remaining g.C.Output.Write.contents g.C.Connect.opens
     g.C.Connect.closes c.send_on_one.new.self c.hang_up.new.self c.hang_up.ensures) in
@@ -29,16 +29,23 @@ returns-then-self-eq0-clause-follows g c =
     (follows_on _ c.connections.self.sender.server _ _ c.connections.marks.items _ c.connections.invariant.follows
     c.send_on_one.ensures.follows)
 
-pub returns-then-self-eq0-clause-delivers : goal.returns-then-self-eq0-clause-delivers
-returns-then-self-eq0-clause-delivers g c =
+pub returns-then-not-opens_another-clause-delivers : goal.returns-then-not-opens_another-clause-delivers
+returns-then-not-opens_another-clause-delivers g c =
     let last = c.send_on_one.new.self in
     let fault = c.in-Some-Err.fault in
     let there : Attempts g.C.Connect.opens g.C.Input.Read.remaining g.C.Output.Write.contents c.connections.self
     c.send_on_one.new.self c.connections.marks.items c.send_on_one.new.marks.items (Err fault) = search rules in
     let reason_is : c.reason_of-reason.result ≡ reason_of fault = search rules in
-    let none : c.hang_up.new.self.sender.left ≡ 0 = search rules in
+    let none : opens_another c.hang_up.new.self.sender c.reason_of-reason.result ≡ false = search rules in
     c.connections.invariant.on c.hang_up.new.self c.send_on_one.new.marks.items _ 0
-    (inr (fault, last, there, c.hang_up.ensures, none, reason_is))
+    (inr (
+      fault,
+      last,
+      there,
+      c.hang_up.ensures,
+      ap (opens_another c.hang_up.new.self.sender) (sym reason_is) ∙ none,
+      reason_is,
+    ))
 
 pub connections-preserved : goal.connections-preserved
 connections-preserved g c =
@@ -50,11 +57,9 @@ connections-preserved g c =
     ap (λ s. s.sender.server) c.self.view_is ∙ ap (λ s. s.server)
     (hung_sender g.C.Input.Read.remaining g.C.Output.Write.contents g.C.Connect.opens g.C.Connect.closes
     c.send_on_one.new.self c.hang_up.new.self c.hang_up.ensures) in
-    let left_same : c.self.inside.limits.reconnects ≡ c.hang_up.new.self.sender.left =
-    ap (λ s. s.sender.left) c.self.view_is in
     let stays = hung_sender g.C.Input.Read.remaining g.C.Output.Write.contents g.C.Connect.opens g.C.Connect.closes
     c.send_on_one.new.self c.hang_up.new.self c.hang_up.ensures in
-    let some : 0 < c.self.inside.limits.reconnects = search rules in
+    let again : opens_another c.hang_up.new.self.sender c.reason_of-reason.result ≡ true = search rules in
     let next_is = one_fewer g.C.Input.Read.remaining g.C.Output.Write.contents g.C.Connect.opens g.C.Connect.closes _
     c.hang_up.new.self c.self.view_is in
     record {
@@ -69,5 +74,5 @@ connections-preserved g c =
           (delivers_on g.C.Input.Read.remaining g.C.Output.Write.contents g.C.Connect.opens g.C.Connect.closes
           c.connections.self c.send_on_one.new.self c.hang_up.new.self _ end c.connections.marks.items
           c.send_on_one.new.marks.items marks result n c.connections.reason _ fault there c.hang_up.ensures
-          (omega (arith, some, left_same)) next_is reason_is delivers);
+          (ap (opens_another c.hang_up.new.self.sender) (sym reason_is) ∙ again) next_is reason_is delivers);
     }
