@@ -71,7 +71,8 @@ setup_refused (LineAs site encoder sets services store form) o fault is refused 
     subst (λ o. RefusesSetup o fault) is refused
 setup_refused (Encoder site encoder sets services port connections turns) o fault is refused =
     subst (λ o. RefusesSetup o fault) is refused
-setup_refused (Server site encoder host port tries timeout turns reconnects window join) o fault is refused = absurd is
+setup_refused (Server site encoder host port tries timeout turns reconnects window join reconnect_silent verbose) o
+    fault is refused = absurd is
 
 -- ---- each command
 pub showed_in : (form : Form) (s : Showing) (unread unread' held held' : Option (List ℕ))
@@ -193,7 +194,8 @@ from_command (Answer site encoder sets services store) tells P follows told = fo
 from_command (Line site encoder sets services store) tells P follows told = follows _ _ _ _ told
 from_command (LineAs site encoder sets services store form) tells P follows told = follows _ _ _ _ told
 from_command (Watch form time) tells P follows told = absurd told
-from_command (Server site encoder host port tries timeout turns reconnects window join) tells P follows told =
+from_command (Server site encoder host port tries timeout turns reconnects window join reconnect_silent verbose) tells P
+    follows told =
     absurd told
 from_command (Encoder site encoder sets services port connections turns) tells P follows told = absurd told
 
@@ -217,7 +219,8 @@ of_local (Answer site encoder sets services store) local tells told = told _ _ _
 of_local (Line site encoder sets services store) local tells told = told _ _ _ _
 of_local (LineAs site encoder sets services store form) local tells told = told _ _ _ _
 of_local (Watch form time) local tells told = absurd local
-of_local (Server site encoder host port tries timeout turns reconnects window join) local tells told = absurd local
+of_local (Server site encoder host port tries timeout turns reconnects window join reconnect_silent verbose) local tells
+    told = absurd local
 of_local (Encoder site encoder sets services port connections turns) local tells told = absurd local
 
 -- a text that stops a run has status 1 or 3
@@ -251,7 +254,8 @@ prints_status (Line site encoder sets services store) input written fault (v', r
 prints_status (LineAs site encoder sets services store form) input written fault (v', ran) is =
     stop_status (PlaysIn form) _ v' (texts_of input) written fault ran is
 prints_status (Watch form time) input written fault prints is = absurd prints
-prints_status (Server site encoder host port tries timeout turns reconnects window join) input written fault prints is =
+prints_status (Server site encoder host port tries timeout turns reconnects window join reconnect_silent verbose) input
+    written fault prints is =
     absurd prints
 prints_status (Encoder site encoder sets services port connections turns) input written fault prints is = absurd prints
 
@@ -287,7 +291,8 @@ local_status (Line site encoder sets services store) local input written fault (
 local_status (LineAs site encoder sets services store form) local input written fault (v', ran) is =
     no_end (PlaysIn form) (λ v text lines v' ended. ended) _ v' (texts_of input) written fault ran is
 local_status (Watch form time) local input written fault prints is = local
-local_status (Server site encoder host port tries timeout turns reconnects window join) local input written fault prints
+local_status (Server site encoder host port tries timeout turns reconnects window join reconnect_silent verbose) local
+    input written fault prints
     is = local
 local_status (Encoder site encoder sets services port connections turns) local input written fault prints is = local
 
@@ -321,7 +326,8 @@ job_wants (Line site encoder sets services store) local fault refused is =
     setup_wants (options site encoder sets services.items) fault refused is
 job_wants (LineAs site encoder sets services store form) local fault refused is =
     setup_wants (options site encoder sets services.items) fault refused is
-job_wants (Server site encoder host port tries timeout turns reconnects window join) local fault refused is =
+job_wants (Server site encoder host port tries timeout turns reconnects window join reconnect_silent verbose) local
+    fault refused is =
     absurd local
 job_wants (Encoder site encoder sets services port connections turns) local fault refused is = absurd local
 
@@ -364,7 +370,8 @@ job_status (LineAs site encoder sets services store form) fault refused is =
     says_status (options site encoder sets services.items) fault refused is
 job_status (Encoder site encoder sets services port connections turns) fault refused is =
     says_status (options site encoder sets services.items) fault refused is
-job_status (Server site encoder host port tries timeout turns reconnects window join) fault refused is =
+job_status (Server site encoder host port tries timeout turns reconnects window join reconnect_silent verbose) fault
+    refused is =
     let two : 2 ≡ 1 = sym (ap status_of refused.0) ∙ is in omega (arith, two)
 
 -- a run that stopped for this

@@ -32,12 +32,20 @@ pub starts_so : {C I O : Type 0} (s : SenderOver C I O) (c : C) (given : ℕ) (s
       tries = limits.tries;
       turns = limits.turns;
       left = limits.reconnects;
+      reconnect_silent = limits.reconnect_silent;
     }) → server ≡ idle_at address
     → s ≡ unconnected c s.loan (sender_at_first address limits)
 starts_so s c given server address limits made idle =
     made
     ∙ ap (λ (server : ServerState). let s : SenderState =
-    record { server = server; tries = limits.tries; turns = limits.turns; left = limits.reconnects } in
+    record {
+      server = server;
+      tries = limits.tries;
+      turns = limits.turns;
+      left = limits.reconnects;
+      reconnect_silent =
+          limits.reconnect_silent;
+    } in
     unconnected c given s) idle
     ∙ ap (λ n. unconnected c n (sender_at_first address limits)) (sym (ap (λ (d : SenderOver _ _ _). d.loan) made))
 
@@ -51,25 +59,32 @@ err_map (Err e) P Q follows holds = follows e holds
 
 module _ {C I O : Type 0} (opens : C → Option (I × O) → C → Type 0) (closes : C → I → O → C → Type 0)
     (remaining : I → Option (List ℕ)) (contents : O → Option (List ℕ)) where
-  pub sends_by : (address site encoder port tries timeout turns reconnects window size : ℕ) (join : Bool)
+  pub sends_by : (address site encoder port tries timeout turns reconnects window size : ℕ)
+      (reconnect_silent join : Bool)
       (messages : List (List ℕ)) (input : List ℕ) (c c' : C) (held held' : Option (List ℕ))
       (result : Result (Unit {0}) RunFault) →
       address ≡ address_of site encoder → size ≡ batch_size window → messages ≡ messages_first (texts_of input) →
       SendsMessages opens closes remaining contents address
-      (record { tries = tries; turns = turns; reconnects = reconnects }) join size messages c c' held held' result →
+      (record { tries = tries; turns = turns; reconnects = reconnects; reconnect_silent = reconnect_silent }) join size
+      messages c c' held held' result →
       SendsMessages opens closes remaining contents (address_of site encoder)
-      (record { tries = tries; turns = turns; reconnects = reconnects }) join (batch_size window)
+      (record { tries = tries; turns = turns; reconnects = reconnects; reconnect_silent = reconnect_silent }) join
+      (batch_size window)
       (messages_first (texts_of input)) c c' held held' result
-  sends_by address site encoder port tries timeout turns reconnects window size join messages input c c' held held'
+  sends_by address site encoder port tries timeout turns reconnects window size reconnect_silent join messages input c
+      c' held held'
       result address_is size_is messages_are sends =
       subst (λ a. SendsMessages opens closes remaining contents a
-      (record { tries = tries; turns = turns; reconnects = reconnects }) join (batch_size window)
+      (record { tries = tries; turns = turns; reconnects = reconnects; reconnect_silent = reconnect_silent }) join
+      (batch_size window)
       (messages_first (texts_of input)) c c' held held' result) address_is
       (subst (λ n. SendsMessages opens closes remaining contents address
-      (record { tries = tries; turns = turns; reconnects = reconnects }) join n (messages_first (texts_of input)) c
+      (record { tries = tries; turns = turns; reconnects = reconnects; reconnect_silent = reconnect_silent }) join n
+      (messages_first (texts_of input)) c
       c' held held' result) size_is
       (subst (λ ms. SendsMessages opens closes remaining contents address
-      (record { tries = tries; turns = turns; reconnects = reconnects }) join size ms c c' held held' result)
+      (record { tries = tries; turns = turns; reconnects = reconnects; reconnect_silent = reconnect_silent }) join size
+      ms c c' held held' result)
       messages_are sends))
 
 -- a batch ended the run for this
@@ -92,7 +107,8 @@ some_size : (window : ℕ) → 1 ≤ batch_size window
 some_size window = omega arith
 
 server_refuses : (job : Job) (fault : RunFault) → IsServer job → RefusesJob job fault → status_of fault ≡ 2
-server_refuses (Server site encoder host port tries timeout turns reconnects window join) fault serves refused =
+server_refuses (Server site encoder host port tries timeout turns reconnects window join reconnect_silent verbose) fault
+    serves refused =
     ap status_of refused.0
 server_refuses job fault serves refused = absurd serves
 
@@ -131,11 +147,12 @@ module _ {C I O : Type 0} (opens : C → Option (I × O) → C → Type 0) (clos
 
       by : (job : Job) → Sends opens closes remaining contents job input c c' unread unread' held held' (Ok tt)
           → AreAcknowledged job unread unread' held held'
-      by (Server site encoder host port tries timeout turns reconnects window join)
+      by (Server site encoder host port tries timeout turns reconnects window join reconnect_silent verbose)
           (one, is_input, (loan, s', ran, finishes)) =
           let (batches, are, appends) = sent_run opens closes remaining contents join (batch_size window)
           (unconnected c loan (sender_at_first (address_of site encoder)
-          (record { tries = tries; turns = turns; reconnects = reconnects }))) s' (messages_first (texts_of input))
+          (record { tries = tries; turns = turns; reconnects = reconnects; reconnect_silent = reconnect_silent }))) s'
+          (messages_first (texts_of input))
           held held' (some_size window) ran in (
             one,
             (
@@ -160,23 +177,26 @@ module _ {C I O : Type 0} (opens : C → Option (I × O) → C → Type 0) (clos
 
       by : (job : Job) → Sends opens closes remaining contents job input c c' unread unread' held held' (Ok tt)
           → AreAcknowledgedBefore job unread unread' held held' told told'
-      by (Server site encoder host port tries timeout turns reconnects window join)
+      by (Server site encoder host port tries timeout turns reconnects window join reconnect_silent verbose)
           (one, is_input, (loan, s', ran, finishes)) =
           let (batches, are, appends) = sent_run opens closes remaining contents join (batch_size window)
           (unconnected c loan (sender_at_first (address_of site encoder)
-          (record { tries = tries; turns = turns; reconnects = reconnects }))) s' (messages_first (texts_of input))
+          (record { tries = tries; turns = turns; reconnects = reconnects; reconnect_silent = reconnect_silent }))) s'
+          (messages_first (texts_of input))
           held held' (some_size window) ran in
           (one, (input, batches, before.fault, is_input, before.refused, are, appends, before.said))
       by job sends = absurd sends
 
   stops_three : (job : Job) (input : List ℕ) (fault : RunFault)
       → Sends opens closes remaining contents job input c c' unread unread' held held' (Err fault) → status_of fault ≡ 3
-  stops_three (Server site encoder host port tries timeout turns reconnects window join) input fault
+  stops_three (Server site encoder host port tries timeout turns reconnects window join reconnect_silent verbose) input
+      fault
       (one, is_input, (loan, s', ran, finishes)) =
       run_status join (batch_size window) tries (length (messages_first (texts_of input))) held held' fault
       (stopped_run opens closes remaining contents join (batch_size window)
       (unconnected c loan (sender_at_first (address_of site encoder)
-      (record { tries = tries; turns = turns; reconnects = reconnects }))) s' (messages_first (texts_of input)) held
+      (record { tries = tries; turns = turns; reconnects = reconnects; reconnect_silent = reconnect_silent }))) s'
+      (messages_first (texts_of input)) held
       held' fault (some_size window) ran)
   stops_three job input fault sends = absurd sends
 
@@ -191,9 +211,10 @@ module _ {C I O : Type 0} (opens : C → Option (I × O) → C → Type 0) (clos
       by : (job : Job) → IsServer job → (SendsNone unread unread' held held' fault × (c' ≡ c))
           ⊎ ((input : List ℕ) × Sends opens closes remaining contents job input c c' unread unread' held held'
           (Err fault)) → AreNotAcknowledged job unread unread' held held' told told'
-      by (Server site encoder host port tries timeout turns reconnects window join) serves (inl (none, same)) =
+      by (Server site encoder host port tries timeout turns reconnects window join reconnect_silent verbose) serves
+          (inl (none, same)) =
           (fault, ended.said, inl none)
-      by (Server site encoder host port tries timeout turns reconnects window join) serves
+      by (Server site encoder host port tries timeout turns reconnects window join reconnect_silent verbose) serves
           (inr (input, (one, is_input, (loan, s', ran, finishes)))) = (
             fault,
             ended.said,
@@ -202,7 +223,12 @@ module _ {C I O : Type 0} (opens : C → Option (I × O) → C → Type 0) (clos
               is_input,
               stopped_run opens closes remaining contents join (batch_size window)
                   (unconnected c loan (sender_at_first (address_of site encoder)
-                  (record { tries = tries; turns = turns; reconnects = reconnects }))) s'
+                  (record {
+                    tries = tries;
+                    turns = turns;
+                    reconnects = reconnects;
+                    reconnect_silent = reconnect_silent;
+                  }))) s'
                   (messages_first (texts_of input))
                   held held' fault (some_size window) ran,
             ),

@@ -29,7 +29,7 @@ HasEncoder (ShowAs form) = ⊥
 HasEncoder (Watch form time) = ⊥
 HasEncoder Make = ⊥
 HasEncoder (MakeWords region) = ⊥
-HasEncoder (Server site encoder host port tries timeout turns reconnects window join) = ⊥
+HasEncoder (Server site encoder host port tries timeout turns reconnects window join reconnect_silent verbose) = ⊥
 HasEncoder job = Unit {0}
 
 -- These are the options of that encoder.
@@ -45,7 +45,7 @@ Describes job o = ⊥
 abbrev pub IsLocal : Job → Type 0
 IsLocal (Watch form time) = ⊥
 IsLocal (Encoder site encoder sets services port connections turns) = ⊥
-IsLocal (Server site encoder host port tries timeout turns reconnects window join) = ⊥
+IsLocal (Server site encoder host port tries timeout turns reconnects window join reconnect_silent verbose) = ⊥
 IsLocal job = Unit {0}
 
 -- What is told of a job by its command: by what texts mean to it, the value that it begins with, and its closing lines.
@@ -66,7 +66,7 @@ ByCommand (Line site encoder sets services store) tells =
 ByCommand (LineAs site encoder sets services store form) tells =
     tells _ (PlaysIn form) (line_at_first (options site encoder sets services.items)) (closing_lines form store)
 ByCommand (Watch form time) tells = ⊥
-ByCommand (Server site encoder host port tries timeout turns reconnects window join) tells = ⊥
+ByCommand (Server site encoder host port tries timeout turns reconnects window join reconnect_silent verbose) tells = ⊥
 ByCommand (Encoder site encoder sets services port connections turns) tells = ⊥
 
 -- What the job writes of an input: the lines of the texts, and the closing ones where no line is refused; the result
@@ -94,7 +94,8 @@ IsDescribed (Line site encoder sets services store) = IsSetup (options site enco
 IsDescribed (LineAs site encoder sets services store form) = IsSetup (options site encoder sets services.items)
 IsDescribed (Encoder site encoder sets services port connections turns) =
     IsSetup (options site encoder sets services.items)
-IsDescribed (Server site encoder host port tries timeout turns reconnects window join) = IsOneEncoder site encoder
+IsDescribed (Server site encoder host port tries timeout turns reconnects window join reconnect_silent verbose) =
+    IsOneEncoder site encoder
 
 -- The options of the job describe no encoder, and this is said.
 abbrev pub RefusesJob : Job → RunFault → Type 0
@@ -112,7 +113,7 @@ RefusesJob (LineAs site encoder sets services store form) fault =
     RefusesSetup (options site encoder sets services.items) fault
 RefusesJob (Encoder site encoder sets services port connections turns) fault =
     RefusesSetup (options site encoder sets services.items) fault
-RefusesJob (Server site encoder host port tries timeout turns reconnects window join) fault =
+RefusesJob (Server site encoder host port tries timeout turns reconnects window join reconnect_silent verbose) fault =
     RefusesAddress site encoder fault
 
 -- The writer got what the job writes of all that the reader had left, as far as both tell.

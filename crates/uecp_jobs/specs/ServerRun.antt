@@ -21,16 +21,18 @@ use Rattle.uecp_jobs.specs.JoiningFirst.{joined_line, JoinsFirst, StopsJoining}
 
 -- The job is that of `server`.
 abbrev pub IsServer : Job → Type 0
-IsServer (Server site encoder host port tries timeout turns reconnects window join) = Unit {0}
+IsServer (Server site encoder host port tries timeout turns reconnects window join reconnect_silent verbose) = Unit {0}
 IsServer job = ⊥
 
--- a server of this address at first, with so many tries and turns on each connection, and so many reconnects in all
+-- a server of this address at first, with so many tries and turns on each connection, and so many reconnects in all,
+-- also over silence or not
 abbrev pub sender_at_first : (address : ℕ) → Limits → SenderState
 sender_at_first address limits = record {
   server = idle_at address;
   tries = limits.tries;
   turns = limits.turns;
   left = limits.reconnects;
+  reconnect_silent = limits.reconnect_silent;
 }
 
 -- a sender that has no connection yet
@@ -70,11 +72,13 @@ SendsMessages {C} {I} {O} opens closes remaining contents address limits join si
 abbrev pub Sends : {C I O : Type 0} → (opens : C → Option (I × O) → C → Type 0) → (closes : C → I → O → C → Type 0)
     → (remaining : I → Option (List ℕ)) → (contents : O → Option (List ℕ)) → Job → (input : List ℕ) → C → C
     → (unread unread' held held' : Option (List ℕ)) → Result (Unit {0}) RunFault → Type 0
-Sends opens closes remaining contents (Server site encoder host port tries timeout turns reconnects window join) input c
+Sends opens closes remaining contents (Server site encoder host port tries timeout turns reconnects window join
+    reconnect_silent verbose) input c
     c' unread unread' held held' result =
     IsOneEncoder site encoder × IsInput unread unread' input
     × SendsMessages opens closes remaining contents (address_of site encoder)
-    (record { tries = tries; turns = turns; reconnects = reconnects }) join (batch_size window)
+    (record { tries = tries; turns = turns; reconnects = reconnects; reconnect_silent = reconnect_silent }) join
+    (batch_size window)
     (messages_first (texts_of input)) c c' held held' result
 Sends opens closes remaining contents job input c c' unread unread' held held' result = ⊥
 
@@ -135,7 +139,8 @@ pub record HasNotSentAll {C I O : Type 0} (opens : C → Option (I × O) → C �
 -- All messages of the input were acknowledged, and the writer got the lines of that, one for each message, in order,
 -- after the line of the encoder that was joined where that was asked for.
 abbrev pub AreAcknowledged : Job → (unread unread' held held' : Option (List ℕ)) → Type 0
-AreAcknowledged (Server site encoder host port tries timeout turns reconnects window join) unread unread' held held' =
+AreAcknowledged (Server site encoder host port tries timeout turns reconnects window join reconnect_silent verbose)
+    unread unread' held held' =
     IsOneEncoder site encoder
     × ((input : List ℕ) × (batches : List (List Code × ℕ)) × IsInput unread unread' input
     × (refusal_in (texts_of input) ≡ None) × AreBatches (batch_size window) tries (length (texts_of input)) batches
@@ -145,7 +150,8 @@ AreAcknowledged job unread unread' held held' = ⊥
 -- The messages before the first line that is refused were acknowledged, the writer got the lines of that and no other
 -- line, and what is wrong with that line was said, or begun to be said.
 abbrev pub AreAcknowledgedBefore : Job → (unread unread' held held' told told' : Option (List ℕ)) → Type 0
-AreAcknowledgedBefore (Server site encoder host port tries timeout turns reconnects window join) unread unread' held
+AreAcknowledgedBefore (Server site encoder host port tries timeout turns reconnects window join reconnect_silent
+    verbose) unread unread' held
     held' told told' =
     IsOneEncoder site encoder
     × ((input : List ℕ) × (batches : List (List Code × ℕ)) × (fault : RunFault) × IsInput unread unread' input
@@ -192,7 +198,8 @@ BreaksRun join size tries messages held held' fault =
 
 -- Not all was sent or told, and that was said, or begun to be said.
 abbrev pub AreNotAcknowledged : Job → (unread unread' held held' told told' : Option (List ℕ)) → Type 0
-AreNotAcknowledged (Server site encoder host port tries timeout turns reconnects window join) unread unread' held held'
+AreNotAcknowledged (Server site encoder host port tries timeout turns reconnects window join reconnect_silent verbose)
+    unread unread' held held'
     told told' =
     (fault : RunFault) × Begins told told' (error_lines fault)
     × (SendsNone unread unread' held held' fault ⊎ ((input : List ℕ) × IsInput unread unread' input

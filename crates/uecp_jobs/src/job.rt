@@ -122,5 +122,9 @@ pub enum Job {
         window: u8,
         /// Whether the encoder is joined before the first message is sent, by a pass of empty messages.
         join: bool,
+        /// Whether another connection is opened also where every try on one was spent.
+        reconnect_silent: bool,
+        /// Whether it is said why a connection could not be made.
+        verbose: bool,
     },
 }

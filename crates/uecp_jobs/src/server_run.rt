@@ -56,8 +56,8 @@ pub fn run_server<R: Read, W: Write, E: Write, C: Connect>(
     // 2: the address is not that of one encoder. No connection was opened, and nothing was read or written.
     ensures undescribed { result ≡ 2 → IsUndescribed job.now (E.contents errors.old) (E.contents errors.new)
         × (reader.new ≡ reader.old) × (writer.new ≡ writer.old) × (connect.new ≡ connect.old) }
-    // 3: a batch is outstanding, and not before its tries and its connections are spent; or memory or writing failed
-    // behind a batch; or nothing was sent.
+    // 3: a batch is outstanding, and not before its tries on a connection are spent, or its connections; or memory or
+    // writing failed behind a batch; or nothing was sent.
     ensures not_sent { result ≡ 3 → HasNotSentAll C.opens C.closes C.Input.remaining C.Output.contents job.now
         connect.old connect.new (R.remaining reader.old) (R.remaining reader.new) (W.contents writer.old)
         (W.contents writer.new) (E.contents errors.old) (E.contents errors.new) }
@@ -98,6 +98,7 @@ fn send_all<R: Read, W: Write, C: Connect>(
             reconnects,
             window,
             join,
+            reconnect_silent,
             ..
         } => {
             let Some(address) = address_of(*site, *encoder) else {
@@ -109,6 +110,7 @@ fn send_all<R: Read, W: Write, C: Connect>(
                 tries: *tries,
                 turns: *turns,
                 reconnects: *reconnects,
+                reconnect_silent: *reconnect_silent,
             };
             let list = messages.list.as_slice();
             send_messages(

@@ -18,7 +18,8 @@ returns-in_err-send_messages-in-Server-clause-some g c =
     ∙ ap (λ bytes. messages_first (texts_of bytes)) c.as_slice.ensures.value in
     let sends = sends_by g.C.Connect.opens g.C.Connect.closes g.C.Input.Read.remaining g.C.Output.Write.contents
     c.in-Some.address i.site i.encoder i.port i.tries i.timeout i.turns i.reconnects i.window c.batch_size.result
-    i.join c.as_slice-list.result.now input.input.items c.args.connect.now now.connect (held c.args.writer.now)
+    i.reconnect_silent i.join c.as_slice-list.result.now input.input.items c.args.connect.now now.connect
+    (held c.args.writer.now)
     (held now.writer) (Err fault)
     c.in-Some.ensures.value c.batch_size.ensures messages_are c.in_err-send_messages-in-Server.ensures in
     sent_to (◌≡◌ {A = g.row.R.Denot} c.read_all.new.reader c.args.reader.now)
@@ -44,7 +45,8 @@ returns-clause-all g c =
     ∙ ap (λ bytes. refusal_in (texts_of bytes)) c.as_slice.ensures.value in
     let sends = sends_by g.C.Connect.opens g.C.Connect.closes g.C.Input.Read.remaining g.C.Output.Write.contents
     c.in-Some.address i.site i.encoder i.port i.tries i.timeout i.turns i.reconnects i.window c.batch_size.result
-    i.join c.as_slice-list.result.now input.input.items c.args.connect.now now.connect (held c.args.writer.now)
+    i.reconnect_silent i.join c.as_slice-list.result.now input.input.items c.args.connect.now now.connect
+    (held c.args.writer.now)
     (held now.writer) (Ok tt)
     c.in-Some.ensures.value c.batch_size.ensures messages_are c.in_ok-send_messages-in-Server.ensures in
     ok_map c.refusal.result (λ _. c.in_ok-messages-in-Server.messages.refused ≡ None) _
@@ -71,7 +73,8 @@ returns-clause-some g c =
     ∙ ap (λ bytes. refusal_in (texts_of bytes)) c.as_slice.ensures.value in
     let sends = sends_by g.C.Connect.opens g.C.Connect.closes g.C.Input.Read.remaining g.C.Output.Write.contents
     c.in-Some.address i.site i.encoder i.port i.tries i.timeout i.turns i.reconnects i.window c.batch_size.result
-    i.join c.as_slice-list.result.now input.input.items c.args.connect.now now.connect (held c.args.writer.now)
+    i.reconnect_silent i.join c.as_slice-list.result.now input.input.items c.args.connect.now now.connect
+    (held c.args.writer.now)
     (held now.writer) (Ok tt)
     c.in-Some.ensures.value c.batch_size.ensures messages_are c.in_ok-send_messages-in-Server.ensures in
     err_map c.refusal.result (λ fault. c.in_ok-messages-in-Server.messages.refused ≡ Some fault) _
