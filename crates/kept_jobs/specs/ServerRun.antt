@@ -201,6 +201,7 @@ module _ {C I O K : Type 0} (opens : C → Option (I × O) → C → Type 0) (cl
       tries = limits.tries;
       turns = limits.turns;
       left = limits.reconnects;
+      reconnect_silent = limits.reconnect_silent;
     });
     keeper = y.keeper;
     progress = y.progress;
