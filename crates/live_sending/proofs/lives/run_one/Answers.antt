@@ -18,6 +18,7 @@ returns g c =
       tries = c.args.options.now.limits.tries;
       turns = c.args.options.now.limits.turns;
       left = c.args.options.now.limits.reconnects;
+      reconnect_silent = c.args.options.now.limits.reconnect_silent;
     } in
     let start_is = starts_so start c.args.connect.now _ d c.new-sender.ensures in
     record {
