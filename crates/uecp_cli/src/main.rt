@@ -4,10 +4,10 @@
 //! frames of a script, or what came of the events of a line; or it is one of the two ends over TCP. It has no rules of
 //! its own: each line of output is what one call of the crates below answered. It does not open a serial port.
 //!
-//! `parse` reads the command line into a `Task`. `run_job`, `run_encoder` and `run_server`, and with a state in a file
-//! `run_encoder_in` and `run_server_in`, do the job and answer the exit status, which is 0 to 3 whatever the input is.
-//! `run_words` is all of that; `main` gives it the machine's words, streams and network, and where the words ask for it
-//! sends for as long as lines come, by `run_send_over_tcp`.
+//! `parse` reads the command line into a `Task`. `run_job`, `run_encoder_over` and `run_server_over`, and with a state
+//! in a file `run_encoder_in` and `run_server_in`, do the job and answer the exit status, which is 0 to 3 whatever the
+//! input is. `run_words` is all of that; `main` gives it the machine's words, streams and network, and where the words
+//! ask for it sends for as long as lines come, by `run_send_over_tcp`.
 #![tactic(auto)]
 
 mod arguments;

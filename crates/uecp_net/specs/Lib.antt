@@ -2,4 +2,5 @@
 pub mod Sessions
 pub mod Sending
 pub mod Joining
+pub mod Opening
 pub mod Tcp

@@ -83,10 +83,6 @@ impl<'a> Connect for Prepared<'a> {
 
     type Output = Kept<'a>;
 
-    ghost opens = { λ _ _ _. Unit {0} };
-
-    ghost closes = { λ _ _ _ _. Unit {0} };
-
     fn open(&mut self) -> Option<(FaultyReader<'a>, Kept<'a>)> {
         let (bytes, failing) = *self.inputs.next()?;
         let taken = self.outputs.next()?;
@@ -96,8 +92,6 @@ impl<'a> Connect for Prepared<'a> {
             .failing_at(failing);
         Some((input, Kept { taken }))
     }
-
-    fn close(&mut self, _input: FaultyReader<'a>, _output: Kept<'a>) {}
 }
 
 /// `server` with the defaults of its options but for site, reconnects and window.

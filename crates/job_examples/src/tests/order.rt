@@ -58,17 +58,11 @@ impl<'a> Connect for TimedConnection<'a> {
 
     type Output = Timed<'a>;
 
-    ghost opens = { λ _ _ _. Unit {0} };
-
-    ghost closes = { λ _ _ _ _. Unit {0} };
-
     fn open(&mut self) -> Option<(FaultyReader<'a>, Timed<'a>)> {
         let output = self.output.take()?;
         let input = FaultyReader::new(self.input).giving(REPLY_SIZE);
         Some((input, output))
     }
-
-    fn close(&mut self, _input: FaultyReader<'a>, _output: Timed<'a>) {}
 }
 
 #[test]
