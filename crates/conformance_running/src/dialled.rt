@@ -5,7 +5,7 @@ ghost use Rattle.conformance_running.specs.Dialling.{DialsQuietly, DialsQuietlyA
 use std::marker::Model;
 use std::net::{Net, TcpStream};
 use std::time::Duration;
-use uecp_net::{Connect, DialFault, Dialing};
+use uecp_net::{Connections, DialFault, Dialing};
 
 /// Dials an encoder, again for each connection: as [`Dialing`] does, but a read that brings nothing fails sooner.
 #[derive(Drop)]
@@ -44,7 +44,7 @@ impl<'a, R: Net<Stream = TcpStream>> Dialled<'a, R> {
     }
 }
 
-impl<'a, R: Net<Stream = TcpStream>> Connect for Dialled<'a, R> {
+impl<'a, R: Net<Stream = TcpStream>> Connections for Dialled<'a, R> {
     type Input = TcpStream;
 
     type Output = TcpStream;

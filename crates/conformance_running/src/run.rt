@@ -22,7 +22,7 @@ use conformance::Case;
 use std::alloc::Global;
 use std::io::Write;
 use uecp_frame::Address;
-use uecp_net::Connect;
+use uecp_net::Connections;
 use uecp_text::{RunFault, report, write_parts};
 
 /// Which cases are run, and how they are run and told.
@@ -45,7 +45,7 @@ struct Manner<'a> {
 ///
 /// A read of a connection is to fail where nothing came for the job's quiet time. Joining is given up after the timeout
 /// in which nothing came, and so is a reply that is missing, where what came is judged.
-pub fn run_conformance<C: Connect, W: Write, E: Write>(
+pub fn run_conformance<C: Connections, W: Write, E: Write>(
     alloc: Global,
     job: &ConformanceJob,
     cases: &[Case<'_>],
@@ -121,7 +121,7 @@ pub(crate) fn fail<E: Write>(fault: &RunFault, errors: &mut E) -> u8
 }
 
 /// Runs the chosen cases, of which there are so many, and tells of them.
-fn run_all<C: Connect, W: Write>(
+fn run_all<C: Connections, W: Write>(
     alloc: Global,
     manner: &Manner<'_>,
     count: usize,
@@ -170,7 +170,7 @@ fn run_all<C: Connect, W: Write>(
 }
 
 /// Runs the chosen ones of these cases, of which the first has this number, tells of each, and counts them.
-fn run_cases<C: Connect, W: Write>(
+fn run_cases<C: Connections, W: Write>(
     alloc: Global,
     manner: &Manner<'_>,
     number: usize,
@@ -221,7 +221,7 @@ fn run_cases<C: Connect, W: Write>(
 }
 
 /// Runs a case and tells of it.
-fn run_and_tell<C: Connect, W: Write>(
+fn run_and_tell<C: Connections, W: Write>(
     alloc: Global,
     manner: &Manner<'_>,
     number: usize,

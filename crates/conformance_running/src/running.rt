@@ -14,7 +14,7 @@ use std::io::{Read, Write};
 use uecp_encoder::Meter;
 use uecp_frame::Address;
 use uecp_link::{DriveFault, Joining, Server, join};
-use uecp_net::Connect;
+use uecp_net::Connections;
 
 /// The most reads that are made to join the encoder, and to hear what comes of a case.
 pub(crate) const READS_MAX: u32 = 16_384;
@@ -49,7 +49,7 @@ pub enum NotRun {
 /// until so many failed.
 ///
 /// Errors: see [`NotRun`].
-pub fn run_case<C: Connect>(
+pub fn run_case<C: Connections>(
     alloc: Global,
     connect: &mut C,
     own: Address,

@@ -3,7 +3,7 @@ ghost use Rattle.crash_laws.specs.Laws.{CrashesAreLineEvents, HeadlineWithDisks,
 ghost use Rattle.crash_laws.specs.Laws.{WhatIsLeftIsACut, WhatIsLeftIsAFile};
 
 use uecp_encoder::Target;
-use uecp_net::Connect;
+use uecp_net::Connections;
 
 /// A crash is an event of a line. Over every list of events and crashes, each crash followed by a start from the file,
 /// the ends come to exactly what they come to by some events of a line without a crash, with the same history. (These
@@ -39,6 +39,6 @@ pub fn what_is_left_is_a_cut<T: Target>()
 
 /// What `kept_sending` says that a crash may leave of a server, of a batch or of what was outstanding, is its file
 /// here: as it was, with the batch submitted, or after one more save.
-pub fn what_is_left_is_a_file<T: Target, C: Connect>()
+pub fn what_is_left_is_a_file<T: Target, C: Connections>()
     ensures { WhatIsLeftIsAFile C C.Input C.Output T.step T.taken }
 {}

@@ -9,7 +9,7 @@ use std::marker::Model;
 use std::net::{Net, SocketAddr, TcpListener, TcpStream};
 use std::time::{Clock, Duration};
 use std::{io, thread};
-use uecp_net::Connect;
+use uecp_net::Connections;
 
 /// How often a connection is asked for, a second apart, where the system gives none.
 const TRIES_MAX: u64 = 600;
@@ -85,7 +85,8 @@ impl<'a, N: Net<Listener = TcpListener, Stream = TcpStream> + Clock> Accepting<'
     }
 }
 
-impl<'a, N: Net<Listener = TcpListener, Stream = TcpStream> + Clock> Connect for Accepting<'a, N> {
+impl<'a, N: Net<Listener = TcpListener, Stream = TcpStream> + Clock> Connections
+    for Accepting<'a, N> {
     type Input = Idle<TcpStream>;
 
     type Output = TcpStream;

@@ -2,9 +2,9 @@
 //! comes on them, or where nobody is at their other end.
 //!
 //! - [`listen_address`]: which address and port a text asks for; [`AddressFault`] says why none.
-//! - [`Accepting`]: a [`Connect`](uecp_net::Connect) that listens there and accepts one connection after another;
-//!   [`BindFault`] says why nobody can listen there. Its connections are read through [`Idle`], which notes whether a
-//!   read was given up since nothing came.
+//! - [`Accepting`]: [`Connections`](uecp_net::Connections) that are accepted there one after another; [`BindFault`]
+//!   says why nobody can listen there. They are read through [`Idle`], which notes whether a read was given up since
+//!   nothing came.
 //! - [`bind`], [`two_ends`]: the same in parts, for whoever waits for more than connections.
 #![tactic(auto)]
 

@@ -6,7 +6,7 @@ use faulty_lines::{Effects, Faulty};
 use std::io::Write;
 use std::net::{Net, TcpListener, TcpStream};
 use std::time::Clock;
-use uecp_net::Connect;
+use uecp_net::Connections;
 
 /// Connections that are accepted, and told of where they are closed since nothing came on them.
 #[derive(Drop)]
@@ -53,7 +53,7 @@ impl<
     N: Net<Listener = TcpListener, Stream = TcpStream> + Clock,
     W: Write,
     C: Clock,
-> Connect for Attended<'a, 't, 'w, N, W, C> {
+> Connections for Attended<'a, 't, 'w, N, W, C> {
     type Input = Idle<TcpStream>;
 
     type Output = TcpStream;
@@ -76,12 +76,12 @@ impl<
 
 /// Connections of a bad line up to one behind which the encoder begins anew: then there is none to be had, once.
 #[derive(Drop)]
-pub(crate) struct Restarting<'a, 'f, K: Connect + Drop, T: Clock, E: Effects> {
+pub(crate) struct Restarting<'a, 'f, K: Connections + Drop, T: Clock, E: Effects> {
     faulty: &'a mut Faulty<'f, K, T, E>,
     is_restart: bool,
 }
 
-impl<'a, 'f, K: Connect + Drop, T: Clock, E: Effects> Restarting<'a, 'f, K, T, E> {
+impl<'a, 'f, K: Connections + Drop, T: Clock, E: Effects> Restarting<'a, 'f, K, T, E> {
     /// The connections of this line.
     pub(crate) fn new(faulty: &'a mut Faulty<'f, K, T, E>) -> Restarting<'a, 'f, K, T, E> {
         Restarting {
@@ -96,10 +96,11 @@ impl<'a, 'f, K: Connect + Drop, T: Clock, E: Effects> Restarting<'a, 'f, K, T, E
     }
 }
 
-impl<'a, 'f, K: Connect + Drop, T: Clock, E: Effects> Connect for Restarting<'a, 'f, K, T, E> {
-    type Input = <Faulty<'f, K, T, E> as Connect>::Input;
+impl<'a, 'f, K: Connections + Drop, T: Clock, E: Effects> Connections
+    for Restarting<'a, 'f, K, T, E> {
+    type Input = <Faulty<'f, K, T, E> as Connections>::Input;
 
-    type Output = <Faulty<'f, K, T, E> as Connect>::Output;
+    type Output = <Faulty<'f, K, T, E> as Connections>::Output;
 
     ghost opens = { λ _ _ _. Unit {0} };
 

@@ -20,7 +20,7 @@ use std::io::Write;
 use std::net::{Net, SocketAddr, TcpListener, TcpStream};
 use std::time::Clock;
 use uecp_jobs::{Setup, fail, new_encoder};
-use uecp_net::Connect;
+use uecp_net::Connections;
 use uecp_text::{RunFault, write_parts};
 
 /// Is the device that the job asks for, over TCP, and answers the exit status: that of
@@ -170,7 +170,7 @@ fn serve_with<
 
 /// Serves over a bad line, and again with an encoder that begins anew each time that the line asks for it: with a state
 /// in a file from that, and else with a new one.
-fn serve_restarting<S: OpenStates, W: Write, C: Clock, E: Write, M: Write, K: Connect + Drop>(
+fn serve_restarting<S: OpenStates, W: Write, C: Clock, E: Write, M: Write, K: Connections + Drop>(
     alloc: Global,
     job: &DeviceJob,
     states: &S,

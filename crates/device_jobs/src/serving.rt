@@ -18,14 +18,14 @@ use std::time::Clock;
 use uecp_encoder::Encoder;
 use uecp_frame::Address;
 use uecp_jobs::{Setup, fail, new_encoder};
-use uecp_net::Connect;
+use uecp_net::Connections;
 
 /// Is the device that the job asks for, over connections that come from here, and answers the exit status: 0 all
 /// connections were served, 2 the services or the address were refused, 3 the state can't be opened, saved or closed,
 /// there was no connection to be had, or memory or writing failed. With a state in a file it goes on from that; else it
 /// begins with a new encoder. The options are judged before the state is opened, and the state before the first
 /// connection.
-pub fn run_device_from<S: OpenStates, W: Write, T: Clock, E: Write, C: Connect>(
+pub fn run_device_from<S: OpenStates, W: Write, T: Clock, E: Write, C: Connections>(
     alloc: Global,
     job: &DeviceJob,
     states: &S,
@@ -59,7 +59,7 @@ pub fn run_device_from<S: OpenStates, W: Write, T: Clock, E: Write, C: Connect>(
 }
 
 /// Opens the state, serves, and closes it.
-fn serve_in<S: OpenStates, W: Write, T: Clock, E: Write, C: Connect>(
+fn serve_in<S: OpenStates, W: Write, T: Clock, E: Write, C: Connections>(
     setup: &Setup<'_>,
     address: Address,
     limits: Limits,
@@ -112,7 +112,7 @@ pub fn closed_device<E: Write>(status: u8, closed: Result<(), StateFault>, error
 }
 
 /// Serves with no state, from this new encoder on.
-fn serve_unkept<W: Write, T: Clock, E: Write, C: Connect>(
+fn serve_unkept<W: Write, T: Clock, E: Write, C: Connections>(
     setup: &Setup<'_>,
     limits: Limits,
     encoder: &mut Encoder<RdsStore>,

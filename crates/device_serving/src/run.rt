@@ -18,7 +18,7 @@ use std::io::Write;
 use std::time::Clock;
 use told_serving::serve_connection_told;
 use uecp_encoder::{Encoder, Served, Target};
-use uecp_net::Connect;
+use uecp_net::Connections;
 use uecp_text::RunFault;
 
 /// Serves so many connections, one after another, and tells what the log is to tell; then, where that is asked for, the
@@ -34,7 +34,7 @@ use uecp_text::RunFault;
 ///     u64::MAX, 100_000, true, &mut encoder, &mut NotKept, &mut log, &mut errors, &mut listening,
 /// );
 /// ```
-pub fn run_device<K: KeepEncoder<RdsStore>, W: Write, Clk: Clock, E: Write, C: Connect>(
+pub fn run_device<K: KeepEncoder<RdsStore>, W: Write, Clk: Clock, E: Write, C: Connections>(
     connections: u64,
     turns: u32,
     store: bool,
@@ -92,7 +92,7 @@ pub fn run_device<K: KeepEncoder<RdsStore>, W: Write, Clk: Clock, E: Write, C: C
 }
 
 /// Serves the connections, and then tells the lines of the store where that is asked for.
-fn serve_and_store<K: KeepEncoder<RdsStore>, W: Write, Clk: Clock, C: Connect>(
+fn serve_and_store<K: KeepEncoder<RdsStore>, W: Write, Clk: Clock, C: Connections>(
     connections: u64,
     turns: u32,
     store: bool,
@@ -144,7 +144,7 @@ fn went<W: Write, Clk: Clock>(log: &LogLines<'_, W, Clk>) -> Result<(), KeptStop
 }
 
 /// Serves so many connections, one after another, and tells how each ended before the next is opened.
-fn serve_connections<T: Target, K: KeepEncoder<T>, W: Write, Clk: Clock, C: Connect>(
+fn serve_connections<T: Target, K: KeepEncoder<T>, W: Write, Clk: Clock, C: Connections>(
     connections: u64,
     turns: u32,
     encoder: &mut Encoder<T>,
@@ -172,7 +172,7 @@ fn serve_connections<T: Target, K: KeepEncoder<T>, W: Write, Clk: Clock, C: Conn
 }
 
 /// Serves the next connection, and tells how it ended.
-fn serve_next<T: Target, K: KeepEncoder<T>, W: Write, Clk: Clock, C: Connect>(
+fn serve_next<T: Target, K: KeepEncoder<T>, W: Write, Clk: Clock, C: Connections>(
     turns: u32,
     encoder: &mut Encoder<T>,
     keeper: &mut K,

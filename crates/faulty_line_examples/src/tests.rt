@@ -13,7 +13,7 @@ use std::io;
 use std::io::{Read, Write};
 use std::process::Abort;
 use std::time::{Clock, Duration};
-use uecp_net::Connect;
+use uecp_net::Connections;
 
 /// Tells what is told into a writer.
 #[derive(Drop)]
@@ -56,7 +56,7 @@ impl Clock for Ticking {
 
 /// Connections whose inputs are known, one after another.
 #[derive(Drop)]
-struct Connections<'a> {
+struct Prepared<'a> {
     inputs: &'a [&'a [u8]],
     /// How many were opened.
     opened: usize,
@@ -66,7 +66,7 @@ struct Connections<'a> {
     failing: &'a [u32],
 }
 
-impl<'a> Connect for Connections<'a> {
+impl<'a> Connections for Prepared<'a> {
     type Input = FaultyReader<'a>;
 
     type Output = FaultyWriter<'a>;
@@ -87,8 +87,8 @@ impl<'a> Connect for Connections<'a> {
     }
 }
 
-fn known<'a>(inputs: &'a [&'a [u8]], failing: &'a [u32]) -> Connections<'a> {
-    Connections {
+fn known<'a>(inputs: &'a [&'a [u8]], failing: &'a [u32]) -> Prepared<'a> {
+    Prepared {
         inputs,
         opened: 0,
         output: FaultyWriter::new(),

@@ -11,7 +11,7 @@ use line_faults::{LineFaults, Rule, Way};
 use std::alloc::{AllocError, Global};
 use std::marker::Model;
 use std::time::{Clock, Duration};
-use uecp_net::Connect;
+use uecp_net::Connections;
 
 /// How many connections are refused at most before one is opened.
 const REFUSED_MAX: u64 = u64::MAX;
@@ -149,7 +149,7 @@ fn now<T: Clock>(time: &T) -> u64 {
     }
 }
 
-impl<'a, C: Connect, T: Clock, E: Effects> Faulty<'a, C, T, E> {
+impl<'a, C: Connections, T: Clock, E: Effects> Faulty<'a, C, T, E> {
     /// The next connection without faults, behind those that are refused.
     fn open_next(&mut self) -> Option<(C::Input, C::Output)>
         ensures { OpensNext C.opens C.closes self.old result self.new }
@@ -170,7 +170,7 @@ impl<'a, C: Connect, T: Clock, E: Effects> Faulty<'a, C, T, E> {
     }
 }
 
-impl<'a, C: Connect, T: Clock, E: Effects> Connect for Faulty<'a, C, T, E> {
+impl<'a, C: Connections, T: Clock, E: Effects> Connections for Faulty<'a, C, T, E> {
     type Input = FaultyReader<'a, C::Input, T, E>;
 
     type Output = FaultyWriter<'a, C::Output, T, E>;

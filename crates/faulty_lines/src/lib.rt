@@ -1,4 +1,4 @@
-//! Connections with faults on purpose: a [`Connect`](uecp_net::Connect) over another.
+//! Connections with faults on purpose: [`Connections`](uecp_net::Connections) over others.
 #![tactic(auto)]
 
 mod effect;

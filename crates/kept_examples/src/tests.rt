@@ -8,7 +8,7 @@ use rds_store::RdsStore;
 use std::process::Abort;
 use std::test::Fail;
 use uecp_encoder::{Encoder, Meter, Served, Target};
-use uecp_net::Connect;
+use uecp_net::Connections;
 
 /// No element, counter 01, twice, and then counter 02.
 const TWICE_AND_NEXT: [u8; 24] =
@@ -69,7 +69,7 @@ struct OneConnection<'a> {
     output: Option<FaultyWriter<'a>>,
 }
 
-impl<'a> Connect for OneConnection<'a> {
+impl<'a> Connections for OneConnection<'a> {
     type Input = FaultyReader<'a>;
 
     type Output = FaultyWriter<'a>;

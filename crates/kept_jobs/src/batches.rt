@@ -15,11 +15,11 @@ use std::io::Write;
 use uecp_frame::Message;
 use uecp_jobs::{fault_of, put_settled};
 use uecp_link::ServerCounts;
-use uecp_net::{Connect, Outstanding, Sender, Settled};
+use uecp_net::{Connections, Outstanding, Sender, Settled};
 use uecp_text::{Output, RunFault};
 
 /// Joins the encoder where that is due, and tells it once it is kept.
-pub fn join_if<K: KeepServer, W: Write, C: Connect>(
+pub fn join_if<K: KeepServer, W: Write, C: Connections>(
     alloc: Global,
     due: bool,
     sender: &mut Sender<'_, C>,
@@ -63,7 +63,7 @@ fn tell_joined<W: Write>(
 }
 
 /// Settles what waits, where messages wait, and tells how that went once it is kept.
-pub(crate) fn settle_first<K: KeepServer, W: Write, C: Connect>(
+pub(crate) fn settle_first<K: KeepServer, W: Write, C: Connections>(
     alloc: Global,
     sender: &mut Sender<'_, C>,
     keeper: &mut K,
@@ -84,7 +84,7 @@ pub(crate) fn settle_first<K: KeepServer, W: Write, C: Connect>(
 }
 
 /// Sends these messages, batch by batch. What is said of each is written out before the next one is submitted.
-pub(crate) fn send_batches<K: KeepServer, W: Write, C: Connect>(
+pub(crate) fn send_batches<K: KeepServer, W: Write, C: Connections>(
     alloc: Global,
     messages: &[Message],
     size: usize,
@@ -121,7 +121,7 @@ pub(crate) fn send_batches<K: KeepServer, W: Write, C: Connect>(
 }
 
 /// Sends these messages, and tells how that went once it is kept.
-fn send_batch<K: KeepServer, W: Write, C: Connect>(
+fn send_batch<K: KeepServer, W: Write, C: Connections>(
     alloc: Global,
     batch: &[Message],
     sender: &mut Sender<'_, C>,

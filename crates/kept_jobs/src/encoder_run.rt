@@ -12,7 +12,7 @@ use kept_serving::{KeepEncoder, serve_connection_kept};
 use std::alloc::Global;
 use std::io::Write;
 use uecp_encoder::{Encoder, Target};
-use uecp_net::Connect;
+use uecp_net::Connections;
 use uecp_text::RunFault;
 
 /// Serves so many connections, one after another, with the encoder's state kept, writes a line of how each ended before
@@ -26,7 +26,7 @@ use uecp_text::RunFault;
 ///     alloc, 3, 100_000, &mut encoder, &mut keeper, &mut output, &mut errors, &mut listening,
 /// );
 /// ```
-pub fn run_encoder_kept<T: Target, K: KeepEncoder<T>, W: Write, E: Write, C: Connect>(
+pub fn run_encoder_kept<T: Target, K: KeepEncoder<T>, W: Write, E: Write, C: Connections>(
     alloc: Global,
     connections: u32,
     turns: u32,
@@ -88,7 +88,7 @@ pub fn run_encoder_kept<T: Target, K: KeepEncoder<T>, W: Write, E: Write, C: Con
 }
 
 /// Serves so many connections, one after another, and writes a line of how each ended before the next is opened.
-fn serve_connections<T: Target, K: KeepEncoder<T>, W: Write, C: Connect>(
+fn serve_connections<T: Target, K: KeepEncoder<T>, W: Write, C: Connections>(
     alloc: Global,
     connections: u32,
     turns: u32,
@@ -119,7 +119,7 @@ fn serve_connections<T: Target, K: KeepEncoder<T>, W: Write, C: Connect>(
 }
 
 /// Serves the next connection, which has this number, and writes its line.
-fn serve_next<T: Target, K: KeepEncoder<T>, W: Write, C: Connect>(
+fn serve_next<T: Target, K: KeepEncoder<T>, W: Write, C: Connections>(
     alloc: Global,
     number: u32,
     turns: u32,

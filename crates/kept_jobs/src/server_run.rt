@@ -23,7 +23,7 @@ use std::io::{Read, Write};
 use uecp_frame::Message;
 use uecp_jobs::{Messages, batch_size, messages_of};
 use uecp_link::Server;
-use uecp_net::{Connect, Limits, Sender};
+use uecp_net::{Connections, Limits, Sender};
 use uecp_text::read_all;
 
 /// How a server sends, with its state kept.
@@ -54,7 +54,7 @@ pub struct ServerOptions {
 ///     alloc, &options, server, progress, &mut keeper, &mut input, &mut output, &mut errors, &mut connecting,
 /// );
 /// ```
-pub fn run_server_kept<K: KeepServer, R: Read, W: Write, E: Write, C: Connect>(
+pub fn run_server_kept<K: KeepServer, R: Read, W: Write, E: Write, C: Connections>(
     alloc: Global,
     options: &ServerOptions,
     server: Server,
@@ -107,7 +107,7 @@ pub fn run_server_kept<K: KeepServer, R: Read, W: Write, E: Write, C: Connect>(
 }
 
 /// Sends the messages of the input.
-fn send_all<K: KeepServer, R: Read, W: Write, C: Connect>(
+fn send_all<K: KeepServer, R: Read, W: Write, C: Connections>(
     alloc: Global,
     options: &ServerOptions,
     server: Server,
@@ -149,7 +149,7 @@ fn after_refusal(messages: Messages, sent: Result<(), KeptStop>) -> Result<(), K
 }
 
 /// Tells how far the server has come, and sends these messages by one sender, after what waits.
-fn send_messages<K: KeepServer, W: Write, C: Connect>(
+fn send_messages<K: KeepServer, W: Write, C: Connections>(
     alloc: Global,
     options: &ServerOptions,
     messages: &[Message],
@@ -194,7 +194,7 @@ fn is_due(join: bool, progress: Progress) -> bool
 }
 
 /// Joins the encoder where that is due, settles what waits, and then sends these messages, in batches of this size.
-fn run_sender<K: KeepServer, W: Write, C: Connect>(
+fn run_sender<K: KeepServer, W: Write, C: Connections>(
     alloc: Global,
     messages: &[Message],
     size: usize,

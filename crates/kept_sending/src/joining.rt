@@ -5,7 +5,7 @@ ghost use Rattle.kept_sending.specs.Joining.{JoinsKept, joined_as, OutlivesPass,
 
 use crate::keep::{KeepServer, Progress, SaveFailed};
 use crate::sending::KeptOutstanding;
-use uecp_net::{Connect, Sender};
+use uecp_net::{Connections, Sender};
 
 /// Joins the encoder as [`join`](Sender::join) does, and says so once it is kept that it is joined. Where no pass was
 /// complete nothing is saved: what is kept says still that the encoder is not joined, as it does all the time that a
@@ -18,7 +18,7 @@ use uecp_net::{Connect, Sender};
 ///     join_kept(&mut sender, &mut keeper, &mut progress)?;
 /// }
 /// ```
-pub fn join_kept<K: KeepServer, C: Connect>(
+pub fn join_kept<K: KeepServer, C: Connections>(
     sender: &mut Sender<'_, C>,
     keeper: &mut K,
     progress: &mut Progress,

@@ -6,7 +6,7 @@ ghost use Rattle.kept_sending.specs.Sending.{SendsKept, SettlesKept, StaysKept, 
 
 use crate::keep::{KeepServer, Progress, SaveFailed};
 use uecp_frame::Message;
-use uecp_net::{Connect, Outstanding, Sender, Settled};
+use uecp_net::{Connections, Outstanding, Sender, Settled};
 
 /// Why messages are outstanding, or may not be kept.
 #[derive(Clone, Copy, Debug, PartialEq, Eq)]
@@ -28,7 +28,7 @@ pub enum KeptOutstanding {
 /// ```
 /// let settled = send_kept(&mut sender, &mut keeper, &mut progress, &messages[..8])?;
 /// ```
-pub fn send_kept<K: KeepServer, C: Connect>(
+pub fn send_kept<K: KeepServer, C: Connections>(
     sender: &mut Sender<'_, C>,
     keeper: &mut K,
     progress: &mut Progress,
@@ -61,7 +61,7 @@ pub fn send_kept<K: KeepServer, C: Connect>(
 }
 
 /// Saves a server with a batch submitted, and then sends what waits, and says how that went once that is kept.
-fn send_submitted<K: KeepServer, C: Connect>(
+fn send_submitted<K: KeepServer, C: Connections>(
     sender: &mut Sender<'_, C>,
     keeper: &mut K,
     progress: Progress,
@@ -96,7 +96,7 @@ fn send_submitted<K: KeepServer, C: Connect>(
 ///     let settled = settle_kept(&mut sender, &mut keeper, progress)?;
 /// }
 /// ```
-pub fn settle_kept<K: KeepServer, C: Connect>(
+pub fn settle_kept<K: KeepServer, C: Connections>(
     sender: &mut Sender<'_, C>,
     keeper: &mut K,
     progress: Progress,
@@ -136,7 +136,7 @@ fn told_as(settled: Result<Settled, Outstanding>) -> Result<Settled, KeptOutstan
 }
 
 /// Submits these messages, one after another.
-fn submit_all<C: Connect>(batch: &[Message], sender: &mut Sender<'_, C>)
+fn submit_all<C: Connections>(batch: &[Message], sender: &mut Sender<'_, C>)
     requires room { length sender.old.sender.server.held + length batch.now ≤ 8 }
     ensures { sender.new ≡ submitted_all sender.old batch.now }
 {

@@ -10,7 +10,7 @@ use std::test::Fail;
 use uecp_elements::Code;
 use uecp_frame::Message;
 use uecp_link::Server;
-use uecp_net::{Connect, Limits, Outstanding, Sender};
+use uecp_net::{Connections, Limits, Outstanding, Sender};
 
 /// One try over one connection, with no other.
 const ONCE: Limits = Limits {
@@ -70,7 +70,7 @@ impl KeepServer for FaultyKeeper<'_> {
 
 /// Connections whose inputs are known, one after another.
 #[derive(Drop)]
-struct Connections<'a> {
+struct Prepared<'a> {
     inputs: &'a [&'a [u8]],
     /// How many were opened.
     opened: usize,
@@ -78,9 +78,9 @@ struct Connections<'a> {
     output: Option<FaultyWriter<'a>>,
 }
 
-impl<'a> Connections<'a> {
-    fn new(inputs: &'a [&'a [u8]]) -> Connections<'a> {
-        Connections {
+impl<'a> Prepared<'a> {
+    fn new(inputs: &'a [&'a [u8]]) -> Prepared<'a> {
+        Prepared {
             inputs,
             opened: 0,
             output: None,
@@ -88,7 +88,7 @@ impl<'a> Connections<'a> {
     }
 }
 
-impl<'a> Connect for Connections<'a> {
+impl<'a> Connections for Prepared<'a> {
     type Input = FaultyReader<'a>;
 
     type Output = FaultyWriter<'a>;
@@ -120,7 +120,7 @@ const TWO: Progress = Progress {
 };
 
 /// A new server sends two empty messages, and it ends so: None where both are acknowledged.
-fn sends_two<K: KeepServer, C: Connect>(
+fn sends_two<K: KeepServer, C: Connections>(
     rt: &impl Abort,
     keeper: &mut K,
     connect: &mut C,
@@ -144,7 +144,7 @@ fn sends_two<K: KeepServer, C: Connect>(
 }
 
 /// Both were written to the last connection.
-fn has_both(rt: &impl Abort, connect: &Connections<'_>) {
+fn has_both(rt: &impl Abort, connect: &Prepared<'_>) {
     let output = connect.output.as_ref().expect(rt, "an output");
     assert_eq!(rt; output.taken(), BOTH.as_slice());
 }
@@ -152,7 +152,7 @@ fn has_both(rt: &impl Abort, connect: &Connections<'_>) {
 #[test]
 fn a_batch_is_saved_before_it_is_sent_and_before_it_is_told(rt: HostRuntime) {
     let mut keeper = FaultyKeeper::new(&[]);
-    let mut connect = Connections::new(&[&BOTH_APPLIED]);
+    let mut connect = Prepared::new(&[&BOTH_APPLIED]);
     assert_eq!(&rt; sends_two(&rt, &mut keeper, &mut connect), None);
     assert_eq!(&rt; (keeper.saves, keeper.waiting), (2, (2, 0)));
     assert_eq!(&rt; keeper.progress, TWO);
@@ -162,7 +162,7 @@ fn a_batch_is_saved_before_it_is_sent_and_before_it_is_told(rt: HostRuntime) {
 #[test]
 fn nothing_is_sent_where_the_first_save_fails(rt: HostRuntime) {
     let mut keeper = FaultyKeeper::new(&[1]);
-    let mut connect = Connections::new(&[&BOTH_APPLIED]);
+    let mut connect = Prepared::new(&[&BOTH_APPLIED]);
     let ended = sends_two(&rt, &mut keeper, &mut connect);
     assert_eq!(&rt; ended, Some(KeptOutstanding::StateFailed));
     assert_eq!(&rt; (keeper.saves, connect.opened), (1, 0));
@@ -171,7 +171,7 @@ fn nothing_is_sent_where_the_first_save_fails(rt: HostRuntime) {
 #[test]
 fn nothing_is_told_where_the_second_save_fails(rt: HostRuntime) {
     let mut keeper = FaultyKeeper::new(&[2]);
-    let mut connect = Connections::new(&[&BOTH_APPLIED]);
+    let mut connect = Prepared::new(&[&BOTH_APPLIED]);
     let ended = sends_two(&rt, &mut keeper, &mut connect);
     assert_eq!(&rt; ended, Some(KeptOutstanding::StateFailed));
     assert_eq!(&rt; (keeper.saves, keeper.waiting), (2, (2, 0)));
@@ -179,7 +179,7 @@ fn nothing_is_told_where_the_second_save_fails(rt: HostRuntime) {
 }
 
 /// A new server sends two empty messages, which are outstanding, and then acknowledged on the next connection.
-fn sends_again<K: KeepServer, C: Connect>(rt: &impl Abort, keeper: &mut K, connect: &mut C) {
+fn sends_again<K: KeepServer, C: Connections>(rt: &impl Abort, keeper: &mut K, connect: &mut C) {
     let mut sender = Sender::new(connect, Server::new(own_address()), ONCE);
     let mut progress = NEW;
     let batch = [Message::new(), Message::new()];
@@ -200,14 +200,14 @@ fn sends_again<K: KeepServer, C: Connect>(rt: &impl Abort, keeper: &mut K, conne
 #[test]
 fn what_is_outstanding_is_sent_again_and_saved(rt: HostRuntime) {
     let mut keeper = FaultyKeeper::new(&[]);
-    let mut connect = Connections::new(&[b"", &BOTH_APPLIED]);
+    let mut connect = Prepared::new(&[b"", &BOTH_APPLIED]);
     sends_again(&rt, &mut keeper, &mut connect);
     assert_eq!(&rt; (keeper.saves, keeper.waiting), (3, (2, 0)));
     has_both(&rt, &connect);
 }
 
 /// A new server joins, and it ends so, with this progress.
-fn joins<K: KeepServer, C: Connect>(
+fn joins<K: KeepServer, C: Connections>(
     keeper: &mut K,
     connect: &mut C,
 ) -> (Result<(), KeptOutstanding>, Progress) {
@@ -232,7 +232,7 @@ fn a_pass_that_is_complete_is_saved(rt: HostRuntime) {
     let mut keeper = FaultyKeeper::new(&[]);
     let replies = both_replies();
     let inputs = [replies.as_slice()];
-    let mut connect = Connections::new(&inputs);
+    let mut connect = Prepared::new(&inputs);
     let (ended, progress) = joins(&mut keeper, &mut connect);
     assert_eq!(&rt; ended, Ok(()));
     assert_eq!(&rt;
@@ -244,7 +244,7 @@ fn a_pass_that_is_complete_is_saved(rt: HostRuntime) {
 #[test]
 fn a_pass_that_is_not_complete_saves_nothing(rt: HostRuntime) {
     let mut keeper = FaultyKeeper::new(&[]);
-    let mut connect = Connections::new(&[&APPLIED_1]);
+    let mut connect = Prepared::new(&[&APPLIED_1]);
     let (ended, progress) = joins(&mut keeper, &mut connect);
     assert_eq!(&rt;
         ended,

@@ -7,7 +7,7 @@ ghost use Rattle.kept_serving.specs.Sessions.{ServingKept};
 use crate::keep::KeepEncoder;
 use crate::serving::{KeptFault, serve_kept};
 use uecp_encoder::{Encoder, Meter, Served, Target};
-use uecp_net::Connect;
+use uecp_net::Connections;
 
 /// Serves the next connection and says how it ended, or answers None where there is none to be had. The encoder forgets
 /// what the connection before left open, then [`serve_kept`] is called once, and the two ends are given back.
@@ -19,7 +19,7 @@ use uecp_net::Connect;
 ///     }
 /// }
 /// ```
-pub fn serve_connection_kept<T: Target, K: KeepEncoder<T>, C: Connect>(
+pub fn serve_connection_kept<T: Target, K: KeepEncoder<T>, C: Connections>(
     encoder: &mut Encoder<T>,
     keeper: &mut K,
     turns: u32,

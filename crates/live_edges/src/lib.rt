@@ -3,9 +3,9 @@
 //!
 //! - [`Polled`]: an [`Arrival`](line_feed::Arrival) that asks the system by a poll, and looks meanwhile after the
 //!   connection that a [`Watch`] has.
-//! - [`Patient`]: a [`Connect`](uecp_net::Connect) that dials again and again, with longer and longer pauses, and says
-//!   when the line is lost, there again, or silent; [`Patience`] is for how long. Its connections are read through
-//!   [`Heard`], which notes whether anything came.
+//! - [`Patient`]: [`Connections`](uecp_net::Connections) that are dialled again and again, with longer and longer
+//!   pauses; it says when the line is lost, there again, or silent, and [`Patience`] is for how long. They are read
+//!   through [`Heard`], which notes whether anything came.
 //! - [`keep_alive`]: has the system ask whether somebody is at the other end of a connection.
 #![tactic(auto)]
 

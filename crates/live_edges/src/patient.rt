@@ -12,7 +12,7 @@ use std::marker::Model;
 use std::net::{Net, TcpStream};
 use std::thread;
 use std::time::{Clock, Duration};
-use uecp_net::{Connect, Dialing};
+use uecp_net::{Connections, Dialing};
 
 /// How many tries are made at most for one connection.
 const TRIES_MAX: u64 = 1 << 59;
@@ -155,7 +155,7 @@ impl<'a, N: Net<Stream = TcpStream> + Clock, W: Write> Patient<'a, N, W> {
     }
 }
 
-impl<'a, N: Net<Stream = TcpStream> + Clock, W: Write> Connect for Patient<'a, N, W> {
+impl<'a, N: Net<Stream = TcpStream> + Clock, W: Write> Connections for Patient<'a, N, W> {
     type Input = Heard<TcpStream>;
 
     type Output = TcpStream;

@@ -2,14 +2,14 @@
 ghost use Rattle.live_laws.specs.Laws.{DoneIsKept, WhatACrashLeaves, ToldIsTaken};
 
 use kept_sending::KeepServer;
-use uecp_net::Connect;
+use uecp_net::Connections;
 
 /// A run that ended with status 0, 1 or 4 took all lines of its input, or with `strict` all up to one that was refused,
 /// and all that they gave is kept: whatever a crash leaves of the server is joined, counts as taken each message of
 /// these lines and those that were taken before, and no other, and none waits.
 ///
 /// Its premises: what was kept at the start is the server, and that of the keeper holds up to the end.
-pub fn done_is_kept<K: KeepServer, C: Connect>()
+pub fn done_is_kept<K: KeepServer, C: Connections>()
     ensures { DoneIsKept C.opens C.closes C.Input.remaining C.Output.contents K.leaves K.is_clean K.saves K.fails }
 {}
 
@@ -19,7 +19,7 @@ pub fn done_is_kept<K: KeepServer, C: Connect>()
 /// messages of the lines that were taken, besides those that were taken before.
 ///
 /// Its premises: what was kept at the start is the server, and that of the keeper holds up to the end.
-pub fn what_a_crash_leaves<K: KeepServer, C: Connect>()
+pub fn what_a_crash_leaves<K: KeepServer, C: Connections>()
     ensures { WhatACrashLeaves C.opens C.closes C.Input.remaining C.Output.contents K.leaves K.is_clean K.saves
         K.fails }
 {}
@@ -32,6 +32,6 @@ pub fn what_a_crash_leaves<K: KeepServer, C: Connect>()
 /// or 4.
 ///
 /// It has no premise of the keeper.
-pub fn told_is_taken<K: KeepServer, C: Connect>()
+pub fn told_is_taken<K: KeepServer, C: Connections>()
     ensures { ToldIsTaken C.opens C.closes C.Input.remaining C.Output.contents K.leaves K.is_clean K.saves K.fails }
 {}

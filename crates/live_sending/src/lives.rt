@@ -22,7 +22,7 @@ use std::io::Write;
 use std::time::Clock;
 use uecp_frame::Address;
 use uecp_link::Server;
-use uecp_net::{Connect, Sender};
+use uecp_net::{Connections, Sender};
 use uecp_text::Output;
 
 /// How often another sender runs at most.
@@ -33,7 +33,7 @@ const TAKEN_MAX: u64 = 1 << 63;
 
 /// Sends by one sender, and by another one as long as messages are outstanding and their encoder is taken for a new
 /// one.
-pub(crate) fn run_all<K: KeepServer, F: Feed, W: Write, E: Write, C: Connect, T: Clock>(
+pub(crate) fn run_all<K: KeepServer, F: Feed, W: Write, E: Write, C: Connections, T: Clock>(
     alloc: Global,
     due: bool,
     options: &LiveOptions<'_>,
@@ -162,7 +162,7 @@ fn goes_on(rejoin: bool, unknown: usize, taken: u64) -> bool
 
 /// Begins anew with a server to the encoder at this address, tells what is outstanding as unknown, and sends by another
 /// sender.
-fn run_again<K: KeepServer, F: Feed, W: Write, E: Write, C: Connect, T: Clock>(
+fn run_again<K: KeepServer, F: Feed, W: Write, E: Write, C: Connections, T: Clock>(
     alloc: Global,
     address: Address,
     options: &LiveOptions<'_>,
@@ -283,7 +283,7 @@ fn tell_unknown<W: Write>(
 }
 
 /// Sends by one sender.
-fn run_one<K: KeepServer, F: Feed, W: Write, E: Write, C: Connect, T: Clock>(
+fn run_one<K: KeepServer, F: Feed, W: Write, E: Write, C: Connections, T: Clock>(
     alloc: Global,
     due: bool,
     options: &LiveOptions<'_>,

@@ -23,7 +23,7 @@ use std::io::Write;
 use std::mem::replace;
 use std::time::Clock;
 use uecp_link::Server;
-use uecp_net::{Connect, Sender};
+use uecp_net::{Connections, Sender};
 use uecp_text::RunFault;
 
 /// How many batches are taken at most.
@@ -45,7 +45,7 @@ const TURNS_MAX: u64 = 1 << 59;
 /// Where messages are outstanding the run stops; or, with `rejoin`, a new server is saved in place of this one, they
 /// are told as unknown and not sent again, and it goes on with that as with one that is not joined. Where the end of
 /// the run was found behind them it joins the encoder and makes the station, and then ends so.
-pub fn run_live<K: KeepServer, F: Feed, W: Write, E: Write, C: Connect, T: Clock>(
+pub fn run_live<K: KeepServer, F: Feed, W: Write, E: Write, C: Connections, T: Clock>(
     alloc: Global,
     options: &LiveOptions<'_>,
     server: Server,
@@ -117,7 +117,7 @@ fn status_of(refused: bool, applied: bool) -> u8
 
 /// Tells how far the server has come, begins anew where its encoder is to be joined, and sends by one
 /// sender after another.
-fn live<K: KeepServer, F: Feed, W: Write, E: Write, C: Connect, T: Clock>(
+fn live<K: KeepServer, F: Feed, W: Write, E: Write, C: Connections, T: Clock>(
     alloc: Global,
     options: &LiveOptions<'_>,
     server: Server,
@@ -192,7 +192,7 @@ fn live<K: KeepServer, F: Feed, W: Write, E: Write, C: Connect, T: Clock>(
 
 /// Joins the encoder and makes the station where that is due, and then goes on by what comes behind what was
 /// outstanding.
-pub(crate) fn run_sender<K: KeepServer, F: Feed, W: Write, E: Write, C: Connect, T: Clock>(
+pub(crate) fn run_sender<K: KeepServer, F: Feed, W: Write, E: Write, C: Connections, T: Clock>(
     alloc: Global,
     due: bool,
     options: &LiveOptions<'_>,
@@ -271,7 +271,7 @@ pub(crate) fn run_sender<K: KeepServer, F: Feed, W: Write, E: Write, C: Connect,
 }
 
 /// Settles what waits, and then takes and sends batch after batch.
-fn go_on<K: KeepServer, F: Feed, W: Write, E: Write, C: Connect, T: Clock>(
+fn go_on<K: KeepServer, F: Feed, W: Write, E: Write, C: Connections, T: Clock>(
     alloc: Global,
     options: &LiveOptions<'_>,
     sender: &mut Sender<'_, C>,
@@ -355,7 +355,7 @@ fn go_on<K: KeepServer, F: Feed, W: Write, E: Write, C: Connect, T: Clock>(
 }
 
 /// Takes and sends one batch after another.
-fn run_turns<K: KeepServer, F: Feed, W: Write, E: Write, C: Connect, T: Clock>(
+fn run_turns<K: KeepServer, F: Feed, W: Write, E: Write, C: Connections, T: Clock>(
     alloc: Global,
     form: Form,
     reading: &Reading,
@@ -437,7 +437,7 @@ fn ended_as(ended: Result<(), RunFault>) -> Result<(), KeptStop>
 
 /// Takes one batch and sends it, and tells what comes after it; where it could not be sent, that is put down as what
 /// comes behind it.
-fn make_turn<K: KeepServer, F: Feed, W: Write, E: Write, C: Connect, T: Clock>(
+fn make_turn<K: KeepServer, F: Feed, W: Write, E: Write, C: Connections, T: Clock>(
     alloc: Global,
     form: Form,
     reading: &Reading,

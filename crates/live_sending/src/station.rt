@@ -24,12 +24,12 @@ use std::alloc::Global;
 use std::io::Write;
 use uecp_frame::Message;
 use uecp_jobs::fault_of;
-use uecp_net::{Connect, Outstanding, Sender, Settled};
+use uecp_net::{Connections, Outstanding, Sender, Settled};
 use uecp_text::Output;
 
 /// Joins the encoder and makes the station where that is due, saves the server as joined then, and tells it once that
 /// is kept.
-pub(crate) fn make_if<K: KeepServer, W: Write, C: Connect>(
+pub(crate) fn make_if<K: KeepServer, W: Write, C: Connections>(
     alloc: Global,
     form: Form,
     due: bool,
@@ -106,7 +106,7 @@ fn tell_not_joined<W: Write>(
 
 /// Joins the encoder and makes the station, and saves the server as joined then. The lines of the messages that the
 /// encoder refused are put down.
-fn make_kept<K: KeepServer, C: Connect>(
+fn make_kept<K: KeepServer, C: Connections>(
     form: Form,
     size: usize,
     station: &[Message],
@@ -146,7 +146,7 @@ fn make_kept<K: KeepServer, C: Connect>(
 }
 
 /// Joins the encoder, and then sends the messages of the station.
-fn join_and_send<C: Connect>(
+fn join_and_send<C: Connections>(
     form: Form,
     size: usize,
     station: &[Message],
@@ -169,7 +169,7 @@ fn join_and_send<C: Connect>(
 }
 
 /// Sends the messages of the station, batch by batch, and puts down the lines of those that the encoder refused.
-fn send_station<C: Connect>(
+fn send_station<C: Connections>(
     form: Form,
     size: usize,
     station: &[Message],
@@ -199,7 +199,7 @@ fn send_station<C: Connect>(
 
 /// Sends these messages of the station, before which so many were sent, and puts down the lines of those that the
 /// encoder refused.
-fn send_one<C: Connect>(
+fn send_one<C: Connections>(
     form: Form,
     number: usize,
     batch: &[Message],
@@ -233,7 +233,7 @@ fn send_one<C: Connect>(
 }
 
 /// Submits these messages, and settles them.
-fn settle_batch<C: Connect>(
+fn settle_batch<C: Connections>(
     batch: &[Message],
     sender: &mut Sender<'_, C>,
 ) -> Result<Settled, Outstanding>
@@ -250,7 +250,7 @@ fn settle_batch<C: Connect>(
 }
 
 /// Submits these messages, one after another.
-fn submit_all<C: Connect>(batch: &[Message], sender: &mut Sender<'_, C>)
+fn submit_all<C: Connections>(batch: &[Message], sender: &mut Sender<'_, C>)
     requires room { length sender.old.sender.server.held + length batch.now ≤ 8 }
     ensures { sender.new ≡ submitted_all sender.old batch.now }
 {

@@ -21,11 +21,11 @@ use std::io::Write;
 use std::time::Clock;
 use uecp_frame::Message;
 use uecp_link::{Server, ServerCounts, WINDOW_MAX};
-use uecp_net::{Connect, Outstanding, Sender, Settled};
+use uecp_net::{Connections, Outstanding, Sender, Settled};
 use uecp_text::Output;
 
 /// Sends these messages, and tells what the encoder answered to each once that is kept.
-pub(crate) fn send_batch<K: KeepServer, W: Write, C: Connect, T: Clock>(
+pub(crate) fn send_batch<K: KeepServer, W: Write, C: Connections, T: Clock>(
     alloc: Global,
     form: Form,
     clock: &T,
@@ -76,7 +76,7 @@ pub(crate) fn send_batch<K: KeepServer, W: Write, C: Connect, T: Clock>(
 }
 
 /// Sends these messages so, where there are some.
-pub(crate) fn send_some<K: KeepServer, W: Write, C: Connect, T: Clock>(
+pub(crate) fn send_some<K: KeepServer, W: Write, C: Connections, T: Clock>(
     alloc: Global,
     form: Form,
     clock: &T,
@@ -116,7 +116,7 @@ pub(crate) fn send_some<K: KeepServer, W: Write, C: Connect, T: Clock>(
 }
 
 /// Settles what waits, where messages wait, and tells what the encoder answered to each once that is kept.
-pub(crate) fn settle_first<K: KeepServer, W: Write, C: Connect, T: Clock>(
+pub(crate) fn settle_first<K: KeepServer, W: Write, C: Connections, T: Clock>(
     alloc: Global,
     form: Form,
     clock: &T,

@@ -13,7 +13,7 @@ use std::alloc::Global;
 use std::io::Write;
 use std::time::Clock;
 use uecp_frame::Address;
-use uecp_net::Connect;
+use uecp_net::Connections;
 
 /// How many messages a server has taken at most: a file that tells of more was damaged.
 const TAKEN_MAX: u64 = 1 << 63;
@@ -22,7 +22,7 @@ const TAKEN_MAX: u64 = 1 << 63;
 /// as [`run_live`] does: 0 all were applied, 1 a line was refused, 3 the run stopped, or the state can't be opened,
 /// saved or closed, 4 the encoder refused a message. The state is opened before a line is taken and before any
 /// connection is, and closed at the end.
-pub fn run_live_in<S: OpenStates, F: Feed, W: Write, E: Write, C: Connect, T: Clock>(
+pub fn run_live_in<S: OpenStates, F: Feed, W: Write, E: Write, C: Connections, T: Clock>(
     alloc: Global,
     options: &LiveOptions<'_>,
     address: Address,

@@ -17,7 +17,7 @@ use std::net::{Net, TcpStream};
 use std::time::Clock;
 use uecp_frame::Message;
 use uecp_jobs::fail;
-use uecp_net::Connect;
+use uecp_net::Connections;
 use uecp_text::RunFault;
 
 /// Does the job over TCP with the lines of a reader, and answers the exit status: that of [`run_send`], or 2 where a
@@ -45,7 +45,7 @@ pub fn run_send_over_tcp<
     states: &S,
 ) -> u8
     requires { IsSendable job.now }
-    ensures { HasSentOver ⟦<Patient<'a, N, M> as Connect>⟧.opens ⟦<Patient<'a, N, M> as Connect>⟧.closes
+    ensures { HasSentOver ⟦<Patient<'a, N, M> as Connections>⟧.opens ⟦<Patient<'a, N, M> as Connections>⟧.closes
         ⟦<Heard<TcpStream> as Read>⟧.remaining ⟦<TcpStream as Write>⟧.contents
         (S.gives_server states.now) (S.refuses_server states.now) (S.closes_server states.now)
         S.ServerKeeper.leaves S.ServerKeeper.is_clean S.ServerKeeper.saves S.ServerKeeper.fails job.now

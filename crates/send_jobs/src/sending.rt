@@ -16,14 +16,14 @@ use std::time::Clock;
 use uecp_frame::{Address, Message};
 use uecp_jobs::{address_of, fail};
 use uecp_link::Server;
-use uecp_net::{Connect, Limits};
+use uecp_net::{Connections, Limits};
 use uecp_text::RunFault;
 
 /// Sends the messages of the lines that come, and answers the exit status: 0 all were applied, 1 a line was refused, 2
 /// the address is not that of one encoder, 3 the state can't be opened, saved or closed, a message is outstanding, or
 /// memory, reading or writing failed, 4 the encoder refused a message. With a state in a file the run goes on from it;
 /// else it begins with a new server, which joins its encoder. The messages of the station are sent behind each join.
-pub fn run_send<S: OpenStates, F: Feed, W: Write, E: Write, C: Connect, T: Clock>(
+pub fn run_send<S: OpenStates, F: Feed, W: Write, E: Write, C: Connections, T: Clock>(
     alloc: Global,
     job: &SendJob,
     station: &[Message],
@@ -81,7 +81,7 @@ fn options_of<'a>(job: &SendJob, station: &'a [Message]) -> LiveOptions<'a>
 }
 
 /// Sends with no state, from a new server on.
-fn run_unkept<F: Feed, W: Write, E: Write, C: Connect, T: Clock>(
+fn run_unkept<F: Feed, W: Write, E: Write, C: Connections, T: Clock>(
     alloc: Global,
     options: &LiveOptions<'_>,
     address: Address,

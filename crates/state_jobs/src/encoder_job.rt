@@ -15,13 +15,13 @@ use std::alloc::Global;
 use std::io::Write;
 use uecp_frame::Address;
 use uecp_jobs::{Job, Setup, fail, new_encoder};
-use uecp_net::Connect;
+use uecp_net::Connections;
 use uecp_text::RunFault;
 
 /// Does the job of `encoder` with its state at this path, and answers the exit status: 0 done, 2 the services were
 /// refused, 3 the state can't be opened, saved or closed, there was no connection to be had, or memory or writing
 /// failed. The options are judged before the state is opened, and the state before the first connection.
-pub fn run_encoder_in<S: OpenStates, W: Write, E: Write, C: Connect>(
+pub fn run_encoder_in<S: OpenStates, W: Write, E: Write, C: Connections>(
     alloc: Global,
     job: &Job,
     path: &str,
@@ -111,7 +111,7 @@ fn address_for(alloc: Global, setup: &Setup<'_>) -> Result<Address, RunFault>
 }
 
 /// Opens the state, serves, and closes it.
-fn serve_in<S: OpenStates, W: Write, E: Write, C: Connect>(
+fn serve_in<S: OpenStates, W: Write, E: Write, C: Connections>(
     alloc: Global,
     setup: &Setup<'_>,
     address: Address,

@@ -23,7 +23,7 @@ use std::alloc::Global;
 use std::io::{Read, Write};
 use uecp_frame::Address;
 use uecp_jobs::{Job, address_of, fail};
-use uecp_net::{Connect, Limits};
+use uecp_net::{Connections, Limits};
 use uecp_text::RunFault;
 
 /// How many messages a server has taken at most: a file that tells of more was damaged.
@@ -33,7 +33,7 @@ const TAKEN_MAX: u64 = 1 << 63;
 /// the address was refused, 3 the state can't be opened, saved or closed, a batch of messages is outstanding, or
 /// memory, reading or writing failed. The address is judged before the state is opened, and the state before anything
 /// is read.
-pub fn run_server_in<S: OpenStates, R: Read, W: Write, E: Write, C: Connect>(
+pub fn run_server_in<S: OpenStates, R: Read, W: Write, E: Write, C: Connections>(
     alloc: Global,
     job: &Job,
     path: &str,
@@ -107,7 +107,7 @@ pub fn run_server_in<S: OpenStates, R: Read, W: Write, E: Write, C: Connect>(
 }
 
 /// Opens the state, sends, and closes it.
-fn send_in<S: OpenStates, R: Read, W: Write, E: Write, C: Connect>(
+fn send_in<S: OpenStates, R: Read, W: Write, E: Write, C: Connections>(
     alloc: Global,
     options: &ServerOptions,
     address: Address,

@@ -4,7 +4,7 @@ ghost use Rattle.station_laws.specs.Laws.{JoinedThenTold, SaidStationIsApplied, 
 ghost use Rattle.station_laws.specs.Laws.{ToldByEvents, ToldIsMarked, StationIsOut};
 
 use uecp_encoder::Target;
-use uecp_net::Connect;
+use uecp_net::Connections;
 
 /// Over every list of line events from an encoder that is ready, as one that has joined, and a new server: once each of
 /// the station's messages, and no other was sent, was told to be acknowledged with code 00, the encoder's store is what
@@ -60,6 +60,6 @@ pub fn told_is_marked<T: Target>()
 /// Where `run_live` of `live_sending` made a station, its messages went out under the counters of the numbers from 0
 /// on, batch by batch from a complete pass, and each was told the code of the first mark with its counter that was read
 /// on the connections of its batch. Where `station applied` is told, each of these codes is 00.
-pub fn station_is_out<C: Connect>()
+pub fn station_is_out<C: Connections>()
     ensures { StationIsOut C.opens C.closes C.Input.remaining C.Output.contents }
 {}

@@ -9,7 +9,7 @@ use crate::listener::Listener;
 use crate::serving::serve_told;
 use kept_serving::{KeepEncoder, KeptFault};
 use uecp_encoder::{Encoder, Meter, Served, Target};
-use uecp_net::Connect;
+use uecp_net::Connections;
 
 /// Serves the next connection and says how it ended, or answers None where there is none to be had. The encoder forgets
 /// what the connection before left open, the listener is told that one was opened, then [`serve_told`] is called once,
@@ -24,7 +24,7 @@ use uecp_net::Connect;
 ///     }
 /// }
 /// ```
-pub fn serve_connection_told<T: Target, K: KeepEncoder<T>, L: Listener, C: Connect>(
+pub fn serve_connection_told<T: Target, K: KeepEncoder<T>, L: Listener, C: Connections>(
     encoder: &mut Encoder<T>,
     keeper: &mut K,
     listener: &mut L,

@@ -53,7 +53,7 @@ use std::fs::Files;
 use std::io::{Read, Write};
 use std::net::{Net, TcpListener, TcpStream};
 use std::time::Clock;
-use uecp_jobs::{Form, Job, fail, run_encoder, run_job, run_server};
+use uecp_jobs::{Form, Job, fail, run_encoder_over, run_job, run_server_over};
 use uecp_net::{Dialing, Local};
 use uecp_text::{RunFault, write_parts};
 use uecp_watch::watch;
@@ -289,11 +289,11 @@ fn run_any<R: Read, W: Write, E: Write, N: Net<Listener = TcpListener, Stream = 
     match job {
         Job::Encoder { .. } => {
             let mut local = local_of(net, job);
-            run_encoder(alloc, job, writer, errors, &mut local)
+            run_encoder_over(alloc, job, writer, errors, &mut local)
         }
         Job::Server { host, port, .. } => {
             let mut dialing = dialing_of(net, job);
-            let status = run_server(alloc, job, reader, writer, errors, &mut dialing);
+            let status = run_server_over(alloc, job, reader, writer, errors, &mut dialing);
             if status == 3 {
                 say_unreached(host.as_str(), *port, dialing.failed(), errors);
             }

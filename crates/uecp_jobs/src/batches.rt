@@ -11,11 +11,11 @@ use std::alloc::Global;
 use std::io::Write;
 use uecp_elements::Code;
 use uecp_frame::Message;
-use uecp_net::{Connect, Outstanding, Sender, Settled};
+use uecp_net::{Connections, Outstanding, Sender, Settled};
 use uecp_text::{Output, RunFault};
 
 /// Joins the encoder where that is asked for, and writes out what is said of it.
-pub(crate) fn join_first<W: Write, C: Connect>(
+pub(crate) fn join_first<W: Write, C: Connections>(
     alloc: Global,
     join: bool,
     sender: &mut Sender<'_, C>,
@@ -69,7 +69,7 @@ pub fn fault_of(reason: Outstanding) -> RunFault
 }
 
 /// Sends these messages, batch by batch. What is said of each is written out before the next one is submitted.
-pub(crate) fn send_batches<W: Write, C: Connect>(
+pub(crate) fn send_batches<W: Write, C: Connections>(
     alloc: Global,
     messages: &[Message],
     size: usize,
@@ -93,7 +93,7 @@ pub(crate) fn send_batches<W: Write, C: Connect>(
 }
 
 /// Sends these messages and writes out what is said of them.
-fn send_batch<W: Write, C: Connect>(
+fn send_batch<W: Write, C: Connections>(
     alloc: Global,
     batch: &[Message],
     sender: &mut Sender<'_, C>,
@@ -127,7 +127,7 @@ fn ended_by(settled: Result<Settled, Outstanding>) -> Result<(), RunFault>
 }
 
 /// Submits these messages, one after another.
-fn submit_all<C: Connect>(batch: &[Message], sender: &mut Sender<'_, C>)
+fn submit_all<C: Connections>(batch: &[Message], sender: &mut Sender<'_, C>)
     requires room { length sender.old.sender.server.held + length batch.now ≤ 8 }
     ensures { sender.new ≡ submitted_all sender.old batch.now }
 {

@@ -16,12 +16,12 @@ use crate::setup::{new_encoder, setup_of};
 use std::alloc::Global;
 use std::io::Write;
 use uecp_encoder::{Encoder, ServeFault, Served, Target};
-use uecp_net::{Connect, serve_connection};
+use uecp_net::{Connections, serve_connection};
 use uecp_text::{Output, RunFault};
 
 /// Does the job of `encoder` and answers the exit status: 0 done, 2 the services were refused, 3 there was no
 /// connection to be had, or memory or writing failed. Each line is written out before the next connection is opened.
-pub fn run_encoder<W: Write, E: Write, C: Connect>(
+pub fn run_encoder_over<W: Write, E: Write, C: Connections>(
     alloc: Global,
     job: &Job,
     writer: &mut W,
@@ -49,7 +49,7 @@ pub fn run_encoder<W: Write, E: Write, C: Connect>(
 }
 
 /// Serves the connections of the job. The options are judged before the first is opened.
-fn serve_all<W: Write, C: Connect>(
+fn serve_all<W: Write, C: Connections>(
     alloc: Global,
     job: &Job,
     writer: &mut W,
@@ -78,7 +78,7 @@ fn serve_all<W: Write, C: Connect>(
 }
 
 /// Serves so many connections, one after another, and writes a line of how each ended before the next is opened.
-fn serve_connections<T: Target, C: Connect, W: Write>(
+fn serve_connections<T: Target, C: Connections, W: Write>(
     alloc: Global,
     encoder: &mut Encoder<T>,
     connections: u32,

@@ -17,7 +17,7 @@ use std::alloc::Global;
 use std::io::{Read, Write};
 use uecp_frame::{Address, Message};
 use uecp_link::Server;
-use uecp_net::{Connect, Limits, Sender};
+use uecp_net::{Connections, Limits, Sender};
 use uecp_text::{RunFault, read_all};
 
 /// The most messages that may be on their way at once.
@@ -26,7 +26,7 @@ const WINDOW_MAX: u8 = 8;
 /// Does the job of `server` and answers the exit status: 0 done, 1 a line was refused, 2 the address was refused, 3 a
 /// batch of messages is outstanding, or memory, reading or writing failed. The input is read to its end before the
 /// first message is sent; what is said of a batch is written out before the next one is sent.
-pub fn run_server<R: Read, W: Write, E: Write, C: Connect>(
+pub fn run_server_over<R: Read, W: Write, E: Write, C: Connections>(
     alloc: Global,
     job: &Job,
     reader: &mut R,
@@ -72,7 +72,7 @@ pub fn run_server<R: Read, W: Write, E: Write, C: Connect>(
 }
 
 /// Sends the messages of the input. The address is judged before anything is read.
-fn send_all<R: Read, W: Write, C: Connect>(
+fn send_all<R: Read, W: Write, C: Connections>(
     alloc: Global,
     job: &Job,
     reader: &mut R,
@@ -149,7 +149,7 @@ pub fn batch_size(window: u8) -> usize
 
 /// Sends these messages to the encoder at this address, by one sender, in batches of this size. The encoder is joined
 /// first where that is asked for.
-fn send_messages<W: Write, C: Connect>(
+fn send_messages<W: Write, C: Connections>(
     alloc: Global,
     messages: &[Message],
     size: usize,
@@ -172,7 +172,7 @@ fn send_messages<W: Write, C: Connect>(
 }
 
 /// Joins the encoder where that is asked for, and then sends these messages, in batches of this size.
-fn run_sender<W: Write, C: Connect>(
+fn run_sender<W: Write, C: Connections>(
     alloc: Global,
     messages: &[Message],
     size: usize,

@@ -10,7 +10,7 @@ mod joining;
 mod lending;
 mod telling;
 
-use crate::connect::Connect;
+use crate::connect::Connections;
 use crate::sending::telling::{codes_of, counters_of};
 use arrayvec::ArrayVec;
 use std::marker::Model;
@@ -64,14 +64,14 @@ struct TwoEnds<I, O> {
 /// is told to [`settle`](Sender::settle); where a batch ends is its caller's matter. Contracts see it as one value,
 /// `SenderOver`.
 #[derive(Drop)]
-pub struct Sender<'a, C: Connect> {
+pub struct Sender<'a, C: Connections> {
     connect: &'a mut C,
     server: Server,
     ends: Option<TwoEnds<C::Input, C::Output>>,
     limits: Limits,
 }
 
-impl<'a, C: Connect> Model for Sender<'a, C> {
+impl<'a, C: Connections> Model for Sender<'a, C> {
     ghost use Rattle.uecp_net.specs.Sending.{SenderOver};
 
     ghost Value = { SenderOver C C.Input C.Output };
@@ -90,7 +90,7 @@ impl<'a, C: Connect> Model for Sender<'a, C> {
     } };
 }
 
-impl<'a, C: Connect> Sender<'a, C> {
+impl<'a, C: Connections> Sender<'a, C> {
     /// This server, with no connection yet.
     pub fn new(connect: &'a mut C, server: Server, limits: Limits) -> Sender<'a, C>
         ensures { result ≡ record {

@@ -2,7 +2,7 @@
 ghost use Rattle.std.specs.Prelude.{◌≡◌, None, IfSome, IfNone};
 ghost use Rattle.uecp_net.specs.Sessions.{Serving};
 
-use crate::connect::Connect;
+use crate::connect::Connections;
 use uecp_encoder::{Encoder, Meter, ServeFault, Served, Target, serve};
 
 /// Serves the next connection and says how it ended, or answers None where there is none to be had. The encoder forgets
@@ -13,7 +13,7 @@ use uecp_encoder::{Encoder, Meter, ServeFault, Served, Target, serve};
 ///     connections += 1;
 /// }
 /// ```
-pub fn serve_connection<T: Target, C: Connect>(
+pub fn serve_connection<T: Target, C: Connections>(
     encoder: &mut Encoder<T>,
     turns: u32,
     connect: &mut C,

@@ -2,7 +2,7 @@
 ghost use Rattle.std.specs.Prelude.{◌≡◌, ◌≢◌, None, IfOk};
 ghost use Rattle.uecp_net.specs.Tcp.{Dials, DialsAgain};
 
-use crate::connect::Connect;
+use crate::connect::Connections;
 use std::io::{Error, ErrorKind};
 use std::marker::Model;
 use std::net::{Net, TcpListener, TcpStream, ToSocketAddrs};
@@ -21,7 +21,7 @@ impl Listening {
     }
 }
 
-impl Connect for Listening {
+impl Connections for Listening {
     type Input = TcpStream;
 
     type Output = TcpStream;
@@ -68,7 +68,7 @@ impl<'a, N: Net<Listener = TcpListener, Stream = TcpStream>> Local<'a, N> {
     }
 }
 
-impl<'a, N: Net<Listener = TcpListener, Stream = TcpStream>> Connect for Local<'a, N> {
+impl<'a, N: Net<Listener = TcpListener, Stream = TcpStream>> Connections for Local<'a, N> {
     type Input = TcpStream;
 
     type Output = TcpStream;
@@ -173,7 +173,7 @@ impl<'a, R: Net<Stream = TcpStream>> Dialing<'a, R> {
     }
 }
 
-impl<'a, R: Net<Stream = TcpStream>> Connect for Dialing<'a, R> {
+impl<'a, R: Net<Stream = TcpStream>> Connections for Dialing<'a, R> {
     type Input = TcpStream;
 
     type Output = TcpStream;

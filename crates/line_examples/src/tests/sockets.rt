@@ -10,7 +10,7 @@ use std::test::Fail;
 use std::time::Duration;
 use uecp_encoder::{Encoder, Meter, ServeFault, serve};
 use uecp_link::{DriveFault, Server, drive, resend};
-use uecp_net::{Connect, Dialing, Limits, Listening, Outstanding, Sender, serve_connection};
+use uecp_net::{Connections, Dialing, Limits, Listening, Outstanding, Sender, serve_connection};
 
 /// A read that brings nothing for so many milliseconds fails.
 const TIMEOUT: u64 = 100;
@@ -23,7 +23,9 @@ struct End {
 }
 
 /// The end that this opens next, whose reads time out.
-fn open(connect: &mut impl Connect<Input = TcpStream, Output = TcpStream>) -> Result<End, Fail> {
+fn open(
+    connect: &mut impl Connections<Input = TcpStream, Output = TcpStream>,
+) -> Result<End, Fail> {
     let (input, output) = connect.open().ok_or("no connection")?;
     input.set_read_timeout(Some(Duration::from_millis(TIMEOUT)))?;
     Ok(End {
@@ -65,7 +67,7 @@ fn sends_again(rt: &impl Abort, server: &mut Server, end: &mut End) {
 }
 
 /// Sends the text "HI" on a connection on which nothing is answered.
-fn is_outstanding<C: Connect>(rt: &impl Abort, sender: &mut Sender<'_, C>) {
+fn is_outstanding<C: Connections>(rt: &impl Abort, sender: &mut Sender<'_, C>) {
     holds!(rt; sender.has_room());
     let message = message(rt, &ADD);
     sender.submit(&message);

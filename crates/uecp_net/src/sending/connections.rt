@@ -5,14 +5,14 @@ ghost use Rattle.uecp_net.specs.Sending.{SenderOver, Goes, GoesOn, Opens, OpensN
 ghost use Rattle.uecp_net.specs.Sending.{without_ends};
 
 use super::{Limits, Sender, TwoEnds};
-use crate::connect::Connect;
+use crate::connect::Connections;
 use arrayvec::ArrayVec;
 use std::io::{Read, Write};
 use uecp_elements::Code;
 use uecp_encoder::Meter;
 use uecp_link::{DriveFault, Server, WINDOW_MAX, Windowed, send_window};
 
-impl<'a, C: Connect> Sender<'a, C> {
+impl<'a, C: Connections> Sender<'a, C> {
     /// Sends the messages that wait on the connection that there is, or on a new one, and says how that went; or None
     /// where there is none to be had.
     pub(super) fn send_on_one(

@@ -5,13 +5,13 @@ ghost use Rattle.uecp_net.specs.Sending.{SenderOver, OpensNone, HangsUp};
 ghost use Rattle.uecp_net.specs.Joining.{PassesTo, JoinsOver, end_of_pass};
 
 use super::{Outstanding, Sender, reason_of};
-use crate::connect::Connect;
+use crate::connect::Connections;
 use uecp_link::{DriveFault, Joining, join};
 
 /// How many frames a pass has, one under each counter: it may make so many times the reads of a try.
 const PASS_FRAMES: u32 = 255;
 
-impl<'a, C: Connect> Sender<'a, C> {
+impl<'a, C: Connections> Sender<'a, C> {
     /// Joins the encoder, so that the server may begin with counter 01 whatever the encoder has kept: makes a pass of
     /// empty messages over a new connection, and where that is not complete another one over the next, as long as
     /// reconnects are left. The connection that there was is let go first. A pass makes at most 255 times as many reads

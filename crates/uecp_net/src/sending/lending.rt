@@ -2,10 +2,10 @@
 ghost use Rattle.std.specs.Prelude.{◌≡◌};
 
 use super::Sender;
-use crate::connect::Connect;
+use crate::connect::Connections;
 use uecp_link::Server;
 
-impl<'a, C: Connect> Sender<'a, C> {
+impl<'a, C: Connections> Sender<'a, C> {
     /// The server as it is now: with what it holds, and the counter of its last message.
     ///
     /// ```

@@ -8,7 +8,7 @@ pub returns-in_default-clause-all : goal.returns-in_default-clause-all
 returns-in_default-clause-all g t c =
     let only : Option (List ℕ) = option_map {T = Bor (List ℕ)} {U = List ℕ} (λ name. name.now) c.args.manner.now.only in
     let none : c.args.cases.now ≡ [] = empty_of c.args.cases.now c.in_default.ensures.cases in
-    let (ran, tallied) = none_run g.C.Connect.opens g.C.Connect.closes g.C.Input.Read.remaining
+    let (ran, tallied) = none_run g.C.Connections.opens g.C.Connections.closes g.C.Input.Read.remaining
     g.C.Output.Write.contents c.args.manner.now.own
     c.args.manner.now.patience c.args.manner.now.json
     only c.args.number c.args.cases.now (record {
@@ -24,7 +24,7 @@ returns-in-Err-clause-some g t c =
     let picked : is_chosen only c.in-Some.case.now ≡ true = search rules in
     let (status, stops) = c.in-Err.ensures.some in (
       status,
-      first_stops g.C.Connect.opens g.C.Connect.closes g.C.Input.Read.remaining g.C.Output.Write.contents
+      first_stops g.C.Connections.opens g.C.Connections.closes g.C.Input.Read.remaining g.C.Output.Write.contents
           c.args.manner.now.own
           c.args.manner.now.patience c.args.manner.now.json
           only c.args.number c.args.cases.now c.in-Some.case.now c.in-Some.rest.now c.in-Err.fault
@@ -38,7 +38,7 @@ returns-in-Ok-clause-all g t c =
     let only : Option (List ℕ) = option_map {T = Bor (List ℕ)} {U = List ℕ} (λ name. name.now) c.args.manner.now.only in
     let split : c.args.cases.now ≡ c.in-Some.case.now ∷ c.in-Some.rest.now = search rules in
     let picked : is_chosen only c.in-Some.case.now ≡ true = search rules in
-    more_run g.C.Connect.opens g.C.Connect.closes g.C.Input.Read.remaining g.C.Output.Write.contents
+    more_run g.C.Connections.opens g.C.Connections.closes g.C.Input.Read.remaining g.C.Output.Write.contents
     c.args.manner.now.own
     c.args.manner.now.patience c.args.manner.now.json
     only c.args.number c.args.cases.now c.in-Some.case.now c.in-Some.rest.now c.in-Ok.went
@@ -53,7 +53,7 @@ returns-in-Ok-clause-some g t c =
     let only : Option (List ℕ) = option_map {T = Bor (List ℕ)} {U = List ℕ} (λ name. name.now) c.args.manner.now.only in
     let split : c.args.cases.now ≡ c.in-Some.case.now ∷ c.in-Some.rest.now = search rules in
     let picked : is_chosen only c.in-Some.case.now ≡ true = search rules in
-    more_stop g.C.Connect.opens g.C.Connect.closes g.C.Input.Read.remaining g.C.Output.Write.contents
+    more_stop g.C.Connections.opens g.C.Connections.closes g.C.Input.Read.remaining g.C.Output.Write.contents
     c.args.manner.now.own
     c.args.manner.now.patience c.args.manner.now.json
     only c.args.number c.args.cases.now c.in-Some.case.now c.in-Some.rest.now c.in-Ok.went

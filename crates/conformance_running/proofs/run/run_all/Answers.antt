@@ -9,7 +9,7 @@ returns-in-Err-run_cases-clause-some g c =
     let only : Option (List ℕ) = option_map {T = Bor (List ℕ)} {U = List ℕ} (λ name. name.now) c.args.manner.now.only in
     let (status, stops) = c.in-Err-run_cases.ensures.some in (
       status,
-      not_all g.C.Connect.opens g.C.Connect.closes g.C.Input.Read.remaining g.C.Output.Write.contents
+      not_all g.C.Connections.opens g.C.Connections.closes g.C.Input.Read.remaining g.C.Output.Write.contents
           c.args.manner.now.own
           c.args.manner.now.patience c.args.manner.now.json
           (chosen only c.args.cases.now) c.args.count c.requires.count c.in-Err-run_cases.fault c.args.connect.now
@@ -21,7 +21,7 @@ returns-in-Err-run_cases-clause-some g c =
 pub returns-in-Err-tell_last-clause-some : goal.returns-in-Err-tell_last-clause-some
 returns-in-Err-tell_last-clause-some g c =
     let only : Option (List ℕ) = option_map {T = Bor (List ℕ)} {U = List ℕ} (λ name. name.now) c.args.manner.now.only in
-    let ran = from_none g.C.Connect.opens g.C.Connect.closes g.C.Input.Read.remaining g.C.Output.Write.contents
+    let ran = from_none g.C.Connections.opens g.C.Connections.closes g.C.Input.Read.remaining g.C.Output.Write.contents
     c.args.manner.now.own
     c.args.manner.now.patience c.args.manner.now.json
     (chosen only c.args.cases.now) (record {
@@ -31,7 +31,7 @@ returns-in-Err-tell_last-clause-some g c =
     (record { connect = c.run_cases.new.connect; held = g.W.Write.contents c.run_cases.new.writer }) c.none-tally.result
     c.run_cases.new.tally
     c.none-tally.ensures c.in-Ok-run_cases.ensures.all in
-    not_last g.C.Connect.opens g.C.Connect.closes g.C.Input.Read.remaining g.C.Output.Write.contents
+    not_last g.C.Connections.opens g.C.Connections.closes g.C.Input.Read.remaining g.C.Output.Write.contents
     c.args.manner.now.own
     c.args.manner.now.patience c.args.manner.now.json
     (chosen only c.args.cases.now) c.args.count c.requires.count c.in-Err-tell_last.fault c.args.connect.now
@@ -43,7 +43,7 @@ returns-in-Err-tell_last-clause-some g c =
 pub returns-in-Ok-tell_last-clause-all : goal.returns-in-Ok-tell_last-clause-all
 returns-in-Ok-tell_last-clause-all g c =
     let only : Option (List ℕ) = option_map {T = Bor (List ℕ)} {U = List ℕ} (λ name. name.now) c.args.manner.now.only in
-    let ran = from_none g.C.Connect.opens g.C.Connect.closes g.C.Input.Read.remaining g.C.Output.Write.contents
+    let ran = from_none g.C.Connections.opens g.C.Connections.closes g.C.Input.Read.remaining g.C.Output.Write.contents
     c.args.manner.now.own
     c.args.manner.now.patience c.args.manner.now.json
     (chosen only c.args.cases.now) (record {
@@ -53,7 +53,7 @@ returns-in-Ok-tell_last-clause-all g c =
     (record { connect = c.run_cases.new.connect; held = g.W.Write.contents c.run_cases.new.writer }) c.none-tally.result
     c.run_cases.new.tally
     c.none-tally.ensures c.in-Ok-run_cases.ensures.all in
-    all_run g.C.Connect.opens g.C.Connect.closes g.C.Input.Read.remaining g.C.Output.Write.contents
+    all_run g.C.Connections.opens g.C.Connections.closes g.C.Input.Read.remaining g.C.Output.Write.contents
     c.args.manner.now.own
     c.args.manner.now.patience c.args.manner.now.json
     (chosen only c.args.cases.now) c.args.count c.requires.count c.args.connect.now c.run_cases.new.connect

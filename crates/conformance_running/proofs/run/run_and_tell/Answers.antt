@@ -7,7 +7,7 @@ pub returns-in-Ok-NotHeard-clause-some : goal.returns-in-Ok-NotHeard-clause-some
 returns-in-Ok-NotHeard-clause-some g c =
     let is : c.run_case.result ≡ Ok NotHeard = search rules in (
       refl,
-      not_heard g.C.Connect.opens g.C.Connect.closes g.C.Input.Read.remaining g.C.Output.Write.contents
+      not_heard g.C.Connections.opens g.C.Connections.closes g.C.Input.Read.remaining g.C.Output.Write.contents
           c.args.manner.now.own c.args.manner.now.patience c.args.manner.now.json c.args.number c.args.case.now
           c.run_case.result c.args.connect.now c.run_case.new.connect (g.W.Write.contents c.args.writer.now) is
           c.run_case.ensures.runs,

@@ -7,7 +7,8 @@ use Rattle.conformance_running.proofs.run.run_conformance.Goals as goal
 pub returns-in-Err-clause-failed : goal.returns-in-Err-clause-failed
 returns-in-Err-clause-failed g c = λ _. (
   c.in-Err.fault,
-  breaks_as g.C.Connect.opens g.C.Connect.closes g.C.Input.Read.remaining g.C.Output.Write.contents c.own_address.result
+  breaks_as g.C.Connections.opens g.C.Connections.closes g.C.Input.Read.remaining g.C.Output.Write.contents
+      c.own_address.result
       (own_address c.args.job.now) c.patience_of.result (patience_of c.args.job.now) c.args.job.now.json
       (option_map {T = Bor (List ℕ)} {U = List ℕ} (λ name. name.now) c.only_of-only.result) (only_of c.args.job.now)
       c.args.cases.now c.in-Err.fault (record {

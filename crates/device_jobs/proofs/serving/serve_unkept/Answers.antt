@@ -11,7 +11,7 @@ pub returns : goal.returns
 returns g c =
     let run = c.run_device in
     let ended = ends (λ (went : Went). RunsDevice (λ k left. Unit {0}) (λ k. ⊥) (λ k left k'. k' ≡ k) (λ k left k'. ⊥)
-    g.C.Connect.opens g.C.Connect.closes g.C.Input.Read.remaining g.C.Output.Write.contents c.args.limits.turns
+    g.C.Connections.opens g.C.Connections.closes g.C.Input.Read.remaining g.C.Output.Write.contents c.args.limits.turns
     c.args.limits.connections c.args.limits.store (record {
       encoder = c.args.encoder.now;
       keeper = _;
@@ -28,7 +28,7 @@ returns g c =
       run.new.keeper,
       run.new.encoder,
       subst (λ (e : EncoderState Store). EndsDevice (λ k left. Unit {0}) (λ k. ⊥) (λ k left k'. k' ≡ k)
-          (λ k left k'. ⊥) g.C.Connect.opens g.C.Connect.closes g.C.Input.Read.remaining
+          (λ k left k'. ⊥) g.C.Connections.opens g.C.Connections.closes g.C.Input.Read.remaining
           g.C.Output.Write.contents c.args.limits.turns c.args.limits.connections c.args.limits.store
           (record { encoder = e; keeper = _; connect = c.args.connect.now; log = c.args.log.now })
           (record {

@@ -16,7 +16,8 @@ returns-in_err-send_batch-clause-sends g c =
     let same : c.from_residual.result ≡ Err stop = search rules in
     let some : rest ≢ [] = search rules in
     let front : c.split_at.result.0.now ≡ take (min c.args.size (length rest)) rest = search rules in
-    subst (λ went. SendsAll g.C.Connect.opens g.C.Connect.closes g.C.Input.Read.remaining g.C.Output.Write.contents
+    subst (λ went. SendsAll g.C.Connections.opens g.C.Connections.closes g.C.Input.Read.remaining
+    g.C.Output.Write.contents
     k.leaves k.is_clean k.saves k.fails c.args.size c.args.messages.now (record {
       runs = c.args.sender.now;
       keeper = c.args.keeper.now;
@@ -28,9 +29,10 @@ returns-in_err-send_batch-clause-sends g c =
       progress = next.progress;
       held = g.W.Write.contents next.writer;
     }) went) (sym same)
-    (stops g.C.Connect.opens g.C.Connect.closes g.C.Input.Read.remaining g.C.Output.Write.contents k.leaves k.is_clean
+    (stops g.C.Connections.opens g.C.Connections.closes g.C.Input.Read.remaining g.C.Output.Write.contents k.leaves
+    k.is_clean
     k.saves k.fails c.args.size c.args.messages.now _ rest _ now.invariant.on some _ stop
-    (subst (λ batch. SendsTold g.C.Connect.opens g.C.Connect.closes g.C.Input.Read.remaining
+    (subst (λ batch. SendsTold g.C.Connections.opens g.C.Connections.closes g.C.Input.Read.remaining
     g.C.Output.Write.contents k.leaves k.is_clean k.saves k.fails batch (record {
       runs = now.sender;
       keeper = now.keeper;
@@ -59,7 +61,7 @@ loop-rest-preserved g c =
       idle = c.in_ok-send_batch.ensures.idle;
       loan = c.send_batch.ensures.loan ∙ now.invariant.loan;
       countable = (let before = now.invariant.countable in omega (arith, before, count, left, taken));
-      on = subst (λ more. GoesOn g.C.Connect.opens g.C.Connect.closes g.C.Input.Read.remaining
+      on = subst (λ more. GoesOn g.C.Connections.opens g.C.Connections.closes g.C.Input.Read.remaining
           g.C.Output.Write.contents k.leaves k.is_clean k.saves k.fails c.args.size c.args.messages.now (record {
             runs = c.args.sender.now;
             keeper = c.args.keeper.now;
@@ -71,9 +73,10 @@ loop-rest-preserved g c =
             progress = next.progress;
             held = g.W.Write.contents next.writer;
           })) (sym (back ∙ drop_min c.args.size rest))
-          (one_more g.C.Connect.opens g.C.Connect.closes g.C.Input.Read.remaining g.C.Output.Write.contents k.leaves
+          (one_more g.C.Connections.opens g.C.Connections.closes g.C.Input.Read.remaining g.C.Output.Write.contents
+          k.leaves
           k.is_clean k.saves k.fails c.args.size c.args.messages.now _ rest _ now.invariant.on some _
-          (subst (λ batch. SendsTold g.C.Connect.opens g.C.Connect.closes g.C.Input.Read.remaining
+          (subst (λ batch. SendsTold g.C.Connections.opens g.C.Connections.closes g.C.Input.Read.remaining
           g.C.Output.Write.contents k.leaves k.is_clean k.saves k.fails batch (record {
             runs = now.sender;
             keeper = now.keeper;
@@ -91,6 +94,7 @@ pub returns-clause-sends : goal.returns-clause-sends
 returns-clause-sends g c =
     let k = g.K.KeepServer in
     let now = c.loop-rest in
-    ends g.C.Connect.opens g.C.Connect.closes g.C.Input.Read.remaining g.C.Output.Write.contents k.leaves k.is_clean
+    ends g.C.Connections.opens g.C.Connections.closes g.C.Input.Read.remaining g.C.Output.Write.contents k.leaves
+    k.is_clean
     k.saves k.fails c.args.size c.args.messages.now _ now.rest.now _ now.invariant.on
     (none_by_test now.rest.now c.loop-rest-test.ensures)

@@ -10,7 +10,8 @@ invariant-loop-rest g l =
       idle : l.sender.sender.server.held ≡ [];
       loan : l.sender.loan ≡ l.fn.sender.loan;
       countable : l.progress.taken + length l.rest < 2 ^ 64;
-      on : GoesOn g.C.Connect.opens g.C.Connect.closes g.C.Input.Read.remaining g.C.Output.Write.contents k.leaves
+      on : GoesOn g.C.Connections.opens g.C.Connections.closes g.C.Input.Read.remaining g.C.Output.Write.contents
+          k.leaves
           k.is_clean k.saves k.fails l.size l.messages (record {
             runs = l.fn.sender;
             keeper = l.fn.keeper;

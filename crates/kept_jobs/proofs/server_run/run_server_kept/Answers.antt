@@ -9,9 +9,11 @@ pub returns-in-Ok : goal.returns-in-Ok
 returns-in-Ok g c =
     let k = g.K.KeepServer in
     let ran = c.in-Ok.ensures.runs in
-    let all = run_done g.C.Connect.opens g.C.Connect.closes g.C.Input.Read.remaining g.C.Output.Write.contents k.leaves
+    let all = run_done g.C.Connections.opens g.C.Connections.closes g.C.Input.Read.remaining g.C.Output.Write.contents
+    k.leaves
     k.is_clean k.saves k.fails _ _ _ _ _ _ _ _ _ _ ran in
-    let left = run_survives g.C.Connect.opens g.C.Connect.closes g.C.Input.Read.remaining g.C.Output.Write.contents
+    let left = run_survives g.C.Connections.opens g.C.Connections.closes g.C.Input.Read.remaining
+    g.C.Output.Write.contents
     k.leaves k.is_clean k.saves k.fails _ _ _ _ _ _ _ _ _ _ _ ran in
     record {
       runs = (Ok tt, ran, (refl, refl));
@@ -36,11 +38,14 @@ returns-in-Err g c =
       progress = c.args.progress;
       held = g.W.Write.contents c.args.writer.now;
     } in
-    let why = run_stopped g.C.Connect.opens g.C.Connect.closes g.C.Input.Read.remaining g.C.Output.Write.contents
+    let why = run_stopped g.C.Connections.opens g.C.Connections.closes g.C.Input.Read.remaining
+    g.C.Output.Write.contents
     k.leaves k.is_clean k.saves k.fails _ _ _ _ _ _ _ _ _ _ stop ran in
-    let said = said_so g.C.Connect.opens g.C.Connect.closes g.C.Input.Read.remaining g.C.Output.Write.contents k.leaves
+    let said = said_so g.C.Connections.opens g.C.Connections.closes g.C.Input.Read.remaining g.C.Output.Write.contents
+    k.leaves
     k.is_clean k.saves k.fails _ _ start _ stop _ _ _ why told.status told.said in
-    let left = run_survives g.C.Connect.opens g.C.Connect.closes g.C.Input.Read.remaining g.C.Output.Write.contents
+    let left = run_survives g.C.Connections.opens g.C.Connections.closes g.C.Input.Read.remaining
+    g.C.Output.Write.contents
     k.leaves k.is_clean k.saves k.fails _ _ _ _ _ _ _ _ _ _ _ ran in
     record {
       runs = (Err stop, ran, (told.status, told.said));

@@ -18,7 +18,7 @@ returns g c =
         c.in_ok-input.input.items,
         c.send_messages-sent.result,
         c.in_ok-input.ensures.input,
-        subst (λ ms. SendsMessages g.C.Connect.opens g.C.Connect.closes g.C.Input.Read.remaining
+        subst (λ ms. SendsMessages g.C.Connections.opens g.C.Connections.closes g.C.Input.Read.remaining
             g.C.Output.Write.contents k.leaves k.is_clean k.saves k.fails c.args.options.now.join
             (batch_size c.args.options.now.window) c.args.options.now.limits ms c.args.connect.now now.connect (record {
               runs = c.args.server;

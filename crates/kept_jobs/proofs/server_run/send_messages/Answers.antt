@@ -67,7 +67,8 @@ returns g c =
           held = held c.args.writer.now;
         }) (record { runs = now.server; keeper = now.keeper; progress = now.progress; held = held now.writer }) (Ok tt))
             c.is_due-due.ensures c.in_ok-begin.ensures.begins,
-        subst (λ due. RunsSender g.C.Connect.opens g.C.Connect.closes g.C.Input.Read.remaining g.C.Output.Write.contents
+        subst (λ due. RunsSender g.C.Connections.opens g.C.Connections.closes g.C.Input.Read.remaining
+            g.C.Output.Write.contents
             k.leaves k.is_clean k.saves k.fails due (batch_size c.args.options.now.window) c.args.messages.now (record {
               runs = record { sender = d; connect = c.args.connect.now; loan = start.loan; ends = None };
               keeper = now.keeper;
@@ -79,7 +80,7 @@ returns g c =
               progress = sent.new.progress;
               held = held sent.new.writer;
             }) sent.result) c.is_due-due.ensures
-            (subst (λ size. RunsSender g.C.Connect.opens g.C.Connect.closes g.C.Input.Read.remaining
+            (subst (λ size. RunsSender g.C.Connections.opens g.C.Connections.closes g.C.Input.Read.remaining
             g.C.Output.Write.contents k.leaves k.is_clean k.saves k.fails c.is_due-due.result size c.args.messages.now
             (record {
               runs = record { sender = d; connect = c.args.connect.now; loan = start.loan; ends = None };
@@ -92,7 +93,7 @@ returns g c =
               progress = sent.new.progress;
               held = held sent.new.writer;
             }) sent.result) c.batch_size-size.ensures
-            (subst (λ s. RunsSender g.C.Connect.opens g.C.Connect.closes g.C.Input.Read.remaining
+            (subst (λ s. RunsSender g.C.Connections.opens g.C.Connections.closes g.C.Input.Read.remaining
             g.C.Output.Write.contents k.leaves k.is_clean k.saves k.fails c.is_due-due.result c.batch_size-size.result
             c.args.messages.now (record {
               runs = s;

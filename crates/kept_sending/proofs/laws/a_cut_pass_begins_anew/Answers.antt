@@ -2,4 +2,5 @@ use Rattle.kept_sending.proofs.Joined.{begins_anew_lem}
 use Rattle.kept_sending.proofs.laws.a_cut_pass_begins_anew.Goals as goal
 
 pub returns : goal.returns
-returns g c = begins_anew_lem g.C.Connect.opens g.C.Connect.closes g.C.Input.Read.remaining g.C.Output.Write.contents
+returns g c = begins_anew_lem g.C.Connections.opens g.C.Connections.closes g.C.Input.Read.remaining
+    g.C.Output.Write.contents

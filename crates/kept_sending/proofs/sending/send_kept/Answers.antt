@@ -12,7 +12,8 @@ pub returns-clause-sends : goal.returns-clause-sends
 returns-clause-sends g c =
     let k = g.K.KeepServer in
     let s = c.send_submitted in
-    subst (λ mid. SendsKept g.C.Connect.opens g.C.Connect.closes g.C.Input.Read.remaining g.C.Output.Write.contents
+    subst (λ mid. SendsKept g.C.Connections.opens g.C.Connections.closes g.C.Input.Read.remaining
+    g.C.Output.Write.contents
     k.saves k.fails (taking c.args.progress.now (length c.args.batch.now)) mid s.new.sender c.args.keeper.now
     s.new.keeper s.result) c.submit_all.ensures s.ensures.sends
 

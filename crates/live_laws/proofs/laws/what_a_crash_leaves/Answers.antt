@@ -4,5 +4,6 @@ use Rattle.live_laws.proofs.laws.what_a_crash_leaves.Goals as goal
 pub returns : goal.returns
 returns g c =
     let k = g.K.KeepServer in
-    what_a_crash_leaves_lem g.C.Connect.opens g.C.Connect.closes g.C.Input.Read.remaining g.C.Output.Write.contents
+    what_a_crash_leaves_lem g.C.Connections.opens g.C.Connections.closes g.C.Input.Read.remaining
+    g.C.Output.Write.contents
     k.leaves k.is_clean k.saves k.fails

@@ -11,7 +11,8 @@ loop-again-preserved g c =
     record {
       so = (
         now,
-        one_more g.C.Connect.opens g.C.Connect.closes g.C.Input.Read.remaining g.C.Output.Write.contents k.leaves
+        one_more g.C.Connections.opens g.C.Connections.closes g.C.Input.Read.remaining g.C.Output.Write.contents
+            k.leaves
             k.is_clean k.saves k.fails c.args.options.now c.loop-again._again c.args.due _ _ _ _ _ _ _ _ so go.0 go.1
             c.address-address.result c.address-address.ensures again,
       );

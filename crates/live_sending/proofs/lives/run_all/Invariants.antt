@@ -9,7 +9,7 @@ invariant-loop-again g l =
     let k = g.K.KeepServer in
     let held = g.W.Write.contents in
     record {
-      so : (last : ServerState) × RunsFor g.C.Connect.opens g.C.Connect.closes g.C.Input.Read.remaining
+      so : (last : ServerState) × RunsFor g.C.Connections.opens g.C.Connections.closes g.C.Input.Read.remaining
           g.C.Output.Write.contents k.leaves k.is_clean k.saves
           k.fails l.options l.due l._again l.fn.connect l.connect (record {
             sends = record {

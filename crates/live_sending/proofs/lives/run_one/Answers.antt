@@ -43,7 +43,8 @@ returns g c =
             unknown = sent.new.unknown;
             behind = sent.new.behind;
           },
-          subst (λ s. RunsLive g.C.Connect.opens g.C.Connect.closes g.C.Input.Read.remaining g.C.Output.Write.contents
+          subst (λ s. RunsLive g.C.Connections.opens g.C.Connections.closes g.C.Input.Read.remaining
+              g.C.Output.Write.contents
               k.leaves k.is_clean k.saves
               k.fails c.args.options.now c.args.due (record {
                 sends = record {

@@ -68,7 +68,8 @@ returns-in-Ok g c =
             }) (record { runs = now.server; keeper = now.keeper; progress = now.progress; held = held now.writer }) (Ok
             tt))
             c.is_due-due.ensures c.in-Ok.ensures.begins,
-        subst (λ due. RunsFor g.C.Connect.opens g.C.Connect.closes g.C.Input.Read.remaining g.C.Output.Write.contents
+        subst (λ due. RunsFor g.C.Connections.opens g.C.Connections.closes g.C.Input.Read.remaining
+            g.C.Output.Write.contents
             k.leaves k.is_clean k.saves
             k.fails c.args.options.now due again c.args.connect.now ran.new.connect (record {
               sends = record {

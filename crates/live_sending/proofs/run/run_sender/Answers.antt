@@ -48,9 +48,9 @@ returns-in-GoesOn-clause-runs g c =
     inl (
       at c.args.behind.now,
       (c.in_ok-make_if.ensures.makes, refl, refl, refl),
-      subst (λ (b : After). RunsOn g.C.Connect.opens g.C.Connect.closes g.C.Input.Read.remaining
+      subst (λ (b : After). RunsOn g.C.Connections.opens g.C.Connections.closes g.C.Input.Read.remaining
           g.C.Output.Write.contents k.leaves k.is_clean k.saves k.fails c.args.options.now b (at b) end ran.result) is
-          (subst (λ (b : After). RunsOn g.C.Connect.opens g.C.Connect.closes g.C.Input.Read.remaining
+          (subst (λ (b : After). RunsOn g.C.Connections.opens g.C.Connections.closes g.C.Input.Read.remaining
           g.C.Output.Write.contents k.leaves k.is_clean k.saves k.fails c.args.options.now GoesOn (at b) end ran.result)
           c.replace.ensures.after ran.ensures.runs),
     )
@@ -80,7 +80,7 @@ returns-in-Ends-clause-runs g c =
     inl (
       at c.args.behind.now,
       (c.in_ok-make_if.ensures.makes, refl, refl, refl),
-      subst (λ (b : After). RunsOn g.C.Connect.opens g.C.Connect.closes g.C.Input.Read.remaining
+      subst (λ (b : After). RunsOn g.C.Connections.opens g.C.Connections.closes g.C.Input.Read.remaining
           g.C.Output.Write.contents k.leaves k.is_clean k.saves k.fails c.args.options.now b (at b)
           (at c.replace.new.dest) c.ended_as.result) is (ap at c.replace.ensures.after, c.ended_as.ensures),
     )

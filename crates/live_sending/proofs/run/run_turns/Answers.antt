@@ -6,7 +6,8 @@ pub returns-in-Err-clause-runs : goal.returns-in-Err-clause-runs
 returns-in-Err-clause-runs g c =
     let k = g.K.KeepServer in
     let turn = c.in-Err.ensures.stopped in
-    stops g.C.Connect.opens g.C.Connect.closes g.C.Input.Read.remaining g.C.Output.Write.contents k.leaves k.is_clean
+    stops g.C.Connections.opens g.C.Connections.closes g.C.Input.Read.remaining g.C.Output.Write.contents k.leaves
+    k.is_clean
     k.saves k.fails c.args.form c.args.reading.now.region c.args.reading.now.size c.args.reading.now.strict _
     c.loop-turn._turn _
     c.loop-turn.invariant.on _ turn.0 c.in-Err.stop turn.1
@@ -14,7 +15,8 @@ returns-in-Err-clause-runs g c =
 pub returns-in-Ok-Ends-clause-runs : goal.returns-in-Ok-Ends-clause-runs
 returns-in-Ok-Ends-clause-runs g c =
     let k = g.K.KeepServer in
-    ends g.C.Connect.opens g.C.Connect.closes g.C.Input.Read.remaining g.C.Output.Write.contents k.leaves k.is_clean
+    ends g.C.Connections.opens g.C.Connections.closes g.C.Input.Read.remaining g.C.Output.Write.contents k.leaves
+    k.is_clean
     k.saves k.fails c.args.form c.args.reading.now.region c.args.reading.now.size c.args.reading.now.strict _
     c.loop-turn._turn _
     c.loop-turn.invariant.on _ c.in-Ok-Ends.ended (search rules) _ c.ended_as.ensures
@@ -28,7 +30,8 @@ loop-turn-preserved g c =
       idle = c.in-Ok-GoesOn.ensures.idle;
       loan = search rules;
       countable = omega (arith, before, taken);
-      on = one_more g.C.Connect.opens g.C.Connect.closes g.C.Input.Read.remaining g.C.Output.Write.contents k.leaves
+      on = one_more g.C.Connections.opens g.C.Connections.closes g.C.Input.Read.remaining g.C.Output.Write.contents
+          k.leaves
           k.is_clean k.saves k.fails c.args.form c.args.reading.now.region c.args.reading.now.size
           c.args.reading.now.strict _
           c.loop-turn._turn _ c.loop-turn.invariant.on _ (search rules);
@@ -39,7 +42,8 @@ returns-clause-runs g c =
     let k = g.K.KeepServer in
     let most = c.loop-turn.auto._turn-end in
     let least = c.loop-turn-test.false in
-    gives_up g.C.Connect.opens g.C.Connect.closes g.C.Input.Read.remaining g.C.Output.Write.contents k.leaves k.is_clean
+    gives_up g.C.Connections.opens g.C.Connections.closes g.C.Input.Read.remaining g.C.Output.Write.contents k.leaves
+    k.is_clean
     k.saves k.fails c.args.form c.args.reading.now.region c.args.reading.now.size c.args.reading.now.strict _
     c.loop-turn._turn _
     c.loop-turn.invariant.on (omega (arith, most, least))

@@ -10,7 +10,8 @@ invariant-loop-turn g l =
       idle : l.sender.sender.server.held ≡ [];
       loan : l.sender.loan ≡ l.fn.sender.loan;
       countable : l.progress.taken ≤ l.fn.progress.taken + 8 * l._turn;
-      on : GoesOnFor g.C.Connect.opens g.C.Connect.closes g.C.Input.Read.remaining g.C.Output.Write.contents k.leaves
+      on : GoesOnFor g.C.Connections.opens g.C.Connections.closes g.C.Input.Read.remaining g.C.Output.Write.contents
+          k.leaves
           k.is_clean k.saves k.fails l.form l.reading.region l.reading.size l.reading.strict l._turn (record {
             sends = record {
               runs = l.fn.sender;

@@ -9,7 +9,8 @@ pub loop-rest-init : goal.loop-rest-init
 loop-rest-init g c = record {
   idle = c.requires.idle;
   loan = search rules;
-  so = begins g.C.Connect.opens g.C.Connect.closes g.C.Input.Read.remaining g.C.Output.Write.contents c.args.form
+  so = begins g.C.Connections.opens g.C.Connections.closes g.C.Input.Read.remaining g.C.Output.Write.contents
+      c.args.form
       c.args.size
       c.args.station.now c.args.sender.now c.args.lines.now c.args.all.now;
 }
@@ -22,11 +23,12 @@ returns-in-Err-clause-sends g c =
     let some : rest ≢ [] = search rules in
     let front : c.split_at.result.0.now ≡ take (min c.args.size (length rest)) rest = search rules in
     let gives = c.in-Err.ensures.outstanding in
-    stops g.C.Connect.opens g.C.Connect.closes g.C.Input.Read.remaining g.C.Output.Write.contents c.args.form
+    stops g.C.Connections.opens g.C.Connections.closes g.C.Input.Read.remaining g.C.Output.Write.contents c.args.form
     c.args.size
     c.args.station.now c.args.sender.now c.args.lines.now now.lines c.args.all.now now.all rest now.sender
     now.invariant.so some next.sender c.in-Err.reason
-    (subst (λ batch. GivesUp g.C.Connect.opens g.C.Connect.closes g.C.Input.Read.remaining g.C.Output.Write.contents
+    (subst (λ batch. GivesUp g.C.Connections.opens g.C.Connections.closes g.C.Input.Read.remaining
+    g.C.Output.Write.contents
     now.sender batch c.in-Err.reason next.sender) (front ∙ take_min c.args.size rest) gives.0) next.lines gives.1
     next.all gives.2
 
@@ -42,15 +44,16 @@ loop-rest-preserved g c =
     record {
       idle = c.in-Ok.ensures.idle;
       loan = c.send_one.ensures.loan ∙ now.invariant.loan;
-      so = subst (λ more. SoFar g.C.Connect.opens g.C.Connect.closes g.C.Input.Read.remaining
+      so = subst (λ more. SoFar g.C.Connections.opens g.C.Connections.closes g.C.Input.Read.remaining
           g.C.Output.Write.contents c.args.form c.args.size c.args.station.now c.args.sender.now c.args.lines.now
           next.lines
           c.args.all.now next.all more next.sender) (sym (back ∙ drop_min c.args.size rest))
-          (one_more g.C.Connect.opens g.C.Connect.closes g.C.Input.Read.remaining g.C.Output.Write.contents c.args.form
+          (one_more g.C.Connections.opens g.C.Connections.closes g.C.Input.Read.remaining g.C.Output.Write.contents
+          c.args.form
           c.args.size
           c.args.station.now c.args.sender.now c.args.lines.now now.lines c.args.all.now now.all rest now.sender
           now.invariant.so c.requires.some some next.sender told tries _ (search rules)
-          (subst (λ batch. Acknowledges g.C.Connect.opens g.C.Connect.closes g.C.Input.Read.remaining
+          (subst (λ batch. Acknowledges g.C.Connections.opens g.C.Connections.closes g.C.Input.Read.remaining
           g.C.Output.Write.contents now.sender batch told tries next.sender) (front ∙ take_min c.args.size rest)
           acknowledges) next.lines lines next.all all);
     }
@@ -58,6 +61,7 @@ loop-rest-preserved g c =
 pub returns-clause-sends : goal.returns-clause-sends
 returns-clause-sends g c =
     let now = c.loop-rest in
-    ends g.C.Connect.opens g.C.Connect.closes g.C.Input.Read.remaining g.C.Output.Write.contents c.args.form c.args.size
+    ends g.C.Connections.opens g.C.Connections.closes g.C.Input.Read.remaining g.C.Output.Write.contents c.args.form
+    c.args.size
     c.args.station.now c.args.sender.now c.args.lines.now now.lines c.args.all.now now.all now.rest.now now.sender
     now.invariant.so (none_by_test now.rest.now c.loop-rest-test.ensures)

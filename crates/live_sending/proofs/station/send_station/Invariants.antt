@@ -7,7 +7,8 @@ abbrev pub invariant-loop-rest : goal.invariant-loop-rest
 invariant-loop-rest g l = record {
   idle : l.sender.sender.server.held ≡ [];
   loan : l.sender.loan ≡ l.fn.sender.loan;
-  so : SoFar g.C.Connect.opens g.C.Connect.closes g.C.Input.Read.remaining g.C.Output.Write.contents l.form l.size
+  so : SoFar g.C.Connections.opens g.C.Connections.closes g.C.Input.Read.remaining g.C.Output.Write.contents l.form
+      l.size
       l.station
       l.fn.sender l.fn.lines l.lines l.fn.all l.all l.rest l.sender;
 }

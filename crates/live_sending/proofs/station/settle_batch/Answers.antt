@@ -6,16 +6,17 @@ use Rattle.live_sending.proofs.station.settle_batch.Goals as goal
 
 pub settle-requires : goal.settle-requires
 settle-requires g c =
-    let some = some_held g.C.Connect.opens g.C.Connect.closes g.C.Input.Read.remaining g.C.Output.Write.contents
+    let some = some_held g.C.Connections.opens g.C.Connections.closes g.C.Input.Read.remaining g.C.Output.Write.contents
     c.args.sender.now c.args.sender.now c.args.batch.now c.requires.some in
     λ none. some (ap (λ s. s.sender.server.held) (sym c.submit_all.ensures) ∙ none)
 
 pub returns-clause-settles : goal.returns-clause-settles
 returns-clause-settles g c =
     let s = c.settle in
-    settled_batch g.C.Connect.opens g.C.Connect.closes g.C.Input.Read.remaining g.C.Output.Write.contents
+    settled_batch g.C.Connections.opens g.C.Connections.closes g.C.Input.Read.remaining g.C.Output.Write.contents
     c.args.sender.now s.new.self c.args.batch.now s.result c.requires.idle
-    (subst (λ mid. SettlesSo g.C.Connect.opens g.C.Connect.closes g.C.Input.Read.remaining g.C.Output.Write.contents mid
+    (subst (λ mid. SettlesSo g.C.Connections.opens g.C.Connections.closes g.C.Input.Read.remaining
+    g.C.Output.Write.contents mid
     s.new.self s.result) c.submit_all.ensures
     (record {
       freed = s.ensures.freed;

@@ -9,7 +9,7 @@ pub returns-in-Some-state : goal.returns-in-Some-state
 returns-in-Some-state g c =
     let k = g.S.ServerKeeper.KeepServer in
     let run = c.run_live_in in
-    let sent : SendsFrom g.C.Connect.opens g.C.Connect.closes g.C.Input.Read.remaining g.C.Output.Write.contents
+    let sent : SendsFrom g.C.Connections.opens g.C.Connections.closes g.C.Input.Read.remaining g.C.Output.Write.contents
     (g.S.OpenStates.gives_server c.args.states.now) (g.S.OpenStates.refuses_server c.args.states.now)
     (g.S.OpenStates.closes_server c.args.states.now) k.leaves k.is_clean k.saves k.fails
     (Some c.as_str-path.result.now) c.in-Some.address c.options_of-options.result c.args.connect.now
@@ -25,7 +25,8 @@ returns-in-Some-state g c =
       c.options_of-options.result,
       c.options_of-options.ensures,
       c.in-Some.ensures.some,
-      subst (λ state. SendsFrom g.C.Connect.opens g.C.Connect.closes g.C.Input.Read.remaining g.C.Output.Write.contents
+      subst (λ state. SendsFrom g.C.Connections.opens g.C.Connections.closes g.C.Input.Read.remaining
+          g.C.Output.Write.contents
           (g.S.OpenStates.gives_server c.args.states.now) (g.S.OpenStates.refuses_server c.args.states.now)
           (g.S.OpenStates.closes_server c.args.states.now) k.leaves k.is_clean k.saves k.fails state
           (address_of c.args.job.now.site c.args.job.now.encoder)
@@ -33,7 +34,7 @@ returns-in-Some-state g c =
           (g.F.Feed.remaining run.new.feed) (g.W.Write.contents c.args.writer.now)
           (g.W.Write.contents run.new.writer) (g.E.Write.contents c.args.errors.now)
           (g.E.Write.contents run.new.errors) run.result) (sym path)
-          (subst (λ address. SendsFrom g.C.Connect.opens g.C.Connect.closes g.C.Input.Read.remaining
+          (subst (λ address. SendsFrom g.C.Connections.opens g.C.Connections.closes g.C.Input.Read.remaining
           g.C.Output.Write.contents (g.S.OpenStates.gives_server c.args.states.now)
           (g.S.OpenStates.refuses_server c.args.states.now) (g.S.OpenStates.closes_server c.args.states.now) k.leaves
           k.is_clean k.saves k.fails (Some c.as_str-path.result.now) address c.options_of-options.result
@@ -52,7 +53,8 @@ returns-in-None g c =
       c.options_of-options.result,
       c.options_of-options.ensures,
       c.in-Some.ensures.some,
-      subst (λ state. SendsFrom g.C.Connect.opens g.C.Connect.closes g.C.Input.Read.remaining g.C.Output.Write.contents
+      subst (λ state. SendsFrom g.C.Connections.opens g.C.Connections.closes g.C.Input.Read.remaining
+          g.C.Output.Write.contents
           (g.S.OpenStates.gives_server c.args.states.now) (g.S.OpenStates.refuses_server c.args.states.now)
           (g.S.OpenStates.closes_server c.args.states.now) k.leaves k.is_clean k.saves k.fails state
           (address_of c.args.job.now.site c.args.job.now.encoder)
@@ -60,7 +62,7 @@ returns-in-None g c =
           (g.F.Feed.remaining run.new.feed) (g.W.Write.contents c.args.writer.now)
           (g.W.Write.contents run.new.writer) (g.E.Write.contents c.args.errors.now)
           (g.E.Write.contents run.new.errors) run.result) (sym none)
-          (subst (λ address. SendsFrom g.C.Connect.opens g.C.Connect.closes g.C.Input.Read.remaining
+          (subst (λ address. SendsFrom g.C.Connections.opens g.C.Connections.closes g.C.Input.Read.remaining
           g.C.Output.Write.contents (g.S.OpenStates.gives_server c.args.states.now)
           (g.S.OpenStates.refuses_server c.args.states.now) (g.S.OpenStates.closes_server c.args.states.now) k.leaves
           k.is_clean k.saves k.fails None address c.options_of-options.result

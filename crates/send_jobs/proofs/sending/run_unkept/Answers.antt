@@ -8,7 +8,7 @@ returns g c =
     let run = c.run_live in (
       _,
       run.new.keeper,
-      subst (λ (s : ServerState). Lives g.C.Connect.opens g.C.Connect.closes g.C.Input.Read.remaining
+      subst (λ (s : ServerState). Lives g.C.Connections.opens g.C.Connections.closes g.C.Input.Read.remaining
           g.C.Output.Write.contents (λ k left. Unit {0}) (λ k. ⊥) (λ k left k'. k' ≡ k) (λ k left k'. ⊥)
           c.args.options.now c.args.connect.now run.new.connect (record {
             runs = s;

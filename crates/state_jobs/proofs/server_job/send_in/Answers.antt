@@ -45,7 +45,7 @@ returns-else-progress-ge-TAKEN_MAX-clause-sent g c =
     let sends : (closed : Closed) → g.S.OpenStates.closes_server c.args.states.now run.new.keeper closed
     → Sends (g.S.OpenStates.gives_server c.args.states.now) (g.S.OpenStates.closes_server c.args.states.now) k.leaves
     k.is_clean k.saves k.fails
-    g.C.Connect.opens g.C.Connect.closes g.C.Input.Read.remaining g.C.Output.Write.contents c.args.path.now
+    g.C.Connections.opens g.C.Connections.closes g.C.Input.Read.remaining g.C.Output.Write.contents c.args.path.now
     c.args.address c.args.options.now.limits c.args.options.now.window c.args.options.now.join
     (g.R.Read.remaining c.args.reader.now) (g.R.Read.remaining run.new.reader) c.args.connect.now run.new.connect
     (g.W.Write.contents c.args.writer.now) (g.W.Write.contents run.new.writer) went closed =
@@ -84,8 +84,9 @@ returns-else-progress-ge-TAKEN_MAX-clause-sent g c =
               inr (subst (λ x. Sends
                   (g.S.OpenStates.gives_server c.args.states.now) (g.S.OpenStates.closes_server c.args.states.now)
                   k.leaves
-                  k.is_clean k.saves k.fails g.C.Connect.opens
-                  g.C.Connect.closes g.C.Input.Read.remaining g.C.Output.Write.contents c.args.path.now c.args.address
+                  k.is_clean k.saves k.fails g.C.Connections.opens
+                  g.C.Connections.closes g.C.Input.Read.remaining g.C.Output.Write.contents c.args.path.now
+                  c.args.address
                   c.args.options.now.limits c.args.options.now.window c.args.options.now.join
                   (g.R.Read.remaining c.args.reader.now) (g.R.Read.remaining run.new.reader) c.args.connect.now
                   run.new.connect (g.W.Write.contents c.args.writer.now) (g.W.Write.contents run.new.writer) x

@@ -7,7 +7,7 @@ use Rattle.uecp_cli.proofs.program.run_any.Goals as goal
 pub returns-in-Encoder-clause-failed : goal.returns-in-Encoder-clause-failed
 returns-in-Encoder-clause-failed g c = λ three.
     let is = c.in-Encoder.is in
-    let ended = rw is at (c.run_encoder.ensures.failed three) in
+    let ended = rw is at (c.run_encoder_over.ensures.failed three) in
     elim ended.serves [
       | inl (listening, (is_setup, (outcomes, e', last, fewer, sessions, none, appends))) ↦
           inr (inr (inl (

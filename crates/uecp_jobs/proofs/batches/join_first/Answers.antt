@@ -14,7 +14,7 @@ returns-in_err-check-clause-joins g c =
     let j = c.join-joined in
     let held = g.W.Write.contents in
     let asked : c.args.join ≡ true = search rules in
-    let joins : Joins g.C.Connect.opens g.C.Connect.closes g.C.Input.Read.remaining g.C.Output.Write.contents
+    let joins : Joins g.C.Connections.opens g.C.Connections.closes g.C.Input.Read.remaining g.C.Output.Write.contents
     c.args.sender.now j.new.self j.result =
     record {
       first = j.ensures.joins.0;
@@ -27,7 +27,7 @@ returns-in_err-check-clause-joins g c =
     let same : c.from_residual.result ≡ Err OutOfMemory = search rules in
     let tells : Tells (joining_line j.result) (joining_end j.result) (held c.args.writer.now) (held c.args.writer.now)
     c.from_residual.result = inr (([], joining_line j.result, refl, Appends-nil _), inr same) in
-    joins_so g.C.Connect.opens g.C.Connect.closes g.C.Input.Read.remaining g.C.Output.Write.contents c.args.join
+    joins_so g.C.Connections.opens g.C.Connections.closes g.C.Input.Read.remaining g.C.Output.Write.contents c.args.join
     c.args.sender.now j.new.self j.result (held c.args.writer.now) (held c.args.writer.now) c.from_residual.result
     asked joins tells
 
@@ -36,7 +36,7 @@ returns-in_err-write_out-clause-joins g c =
     let j = c.join-joined in
     let held = g.W.Write.contents in
     let asked : c.args.join ≡ true = search rules in
-    let joins : Joins g.C.Connect.opens g.C.Connect.closes g.C.Input.Read.remaining g.C.Output.Write.contents
+    let joins : Joins g.C.Connections.opens g.C.Connections.closes g.C.Input.Read.remaining g.C.Output.Write.contents
     c.args.sender.now j.new.self j.result =
     record {
       first = j.ensures.joins.0;
@@ -55,7 +55,7 @@ returns-in_err-write_out-clause-joins g c =
     subst (Begins (held c.args.writer.now) (held c.write_out.new.writer)) line_is c.write_out.ensures.begun in
     let tells : Tells (joining_line j.result) (joining_end j.result) (held c.args.writer.now)
     (held c.write_out.new.writer) c.from_residual-in_err-write_out.result = inr (begun, inl same) in
-    joins_so g.C.Connect.opens g.C.Connect.closes g.C.Input.Read.remaining g.C.Output.Write.contents c.args.join
+    joins_so g.C.Connections.opens g.C.Connections.closes g.C.Input.Read.remaining g.C.Output.Write.contents c.args.join
     c.args.sender.now j.new.self j.result (held c.args.writer.now) (held c.write_out.new.writer)
     c.from_residual-in_err-write_out.result asked joins tells
 
@@ -64,7 +64,7 @@ returns-clause-joins g c =
     let j = c.join-joined in
     let held = g.W.Write.contents in
     let asked : c.args.join ≡ true = search rules in
-    let joins : Joins g.C.Connect.opens g.C.Connect.closes g.C.Input.Read.remaining g.C.Output.Write.contents
+    let joins : Joins g.C.Connections.opens g.C.Connections.closes g.C.Input.Read.remaining g.C.Output.Write.contents
     c.args.sender.now j.new.self j.result =
     record {
       first = j.ensures.joins.0;
@@ -85,6 +85,6 @@ returns-clause-joins g c =
       subst (Appends (held c.args.writer.now) (held c.write_out.new.writer)) line_is written,
       c.joining_end.ensures,
     ) in
-    joins_so g.C.Connect.opens g.C.Connect.closes g.C.Input.Read.remaining g.C.Output.Write.contents c.args.join
+    joins_so g.C.Connections.opens g.C.Connections.closes g.C.Input.Read.remaining g.C.Output.Write.contents c.args.join
     c.args.sender.now j.new.self j.result (held c.args.writer.now) (held c.write_out.new.writer)
     c.joining_end.result asked joins tells

@@ -10,7 +10,7 @@ use Rattle.uecp_jobs.proofs.batches.send_batch.Goals as goal
 
 pub settle-settled-requires : goal.settle-settled-requires
 settle-settled-requires g c =
-    let some = some_held g.C.Connect.opens g.C.Connect.closes g.C.Input.Read.remaining g.C.Output.Write.contents
+    let some = some_held g.C.Connections.opens g.C.Connections.closes g.C.Input.Read.remaining g.C.Output.Write.contents
     c.args.sender.now c.args.sender.now c.args.batch.now c.requires.some in
     λ none. some (ap (λ s. s.sender.server.held) (sym c.submit_all.ensures) ∙ none)
 
@@ -21,10 +21,12 @@ returns-in_err-check-clause-sends g c =
     let same : c.from_residual.result ≡ Err OutOfMemory = search rules in
     let tells : Tells (settled_lines s.result) (ended_by s.result) (held c.args.writer.now) (held c.args.writer.now)
     c.from_residual.result = inr (([], settled_lines s.result, refl, Appends-nil _), inr same) in
-    settled_so g.C.Connect.opens g.C.Connect.closes g.C.Input.Read.remaining g.C.Output.Write.contents c.args.sender.now
+    settled_so g.C.Connections.opens g.C.Connections.closes g.C.Input.Read.remaining g.C.Output.Write.contents
+    c.args.sender.now
     s.new.self c.args.batch.now s.result (held c.args.writer.now) (held c.args.writer.now) c.from_residual.result
     c.requires.idle
-    (subst (λ mid. SettlesSo g.C.Connect.opens g.C.Connect.closes g.C.Input.Read.remaining g.C.Output.Write.contents mid
+    (subst (λ mid. SettlesSo g.C.Connections.opens g.C.Connections.closes g.C.Input.Read.remaining
+    g.C.Output.Write.contents mid
     s.new.self s.result) c.submit_all.ensures
     (record {
       freed = s.ensures.freed;
@@ -53,10 +55,12 @@ returns-in_err-write_out-clause-sends g c =
     subst (Begins (held c.args.writer.now) (held c.write_out.new.writer)) lines_are c.write_out.ensures.begun in
     let tells : Tells (settled_lines s.result) (ended_by s.result) (held c.args.writer.now)
     (held c.write_out.new.writer) c.from_residual-in_err-write_out.result = inr (begun, inl same) in
-    settled_so g.C.Connect.opens g.C.Connect.closes g.C.Input.Read.remaining g.C.Output.Write.contents c.args.sender.now
+    settled_so g.C.Connections.opens g.C.Connections.closes g.C.Input.Read.remaining g.C.Output.Write.contents
+    c.args.sender.now
     s.new.self c.args.batch.now s.result (held c.args.writer.now) (held c.write_out.new.writer)
     c.from_residual-in_err-write_out.result c.requires.idle
-    (subst (λ mid. SettlesSo g.C.Connect.opens g.C.Connect.closes g.C.Input.Read.remaining g.C.Output.Write.contents mid
+    (subst (λ mid. SettlesSo g.C.Connections.opens g.C.Connections.closes g.C.Input.Read.remaining
+    g.C.Output.Write.contents mid
     s.new.self s.result) c.submit_all.ensures
     (record {
       freed = s.ensures.freed;
@@ -88,10 +92,12 @@ returns-clause-sends g c =
       subst (Appends (held c.args.writer.now) (held c.write_out.new.writer)) lines_are written,
       c.ended_by.ensures,
     ) in
-    settled_so g.C.Connect.opens g.C.Connect.closes g.C.Input.Read.remaining g.C.Output.Write.contents c.args.sender.now
+    settled_so g.C.Connections.opens g.C.Connections.closes g.C.Input.Read.remaining g.C.Output.Write.contents
+    c.args.sender.now
     s.new.self c.args.batch.now s.result (held c.args.writer.now) (held c.write_out.new.writer) c.ended_by.result
     c.requires.idle
-    (subst (λ mid. SettlesSo g.C.Connect.opens g.C.Connect.closes g.C.Input.Read.remaining g.C.Output.Write.contents mid
+    (subst (λ mid. SettlesSo g.C.Connections.opens g.C.Connections.closes g.C.Input.Read.remaining
+    g.C.Output.Write.contents mid
     s.new.self s.result) c.submit_all.ensures
     (record {
       freed = s.ensures.freed;

@@ -18,7 +18,7 @@ returns-in_err-send_batch-clause-sends g c =
       some,
       inr (
         fault,
-        subst (λ batch. SendsBatch g.C.Connect.opens g.C.Connect.closes g.C.Input.Read.remaining
+        subst (λ batch. SendsBatch g.C.Connections.opens g.C.Connections.closes g.C.Input.Read.remaining
             g.C.Output.Write.contents now.sender batch (held now.writer) (held next.writer) (Err fault) next.sender)
             (front ∙ take_min c.args.size rest) c.in_err-send_batch.ensures.sends,
         same,
@@ -35,7 +35,8 @@ loop-rest-preserved g c =
     let some : rest ≢ [] = search rules in
     let front : c.split_at.result.0.now ≡ take (min c.args.size (length rest)) rest = search rules in
     let back : c.split_at.result.1.now ≡ drop (min c.args.size (length rest)) rest = search rules in
-    let sent : SendsBatch g.C.Connect.opens g.C.Connect.closes g.C.Input.Read.remaining g.C.Output.Write.contents
+    let sent : SendsBatch g.C.Connections.opens g.C.Connections.closes g.C.Input.Read.remaining
+    g.C.Output.Write.contents
     now.sender c.split_at.result.0.now (held now.writer) (held next.writer) (Ok tt) next.sender =
     c.in_ok-send_batch.ensures.sends in
     record {
@@ -47,10 +48,10 @@ loop-rest-preserved g c =
             inl (
               next.sender,
               held next.writer,
-              subst (λ batch. SendsBatch g.C.Connect.opens g.C.Connect.closes g.C.Input.Read.remaining
+              subst (λ batch. SendsBatch g.C.Connections.opens g.C.Connections.closes g.C.Input.Read.remaining
                   g.C.Output.Write.contents now.sender batch (held now.writer) (held next.writer) (Ok tt) next.sender)
                   (front ∙ take_min c.args.size rest) sent,
-              subst (λ more. SendsOut g.C.Connect.opens g.C.Connect.closes g.C.Input.Read.remaining
+              subst (λ more. SendsOut g.C.Connections.opens g.C.Connections.closes g.C.Input.Read.remaining
                   g.C.Output.Write.contents c.args.size n next.sender more (held next.writer) held' result end)
                   (back ∙ drop_min c.args.size rest) later,
             ),

@@ -11,9 +11,11 @@ invariant-loop-rest g l = record {
   loan : l.sender.loan ≡ l.fn.sender.loan;
   on : (end : SenderOver g.row.C.Denot g.row.C-Input.Denot g.row.C-Output.Denot) (held' : Option (List ℕ))
       (result : Result (Unit {0}) RunFault) (batches : ℕ) →
-      SendsOut g.C.Connect.opens g.C.Connect.closes g.C.Input.Read.remaining g.C.Output.Write.contents l.size batches
+      SendsOut g.C.Connections.opens g.C.Connections.closes g.C.Input.Read.remaining g.C.Output.Write.contents l.size
+      batches
       l.sender l.rest (g.W.Write.contents l.writer) held' result end →
-      (all : ℕ) × SendsOut g.C.Connect.opens g.C.Connect.closes g.C.Input.Read.remaining g.C.Output.Write.contents
+      (all : ℕ) × SendsOut g.C.Connections.opens g.C.Connections.closes g.C.Input.Read.remaining
+      g.C.Output.Write.contents
       l.size all l.fn.sender l.messages (g.W.Write.contents l.fn.writer) held' result end;
 }
 

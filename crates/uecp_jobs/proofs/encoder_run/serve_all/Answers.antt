@@ -9,8 +9,8 @@ use Rattle.uecp_jobs.proofs.encoder_run.serve_all.Goals as goal
 
 pub returns-in_err-encoder-in-Encoder : goal.returns-in_err-encoder-in-Encoder
 returns-in_err-encoder-in-Encoder g c =
-    let opens = g.C.Connect.opens in
-    let closes = g.C.Connect.closes in
+    let opens = g.C.Connections.opens in
+    let closes = g.C.Connections.closes in
     let left = g.C.Input.Read.remaining in
     let sent = g.C.Output.Write.contents in
     let held = g.W.Write.contents in
@@ -37,8 +37,8 @@ returns-in_err-encoder-in-Encoder g c =
 
 pub returns-in-Ok : goal.returns-in-Ok
 returns-in-Ok g c =
-    let opens = g.C.Connect.opens in
-    let closes = g.C.Connect.closes in
+    let opens = g.C.Connections.opens in
+    let closes = g.C.Connections.closes in
     let left = g.C.Input.Read.remaining in
     let sent = g.C.Output.Write.contents in
     let held = g.W.Write.contents in
@@ -58,8 +58,8 @@ returns-in-Ok g c =
 
 pub returns-in-Encoder : goal.returns-in-Encoder
 returns-in-Encoder g c =
-    let opens = g.C.Connect.opens in
-    let closes = g.C.Connect.closes in
+    let opens = g.C.Connections.opens in
+    let closes = g.C.Connections.closes in
     let left = g.C.Input.Read.remaining in
     let sent = g.C.Output.Write.contents in
     let held = g.W.Write.contents in

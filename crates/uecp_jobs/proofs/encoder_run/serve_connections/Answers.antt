@@ -23,7 +23,7 @@ returns-in_default-clause-refused g c = λ _.
       outcomes,
       c.loop-before.connect,
       omega (arith, number, c.loop-before-test.true),
-      subst (λ e. Sessions g.T.Target.step g.C.Connect.opens g.C.Connect.closes g.C.Input.Read.remaining
+      subst (λ e. Sessions g.T.Target.step g.C.Connections.opens g.C.Connections.closes g.C.Input.Read.remaining
           g.C.Output.Write.contents c.args.turns c.args.encoder.now c.args.connect.now outcomes e c.loop-before.connect)
           (sym same) sessions,
       opened,
@@ -39,7 +39,7 @@ returns-then-is_err-clause-broken g c = λ _.
     let line : List ℕ = connection_line (c.loop-before.before + 1) outcome in (
       outcomes ++ outcome ∷ [],
       omega (arith, number, c.loop-before-test.true, length-append outcomes (outcome ∷ [])),
-      sessions_on g.T.Target.step g.C.Connect.opens g.C.Connect.closes g.C.Input.Read.remaining
+      sessions_on g.T.Target.step g.C.Connections.opens g.C.Connections.closes g.C.Input.Read.remaining
           g.C.Output.Write.contents c.args.turns _ c.loop-before.encoder _ _ c.loop-before.connect _ outcomes outcome
           sessions served,
       begun_on (held c.args.writer.now) (held c.loop-before.writer) (held c.loop-before.writer) outcomes outcome
@@ -58,7 +58,7 @@ returns-then-is_err-2-clause-broken g c = λ _.
     (c.put_connection.ensures whole).1 ∙ ap (λ l. l ++ line) empty in (
       outcomes ++ outcome ∷ [],
       omega (arith, number, c.loop-before-test.true, length-append outcomes (outcome ∷ [])),
-      sessions_on g.T.Target.step g.C.Connect.opens g.C.Connect.closes g.C.Input.Read.remaining
+      sessions_on g.T.Target.step g.C.Connections.opens g.C.Connections.closes g.C.Input.Read.remaining
           g.C.Output.Write.contents c.args.turns _ c.loop-before.encoder _ _ c.loop-before.connect _ outcomes outcome
           sessions served,
       begun_on (held c.args.writer.now) (held c.loop-before.writer) (held c.write_out.new.writer) outcomes outcome
@@ -80,7 +80,7 @@ loop-before-preserved g c =
     let next : 1 + length outcomes ≡ c.loop-before.before + 1 = omega (arith, number) in (
       outcomes ++ outcome ∷ [],
       omega (arith, number, length-append outcomes (outcome ∷ [])),
-      sessions_on g.T.Target.step g.C.Connect.opens g.C.Connect.closes g.C.Input.Read.remaining
+      sessions_on g.T.Target.step g.C.Connections.opens g.C.Connections.closes g.C.Input.Read.remaining
           g.C.Output.Write.contents c.args.turns _ c.loop-before.encoder _ _ c.loop-before.connect _ outcomes outcome
           sessions served,
       subst (Appends (g.W.Write.contents c.args.writer.now) (g.W.Write.contents c.write_out.new.writer))

@@ -8,7 +8,8 @@ use Rattle.uecp_jobs.proofs.encoder_run.serve_connections.Given as goal
 abbrev pub invariant-loop-before : goal.invariant-loop-before
 invariant-loop-before g l = (outcomes : List Outcome)
     × (length outcomes ≡ l.before)
-    × Sessions g.T.Target.step g.C.Connect.opens g.C.Connect.closes g.C.Input.Read.remaining g.C.Output.Write.contents
+    × Sessions g.T.Target.step g.C.Connections.opens g.C.Connections.closes g.C.Input.Read.remaining
+    g.C.Output.Write.contents
     l.fn.turns l.fn.encoder l.fn.connect outcomes l.encoder l.connect
     × Appends (g.W.Write.contents l.fn.writer) (g.W.Write.contents l.writer) (connection_lines 1 outcomes)
     × (l.output.bytes ≡ [])

@@ -16,18 +16,19 @@ returns-in_err-send_messages-in-Server-clause-some g c =
     let same : c.from_residual-in_err-send_messages-in-Server.result ≡ Err fault = search rules in
     let messages_are = c.as_slice-list.ensures.value ∙ c.in_ok-messages-in-Server.ensures.messages
     ∙ ap (λ bytes. messages_first (texts_of bytes)) c.as_slice.ensures.value in
-    let sends = sends_by g.C.Connect.opens g.C.Connect.closes g.C.Input.Read.remaining g.C.Output.Write.contents
+    let sends = sends_by g.C.Connections.opens g.C.Connections.closes g.C.Input.Read.remaining g.C.Output.Write.contents
     c.in-Some.address i.site i.encoder i.port i.tries i.timeout i.turns i.reconnects i.window c.batch_size.result
     i.reconnect_silent i.join c.as_slice-list.result.now input.input.items c.args.connect.now now.connect
     (held c.args.writer.now)
     (held now.writer) (Err fault)
     c.in-Some.ensures.value c.batch_size.ensures messages_are c.in_err-send_messages-in-Server.ensures in
     sent_to (◌≡◌ {A = g.row.R.Denot} c.read_all.new.reader c.args.reader.now)
-    (◌≡◌ {A = g.row.W.Denot} now.writer c.args.writer.now) g.C.Connect.opens g.C.Connect.closes
+    (◌≡◌ {A = g.row.W.Denot} now.writer c.args.writer.now) g.C.Connections.opens g.C.Connections.closes
     g.C.Input.Read.remaining g.C.Output.Write.contents c.args.job.now c.args.connect.now now.connect
     (left c.args.reader.now) (left c.read_all.new.reader) (held c.args.writer.now) (held now.writer)
     c.from_residual-in_err-send_messages-in-Server.result fault same
-    (subst (λ job. SendsUpTo g.C.Connect.opens g.C.Connect.closes g.C.Input.Read.remaining g.C.Output.Write.contents job
+    (subst (λ job. SendsUpTo g.C.Connections.opens g.C.Connections.closes g.C.Input.Read.remaining
+    g.C.Output.Write.contents job
     c.args.connect.now now.connect (left c.args.reader.now) (left c.read_all.new.reader) (held c.args.writer.now)
     (held now.writer) fault) (sym i.is)
     (input.input.items, inr (c.in-Some.ensures.some, input.ensures.input, sends)))
@@ -43,7 +44,7 @@ returns-clause-all g c =
     ∙ ap (λ bytes. messages_first (texts_of bytes)) c.as_slice.ensures.value in
     let refused_is = c.in_ok-messages-in-Server.ensures.refused_line
     ∙ ap (λ bytes. refusal_in (texts_of bytes)) c.as_slice.ensures.value in
-    let sends = sends_by g.C.Connect.opens g.C.Connect.closes g.C.Input.Read.remaining g.C.Output.Write.contents
+    let sends = sends_by g.C.Connections.opens g.C.Connections.closes g.C.Input.Read.remaining g.C.Output.Write.contents
     c.in-Some.address i.site i.encoder i.port i.tries i.timeout i.turns i.reconnects i.window c.batch_size.result
     i.reconnect_silent i.join c.as_slice-list.result.now input.input.items c.args.connect.now now.connect
     (held c.args.writer.now)
@@ -52,7 +53,7 @@ returns-clause-all g c =
     ok_map c.refusal.result (λ _. c.in_ok-messages-in-Server.messages.refused ≡ None) _
     (λ _ none. record {
       input = input.input.items;
-      sends = subst (λ job. Sends g.C.Connect.opens g.C.Connect.closes g.C.Input.Read.remaining
+      sends = subst (λ job. Sends g.C.Connections.opens g.C.Connections.closes g.C.Input.Read.remaining
           g.C.Output.Write.contents job
           input.input.items c.args.connect.now now.connect (left c.args.reader.now) (left c.read_all.new.reader)
           (held c.args.writer.now) (held now.writer) (Ok tt)) (sym i.is)
@@ -71,14 +72,15 @@ returns-clause-some g c =
     ∙ ap (λ bytes. messages_first (texts_of bytes)) c.as_slice.ensures.value in
     let refused_is = c.in_ok-messages-in-Server.ensures.refused_line
     ∙ ap (λ bytes. refusal_in (texts_of bytes)) c.as_slice.ensures.value in
-    let sends = sends_by g.C.Connect.opens g.C.Connect.closes g.C.Input.Read.remaining g.C.Output.Write.contents
+    let sends = sends_by g.C.Connections.opens g.C.Connections.closes g.C.Input.Read.remaining g.C.Output.Write.contents
     c.in-Some.address i.site i.encoder i.port i.tries i.timeout i.turns i.reconnects i.window c.batch_size.result
     i.reconnect_silent i.join c.as_slice-list.result.now input.input.items c.args.connect.now now.connect
     (held c.args.writer.now)
     (held now.writer) (Ok tt)
     c.in-Some.ensures.value c.batch_size.ensures messages_are c.in_ok-send_messages-in-Server.ensures in
     err_map c.refusal.result (λ fault. c.in_ok-messages-in-Server.messages.refused ≡ Some fault) _
-    (λ fault some. inr (inr (subst (λ job. SendsUpTo g.C.Connect.opens g.C.Connect.closes g.C.Input.Read.remaining
+    (λ fault some. inr (inr (subst (λ job. SendsUpTo g.C.Connections.opens g.C.Connections.closes
+    g.C.Input.Read.remaining
     g.C.Output.Write.contents job c.args.connect.now now.connect (left c.args.reader.now)
     (left c.read_all.new.reader) (held c.args.writer.now) (held now.writer) fault) (sym i.is)
     (input.input.items, inl ((c.in-Some.ensures.some, input.ensures.input, sends), sym refused_is ∙ some)))))

@@ -15,7 +15,8 @@ returns g c =
     c.new.ensures in (
       loan,
       sent.new.sender,
-      subst (λ s. RunsSender g.C.Connect.opens g.C.Connect.closes g.C.Input.Read.remaining g.C.Output.Write.contents
+      subst (λ s. RunsSender g.C.Connections.opens g.C.Connections.closes g.C.Input.Read.remaining
+          g.C.Output.Write.contents
           c.args.join c.args.size s c.args.messages.now (g.W.Write.contents c.args.writer.now)
           (g.W.Write.contents sent.new.writer) sent.result sent.new.sender) start_is sent.ensures.runs,
       (end, hangs_up, c.connect-1.given.1 (sym given ∙ sym sent.ensures.loan ∙ sym same) ∙ end_is),

@@ -7,7 +7,7 @@ use Rattle.faulty_lines.proofs.faulty.Faulty.open_next.Goals as goal
 
 pub loop-refused-preserved : goal.loop-refused-preserved
 loop-refused-preserved g c =
-    let k = g.C.Connect in
+    let k = g.C.Connections in
     record {
       refused = subst (λ n. Refuses k.opens k.closes n c.args.self.now.connect c.close.new.self)
           (sym (add-one c.loop-refused._refused))

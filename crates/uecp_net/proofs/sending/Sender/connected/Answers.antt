@@ -3,7 +3,8 @@ use Rattle.uecp_net.proofs.sending.Sender.connected.Goals as goal
 
 pub returns-clause-opens : goal.returns-clause-opens
 returns-clause-opens g c =
-    opened g.C.Input.Read.remaining g.C.Output.Write.contents g.C.Connect.opens g.C.Connect.closes c.args.self.now _
+    opened g.C.Input.Read.remaining g.C.Output.Write.contents g.C.Connections.opens g.C.Connections.closes
+    c.args.self.now _
     c.in_ok-input.input c.in_ok-input.output c.new.result c.new-2.result c.open.new.self c.line_lost.new.self
     c.self.view_is c.requires c.in_ok-input.ensures
     c.new.ensures.device c.new.ensures.calls c.new.ensures.failures c.new.ensures.empty c.new-2.ensures.device

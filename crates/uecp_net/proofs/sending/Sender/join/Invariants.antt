@@ -15,10 +15,11 @@ invariant-connections g l = record {
   stays : record l.self.sender { server = l.fn.self.sender.server; left = l.fn.self.sender.left } ≡ l.fn.self.sender;
   on : (end : SenderOver g.row.C.Denot g.row.C-Input.Denot g.row.C-Output.Denot)
       (result : Result (Unit {0}) Outstanding) (ended : ℕ) →
-      JoinsOver g.C.Connect.opens g.C.Connect.closes g.C.Input.Read.remaining g.C.Output.Write.contents ended l.reason
+      JoinsOver g.C.Connections.opens g.C.Connections.closes g.C.Input.Read.remaining g.C.Output.Write.contents ended
+      l.reason
       l.self end result →
       (first : SenderOver g.row.C.Denot g.row.C-Input.Denot g.row.C-Output.Denot) × (all : ℕ)
-      × HangsUp g.C.Connect.closes l.fn.self first × JoinsOver g.C.Connect.opens g.C.Connect.closes
+      × HangsUp g.C.Connections.closes l.fn.self first × JoinsOver g.C.Connections.opens g.C.Connections.closes
       g.C.Input.Read.remaining g.C.Output.Write.contents all ConnectionFailed first end result;
 }
 

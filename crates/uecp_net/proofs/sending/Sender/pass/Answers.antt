@@ -6,7 +6,8 @@ pub returns-clause-passes : goal.returns-clause-passes
 returns-clause-passes g c =
     let (start, opened, has, now_is) = c.in_ok-ends.ensures.opens in (
       c.join-went.result,
-      passed g.C.Input.Read.remaining g.C.Output.Write.contents g.C.Connect.opens g.C.Connect.closes c.args.self.now
+      passed g.C.Input.Read.remaining g.C.Output.Write.contents g.C.Connections.opens g.C.Connections.closes
+          c.args.self.now
           start _ _ _ _ _ _ c.requires.none opened has (c.self.view_is ∙ now_is) c.saturating_mul-turns.ensures
           c.join-went.ensures.passes,
       sym c.end_of_pass.ensures,

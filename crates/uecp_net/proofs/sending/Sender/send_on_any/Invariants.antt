@@ -13,9 +13,11 @@ invariant-connections g l = record {
   stays : record l.self.sender { server = l.fn.self.sender.server; left = l.fn.self.sender.left } ≡ l.fn.self.sender;
   on : (end : SenderOver g.row.C.Denot g.row.C-Input.Denot g.row.C-Output.Denot) (marks : Marks)
       (result : Result ℕ Outstanding) (ended : ℕ) →
-      Delivers g.C.Connect.opens g.C.Connect.closes g.C.Input.Read.remaining g.C.Output.Write.contents ended l.reason
+      Delivers g.C.Connections.opens g.C.Connections.closes g.C.Input.Read.remaining g.C.Output.Write.contents ended
+      l.reason
       l.self end l.marks.items marks result →
-      (all : ℕ) × Delivers g.C.Connect.opens g.C.Connect.closes g.C.Input.Read.remaining g.C.Output.Write.contents all
+      (all : ℕ) × Delivers g.C.Connections.opens g.C.Connections.closes g.C.Input.Read.remaining
+      g.C.Output.Write.contents all
       ConnectionFailed l.fn.self end [] marks result;
 }
 

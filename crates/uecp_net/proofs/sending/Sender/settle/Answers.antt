@@ -15,11 +15,13 @@ codes_of-requires g c =
 pub returns-in_err-tries-clause-loan : goal.returns-in_err-tries-clause-loan
 returns-in_err-tries-clause-loan g c =
     let (ended, delivers) = c.send_on_any.ensures.delivers in
-    delivers_loan g.C.Connect.opens g.C.Connect.closes g.C.Input.Read.remaining g.C.Output.Write.contents ended _ _
+    delivers_loan g.C.Connections.opens g.C.Connections.closes g.C.Input.Read.remaining g.C.Output.Write.contents ended
+    _ _
     c.send_on_any.new.self _ _ _ delivers
 
 pub returns-clause-loan : goal.returns-clause-loan
 returns-clause-loan g c =
     let (ended, delivers) = c.send_on_any.ensures.delivers in
-    delivers_loan g.C.Connect.opens g.C.Connect.closes g.C.Input.Read.remaining g.C.Output.Write.contents ended _ _
+    delivers_loan g.C.Connections.opens g.C.Connections.closes g.C.Input.Read.remaining g.C.Output.Write.contents ended
+    _ _
     c.send_on_any.new.self _ _ _ delivers

@@ -1,6 +1,6 @@
 use Rattle.std.proofs.Common.{◌≡◌, ℕ, ◌+◌, ◌-◌, ◌*◌, ◌<◌, ◌≤◌, length}
 use Rattle.live_edges.specs.Patience.{Dialled, DialsOn}
-use Rattle.live_edges.proofs.patient.PatientConnect.open.Given as goal
+use Rattle.live_edges.proofs.patient.PatientConnections.open.Given as goal
 
 abbrev pub invariant-loop-try : goal.invariant-loop-try
 invariant-loop-try g l = DialsOn l.fn.self l.self

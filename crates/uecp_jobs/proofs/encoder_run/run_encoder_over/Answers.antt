@@ -1,6 +1,6 @@
 use Rattle.std.proofs.Common.{◌≡◌, sym, ap, ◌∙◌}
 use Rattle.uecp_jobs.proofs.EncoderRun.{encoder_not_one, encoder_undescribed, encoder_failed, few_statuses}
-use Rattle.uecp_jobs.proofs.encoder_run.run_encoder.Goals as goal
+use Rattle.uecp_jobs.proofs.encoder_run.run_encoder_over.Goals as goal
 
 pub returns-in-Err-clause-status : goal.returns-in-Err-clause-status
 returns-in-Err-clause-status g c =
@@ -9,7 +9,8 @@ returns-in-Err-clause-status g c =
     let now = c.serve_all.new in
     let fault = c.in-Err.fault in (
       few_statuses fault c.fail.result c.fail.ensures.status,
-      λ one. encoder_not_one g.C.Connect.opens g.C.Connect.closes g.C.Input.Read.remaining g.C.Output.Write.contents
+      λ one. encoder_not_one g.C.Connections.opens g.C.Connections.closes g.C.Input.Read.remaining
+          g.C.Output.Write.contents
           c.args.job.now c.requires c.args.connect.now now.connect (held c.args.writer.now) (held now.writer)
           (told c.args.errors.now) (told c.fail.new.errors)
           (◌≡◌ {A = g.row.W.Denot} now.writer c.args.writer.now)
@@ -23,7 +24,8 @@ returns-in-Err-clause-undescribed g c = λ two.
     let told = g.E.Write.contents in
     let now = c.serve_all.new in
     let fault = c.in-Err.fault in
-    let by = encoder_undescribed g.C.Connect.opens g.C.Connect.closes g.C.Input.Read.remaining g.C.Output.Write.contents
+    let by = encoder_undescribed g.C.Connections.opens g.C.Connections.closes g.C.Input.Read.remaining
+    g.C.Output.Write.contents
     c.args.job.now c.requires c.args.connect.now now.connect (held c.args.writer.now) (held now.writer)
     (told c.args.errors.now) (told c.fail.new.errors)
     (◌≡◌ {A = g.row.W.Denot} now.writer c.args.writer.now) (◌≡◌ {A = g.row.C.Denot} now.connect c.args.connect.now)
@@ -36,7 +38,7 @@ returns-in-Err-clause-failed g c = λ three.
     let told = g.E.Write.contents in
     let now = c.serve_all.new in
     let fault = c.in-Err.fault in
-    encoder_failed g.C.Connect.opens g.C.Connect.closes g.C.Input.Read.remaining g.C.Output.Write.contents
+    encoder_failed g.C.Connections.opens g.C.Connections.closes g.C.Input.Read.remaining g.C.Output.Write.contents
     c.args.job.now c.requires c.args.connect.now now.connect (held c.args.writer.now) (held now.writer)
     (told c.args.errors.now) (told c.fail.new.errors)
     (◌≡◌ {A = g.row.W.Denot} now.writer c.args.writer.now) (◌≡◌ {A = g.row.C.Denot} now.connect c.args.connect.now)

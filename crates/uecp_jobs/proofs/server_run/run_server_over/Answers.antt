@@ -1,13 +1,13 @@
 use Rattle.std.proofs.Common.{◌≡◌, sym, ◌∙◌}
 use Rattle.uecp_jobs.proofs.ServerRun.{acknowledged_all, sent_before, undescribed, not_sent}
-use Rattle.uecp_jobs.proofs.server_run.run_server.Goals as goal
+use Rattle.uecp_jobs.proofs.server_run.run_server_over.Goals as goal
 
 pub returns-in-Ok-clause-acknowledged : goal.returns-in-Ok-clause-acknowledged
 returns-in-Ok-clause-acknowledged g c = λ is.
     let left = g.R.Read.remaining in
     let held = g.W.Write.contents in
     let now = c.send_all.new in
-    acknowledged_all g.C.Connect.opens g.C.Connect.closes g.C.Input.Read.remaining g.C.Output.Write.contents
+    acknowledged_all g.C.Connections.opens g.C.Connections.closes g.C.Input.Read.remaining g.C.Output.Write.contents
     c.args.job.now c.args.connect.now now.connect (left c.args.reader.now) (left now.reader)
     (held c.args.writer.now) (held now.writer) c.in-Ok.ensures.all
 
@@ -17,7 +17,8 @@ returns-in-Err-clause-sent_before g c = λ is.
     let held = g.W.Write.contents in
     let told = g.E.Write.contents in
     let now = c.send_all.new in
-    (sent_before g.C.Connect.opens g.C.Connect.closes g.C.Input.Read.remaining g.C.Output.Write.contents c.args.job.now
+    (sent_before g.C.Connections.opens g.C.Connections.closes g.C.Input.Read.remaining g.C.Output.Write.contents
+    c.args.job.now
     c.args.connect.now now.connect (left c.args.reader.now) (left now.reader) (held c.args.writer.now)
     (held now.writer) (told c.args.errors.now) (told c.fail.new.errors) c.requires
     (◌≡◌ {A = g.row.R.Denot} now.reader c.args.reader.now) (◌≡◌ {A = g.row.W.Denot} now.writer c.args.writer.now)
@@ -30,7 +31,8 @@ returns-in-Err-clause-acknowledged_before g c = λ is.
     let held = g.W.Write.contents in
     let told = g.E.Write.contents in
     let now = c.send_all.new in
-    (sent_before g.C.Connect.opens g.C.Connect.closes g.C.Input.Read.remaining g.C.Output.Write.contents c.args.job.now
+    (sent_before g.C.Connections.opens g.C.Connections.closes g.C.Input.Read.remaining g.C.Output.Write.contents
+    c.args.job.now
     c.args.connect.now now.connect (left c.args.reader.now) (left now.reader) (held c.args.writer.now)
     (held now.writer) (told c.args.errors.now) (told c.fail.new.errors) c.requires
     (◌≡◌ {A = g.row.R.Denot} now.reader c.args.reader.now) (◌≡◌ {A = g.row.W.Denot} now.writer c.args.writer.now)
@@ -43,7 +45,8 @@ returns-in-Err-clause-not_sent g c = λ is.
     let held = g.W.Write.contents in
     let told = g.E.Write.contents in
     let now = c.send_all.new in
-    (not_sent g.C.Connect.opens g.C.Connect.closes g.C.Input.Read.remaining g.C.Output.Write.contents c.args.job.now
+    (not_sent g.C.Connections.opens g.C.Connections.closes g.C.Input.Read.remaining g.C.Output.Write.contents
+    c.args.job.now
     c.args.connect.now now.connect (left c.args.reader.now) (left now.reader) (held c.args.writer.now)
     (held now.writer) (told c.args.errors.now) (told c.fail.new.errors) c.requires
     (◌≡◌ {A = g.row.R.Denot} now.reader c.args.reader.now) (◌≡◌ {A = g.row.W.Denot} now.writer c.args.writer.now)
@@ -56,7 +59,8 @@ returns-in-Err-clause-not_acknowledged g c = λ is.
     let held = g.W.Write.contents in
     let told = g.E.Write.contents in
     let now = c.send_all.new in
-    (not_sent g.C.Connect.opens g.C.Connect.closes g.C.Input.Read.remaining g.C.Output.Write.contents c.args.job.now
+    (not_sent g.C.Connections.opens g.C.Connections.closes g.C.Input.Read.remaining g.C.Output.Write.contents
+    c.args.job.now
     c.args.connect.now now.connect (left c.args.reader.now) (left now.reader) (held c.args.writer.now)
     (held now.writer) (told c.args.errors.now) (told c.fail.new.errors) c.requires
     (◌≡◌ {A = g.row.R.Denot} now.reader c.args.reader.now) (◌≡◌ {A = g.row.W.Denot} now.writer c.args.writer.now)
@@ -69,7 +73,7 @@ returns-in-Err-clause-undescribed g c = λ is.
     let held = g.W.Write.contents in
     let told = g.E.Write.contents in
     let now = c.send_all.new in
-    let by = undescribed g.C.Connect.opens g.C.Connect.closes g.C.Input.Read.remaining g.C.Output.Write.contents
+    let by = undescribed g.C.Connections.opens g.C.Connections.closes g.C.Input.Read.remaining g.C.Output.Write.contents
     c.args.job.now c.args.connect.now now.connect (left c.args.reader.now) (left now.reader)
     (held c.args.writer.now) (held now.writer) (told c.args.errors.now) (told c.fail.new.errors) c.requires
     (◌≡◌ {A = g.row.R.Denot} now.reader c.args.reader.now) (◌≡◌ {A = g.row.W.Denot} now.writer c.args.writer.now)

@@ -1,9 +1,9 @@
 use Rattle.std.proofs.Common.{rules, ◌≡◌, subst, sym}
 use Rattle.live_edges.specs.Patience.{Dialled, DialsOn}
 use Rattle.live_edges.proofs.Dialling.{dials_same, dials_then}
-use Rattle.live_edges.proofs.patient.PatientConnect.open.Goals.{in-Silent+else-self, in-Try+else-is_some+in-Some-1}
-use Rattle.live_edges.proofs.patient.PatientConnect.open.Goals.{in-Try+else-is_some+in-None-1}
-use Rattle.live_edges.proofs.patient.PatientConnect.open.Goals as goal
+use Rattle.live_edges.proofs.patient.PatientConnections.open.Goals.{in-Silent+else-self, in-Try+else-is_some+in-Some-1}
+use Rattle.live_edges.proofs.patient.PatientConnections.open.Goals.{in-Try+else-is_some+in-None-1}
+use Rattle.live_edges.proofs.patient.PatientConnections.open.Goals as goal
 
 pub loop-try-init : goal.loop-try-init
 loop-try-init g c = c.tell_lost.ensures
