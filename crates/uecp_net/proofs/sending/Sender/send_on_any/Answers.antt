@@ -58,11 +58,11 @@ connections-preserved g c =
     (hung_sender g.C.Input.Read.remaining g.C.Output.Write.contents g.C.Connections.opens g.C.Connections.closes
     c.send_on_one.new.self c.hang_up.new.self c.hang_up.ensures) in
     let stays = hung_sender g.C.Input.Read.remaining g.C.Output.Write.contents g.C.Connections.opens
-        g.C.Connections.closes
+    g.C.Connections.closes
     c.send_on_one.new.self c.hang_up.new.self c.hang_up.ensures in
     let again : opens_another c.hang_up.new.self.sender c.reason_of-reason.result ≡ true = search rules in
     let next_is = one_fewer g.C.Input.Read.remaining g.C.Output.Write.contents g.C.Connections.opens
-        g.C.Connections.closes _
+    g.C.Connections.closes _
     c.hang_up.new.self c.self.view_is in
     record {
       busy = search rules;
