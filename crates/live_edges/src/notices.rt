@@ -4,6 +4,7 @@ ghost use Rattle.std.specs.Io.KnownBytes.{Appends};
 
 use arrayvec::ArrayVec;
 use itoa::Buffer;
+use std::fmt::InlineText;
 use std::io::Write;
 use std::time::Clock;
 use uecp_net::DialFault;
@@ -12,6 +13,9 @@ use uecp_watch::stamp_of;
 
 /// How many bytes a notice has at most; a name of a host has 253.
 const LINE_MAX: usize = 512;
+
+/// How many bytes the words for a fault of a connection have at most, with the colon before them.
+const WHY_MAX: usize = 32;
 
 /// What was said last of a line.
 #[derive(Clone, Copy, Debug, PartialEq, Eq)]
@@ -43,15 +47,12 @@ pub(crate) fn say_away<C: Clock, W: Write>(
 )
     ensures { (lines : List ℕ) × Appends (W.contents notices.old) (W.contents notices.new) lines }
 {
-    let why = words_of(fault);
-    say_place(
-        clock,
-        b"no connection to ",
-        host,
-        port,
-        why.as_bytes(),
-        notices,
-    );
+    let why = match fault {
+        Some(fault) => InlineText::<WHY_MAX>::new().and_str(": ", 2).and(fault, WHY_MAX),
+        None => InlineText::new(),
+    };
+    let words = why.as_str().as_bytes();
+    say_place(clock, b"no connection to ", host, port, words, notices);
 }
 
 /// Says that the connection was lost.
@@ -128,17 +129,5 @@ fn say<C: Clock, W: Write>(clock: &C, parts: &[&[u8]], notices: &mut W)
 fn put(part: &[u8], line: &mut ArrayVec<u8, LINE_MAX>) {
     for byte in part {
         let _ = line.try_push(*byte);
-    }
-}
-
-/// Why a connection could not be made, behind a colon.
-fn words_of(fault: Option<DialFault>) -> &'static str {
-    match fault {
-        Some(DialFault::NoSuchHost) => ": no such host",
-        Some(DialFault::Refused) => ": refused",
-        Some(DialFault::TimedOut) => ": timed out",
-        Some(DialFault::Unreachable) => ": unreachable",
-        Some(DialFault::Failed) => ": failed",
-        None => "",
     }
 }
