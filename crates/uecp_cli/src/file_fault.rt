@@ -5,24 +5,33 @@ ghost use Rattle.uecp_cli.specs.FileLines.{place_line};
 ghost use Rattle.uecp_cli.specs.declared.file_fault.FileFault.TheVariants.{Entries, OutOfMemory};
 ghost use Rattle.uecp_cli.specs.declared.file_fault.ReadFault.TheVariants as unread;
 
-use clap::Error;
 use itoa::Buffer;
 use option_files::{EntriesFault, Place, place_at, place_of};
 use std::alloc::{AllocError, Global};
+use std::fmt::InlineText;
 use std::io::Write;
+use thiserror::Error;
 use uecp_jobs::fail;
 use uecp_text::{RunFault, write_parts};
 
-/// Why a file gives no options.
-#[derive(Debug, Drop)]
+/// How many bytes the text of a `ReadFault` has at most.
+const READ_FAULT_MAX: usize = 32;
+
+/// Why a file gives no options. Its text is what is said of it behind the place; where it is clap's, the first line of
+/// that without the word before it.
+#[derive(Debug, Drop, Error)]
 pub(crate) enum FileFault {
     /// Its text gives no entries.
+    #[error(transparent)]
     Entries(EntriesFault),
     /// The command refuses the option of this name: it has none, or not with this value.
-    Refused(String, Error),
+    #[error("{1}")]
+    Refused(String, clap::Error),
     /// The services are not two-digit hexadecimal numbers between single commas.
+    #[error("{}", RunFault::NotAList)]
     NotAList,
     /// There was no memory.
+    #[error("{}", RunFault::OutOfMemory)]
     OutOfMemory,
 }
 
@@ -42,14 +51,17 @@ impl From<AllocError> for FileFault {
     }
 }
 
-/// Why the bytes of a file are not had.
-#[derive(Clone, Copy, Debug, Drop, PartialEq, Eq)]
+/// Why the bytes of a file are not had. Its text is what is said of it behind the path.
+#[derive(Clone, Copy, Debug, Drop, PartialEq, Eq, Error)]
 pub(crate) enum ReadFault {
     /// It can't be read.
+    #[error("can't be read")]
     Unreadable,
     /// It is larger than 65,536 bytes.
+    #[error("larger than 65,536 bytes")]
     TooLong,
     /// There was no memory.
+    #[error("{}", RunFault::OutOfMemory)]
     OutOfMemory,
 }
 
@@ -64,91 +76,41 @@ pub(crate) fn say_of_file<E: Write>(
 ) -> u8
     ensures { (2 ≤ result) × (result ≤ 3) }
 {
-    match fault {
-        FileFault::Entries(why) => say_of_entries(alloc, path, text, why, errors),
-        FileFault::Refused(name, error) => match told(alloc, error) {
-            Ok(words) => say_of(alloc, path, text, name.as_str(), "", words.as_str(), errors),
-            Err(_) => fail(&RunFault::OutOfMemory, errors),
-        },
-        FileFault::NotAList => {
-            let name = "services";
-            say_of(alloc, path, text, name, name, ": NotAList", errors)
-        }
-        FileFault::OutOfMemory => fail(&RunFault::OutOfMemory, errors),
+    match (place_in(alloc, text, fault), words_of(alloc, fault)) {
+        (Some(place), Ok(words)) => say_at(path, place, "", words.as_str(), errors),
+        _ => fail(&RunFault::OutOfMemory, errors),
     }
 }
 
-/// Says why the text of the file at this path gives no entries, and answers the exit status.
-fn say_of_entries<E: Write>(
-    alloc: Global,
-    path: &str,
-    text: &str,
-    why: &EntriesFault,
-    errors: &mut E,
-) -> u8
-    ensures { (2 ≤ result) × (result ≤ 3) }
-{
-    match why {
-        EntriesFault::NotToml(error) => {
+/// The place in a text that the fault is of: what is no TOML, or the entry of a key. None where there was no memory.
+fn place_in(alloc: Global, text: &str, fault: &FileFault) -> Option<Place> {
+    let key = match fault {
+        FileFault::Entries(EntriesFault::NotToml(error)) => {
             let at = match error.span() {
                 Some(span) => span.start,
                 None => 0,
             };
-            say_at(
-                path,
-                place_at(text.as_bytes(), at),
-                "",
-                error.message(),
-                errors,
-            )
+            return Some(place_at(text.as_bytes(), at));
         }
-        EntriesFault::NotAName(name) => match format!(in alloc; "{name:?}") {
-            Ok(shown) => {
-                let words = " is no option that a file may give";
-                say_of(
-                    alloc,
-                    path,
-                    text,
-                    name.as_str(),
-                    shown.as_str(),
-                    words,
-                    errors,
-                )
-            }
-            Err(_) => fail(&RunFault::OutOfMemory, errors),
-        },
-        EntriesFault::NotAValue(name) => {
-            let name = name.as_str();
-            let words = " takes a string, an integer, true or false";
-            say_of(alloc, path, text, name, name, words, errors)
-        }
-        EntriesFault::OutOfMemory => fail(&RunFault::OutOfMemory, errors),
-    }
+        FileFault::Entries(EntriesFault::NotAName(name)) => name.as_str(),
+        FileFault::Entries(EntriesFault::NotAValue(name)) => name.as_str(),
+        FileFault::Refused(name, _) => name.as_str(),
+        FileFault::NotAList => "services",
+        FileFault::Entries(EntriesFault::OutOfMemory) | FileFault::OutOfMemory => return None,
+    };
+    place_of(alloc, text, key).ok()
 }
 
-/// Says something of the entry of this key in the text of the file at this path, and answers the exit status.
-fn say_of<E: Write>(
-    alloc: Global,
-    path: &str,
-    text: &str,
-    key: &str,
-    name: &str,
-    words: &str,
-    errors: &mut E,
-) -> u8
-    ensures { (2 ≤ result) × (result ≤ 3) }
-{
-    match place_of(alloc, text, key) {
-        Ok(place) => say_at(path, place, name, words, errors),
-        Err(_) => fail(&RunFault::OutOfMemory, errors),
+/// What is said of the fault: its text; where that is clap's, the first line of it without the word before it.
+fn words_of(alloc: Global, fault: &FileFault) -> Result<String, AllocError> {
+    let whole = format!(in alloc; "{fault}")?;
+    match fault {
+        FileFault::Refused(_, _) => {
+            let line = first_line(whole.as_str());
+            String::from_str(alloc, line.strip_prefix("error: ").unwrap_or(line))
+        }
+        _ => Ok(whole),
     }
-}
-
-/// The first line of what clap says, without the word before it.
-fn told(alloc: Global, error: &Error) -> Result<String, AllocError> {
-    let whole = format!(in alloc; "{error}")?;
-    let line = first_line(whole.as_str());
-    String::from_str(alloc, line.strip_prefix("error: ").unwrap_or(line))
 }
 
 /// The first line of a text.
@@ -205,13 +167,15 @@ pub(crate) fn say_unread<E: Write>(path: &str, fault: ReadFault, errors: &mut E)
     ensures long { fault ≡ unread.TooLong → result ≡ 2 }
     ensures memory { fault ≡ unread.OutOfMemory → result ≡ 3 }
 {
+    let words = InlineText::<READ_FAULT_MAX>::of(fault);
+    let words = words.as_str().as_bytes();
     match fault {
         ReadFault::Unreadable => {
-            let _ = write_parts(&[b"uecp: ", path.as_bytes(), b": can't be read\n"], errors);
+            let _ = write_parts(&[b"uecp: ", path.as_bytes(), b": ", words, b"\n"], errors);
             3
         }
         ReadFault::TooLong => {
-            let _ = write_parts(&[path.as_bytes(), b": larger than 65,536 bytes\n"], errors);
+            let _ = write_parts(&[path.as_bytes(), b": ", words, b"\n"], errors);
             2
         }
         ReadFault::OutOfMemory => fail(&RunFault::OutOfMemory, errors),

@@ -36,7 +36,7 @@ ghost use Rattle.uecp_cli.specs.CommandLine.{Asks, IsEnd};
 use crate::command_line::parse;
 use crate::task::Task;
 use crate::unreached::say_unreached;
-use crate::usage::Usage;
+use crate::usage::{NO_FORM, Usage};
 use air_jobs::AirJob;
 use clap::Error;
 use conformance_running::ConformanceJob;
@@ -498,7 +498,7 @@ pub fn refuse<W: Write, E: Write>(usage: &Usage, writer: &mut W, errors: &mut E)
         },
         Usage::NotAList => fail(&RunFault::NotAList, errors),
         Usage::NotAForm => {
-            let _ = write_parts(&[b"uecp: ladder: svg or text\n"], errors);
+            let _ = write_parts(&[b"uecp: ", NO_FORM.as_bytes(), b"\n"], errors);
             2
         }
         Usage::OutOfMemory => fail(&RunFault::OutOfMemory, errors),
