@@ -95,7 +95,8 @@ module _ {K C I O : Type 0} (gives : (path : List ℕ) → EncoderState Store �
   has_served path (MakeWords region) c c' held held' s = absurd s
   has_served path (Line site encoder sets services store) c c' held held' s = absurd s
   has_served path (LineAs site encoder sets services store form) c c' held held' s = absurd s
-  has_served path (Server site encoder host port tries timeout turns reconnects window join) c c' held held' s =
+  has_served path (Server site encoder host port tries timeout turns reconnects window join reconnect_silent verbose) c
+      c' held held' s =
       absurd s
 
   stops_why : (refuses : StateFault → Type 0) (path : List ℕ) (job : Job) (c c' : C)

@@ -75,6 +75,6 @@ abbrev pub HasSentKept : {K : Type 0} → (gives : (path : List ℕ) → ServerS
     → (leaves : K → sending.KeptServer → Type 0) → (is_clean : K → Type 0) → (path : List ℕ) → Job
     → (unread unread' : Option (List ℕ)) → Type 0
 HasSentKept gives leaves is_clean path
-    (Server site encoder host port tries timeout turns reconnects window join) unread unread' =
+    (Server site encoder host port tries timeout turns reconnects window join reconnect_silent verbose) unread unread' =
     SentKept gives leaves is_clean path (address_of site encoder) unread unread'
 HasSentKept gives leaves is_clean path job unread unread' = ⊥

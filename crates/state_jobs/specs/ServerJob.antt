@@ -61,11 +61,17 @@ module _ {K C I O : Type 0} (gives : (path : List ℕ) → ServerState → Progr
   -- so, for the options of the job
   abbrev pub SendsJob : (path : List ℕ) → Job → (unread unread' : Option (List ℕ)) → (c c' : C)
       → (held held' : Option (List ℕ)) → Went → Closed → Type 0
-  SendsJob path (Server site encoder host port tries timeout turns reconnects window join) unread unread' c c' held
+  SendsJob path (Server site encoder host port tries timeout turns reconnects window join reconnect_silent verbose)
+      unread unread' c c' held
       held'
       went closed =
       IsOneEncoder site encoder
-      × Sends path (address_of site encoder) (record { tries = tries; turns = turns; reconnects = reconnects }) window
+      × Sends path (address_of site encoder) (record {
+        tries = tries;
+        turns = turns;
+        reconnects = reconnects;
+        reconnect_silent = reconnect_silent;
+      }) window
       join
       unread unread' c c' held held' went closed
   SendsJob path job unread unread' c c' held held' went closed = ⊥

@@ -84,6 +84,7 @@ pub fn run_server_in<S: OpenStates, R: Read, W: Write, E: Write, C: Connections>
             reconnects,
             window,
             join,
+            reconnect_silent,
             ..
         } => {
             let Some(address) = address_of(*site, *encoder) else {
@@ -94,6 +95,7 @@ pub fn run_server_in<S: OpenStates, R: Read, W: Write, E: Write, C: Connections>
                     tries: *tries,
                     turns: *turns,
                     reconnects: *reconnects,
+                    reconnect_silent: *reconnect_silent,
                 },
                 window: *window,
                 join: *join,
