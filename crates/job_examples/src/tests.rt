@@ -6,6 +6,7 @@ ghost use Rattle.uecp_jobs.specs.ServerRun.{IsServer};
 
 mod asserting;
 mod failing;
+mod faults;
 mod flushing;
 mod limits;
 mod memory;
