@@ -1,5 +1,5 @@
 -- What the job `send` does, and how it ends (profile).
-use Rattle.std.specs.Prelude.{◌≡◌, ◌⊎◌, ℕ, ◌≤◌, ◌^◌, ◌-◌, List, Option, Some, None, Result, false, option_map}
+use Rattle.std.specs.Prelude.{◌≡◌, ◌⊎◌, ℕ, ◌≤◌, ◌^◌, ◌-◌, List, Option, Some, None, Result, true, false, option_map}
 use Rattle.std.specs.String.{string_bytes}
 use Rattle.uecp_text.specs.Faults.{error_lines}
 use Rattle.uecp_text.specs.declared.run_fault.RunFault.TheVariants as run
@@ -20,9 +20,15 @@ pub record IsSendable (job : SendJob) : Type 0 where
   pub some : 1 ≤ job.window
   pub most : job.window ≤ 8
 
--- The options of its run are those of the job; connections are made again as often as they can be counted.
+-- The options of its run are those of the job; connections are made again as often as they can be counted, also where
+-- one is silent.
 pub record IsFor (job : SendJob) (station : List (List ℕ)) (options : LiveOptions) : Type 0 where
-  pub limits : options.limits ≡ record { tries = job.tries; turns = job.turns; reconnects = 2 ^ 32 - 1 }
+  pub limits : options.limits ≡ record {
+    tries = job.tries;
+    turns = job.turns;
+    reconnects = 2 ^ 32 - 1;
+    reconnect_silent = true;
+  }
   pub reading : options.reading ≡ record { region = job.region; size = job.window; strict = job.strict }
   pub join : options.join ≡ job.join
   pub rejoin : options.rejoin ≡ job.rejoin

@@ -67,6 +67,7 @@ fn options_of<'a>(job: &SendJob, station: &'a [Message]) -> LiveOptions<'a>
             tries: job.tries,
             turns: job.turns,
             reconnects: u32::MAX,
+            reconnect_silent: true,
         },
         reading: Reading {
             region: job.region,
