@@ -17,6 +17,7 @@ const ONCE: Limits = Limits {
     tries: 1,
     turns: 8,
     reconnects: 0,
+    reconnect_silent: false,
 };
 /// A file that is new.
 const NEW: Progress = Progress {

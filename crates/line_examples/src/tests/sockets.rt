@@ -130,6 +130,7 @@ fn a_sender_and_an_encoder_over_one_connection(rt: HostRuntime) -> Result<(), Fa
         tries: 1,
         turns: 1,
         reconnects: 0,
+        reconnect_silent: false,
     };
     let mut sender = Sender::new(&mut dialing, Server::new(own_address()), limits);
     is_outstanding(&rt, &mut sender);
