@@ -97,7 +97,13 @@ def bytes_of(case, site, encoder):
 
 
 def wanted(case):
-    return [(counter, int(words[1], 16)) for first, words in case["steps"] if first == "reply" for counter in span(words[0])]
+    """The replies that must come: each its counter and its code, or None for any code but 00."""
+    steps = [(words[0], int(words[1], 16) if first == "reply" else None) for first, words in case["steps"] if first in ("reply", "refusal")]
+    return [(counter, code) for row, code in steps for counter in span(row)]
+
+
+def is_wanted(came, want):
+    return isinstance(came, tuple) and came[0] == want[0] and (came[1] == want[1] or (want[1] is None and came[1] != 0))
 
 
 def told(data, own):
@@ -141,11 +147,18 @@ def run(case, host, port, site, encoder, quiet):
         came = read_until(line, b"", lambda data: data.count(b"\xff") >= len(want))
         line.settimeout(quiet)
         came = list(told(read_until(line, came, lambda data: False), own))
-    return None if came == want else f"wanted {words_of(want)}, came {words_of(came)}"
+    is_kept = len(came) == len(want) and all(map(is_wanted, came, want))
+    return None if is_kept else f"wanted {words_of(want)}, came {words_of(came)}"
 
 
 def words_of(replies):
-    return ", ".join(reply if isinstance(reply, str) else "reply {:02X} {:02X}".format(*reply) for reply in replies) or "nothing"
+    return ", ".join(map(word_of, replies)) or "nothing"
+
+
+def word_of(reply):
+    if isinstance(reply, str):
+        return reply
+    return f"refusal {reply[0]:02X}" if reply[1] is None else "reply {:02X} {:02X}".format(*reply)
 
 
 def main():
@@ -156,18 +169,21 @@ def main():
     options = arguments.parse_args()
     host, _, port = options.line.rpartition(":")
     chosen = [case for case in cases(CASES) if options.only in (None, case["case"], case["group"])]
-    print(f"1..{len(chosen)}")
-    status = 0
+    print(f"TAP version 14\n1..{len(chosen)}")
+    kept = profile = 0
     for number, case in enumerate(chosen, 1):
         try:
             wrong = run(case, host, int(port), options.site, options.encoder, options.quiet)
         except OSError as fault:
             print(f"Bail out! {fault}")
             return 3
-        notes = ["profile"] * case["profile"] + [wrong] * (wrong is not None)
-        print(f"{'not ' * (wrong is not None)}ok {number} - {case['case']}" + (" # " + ", ".join(notes) if notes else ""), flush=True)
-        status |= wrong is not None and not case["profile"]
-    return int(status)
+        name = case["case"].replace("\\", "\\\\").replace("#", "\\#")
+        notes = [("TODO " * (wrong is not None)) + "profile"] * case["profile"] + [wrong] * (wrong is not None)
+        print(f"{'not ' * (wrong is not None)}ok {number} - {name}" + (" # " + ", ".join(notes) if notes else ""), flush=True)
+        kept += wrong is None
+        profile += wrong is not None and case["profile"]
+    print(f"# {kept} kept, {len(chosen) - kept} not kept, {profile} of them profile")
+    return int(kept + profile < len(chosen))
 
 
 if __name__ == "__main__":

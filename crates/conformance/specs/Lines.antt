@@ -8,7 +8,7 @@ use Rattle.conformance.specs.declared.case.To.TheVariants.{Own, All, AllEncoders
 use Rattle.conformance.specs.declared.case.Edit.{Edit}
 use Rattle.conformance.specs.declared.case.Edit.TheVariants.{Whole, Length, Check, Byte, Cut}
 use Rattle.conformance.specs.declared.case.Step.{Step}
-use Rattle.conformance.specs.declared.case.Step.TheVariants.{Send, Bytes, Reply, Nothing}
+use Rattle.conformance.specs.declared.case.Step.TheVariants.{Send, Bytes, Reply, Refusal, Nothing}
 use Rattle.conformance.specs.declared.line.Line.{Line}
 use Rattle.conformance.specs.declared.line.Line.TheVariants.{Form, Name, Group, Rule, Profile, Pieces, Does}
 
@@ -71,6 +71,7 @@ SaysStep words (Bytes bytes count) =
     (word : List ℕ) × (words ≡ codes "bytes" ∷ word ∷ []) × IsCopies word bytes count
 SaysStep words (Reply row code) = (first second : List ℕ) × (words ≡ codes "reply" ∷ first ∷ second ∷ [])
     × IsRowOf first row × IsByte second code
+SaysStep words (Refusal row) = (word : List ℕ) × (words ≡ codes "refusal" ∷ word ∷ []) × IsRowOf word row
 SaysStep words Nothing = words ≡ codes "nothing" ∷ []
 
 -- ---- Lines.

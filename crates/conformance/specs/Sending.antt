@@ -8,7 +8,8 @@ use Rattle.uecp_frame.specs.Check.{check}
 use Rattle.uecp_frame.specs.Stuffing.{stuffed}
 use Rattle.uecp_frame.specs.Frame.{high_first, body, plain_bytes, spelling}
 use Rattle.uecp_link.specs.Driving.{copies}
-use Rattle.conformance.specs.declared.verdict.Reply.{Reply}
+use Rattle.conformance.specs.declared.verdict.Expected.{Expected}
+use Rattle.conformance.specs.declared.verdict.Expected.TheVariants.{This, Refusal}
 use Rattle.conformance.specs.declared.case.Counters.{Counters}
 use Rattle.conformance.specs.declared.case.To.{To}
 use Rattle.conformance.specs.declared.case.To.TheVariants.{Own, All, AllEncoders, AllSites, AnotherEncoder, AnotherSite}
@@ -16,6 +17,7 @@ use Rattle.conformance.specs.declared.case.Edit.{Edit}
 use Rattle.conformance.specs.declared.case.Edit.TheVariants.{Whole, Length, Check, Byte, Cut}
 use Rattle.conformance.specs.declared.case.Step.{Step}
 use Rattle.conformance.specs.declared.case.Step.TheVariants.{Send, Bytes, Reply as WantsReply, Nothing}
+use Rattle.conformance.specs.declared.case.Step.TheVariants.{Refusal as WantsRefusal}
 
 -- The counters of a row, in order.
 abbrev pub counters_in : Counters → List ℕ
@@ -72,6 +74,7 @@ abbrev pub step_sent : (own : ℕ) → Step → List ℕ
 step_sent own (Send row message edit) = flat_map (λ counter. frame_sent own counter message edit) (counters_in row)
 step_sent own (Bytes bytes count) = copies bytes count
 step_sent own (WantsReply row code) = []
+step_sent own (WantsRefusal row) = []
 step_sent own Nothing = []
 
 -- The bytes that the steps of a case send, in order.
@@ -79,10 +82,11 @@ abbrev pub case_sent : (own : ℕ) → List Step → List ℕ
 case_sent own steps = flat_map (step_sent own) steps
 
 -- The replies that a step wants.
-abbrev pub step_wants : Step → List Reply
-step_wants (WantsReply row code) = map (λ counter. record { counter = counter; code = code }) (counters_in row)
+abbrev pub step_wants : Step → List Expected
+step_wants (WantsReply row code) = map (λ counter. This (record { counter = counter; code = code })) (counters_in row)
+step_wants (WantsRefusal row) = map (λ counter. Refusal counter) (counters_in row)
 step_wants step = []
 
 -- The replies that the steps of a case want, in order.
-abbrev pub case_wants : List Step → List Reply
+abbrev pub case_wants : List Step → List Expected
 case_wants steps = flat_map step_wants steps

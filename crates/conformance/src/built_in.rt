@@ -443,9 +443,102 @@ reply 01 03
 send 01 -
 reply 01 03
 
+# What an encoder holds is seen only where a buffer is full, and how many texts a device holds is its own. So the
+# message comes 40 times: one that acts each time leaves no room for the next text where the buffer holds up to 41. What
+# is asked of a device is that it holds three texts, and bits 6 and 5 of a RadioText's head: 00 replaces, 10 adds. Those
+# bits are this project's reading (docs/PROTOCOL.md); a device that takes every text as one that replaces keeps the case
+# too.
 case a retry acts once
 group retries
-rule A message that adds a text adds it once, however often it comes.
+rule A message that adds a text adds it once, however often it comes: there is room for the next.
+send 01 0A000003004849
+reply 01 00
+send 02 0A000003404849
+send 02 0A000003404849
+send 02 0A000003404849
+send 02 0A000003404849
+send 02 0A000003404849
+send 02 0A000003404849
+send 02 0A000003404849
+send 02 0A000003404849
+send 02 0A000003404849
+send 02 0A000003404849
+send 02 0A000003404849
+send 02 0A000003404849
+send 02 0A000003404849
+send 02 0A000003404849
+send 02 0A000003404849
+send 02 0A000003404849
+send 02 0A000003404849
+send 02 0A000003404849
+send 02 0A000003404849
+send 02 0A000003404849
+send 02 0A000003404849
+send 02 0A000003404849
+send 02 0A000003404849
+send 02 0A000003404849
+send 02 0A000003404849
+send 02 0A000003404849
+send 02 0A000003404849
+send 02 0A000003404849
+send 02 0A000003404849
+send 02 0A000003404849
+send 02 0A000003404849
+send 02 0A000003404849
+send 02 0A000003404849
+send 02 0A000003404849
+send 02 0A000003404849
+send 02 0A000003404849
+send 02 0A000003404849
+send 02 0A000003404849
+send 02 0A000003404849
+send 02 0A000003404849
+reply 02 00
+reply 02 00
+reply 02 00
+reply 02 00
+reply 02 00
+reply 02 00
+reply 02 00
+reply 02 00
+reply 02 00
+reply 02 00
+reply 02 00
+reply 02 00
+reply 02 00
+reply 02 00
+reply 02 00
+reply 02 00
+reply 02 00
+reply 02 00
+reply 02 00
+reply 02 00
+reply 02 00
+reply 02 00
+reply 02 00
+reply 02 00
+reply 02 00
+reply 02 00
+reply 02 00
+reply 02 00
+reply 02 00
+reply 02 00
+reply 02 00
+reply 02 00
+reply 02 00
+reply 02 00
+reply 02 00
+reply 02 00
+reply 02 00
+reply 02 00
+reply 02 00
+reply 02 00
+send 03 0A000003404849
+reply 03 00
+
+case a retry takes one of eight places
+group retries
+rule A message that adds a text takes one of the eight places of its buffer, however often it comes.
 profile
 send 01 0A000000
 reply 01 00
@@ -577,6 +670,55 @@ rule Frames of a window may come in any pieces.
 in pieces of 1
 send 01..08 010000FEFF
 reply 01..08 00
+
+# ---- Refusals
+#
+# No element has the code 99, so a message that has one can't be applied, and neither can one that ends inside an
+# element: that such a message is answered by another code than 00 is the standard's, which other code is not asked.
+# Whether it left something is seen by a full buffer, as above: each of them would add eight texts, and at the end there
+# must be room for one. What is asked of a device is that it holds two texts; one that holds more than 256 is not seen.
+
+case an unknown element is refused
+group refusals
+rule A message that has an element that the encoder doesn't know is answered by another code than 00.
+send 01 99
+refusal 01
+send 02 010000C20199
+refusal 02
+send 03 99010000C201
+refusal 03
+
+case a refused message adds nothing
+group refusals
+rule A message acts whole or not at all: where one element is unknown none acts, neither before it nor behind it.
+send 01 0A000003004849
+reply 01 00
+send 02..21 0A00000240410A00000240410A00000240410A00000240410A00000240410A00000240410A00000240410A000002404199
+refusal 02..21
+send 22..41 990A00000240410A00000240410A00000240410A00000240410A00000240410A00000240410A00000240410A0000024041
+refusal 22..41
+send 42 0A000003404849
+reply 42 00
+
+case a message that is cut short adds nothing
+group refusals
+rule A message acts whole or not at all: where it ends inside an element none before that acts.
+send 01 0A000003004849
+reply 01 00
+send 02..21 0A00000240410A00000240410A00000240410A00000240410A00000240410A00000240410A00000240410A00000240410A0000
+refusal 02..21
+send 22 0A000003404849
+reply 22 00
+
+case a refusal comes again
+group refusals
+rule A message that was refused is refused again when it comes again, whatever the copy's message is.
+send 01 99
+refusal 01
+send 01 99
+refusal 01
+send 01 -
+refusal 01
 
 # ---- Store codes
 

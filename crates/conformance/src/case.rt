@@ -28,6 +28,8 @@ pub enum Step {
     Bytes(Message, u32),
     /// A reply with this code must come to each of these counters, in order.
     Reply(Counters, u8),
+    /// A reply with any code but 00 must come to each of these counters, in order.
+    Refusal(Counters),
     /// What was sent last gets no reply.
     Nothing,
 }

@@ -1,26 +1,27 @@
 //! What came of a case is held against the replies that it wants (profile).
-ghost use Rattle.std.specs.Prelude.{◌≡◌, ◌≢◌, ◌≤◌, ◌↔◌, ℕ, length, drop, Ok, IfSome, IfNone, List, [], ◌∷◌};
+ghost use Rattle.std.specs.Prelude.{◌≡◌, ◌≢◌, ◌≤◌, ◌↔◌, ℕ, length, drop, Ok, IfSome, IfNone, IsTrue, List, [], ◌∷◌};
 ghost use Rattle.uecp_frame.specs.Findings.{found, Finding};
 ghost use Rattle.conformance.specs.declared.verdict.Reply.{Reply as ReplyValue};
+ghost use Rattle.conformance.specs.declared.verdict.Expected.{Expected as ExpectedValue};
 ghost use Rattle.conformance.specs.declared.verdict.Verdict.TheVariants.{Kept};
-ghost use Rattle.conformance.specs.Judging.{reply_frame, replies_found, Stands, IsJudged};
+ghost use Rattle.conformance.specs.Judging.{reply_frame, Serves, Stands, IsJudged, AreWanted};
 
-use crate::verdict::{Reply, Verdict};
+use crate::verdict::{Expected, Reply, Verdict};
 use uecp_frame::{Address, Deframer, Found, Frame};
 
 /// The element of an acknowledgement, which a reply carries.
 const ACKNOWLEDGEMENT: u8 = 0x18;
 
 /// The verdict on the bytes that came from the encoder at this address, where these replies are wanted.
-pub fn judge(own: Address, wanted: &[Reply], came: &[u8]) -> Verdict
+pub fn judge(own: Address, wanted: &[Expected], came: &[u8]) -> Verdict
     ensures judged { IsJudged own wanted.now (found came.now) result }
-    ensures kept { (result ≡ Kept) ↔ (found came.now ≡ replies_found own wanted.now) }
+    ensures kept { (result ≡ Kept) ↔ AreWanted own wanted.now (found came.now) }
 {
     first_difference(own, wanted, came)
 }
 
 /// The verdict by the first place where what came is not what is wanted.
-fn first_difference(own: Address, wanted: &[Reply], came: &[u8]) -> Verdict
+fn first_difference(own: Address, wanted: &[Expected], came: &[u8]) -> Verdict
     ensures { IsJudged own wanted.now (found came.now) result }
 {
     let mut deframer = Deframer::new();
@@ -50,7 +51,7 @@ fn rest_of(piece: &[u8], used: usize) -> &[u8]
 }
 
 /// The replies that are wanted behind so many.
-fn next_of(wanted: &[Reply], agreed: usize) -> &[Reply]
+fn next_of(wanted: &[Expected], agreed: usize) -> &[Expected]
     requires { agreed ≤ length wanted.now }
     ensures { result.now ≡ drop agreed wanted.now }
 {
@@ -58,7 +59,7 @@ fn next_of(wanted: &[Reply], agreed: usize) -> &[Reply]
 }
 
 /// How it stands where nothing more came.
-fn at_end(wanted: &[Reply]) -> Verdict
+fn at_end(wanted: &[Expected]) -> Verdict
     ensures { (own : ℕ) → Stands own wanted.now [] result }
 {
     match wanted.first() {
@@ -67,12 +68,12 @@ fn at_end(wanted: &[Reply]) -> Verdict
     }
 }
 
-/// How it stands where this frame came next; None where it is the reply that is wanted next.
-fn disagreement(own: Address, wanted: &[Reply], frame: Frame) -> Option<Verdict>
+/// How it stands where this frame came next; None where it is a reply that is wanted next.
+fn disagreement(own: Address, wanted: &[Expected], frame: Frame) -> Option<Verdict>
     ensures stands { IfSome result (λ verdict. (after : List Finding)
         → Stands own wanted.now (Ok frame ∷ after) verdict) }
-    ensures agrees { IfNone result ((reply : ReplyValue) × (later : List ReplyValue) × (wanted.now ≡ reply ∷ later)
-        × (frame ≡ reply_frame own reply)) }
+    ensures agrees { IfNone result ((first : ExpectedValue) × (later : List ExpectedValue) × (came : ReplyValue)
+        × (wanted.now ≡ first ∷ later) × Serves first came × (frame ≡ reply_frame own came)) }
 {
     let Some(came) = reply_in(own, &frame) else {
         return Some(Verdict::NoReply);
@@ -80,12 +81,22 @@ fn disagreement(own: Address, wanted: &[Reply], frame: Frame) -> Option<Verdict>
     match wanted.first() {
         None => Some(Verdict::TooMany(came)),
         Some(reply) => {
-            if *reply == came {
+            if serves(*reply, came) {
                 None
             } else {
                 Some(Verdict::Another(*reply, came))
             }
         }
+    }
+}
+
+/// Whether a reply that came is one that is wanted.
+fn serves(wanted: Expected, came: Reply) -> bool
+    ensures { IsTrue result ↔ Serves wanted came }
+{
+    match wanted {
+        Expected::This(reply) => came == reply,
+        Expected::Refusal(counter) => came.counter == counter && came.code != 0,
     }
 }
 

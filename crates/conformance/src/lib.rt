@@ -4,7 +4,7 @@
 //! - [`CASES`]: those of this project; [`read_cases`]: the cases that a text spells, or a [`Refusal`]; [`Line`] is what
 //!   one line says, and [`CaseFault`] what is wrong with one.
 //! - [`sent`], [`wanted`]: the bytes of a case for the encoder at an address, and the replies that it wants.
-//! - [`judge`]: what came of a case, held against the replies that it wants; [`Verdict`] and [`Reply`].
+//! - [`judge`]: what came of a case, held against the replies that it wants; [`Verdict`], [`Reply`] and [`Expected`].
 #![tactic(auto)]
 
 mod built_in;
@@ -23,4 +23,4 @@ pub use judging::judge;
 pub use line::{CaseFault, Line};
 pub use reading::{Refusal, read_cases};
 pub use sending::{sent, wanted};
-pub use verdict::{Reply, Verdict};
+pub use verdict::{Expected, Reply, Verdict};

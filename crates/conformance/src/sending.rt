@@ -5,11 +5,12 @@ ghost use Rattle.uecp_frame.specs.Stuffing.{code, stuffed};
 ghost use Rattle.uecp_frame.specs.Check.{check};
 ghost use Rattle.uecp_frame.specs.Frame.{high_first};
 ghost use Rattle.uecp_link.specs.Driving.{copies};
+ghost use Rattle.conformance.specs.declared.verdict.Expected.TheVariants.{This, Refusal};
 ghost use Rattle.conformance.specs.Sending.{another, address_to, body_saying, frame_to, frame_sent, step_sent};
 ghost use Rattle.conformance.specs.Sending.{case_sent, step_wants, case_wants, counters_in, enclosed, replaced, begun};
 
 use crate::case::{Counters, Edit, Step, To};
-use crate::verdict::Reply;
+use crate::verdict::{Expected, Reply};
 use arrayvec::ArrayVec;
 use std::alloc::{AllocError, Global};
 use uecp_frame::{Address, Message, check_of};
@@ -35,7 +36,7 @@ pub fn sent(alloc: Global, own: Address, steps: &[Step]) -> Result<Vec<u8>, Allo
 }
 
 /// The replies that these steps want, in order.
-pub fn wanted(alloc: Global, steps: &[Step]) -> Result<Vec<Reply>, AllocError>
+pub fn wanted(alloc: Global, steps: &[Step]) -> Result<Vec<Expected>, AllocError>
     ensures { IfOk result (λ replies. replies.items ≡ case_wants steps.now) }
 {
     let mut replies = Vec::new(alloc);
@@ -53,16 +54,18 @@ fn put_step(own: Address, step: &Step, bytes: &mut Vec<u8>) -> Result<(), AllocE
         Step::Send(row, message, edit) => put_frames(own, *row, message, edit, bytes),
         Step::Bytes(copy, count) => put_copies(copy.bytes(), *count, bytes),
         Step::Reply(_, _) => Ok(()),
+        Step::Refusal(_) => Ok(()),
         Step::Nothing => Ok(()),
     }
 }
 
 /// Adds the replies that a step wants.
-fn put_wanted(step: &Step, replies: &mut Vec<Reply>) -> Result<(), AllocError>
+fn put_wanted(step: &Step, replies: &mut Vec<Expected>) -> Result<(), AllocError>
     ensures { IfOk result (λ _. replies.new.items ≡ replies.old.items ++ step_wants step.now) }
 {
     match step {
         Step::Reply(row, code) => put_replies(*row, *code, replies),
+        Step::Refusal(row) => put_refusals(*row, replies),
         Step::Send(_, _, _) => Ok(()),
         Step::Bytes(_, _) => Ok(()),
         Step::Nothing => Ok(()),
@@ -70,15 +73,26 @@ fn put_wanted(step: &Step, replies: &mut Vec<Reply>) -> Result<(), AllocError>
 }
 
 /// Adds a reply with this code to each of these counters.
-fn put_replies(row: Counters, code: u8, replies: &mut Vec<Reply>) -> Result<(), AllocError>
+fn put_replies(row: Counters, code: u8, replies: &mut Vec<Expected>) -> Result<(), AllocError>
     ensures { IfOk result (λ _. replies.new.items ≡ replies.old.items
-        ++ map (λ counter. record { counter = counter; code = code }) (counters_in row)) }
+        ++ map (λ counter. This (record { counter = counter; code = code })) (counters_in row)) }
 {
     for counter in u16::from(row.first)..u16::from(row.last) + 1 {
-        replies.push(Reply {
+        replies.push(Expected::This(Reply {
             counter: counter as u8,
             code,
-        })?;
+        }))?;
+    }
+    Ok(())
+}
+
+/// Adds a reply with any code but 00 to each of these counters.
+fn put_refusals(row: Counters, replies: &mut Vec<Expected>) -> Result<(), AllocError>
+    ensures { IfOk result (λ _. replies.new.items ≡ replies.old.items
+        ++ map (λ counter. Refusal counter) (counters_in row)) }
+{
+    for counter in u16::from(row.first)..u16::from(row.last) + 1 {
+        replies.push(Expected::Refusal(counter as u8))?;
     }
     Ok(())
 }

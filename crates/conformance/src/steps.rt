@@ -21,6 +21,8 @@ pub(crate) fn step_of(alloc: Global, words: &[&[u8]]) -> Option<Step>
         raw_of(alloc, rest)
     } else if name == b"reply".as_slice() {
         reply_of(rest)
+    } else if name == b"refusal".as_slice() {
+        refusal_of(rest)
     } else if name == b"nothing".as_slice() {
         nothing_of(rest)
     } else {
@@ -116,6 +118,15 @@ fn reply_of(words: &[&[u8]]) -> Option<Step>
     let row = row_of(first)?;
     let code = byte_of(second)?;
     Some(Step::Reply(row, code))
+}
+
+/// The refusals that the word behind `refusal` says.
+fn refusal_of(words: &[&[u8]]) -> Option<Step>
+    ensures { IfSome result (SaysStep (codes "refusal" ∷ texts words.now)) }
+{
+    let word = only_of(words)?;
+    let row = row_of(word)?;
+    Some(Step::Refusal(row))
 }
 
 /// No reply, where no word is behind `nothing`.

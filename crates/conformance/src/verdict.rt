@@ -10,15 +10,24 @@ pub struct Reply {
     pub code: u8,
 }
 
+/// A reply that is wanted.
+#[derive(Clone, Copy, Debug, PartialEq, Eq)]
+pub enum Expected {
+    /// This one.
+    This(Reply),
+    /// One to the message of this counter, with any code but 00.
+    Refusal(u8),
+}
+
 /// What came of a case, by the first place where it is not as it should be.
 #[derive(Clone, Copy, Debug, PartialEq, Eq)]
 pub enum Verdict {
     /// The replies that came are the wanted ones in order, and nothing else came.
     Kept,
     /// This reply is wanted, and nothing more came.
-    Missing(Reply),
-    /// The first reply is wanted, and the second came.
-    Another(Reply, Reply),
+    Missing(Expected),
+    /// The first reply is wanted, and the second, which is none such, came.
+    Another(Expected, Reply),
     /// This reply came, and none is wanted any more.
     TooMany(Reply),
     /// A frame came that is no reply of the encoder.

@@ -8,7 +8,7 @@ use Rattle.uecp_link.specs.declared.joining.Joining.{Joining}
 use Rattle.uecp_link.specs.declared.joining.Joining.TheVariants.{Joined}
 use Rattle.uecp_link.specs.Reading.{Reads}
 use Rattle.uecp_link.proofs.Reading.{one_read, failed_read, last_read, reads_on}
-use Rattle.conformance.specs.declared.verdict.Reply.{Reply}
+use Rattle.conformance.specs.declared.verdict.Expected.{Expected}
 use Rattle.conformance_running.specs.declared.running.Went.{Went}
 use Rattle.conformance_running.specs.declared.running.Went.TheVariants.{Judged, NotJoined, NotSent, NotQuiet, NotHeard}
 use Rattle.conformance_running.specs.Running.{Hears, WentOn}
@@ -41,7 +41,7 @@ module _ {R : Type 0} (remaining : R → Option (List ℕ)) (r0 r1 : Metered R) 
 
 -- what was heard behind what was sent
 pub heard_on : {I O : Type 0} (remaining : I → Option (List ℕ)) (contents : O → Option (List ℕ)) (own patience : ℕ)
-    (bytes : List ℕ) (replies : List Reply) (pass : Result Joining DriveFault) (input input' : Metered I)
+    (bytes : List ℕ) (replies : List Expected) (pass : Result Joining DriveFault) (input input' : Metered I)
     (output output' : Metered O) (went : Went) → pass ≡ Ok Joined
     → Appends (contents output.device) (contents output'.device) bytes
     → Hears remaining own patience replies input input' went
@@ -58,7 +58,7 @@ heard_on remaining contents own patience bytes replies pass i i' o o' NotHeard j
 
 -- the same of the same bytes, replies and reader
 pub went_as : {I O : Type 0} (remaining : I → Option (List ℕ)) (contents : O → Option (List ℕ)) (own patience : ℕ)
-    (bytes bytes' : List ℕ) (replies replies' : List Reply) (pass : Result Joining DriveFault)
+    (bytes bytes' : List ℕ) (replies replies' : List Expected) (pass : Result Joining DriveFault)
     (before before' input : Metered I) (output output' : Metered O) (went : Went) → bytes ≡ bytes'
     → replies ≡ replies' → before ≡ before'
     → WentOn remaining contents own patience bytes replies pass before input output output' went

@@ -5,6 +5,7 @@ use Rattle.std.proofs.lemmas.Bool.Decides.{nat_tests}
 use Rattle.hex.specs.Hex.{encode_upper}
 use Rattle.json.specs.Print.{escape_byte, escape}
 use Rattle.uecp_json.specs.Texts.{is_plain}
+use Rattle.conformance_running.specs.Telling.{tap_byte}
 use Rattle.uecp_json.proofs.Objects.{line_text, object_text}
 use Rattle.uecp_json.proofs.Plain.{plain_digits}
 
@@ -17,6 +18,10 @@ small byte below (suc k) = omega arith
 
 pub plain_digit : (byte : ℕ) → byte < 0x100 → is_plain (encode_upper (byte ∷ [])) ≡ true
 plain_digit byte below = plain_digits (byte ∷ []) (small byte below)
+
+-- A byte of a name that has no backslash before it in TAP.
+pub tap_plain : (x : ℕ) → x ≢ 0x23 → x ≢ 0x5C → tap_byte x ≡ x ∷ []
+tap_plain x sign slash = grind (arith, nat_tests)
 
 -- Nor does a character that is no control, no quote and no backslash.
 plain_byte : (x : ℕ) → 0x20 ≤ x → x ≢ 0x22 → x ≢ 0x5C → escape_byte x ≡ x ∷ []

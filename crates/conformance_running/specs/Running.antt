@@ -12,7 +12,7 @@ use Rattle.uecp_link.specs.Reading.{Reads}
 use Rattle.uecp_link.specs.Server.{ServerState, idle_at}
 use Rattle.uecp_net.specs.Sending.{unused}
 use Rattle.conformance.specs.declared.case.Step.{Step}
-use Rattle.conformance.specs.declared.verdict.Reply.{Reply}
+use Rattle.conformance.specs.declared.verdict.Expected.{Expected}
 use Rattle.conformance.specs.declared.verdict.Verdict.{Verdict}
 use Rattle.conformance.specs.declared.verdict.Verdict.TheVariants as verdict
 use Rattle.conformance.specs.Sending.{case_sent, case_wants}
@@ -39,7 +39,7 @@ IsAwaited patience failed false verdict = (1 ≤ failed) × (IsMissing verdict �
 
 -- What came was read, and it went so: it was judged, once nothing more was waited for; or there was still something to
 -- read when the most reads were made; or there was no memory for all of it.
-abbrev pub Hears : {I : Type 0} → (remaining : I → Option (List ℕ)) → (own patience : ℕ) → (replies : List Reply)
+abbrev pub Hears : {I : Type 0} → (remaining : I → Option (List ℕ)) → (own patience : ℕ) → (replies : List Expected)
     → (input input' : Metered I) → Went → Type 0
 Hears remaining own patience replies input input' (Judged verdict) =
     (came : List ℕ) × (reads failed : ℕ) × (ended : Bool) × Reads remaining input input' came reads failed ended
@@ -57,7 +57,7 @@ Hears remaining own patience replies input input' (NotSent written) = ⊥
 -- Else these bytes were written, and then what came was heard; or a first part of them, where a write failed, and
 -- nothing was read.
 abbrev pub WentOn : {I O : Type 0} → (remaining : I → Option (List ℕ)) → (contents : O → Option (List ℕ))
-    → (own patience : ℕ) → (bytes : List ℕ) → (replies : List Reply) → Result Joining DriveFault
+    → (own patience : ℕ) → (bytes : List ℕ) → (replies : List Expected) → Result Joining DriveFault
     → (input input' : Metered I) → (output output' : Metered O) → Went → Type 0
 WentOn remaining contents own patience bytes replies pass input input' output output' NotJoined =
     (pass ≢ Ok Joined) × (input' ≡ input) × (output' ≡ output)

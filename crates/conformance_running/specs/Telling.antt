@@ -1,5 +1,6 @@
 -- The lines that a run writes: TAP version 14, or objects of JSON (profile).
-use Rattle.std.specs.Prelude.{ℕ, ◌&&◌, nat_le, nat_lt, Bool, true, false, List, [], ◌∷◌, ◌++◌, map, length, codes}
+use Rattle.std.specs.Prelude.{ℕ, ◌+◌, ◌==◌, ◌&&◌, ◌||◌, nat_le, nat_lt, Bool, true, false, List, [], ◌∷◌, ◌++◌, map}
+use Rattle.std.specs.Prelude.{flat_map, length, codes}
 use Rattle.std.specs.Prelude.{decimal}
 use Rattle.std.specs.Prelude.{if◌then◌else◌}
 use Rattle.serde_json.specs.Data.{string, boolean}
@@ -8,6 +9,8 @@ use Rattle.uecp_text.specs.Digits.{byte_word, decimal_word}
 use Rattle.uecp_json.specs.Objects.{Field, in_decimal, in_digits, line_of}
 use Rattle.conformance.specs.declared.case.Case.{Case}
 use Rattle.conformance.specs.declared.verdict.Reply.{Reply}
+use Rattle.conformance.specs.declared.verdict.Expected.{Expected}
+use Rattle.conformance.specs.declared.verdict.Expected.TheVariants.{This, Refusal}
 use Rattle.conformance.specs.declared.verdict.Verdict.{Verdict}
 use Rattle.conformance.specs.declared.verdict.Verdict.TheVariants.{Kept, Missing, Another, TooMany, NoReply, Dropped}
 use Rattle.conformance_running.specs.declared.running.Went.{Went}
@@ -29,11 +32,16 @@ shown text = map shown_byte text
 abbrev pub reply_words : Reply → List ℕ
 reply_words reply = codes "reply" ++ (byte_word reply.counter ++ byte_word reply.code)
 
+-- what is wanted: a reply, or any refusal of the message of a counter
+abbrev pub expected_words : Expected → List ℕ
+expected_words (This reply) = reply_words reply
+expected_words (Refusal counter) = codes "refusal" ++ byte_word counter
+
 -- the first place where what came is not what is wanted
 abbrev pub verdict_words : Verdict → List ℕ
 verdict_words Kept = []
-verdict_words (Missing reply) = codes "wanted " ++ (reply_words reply ++ codes ", came nothing")
-verdict_words (Another reply came) = codes "wanted " ++ (reply_words reply ++ (codes ", came " ++ reply_words came))
+verdict_words (Missing reply) = codes "wanted " ++ (expected_words reply ++ codes ", came nothing")
+verdict_words (Another reply came) = codes "wanted " ++ (expected_words reply ++ (codes ", came " ++ reply_words came))
 verdict_words (TooMany came) = codes "wanted nothing, came " ++ reply_words came
 verdict_words NoReply = codes "came a frame that is no reply"
 verdict_words (Dropped fault) = codes "came a segment that is no frame: " ++ name_of fault
@@ -46,23 +54,40 @@ why_words (NotSent written) = codes "not sent behind byte" ++ decimal_word writt
 why_words NotQuiet = codes "never quiet"
 why_words NotHeard = codes "out of memory"
 
--- What stands behind the name of a case: that it is this project's own, and why it is not kept.
+-- A name as a line of TAP has it: with a backslash before each `#` and each backslash.
+abbrev pub tap_byte : ℕ → List ℕ
+tap_byte byte = if byte == 0x23 || byte == 0x5C then 0x5C ∷ byte ∷ [] else byte ∷ []
+
+abbrev pub tap_name : List ℕ → List ℕ
+tap_name name = flat_map tap_byte name
+
+-- What stands behind the name of a case: that it is this project's own, by TAP's directive for a test that may fail
+-- where it is not kept; and why it is not.
 abbrev pub note : (profile : Bool) → Went → List ℕ
 note profile went =
     if is_kept went then (if profile then codes " # profile" else [])
-    else (if profile then codes " # profile, " else codes " # ") ++ why_words went
+    else (if profile then codes " # TODO profile, " else codes " # ") ++ why_words went
 
 -- The line of a case.
 abbrev pub tap_line : (number : ℕ) → Case → Went → List ℕ
 tap_line number case went = (if is_kept went then codes "ok" else codes "not ok")
-    ++ (decimal_word number ++ (codes " - " ++ (shown case.name.now ++ (note case.profile went ++ codes "\n"))))
+    ++ (decimal_word number ++ (codes " - " ++ (tap_name (shown case.name.now)
+    ++ (note case.profile went ++ codes "\n"))))
+
+-- The line of what was counted: how many cases are kept, how many are not, and how many of those don't count.
+abbrev pub tap_tally : Tally → List ℕ
+tap_tally tally = codes "#" ++ (decimal_word tally.kept ++ (codes " kept,"
+    ++ (decimal_word (tally.not_kept + tally.profile_not_kept) ++ (codes " not kept,"
+    ++ (decimal_word tally.profile_not_kept ++ codes " of them profile\n")))))
 
 -- ---- JSON.
 
 -- the reply that is wanted, and the one that came, by counter and code
-abbrev pub wanted_fields : Reply → List Field
-wanted_fields reply =
+abbrev pub wanted_fields : Expected → List Field
+wanted_fields (This reply) =
     (codes "wanted_counter", in_decimal reply.counter) ∷ (codes "wanted_code", in_digits (reply.code ∷ [])) ∷ []
+wanted_fields (Refusal counter) =
+    (codes "wanted_counter", in_decimal counter) ∷ (codes "wanted_refusal", boolean true) ∷ []
 
 abbrev pub came_fields : Reply → List Field
 came_fields reply =
@@ -113,10 +138,10 @@ tally_object cases tally = line_of (codes "conformance") (tally_fields cases tal
 
 -- ---- A whole run.
 
--- What stands first: of TAP how many cases there are.
+-- What stands first: of TAP its version, and how many cases there are.
 abbrev pub first_line : (json : Bool) → (cases : ℕ) → List ℕ
 first_line true cases = []
-first_line false cases = codes "1.." ++ (decimal cases ++ codes "\n")
+first_line false cases = codes "TAP version 14\n1.." ++ (decimal cases ++ codes "\n")
 
 -- The line of a case.
 abbrev pub case_line : (json : Bool) → (number : ℕ) → Case → Went → List ℕ
@@ -128,7 +153,7 @@ abbrev pub bail_line : (json : Bool) → List ℕ
 bail_line true = []
 bail_line false = codes "Bail out! connection failed\n"
 
--- What stands last: of JSON what was counted.
+-- What stands last: what was counted.
 abbrev pub last_line : (json : Bool) → (cases : ℕ) → Tally → List ℕ
 last_line true cases tally = tally_object cases tally
-last_line false cases tally = []
+last_line false cases tally = tap_tally tally

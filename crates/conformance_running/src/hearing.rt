@@ -3,7 +3,7 @@ ghost use Rattle.std.specs.Prelude.{◌≡◌, ◌<◌, IsTrue, ◌↔◌};
 ghost use Rattle.conformance_running.specs.Running.{Hears, IsMissing};
 
 use crate::running::{READS_MAX, Went};
-use conformance::{Reply, Verdict, judge};
+use conformance::{Expected, Verdict, judge};
 use std::alloc::Global;
 use std::io::Read;
 use uecp_encoder::{Failed, Meter};
@@ -17,7 +17,7 @@ pub(crate) fn hear<R: Read>(
     alloc: Global,
     own: Address,
     patience: u32,
-    replies: &[Reply],
+    replies: &[Expected],
     input: &mut Meter<R>,
 ) -> Went
     requires { 0 < patience }

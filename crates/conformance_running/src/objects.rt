@@ -11,7 +11,7 @@ use crate::fields::{
 };
 use crate::running::Went;
 use crate::tally::{Tally, is_kept};
-use conformance::{Case, Reply, Verdict};
+use conformance::{Case, Expected, Reply, Verdict};
 use uecp_frame::FrameFault;
 use uecp_text::Output;
 
@@ -79,11 +79,19 @@ fn put_verdict(verdict: Verdict, output: &mut Output)
 }
 
 /// Adds the reply that is wanted.
-fn put_wanted(reply: Reply, output: &mut Output)
+fn put_wanted(reply: Expected, output: &mut Output)
     ensures { Adds output.old output.new (fields_text (wanted_fields reply)) }
 {
-    number_field("wanted_counter", u64::from(reply.counter), output);
-    byte_field("wanted_code", reply.code, output);
+    match reply {
+        Expected::This(reply) => {
+            number_field("wanted_counter", u64::from(reply.counter), output);
+            byte_field("wanted_code", reply.code, output);
+        }
+        Expected::Refusal(counter) => {
+            number_field("wanted_counter", u64::from(counter), output);
+            flag_field("wanted_refusal", true, output);
+        }
+    }
 }
 
 /// Adds the reply that came.

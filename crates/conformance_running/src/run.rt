@@ -194,6 +194,8 @@ fn run_cases<C: Connections, W: Write>(
           held = W.contents writer.new;
         })
         × (tally.new ≡ tally_from tally.old (chosen (option_map (λ name. name.now) manner.now.only) cases.now) wents)) }
+    ensures few { IfOk result (λ _. tally.new.kept + tally.new.not_kept + tally.new.profile_not_kept
+        ≤ tally.old.kept + tally.old.not_kept + tally.old.profile_not_kept + length cases.now) }
     ensures some { IfErr result (λ fault. (fault_status fault ≡ 3)
         × StopsAmong C.opens C.closes C.Input.remaining C.Output.contents manner.now.own manner.now.patience
         manner.now.json number

@@ -8,7 +8,7 @@ ghost use Rattle.conformance_running.specs.Running.{RunsCase, RunsNot, WentOn};
 
 use crate::hearing::hear;
 use crate::patience::Waiting;
-use conformance::{Case, Reply, Verdict, sent, wanted};
+use conformance::{Case, Expected, Verdict, sent, wanted};
 use std::alloc::Global;
 use std::io::{Read, Write};
 use uecp_encoder::Meter;
@@ -100,7 +100,7 @@ fn go_on<R: Read, W: Write>(
     pieces: Option<u32>,
     pass: Result<Joining, DriveFault>,
     bytes: &[u8],
-    replies: &[Reply],
+    replies: &[Expected],
     input: &mut Meter<R>,
     output: &mut Meter<W>,
 ) -> Went

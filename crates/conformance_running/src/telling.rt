@@ -1,15 +1,15 @@
 //! The lines of a run, put down and written out (profile).
-ghost use Rattle.std.specs.Prelude.{◌≡◌, ℕ, List, IsTrue};
+ghost use Rattle.std.specs.Prelude.{◌≡◌, ◌+◌, ◌<◌, ◌^◌, ℕ, List, IsTrue};
 ghost use Rattle.uecp_text.specs.Written.{Adds};
 ghost use Rattle.conformance_running.specs.Conformance.{TellsLines};
-ghost use Rattle.conformance_running.specs.Telling.{reply_words, verdict_words, why_words, note, tap_line, first_line};
-ghost use Rattle.conformance_running.specs.Telling.{case_line, bail_line, last_line};
+ghost use Rattle.conformance_running.specs.Telling.{reply_words, expected_words, verdict_words, why_words, note};
+ghost use Rattle.conformance_running.specs.Telling.{tap_line, tap_tally, first_line, case_line, bail_line, last_line};
 
 use crate::objects::{put_case_object, put_tally_object};
 use crate::running::Went;
 use crate::tally::{Tally, is_kept};
-use crate::texts::put_shown;
-use conformance::{Case, Reply, Verdict};
+use crate::texts::put_tap_name;
+use conformance::{Case, Expected, Reply, Verdict};
 use itoa::Buffer;
 use std::alloc::Global;
 use std::io::Write;
@@ -62,6 +62,7 @@ pub(crate) fn tell_last<W: Write>(
     tally: Tally,
     writer: &mut W,
 ) -> Result<(), RunFault>
+    requires { tally.not_kept + tally.profile_not_kept < 2 ^ 64 }
     ensures { TellsLines (last_line json cases tally) (W.contents writer.old) (W.contents writer.new) result }
 {
     let mut output = Output::new(alloc);
@@ -85,7 +86,7 @@ fn put_first(json: bool, cases: usize, output: &mut Output)
     ensures { Adds output.old output.new (first_line json cases) }
 {
     if !json {
-        output.text("1..");
+        output.text("TAP version 14\n1..");
         output.text(Buffer::new().format(cases));
         output.end();
     }
@@ -113,11 +114,28 @@ fn put_bail(json: bool, output: &mut Output)
 
 /// Adds what stands last.
 fn put_last(json: bool, cases: usize, tally: Tally, output: &mut Output)
+    requires { tally.not_kept + tally.profile_not_kept < 2 ^ 64 }
     ensures { Adds output.old output.new (last_line json cases tally) }
 {
     if json {
         put_tally_object(cases, tally, output);
+    } else {
+        put_tally(tally, output);
     }
+}
+
+/// Adds how many cases are kept, how many are not, and how many of those don't count.
+fn put_tally(tally: Tally, output: &mut Output)
+    requires { tally.not_kept + tally.profile_not_kept < 2 ^ 64 }
+    ensures { Adds output.old output.new (tap_tally tally) }
+{
+    output.text("#");
+    output.decimal(tally.kept);
+    output.text(" kept,");
+    output.decimal(tally.not_kept + tally.profile_not_kept);
+    output.text(" not kept,");
+    output.decimal(tally.profile_not_kept);
+    output.text(" of them profile\n");
 }
 
 /// Adds the line of a case in TAP.
@@ -127,7 +145,7 @@ fn put_tap(number: usize, case: &Case<'_>, went: Went, output: &mut Output)
     output.text(if is_kept(went) { "ok" } else { "not ok" });
     output.decimal(number);
     output.text(" - ");
-    put_shown(case.name, output);
+    put_tap_name(case.name, output);
     put_note(case.profile, went, output);
     output.end();
 }
@@ -139,7 +157,7 @@ fn put_note(profile: bool, went: Went, output: &mut Output)
     if is_kept(went) {
         output.text(if profile { " # profile" } else { "" });
     } else {
-        output.text(if profile { " # profile, " } else { " # " });
+        output.text(if profile { " # TODO profile, " } else { " # " });
         put_why(went, output);
     }
 }
@@ -168,12 +186,12 @@ fn put_difference(verdict: Verdict, output: &mut Output)
         Verdict::Kept => {}
         Verdict::Missing(reply) => {
             output.text("wanted ");
-            put_reply(reply, output);
+            put_expected(reply, output);
             output.text(", came nothing");
         }
         Verdict::Another(reply, came) => {
             output.text("wanted ");
-            put_reply(reply, output);
+            put_expected(reply, output);
             output.text(", came ");
             put_reply(came, output);
         }
@@ -185,6 +203,19 @@ fn put_difference(verdict: Verdict, output: &mut Output)
         Verdict::Dropped(fault) => {
             output.text("came a segment that is no frame: ");
             output.text(fault.name());
+        }
+    }
+}
+
+/// Adds what is wanted.
+fn put_expected(reply: Expected, output: &mut Output)
+    ensures { Adds output.old output.new (expected_words reply) }
+{
+    match reply {
+        Expected::This(reply) => put_reply(reply, output),
+        Expected::Refusal(counter) => {
+            output.text("refusal");
+            output.byte(counter);
         }
     }
 }

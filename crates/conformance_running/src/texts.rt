@@ -2,16 +2,16 @@
 ghost use Rattle.std.specs.Prelude.{◌≡◌, ◌<◌, ◌≤◌, [], ◌∷◌};
 ghost use Rattle.json.specs.Print.{escape};
 ghost use Rattle.uecp_text.specs.Written.{Adds};
-ghost use Rattle.conformance_running.specs.Telling.{shown_byte, shown};
+ghost use Rattle.conformance_running.specs.Telling.{shown_byte, shown, tap_byte, tap_name};
 
 use uecp_text::Output;
 
-/// Adds a text as it is shown.
-pub(crate) fn put_shown(text: &[u8], output: &mut Output)
-    ensures { Adds output.old output.new (shown text.now) }
+/// Adds a name as it is shown, as a line of TAP has it.
+pub(crate) fn put_tap_name(name: &[u8], output: &mut Output)
+    ensures { Adds output.old output.new (tap_name (shown name.now)) }
 {
-    for byte in text {
-        put_character(shown_byte(*byte), output);
+    for byte in name {
+        put_tap_byte(shown_byte(*byte), output);
     }
 }
 
@@ -42,6 +42,20 @@ fn put_character(byte: u8, output: &mut Output)
     ensures { Adds output.old output.new (byte ∷ []) }
 {
     output.text(char::from(byte).encode_utf8(&mut [0; 4]));
+}
+
+/// Adds a character of ASCII, as a name in a line of TAP has it.
+fn put_tap_byte(byte: u8, output: &mut Output)
+    requires { byte < 0x80 }
+    ensures { Adds output.old output.new (tap_byte byte) }
+{
+    if byte == b'#' {
+        output.text("\\#");
+    } else if byte == b'\\' {
+        output.text("\\\\");
+    } else {
+        put_character(byte, output);
+    }
 }
 
 /// Adds a character of ASCII that is no control, as a string of JSON holds it.

@@ -34,8 +34,8 @@ loop-rest-preserved c =
     let agrees = c.in-None.ensures.agrees in
     agrees_more c.args.own c.args.wanted.now c.args.came.now c.loop-rest.deframer c.feed-fed.new.self
     c.loop-rest.rest.now c.rest_of-rest.result.now c.loop-rest.agreed c.feed-fed.result c.in-Frame.frame agrees.0
-    agrees.1 a (c.feed-fed.ensures.after a.heard a.left) c.rest_of-rest.ensures c.in-Frame.is
-    (sym c.next_of.ensures ∙ agrees.2) (sym c.in-Frame.frame-is ∙ agrees.3)
+    agrees.1 agrees.2 a (c.feed-fed.ensures.after a.heard a.left) c.rest_of-rest.ensures c.in-Frame.is
+    (sym c.next_of.ensures ∙ agrees.3) agrees.4 (sym c.in-Frame.frame-is ∙ agrees.5)
 
 pub returns : goal.returns
 returns c =

@@ -3,7 +3,7 @@ use Rattle.uecp_frame.specs.Fault.{name_of}
 use Rattle.uecp_text.specs.Written.{Adds}
 use Rattle.uecp_text.proofs.Leading.{adds_then}
 use Rattle.conformance.specs.declared.verdict.Verdict.TheVariants.{Missing, TooMany, NoReply, Dropped}
-use Rattle.conformance_running.specs.Telling.{verdict_words, reply_words}
+use Rattle.conformance_running.specs.Telling.{verdict_words, expected_words, reply_words}
 use Rattle.conformance_running.proofs.telling.put_difference.Goals as goal
 
 pub returns-in-Missing : goal.returns-in-Missing
@@ -11,9 +11,10 @@ returns-in-Missing c =
     let is : c.args.verdict ≡ Missing c.in-Missing.reply = search rules in
     subst (λ v. Adds c.args.output.now c.text-in-Missing.new.self (verdict_words v)) (sym is)
     (adds_then c.args.output.now c.text.new.self c.text-in-Missing.new.self (codes "wanted ")
-    (reply_words c.in-Missing.reply ++ codes ", came nothing") c.text.ensures.added
-    (adds_then c.text.new.self c.put_reply.new.output c.text-in-Missing.new.self (reply_words c.in-Missing.reply)
-    (codes ", came nothing") c.put_reply.ensures c.text-in-Missing.ensures.added))
+    (expected_words c.in-Missing.reply ++ codes ", came nothing") c.text.ensures.added
+    (adds_then c.text.new.self c.put_expected.new.output c.text-in-Missing.new.self
+    (expected_words c.in-Missing.reply) (codes ", came nothing") c.put_expected.ensures
+    c.text-in-Missing.ensures.added))
 
 pub returns-in-TooMany : goal.returns-in-TooMany
 returns-in-TooMany c =
