@@ -36,7 +36,7 @@ use Rattle.uecp_cli.specs.Usages.{SaysError}
 use Rattle.uecp_cli.specs.CommandLine.{AreOptions, Asks, IsEnd, IsJobOf, IsKeptAs, IsLive, IsOption, IsPlace}
 use Rattle.uecp_cli.specs.CommandLine.{IsTaskOf, RefusesLine, RefusesList, RefusesWords}
 use Rattle.uecp_cli.specs.CommandLine.{services_text, uecp_app, AreListening, IsDevice, IsFlag, IsForm, IsMaybe}
-use Rattle.uecp_cli.specs.CommandLine.{IsPlainTask, IsStore, if_lines, plain_port, IsOnAir, IsConformance}
+use Rattle.uecp_cli.specs.CommandLine.{IsPlainTask, IsFinalStore, if_lines, plain_port, IsOnAir, IsConformance}
 use Rattle.uecp_cli.proofs.Helps.{one_named}
 
 -- ---- by what clap's clauses say of a parse
@@ -354,7 +354,7 @@ listening rows job port o plain =
         not_forever = subst (IsFlag (one_of (codes "forever") rows)) c.0 o.is_forever;
         not_idle = subst (IsOption (one_of (codes "idle") rows) 0 86400) idle o.is_idle;
         no_log = subst (IsFlag (one_of (codes "log") rows)) d.0 o.is_log;
-        no_store = subst (IsStore rows) d.1 o.is_store;
+        no_store = subst (IsFinalStore rows) d.1 o.is_store;
         in_lines = subst (IsForm rows) three.0 o.is_form;
       };
     }

@@ -97,6 +97,10 @@ pub record AreOptions (rows : List Row) (site encoder sets : ℕ) (services : Li
 abbrev pub IsStore : (rows : List Row) → (store : Bool) → Type 0
 IsStore rows store = IsFlag (one_of (codes "store") rows) store
 
+-- The flag for the store at a device's end is set as the matches of the command `encoder` have it.
+abbrev pub IsFinalStore : (rows : List Row) → (store : Bool) → Type 0
+IsFinalStore rows store = IsFlag (one_of (codes "final-store") rows) store
+
 -- In words where a flag asks for them, with the names of North America where one asks for those.
 abbrev pub worded : (words rbds : Bool) → Form
 worded words rbds = if rbds then Words NorthAmerica else if words then Words Europe else Lines
@@ -134,7 +138,7 @@ pub record AreNoDevice (rows : List Row) : Type 0 where
   pub not_forever : IsFlag (one_of (codes "forever") rows) false
   pub not_idle : IsOption (one_of (codes "idle") rows) 0 86400 0
   pub no_log : IsFlag (one_of (codes "log") rows) false
-  pub no_store : IsStore rows false
+  pub no_store : IsFinalStore rows false
   pub in_lines : IsForm rows Lines
 
 -- The bounds of an encoder that listens are those that the matches of its command have; its port is given, and nothing
@@ -241,7 +245,7 @@ pub record IsDevice (rows : List Row) (job : DeviceJob) : Type 0 where
   pub is_log : IsFlag (one_of (codes "log") rows) job.log
   pub is_form : IsForm rows job.form
   pub is_time : IsTimed rows job.time
-  pub is_store : IsStore rows job.store
+  pub is_store : IsFinalStore rows job.store
   pub is_faults : option_map string_bytes job.faults ≡ first_of (codes "faults") rows
   pub is_seed : IsOption (one_of (codes "seed") rows) 0 1000000000 job.seed
   pub is_state : option_map string_bytes job.state ≡ first_of (codes "state") rows
@@ -507,7 +511,7 @@ listening_command =
     (encoder_options ++ maybe_word (codes "listen") ∷ maybe_number (codes "port") 1 65535
     ∷ number_option (codes "connections") 1 1000 (Some (codes "1"))
     ∷ number_option (codes "turns") 1 1000000 (Some (codes "100000")) ∷ flag (codes "forever")
-    ∷ number_option (codes "idle") 0 86400 (Some (codes "0")) ∷ flag (codes "log") ∷ flag (codes "store")
+    ∷ number_option (codes "idle") 0 86400 (Some (codes "0")) ∷ flag (codes "log") ∷ flag (codes "final-store")
     ∷ form_flags ++ flag (codes "no-time") ∷ maybe_word (codes "faults")
     ∷ number_option (codes "seed") 0 1000000000 (Some (codes "0")) ∷ maybe_number (codes "air") 1 65535
     ∷ flag (codes "air-bits") ∷ state_option ∷ [])

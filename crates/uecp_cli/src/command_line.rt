@@ -175,7 +175,7 @@ fn encoder_command<'a>(alloc: Global) -> Result<Command<'a>, AllocError>
             "log",
             "Tell what comes and what becomes of it, a line each, behind the time",
         ))?
-        .arg(flag(alloc, "store", "Write the encoder's store at the end"))?;
+        .arg(flag(alloc, "final-store", "Write the encoder's store at the end"))?;
     with_words(alloc, command)?
         .arg(json(alloc))?
         .arg(flag(alloc, "no-time", "Without the time before what is told"))?

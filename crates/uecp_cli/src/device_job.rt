@@ -60,7 +60,7 @@ fn device_of(alloc: Global, found: &ArgMatches<'_>) -> Result<DeviceJob, Usage>
         log: flag_of(found, "log"),
         form: form_of(found),
         time: is_timed(found),
-        store: flag_of(found, "store"),
+        store: flag_of(found, "final-store"),
         faults: word_of(alloc, found, "faults")?,
         seed: number_of(found, &SEED),
         state: word_of(alloc, found, "state")?,
