@@ -199,7 +199,8 @@ is_in_range name rows (Encoder site encoder sets services port connections turns
       in_range _ _ _ _ o.is_connections,
       in_range _ _ _ _ o.is_turns,
     )
-is_in_range name rows (Server site encoder host port tries timeout turns reconnects window join) h =
+is_in_range name rows (Server site encoder host port tries timeout turns reconnects window join reconnect_silent
+    verbose) h =
     let o = h.2 in (
       place_in_range rows site encoder h.1,
       in_range _ _ _ _ o.is_port,
@@ -289,12 +290,16 @@ kept_job name rows job (State path) is end unkept how = absurd how
 kept_job name rows job (Ladder ladder) is end unkept how = absurd how
 
 pub kept_server : (name : Text) (rows : List Row) (site encoder : ℕ) (host : _)
-    (port tries timeout turns reconnects window : ℕ) (join : _) (task : Task)
-    → IsJobOf name rows (Server site encoder host port tries timeout turns reconnects window join)
-    → IsKeptAs rows (Server site encoder host port tries timeout turns reconnects window join) task
+    (port tries timeout turns reconnects window : ℕ) (join reconnect_silent verbose : _) (task : Task)
+    → IsJobOf name rows (Server site encoder host port tries timeout turns reconnects window join reconnect_silent
+    verbose)
+    → IsKeptAs rows (Server site encoder host port tries timeout turns reconnects window join reconnect_silent verbose)
+    task
     → IsTaskOf name rows task
-kept_server name rows site encoder host port tries timeout turns reconnects window join task is how =
-    kept_job name rows (Server site encoder host port tries timeout turns reconnects window join) task is tt
+kept_server name rows site encoder host port tries timeout turns reconnects window join reconnect_silent verbose task is
+    how =
+    kept_job name rows (Server site encoder host port tries timeout turns reconnects window join reconnect_silent
+    verbose) task is tt
     (λ job same none. subst (λ j. IsTaskOf name rows (Plain j)) (sym same) (is, none)) how
 
 -- ---- what a device does, or an encoder that is none

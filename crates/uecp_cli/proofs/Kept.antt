@@ -25,6 +25,7 @@ lines_of gives leaves is_clean path Make held held' s = absurd s
 lines_of gives leaves is_clean path (MakeWords region) held held' s = absurd s
 lines_of gives leaves is_clean path (Line site encoder sets services store) held held' s = absurd s
 lines_of gives leaves is_clean path (LineAs site encoder sets services store form) held held' s = absurd s
-lines_of gives leaves is_clean path (Server site encoder host port tries timeout turns reconnects window join) held
+lines_of gives leaves is_clean path (Server site encoder host port tries timeout turns reconnects window join
+    reconnect_silent verbose) held
     held'
     s = absurd s

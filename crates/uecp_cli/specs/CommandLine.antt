@@ -149,10 +149,10 @@ pub record AreListening (rows : List Row) (port connections turns : ℕ) : Type 
   pub is_turns : IsOption (one_of (codes "turns") rows) 1 1000000 turns
   pub are_no_device : AreNoDevice rows
 
--- Where a server finds its encoder, its bounds, and whether it joins first, are those that the matches of its command
--- have.
+-- Where a server finds its encoder, its bounds, whether it joins first, goes on over silence and says why it found no
+-- connection, are those that the matches of its command have.
 pub record AreSending (rows : List Row) (host : List ℕ) (port tries timeout turns reconnects window : ℕ)
-    (join : Bool) : Type 0 where
+    (join reconnect_silent verbose : Bool) : Type 0 where
   pub is_host : host ≡ host_text rows
   pub is_port : IsPort rows port
   pub is_tries : IsOption (one_of (codes "tries") rows) 1 100 tries
@@ -161,6 +161,8 @@ pub record AreSending (rows : List Row) (host : List ℕ) (port tries timeout tu
   pub is_reconnects : IsOption (one_of (codes "reconnects") rows) 0 100 reconnects
   pub is_window : IsOption (one_of (codes "window") rows) 1 8 window
   pub is_join : IsFlag (one_of (codes "join") rows) join
+  pub is_reconnect_silent : IsFlag (one_of (codes "reconnect-silent") rows) reconnect_silent
+  pub is_verbose : IsFlag (one_of (codes "verbose") rows) verbose
 
 -- The matches of the command `answer` ask for no groups on the air.
 abbrev pub IsOffAir : (rows : List Row) → Type 0
@@ -187,9 +189,9 @@ IsJobOf name rows (LineAs site encoder sets services store form) =
 IsJobOf name rows (Encoder site encoder sets services port connections turns) =
     (name ≡ codes "encoder") × AreOptions rows site encoder sets services.items
     × AreListening rows port connections turns
-IsJobOf name rows (Server site encoder host port tries timeout turns reconnects window join) =
+IsJobOf name rows (Server site encoder host port tries timeout turns reconnects window join reconnect_silent verbose) =
     (name ≡ codes "server") × IsPlace rows site encoder
-    × AreSending rows (string_bytes host) port tries timeout turns reconnects window join
+    × AreSending rows (string_bytes host) port tries timeout turns reconnects window join reconnect_silent verbose
 IsJobOf name rows Make = (name ≡ codes "make") × IsWording rows Lines
 IsJobOf name rows (MakeWords region) = (name ≡ codes "make") × IsWording rows (Words region)
 IsJobOf name rows Show = (name ≡ codes "show") × IsForm rows Lines
@@ -331,13 +333,13 @@ IsPlainTask job port (Ladder ladder) = ⊥
 -- The job is that of one of the two ends, which have a state.
 abbrev pub IsEnd : Job → Type 0
 IsEnd (Encoder site encoder sets services port connections turns) = Unit {0}
-IsEnd (Server site encoder host port tries timeout turns reconnects window join) = Unit {0}
+IsEnd (Server site encoder host port tries timeout turns reconnects window join reconnect_silent verbose) = Unit {0}
 IsEnd job = ⊥
 
 -- No file is given for the state of the job's end, if it is that of one.
 abbrev pub IsUnkept : List Row → Job → Type 0
 IsUnkept rows (Encoder site encoder sets services port connections turns) = first_of (codes "state") rows ≡ None
-IsUnkept rows (Server site encoder host port tries timeout turns reconnects window join) =
+IsUnkept rows (Server site encoder host port tries timeout turns reconnects window join reconnect_silent verbose) =
     first_of (codes "state") rows ≡ None
 IsUnkept rows job = Unit {0}
 
@@ -528,7 +530,8 @@ bound_options =
 -- The command `server`.
 abbrev pub sending_command : Shape
 sending_command = command_with (codes "server") (place_options ++ word_option (codes "host") (Some (codes "127.0.0.1"))
-    ∷ port_option ∷ bound_options ++ flag (codes "join") ∷ state_option ∷ [])
+    ∷ port_option ∷ bound_options ++ flag (codes "join") ∷ flag (codes "reconnect-silent") ∷ flag (codes "verbose")
+    ∷ state_option ∷ [])
 
 -- The command `send`.
 abbrev pub live_command : Shape

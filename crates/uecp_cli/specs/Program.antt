@@ -40,7 +40,7 @@ ListensFor job listened = ⊥
 
 -- The host and the port of the job are dialled, with its limit of time, and no connection was refused yet.
 abbrev pub DialsFor : Job → Dials → Type 0
-DialsFor (Server site encoder host port tries timeout turns reconnects window join) dials =
+DialsFor (Server site encoder host port tries timeout turns reconnects window join reconnect_silent verbose) dials =
     dials ≡ record { host = string_bytes host; port = port; timeout = timeout; failed = None }
 DialsFor job dials = ⊥
 
@@ -89,7 +89,8 @@ HasLineRefused job unread unread' held held' told told' =
 
 -- The job came to no end, and that was said: memory, reading or writing failed, and what was written is a beginning of
 -- what the job writes of its input; or not all its messages were sent or told, and where a connection could not be made
--- the next line says why; or connections could not be served, and no input was read; or watching stopped.
+-- the next line says why, if that is asked for; or connections could not be served, and no input was read; or watching
+-- stopped.
 abbrev pub HasNotEnded : Job → (unread unread' held held' told told' : Option (List ℕ)) → Type 0
 HasNotEnded job unread unread' held held' told told' =
     HasFailed job unread unread' held held' told told'

@@ -31,7 +31,7 @@ IsInRange (AnswerAs site encoder sets services store form) = IsSetupInRange site
 IsInRange (LineAs site encoder sets services store form) = IsSetupInRange site encoder sets
 IsInRange (Encoder site encoder sets services port connections turns) =
     IsSetupInRange site encoder sets × Lies 1 65535 port × Lies 1 1000 connections × Lies 1 1000000 turns
-IsInRange (Server site encoder host port tries timeout turns reconnects window join) =
+IsInRange (Server site encoder host port tries timeout turns reconnects window join reconnect_silent verbose) =
     IsPlaceInRange site encoder × Lies 1 65535 port × Lies 1 100 tries × Lies 1 60000 timeout × Lies 1 1000 turns
     × Lies 0 100 reconnects × Lies 1 8 window
 IsInRange Show = Unit {0}

@@ -1,5 +1,5 @@
 -- What is said where a connection of `server` could not be made (profile).
-use Rattle.std.specs.Prelude.{◌≡◌, ℕ, List, ◌++◌, codes, decimal, Option, Some, None}
+use Rattle.std.specs.Prelude.{◌≡◌, ℕ, Bool, true, List, ◌++◌, codes, decimal, Option, Some}
 use Rattle.std.specs.String.{string_bytes}
 use Rattle.uecp_text.specs.Written.{Begins}
 use Rattle.uecp_net.specs.declared.tcp.DialFault.{DialFault}
@@ -20,13 +20,16 @@ abbrev pub dial_line : (host : List ℕ) (port : ℕ) → DialFault → List ℕ
 dial_line host port fault = codes "uecp: " ++ (host
     ++ (codes " port " ++ (decimal port ++ (codes ": " ++ (dial_words fault ++ codes "\n")))))
 
--- Where one could not be made its line was said, or begun to be said; else nothing was.
-abbrev pub SaysUnreached : (host : List ℕ) (port : ℕ) → Option DialFault → (told told' : Option (List ℕ)) → Type 0
-SaysUnreached host port None told told' = told' ≡ told
-SaysUnreached host port (Some fault) told told' = Begins told told' (dial_line host port fault)
+-- Where one could not be made, and why is to be said, its line was said, or begun to be said; else nothing was.
+abbrev pub SaysUnreached : (verbose : Bool) → (host : List ℕ) (port : ℕ) → Option DialFault
+    → (told told' : Option (List ℕ)) → Type 0
+SaysUnreached true host port (Some fault) told told' = Begins told told' (dial_line host port fault)
+SaysUnreached verbose host port failed told told' = told' ≡ told
 
--- Of what the job dials it was said why no connection could be made, or begun to be said; or nothing was said.
+-- Of what the job dials it was said why no connection could be made, or begun to be said, where the job asks for that;
+-- or nothing was said.
 abbrev pub MaySayUnreached : Job → (told told' : Option (List ℕ)) → Type 0
-MaySayUnreached (Server site encoder host port tries timeout turns reconnects window join) told told' =
-    (failed : Option DialFault) × SaysUnreached (string_bytes host) port failed told told'
+MaySayUnreached (Server site encoder host port tries timeout turns reconnects window join reconnect_silent verbose) told
+    told' =
+    (failed : Option DialFault) × SaysUnreached verbose (string_bytes host) port failed told told'
 MaySayUnreached job told told' = told' ≡ told

@@ -218,6 +218,16 @@ fn server_command<'a>(alloc: Global) -> Result<Command<'a>, AllocError>
             "join",
             "Begin whatever the encoder has kept: always, but with one that was just started. With --state it gives up what waits",
         ))?
+        .arg(flag(
+            alloc,
+            "reconnect-silent",
+            "Go on over a new connection also where all tries on one were spent, as on a silent line",
+        ))?
+        .arg(flag(
+            alloc,
+            "verbose",
+            "Say why a connection could not be made, in a line of its own",
+        ))?
         .arg(state(alloc))
 }
 

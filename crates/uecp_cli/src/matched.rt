@@ -231,6 +231,8 @@ pub fn server_of(alloc: Global, found: &ArgMatches<'_>) -> Result<Task, Usage>
         reconnects: number_of(found, &RECONNECTS),
         window: small_of(found, &WINDOW),
         join: flag_of(found, "join"),
+        reconnect_silent: flag_of(found, "reconnect-silent"),
+        verbose: flag_of(found, "verbose"),
     };
     Ok(task_of(alloc, found, job)?)
 }

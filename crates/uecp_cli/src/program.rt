@@ -291,11 +291,16 @@ fn run_any<R: Read, W: Write, E: Write, N: Net<Listener = TcpListener, Stream = 
             let mut local = local_of(net, job);
             run_encoder_over(alloc, job, writer, errors, &mut local)
         }
-        Job::Server { host, port, .. } => {
+        Job::Server {
+            host,
+            port,
+            verbose,
+            ..
+        } => {
             let mut dialing = dialing_of(net, job);
             let status = run_server_over(alloc, job, reader, writer, errors, &mut dialing);
             if status == 3 {
-                say_unreached(host.as_str(), *port, dialing.failed(), errors);
+                say_unreached(*verbose, host.as_str(), *port, dialing.failed(), errors);
             }
             status
         }
@@ -402,7 +407,12 @@ fn run_kept_server<
         path.now job.now (R.remaining reader.old) (R.remaining reader.new) }
 {
     match job {
-        Job::Server { host, port, .. } => {
+        Job::Server {
+            host,
+            port,
+            verbose,
+            ..
+        } => {
             let mut dialing = dialing_of(net, job);
             let status = run_server_in(
                 alloc,
@@ -415,7 +425,7 @@ fn run_kept_server<
                 &mut dialing,
             );
             if status == 3 {
-                say_unreached(host.as_str(), *port, dialing.failed(), errors);
+                say_unreached(*verbose, host.as_str(), *port, dialing.failed(), errors);
             }
             status
         }

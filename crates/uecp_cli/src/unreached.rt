@@ -1,5 +1,5 @@
 //! What is said where a connection of `server` could not be made (profile).
-ghost use Rattle.std.specs.Prelude.{◌≡◌, ◌++◌, None, codes};
+ghost use Rattle.std.specs.Prelude.{◌≡◌, ◌++◌, None, codes, false};
 ghost use Rattle.uecp_text.specs.Written.{Begins};
 ghost use Rattle.uecp_cli.specs.Unreached.{dial_words, SaysUnreached};
 
@@ -8,17 +8,22 @@ use std::io::Write;
 use uecp_net::DialFault;
 use uecp_text::{RunFault, write_parts};
 
-/// Says why no connection to this host and port could be made, in a line of its own; nothing where none was refused. A
-/// line that can't be written changes nothing.
+/// Says why no connection to this host and port could be made, in a line of its own, where that is asked for; nothing
+/// where none was refused. A line that can't be written changes nothing.
 pub(crate) fn say_unreached<E: Write>(
+    verbose: bool,
     host: &str,
     port: u16,
     failed: Option<DialFault>,
     errors: &mut E,
 )
-    ensures said { SaysUnreached host.now port failed (E.contents errors.old) (E.contents errors.new) }
+    ensures said { SaysUnreached verbose host.now port failed (E.contents errors.old) (E.contents errors.new) }
     ensures unsaid { failed ≡ None → errors.new ≡ errors.old }
+    ensures unasked { verbose ≡ false → errors.new ≡ errors.old }
 {
+    if !verbose {
+        return;
+    }
     let Some(fault) = failed else {
         return;
     };

@@ -98,6 +98,19 @@ impl<'a> Connect for Prepared<'a> {
 pub(crate) fn server_job(alloc: Global, site: u16, reconnects: u32, window: u8) -> Result<Job, Fail>
     ensures { IfOk result IsServer }
 {
+    server_job_over(alloc, site, reconnects, window, false)
+}
+
+/// The same, and with or without going on over silence.
+pub(crate) fn server_job_over(
+    alloc: Global,
+    site: u16,
+    reconnects: u32,
+    window: u8,
+    reconnect_silent: bool,
+) -> Result<Job, Fail>
+    ensures { IfOk result IsServer }
+{
     Ok(Job::Server {
         site,
         encoder: 1,
@@ -109,6 +122,8 @@ pub(crate) fn server_job(alloc: Global, site: u16, reconnects: u32, window: u8) 
         reconnects,
         window,
         join: false,
+        reconnect_silent,
+        verbose: false,
     })
 }
 

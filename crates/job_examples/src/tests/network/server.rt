@@ -1,10 +1,19 @@
-//! `server` over connections, some of which break, with one message on its way or several.
-use super::{APPLIED_BOTH, EMPTY_BOTH, Given, Prepared, REPLY_SIZE, have_got, server_job};
+//! `server` over connections, some of which break or are silent, with one message on its way or several.
+ghost use Rattle.uecp_jobs.specs.ServerRun.{IsServer};
+
+use super::{
+    APPLIED_BOTH, EMPTY_BOTH, Given, Prepared, REPLY_SIZE, have_got, server_job, server_job_over,
+};
 use crate::tests::{Comes, Ends, came_to};
 use faulty_devices::{APPLIED_1, APPLIED_2, EMPTY_1, Taken};
 use std::alloc::Global;
 use std::process::Abort;
 use std::test::Fail;
+use uecp_jobs::Job;
+
+/// No element, counter 01, three times.
+const THRICE: [u8; 24] =
+    *b"\xFE\x00\x41\x01\x00\x62\x93\xFF\xFE\x00\x41\x01\x00\x62\x93\xFF\xFE\x00\x41\x01\x00\x62\x93\xFF";
 
 /// Runs `server` over these connections, a reply a read, with the defaults of its options but for site, reconnects and
 /// window, and compares what it comes to and what each connection got that was opened.
@@ -18,14 +27,43 @@ fn serves(
     got: &[&[u8]],
 ) -> Result<(), Fail> {
     let job = server_job(alloc, site, reconnects, window)?;
-    let mut outputs = [Taken::new(), Taken::new()];
+    serves_so(rt, alloc, given, &job, input, comes, got);
+    Ok(())
+}
+
+/// The same of a message, with so many reconnects, which silence takes too.
+fn serves_past_silence(
+    rt: &impl Abort,
+    alloc: Global,
+    given: &[Given<'_>],
+    reconnects: u32,
+    comes: Comes<'_>,
+    got: &[&[u8]],
+) -> Result<(), Fail> {
+    let job = server_job_over(alloc, 1, reconnects, 1, true)?;
+    serves_so(rt, alloc, given, &job, "-\n", comes, got);
+    Ok(())
+}
+
+/// The same of this job.
+fn serves_so(
+    rt: &impl Abort,
+    alloc: Global,
+    given: &[Given<'_>],
+    job: &Job,
+    input: &str,
+    comes: Comes<'_>,
+    got: &[&[u8]],
+)
+    requires { IsServer job.now }
+{
+    let mut outputs = [Taken::new(), Taken::new(), Taken::new(), Taken::new()];
     let mut prepared = Prepared::new(given, REPLY_SIZE, &mut outputs);
     let mut ends = Ends::new(input.as_bytes());
-    let status = ends.serve(alloc, &job, &mut prepared);
+    let status = ends.serve(alloc, job, &mut prepared);
     let opened = prepared.opened();
     came_to(rt, &ends, status, comes);
     have_got(rt, &outputs, opened, got);
-    Ok(())
 }
 
 #[test]
@@ -35,8 +73,6 @@ fn a_message_of_server_over_connections(rt: HostRuntime) -> Result<(), Fail> {
     let closed: Given = (b"", &[]);
     let silent: Given = (&APPLIED_1, &[1, 2, 3]);
     let once = EMPTY_1.as_slice();
-    let thrice =
-        b"\xFE\x00\x41\x01\x00\x62\x93\xFF\xFE\x00\x41\x01\x00\x62\x93\xFF\xFE\x00\x41\x01\x00\x62\x93\xFF".as_slice();
     let done: Comes = (0, "acknowledged 00 tries 1\n", "");
     let failed: Comes = (3, "outstanding\n", "uecp: connection failed\n");
     let spent: Comes = (3, "outstanding\n", "");
@@ -64,29 +100,44 @@ fn a_message_of_server_over_connections(rt: HostRuntime) -> Result<(), Fail> {
         &rt,
         alloc,
         &[silent, good],
-        (1, 1, 1),
-        "-\n",
-        done,
-        &[thrice, once],
-    )?;
-    serves(
-        &rt,
-        alloc,
-        &[silent, closed],
-        (1, 1, 1),
-        "-\n",
-        failed,
-        &[thrice, once],
-    )?;
-    serves(&rt, alloc, &[silent], (1, 1, 1), "-\n", spent, &[thrice])?;
-    serves(
-        &rt,
-        alloc,
-        &[silent, good],
-        (1, 0, 1),
+        (1, 3, 1),
         "-\n",
         spent,
-        &[thrice],
+        &[THRICE.as_slice()],
+    )?;
+    serves(
+        &rt,
+        alloc,
+        &[closed, silent, good],
+        (1, 3, 1),
+        "-\n",
+        spent,
+        &[once, THRICE.as_slice()],
+    )
+}
+
+#[test]
+fn a_message_of_server_past_silent_connections(rt: HostRuntime) -> Result<(), Fail> {
+    let alloc = rt.alloc();
+    let good: Given = (&APPLIED_1, &[]);
+    let closed: Given = (b"", &[]);
+    let silent: Given = (&APPLIED_1, &[1, 2, 3]);
+    let once = EMPTY_1.as_slice();
+    let thrice = THRICE.as_slice();
+    let done: Comes = (0, "acknowledged 00 tries 1\n", "");
+    let failed: Comes = (3, "outstanding\n", "uecp: connection failed\n");
+    let spent: Comes = (3, "outstanding\n", "");
+    serves_past_silence(&rt, alloc, &[silent, good], 1, done, &[thrice, once])?;
+    serves_past_silence(&rt, alloc, &[silent, closed], 1, failed, &[thrice, once])?;
+    serves_past_silence(&rt, alloc, &[silent], 1, spent, &[thrice])?;
+    serves_past_silence(&rt, alloc, &[silent, good], 0, spent, &[thrice])?;
+    serves_past_silence(
+        &rt,
+        alloc,
+        &[silent, silent, silent, silent],
+        3,
+        spent,
+        &[thrice, thrice, thrice, thrice],
     )
 }
 

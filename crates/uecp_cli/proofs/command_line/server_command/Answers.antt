@@ -23,5 +23,9 @@ returns c =
     let seven = arg_added _ _ c.number-6.result _ _ c.in_ok-arg-7.ensures c.number-6.ensures.own six
     c.number-6.ensures.rule in
     let eight = arg_added _ _ c.flag.result _ _ c.in_ok-arg-8.ensures c.flag.ensures.own seven c.flag.ensures.rule in
-    IfOk-weaker c.arg-9.result _ _ (λ whole added. arg_added _ whole c.state.result _ _ added c.state.ensures.own eight
-    c.state.ensures.rule) c.arg-9.ensures
+    let nine = arg_added _ _ c.flag-2.result _ _ c.in_ok-arg-9.ensures c.flag-2.ensures.own eight
+    c.flag-2.ensures.rule in
+    let ten = arg_added _ _ c.flag-3.result _ _ c.in_ok-arg-10.ensures c.flag-3.ensures.own nine
+    c.flag-3.ensures.rule in
+    IfOk-weaker c.arg-11.result _ _ (λ whole added. arg_added _ whole c.state.result _ _ added c.state.ensures.own ten
+    c.state.ensures.rule) c.arg-11.ensures

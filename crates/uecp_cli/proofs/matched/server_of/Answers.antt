@@ -4,7 +4,7 @@ use Rattle.uecp_cli.proofs.matched.server_of.Goals as goal
 
 pub returns-clause-job : goal.returns-clause-job
 returns-clause-job c =
-    kept_server _ _ _ _ _ _ _ _ _ _ _ _ c.in_ok-task_of.field-0 (
+    kept_server _ _ _ _ _ _ _ _ _ _ _ _ _ _ c.in_ok-task_of.field-0 (
       refl,
       (c.short_of.ensures, c.small_of.ensures),
       record {
@@ -16,5 +16,7 @@ returns-clause-job c =
         is_reconnects = c.number_of-4.ensures;
         is_window = c.small_of-2.ensures;
         is_join = c.flag_of.ensures;
+        is_reconnect_silent = c.flag_of-2.ensures;
+        is_verbose = c.flag_of-3.ensures;
       },
     ) c.in_ok-task_of.ensures
