@@ -48,7 +48,9 @@ pub(crate) fn say_away<C: Clock, W: Write>(
     ensures { (lines : List ℕ) × Appends (W.contents notices.old) (W.contents notices.new) lines }
 {
     let why = match fault {
-        Some(fault) => InlineText::<WHY_MAX>::new().and_str(": ", 2).and(fault, WHY_MAX),
+        Some(fault) => InlineText::<WHY_MAX>::new()
+            .and_str(": ", 2)
+            .and(fault, WHY_MAX),
         None => InlineText::new(),
     };
     let words = why.as_str().as_bytes();
