@@ -71,11 +71,11 @@ fn faults_are_told(rt: HostRuntime) -> Result<(), Fail> {
     for (fault, want) in [
         (KeepFault::InUse, "state in use"),
         (KeepFault::NotOurs, "state is not ours"),
-        (KeepFault::Newer(2), "state is of a later version (2)"),
-        (KeepFault::Older(0), "state is of an earlier version (0)"),
+        (KeepFault::Newer(2), "state is of a later version"),
+        (KeepFault::Older(0), "state is of an earlier version"),
         (KeepFault::Damaged, "state damaged"),
         (KeepFault::Unreachable, "state out of reach"),
-        (KeepFault::Full, "no room for state"),
+        (KeepFault::Full, "no room for the state"),
         (KeepFault::OutOfMemory, "out of memory"),
         (KeepFault::Failed, "state failed"),
     ] {
