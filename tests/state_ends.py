@@ -71,10 +71,13 @@ def put(folder, files):
 
 def free_port():
     """A port on which nobody listens, below those that the system gives the near end of a connection: one that is dialled before anybody
-    listens there could be connected to itself."""
+    listens there could be connected to itself. It is bound and not listened on: a child that another thread starts meanwhile has it open
+    too until it is the program, so a listener would hold the port and take a connection for so long."""
     while True:
         port = random.randrange(10000, 32000)
-        with contextlib.suppress(OSError), contextlib.closing(socket.create_server(("127.0.0.1", port))):
+        with contextlib.suppress(OSError), socket.socket() as tried:
+            tried.setsockopt(socket.SOL_SOCKET, socket.SO_REUSEADDR, 1)
+            tried.bind(("127.0.0.1", port))
             return port
 
 
