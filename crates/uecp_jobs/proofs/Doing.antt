@@ -26,9 +26,9 @@ use Rattle.output_forms.specs.Forms.{found_lines, answer_lines, store_lines}
 use Rattle.uecp_jobs.specs.PhraseScript.{MakesWords, first_heading, left_line}
 use Rattle.uecp_jobs.specs.FrameScript.{Makes, spelled_line}
 use Rattle.uecp_jobs.specs.Playing.{PlaysIn, Plays, closing_lines}
-use Rattle.uecp_jobs.specs.Setups.{Options, RefusesSetup, encoder_at_first, line_at_first}
+use Rattle.uecp_jobs.specs.Setups.{Options, IsSetup, RefusesSetup, encoder_at_first, line_at_first}
 use Rattle.uecp_jobs.specs.Jobs.{options, Describes, IsLocal, ByCommand, JobPrints, JobBreaks, RefusesJob, DoesJob}
-use Rattle.uecp_jobs.specs.Jobs.{Wrote}
+use Rattle.uecp_jobs.specs.Jobs.{Wrote, IsDescribed}
 use Rattle.uecp_jobs.proofs.Parts.{whole_part}
 
 -- what is told of a meaning, a value, and closing lines
@@ -74,6 +74,35 @@ setup_refused (Encoder site encoder sets services port connections turns) o faul
 setup_refused (Server site encoder host port tries timeout turns reconnects window join reconnect_silent verbose) o
     fault is refused = absurd is
 
+-- a job whose encoder was refused, or whose command ran
+pub refused_or_does : {V : Type 0} (job : Job) (o : Options) (meaning : Meaning V) (v : V) (closing : V → List ℕ)
+    (unread unread' held held' : Option (List ℕ)) (unmoved unwritten : Type 0) (result : Result (Unit {0}) RunFault) →
+    Describes job o
+    → ((fault : RunFault) × (result ≡ Err fault) × RefusesSetup o fault × unmoved × unwritten)
+    ⊎ RunsWhole meaning v closing unread unread' held held' result
+    → ((tells : Tells) → tells V meaning v closing → ByCommand job tells)
+    → ((fault : RunFault) × (result ≡ Err fault) × RefusesJob job fault × unmoved × unwritten)
+    ⊎ DoesJob job unread unread' held held' result
+refused_or_does job o meaning v closing unread unread' held held' unmoved unwritten result is did by = elim did [
+  | inl (fault, same, refused, stays, kept) ↦ inl (fault, same, setup_refused job o fault is refused, stays, kept)
+  | inr ran ↦ inr (does_by job meaning v closing unread unread' held held' result ran by)
+]
+
+-- a job whose encoder is described
+pub setup_described : (job : Job) (o : Options) → Describes job o → IsSetup o → IsDescribed job
+setup_described Show o is described = absurd is
+setup_described (ShowAs form) o is described = absurd is
+setup_described (Watch form time) o is described = absurd is
+setup_described Make o is described = absurd is
+setup_described (MakeWords region) o is described = absurd is
+setup_described (AnswerAs site encoder sets services store form) o is described = subst IsSetup is described
+setup_described (Answer site encoder sets services store) o is described = subst IsSetup is described
+setup_described (Line site encoder sets services store) o is described = subst IsSetup is described
+setup_described (LineAs site encoder sets services store form) o is described = subst IsSetup is described
+setup_described (Encoder site encoder sets services port connections turns) o is described = subst IsSetup is described
+setup_described (Server site encoder host port tries timeout turns reconnects window join reconnect_silent verbose) o
+    is described = absurd is
+
 -- ---- each command
 pub showed_in : (form : Form) (s : Showing) (unread unread' held held' : Option (List ℕ))
     (result : Result (Unit {0}) RunFault) → (s.deframer ≡ Closed) × (s.form ≡ form) →
@@ -93,15 +122,13 @@ pub made : (m : Making) (unread unread' held held' : Option (List ℕ)) (result 
     → m.frame ≡ None →
     RunsWhole (λ (m : Making) text outcome (m' : Making). Makes m.frame text outcome m'.frame) m
     (λ (m : Making). spelled_line m.frame) unread unread' held held' result →
-    DoesJob Make unread unread' held held' result
+    RunsWhole Makes None spelled_line unread unread' held held' result
 made m unread unread' held held' result none ran =
-    does_by Make Makes None spelled_line unread unread' held held' result
-    (subst (λ frame. RunsWhole Makes frame spelled_line unread unread' held held' result) none
+    subst (λ frame. RunsWhole Makes frame spelled_line unread unread' held held' result) none
     (whole_part {F = ℕ} (λ (m : Making) text outcome (m' : Making). Makes m.frame text outcome m'.frame) (λ _. Makes)
     (λ (m : Making). m.frame) (λ _. 0) (λ v text outcome v' m. (m, refl))
     m (λ (m : Making). spelled_line m.frame) (λ _ frame. spelled_line frame) unread unread' held held' result
-    (λ v'. refl) ran))
-    (λ tells told. told)
+    (λ v'. refl) ran)
 
 pub made_of_words : (region : Region) (m : MakingWords) (unread unread' held held' : Option (List ℕ))
     (result : Result (Unit {0}) RunFault) → (m.region ≡ region) × (m.heading ≡ first_heading) →

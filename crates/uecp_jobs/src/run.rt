@@ -1,10 +1,18 @@
 //! A job from its input to its exit status (profile).
-ghost use Rattle.std.specs.Prelude.{◌≡◌, ◌⊎◌, ◌≤◌, Err, IfOk};
+ghost use Rattle.std.specs.Prelude.{◌≡◌, ◌⊎◌, ◌≤◌, [], None, Err, IfOk};
+ghost use Rattle.uecp_frame.specs.Findings.{Closed};
 ghost use Rattle.uecp_text.specs.Faults.{status_of, error_lines};
 ghost use Rattle.uecp_text.specs.Written.{Begins};
+ghost use Rattle.uecp_text.specs.Run.{RunsWhole};
 ghost use Rattle.uecp_text.specs.declared.run_fault.RunFault.{RunFault};
 ghost use Rattle.uecp_jobs.specs.Jobs.{IsLocal, IsDescribed, RefusesJob, DoesJob, IsDone, IsRefused, IsUndescribed};
 ghost use Rattle.uecp_jobs.specs.Jobs.{HasFailed};
+ghost use Rattle.uecp_jobs.specs.Commands.{ShowsIn, AnswersIn};
+ghost use Rattle.uecp_jobs.specs.FrameScript.{Makes, spelled_line};
+ghost use Rattle.uecp_jobs.specs.PhraseScript.{MakesWords, first_heading, left_line};
+ghost use Rattle.uecp_jobs.specs.Playing.{PlaysIn, closing_lines};
+ghost use Rattle.uecp_jobs.specs.Setups.{options_of, IsSetup, RefusesSetup, encoder_at_first, line_at_first};
+ghost use Rattle.output_forms.specs.Forms.{found_lines, answer_lines, store_lines};
 
 use crate::answering::Answering;
 use crate::asked::Asked;
@@ -12,9 +20,10 @@ use crate::event_script::Playing;
 use crate::frame_script::Making;
 use crate::job::Job;
 use crate::phrase_script::MakingWords;
-use crate::setup::setup_of;
+use crate::setup::{Setup, setup_of};
 use crate::showing::Showing;
 use output_forms::Form;
+use rds_text::Region;
 use std::alloc::Global;
 use std::io::{Read, Write};
 use uecp_text::{RunFault, report, run};
@@ -68,48 +77,112 @@ fn do_job<R: Read, W: Write>(
         (W.contents writer.old) (W.contents writer.new) result }
 {
     match job {
-        Job::Show => run(alloc, reader, &mut Showing::new(alloc, Form::Lines), writer),
-        Job::ShowAs { form } => run(alloc, reader, &mut Showing::new(alloc, *form), writer),
-        Job::Make => run(alloc, reader, &mut Making::new(), writer),
-        Job::MakeWords { region } => run(alloc, reader, &mut MakingWords::new(*region), writer),
+        Job::Show => show(alloc, Form::Lines, reader, writer),
+        Job::ShowAs { form } => show(alloc, *form, reader, writer),
+        Job::Make => make(alloc, reader, writer),
+        Job::MakeWords { region } => make_of_words(alloc, *region, reader, writer),
         Job::Answer { store, .. } => {
-            let setup = setup_of(job);
             let asked = Asked {
                 store: *store,
                 form: Form::Lines,
             };
-            let mut answering = Answering::new(alloc, &setup, asked)?;
-            run(alloc, reader, &mut answering, writer)
+            answer(alloc, &setup_of(job), asked, reader, writer)
         }
         Job::AnswerAs { store, form, .. } => {
-            let setup = setup_of(job);
             let asked = Asked {
                 store: *store,
                 form: *form,
             };
-            let mut answering = Answering::new(alloc, &setup, asked)?;
-            run(alloc, reader, &mut answering, writer)
+            answer(alloc, &setup_of(job), asked, reader, writer)
         }
         Job::Line { store, .. } => {
-            let setup = setup_of(job);
             let asked = Asked {
                 store: *store,
                 form: Form::Lines,
             };
-            let mut playing = Playing::new(alloc, &setup, asked)?;
-            run(alloc, reader, &mut playing, writer)
+            play(alloc, &setup_of(job), asked, reader, writer)
         }
         Job::LineAs { store, form, .. } => {
-            let setup = setup_of(job);
             let asked = Asked {
                 store: *store,
                 form: *form,
             };
-            let mut playing = Playing::new(alloc, &setup, asked)?;
-            run(alloc, reader, &mut playing, writer)
+            play(alloc, &setup_of(job), asked, reader, writer)
         }
         Job::Watch { .. } | Job::Encoder { .. } | Job::Server { .. } => unreachable!(),
     }
+}
+
+/// Shows what stands in the input, in this form.
+fn show<R: Read, W: Write>(
+    alloc: Global,
+    form: Form,
+    reader: &mut R,
+    writer: &mut W,
+) -> Result<(), RunFault>
+    ensures { RunsWhole (ShowsIn (found_lines form)) Closed (λ part. []) (R.remaining reader.old)
+        (R.remaining reader.new) (W.contents writer.old) (W.contents writer.new) result }
+{
+    run(alloc, reader, &mut Showing::new(alloc, form), writer)
+}
+
+/// Makes the frames of a script.
+fn make<R: Read, W: Write>(alloc: Global, reader: &mut R, writer: &mut W) -> Result<(), RunFault>
+    ensures { RunsWhole Makes None spelled_line (R.remaining reader.old) (R.remaining reader.new)
+        (W.contents writer.old) (W.contents writer.new) result }
+{
+    run(alloc, reader, &mut Making::new(), writer)
+}
+
+/// Makes the frames of a phrase script, with the programme types of this region.
+fn make_of_words<R: Read, W: Write>(
+    alloc: Global,
+    region: Region,
+    reader: &mut R,
+    writer: &mut W,
+) -> Result<(), RunFault>
+    ensures { RunsWhole (MakesWords region) first_heading left_line (R.remaining reader.old) (R.remaining reader.new)
+        (W.contents writer.old) (W.contents writer.new) result }
+{
+    run(alloc, reader, &mut MakingWords::new(region), writer)
+}
+
+/// Answers the input as the encoder of these options. They are judged before anything is read or written.
+fn answer<R: Read, W: Write>(
+    alloc: Global,
+    setup: &Setup<'_>,
+    asked: Asked,
+    reader: &mut R,
+    writer: &mut W,
+) -> Result<(), RunFault>
+    ensures described { IfOk result (λ _. IsSetup (options_of setup.now)) }
+    ensures answers { ((fault : RunFault) × (result ≡ Err fault) × RefusesSetup (options_of setup.now) fault
+        × (reader.new ≡ reader.old) × (writer.new ≡ writer.old))
+        ⊎ RunsWhole (AnswersIn (answer_lines asked.form)) (encoder_at_first (options_of setup.now))
+        (λ e. store_lines asked.form asked.store e.value) (R.remaining reader.old) (R.remaining reader.new)
+        (W.contents writer.old) (W.contents writer.new) result }
+{
+    let mut answering = Answering::new(alloc, setup, asked)?;
+    run(alloc, reader, &mut answering, writer)
+}
+
+/// Plays the events of the input on a line to the encoder of these options. They are judged before anything is read or
+/// written.
+fn play<R: Read, W: Write>(
+    alloc: Global,
+    setup: &Setup<'_>,
+    asked: Asked,
+    reader: &mut R,
+    writer: &mut W,
+) -> Result<(), RunFault>
+    ensures described { IfOk result (λ _. IsSetup (options_of setup.now)) }
+    ensures plays { ((fault : RunFault) × (result ≡ Err fault) × RefusesSetup (options_of setup.now) fault
+        × (reader.new ≡ reader.old) × (writer.new ≡ writer.old))
+        ⊎ RunsWhole (PlaysIn asked.form) (line_at_first (options_of setup.now)) (closing_lines asked.form asked.store)
+        (R.remaining reader.old) (R.remaining reader.new) (W.contents writer.old) (W.contents writer.new) result }
+{
+    let mut playing = Playing::new(alloc, setup, asked)?;
+    run(alloc, reader, &mut playing, writer)
 }
 
 /// Says on the writer of errors why a run stopped, and answers its status. A text that can't be written changes
