@@ -2,9 +2,10 @@
 
 use output_forms::Form;
 use rds_text::Region;
+use std::fmt;
 
 /// One command with its options. `uecp_cli`'s `parse` answers no other numbers than the ranges named here.
-#[derive(Debug, Drop, PartialEq, Eq)]
+#[derive(Drop, PartialEq, Eq)]
 pub enum Job {
     /// What an encoder answers to the pieces on standard input.
     Answer {
@@ -127,4 +128,28 @@ pub enum Job {
         /// Whether it is said why a connection could not be made.
         verbose: bool,
     },
+}
+
+/// The variant's name alone: the options can be many.
+impl fmt::Debug for Job {
+    fn fmt<W: fmt::Write>(&self, f: &mut fmt::Formatter<W>) -> fmt::Result {
+        f.write_str(name_of(self))
+    }
+}
+
+/// The variant's name.
+fn name_of(job: &Job) -> &'static str {
+    match job {
+        Job::Answer { .. } => "Answer",
+        Job::AnswerAs { .. } => "AnswerAs",
+        Job::Show => "Show",
+        Job::ShowAs { .. } => "ShowAs",
+        Job::Watch { .. } => "Watch",
+        Job::Make => "Make",
+        Job::MakeWords { .. } => "MakeWords",
+        Job::Line { .. } => "Line",
+        Job::LineAs { .. } => "LineAs",
+        Job::Encoder { .. } => "Encoder",
+        Job::Server { .. } => "Server",
+    }
 }
