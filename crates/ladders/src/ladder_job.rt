@@ -66,6 +66,8 @@ fn draw_ladder<R: Read, W: Write>(
         ⊎ DoesLadder job.now (R.remaining reader.old) (R.remaining reader.new) (W.contents writer.old)
         (W.contents writer.new) result }
 {
-    let mut drawing = Drawing::new(alloc, job)?;
-    run(alloc, reader, &mut drawing, writer)
+    match Drawing::new(alloc, job) {
+        Ok(mut drawing) => run(alloc, reader, &mut drawing, writer),
+        Err(fault) => Err(fault),
+    }
 }
