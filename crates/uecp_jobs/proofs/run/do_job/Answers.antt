@@ -32,7 +32,8 @@ returns-in-ShowAs-clause-does g c =
     let now = c.show-in-ShowAs in
     inr (subst (λ job. DoesJob job (left c.args.reader.now) (left now.new.reader) (held c.args.writer.now)
     (held now.new.writer) now.result) (sym i.is)
-    (does_by (ShowAs i.form) (ShowsIn (found_lines i.form)) Closed (λ part. []) (left c.args.reader.now) (left now.new.reader)
+    (does_by (ShowAs i.form) (ShowsIn (found_lines i.form)) Closed (λ part. []) (left c.args.reader.now)
+    (left now.new.reader)
     (held c.args.writer.now) (held now.new.writer) now.result now.ensures (λ tells told. told)))
 
 pub returns-in-Make-clause-does : goal.returns-in-Make-clause-does
@@ -54,7 +55,8 @@ returns-in-MakeWords-clause-does g c =
     let now = c.make_of_words in
     inr (subst (λ job. DoesJob job (left c.args.reader.now) (left now.new.reader) (held c.args.writer.now)
     (held now.new.writer) now.result) (sym i.is)
-    (does_by (MakeWords i.region) (MakesWords i.region) first_heading left_line (left c.args.reader.now) (left now.new.reader)
+    (does_by (MakeWords i.region) (MakesWords i.region) first_heading left_line (left c.args.reader.now)
+    (left now.new.reader)
     (held c.args.writer.now) (held now.new.writer) now.result now.ensures (λ tells told. told)))
 
 pub returns-in-Answer-clause-described : goal.returns-in-Answer-clause-described
@@ -72,13 +74,15 @@ returns-in-Answer-clause-does g c =
     let setup = options_of c.setup_of.result in
     let is_setup : setup ≡ options i.site i.encoder i.sets i.services.items =
     subst (λ job. Describes job setup) i.is c.setup_of.ensures in
-    refused_or_does c.args.job.now setup (AnswersIn (answer_lines Lines)) (encoder_at_first setup) (λ e. store_lines Lines i.store e.value)
+    refused_or_does c.args.job.now setup (AnswersIn (answer_lines Lines)) (encoder_at_first setup)
+    (λ e. store_lines Lines i.store e.value)
     (left c.args.reader.now) (left now.new.reader) (held c.args.writer.now) (held now.new.writer)
     (◌≡◌ {A = g.row.R.Denot} now.new.reader c.args.reader.now)
     (◌≡◌ {A = g.row.W.Denot} now.new.writer c.args.writer.now) now.result c.setup_of.ensures
     now.ensures.answers
     (λ tells told. subst (λ job. ByCommand job tells) (sym i.is)
-    (subst (λ o. tells _ (AnswersIn (answer_lines Lines)) (encoder_at_first o) (λ e. store_lines Lines i.store e.value)) is_setup told))
+    (subst (λ o. tells _ (AnswersIn (answer_lines Lines)) (encoder_at_first o)
+    (λ e. store_lines Lines i.store e.value)) is_setup told))
 
 pub returns-in-AnswerAs-clause-described : goal.returns-in-AnswerAs-clause-described
 returns-in-AnswerAs-clause-described g c =
@@ -95,13 +99,15 @@ returns-in-AnswerAs-clause-does g c =
     let setup = options_of c.setup_of-in-AnswerAs.result in
     let is_setup : setup ≡ options i.site i.encoder i.sets i.services.items =
     subst (λ job. Describes job setup) i.is c.setup_of-in-AnswerAs.ensures in
-    refused_or_does c.args.job.now setup (AnswersIn (answer_lines i.form)) (encoder_at_first setup) (λ e. store_lines i.form i.store e.value)
+    refused_or_does c.args.job.now setup (AnswersIn (answer_lines i.form)) (encoder_at_first setup)
+    (λ e. store_lines i.form i.store e.value)
     (left c.args.reader.now) (left now.new.reader) (held c.args.writer.now) (held now.new.writer)
     (◌≡◌ {A = g.row.R.Denot} now.new.reader c.args.reader.now)
     (◌≡◌ {A = g.row.W.Denot} now.new.writer c.args.writer.now) now.result c.setup_of-in-AnswerAs.ensures
     now.ensures.answers
     (λ tells told. subst (λ job. ByCommand job tells) (sym i.is)
-    (subst (λ o. tells _ (AnswersIn (answer_lines i.form)) (encoder_at_first o) (λ e. store_lines i.form i.store e.value)) is_setup told))
+    (subst (λ o. tells _ (AnswersIn (answer_lines i.form)) (encoder_at_first o)
+    (λ e. store_lines i.form i.store e.value)) is_setup told))
 
 pub returns-in-Line-clause-described : goal.returns-in-Line-clause-described
 returns-in-Line-clause-described g c =
