@@ -20,7 +20,7 @@ use Rattle.sqlite.specs.Effect.{Database}
 use Rattle.sqlite.specs.State.{State, Opens}
 use Rattle.sqlite.specs.Start.{FindsIn}
 use Rattle.sqlite.specs.Held.{AreDatabases}
-use Rattle.sqlite.specs.Files.{HoldsDatabase, over_files, file_state, image_of}
+use Rattle.sqlite.specs.Files.{over_files, file_state, image_of}
 use Rattle.sqlite.specs.Closing.{HoldsAlone, IsCopied}
 use Rattle.sqlite.proofs.Theorems.{opens_again}
 use Rattle.kept_state.specs.Kept.{Holds}

@@ -1,20 +1,20 @@
 -- What follows from one database for the next, and for a crash.
-use Rattle.std.proofs.Common.{◌≡◌, ◌⊎◌, inl, inr, ℕ, List, [], ◌∷◌, Option, None, Some, IsTrue, refl, sym, ap, subst}
+use Rattle.std.proofs.Common.{◌≡◌, inl, inr, ℕ, List, [], ◌∷◌, Option, None, Some, IsTrue, refl, sym, ap, subst}
 use Rattle.std.proofs.Common.{subst₂, ◌∙◌}
 use Rattle.std.specs.List.{AllZip}
 use Rattle.sqlite.specs.Order.{Row, column}
 use Rattle.sqlite.specs.declared.types.Value.TheVariants.{Blob}
 use Rattle.sqlite.specs.Tree.{Trees}
 use Rattle.sqlite.specs.Store.{Ghosts}
-use Rattle.sqlite.specs.Held.{Held, state}
+use Rattle.sqlite.specs.Held.{state}
 use Rattle.sqlite.specs.Effect.{Database, IsDatabase}
-use Rattle.sqlite.specs.State.{State, HasCleanDisk, Opens, IsLive, Survives}
+use Rattle.sqlite.specs.State.{State, Opens, IsLive}
 use Rattle.sqlite.specs.Table.{Table}
 use Rattle.sqlite.specs.Schema.{Schema}
 use Rattle.std.specs.Prelude.{Vec, Result, Ok, Err, IfOk, OnOk}
 use Rattle.std.specs.declared.alloc.Global.{Global}
 use Rattle.kept_state.specs.Keeper.{Keeper, Keeps}
-use Rattle.kept_state.specs.Kept.{kept_table, kept_schema, no_schema, IsFresh, IsOurs, HasNone, HasImage, HasTable, Has}
+use Rattle.kept_state.specs.Kept.{kept_table, kept_schema, no_schema, IsFresh, IsOurs, HasNone, HasTable}
 use Rattle.kept_state.specs.Kept.{Holds, Stands, bytes_of}
 
 unlisted : (P : Row → Table → Type 0) (rows : List Row) (table : Table) → AllZip P rows []

@@ -1,7 +1,7 @@
 -- What the statements over the table of one row do.
-use Rattle.std.proofs.Common.{length, suc, ◌+◌, ◌≤◌, arith, Option, IfOk, MatchOption, ◌≡◌, ◌⊎◌, inl, inr, ℕ, pos}
-use Rattle.std.proofs.Common.{negsuc, List, [], ◌∷◌, map, codes, slice_get, Bool, true, false, cond, Some, None, Ok}
-use Rattle.std.proofs.Common.{Err, Result, IsTrue, OnOk, OnErr, refl, sym, ap, subst, subst₂, ◌∙◌}
+use Rattle.std.proofs.Common.{length, suc, ◌≤◌, arith, Option, IfOk, MatchOption, ◌≡◌, ◌⊎◌, inl, inr, ℕ, pos}
+use Rattle.std.proofs.Common.{negsuc, List, [], ◌∷◌, map, codes, Bool, true, false, cond, Some, None, Ok}
+use Rattle.std.proofs.Common.{Err, Result, IsTrue, refl, sym, ap, subst, subst₂, ◌∙◌}
 use Rattle.std.specs.List.Sorted.{IsPermutation}
 use Rattle.std.proofs.lemmas.List.Sorted.{length_permutation}
 use Rattle.std.specs.List.{flat_map}
@@ -18,7 +18,7 @@ use Rattle.sqlite.specs.Schema.{Schema}
 use Rattle.sqlite.specs.Kind.TheVariants.{Integer}
 use Rattle.sqlite.specs.Command.{Command}
 use Rattle.sqlite.specs.Command.TheVariants.{Update, Select, Insert, CreateTable, Commit, Release}
-use Rattle.sqlite.specs.Edit.{Edit, edit_of, edited}
+use Rattle.sqlite.specs.Edit.{edit_of, edited}
 use Rattle.sqlite.specs.Cast.{cast}
 use Rattle.sqlite.specs.Rowids.TheVariants.{Given, Chosen}
 use Rattle.sqlite.specs.Does.{Tally, Does, lacks_sequence}
@@ -31,31 +31,27 @@ use Rattle.sqlite_value.proofs.OrderLemmas.{value_cmp-Int}
 use Rattle.std.specs.declared.cmp.Ordering.TheVariants.{Equal}
 use Rattle.sqlite_rules.specs.Calls.{ids_of}
 use Rattle.sqlite.specs.Tree.{Trees}
-use Rattle.sqlite.specs.Store.{Ghosts}
-use Rattle.sqlite.specs.Held.{Held, state}
 use Rattle.sqlite_tied.specs.Compute.{everything}
 use Rattle.sqlite.specs.declared.error.Error.{Error}
 use Rattle.sqlite.specs.Listing.{understood, reads_listing}
 use Rattle.sqlite.specs.Effect.{Database}
 use Rattle.sqlite.specs.Clock.{timed}
-use Rattle.sqlite_resolve.specs.declared.compiled.Compiled.{Compiled}
 use Rattle.sqlite.specs.declared.run.Mode.{Mode}
 use Rattle.sqlite.specs.State.{State, HasCleanDisk, mode_of, Writes, Executes, ExecutesIn, IsNotRun, IsUnchanged}
-use Rattle.sqlite.specs.State.{IsRolledBack, Opens, RunsCommand, FailsToShow, FailsToQuery, Shown, CommitsShowing}
-use Rattle.sqlite.specs.State.{shows_rows, text_of, CommitsBy, Survives, IsStatement, MayCommit}
+use Rattle.sqlite.specs.State.{IsRolledBack, RunsCommand, FailsToShow, FailsToQuery, Shown, CommitsShowing}
+use Rattle.sqlite.specs.State.{shows_rows, text_of, CommitsBy, Survives, MayCommit}
 use Rattle.sqlite.proofs.StateLemmas.{survives_weaker}
 use Rattle.std.proofs.lemmas.Bool.{cases_Bool}
 use Rattle.std.proofs.Common.{append-nil}
 use Rattle.sqlite_schema.specs.declared.command.Returning.{Returning}
 use Rattle.sqlite.proofs.Callers.{IsPlain, command_of, statement_of, runs_as, reads_as, never_commits, one_step}
 use Rattle.sqlite.proofs.Callers.{one_permutation}
-use Rattle.sqlite.specs.State.{MayWrite}
 use Rattle.sqlite.specs.Effect.{IsDatabase}
 use Rattle.kept_state.specs.declared.fault.KeepFault.{KeepFault}
 use Rattle.kept_state.specs.declared.fault.KeepFault.TheVariants as fault
 use Rattle.kept_state.specs.Fault.{HasVersion, IsRefused, AreRefused}
 use Rattle.kept_state.specs.Kept.{kept_table, kept_schema, no_schema, HasNone, IsFresh, IsOurs, stored_row, shown_row}
-use Rattle.kept_state.specs.Kept.{Holds, Has, HasImage, HasTable, Stands, bytes_of}
+use Rattle.kept_state.specs.Kept.{Holds, HasImage, HasTable, Stands, bytes_of}
 
 either : (b : Bool) (x : Value) → cond b x x ≡ x
 either true x = refl

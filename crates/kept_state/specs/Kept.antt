@@ -1,7 +1,7 @@
 -- A file that keeps one image: a database of one table with one row, and what a crash may leave of it.
 use Rattle.sqlite.specs.Collation.TheVariants.{Binary}
 use Rattle.std.specs.Prelude.{◌≡◌, ◌⊎◌, true, false, [], ◌∷◌, Option, None, Some, option_map, codes, ℕ, List, Vec, pos}
-use Rattle.std.specs.Prelude.{IsTrue, ⊤}
+use Rattle.std.specs.Prelude.{IsTrue}
 use Rattle.std.specs.declared.alloc.Global.{Global}
 use Rattle.sqlite.specs.declared.types.Value.TheVariants.{Null, Int, Blob as Bytes}
 use Rattle.sqlite.specs.Order.{Row, column}

@@ -1,5 +1,5 @@
 -- What a crash leaves, as the value that is read again.
-use Rattle.std.specs.Prelude.{◌≡◌, Option, None, Some, ℕ, List, ⊤}
+use Rattle.std.specs.Prelude.{Option, None, Some, ℕ, List, ⊤}
 use Rattle.sqlite.specs.Tree.{Trees}
 use Rattle.sqlite.specs.Store.{Ghosts}
 use Rattle.sqlite.specs.Recovery.{Image}

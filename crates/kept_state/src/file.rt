@@ -10,10 +10,11 @@ ghost use Rattle.kept_state.specs.Files.{FilesHold, FileHolds, HoldLeft};
 ghost use Rattle.kept_state.specs.Saved.{FilesHoldValue, KeepsValue};
 
 use crate::fault::{KeepFault, opening_fault};
-use crate::kept::{Kept, Opened};
-use crate::saved::{Found, Image, Saved};
+use crate::kept::{Kept, Opened, Rows};
+use crate::saved::{Found, Image, Saved, value_of};
 use sqlite::{Connection, FileFrom, FileStore, Files, Start, Wary};
 use sqlite_disk::Disk;
+use std::marker::PhantomData;
 use std::rt::HostRuntime;
 
 /// The store of a database file at a path, whose commits suppose nothing of a write that a crash tears.
@@ -42,14 +43,26 @@ pub fn open_from<S: Start>(
         → IfOk result (λ r. IsClean over_files r.kept → bytes_of r.image ≡ image) }
     ensures version { IfOk result (λ r. r.kept.version ≡ version) }
 {
-    let conn = match Connection::open_from(rt, path, false, start) {
-        Ok(conn) => conn,
-        Err((error, _)) => return Err(opening_fault(error)),
-    };
-    match Kept::over(conn, version) {
-        Ok(opened) => Ok(opened),
-        Err((fault, _)) => Err(fault),
+    match Connection::open_from(rt, path, false, start) {
+        Err((error, _)) => Err(opening_fault(error)),
+        Ok(conn) => match Kept::over(conn, version) {
+            Ok(opened) => Ok(opened),
+            Err((fault, conn)) => {
+                let rows = Rows::Unsure;
+                let_go(Kept {
+                    conn,
+                    version,
+                    rows,
+                });
+                Err(fault)
+            }
+        },
     }
+}
+
+/// Lets the file go as it is, with no further write.
+fn let_go<D: Disk + Drop>(kept: Kept<FileStore<D>>) {
+    drop(kept.stop());
 }
 
 /// As `open`, for a value.
@@ -81,13 +94,21 @@ pub fn open_value_from<S: Start, T: Image>(
         → IfOk result (λ r. IsClean over_files r.saved → r.value ≡ None) }
     ensures version { IfOk result (λ r. r.saved.version ≡ version) }
 {
-    let opened = match open_from(rt, path, version, start) {
+    let Opened { kept, image } = match open_from(rt, path, version, start) {
         Ok(opened) => opened,
         Err(fault) => return Err(fault),
     };
-    match Saved::over(opened, rt.alloc()) {
-        Ok(found) => Ok(found),
-        Err(fault) => Err(fault),
+    let alloc = rt.alloc();
+    match value_of(&image, alloc) {
+        Err(fault) => {
+            let_go(kept);
+            Err(fault)
+        }
+        Ok(value) => {
+            let of = PhantomData;
+            let saved = Saved { kept, alloc, of };
+            Ok(Found { saved, value })
+        }
     }
 }
 
@@ -143,7 +164,12 @@ impl<D: Disk + Drop, T: Image> Saved<FileStore<D>, T> {
             → outcomes D.Disk files.log files.db left → FilesHoldValue T.Image.reads self.version
             (record left { log = [] }) value) }
     {
-        match self.into_kept().close() {
+        let Saved {
+            kept,
+            alloc: _,
+            of: _,
+        } = self;
+        match kept.close() {
             Ok(files) => Ok(files),
             Err(fault) => Err(fault),
         }
@@ -155,6 +181,11 @@ impl<D: Disk + Drop, T: Image> Saved<FileStore<D>, T> {
             → AreClean D.Disk result.log result.db → (left : Held) → outcomes D.Disk result.log result.db left
             → FilesHoldValue T.Image.reads self.version left value }
     {
-        self.into_kept().stop()
+        let Saved {
+            kept,
+            alloc: _,
+            of: _,
+        } = self;
+        kept.stop()
     }
 }

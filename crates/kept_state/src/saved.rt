@@ -36,9 +36,9 @@ pub trait Image: Sized + Drop {
 /// Keeps a value of one type. Clauses see what its `Kept` shows.
 #[derive(Drop)]
 pub struct Saved<S: Alter, T> {
-    kept: Kept<S>,
-    alloc: Global,
-    of: PhantomData<T>,
+    pub(crate) kept: Kept<S>,
+    pub(crate) alloc: Global,
+    pub(crate) of: PhantomData<T>,
 }
 
 impl<S: Alter, T> Model for Saved<S, T> {
@@ -101,7 +101,10 @@ impl<S: Alter, T: Image> Saved<S, T> {
 }
 
 /// The value of an image, where there is one.
-fn value_of<T: Image>(image: &Option<Vec<u8>>, alloc: Global) -> Result<Option<T>, KeepFault>
+pub(crate) fn value_of<T: Image>(
+    image: &Option<Vec<u8>>,
+    alloc: Global,
+) -> Result<Option<T>, KeepFault>
     ensures value { IfOk result (λ value. ReadsAs T.Image.reads (bytes_of image.now) value) }
     ensures unread { IfErr result (λ e. (e ≡ OutOfMemory)
         ⊎ ((e ≡ Damaged) × (bytes : List ℕ) × (bytes_of image.now ≡ Some bytes)

@@ -1,4 +1,4 @@
-use Rattle.std.proofs.Common.{◌∙◌, subst, subst₂, sym, ap, ◌≡◌, ◌≤◌, length, map, List}
+use Rattle.std.proofs.Common.{subst, subst₂, sym, ◌≡◌, ◌≤◌, length, map, List}
 use Rattle.sqlite.specs.Effect.{Database}
 use Rattle.sqlite.specs.Order.{Row}
 use Rattle.sqlite.specs.Held.{state}

@@ -6,5 +6,5 @@ pub returns-in-Ok : goal.returns-in-Ok
 returns-in-Ok g c = record {
   left = λ value keeps clean left may.
       let rows = c.in-Ok.ensures.rows clean left may in
-      value_moved g.T.Image.reads over_files _ _ c.into_kept.ensures value _ keeps rows;
+      value_moved g.T.Image.reads over_files _ _ c.self.view_is value _ keeps rows;
 }

@@ -1,5 +1,4 @@
-use Rattle.std.proofs.Common.{None, Some, rules}
-use Rattle.sqlite.specs.Held.{state}
+use Rattle.std.proofs.Common.{None, Some}
 use Rattle.kept_state.proofs.KeepLemmas.{keeps_table}
 use Rattle.kept_state.proofs.kept.Kept.over.Goals as goal
 

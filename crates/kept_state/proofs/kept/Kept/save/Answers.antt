@@ -1,7 +1,4 @@
 use Rattle.std.proofs.Common.{◌≡◌, Some, sym, ap, ◌∙◌}
-use Rattle.sqlite.specs.Held.{Held, state}
-use Rattle.kept_state.specs.Keeper.{Keeper}
-use Rattle.kept_state.specs.declared.kept.Rows.{Rows}
 use Rattle.kept_state.specs.declared.kept.Rows.TheVariants.{Unsure}
 use Rattle.kept_state.proofs.KeepLemmas.{keeps_table}
 use Rattle.kept_state.proofs.kept.Kept.save.Goals as goal
