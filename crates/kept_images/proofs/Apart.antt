@@ -31,6 +31,13 @@ exact_there value a false is = absurd (cc)
 pub exact_is : (value a : ℕ) → Some a ≡ exact_of value → a ≡ value
 exact_is value a is = exact_there value a (is_exact value) is
 
+exact_found : (value : ℕ) (b : Bool) → b ≡ true → if◌then◌else◌ {A = Option ℕ} b (Some value) None ≡ Some value
+exact_found value true is = refl
+exact_found value false is = absurd (cc)
+
+pub exact_back : (value : ℕ) → is_exact value ≡ true → exact_of value ≡ Some value
+exact_back value is = exact_found value (is_exact value) is
+
 pub split_length : (count : ℕ) (rest bytes more : List ℕ) → split_off count rest ≡ Some (bytes, more)
     → length bytes ≡ count
 unfolding split_off

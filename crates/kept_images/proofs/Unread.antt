@@ -2,12 +2,14 @@
 use Rattle.std.proofs.Common.{◌≡◌, ℕ, ◌==◌, false, true, List, ◌∷◌, Result, Ok, Err, None, IfOk, IfErr, refl, ap, sym}
 use Rattle.std.proofs.Common.{subst, ◌∙◌}
 use Rattle.std.proofs.lemmas.Bool.{false≢true}
+use Rattle.rds_store.specs.Value.{Store}
+use Rattle.uecp_encoder.specs.State.{EncoderState}
 use Rattle.kept_images.specs.declared.fault.ImageFault.{ImageFault}
 use Rattle.kept_images.specs.declared.fault.ImageFault.TheVariants.{Newer, OtherEnd, Damaged, OutOfMemory}
 use Rattle.kept_images.specs.declared.server_reading.KeptServer.{KeptServer}
-use Rattle.kept_images.specs.Images.{version, encoder_kind, server_kind, sealed, server_image}
-use Rattle.kept_images.specs.Reading.{newer_of, is_headed, IsWhole, IsFaultOf, ServerRead}
-use Rattle.kept_images.specs.Parsing.{IsUnread, IsServerAsStarted}
+use Rattle.kept_images.specs.Images.{version, encoder_kind, server_kind, sealed, encoder_image, server_image}
+use Rattle.kept_images.specs.Reading.{newer_of, is_headed, IsWhole, IsFaultOf, EncoderRead, ServerRead}
+use Rattle.kept_images.specs.Parsing.{IsUnread, IsAsStarted, IsServerAsStarted}
 use Rattle.kept_images.proofs.Sealed.{sealed_same}
 
 none_newer : (kind : ℕ) (content : List ℕ) → newer_of (sealed (version ∷ kind ∷ content)) ≡ None
@@ -40,3 +42,13 @@ server_told (Ok k) kept bytes content is same image why started =
     subst (λ x. ServerRead bytes (Ok x)) (sym same) (image, started.started, started.server)
 server_told (Err fault) kept bytes content is same image why started =
     unread server_kind encoder_kind bytes content fault refl refl is why
+
+-- The same of an encoder.
+pub encoder_told : (result : Result (EncoderState Store) ImageFault) (encoder : EncoderState Store)
+    (bytes content : List ℕ) → bytes ≡ sealed (version ∷ encoder_kind ∷ content) → IfOk result (λ e. e ≡ encoder)
+    → IfOk result (λ e. bytes ≡ encoder_image encoder) → IfErr result IsUnread → IsAsStarted encoder
+    → EncoderRead bytes result
+encoder_told (Ok e) encoder bytes content is same image why started =
+    subst (λ x. EncoderRead bytes (Ok x)) (sym same) (image, started.started, started.encoder)
+encoder_told (Err fault) encoder bytes content is same image why started =
+    unread encoder_kind server_kind bytes content fault refl refl is why

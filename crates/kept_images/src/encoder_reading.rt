@@ -52,7 +52,23 @@ pub fn read_encoder(alloc: Global, bytes: &[u8]) -> Result<Encoder<RdsStore>, Im
         → GivesBack result (restarted e) }
 {
     let content = content_of(bytes, ENCODER, SERVER)?;
-    let encoder = encoder_in(alloc, content)?;
+    match encoder_in(alloc, content) {
+        Err(fault) => Err(fault),
+        Ok(encoder) => checked(alloc, encoder, bytes),
+    }
+}
+
+/// The encoder, where these bytes are its image.
+fn checked(
+    alloc: Global,
+    encoder: Encoder<RdsStore>,
+    bytes: &[u8],
+) -> Result<Encoder<RdsStore>, ImageFault>
+    ensures same { IfOk result (λ e. e ≡ encoder) }
+    ensures image { IfOk result (λ e. bytes.now ≡ encoder_image encoder) }
+    ensures fault { IfErr result IsUnread }
+    ensures complete { bytes.now ≡ encoder_image encoder → GivesBack result encoder }
+{
     if is_image(alloc, &encoder, bytes)? {
         Ok(encoder)
     } else {

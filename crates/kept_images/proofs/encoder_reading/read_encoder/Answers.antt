@@ -1,32 +1,31 @@
-use Rattle.std.proofs.Common.{◌≡◌, ◌∷◌, Err, refl, ap, sym, subst, ◌∙◌, IsTrue, rules}
-use Rattle.std.proofs.lemmas.Bool.{false≢true}
+use Rattle.std.proofs.Common.{◌≡◌, refl, ap, sym, subst, ◌∙◌}
 use Rattle.uecp_encoder.specs.State.{restarted}
-use Rattle.kept_images.specs.declared.fault.ImageFault.TheVariants.{OutOfMemory}
-use Rattle.kept_images.specs.Images.{version, encoder_kind, encoder_content, encoder_image}
-use Rattle.kept_images.specs.Reading.{EncoderRead, IsWhole}
+use Rattle.kept_images.specs.Images.{encoder_kind, server_kind, encoder_content, encoder_image}
+use Rattle.kept_images.specs.Reading.{GivesBack}
 use Rattle.kept_images.proofs.Sealed.{content_same}
+use Rattle.kept_images.proofs.Unread.{unread, encoder_told}
 use Rattle.kept_images.proofs.encoder_reading.read_encoder.Goals as goal
 
-pub returns-in_err-is_image-clause-read : goal.returns-in_err-is_image-clause-read
-returns-in_err-is_image-clause-read c =
-    let whole : IsWhole encoder_kind c.args.bytes.now = record {
-      body = version ∷ encoder_kind ∷ c.in_ok-content.content.now;
-      is_sealed = c.in_ok-content.ensures.content;
-      headed = refl;
-    } in
-    let same : c.from_residual-in_err-is_image.result ≡ Err OutOfMemory = search rules in
-    subst (EncoderRead c.args.bytes.now) (sym same) whole
+pub returns-in-Err-clause-read : goal.returns-in-Err-clause-read
+returns-in-Err-clause-read c =
+    unread encoder_kind server_kind c.args.bytes.now c.in_ok-content.content.now c.in-Err.fault refl refl
+    c.in_ok-content.ensures.content c.in-Err.ensures.fault
 
-pub returns-then-branch-clause-complete : goal.returns-then-branch-clause-complete
-returns-then-branch-clause-complete c = λ e is image.
-    c.in_ok-encoder.ensures.complete e is
+pub returns-in-Err-clause-complete : goal.returns-in-Err-clause-complete
+returns-in-Err-clause-complete c = λ e is image.
+    c.in-Err.ensures.complete e is
     (content_same encoder_kind c.args.bytes.now c.in_ok-content.content.now (encoder_content e)
     c.in_ok-content.ensures.content image)
 
-pub returns-else-branch-clause-complete : goal.returns-else-branch-clause-complete
-returns-else-branch-clause-complete c = λ e is image.
+pub returns-in-Ok-clause-read : goal.returns-in-Ok-clause-read
+returns-in-Ok-clause-read c =
+    encoder_told c.checked.result c.in-Ok.encoder c.args.bytes.now c.in_ok-content.content.now
+    c.in_ok-content.ensures.content c.checked.ensures.same c.checked.ensures.image c.checked.ensures.fault
+    c.in-Ok.ensures.started
+
+pub returns-in-Ok-clause-complete : goal.returns-in-Ok-clause-complete
+returns-in-Ok-clause-complete c = λ e is image.
     let content = content_same encoder_kind c.args.bytes.now c.in_ok-content.content.now (encoder_content e)
     c.in_ok-content.ensures.content image in
-    let same : c.in_ok-encoder.encoder ≡ restarted e = c.in_ok-encoder.ensures.complete e is content in
-    let yes : IsTrue c.in_ok-is_image.field-0 = c.in_ok-is_image.ensures.is.1 (image ∙ ap encoder_image (sym same)) in
-    absurd (false≢true (subst IsTrue c.if-branch.false yes))
+    let same : c.in-Ok.encoder ≡ restarted e = c.in-Ok.ensures.complete e is content in
+    subst (GivesBack c.checked.result) same (c.checked.ensures.complete (image ∙ ap encoder_image (sym same)))

@@ -1,12 +1,31 @@
-use Rattle.std.proofs.Common.{◌≡◌, Option, Some, None, List, map, ap, sym, ◌∙◌}
+use Rattle.std.proofs.Common.{◌≡◌, ℕ, Option, Some, None, List, map, ap, sym, ◌∙◌}
 use Rattle.std.specs.Option.{option_map}
 use Rattle.uecp_link.specs.Server.{ServerState, restarted_server}
 use Rattle.uecp_link.specs.Resuming.{kept_of, resumed_at}
 use Rattle.uecp_link.specs.declared.kept_message.KeptMessage.{KeptMessage}
-use Rattle.kept_images.specs.Parsing.{server_says, server_parts, kept_few, ServerSays}
-use Rattle.kept_images.proofs.Apart.{some_same, exact_is}
+use Rattle.kept_images.specs.Parsing.{server_says, server_parts, exact_of, kept_few, ServerSays}
+use Rattle.kept_images.proofs.Apart.{some_same, exact_is, exact_back}
 use Rattle.kept_images.proofs.Servers.{says_server, server_back, few_back, resumed_back, is_flagged, flagged}
 use Rattle.kept_images.proofs.server_reading.server_in.Goals as goal
+
+pub returns-in_err-parts-clause-complete : goal.returns-in_err-parts-clause-complete
+returns-in_err-parts-clause-complete c = λ k is content.
+    let none : ◌≡◌ {A = Option ServerSays} None (Some (says_server k.joined k.taken k.server)) =
+    sym (ap (option_map server_says) c.in_err-parts.was) ∙ c.server_parts.ensures ∙ ap server_parts content
+    ∙ server_back k.joined k.taken k.server is.taken in
+    absurd (cc)
+
+pub returns-in_err-address-clause-complete : goal.returns-in_err-address-clause-complete
+returns-in_err-address-clause-complete c = λ k is content.
+    let parts = c.in_ok-parts.parts in
+    let says : server_says parts ≡ says_server k.joined k.taken k.server =
+    some_same (server_says parts) (says_server k.joined k.taken k.server)
+    (sym (ap (option_map server_says) c.in_ok-parts.was) ∙ c.server_parts.ensures ∙ ap server_parts content
+    ∙ server_back k.joined k.taken k.server is.taken) in
+    let none : ◌≡◌ {A = Option ℕ} None (Some k.server.address) =
+    sym c.in_err-address.was ∙ c.exact_of.ensures ∙ ap (λ (s : ServerSays). exact_of s.address) says
+    ∙ exact_back k.server.address is.exact in
+    absurd (cc)
 
 pub returns-in_err-held-clause-complete : goal.returns-in_err-held-clause-complete
 returns-in_err-held-clause-complete c = λ k is content.
