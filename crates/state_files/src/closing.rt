@@ -1,4 +1,5 @@
-//! A clean end: the database file alone is the state. Source: profile.
+//! The end of a file: a clean one, after which the database file alone is the state, and one that writes nothing.
+//! Source: profile.
 ghost use Rattle.std.specs.Prelude.{ℕ, List, Option, Some, IfOk};
 ghost use Rattle.sqlite.specs.Recovery.{Image as Held};
 ghost use Rattle.sqlite.specs.WalFiles.{outcomes};
@@ -48,4 +49,9 @@ fn closed<D: Disk + Drop>(kept: Kept<FileStore<D>>) -> Result<Files<D>, StateFau
         Ok(files) => Ok(files),
         Err(fault) => Err(keep_fault(fault)),
     }
+}
+
+/// Lets the file go as it is, with no further write.
+pub(crate) fn let_go<D: Disk + Drop>(kept: Kept<FileStore<D>>) {
+    drop(kept.stop());
 }

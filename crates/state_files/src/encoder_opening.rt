@@ -16,6 +16,7 @@ ghost use Rattle.kept_serving.specs.Keeping.{Settled};
 ghost use Rattle.state_files.specs.Encoders.{LeavesEncoder, IsOther, IsOtherEncoder, IsDescribed};
 ghost use Rattle.state_files.specs.Encoders.{IsUnbegun, IsRefused};
 
+use crate::closing::let_go;
 use crate::encoder_file::{EncoderFile, settled};
 use crate::fault::{StateFault, image_fault, keep_fault};
 use arrayvec::ArrayVec;
@@ -85,7 +86,10 @@ pub fn open_encoder_from<S: Start>(
         Err(fault) => Err(keep_fault(fault)),
         Ok(opened) => match encoder_over(opened, rt.alloc(), address, sets, services) {
             Ok(opened) => Ok(opened),
-            Err((fault, _)) => Err(fault),
+            Err((fault, kept)) => {
+                let_go(kept);
+                Err(fault)
+            }
         },
     }
 }

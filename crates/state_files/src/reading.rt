@@ -2,11 +2,12 @@
 ghost use Rattle.std.specs.Prelude.{IfOk};
 ghost use Rattle.state_files.specs.Reading.{IsFoundIn};
 
+use crate::closing::let_go;
 use crate::encoder_opening::VERSION;
 use crate::fault::{StateFault, image_fault, keep_fault};
 use kept_images::{ImageFault, KeptServer, read_encoder, read_server};
 use kept_sending::Progress;
-use kept_state::open;
+use kept_state::{Opened, open};
 use rds_store::RdsStore;
 use std::alloc::Global;
 use std::rt::HostRuntime;
@@ -33,11 +34,12 @@ pub enum Found {
 /// }
 /// ```
 pub fn read_state(rt: &HostRuntime, path: &str) -> Result<Found, StateFault> {
-    let opened = match open(rt, path, VERSION) {
+    let Opened { kept, image } = match open(rt, path, VERSION) {
         Ok(opened) => opened,
         Err(fault) => return Err(keep_fault(fault)),
     };
-    match &opened.image {
+    let_go(kept);
+    match &image {
         None => Ok(Found::Empty),
         Some(image) => found_in(rt.alloc(), image.as_slice()),
     }

@@ -14,6 +14,7 @@ ghost use Rattle.kept_sending.specs.Keeping.{IsKept};
 ghost use Rattle.state_files.specs.Faults.{IsOfFile};
 ghost use Rattle.state_files.specs.Servers.{LeavesServer, IsOther, IsRefused, image_of, begins};
 
+use crate::closing::let_go;
 use crate::encoder_opening::VERSION;
 use crate::fault::{StateFault, image_fault, keep_fault};
 use crate::server_file::{ServerFile, settled};
@@ -75,7 +76,10 @@ pub fn open_server_from<S: Start>(
         Err(fault) => Err(keep_fault(fault)),
         Ok(opened) => match server_over(opened, rt.alloc(), address) {
             Ok(opened) => Ok(opened),
-            Err((fault, _)) => Err(fault),
+            Err((fault, kept)) => {
+                let_go(kept);
+                Err(fault)
+            }
         },
     }
 }
