@@ -45,16 +45,17 @@ pub(crate) struct EncoderParts<'a> {
 /// ```
 /// let encoder = read_encoder(alloc, image.as_slice())?;
 /// ```
-#[tactic(auto, unfolding(crate::specs::Images::sealed))]
 pub fn read_encoder(alloc: Global, bytes: &[u8]) -> Result<Encoder<RdsStore>, ImageFault>
     ensures read { EncoderRead bytes.now result }
     ensures complete { (e : EncoderState Store) → IsEncoder e → bytes.now ≡ encoder_image e
         → GivesBack result (restarted e) }
 {
-    let content = content_of(bytes, ENCODER, SERVER)?;
-    match encoder_in(alloc, content) {
+    match content_of(bytes, ENCODER, SERVER) {
         Err(fault) => Err(fault),
-        Ok(encoder) => checked(alloc, encoder, bytes),
+        Ok(content) => match encoder_in(alloc, content) {
+            Err(fault) => Err(fault),
+            Ok(encoder) => checked(alloc, encoder, bytes),
+        },
     }
 }
 
