@@ -190,15 +190,27 @@ fn begun<S: Alter + Drop>(
     match new_encoder(alloc, address, sets, services) {
         Err(fault) => Err((fault, kept)),
         Ok(encoder) => {
-            let mut file = EncoderFile {
-                kept,
-                image: Vec::new(alloc),
-            };
-            match file.put(&encoder) {
-                Ok(()) => Ok((encoder, file)),
-                Err(fault) => Err((keep_fault(fault), file.into_kept())),
-            }
+            let image = Vec::new(alloc);
+            first_saved(encoder, EncoderFile { kept, image })
         }
+    }
+}
+
+/// The encoder, saved in a file that has no image yet.
+fn first_saved<S: Alter + Drop>(
+    encoder: Encoder<RdsStore>,
+    mut file: EncoderFile<S>,
+) -> Result<(Encoder<RdsStore>, EncoderFile<S>), (StateFault, Kept<S>)>
+    ensures kept { IfOk result (λ r. IsClean S.Store r.1 → Keeps S.Store r.1 (Some (encoder_image r.0))) }
+    ensures encoder { IfOk result (λ r. r.0 ≡ encoder) }
+    ensures clean { IfOk result (λ r. IsClean S.Store r.1 → IsClean S.Store file) }
+    ensures refused { (sets : ℕ) (services : List ℕ) → IfErr result (λ e. IsUnbegun sets services e.0) }
+    ensures either { IfErr result (λ e. IsClean S.Store e.1 → (rows : Trees) → MayLeave S.Store e.1 rows
+        → MayLeave S.Store file rows ⊎ Holds file.version (Some (encoder_image encoder)) rows) }
+{
+    match file.put(&encoder) {
+        Ok(()) => Ok((encoder, file)),
+        Err(fault) => Err((keep_fault(fault), file.into_kept())),
     }
 }
 
