@@ -6,8 +6,8 @@ ghost use Rattle.rds_store.specs.Value.{Store};
 ghost use Rattle.uecp_encoder.specs.State.{EncoderState, restarted};
 ghost use Rattle.kept_images.specs.Images.{encoder_content, encoder_image};
 ghost use Rattle.kept_images.specs.Reading.{IsOpenedStation, IsEncoder, EncoderRead, GivesBack};
-ghost use Rattle.kept_images.specs.Parsing.{encoder_says, encoder_parts, pair_kept, pairs_kept, Tells, RingRead};
-ghost use Rattle.kept_images.specs.Parsing.{says_encoder, SaysStore, IsAsStarted, IsUnread};
+ghost use Rattle.kept_images.specs.Parsing.{encoder_says, encoder_parts, with_pairs, pair_kept, pairs_kept, Tells};
+ghost use Rattle.kept_images.specs.Parsing.{says_encoder, SaysStore, IsAsStarted, IsUnread, RingRead};
 
 use crate::encoder_writing::image_of_encoder;
 use crate::fault::ImageFault;
@@ -107,14 +107,27 @@ fn encoder_parts(content: &[u8]) -> Option<EncoderParts<'_>>
     let [high, low, sets, count, rest @ ..] = content else {
         return None;
     };
+    let address = u16::from_be_bytes([*high, *low]);
     let (services, rest) = split_off(rest, usize::from(*count))?;
+    parts_behind(address, *sets, services, rest)
+}
+
+/// The parts of an encoder's content, where this is what is behind its services. None where they are not all there.
+fn parts_behind<'a>(
+    address: u16,
+    sets: u8,
+    services: &'a [u8],
+    rest: &'a [u8],
+) -> Option<EncoderParts<'a>>
+    ensures { option_map encoder_says result ≡ with_pairs address sets (Some (services.now, rest.now)) }
+{
     let [count, rest @ ..] = rest else {
         return None;
     };
     let (pairs, messages) = split_off(rest, 2 * usize::from(*count))?;
     Some(EncoderParts {
-        address: u16::from_be_bytes([*high, *low]),
-        sets: *sets,
+        address,
+        sets,
         services,
         pairs,
         messages,
