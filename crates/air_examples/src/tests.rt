@@ -1,7 +1,9 @@
 //! Check words as another program computes them, groups that a receiver of another maker was given, and a store that
 //! sends them.
+mod asserting;
 
 use crate::vectors::{FIRST, SECOND, SENT_BITS, THIRD};
+use asserting::{holds, same};
 use carousel::Carousel;
 use rds_groups::{check_word, line, read_line};
 use rds_receiver::{HeardGroup, Receiver};
@@ -67,39 +69,29 @@ fn make_first(store: &mut RdsStore) {
 
 #[test]
 fn check_words(rt: HostRuntime) {
-    assert_eq!(rt; check_word(0x0000), 0x000);
-    assert_eq!(rt; check_word(0x0001), 0x1b9);
-    assert_eq!(rt; check_word(0x5241), 0x1da);
-    assert_eq!(rt; check_word(0xc201), 0x291);
-    assert_eq!(rt; check_word(0xffff), 0x0cd);
+    same!(rt; check_word(0x0000), 0x000);
+    same!(rt; check_word(0x0001), 0x1b9);
+    same!(rt; check_word(0x5241), 0x1da);
+    same!(rt; check_word(0xc201), 0x291);
+    same!(rt; check_word(0xffff), 0x0cd);
 }
 
 #[test]
 fn groups_heard(rt: HostRuntime) {
     let mut receiver = Receiver::new();
-    assert!(rt; is_heard(&mut receiver, FIRST));
-    assert_eq!(rt; receiver.pi, Some(0xc201));
-    assert_eq!(rt; receiver.pty, Some(10));
-    assert_eq!(rt; receiver.name, Some(*b"RADIO 1 "));
-    assert!(rt;
-        is_shown(
-            &receiver,
-            b"Now: the concert from the great hall, until midnight tonight"
-        )
-    );
-    assert!(rt; is_heard(&mut receiver, SECOND));
-    assert_eq!(rt; receiver.name, Some(*b"RAGTIME!"));
-    assert!(rt; is_shown(&receiver, b"News"));
-    assert!(rt; is_heard(&mut receiver, THIRD));
-    assert_eq!(rt; receiver.pty, Some(1));
-    assert_eq!(rt; receiver.ta, Some(true));
-    assert_eq!(rt; receiver.music, Some(false));
-    assert!(rt;
-        is_shown(
-            &receiver,
-            b"0123456789abcdef0123456789abcdef0123456789abcdef0123456789abcdef"
-        )
-    );
+    holds!(rt; is_heard(&mut receiver, FIRST));
+    same!(rt; receiver.pi, Some(0xc201));
+    same!(rt; receiver.pty, Some(10));
+    same!(rt; receiver.name, Some(*b"RADIO 1 "));
+    holds!(rt; is_shown(&receiver, b"Now: the concert from the great hall, until midnight tonight"));
+    holds!(rt; is_heard(&mut receiver, SECOND));
+    same!(rt; receiver.name, Some(*b"RAGTIME!"));
+    holds!(rt; is_shown(&receiver, b"News"));
+    holds!(rt; is_heard(&mut receiver, THIRD));
+    same!(rt; receiver.pty, Some(1));
+    same!(rt; receiver.ta, Some(true));
+    same!(rt; receiver.music, Some(false));
+    holds!(rt; is_shown(&receiver, b"0123456789abcdef0123456789abcdef0123456789abcdef0123456789abcdef"));
 }
 
 #[test]
@@ -110,20 +102,20 @@ fn store_sent(rt: HostRuntime) {
     };
     let mut carousel = Carousel::new();
     make_first(&mut store);
-    assert!(rt; is_sent(&mut carousel, &mut store, FIRST));
+    holds!(rt; is_sent(&mut carousel, &mut store, FIRST));
     store.apply(b"\x02\x00\x00RAGTIME!");
     store.apply(&[0x03, 0x00, 0x00, 0x03]);
     store.apply(b"\x0a\x00\x00\x05\x00News");
-    assert!(rt; is_sent(&mut carousel, &mut store, SECOND));
+    holds!(rt; is_sent(&mut carousel, &mut store, SECOND));
     // A group of type 6A waits, and has the text's turn.
     store.apply(&[0x24, 0x0c, 0x15, 0x12, 0x34, 0x56, 0x78]);
-    assert!(rt; is_sent(&mut carousel, &mut store, &["C201 6555 1234 5678"]));
+    holds!(rt; is_sent(&mut carousel, &mut store, &["C201 6555 1234 5678"]));
 }
 
 #[test]
 fn bits_of_another_sender(rt: HostRuntime) {
     let mut receiver = Receiver::new();
-    assert_eq!(rt; groups_heard_in(&mut receiver, SENT_BITS), 4);
-    assert_eq!(rt; receiver.pi, Some(0xd393));
-    assert_eq!(rt; receiver.name, Some(*b"WDR 3   "));
+    same!(rt; groups_heard_in(&mut receiver, SENT_BITS), 4);
+    same!(rt; receiver.pi, Some(0xd393));
+    same!(rt; receiver.name, Some(*b"WDR 3   "));
 }
