@@ -1,5 +1,5 @@
 use crate::tests::asserting::{holds, same};
-use std::test::Fail;
+use std::process::Abort;
 use uecp_elements::{Code, Element, ElementFault, Elements, RtPart, elements, push_element};
 use uecp_frame::Message;
 
@@ -78,68 +78,79 @@ fn texts_of_none_no_and_most_characters(rt: HostRuntime) {
     holds!(rt; is_spelling(&message, radio_text(longest)));
 }
 
+/// The message's items are this element and then this fault, and nothing comes behind them.
+fn is_element_and_fault(message: &[u8], element: Element<'_>, fault: ElementFault) -> bool {
+    let mut read = elements(message);
+    read.next() == Some(Ok(element)) && read.next() == Some(Err(fault)) && ends(read)
+}
+
 #[test]
-fn an_unknown_code_behind_an_element(rt: HostRuntime) -> Result<(), Fail> {
-    let mut read = elements(&[0x01, 0x00, 0x00, 0x12, 0x34, 0x99]);
-    same!(rt; read.next(), Some(Ok(PI)));
+fn an_unknown_code_behind_an_element(rt: HostRuntime) {
     let fault = ElementFault {
         place: 5,
         code: Code::UnknownElement,
     };
-    same!(rt; read.next(), Some(Err(fault)));
-    holds!(rt; ends(read));
+    let message = [0x01, 0x00, 0x00, 0x12, 0x34, 0x99];
+    holds!(rt; is_element_and_fault(&message, PI, fault));
     holds!(rt; ends(elements(&[])));
-    Ok(())
 }
 
 #[test]
-fn a_text_that_is_too_long_behind_an_element(rt: HostRuntime) -> Result<(), Fail> {
+fn a_text_that_is_too_long_behind_an_element(rt: HostRuntime) {
     let mut message = [0x20; 74];
     message[0] = 0x1c;
     message[1] = 0x01;
     message[2] = 0x0a;
     message[5] = 0x42;
-    let mut read = elements(&message);
-    same!(rt; read.next(), Some(Ok(Element::Select { dsn: 1 })));
     let fault = ElementFault {
         place: 2,
         code: Code::ElementLength,
     };
-    same!(rt; read.next(), Some(Err(fault)));
-    holds!(rt; ends(read));
-    Ok(())
+    let select = Element::Select { dsn: 1 };
+    holds!(rt; is_element_and_fault(&message, select, fault));
 }
 
-#[test]
-fn a_message_that_ends_inside_an_element(rt: HostRuntime) {
-    let whole: [&[u8]; 10] = [
-        &[0x01, 0, 0, 0xc2, 0x01],
-        &[0x02, 0, 0, 1, 2, 3, 4, 5, 6, 7, 8],
-        &[0x03, 0, 0, 1],
-        &[0x05, 0, 0, 1],
-        &[0x07, 0, 0, 1],
-        &[0x0a, 0, 0, 0],
-        &[0x0a, 0, 0, 3, 0x40, 0x48, 0x49],
-        &[0x18, 0, 1],
-        &[0x1c, 1],
-        &[0x24, 0, 0, 1, 2, 3, 4],
-    ];
-    for spelling in whole {
-        for end in 1..spelling.len() {
-            holds!(rt; is_only_fault(&spelling[..end], 0, Code::ElementLength));
-        }
+/// Elements that are whole.
+const WHOLE: [&[u8]; 10] = [
+    &[0x01, 0, 0, 0xc2, 0x01],
+    &[0x02, 0, 0, 1, 2, 3, 4, 5, 6, 7, 8],
+    &[0x03, 0, 0, 1],
+    &[0x05, 0, 0, 1],
+    &[0x07, 0, 0, 1],
+    &[0x0a, 0, 0, 0],
+    &[0x0a, 0, 0, 3, 0x40, 0x48, 0x49],
+    &[0x18, 0, 1],
+    &[0x1c, 1],
+    &[0x24, 0, 0, 1, 2, 3, 4],
+];
+
+/// Wherever the element ends before it is whole, it is a fault, and nothing else is read.
+fn is_no_element_cut(rt: &impl Abort, spelling: &[u8]) {
+    for end in 1..spelling.len() {
+        holds!(rt; is_only_fault(&spelling[..end], 0, Code::ElementLength), spelling);
     }
 }
 
 #[test]
-fn room_for_an_element(rt: HostRuntime) -> Result<(), Fail> {
-    let mut fits = Message::from_bytes(&[0; 250]).ok_or("long")?;
+fn a_message_that_ends_inside_an_element(rt: HostRuntime) {
+    for spelling in &WHOLE {
+        is_no_element_cut(&rt, spelling);
+    }
+}
+
+/// A message of these bytes.
+fn message_of(rt: &impl Abort, bytes: &[u8]) -> Message {
+    Message::from_bytes(bytes).expect(rt, "short")
+}
+
+#[test]
+fn room_for_an_element(rt: HostRuntime) {
+    let mut fits = message_of(&rt, &[0; 250]);
     holds!(rt; push_element(&mut fits, &PI).is_ok());
     same!(rt; fits.bytes().len(), 255);
-    let mut full = Message::from_bytes(&[0; 251]).ok_or("long")?;
+    let mut full = message_of(&rt, &[0; 251]);
     holds!(rt; push_element(&mut full, &PI).is_err());
     same!(rt; full.bytes(), [0; 251].as_slice());
-    Ok(())
 }
 
 #[test]

@@ -14,6 +14,13 @@ fn says<E: Error>(rt: &impl Abort, fault: E, text: &str) {
     same!(rt; InlineText::<80>::of(fault).as_str(), text);
 }
 
+/// The text of each of these faults is the one beside it.
+fn each_says<E: Error + Copy>(rt: &impl Abort, rows: &[(E, &str)]) {
+    for (fault, text) in rows {
+        says(rt, *fault, text);
+    }
+}
+
 const FRAME: [(FrameFault, &str); 6] = [
     (FrameFault::Unended, "no FF ends the segment"),
     (
@@ -57,15 +64,9 @@ const SERVE: [(ServeFault, &str); 3] = [
 
 #[test]
 fn each_fault_says_what_it_is(rt: HostRuntime) {
-    for (fault, text) in FRAME {
-        says(&rt, fault, text);
-    }
-    for (fault, text) in STORE {
-        says(&rt, fault, text);
-    }
-    for (fault, text) in SERVE {
-        says(&rt, fault, text);
-    }
+    each_says(&rt, &FRAME);
+    each_says(&rt, &STORE);
+    each_says(&rt, &SERVE);
 }
 
 #[test]

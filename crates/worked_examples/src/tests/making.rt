@@ -1,11 +1,16 @@
 //! What the tests begin with, each made by a function of its own: a test that gave up with `?` where memory is wanting
 //! would drop what it owns on one way out more.
-use faulty_devices::{CountTarget, new_encoder, new_store_encoder};
+use faulty_devices::{CountTarget, ScarceMemory, new_encoder, new_store_encoder};
 use rds_store::RdsStore;
 use reply_ring::ReplyRing;
 use std::alloc::Global;
 use std::process::Abort;
 use uecp_encoder::Encoder;
+
+/// No memory but so many bytes, which are given back in parts.
+pub(crate) fn scarce_memory(rt: &impl Abort, alloc: Global, room: usize) -> ScarceMemory {
+    ScarceMemory::take_all(alloc, room).expect(rt, "scarce memory")
+}
 
 /// A new ring.
 pub(crate) fn new_ring(rt: &impl Abort, alloc: Global) -> ReplyRing {

@@ -7,7 +7,6 @@ use faulty_devices::{
 };
 use std::alloc::Global;
 use std::process::Abort;
-use std::test::Fail;
 use uecp_encoder::{Counts, Encoder, Target};
 
 /// Feeds all of these bytes: each call uses one or more while any is left.
@@ -33,30 +32,32 @@ fn hears_altered(
     encoder: &mut Encoder<CountTarget>,
     bytes: &[u8],
     place: usize,
-) -> Result<(), Fail> {
+) {
     let before = *encoder.target();
     for value in 0..=255 {
         let hostile = altered(bytes, place, value);
-        if holds_no_frame(alloc, hostile.as_slice())? {
+        if holds_no_frame(alloc, hostile.as_slice()).expect(rt, "memory") {
             hears(encoder, hostile.as_slice());
             encoder.line_lost();
             same!(rt; *encoder.target(), before, (place, value));
         }
     }
-    Ok(())
 }
 
-#[test]
-fn bytes_without_a_frame_change_neither_target_nor_kept_replies(
-    rt: HostRuntime,
-) -> Result<(), Fail> {
-    let mut encoder = with_one_message(&rt, rt.alloc());
-    for line in KNOWN_FRAMES.lines() {
-        let bytes = spelling_of(line).ok_or("no spelling")?;
-        for place in 0..bytes.len() {
-            hears_altered(&rt, rt.alloc(), &mut encoder, bytes.as_slice(), place)?;
-        }
+/// The same of each place of the bytes.
+fn hears_each_altered(
+    rt: &impl Abort,
+    alloc: Global,
+    encoder: &mut Encoder<CountTarget>,
+    bytes: &[u8],
+) {
+    for place in 0..bytes.len() {
+        hears_altered(rt, alloc, encoder, bytes, place);
     }
+}
+
+/// One message was fresh, and its reply is kept.
+fn has_kept_one(rt: &impl Abort, encoder: &mut Encoder<CountTarget>) {
     let counts = encoder.counts();
     let expected = Counts {
         fresh: 1,
@@ -66,8 +67,17 @@ fn bytes_without_a_frame_change_neither_target_nor_kept_replies(
     same!(rt; counts, expected);
     // One kept reply more, and the first would be gone after these.
     for counter in 0x02..0x80 {
-        holds!(rt; comes_to(&mut encoder, counter, &[], 0x00));
+        holds!(rt; comes_to(encoder, counter, &[], 0x00));
     }
-    holds!(rt; replies(&mut encoder, &PI_1, &APPLIED_1, false));
-    Ok(())
+    holds!(rt; replies(encoder, &PI_1, &APPLIED_1, false));
+}
+
+#[test]
+fn bytes_without_a_frame_change_neither_target_nor_kept_replies(rt: HostRuntime) {
+    let mut encoder = with_one_message(&rt, rt.alloc());
+    for line in KNOWN_FRAMES.lines() {
+        let bytes = spelling_of(line).expect(&rt, line);
+        hears_each_altered(&rt, rt.alloc(), &mut encoder, bytes.as_slice());
+    }
+    has_kept_one(&rt, &mut encoder);
 }

@@ -1,5 +1,5 @@
 //! What an encoder keeps: its replies, through repeats, a lost line and a group that is taken.
-use super::PI_2;
+use super::{PI_2, is_begun, is_not_next};
 use crate::tests::asserting::{holds, same};
 use crate::tests::making::store_encoder;
 use faulty_devices::{
@@ -7,7 +7,6 @@ use faulty_devices::{
 };
 use rds_store::RdsStore;
 use std::process::Abort;
-use std::test::Fail;
 use uecp_encoder::{Encoder, What};
 use uecp_frame::Found;
 
@@ -24,25 +23,29 @@ fn an_empty_message_changes_nothing_and_its_reply_is_kept(rt: HostRuntime) {
     same!(rt; pi_of(encoder.target(), 1), Some(0));
 }
 
-#[test]
-fn a_text_sent_twice_is_added_once(rt: HostRuntime) -> Result<(), Fail> {
+/// The first text of service 01 in set 1.
+fn has_first_text(rt: &impl Abort, store: &RdsStore, bytes: &[u8]) {
+    let service = store.service(1, 0x01).expect(rt, "service 01");
+    let text = service.texts().first().expect(rt, "a text");
+    same!(rt; text.text(), bytes);
+}
+
+/// Two empty messages, and then a text twice.
+fn adds_once(rt: &impl Abort, encoder: &mut Encoder<RdsStore>) {
     let add = b"\xFE\x00\x41\x03\x07\x0A\x00\x00\x03\x40\x48\x49\xF4\x44\xFF";
     let reply = b"\xFE\x00\x41\x00\x03\x18\x00\x03\x60\xFC\xFF";
-    let mut encoder = store_encoder(&rt, rt.alloc(), 1);
-    holds!(rt; replies(&mut encoder, &EMPTY_1, &APPLIED_1, true));
-    holds!(rt; replies(&mut encoder, &EMPTY_2, &APPLIED_2, true));
-    holds!(rt; replies(&mut encoder, add, reply, true));
-    holds!(rt; replies(&mut encoder, add, reply, false));
-    let Some(text) = encoder
-        .target()
-        .service(1, 0x01)
-        .and_then(|s| s.texts().first())
-    else {
-        return Err("no text".into());
-    };
-    same!(rt; text.text(), b"HI".as_slice());
+    holds!(rt; replies(encoder, &EMPTY_1, &APPLIED_1, true));
+    holds!(rt; replies(encoder, &EMPTY_2, &APPLIED_2, true));
+    holds!(rt; replies(encoder, add, reply, true));
+    holds!(rt; replies(encoder, add, reply, false));
+    has_first_text(rt, encoder.target(), b"HI");
     same!(rt; texts_of(encoder.target(), 1), Some(1));
-    Ok(())
+}
+
+#[test]
+fn a_text_sent_twice_is_added_once(rt: HostRuntime) {
+    let mut encoder = store_encoder(&rt, rt.alloc(), 1);
+    adds_once(&rt, &mut encoder);
 }
 
 /// A text and 127 empty messages, and the frame of the text before and after the last of them.
@@ -55,7 +58,7 @@ fn is_kept_for_126_messages(rt: &impl Abort, encoder: &mut Encoder<RdsStore>) {
     same!(rt; texts_of(encoder.target(), 1), Some(1));
     holds!(rt; comes_to(encoder, 0x80, &[], 0x00));
     // It is known no more, and it is not the next either: it is not applied again.
-    holds!(rt; matches!(encoder.feed(&ADD_1).what, What::NotNext));
+    holds!(rt; is_not_next(encoder, &ADD_1));
     same!(rt; texts_of(encoder.target(), 1), Some(1));
 }
 
@@ -88,17 +91,26 @@ fn a_full_set_refuses_and_the_refusal_is_kept(rt: HostRuntime) {
     keeps_its_refusal(&rt, &mut encoder);
 }
 
+/// The encoder uses all of these bytes, and says nothing.
+fn uses_and_drops(encoder: &mut Encoder<RdsStore>, bytes: &[u8]) -> bool {
+    let answer = encoder.feed(bytes);
+    answer.used == bytes.len() && matches!(answer.what, What::Nothing)
+}
+
+/// A copy of the encoder's deframer finds the frame of counter 02 behind these bytes.
+fn copy_finds_second(encoder: &Encoder<RdsStore>, bytes: &[u8]) -> bool {
+    let mut copy = encoder.deframer().copy();
+    matches!(copy.feed(bytes).found, Found::Frame(frame) if frame.counter == 2)
+}
+
 /// The line is lost in the middle of a frame.
 fn loses_the_line(rt: &impl Abort, encoder: &mut Encoder<RdsStore>) {
     holds!(rt; replies(encoder, &ADD_1, &APPLIED_1, true));
     let (begun, rest) = PI_2.split_at(9);
-    holds!(rt; matches!(encoder.feed(begun).what, What::Nothing));
-    let mut copy = encoder.deframer().copy();
-    holds!(rt; matches!(copy.feed(rest).found, Found::Frame(frame) if frame.counter == 2));
+    holds!(rt; is_begun(encoder, begun));
+    holds!(rt; copy_finds_second(encoder, rest));
     encoder.line_lost();
-    let answer = encoder.feed(rest);
-    same!(rt; answer.used, rest.len());
-    holds!(rt; matches!(answer.what, What::Nothing));
+    holds!(rt; uses_and_drops(encoder, rest));
     same!(rt; encoder.counts().dropped, 0);
     holds!(rt; replies(encoder, &ADD_1, &APPLIED_1, false));
     same!(rt; texts_of(encoder.target(), 1), Some(1));
@@ -110,13 +122,18 @@ fn a_lost_line_drops_the_open_segment_alone(rt: HostRuntime) {
     loses_the_line(&rt, &mut encoder);
 }
 
+/// Block 4 of the group that is taken, if any is.
+fn takes_block4(encoder: &mut Encoder<RdsStore>) -> Option<u16> {
+    encoder.take_group().map(|group| group.block4)
+}
+
 /// A group is queued and taken, and its message comes again.
 fn takes_its_group(rt: &impl Abort, encoder: &mut Encoder<RdsStore>) {
     let group = [0x24, 0x00, 0x43, 0x12, 0x34, 0x56, 0x78];
     same!(rt; encoder.take_group(), None);
     holds!(rt; comes_to(encoder, 0x01, &group, 0x00));
     let counts = encoder.counts();
-    same!(rt; encoder.take_group().map(|group| group.block4), Some(0x5678));
+    same!(rt; takes_block4(encoder), Some(0x5678));
     same!(rt; encoder.counts(), counts);
     holds!(rt; replies(encoder, framed(0x01, &group).as_slice(), &APPLIED_1, false));
     same!(rt; encoder.take_group(), None);

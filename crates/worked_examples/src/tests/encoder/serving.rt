@@ -8,61 +8,80 @@ use std::alloc::Global;
 use std::process::Abort;
 use uecp_encoder::{Encoder, Failed, Meter, ServeFault, Served, serve};
 
-#[test]
-fn a_meter_counts_calls_failures_and_empty_reads(rt: HostRuntime) {
+/// A read of up to eight bytes comes to this.
+fn reads(rt: &impl Abort, reader: &mut Meter<FaultyReader<'_>>, comes_to: Result<usize, Failed>) {
+    same!(rt; reader.read(&mut [0u8; 8]), comes_to);
+}
+
+/// A write of "abc" comes to this.
+fn writes(rt: &impl Abort, writer: &mut Meter<FaultyWriter<'_>>, comes_to: Result<usize, Failed>) {
+    same!(rt; writer.write(b"abc"), comes_to);
+}
+
+/// The device was written to so often and never flushed, and took these bytes.
+fn has_taken(rt: &impl Abort, device: &FaultyWriter<'_>, writes: u32, bytes: &[u8]) {
+    same!(rt; (device.writes(), device.flushes()), (writes, 0));
+    same!(rt; device.taken(), bytes);
+}
+
+/// Three reads, the first of which fails.
+fn counts_reads(rt: &impl Abort) {
     let mut reader = Meter::new(FaultyReader::new(b"abc").failing_at(&[1]));
-    let mut buffer = [0u8; 8];
-    same!(rt; reader.read(&mut buffer), Err(Failed));
-    same!(rt; reader.read(&mut buffer), Ok(3));
-    same!(rt; reader.read(&mut buffer), Ok(0));
+    reads(rt, &mut reader, Err(Failed));
+    reads(rt, &mut reader, Ok(3));
+    reads(rt, &mut reader, Ok(0));
     same!(rt; (reader.calls(), reader.failures(), reader.empty()), (3, 1, 1));
     same!(rt; reader.into_inner().reads(), 3);
-    let mut writer = Meter::new(
-        FaultyWriter::new()
-            .taking(2)
-            .taking_none_at(&[2])
-            .failing_at(&[3]),
-    );
-    same!(rt; writer.write(b"abc"), Ok(2));
-    same!(rt; writer.write(b"abc"), Err(Failed));
-    same!(rt; writer.write(b"abc"), Err(Failed));
+}
+
+/// Three writes, of which the second takes nothing and the third fails.
+fn counts_writes(rt: &impl Abort) {
+    let device = FaultyWriter::new().taking(2).taking_none_at(&[2]);
+    let mut writer = Meter::new(device.failing_at(&[3]));
+    writes(rt, &mut writer, Ok(2));
+    writes(rt, &mut writer, Err(Failed));
+    writes(rt, &mut writer, Err(Failed));
     same!(rt; (writer.calls(), writer.failures()), (3, 2));
-    let device = writer.into_inner();
-    same!(rt; (device.writes(), device.flushes()), (3, 0));
-    same!(rt; device.taken(), b"ab".as_slice());
+    has_taken(rt, &writer.into_inner(), 3, b"ab");
+}
+
+#[test]
+fn a_meter_counts_calls_failures_and_empty_reads(rt: HostRuntime) {
+    counts_reads(&rt);
+    counts_writes(&rt);
+}
+
+/// A read comes to this, and is one of the device.
+fn reads_once(rt: &impl Abort, device: FaultyReader<'_>, comes_to: Result<usize, Failed>) {
+    let mut reader = Meter::new(device);
+    reads(rt, &mut reader, comes_to);
+    let calls = reader.calls();
+    same!(rt; (calls, reader.into_inner().reads()), (1, 1));
 }
 
 #[test]
 fn a_counted_read_is_one_read_of_the_device(rt: HostRuntime) {
-    let rows = [
-        (FaultyReader::new(b"abc"), Ok(3)),
-        (FaultyReader::new(b"abc").giving(2), Ok(2)),
-        (FaultyReader::new(b"abc").failing_at(&[1]), Err(Failed)),
-        (FaultyReader::new(b""), Ok(0)),
-    ];
-    for (device, comes_to) in rows {
-        let mut reader = Meter::new(device);
-        same!(rt; reader.read(&mut [0u8; 8]), comes_to);
-        let calls = reader.calls();
-        same!(rt; (calls, reader.into_inner().reads()), (1, 1));
-    }
+    reads_once(&rt, FaultyReader::new(b"abc"), Ok(3));
+    reads_once(&rt, FaultyReader::new(b"abc").giving(2), Ok(2));
+    reads_once(&rt, FaultyReader::new(b"abc").failing_at(&[1]), Err(Failed));
+    reads_once(&rt, FaultyReader::new(b""), Ok(0));
+}
+
+/// A write comes to this, and is one of the device.
+fn writes_once(rt: &impl Abort, device: FaultyWriter<'_>, comes_to: Result<usize, Failed>) {
+    let mut writer = Meter::new(device);
+    writes(rt, &mut writer, comes_to);
+    let calls = writer.calls();
+    let device = writer.into_inner();
+    same!(rt; (calls, device.writes(), device.flushes()), (1, 1, 0));
 }
 
 #[test]
 fn a_counted_write_is_one_write_of_the_device(rt: HostRuntime) {
-    let rows = [
-        (FaultyWriter::new(), Ok(3)),
-        (FaultyWriter::new().taking(2), Ok(2)),
-        (FaultyWriter::new().failing_at(&[1]), Err(Failed)),
-        (FaultyWriter::new().taking_none_at(&[1]), Err(Failed)),
-    ];
-    for (device, comes_to) in rows {
-        let mut writer = Meter::new(device);
-        same!(rt; writer.write(b"abc"), comes_to);
-        let calls = writer.calls();
-        let device = writer.into_inner();
-        same!(rt; (calls, device.writes(), device.flushes()), (1, 1, 0));
-    }
+    writes_once(&rt, FaultyWriter::new(), Ok(3));
+    writes_once(&rt, FaultyWriter::new().taking(2), Ok(2));
+    writes_once(&rt, FaultyWriter::new().failing_at(&[1]), Err(Failed));
+    writes_once(&rt, FaultyWriter::new().taking_none_at(&[1]), Err(Failed));
 }
 
 #[test]
@@ -72,9 +91,7 @@ fn a_whole_write_says_where_it_stopped(rt: HostRuntime) {
     same!(rt; writer.write_whole(b"abc"), Ok(()));
     same!(rt; writer.write_whole(b"defgh"), Err(4));
     same!(rt; (writer.calls(), writer.failures()), (5, 1));
-    let device = writer.into_inner();
-    same!(rt; (device.writes(), device.flushes()), (5, 0));
-    same!(rt; device.taken(), b"abcdefg".as_slice());
+    has_taken(&rt, &writer.into_inner(), 5, b"abcdefg");
 }
 
 /// A text is applied while its reply is cut short, and comes again.
@@ -117,20 +134,24 @@ fn a_failed_read_ends_the_call_and_loses_nothing(rt: HostRuntime) {
     fails_to_read(&rt, &mut encoder);
 }
 
+/// The frame is served, and brings so many replies, which are these bytes.
+fn brings(rt: &impl Abort, encoder: &mut Encoder<RdsStore>, frame: &[u8; 15], replies: &[u8]) {
+    let mut input = Meter::new(FaultyReader::new(frame));
+    let mut output = Meter::new(FaultyWriter::new());
+    let served = serve(encoder, &mut input, &mut output, 64);
+    let all = Served {
+        read: 15,
+        replies: if replies.is_empty() { 0 } else { 1 },
+    };
+    same!(rt; served, Ok(all));
+    same!(rt; output.into_inner().taken(), replies);
+}
+
 /// The second message comes before and after the first.
 fn comes_out_of_its_turn(rt: &impl Abort, encoder: &mut Encoder<RdsStore>) {
-    let rows: [(&[u8], &[u8]); 3] = [(&PI_2, b""), (&ADD_1, &APPLIED_1), (&PI_2, &APPLIED_2)];
-    for (frame, reply) in rows {
-        let mut input = Meter::new(FaultyReader::new(frame));
-        let mut output = Meter::new(FaultyWriter::new());
-        let served = serve(encoder, &mut input, &mut output, 64);
-        let all = Served {
-            read: 15,
-            replies: if reply.is_empty() { 0 } else { 1 },
-        };
-        same!(rt; served, Ok(all));
-        same!(rt; output.into_inner().taken(), reply);
-    }
+    brings(rt, encoder, &PI_2, b"");
+    brings(rt, encoder, &ADD_1, &APPLIED_1);
+    brings(rt, encoder, &PI_2, &APPLIED_2);
     same!(rt; (texts_of(encoder.target(), 1), pi_of(encoder.target(), 1)), (Some(1), Some(0xfeff)));
 }
 

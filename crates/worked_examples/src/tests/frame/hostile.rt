@@ -1,82 +1,94 @@
 //! Each known frame begun and left, and with each byte altered to each other value, beside a finder that is slow and
 //! plain.
-use super::{Finding, bytes_of, finds_in, finds_one_by_one, frame_of, pi};
-use crate::tests::asserting::holds;
-use faulty_devices::{KNOWN_FRAMES, SlowFinding, altered, slow_findings, spelling_of};
+use super::{Finding, frame_of, head_of, is_found_in, is_found_one_by_one, pi};
+use faulty_devices::{KNOWN_FRAMES, SlowFinding, altered, own_address, slow_findings, spelling_of};
 use std::alloc::Global;
 use std::process::Abort;
-use std::test::Fail;
 use uecp_frame::{Frame, FrameBytes, FrameFault, encode};
 
 /// The frame of plain bytes that are one.
-fn frame_of_plain(plain: &[u8]) -> Result<Frame, Fail> {
-    let [high, low, counter, _, message @ .., _, _] = plain else {
-        return Err("too short".into());
+fn frame_of_plain(rt: &impl Abort, plain: &[u8]) -> Option<Frame> {
+    let (head, rest) = plain.split_at_checked(3)?;
+    let [_, message @ .., _, _] = rest else {
+        return None;
     };
-    let site = u16::from_be_bytes([*high, *low]) / 64;
-    frame_of(site, low % 64, *counter, message)
+    let (address, counter) = head_of(rt, head)?;
+    Some(frame_of(rt, address, counter, message))
 }
 
 /// What the slow finder says, as the deframer says it.
-fn finding_of(finding: &SlowFinding) -> Result<Finding, Fail> {
+fn finding_of(rt: &impl Abort, finding: &SlowFinding) -> Finding {
     match finding {
-        Ok(plain) => Ok(Ok(frame_of_plain(plain.as_slice())?)),
-        Err(fault) => Ok(Err(*fault)),
+        Ok(plain) => Ok(frame_of_plain(rt, plain.as_slice()).expect(rt, "a frame")),
+        Err(fault) => Err(*fault),
     }
 }
 
-/// Whether all of these bytes at once and one by one, by messages of their own and by lent ones, bring what the slow
-/// finder says.
-fn agrees(alloc: Global, bytes: &[u8]) -> Result<bool, Fail> {
-    let mut want = Vec::new(alloc);
-    for finding in slow_findings(alloc, bytes)?.iter() {
-        want.push(finding_of(finding)?)?;
+/// What the slow finder says of all of these bytes.
+fn wanted(rt: &impl Abort, alloc: Global, bytes: &[u8]) -> Vec<Finding> {
+    let findings = slow_findings(alloc, bytes).expect(rt, "memory");
+    let mut wanted = Vec::new(alloc);
+    for finding in findings.iter() {
+        wanted.push(finding_of(rt, finding)).expect(rt, "memory");
     }
-    Ok(finds_in(alloc, &[bytes], &want)? && finds_one_by_one(alloc, bytes, &want)?)
+    wanted
+}
+
+/// All of these bytes at once and one by one, by messages of their own and by lent ones, bring what the slow finder
+/// says.
+fn agrees(rt: &impl Abort, alloc: Global, bytes: &[u8]) {
+    let want = wanted(rt, alloc, bytes);
+    is_found_in(rt, alloc, &[bytes], want.as_slice());
+    is_found_one_by_one(rt, alloc, bytes, want.as_slice());
 }
 
 /// One place of the bytes with each value.
-fn agrees_at(rt: &impl Abort, alloc: Global, bytes: &[u8], place: usize) -> Result<(), Fail> {
+fn agrees_at(rt: &impl Abort, alloc: Global, bytes: &[u8], place: usize) {
     for value in 0..=255 {
         let hostile = altered(bytes, place, value);
-        holds!(rt; agrees(alloc, hostile.as_slice())?, (place, value));
+        agrees(rt, alloc, hostile.as_slice());
     }
-    Ok(())
+}
+
+/// Each place of the bytes with each value.
+fn agrees_altered(rt: &impl Abort, alloc: Global, bytes: &[u8]) {
+    for place in 0..bytes.len() {
+        agrees_at(rt, alloc, bytes, place);
+    }
 }
 
 #[test]
-fn each_byte_altered_to_each_value(rt: HostRuntime) -> Result<(), Fail> {
+fn each_byte_altered_to_each_value(rt: HostRuntime) {
     for line in KNOWN_FRAMES.lines() {
-        let bytes = spelling_of(line).ok_or("no spelling")?;
-        for place in 0..bytes.len() {
-            agrees_at(&rt, rt.alloc(), bytes.as_slice(), place)?;
-        }
+        let bytes = spelling_of(line).expect(&rt, line);
+        agrees_altered(&rt, rt.alloc(), bytes.as_slice());
     }
-    Ok(())
 }
 
 #[test]
-fn each_byte_of_a_longest_frame_altered_to_each_value(rt: HostRuntime) -> Result<(), Fail> {
+fn each_byte_of_a_longest_frame_altered_to_each_value(rt: HostRuntime) {
     let mut message = [0x55; 255];
     message[..127].fill(0xfd);
     let mut bytes = FrameBytes::new();
-    encode(&frame_of(1, 1, 1, &message)?, &mut bytes);
-    for place in 0..bytes.len() {
-        agrees_at(&rt, rt.alloc(), bytes.as_slice(), place)?;
+    encode(&frame_of(&rt, own_address(), 1, &message), &mut bytes);
+    agrees_altered(&rt, rt.alloc(), bytes.as_slice());
+}
+
+/// However much of these bytes, which are a frame, comes before the whole of another, that is found, and the first is
+/// unended.
+fn is_unended(rt: &impl Abort, alloc: Global, bytes: &[u8], whole: &[u8]) {
+    let want = [Err(FrameFault::Unended), pi(rt)];
+    for end in 1..bytes.len() {
+        let (begun, _) = bytes.split_at(end);
+        is_found_in(rt, alloc, &[begun, whole], &want);
     }
-    Ok(())
 }
 
 #[test]
-fn a_frame_that_is_begun_before_another_is_unended(rt: HostRuntime) -> Result<(), Fail> {
-    let whole = bytes_of("FE 00 41 01 05 01 00 00 C2 01 67 A8 FF")?;
-    let want = [Err(FrameFault::Unended), pi()?];
+fn a_frame_that_is_begun_before_another_is_unended(rt: HostRuntime) {
+    let whole = b"\xFE\x00\x41\x01\x05\x01\x00\x00\xC2\x01\x67\xA8\xFF";
     for line in KNOWN_FRAMES.lines() {
-        let bytes = spelling_of(line).ok_or("no spelling")?;
-        for end in 1..bytes.len() {
-            let (begun, _) = bytes.split_at(end);
-            holds!(rt; finds_in(rt.alloc(), &[begun, whole.as_slice()], &want)?, line);
-        }
+        let bytes = spelling_of(line).expect(&rt, line);
+        is_unended(&rt, rt.alloc(), bytes.as_slice(), whole);
     }
-    Ok(())
 }

@@ -1,28 +1,43 @@
 //! A ring where memory is wanting.
 use crate::tests::asserting::{holds, same};
-use crate::tests::making::new_ring;
+use crate::tests::making::{new_ring, scarce_memory};
 use faulty_devices::ScarceMemory;
 use reply_ring::ReplyRing;
-use std::test::Fail;
+use std::alloc::Global;
+use std::process::Abort;
 use uecp_elements::Code;
 
-#[test]
-fn a_new_ring_answers_want_of_memory(rt: HostRuntime) -> Result<(), Fail> {
-    let mut memory = ScarceMemory::take_all(rt.alloc(), 4096)?;
+/// Whether there was memory for a new ring, which is empty.
+fn is_made(rt: &impl Abort, alloc: Global) -> bool {
+    match ReplyRing::new(alloc) {
+        Ok(ring) => {
+            holds!(rt; ring.is_empty());
+            true
+        }
+        Err(_) => false,
+    }
+}
+
+/// How often a new ring was refused before there was memory for it.
+fn refusals(rt: &impl Abort, alloc: Global, memory: &mut ScarceMemory) -> usize {
     for refused in 0..128 {
-        if let Ok(ring) = ReplyRing::new(rt.alloc()) {
-            holds!(rt; refused > 0 && ring.is_empty());
-            return Ok(());
+        if is_made(rt, alloc) {
+            return refused;
         }
         memory.give();
     }
-    Err("always refused".into())
+    holds!(rt; false, "always refused");
+    0
 }
 
 #[test]
-fn a_ring_takes_no_memory_for_replies(rt: HostRuntime) -> Result<(), Fail> {
-    let mut ring = new_ring(&rt, rt.alloc());
-    let _memory = ScarceMemory::take_all(rt.alloc(), 0)?;
+fn a_new_ring_answers_want_of_memory(rt: HostRuntime) {
+    let mut memory = scarce_memory(&rt, rt.alloc(), 4096);
+    holds!(rt; refusals(&rt, rt.alloc(), &mut memory) > 0);
+}
+
+/// A thousand replies are kept and found.
+fn keeps_a_thousand(rt: &impl Abort, ring: &mut ReplyRing) {
     for number in 0..1000_usize {
         let counter = (number % 255) as u8 + 1;
         if ring.find(counter).is_none() {
@@ -32,5 +47,11 @@ fn a_ring_takes_no_memory_for_replies(rt: HostRuntime) -> Result<(), Fail> {
         holds!(rt; ring.newest().is_some());
     }
     same!(rt; ring.len(), 127);
-    Ok(())
+}
+
+#[test]
+fn a_ring_takes_no_memory_for_replies(rt: HostRuntime) {
+    let mut ring = new_ring(&rt, rt.alloc());
+    let _memory = scarce_memory(&rt, rt.alloc(), 0);
+    keeps_a_thousand(&rt, &mut ring);
 }
