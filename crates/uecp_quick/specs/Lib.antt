@@ -1,0 +1,2 @@
+-- The definitions that the contracts of the quick program cite.
+pub mod Asked
