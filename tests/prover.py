@@ -1,0 +1,90 @@
+"""The kit's prover on the crates of this repository, for tests/build and tests/edits, which `rt` alone can't be asked for: crates
+side by side in one clone, and a check of chosen functions of a changed copy.
+
+It goes through what `rt` itself is made of, in the folder where `rt` lies. What differs from the commands: `rt check` where a
+library below is not built begins with a pass over the sources of all libraries, eight minutes for the program; here each crate
+waits until those below it stand, so nothing is left for such a pass to find."""
+
+import copy
+import importlib.machinery
+import importlib.util
+import os
+import shutil
+import sys
+import tempfile
+
+TOP = os.path.dirname(os.path.dirname(os.path.abspath(__file__)))
+EACH = 7 << 29  # bytes of memory for each check: one takes 1 to 4.5 GB, and one that is killed is made again
+
+
+def load():
+    """The modules of the kit's command: `rt`, and the library that it is written over."""
+    path = shutil.which("rt")
+    if not path:
+        sys.exit("rt is not on the path: the Rattle kit is not installed")
+    loader = importlib.machinery.SourceFileLoader("rt", os.path.realpath(path))
+    found = importlib.util.module_from_spec(importlib.util.spec_from_loader("rt", loader))
+    loader.exec_module(found)
+    # its first call sets a signal's handler, which only the first thread may
+    found.rtlib.guarded()
+    return found, found.rtlib
+
+
+RT, LIBRARY = load()
+
+
+def processors():
+    return len(os.sched_getaffinity(0))
+
+
+def free():
+    """The bytes of memory that are free."""
+    with open("/proc/meminfo", encoding="ascii") as lines:
+        return next(int(line.split()[1]) << 10 for line in lines if line.startswith("MemAvailable:"))
+
+
+def lanes():
+    """How many checks there is room for side by side. By itself `rt ci` takes as many as its own guess of their memory allows,
+    which is two to three times what they take, and lets the largest crates, on which the others wait, wait longest."""
+    return max(1, min(processors(), free() // EACH))
+
+
+def crates(top=TOP):
+    """All crates of crates.txt, those below before those above."""
+    found = LIBRARY.crates_below(top)
+    return sorted(found, key=lambda it: len(it.below()))
+
+
+def line_count(crate):
+    """The lines that are read of a crate: its code, definitions and proofs."""
+    total = 0
+    for path in LIBRARY.files_of(crate.folder):
+        with open(path, "rb") as file:
+            total += file.read().count(b"\n")
+    return total
+
+
+def prove(crate, jobs):
+    """Proves a library over what was kept of it and builds it, and answers the status and what was said."""
+    crate = copy.copy(crate)
+    os.makedirs(f"{crate.folder}/out", exist_ok=True)
+    with tempfile.TemporaryFile("a+", errors="replace") as crate.out:
+        try:
+            LIBRARY.stop_on_links(crate.folder)
+            LIBRARY.stop_on_text(crate, "check")
+            status = crate.build_rlib(["--jobs", str(jobs)], anew=False)
+        except SystemExit:
+            status = 2
+        crate.out.seek(0)
+        return status, crate.out.read()
+
+
+def run(main):
+    """Ends with the status of a main function; where it is interrupted, at once, and the checks at work with it."""
+    try:
+        status = main()
+    except KeyboardInterrupt:
+        print("stopped; what was proved is kept", flush=True)
+        # the checks end with this process, and no lane is waited for
+        os._exit(130)
+    sys.exit(status)
