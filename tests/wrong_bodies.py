@@ -71,15 +71,31 @@ def parsed(crate, text, path, name=None):
     return found, faults
 
 
+def lost(body):
+    """What a wrong body changes that is not there: each old text stands once in its file, as the pairs before it left that."""
+    texts = {}
+    for file, old, new in body.pairs:
+        path = f"crates/{body.crate}/{file}"
+        if not os.path.isfile(path):
+            return [f"{body.place}: there is no {file}"]
+        text = texts.get(file) or read(path)
+        if text.count(old) != 1:
+            return [f"{body.place}: '{old}' stands {text.count(old)} times in {file}"]
+        texts[file] = text.replace(old, new, 1)
+    return []
+
+
 def of_crate(crate):
-    """All wrong bodies of a crate: those of its file, and those that `rt ci` tries."""
+    """All wrong bodies of a crate that change what is there, those of its file and those that `rt ci` tries; and what of the others
+    is not there or can't be read."""
     found, faults, path = [], [], f"crates/{crate}/{NAME}"
     if os.path.isfile(path):
         found, faults = parsed(crate, read(path), path)
     for edit in sorted(glob.glob(f"crates/{crate}/must-fail/*.edit")):
         more, why = parsed(crate, read(edit), edit, os.path.basename(edit).removesuffix(".edit"))
         found, faults = found + more, faults + why
-    return found, faults
+    faults = faults + [fault for body in found for fault in lost(body)]
+    return [body for body in found if not lost(body)], faults
 
 
 class Function:

@@ -1,6 +1,6 @@
 -- The limits of a device (profile).
 use Rattle.std.specs.Prelude.{ℕ, ◌^◌, ◌-◌, if◌then◌else◌}
-use Rattle.device_jobs.specs.declared.job.DeviceJob.{DeviceJob}
+use Rattle.commands.specs.declared.device_job.DeviceJob.{DeviceJob}
 use Rattle.uecp_jobs.specs.Setups.{Options}
 
 -- How many connections are served: without end as many as can be counted.

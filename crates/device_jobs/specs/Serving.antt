@@ -18,7 +18,7 @@ use Rattle.state_jobs.specs.Texts.{IsClosed, state_text}
 use Rattle.device_serving.specs.Logging.{Log}
 use Rattle.device_serving.specs.DeviceRun.{RunsDevice, OutlivesRun, Standing}
 use Rattle.device_serving.specs.declared.not_kept.NotKept.{NotKept}
-use Rattle.device_jobs.specs.declared.job.DeviceJob.{DeviceJob}
+use Rattle.commands.specs.declared.device_job.DeviceJob.{DeviceJob}
 use Rattle.device_jobs.specs.Limits.{connections_of, turns_of, options_of}
 
 -- The state at the path could not be opened, and that was said, or begun to be said.

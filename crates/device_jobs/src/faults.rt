@@ -1,7 +1,7 @@
 //! The rules of a bad line out of a file (profile).
 ghost use Rattle.std.specs.Prelude.{◌≡◌, ◌≤◌, [], None, IfOk, IfErr};
 
-use crate::job::DeviceJob;
+use commands::DeviceJob;
 use itoa::Buffer;
 use kept_jobs::fail_state;
 use line_faults::{Rule, RulesFault, read_rules};

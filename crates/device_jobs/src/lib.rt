@@ -1,6 +1,5 @@
 //! The command `encoder` as a device that runs for long.
 //!
-//! - [`DeviceJob`]: what its options ask for.
 //! - [`run_device_from`]: the device over connections that come from anywhere; [`run_device_over_tcp`] over TCP, where
 //!   the job has it listen, and with what a bad line does to them where the job has rules for that.
 //! - [`place_of`], [`fail_place`], [`fail_bind`]: where a job listens, and what is said where it can't.
@@ -9,13 +8,11 @@
 
 mod connections;
 mod faults;
-mod job;
 mod limits;
 mod over_tcp;
 mod serving;
 mod telling;
 
-pub use job::DeviceJob;
 pub use limits::{Limits, limits_of};
 pub use over_tcp::{fail_bind, fail_place, place_of, run_device_over_tcp};
 pub use serving::{closed_device, run_device_from};

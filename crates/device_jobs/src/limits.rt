@@ -2,7 +2,7 @@
 ghost use Rattle.std.specs.Prelude.{◌≡◌};
 ghost use Rattle.device_jobs.specs.Limits.{connections_of, turns_of};
 
-use crate::job::DeviceJob;
+use commands::DeviceJob;
 
 /// The limits of a device.
 #[derive(Clone, Copy, Debug)]

@@ -3,7 +3,7 @@ ghost use Rattle.std.specs.Prelude.{◌≤◌};
 
 use crate::connections::{Attended, Restarting};
 use crate::faults::{fail_faults, rules_of};
-use crate::job::DeviceJob;
+use commands::DeviceJob;
 use crate::serving::run_device_from;
 use crate::telling::Told;
 use arrayvec::ArrayVec;

@@ -1,5 +1,8 @@
 //! An encoder over a keeper, a reader and a writer that fail where they are told to.
 
+mod asserting;
+
+use asserting::{holds, same};
 use faulty_devices::{FaultyReader, FaultyWriter, comes_to, new_store_encoder};
 use kept_serving::{
     KeepEncoder, KeptFault, SaveFailed, serve_connection_kept, serve_kept, take_kept,
@@ -93,9 +96,9 @@ fn saves_what_is_fresh(rt: &impl Abort, encoder: &mut Encoder<RdsStore>) {
     let mut input = Meter::new(FaultyReader::new(&TWICE_AND_NEXT));
     let mut output = Meter::new(FaultyWriter::new());
     let served = serve_kept(encoder, &mut keeper, &mut input, &mut output, 64);
-    assert_eq!(rt; served, Ok(ALL));
-    assert_eq!(rt; (keeper.saves, keeper.applied), (2, 2));
-    assert_eq!(rt; output.into_inner().taken(), ALL_APPLIED.as_slice());
+    same!(*rt; served, Ok(ALL));
+    same!(*rt; (keeper.saves, keeper.applied), (2, 2));
+    same!(*rt; output.into_inner().taken(), ALL_APPLIED.as_slice());
 }
 
 #[test]
@@ -111,21 +114,21 @@ fn is_saved_before_it_goes_on(rt: &impl Abort, encoder: &mut Encoder<RdsStore>) 
     let mut input = Meter::new(FaultyReader::new(&TWICE_AND_NEXT));
     let mut output = Meter::new(FaultyWriter::new());
     let served = serve_kept(encoder, &mut keeper, &mut input, &mut output, 64);
-    assert_eq!(rt; served, Err(KeptFault::StateFailed));
-    assert_eq!(rt; output.into_inner().taken(), &ALL_APPLIED[..22]);
-    assert_eq!(rt; keeper.save(encoder), Ok(()));
+    same!(*rt; served, Err(KeptFault::StateFailed));
+    same!(*rt; output.into_inner().taken(), &ALL_APPLIED[..22]);
+    same!(*rt; keeper.save(encoder), Ok(()));
     let mut input = Meter::new(FaultyReader::new(&TWICE_AND_NEXT[16..]));
     let mut output = Meter::new(FaultyWriter::new());
     let served = serve_kept(encoder, &mut keeper, &mut input, &mut output, 64);
-    assert_eq!(rt;
+    same!(*rt;
         served,
         Ok(Served {
             read: 8,
             replies: 1
         })
     );
-    assert_eq!(rt; keeper.saves, 3);
-    assert_eq!(rt; output.into_inner().taken(), &ALL_APPLIED[22..]);
+    same!(*rt; keeper.saves, 3);
+    same!(*rt; output.into_inner().taken(), &ALL_APPLIED[22..]);
 }
 
 #[test]
@@ -138,16 +141,16 @@ fn a_failed_save_writes_nothing(rt: HostRuntime) -> Result<(), Fail> {
 /// Two groups wait: the first take is saved, and the second is not.
 fn hands_out_what_is_saved(rt: &impl Abort, encoder: &mut Encoder<RdsStore>) {
     let group = [0x24, 0x00, 0x43, 0x12, 0x34, 0x56, 0x78];
-    assert!(rt; comes_to(encoder, 0x01, &group, 0x00));
-    assert!(rt; comes_to(encoder, 0x02, &group, 0x00));
+    holds!(*rt; comes_to(encoder, 0x01, &group, 0x00));
+    holds!(*rt; comes_to(encoder, 0x02, &group, 0x00));
     let mut keeper = FaultyKeeper::new(&[2]);
     let taken = take_kept(encoder, &mut keeper);
-    assert_eq!(rt;
+    same!(*rt;
         taken.map(|group| group.map(|group| group.block4)),
         Ok(Some(0x5678))
     );
-    assert_eq!(rt; take_kept(encoder, &mut keeper), Err(SaveFailed));
-    assert_eq!(rt; keeper.saves, 2);
+    same!(*rt; take_kept(encoder, &mut keeper), Err(SaveFailed));
+    same!(*rt; keeper.saves, 2);
 }
 
 #[test]
@@ -165,12 +168,12 @@ fn serves_one(rt: &impl Abort, encoder: &mut Encoder<RdsStore>) {
         output: None,
     };
     let ended = serve_connection_kept(encoder, &mut keeper, 64, &mut connect);
-    assert_eq!(rt; ended, Some(Ok(ALL)));
+    same!(*rt; ended, Some(Ok(ALL)));
     let ended = serve_connection_kept(encoder, &mut keeper, 64, &mut connect);
-    assert_eq!(rt; ended, None);
-    assert_eq!(rt; keeper.saves, 2);
+    same!(*rt; ended, None);
+    same!(*rt; keeper.saves, 2);
     let output = connect.output.expect(rt, "the output");
-    assert_eq!(rt; output.taken(), ALL_APPLIED.as_slice());
+    same!(*rt; output.taken(), ALL_APPLIED.as_slice());
 }
 
 #[test]

@@ -1,6 +1,9 @@
 //! A server over a keeper that fails where it is told to, and connections whose replies are known.
 
+mod asserting;
+
 use arrayvec::ArrayVec;
+use asserting::{holds, same};
 use faulty_devices::{APPLIED_1, FaultyReader, FaultyWriter, own_address, reply_made};
 use kept_sending::{
     KeepServer, KeptOutstanding, Progress, SaveFailed, join_kept, send_kept, settle_kept,
@@ -131,7 +134,7 @@ fn sends_two<K: KeepServer, C: Connections>(
     let batch = [Message::new(), Message::new()];
     let ended = match send_kept(&mut sender, keeper, &mut progress, &batch) {
         Ok(settled) => {
-            assert_eq!(rt;
+            same!(*rt;
                 settled.codes.as_slice(),
                 [Code::Applied, Code::Applied].as_slice()
             );
@@ -139,7 +142,7 @@ fn sends_two<K: KeepServer, C: Connections>(
         }
         Err(fault) => Some(fault),
     };
-    assert_eq!(rt; progress, TWO);
+    same!(*rt; progress, TWO);
     let _connect = sender.finish();
     ended
 }
@@ -147,16 +150,16 @@ fn sends_two<K: KeepServer, C: Connections>(
 /// Both were written to the last connection.
 fn has_both(rt: &impl Abort, connect: &Prepared<'_>) {
     let output = connect.output.as_ref().expect(rt, "an output");
-    assert_eq!(rt; output.taken(), BOTH.as_slice());
+    same!(*rt; output.taken(), BOTH.as_slice());
 }
 
 #[test]
 fn a_batch_is_saved_before_it_is_sent_and_before_it_is_told(rt: HostRuntime) {
     let mut keeper = FaultyKeeper::new(&[]);
     let mut connect = Prepared::new(&[&BOTH_APPLIED]);
-    assert_eq!(&rt; sends_two(&rt, &mut keeper, &mut connect), None);
-    assert_eq!(&rt; (keeper.saves, keeper.waiting), (2, (2, 0)));
-    assert_eq!(&rt; keeper.progress, TWO);
+    same!(rt; sends_two(&rt, &mut keeper, &mut connect), None);
+    same!(rt; (keeper.saves, keeper.waiting), (2, (2, 0)));
+    same!(rt; keeper.progress, TWO);
     has_both(&rt, &connect);
 }
 
@@ -165,8 +168,8 @@ fn nothing_is_sent_where_the_first_save_fails(rt: HostRuntime) {
     let mut keeper = FaultyKeeper::new(&[1]);
     let mut connect = Prepared::new(&[&BOTH_APPLIED]);
     let ended = sends_two(&rt, &mut keeper, &mut connect);
-    assert_eq!(&rt; ended, Some(KeptOutstanding::StateFailed));
-    assert_eq!(&rt; (keeper.saves, connect.opened), (1, 0));
+    same!(rt; ended, Some(KeptOutstanding::StateFailed));
+    same!(rt; (keeper.saves, connect.opened), (1, 0));
 }
 
 #[test]
@@ -174,8 +177,8 @@ fn nothing_is_told_where_the_second_save_fails(rt: HostRuntime) {
     let mut keeper = FaultyKeeper::new(&[2]);
     let mut connect = Prepared::new(&[&BOTH_APPLIED]);
     let ended = sends_two(&rt, &mut keeper, &mut connect);
-    assert_eq!(&rt; ended, Some(KeptOutstanding::StateFailed));
-    assert_eq!(&rt; (keeper.saves, keeper.waiting), (2, (2, 0)));
+    same!(rt; ended, Some(KeptOutstanding::StateFailed));
+    same!(rt; (keeper.saves, keeper.waiting), (2, (2, 0)));
     has_both(&rt, &connect);
 }
 
@@ -185,16 +188,16 @@ fn sends_again<K: KeepServer, C: Connections>(rt: &impl Abort, keeper: &mut K, c
     let mut progress = NEW;
     let batch = [Message::new(), Message::new()];
     let Err(fault) = send_kept(&mut sender, keeper, &mut progress, &batch) else {
-        assert!(rt; false, "acknowledged");
+        holds!(*rt; false, "acknowledged");
         return;
     };
-    assert_eq!(rt;
+    same!(*rt;
         fault,
         KeptOutstanding::Outstanding(Outstanding::ConnectionFailed)
     );
-    assert!(rt; !sender.server().is_idle());
+    holds!(*rt; !sender.server().is_idle());
     let settled = settle_kept(&mut sender, keeper, progress);
-    assert!(rt; settled.is_ok());
+    holds!(*rt; settled.is_ok());
     let _connect = sender.finish();
 }
 
@@ -203,7 +206,7 @@ fn what_is_outstanding_is_sent_again_and_saved(rt: HostRuntime) {
     let mut keeper = FaultyKeeper::new(&[]);
     let mut connect = Prepared::new(&[b"", &BOTH_APPLIED]);
     sends_again(&rt, &mut keeper, &mut connect);
-    assert_eq!(&rt; (keeper.saves, keeper.waiting), (3, (2, 0)));
+    same!(rt; (keeper.saves, keeper.waiting), (3, (2, 0)));
     has_both(&rt, &connect);
 }
 
@@ -235,8 +238,8 @@ fn a_pass_that_is_complete_is_saved(rt: HostRuntime) {
     let inputs = [replies.as_slice()];
     let mut connect = Prepared::new(&inputs);
     let (ended, progress) = joins(&mut keeper, &mut connect);
-    assert_eq!(&rt; ended, Ok(()));
-    assert_eq!(&rt;
+    same!(rt; ended, Ok(()));
+    same!(rt;
         (keeper.saves, progress.joined, keeper.progress.joined),
         (1, true, true)
     );
@@ -247,9 +250,9 @@ fn a_pass_that_is_not_complete_saves_nothing(rt: HostRuntime) {
     let mut keeper = FaultyKeeper::new(&[]);
     let mut connect = Prepared::new(&[&APPLIED_1]);
     let (ended, progress) = joins(&mut keeper, &mut connect);
-    assert_eq!(&rt;
+    same!(rt;
         ended,
         Err(KeptOutstanding::Outstanding(Outstanding::ConnectionFailed))
     );
-    assert_eq!(&rt; (keeper.saves, progress), (0, NEW));
+    same!(rt; (keeper.saves, progress), (0, NEW));
 }

@@ -17,7 +17,7 @@ use Rattle.device_serving.specs.Logging.{Log}
 use Rattle.device_serving.specs.declared.not_kept.NotKept.{NotKept}
 use Rattle.air_serving.specs.declared.moments.Moment.{Moment}
 use Rattle.air_serving.specs.AirRun.{OnAir, RunsOnAir, OutlivesRun}
-use Rattle.device_jobs.specs.declared.job.DeviceJob.{DeviceJob}
+use Rattle.commands.specs.declared.device_job.DeviceJob.{DeviceJob}
 use Rattle.device_jobs.specs.Limits.{connections_of, turns_of, options_of}
 use Rattle.device_jobs.specs.Serving.{HasNoState, IsNoEncoder}
 

@@ -2,7 +2,8 @@
 
 use crate::serving::run_on_air_from;
 use air_edges::{AirForm, OnAir, Places};
-use device_jobs::{DeviceJob, fail_bind, fail_place, place_of};
+use commands::DeviceJob;
+use device_jobs::{fail_bind, fail_place, place_of};
 use device_serving::LogLines;
 use kept_jobs::fail_state;
 use state_jobs::OpenStates;

@@ -7,7 +7,8 @@ ghost use Rattle.on_air_jobs.specs.Serving.{HasBeenOnAir, AirsIn, AirsUnkept};
 
 use air_serving::{Moments, run_on_air};
 use carousel::Carousel;
-use device_jobs::{DeviceJob, Limits, closed_device, limits_of};
+use commands::DeviceJob;
+use device_jobs::{Limits, closed_device, limits_of};
 use device_serving::{LogLines, NotKept};
 use kept_jobs::fail_state;
 use rds_store::RdsStore;

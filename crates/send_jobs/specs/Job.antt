@@ -12,7 +12,7 @@ use Rattle.state_files.specs.declared.fault.StateFault.{StateFault}
 use Rattle.live_sending.specs.declared.not_kept.NotKept.{NotKept}
 use Rattle.live_sending.specs.declared.options.LiveOptions.{LiveOptions}
 use Rattle.live_sending.specs.Run.{Lives}
-use Rattle.send_jobs.specs.declared.job.SendJob.{SendJob}
+use Rattle.commands.specs.declared.send_job.SendJob.{SendJob}
 use Rattle.send_jobs.specs.LiveIn.{LivesIn, HasNoState}
 
 -- The numbers of a job that can be done.

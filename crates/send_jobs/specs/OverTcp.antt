@@ -9,7 +9,7 @@ use Rattle.kept_sending.specs.declared.keep.Progress.{Progress}
 use Rattle.kept_sending.specs.Keeping.{KeptServer}
 use Rattle.state_files.specs.declared.fault.StateFault.{StateFault}
 use Rattle.live_edges.specs.Patience.{Dialled}
-use Rattle.send_jobs.specs.declared.job.SendJob.{SendJob}
+use Rattle.commands.specs.declared.send_job.SendJob.{SendJob}
 use Rattle.send_jobs.specs.Job.{HasSentLive}
 
 -- The host and the port of the job are dialled, with its limit of time; so much was said before.

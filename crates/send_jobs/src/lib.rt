@@ -1,19 +1,16 @@
 //! The job `send`: a studio's server whose lines come as they like, from its options to its exit status.
 //!
-//! - [`SendJob`]: what is asked for.
 //! - [`run_send_over_tcp`]: does it over TCP, with lines from a reader and messages of the station from a file.
 //! - [`run_send`]: does it over every feed of lines and source of connections.
 //! - [`run_live_in`]: so with the state in a file.
 #![tactic(auto)]
 
 mod closing;
-mod job;
 mod live_in;
 mod over_tcp;
 mod sending;
 mod station;
 
-pub use job::SendJob;
 pub use live_in::run_live_in;
 pub use over_tcp::run_send_over_tcp;
 pub use sending::run_send;

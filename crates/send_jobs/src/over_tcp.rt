@@ -3,7 +3,7 @@ ghost use Rattle.std.specs.Prelude.{◌≡◌, ◌≤◌, [], None, IfOk, IfErr}
 ghost use Rattle.send_jobs.specs.Job.{IsSendable};
 ghost use Rattle.send_jobs.specs.OverTcp.{HasSentOver, DialsLive};
 
-use crate::job::SendJob;
+use commands::SendJob;
 use crate::sending::run_send;
 use crate::station::{StationFault, read_station};
 use kept_jobs::fail_state;

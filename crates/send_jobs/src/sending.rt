@@ -3,7 +3,7 @@ ghost use Rattle.std.specs.Prelude.{◌≤◌, IsTrue};
 ghost use Rattle.uecp_frame.specs.Address.{is_exact};
 ghost use Rattle.send_jobs.specs.Job.{IsSendable, IsFor, HasSentLive, SendsTo};
 
-use crate::job::SendJob;
+use commands::SendJob;
 use crate::live_in::run_live_in;
 use kept_sending::Progress;
 use line_batches::Reading;

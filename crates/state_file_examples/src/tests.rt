@@ -1,4 +1,5 @@
 //! An encoder and a server, each in a database in memory, saved, and refused where another is asked for.
+mod asserting;
 mod keeping;
 
 ghost use Rattle.std.specs.Prelude.{IsTrue};
@@ -6,6 +7,7 @@ ghost use Rattle.sqlite.specs.State.{HasCleanDisk, Opens};
 ghost use Rattle.sqlite.specs.Held.{state};
 ghost use Rattle.uecp_frame.specs.Address.{is_exact};
 
+use asserting::{holds, same};
 use kept_images::{put_encoder, put_server};
 use kept_sending::Progress;
 use kept_state::{Kept, Opened};
@@ -112,14 +114,14 @@ fn other_server<S: Alter + Drop>(
 fn a_new_encoder_is_kept(rt: HostRuntime) -> Result<(), Fail> {
     let alloc = rt.alloc();
     let address = Address::new(1, 1).ok_or("no address")?;
-    assert!(rt; address.is_exact());
+    holds!(rt; address.is_exact());
     let conn = Connection::open_in_memory(alloc)?;
     let begun = encoder_in(conn, alloc, address);
     let (encoder, file) = begun.ok_or("no encoder")?;
-    assert_eq!(rt; encoder.target().set_count(), 2);
-    assert_eq!(rt; encoder.target().service_count(), 2);
-    assert_eq!(rt; encoder.target().service_number(1), Some(0x05));
-    assert_eq!(rt;
+    same!(rt; encoder.target().set_count(), 2);
+    same!(rt; encoder.target().service_count(), 2);
+    same!(rt; encoder.target().service_number(1), Some(0x05));
+    same!(rt;
         other_encoder(&encoder, file, alloc, address, &[0x05, 0x01]),
         Some(StateFault::OtherServices)
     );
@@ -130,17 +132,17 @@ fn a_new_encoder_is_kept(rt: HostRuntime) -> Result<(), Fail> {
 fn a_new_server_is_kept(rt: HostRuntime) -> Result<(), Fail> {
     let alloc = rt.alloc();
     let address = Address::new(1, 1).ok_or("no address")?;
-    assert!(rt; address.is_exact());
+    holds!(rt; address.is_exact());
     let other = Address::new(1, 2).ok_or("no address")?;
-    assert!(rt; other.is_exact());
+    holds!(rt; other.is_exact());
     let conn = Connection::open_in_memory(alloc)?;
     let begun = server_in(conn, alloc, address);
     let (server, progress, file) = begun.ok_or("no server")?;
-    assert_eq!(rt;
+    same!(rt;
         (server.last(), progress.taken, progress.joined),
         (0, 0, false)
     );
-    assert_eq!(rt;
+    same!(rt;
         other_server(&server, progress, file, alloc, other),
         Some(StateFault::OtherAddress)
     );

@@ -2,11 +2,12 @@
 use Rattle.std.proofs.Common.{ℕ, List, Option, inl, inr, subst}
 use Rattle.clap.specs.Faults.{fault_of}
 use Rattle.clap.specs.Kinds.{IsAmong}
-use Rattle.uecp_cli.specs.declared.usage.Usage.{Usage}
-use Rattle.uecp_cli.specs.declared.usage.Usage.TheVariants.{Refused, NotAList, NotAForm, OutOfMemory}
+use Rattle.command_line.specs.declared.usage.Usage.{Usage}
+use Rattle.command_line.specs.declared.usage.Usage.TheVariants.{Refused, NotAList, NotAForm, OutOfMemory}
 use Rattle.clap.specs.Values.{kind_of}
-use Rattle.uecp_cli.specs.CommandLine.{RefusesWords, uecp_app}
-use Rattle.uecp_cli.specs.Program.{AskForText, AsksForText, HasRefusedWords, SaysMistake}
+use Rattle.command_line.specs.CommandLine.{RefusesWords, uecp_app}
+use Rattle.command_line.specs.Usages.{AskForText, AsksForText, SaysMistake}
+use Rattle.uecp_cli.specs.Program.{HasRefusedWords}
 
 pub mistaken_by : (words : List (List ℕ)) (usage : Usage) (told told' : Option (List ℕ)) → RefusesWords words usage
     → SaysMistake usage told told' → HasRefusedWords words told told'

@@ -1,9 +1,8 @@
 -- How a run of the program ends (profile).
-use Rattle.std.specs.Prelude.{◌≡◌, ◌≢◌, ◌⊎◌, ℕ, List, Option, None, Ok, Err, codes}
+use Rattle.std.specs.Prelude.{◌≡◌, ◌≢◌, ◌⊎◌, ℕ, List, Option, None, Ok, Err}
 use Rattle.std.specs.String.{string_bytes}
 use Rattle.clap.specs.Faults.{fault_of}
 use Rattle.clap.specs.Kinds.{IsAmong}
-use Rattle.clap.specs.Values.{kind_of}
 use Rattle.clap.specs.declared.error.kind.ErrorKind.{ErrorKind}
 use Rattle.clap.specs.declared.error.kind.ErrorKind.TheVariants.{DisplayHelp, DisplayVersion}
 use Rattle.uecp_text.specs.declared.run_fault.RunFault.{RunFault}
@@ -12,8 +11,6 @@ use Rattle.uecp_text.specs.Written.{Begins}
 use Rattle.uecp_net.specs.Tcp.{Dials}
 use Rattle.uecp_jobs.specs.declared.job.Job.{Job}
 use Rattle.uecp_jobs.specs.declared.job.Job.TheVariants.{Encoder, Server, Watch}
-use Rattle.uecp_cli.specs.declared.usage.Usage.{Usage}
-use Rattle.uecp_cli.specs.declared.usage.Usage.TheVariants.{Refused, NotAList, NotAForm, OutOfMemory}
 use Rattle.rds_store.specs.Value.{Store}
 use Rattle.uecp_encoder.specs.State.{EncoderState}
 use Rattle.uecp_link.specs.Server.{ServerState}
@@ -21,11 +18,13 @@ use Rattle.kept_serving.specs.Keeping as serving
 use Rattle.kept_sending.specs.declared.keep.Progress.{Progress}
 use Rattle.kept_sending.specs.Keeping as sending
 use Rattle.state_files.specs.declared.reading.Found.{Found}
-use Rattle.uecp_cli.specs.declared.task.Task.{Task}
-use Rattle.uecp_cli.specs.declared.task.Task.TheVariants.{Plain, Kept, Send, Device, OnAir, Receive, Conformance, Page}
-use Rattle.uecp_cli.specs.declared.task.Task.TheVariants.{State, Ladder}
+use Rattle.command_line.specs.declared.task.Task.{Task}
+use Rattle.command_line.specs.declared.task.Task.TheVariants.{Plain, Kept, Send, Device, OnAir, Receive, Conformance}
+use Rattle.command_line.specs.declared.task.Task.TheVariants.{Page}
+use Rattle.command_line.specs.declared.task.Task.TheVariants.{State, Ladder}
 use Rattle.uecp_cli.specs.Kept.{IsKeptDone, IsKeptRefused, IsKeptStopped, IsKeptIn, HasTold, HasNotTold}
-use Rattle.uecp_cli.specs.CommandLine.{uecp_app, Asks, GivesNoForm, GivesNoList, IsEnd}
+use Rattle.command_line.specs.CommandLine.{uecp_app, Asks, GivesNoForm, GivesNoList, IsEnd}
+use Rattle.command_line.specs.Usages.{no_form_line, no_list_line}
 use Rattle.uecp_cli.specs.Unreached.{MaySayUnreached}
 use Rattle.uecp_watch.specs.Watching.{Watches}
 use Rattle.uecp_jobs.specs.Jobs.{IsDone, IsRefused, IsUndescribed, HasFailed}
@@ -45,22 +44,10 @@ DialsFor (Server site encoder host port tries timeout turns reconnects window jo
 DialsFor job dials = ⊥
 
 -- ---- by the words of the command line
--- The words ask for a help text or for the version.
-abbrev pub AskForText : (words : List (List ℕ)) → Type 0
-AskForText words = IsAmong DisplayHelp (fault_of uecp_app words) ⊎ IsAmong DisplayVersion (fault_of uecp_app words)
-
 -- The words have a fault, and it is no question for a text.
 abbrev pub AreMistaken : (words : List (List ℕ)) → Type 0
 AreMistaken words = (kind : ErrorKind) × IsAmong kind (fault_of uecp_app words) × (kind ≢ DisplayHelp)
     × (kind ≢ DisplayVersion)
-
--- What is said of a list of services that is none.
-abbrev pub no_list_line : List ℕ
-no_list_line = codes "uecp: services: NotAList\n"
-
--- What is said of a form of a ladder that is none.
-abbrev pub no_form_line : List ℕ
-no_form_line = codes "uecp: ladder: svg or text\n"
 
 -- What came was told as it came, up to its end.
 abbrev pub HasWatched : Job → (unread unread' held held' : Option (List ℕ)) → Type 0
@@ -216,10 +203,6 @@ abbrev pub HasBrokenOff : (finds : (path : List ℕ) → Found → Type 0) → (
 HasBrokenOff finds words unread unread' held held' told told' =
     (task : Task) × Asks words task × IsTaskStopped finds task unread unread' held held' told told'
 
--- Memory was wanting, or the text that was asked for could not be written, and that was said, or begun to be said.
-abbrev pub SaysFailure : (told told' : Option (List ℕ)) → Type 0
-SaysFailure told told' = (fault : RunFault) × Fails fault × Begins told told' (error_lines fault)
-
 -- The words ask for nothing that can be done: they are mistaken, or give a list of services that is none or a form of a
 -- ladder that is none, or ask for a job whose options describe no encoder. The first is said by clap, and the others
 -- were said on standard error, or begun to be said.
@@ -228,18 +211,3 @@ HasRefusedWords words told told' =
     AreMistaken words ⊎ ((GivesNoList words × Begins told told' no_list_line)
     ⊎ ((GivesNoForm words × Begins told told' no_form_line)
     ⊎ ((task : Task) × Asks words task × IsTaskUndescribed task told told')))
-
--- ---- by the refusal of the words
--- It is a question for a text.
-abbrev pub AsksForText : Usage → Type 0
-AsksForText (Refused error) = (kind_of error ≡ DisplayHelp) ⊎ (kind_of error ≡ DisplayVersion)
-AsksForText NotAList = ⊥
-AsksForText NotAForm = ⊥
-AsksForText OutOfMemory = ⊥
-
--- It is a mistake, and of a list of services and of a ladder's form that was said, or begun to be said.
-abbrev pub SaysMistake : Usage → (told told' : Option (List ℕ)) → Type 0
-SaysMistake (Refused error) told told' = (kind_of error ≢ DisplayHelp) × (kind_of error ≢ DisplayVersion)
-SaysMistake NotAList told told' = Begins told told' no_list_line
-SaysMistake NotAForm told told' = Begins told told' no_form_line
-SaysMistake OutOfMemory told told' = ⊥

@@ -10,31 +10,13 @@
 //! ask for it sends for as long as lines come, by `run_send_over_tcp`.
 #![tactic(auto)]
 
-mod arguments;
-mod command_line;
-mod device_job;
-mod file_fault;
-mod file_options;
-mod forms;
-mod live_job;
-mod matched;
-mod numbers;
-mod page_task;
 mod program;
-mod receive_job;
-mod services;
-mod settling;
-mod task;
-mod trying_job;
 mod unreached;
-mod usage;
 
-use crate::command_line::program;
-use crate::program::{Ran, receive, refuse, run_words, send};
-use crate::settling::settle;
-use crate::usage::Usage;
+use crate::program::{Ran, receive, run_words, send};
 use air_jobs::run_answer_on_air;
 use clap::error;
+use command_line::{Usage, program, refuse, settle};
 use conformance_running::run_conformance_over_tcp;
 use device_jobs::run_device_over_tcp;
 use ladders::run_ladder;

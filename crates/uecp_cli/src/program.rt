@@ -2,51 +2,48 @@
 ghost use Rattle.std.specs.Prelude.{◌≡◌, ◌≢◌, ◌⊎◌, ◌≤◌, ℕ, List, Option, None, map, is_some, Ok, Err, IfErr, IsTrue};
 ghost use Rattle.std.specs.String.{string_bytes};
 ghost use Rattle.uecp_text.specs.declared.run_fault.RunFault.{RunFault};
-ghost use Rattle.uecp_text.specs.declared.run_fault.RunFault.TheVariants.{Writing};
 ghost use Rattle.uecp_text.specs.Faults.{Fails, error_lines};
 ghost use Rattle.uecp_text.specs.Written.{Begins};
 ghost use Rattle.uecp_watch.specs.Watching.{Watches};
 ghost use Rattle.uecp_jobs.specs.EncoderRun.{IsEncoder};
 ghost use Rattle.uecp_jobs.specs.Jobs.{IsUndescribed};
 ghost use Rattle.uecp_jobs.specs.ServerRun.{IsServer};
-ghost use Rattle.uecp_cli.specs.Program.{AskForText, IsAllDone, HasDone, HasLineRefused, HasRefused, HasNotEnded};
-ghost use Rattle.uecp_cli.specs.Program.{HasBrokenOff, HasRefusedWords, ListensFor, DialsFor, AsksForText, SaysMistake};
-ghost use Rattle.uecp_cli.specs.Program.{SaysFailure, IsRunnable, IsTaskDone, IsTaskRefused, IsTaskUndescribed};
+ghost use Rattle.uecp_cli.specs.Program.{IsAllDone, HasDone, HasLineRefused, HasRefused, HasNotEnded};
+ghost use Rattle.uecp_cli.specs.Program.{HasBrokenOff, HasRefusedWords, ListensFor, DialsFor};
+ghost use Rattle.uecp_cli.specs.Program.{IsRunnable, IsTaskDone, IsTaskRefused, IsTaskUndescribed};
+ghost use Rattle.command_line.specs.Usages.{AskForText, SaysFailure};
 ghost use Rattle.uecp_cli.specs.Program.{IsTaskStopped, IsTaskKept};
 ghost use Rattle.uecp_cli.specs.Kept.{IsKeptDone, IsKeptRefused, IsKeptStopped, IsKeptIn, HasServedLines};
 ghost use Rattle.kept_jobs.specs.ServerKept.{IsReadWith};
 ghost use Rattle.uecp_cli.specs.Unreached.{MaySayUnreached};
 ghost use Rattle.state_jobs.specs.Kept.{HasServedKept, HasSentKept, SaysWhy};
-ghost use Rattle.send_jobs.specs.declared.job.SendJob.{SendJob};
+ghost use Rattle.commands.specs.declared.send_job.SendJob.{SendJob};
 ghost use Rattle.uecp_cli.specs.declared.program.Ran.TheVariants.{Ended, Sends, Serves, Airs, Receives, Tries, Pages};
 ghost use Rattle.uecp_cli.specs.declared.program.Ran.TheVariants.{Draws};
 ghost use Rattle.ladders.specs.declared.ladder_job.LadderJob.{LadderJob};
-ghost use Rattle.device_jobs.specs.declared.job.DeviceJob.{DeviceJob};
+ghost use Rattle.commands.specs.declared.device_job.DeviceJob.{DeviceJob};
 ghost use Rattle.air_jobs.specs.declared.air_job.AirJob.{AirJob};
 ghost use Rattle.page_edges.specs.declared.page_job.PageJob.{PageJob};
 ghost use Rattle.receiving.specs.Bits.{ReceivesBits};
 ghost use Rattle.receiving.specs.declared.receive_job.ReceiveJob.{ReceiveJob};
 ghost use Rattle.conformance_running.specs.declared.job.ConformanceJob.{ConformanceJob};
 ghost use Rattle.conformance_running.specs.Conformance.{IsInRange as IsConformanceInRange};
-ghost use Rattle.uecp_cli.specs.declared.task.Task.TheVariants.{Send, Device, OnAir, Receive, Conformance, Page};
-ghost use Rattle.uecp_cli.specs.declared.task.Task.TheVariants.{Ladder};
-ghost use Rattle.uecp_cli.specs.Ranges.{IsLiveInRange, IsDeviceInRange, IsOnAirInRange, IsSetupInRange};
-ghost use Rattle.uecp_cli.specs.CommandLine.{Asks, IsEnd};
+ghost use Rattle.command_line.specs.declared.task.Task.TheVariants.{Send, Device, OnAir, Receive, Conformance, Page};
+ghost use Rattle.command_line.specs.declared.task.Task.TheVariants.{Ladder};
+ghost use Rattle.command_line.specs.Ranges.{IsLiveInRange, IsDeviceInRange, IsOnAirInRange, IsSetupInRange};
+ghost use Rattle.command_line.specs.CommandLine.{Asks, IsEnd};
 
-use crate::command_line::parse;
-use crate::task::Task;
 use crate::unreached::say_unreached;
-use crate::usage::{NO_FORM, Usage};
 use air_jobs::AirJob;
-use clap::Error;
+use command_line::{Task, parse, refuse};
+use commands::{DeviceJob, SendJob};
 use conformance_running::ConformanceJob;
-use device_jobs::DeviceJob;
 use ladders::LadderJob;
 use line_feed::{Arrival, LineFeed};
 use live_edges::Watch;
 use page_edges::PageJob;
 use receiving::{ReceiveJob, run_receive, run_receive_bits};
-use send_jobs::{SendJob, run_send_over_tcp};
+use send_jobs::run_send_over_tcp;
 use state_jobs::{OpenStates, run_encoder_in, run_server_in, tell_state};
 use std::alloc::Global;
 use std::fs::Files;
@@ -55,7 +52,7 @@ use std::net::{Net, TcpListener, TcpStream};
 use std::time::Clock;
 use uecp_jobs::{Form, Job, fail, run_encoder_over, run_job, run_server_over};
 use uecp_net::{Dialing, Local};
-use uecp_text::{RunFault, write_parts};
+use uecp_text::RunFault;
 use uecp_watch::watch;
 
 /// What came of the words of a command line.
@@ -486,39 +483,4 @@ fn dialing_of<'a, N: Net<Listener = TcpListener, Stream = TcpStream>>(
         } => Dialing::new(net, host.as_str(), *port, u64::from(*timeout)),
         _ => unreachable!(),
     }
-}
-
-/// Says why words ask for no job, and answers the exit status. A text that was asked for goes to the writer.
-pub fn refuse<W: Write, E: Write>(usage: &Usage, writer: &mut W, errors: &mut E) -> u8
-    ensures status { (result ≤ 3) × (result ≢ 1) }
-    ensures text { result ≡ 0 → AsksForText usage.now × (errors.new ≡ errors.old) }
-    ensures mistaken { result ≡ 2 → SaysMistake usage.now (E.contents errors.old) (E.contents errors.new)
-        × (writer.new ≡ writer.old) }
-    ensures failed { result ≡ 3 → SaysFailure (E.contents errors.old) (E.contents errors.new)
-        × (AsksForText usage.now ⊎ (writer.new ≡ writer.old)) }
-{
-    match usage {
-        Usage::Refused(error) if error.use_stderr() => {
-            let _ = write!(errors, "{error}");
-            2
-        }
-        Usage::Refused(error) => match show_text(error, writer) {
-            Ok(()) => 0,
-            Err(fault) => fail(&fault, errors),
-        },
-        Usage::NotAList => fail(&RunFault::NotAList, errors),
-        Usage::NotAForm => {
-            let _ = write_parts(&[b"uecp: ", NO_FORM.as_bytes(), b"\n"], errors);
-            2
-        }
-        Usage::OutOfMemory => fail(&RunFault::OutOfMemory, errors),
-    }
-}
-
-/// Writes out the text of an error. `Writing` where the writer fails.
-fn show_text<W: Write>(error: &Error, writer: &mut W) -> Result<(), RunFault>
-    ensures { IfErr result (λ fault. fault ≡ Writing) }
-{
-    write!(writer, "{error}").map_err(|_| RunFault::Writing)?;
-    writer.flush().map_err(|_| RunFault::Writing)
 }

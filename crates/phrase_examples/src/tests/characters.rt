@@ -1,4 +1,5 @@
 //! The basic character set, names of programme types, and bytes as they are written between quotes.
+use crate::tests::asserting::{holds, same};
 use rds_text::{
     QuotedFault, Region, byte_of, character_of, first_byte, name_of, number_of, written,
 };
@@ -53,15 +54,15 @@ fn is_own(byte: u8) -> bool {
 fn the_upper_half_is_that_of_digital_radio_but_for_25_characters(rt: HostRuntime) {
     for byte in 0x80..0xffu8 {
         let theirs = OF_DIGITAL_RADIO.get(usize::from(byte - 0x80)).copied();
-        assert!(rt; theirs.is_some());
-        assert_eq!(rt; character_of(byte) != theirs, is_own(byte), "{byte}");
+        holds!(rt; theirs.is_some());
+        same!(rt; character_of(byte) != theirs, is_own(byte), byte);
     }
 }
 
 #[test]
 fn the_characters_that_digital_radio_has_not(rt: HostRuntime) {
     for (byte, character) in OWN {
-        assert_eq!(rt; character_of(*byte), Some(*character));
+        same!(rt; character_of(*byte), Some(*character));
     }
     for (byte, character) in [
         (0x24, '¤'),
@@ -70,7 +71,7 @@ fn the_characters_that_digital_radio_has_not(rt: HostRuntime) {
         (0x7e, '‾'),
         (0x41, 'A'),
     ] {
-        assert_eq!(rt; character_of(byte), Some(character));
+        same!(rt; character_of(byte), Some(character));
     }
 }
 
@@ -79,42 +80,42 @@ fn each_character_back_to_its_byte(rt: HostRuntime) {
     let mut count = 0u8;
     for byte in 0..=0xffu8 {
         if let Some(character) = character_of(byte) {
-            assert_eq!(rt; byte_of(character), Some(byte));
+            same!(rt; byte_of(character), Some(byte));
             count = count.saturating_add(1);
         }
     }
-    assert_eq!(rt; count, 222);
-    assert_eq!(rt; byte_of('^'), None);
-    assert_eq!(rt; byte_of('\n'), None);
+    same!(rt; count, 222);
+    same!(rt; byte_of('^'), None);
+    same!(rt; byte_of('\n'), None);
 }
 
 #[test]
 fn names_of_programme_types(rt: HostRuntime) -> Result<(), Fail> {
-    assert_eq!(rt; name_of(Region::Europe, 10).ok_or("no name")?, "Pop Music");
-    assert_eq!(rt;
+    same!(rt; name_of(Region::Europe, 10).ok_or("no name")?, "Pop Music");
+    same!(rt;
         name_of(Region::NorthAmerica, 10).ok_or("no name")?,
         "Country"
     );
-    assert!(rt; name_of(Region::NorthAmerica, 27).is_none());
-    assert_eq!(rt; number_of(Region::Europe, b"pop MUSIC"), Some(10));
-    assert_eq!(rt; number_of(Region::NorthAmerica, b"Pop Music"), None);
-    assert_eq!(rt; number_of(Region::Europe, b""), None);
+    holds!(rt; name_of(Region::NorthAmerica, 27).is_none());
+    same!(rt; number_of(Region::Europe, b"pop MUSIC"), Some(10));
+    same!(rt; number_of(Region::NorthAmerica, b"Pop Music"), None);
+    same!(rt; number_of(Region::Europe, b""), None);
     Ok(())
 }
 
 #[test]
 fn bytes_as_they_are_written_between_quotes(rt: HostRuntime) {
-    assert_eq!(rt; written(0x82).as_slice(), ['é'].as_slice());
-    assert_eq!(rt; written(0x22).as_slice(), ['\\', '"'].as_slice());
-    assert_eq!(rt; written(0x0d).as_slice(), ['\\', 'x', '0', 'D'].as_slice());
-    assert_eq!(rt; first_byte(&['\\', 'x', '0', 'd', 'A']), Ok((0x0d, 4)));
-    assert_eq!(rt; first_byte(&['\\', 'u', '0', '0', 'E', '9']), Ok((0x82, 6)));
-    assert_eq!(rt; first_byte(&['\\', '\\']), Ok((0x5c, 2)));
-    assert_eq!(rt; first_byte(&['é', 'A']), Ok((0x82, 1)));
-    assert_eq!(rt; first_byte(&['\\', 'x', '0']), Err(QuotedFault::Escape));
-    assert_eq!(rt;
+    same!(rt; written(0x82).as_slice(), ['é'].as_slice());
+    same!(rt; written(0x22).as_slice(), ['\\', '"'].as_slice());
+    same!(rt; written(0x0d).as_slice(), ['\\', 'x', '0', 'D'].as_slice());
+    same!(rt; first_byte(&['\\', 'x', '0', 'd', 'A']), Ok((0x0d, 4)));
+    same!(rt; first_byte(&['\\', 'u', '0', '0', 'E', '9']), Ok((0x82, 6)));
+    same!(rt; first_byte(&['\\', '\\']), Ok((0x5c, 2)));
+    same!(rt; first_byte(&['é', 'A']), Ok((0x82, 1)));
+    same!(rt; first_byte(&['\\', 'x', '0']), Err(QuotedFault::Escape));
+    same!(rt;
         first_byte(&['\\', 'u', 'D', '8', '0', '0']),
         Err(QuotedFault::Escape)
     );
-    assert_eq!(rt; first_byte(&['^']), Err(QuotedFault::NotInSet));
+    same!(rt; first_byte(&['^']), Err(QuotedFault::NotInSet));
 }

@@ -1,4 +1,5 @@
 //! Lines that say nothing, and what was expected where.
+use crate::tests::asserting::{holds, same};
 use phrase_tokens::tokens_of;
 use rds_text::Region;
 use std::alloc::Global;
@@ -206,8 +207,8 @@ fn with_bytes(alloc: Global, front: &str, count: usize) -> Result<Vec<char>, Fai
 
 #[test]
 fn what_was_expected(rt: HostRuntime) -> Result<(), Fail> {
-    assert_eq!(rt; first_other(rt.alloc(), WRONG)?, None);
-    assert_eq!(rt; first_other(rt.alloc(), OTHERS)?, None);
+    same!(rt; first_other(rt.alloc(), WRONG)?, None);
+    same!(rt; first_other(rt.alloc(), OTHERS)?, None);
     Ok(())
 }
 
@@ -220,9 +221,9 @@ fn lines_that_are_too_long(rt: HostRuntime) -> Result<(), Fail> {
     ] {
         let line = with_bytes(rt.alloc(), front, count)?;
         let found = expected(rt.alloc(), line.as_slice())?;
-        assert_eq!(rt; found.index, index);
-        assert_eq!(rt; found.what, what);
-        assert!(rt; found.nearest.is_none());
+        same!(rt; found.index, index);
+        same!(rt; found.what, what);
+        holds!(rt; found.nearest.is_none());
     }
     Ok(())
 }

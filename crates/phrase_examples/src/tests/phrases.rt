@@ -1,4 +1,5 @@
 //! Phrases, and the bytes that they add.
+use crate::tests::asserting::{holds, same};
 use phrase_tokens::{put_tokens, tokens_of};
 use rds_text::Region;
 use std::alloc::Global;
@@ -138,8 +139,8 @@ fn written(alloc: Global, region: Region, message: &[u8], into: &mut Vec<u8>) ->
 
 #[test]
 fn phrases_add_their_bytes(rt: HostRuntime) -> Result<(), Fail> {
-    assert!(rt; each_adds(rt.alloc(), WRITTEN)?);
-    assert!(rt; each_adds(rt.alloc(), READ)?);
+    holds!(rt; each_adds(rt.alloc(), WRITTEN)?);
+    holds!(rt; each_adds(rt.alloc(), READ)?);
     Ok(())
 }
 
@@ -165,10 +166,10 @@ fn lines_of_phrases(rt: HostRuntime) -> Result<(), Fail> {
         (r#"; raw 1C; ps "a;b""#, b"\x1c\x02\0\0a;b     ".as_slice()),
     ] {
         let message = line_said(rt.alloc(), text)?.ok_or("nothing said")?;
-        assert_eq!(rt; message.bytes(), bytes);
+        same!(rt; message.bytes(), bytes);
     }
     for text in ["set 2; set", "set 2 music", "music; in 2; music"] {
-        assert!(rt; line_said(rt.alloc(), text)?.is_none(), "{text}");
+        holds!(rt; line_said(rt.alloc(), text)?.is_none(), text);
     }
     Ok(())
 }
@@ -197,7 +198,7 @@ fn messages_as_lines(rt: HostRuntime) -> Result<(), Fail> {
     ] {
         let mut written = Vec::new(rt.alloc());
         line(rt.alloc(), bytes, &mut written)?;
-        assert_eq!(rt; written.as_slice(), text.as_bytes());
+        same!(rt; written.as_slice(), text.as_bytes());
     }
     Ok(())
 }
@@ -205,7 +206,7 @@ fn messages_as_lines(rt: HostRuntime) -> Result<(), Fail> {
 #[test]
 fn what_is_no_phrase(rt: HostRuntime) -> Result<(), Fail> {
     for text in REFUSED {
-        assert!(rt; said(rt.alloc(), Region::Europe, text)?.is_none(), "{text}");
+        holds!(rt; said(rt.alloc(), Region::Europe, text)?.is_none(), text);
     }
     Ok(())
 }
@@ -215,7 +216,7 @@ fn elements_as_phrases(rt: HostRuntime) -> Result<(), Fail> {
     for (text, bytes) in WRITTEN {
         let mut line = Vec::new(rt.alloc());
         written(rt.alloc(), Region::Europe, bytes, &mut line)?;
-        assert_eq!(rt; line.as_slice(), text.as_bytes());
+        same!(rt; line.as_slice(), text.as_bytes());
     }
     Ok(())
 }
@@ -229,7 +230,7 @@ fn names_of_north_america(rt: HostRuntime) -> Result<(), Fail> {
         &[0x07, 0, 0, 10],
         &mut line,
     )?;
-    assert_eq!(rt; line.as_slice(), b"pty \"Country\"".as_slice());
-    assert!(rt; said(rt.alloc(), Region::NorthAmerica, r#"pty "Pop Music""#)?.is_none());
+    same!(rt; line.as_slice(), b"pty \"Country\"".as_slice());
+    holds!(rt; said(rt.alloc(), Region::NorthAmerica, r#"pty "Pop Music""#)?.is_none());
     Ok(())
 }

@@ -1,4 +1,5 @@
 //! Lines and their tokens.
+use crate::tests::asserting::{holds, same};
 use phrase_tokens::{Token, TokenFault, Unread, column_of, put_behind, put_tokens, tokens_of};
 use std::alloc::Global;
 use std::test::Fail;
@@ -35,15 +36,15 @@ fn at(column: usize, reason: Unread) -> TokenFault {
 #[test]
 fn a_line_with_each_kind_of_token(rt: HostRuntime) -> Result<(), Fail> {
     let tokens = read(rt.alloc(), r#" ps "R\x41dio é";rt+  5"#)?;
-    assert_eq!(rt; tokens.len(), 5);
-    assert_eq!(rt; tokens[0].word().ok_or("no word")?, b"ps".as_slice());
-    assert_eq!(rt;
+    holds!(rt; tokens.len() == 5);
+    same!(rt; tokens[0].word().ok_or("no word")?, b"ps".as_slice());
+    same!(rt;
         tokens[1].quoted().ok_or("no text")?,
         b"RAdio \x82".as_slice()
     );
-    assert!(rt; tokens[2].is_semicolon());
-    assert_eq!(rt; tokens[3].word().ok_or("no word")?, b"rt+".as_slice());
-    assert_eq!(rt; tokens[4].word().ok_or("no word")?, b"5".as_slice());
+    holds!(rt; tokens[2].is_semicolon());
+    same!(rt; tokens[3].word().ok_or("no word")?, b"rt+".as_slice());
+    same!(rt; tokens[4].word().ok_or("no word")?, b"5".as_slice());
     Ok(())
 }
 
@@ -61,7 +62,7 @@ fn what_cannot_be_read_with_its_column(rt: HostRuntime) -> Result<(), Fail> {
             Unread::TooLong,
         ),
     ] {
-        assert_eq!(rt; unread(rt.alloc(), line)?, at(column, reason), "{line}");
+        same!(rt; unread(rt.alloc(), line)?, at(column, reason), line);
     }
     Ok(())
 }
@@ -73,8 +74,8 @@ fn a_line_is_written_with_one_space_between_tokens(rt: HostRuntime) -> Result<()
     put_tokens(tokens.as_slice(), &mut output);
     put_behind(tokens.get(3..).ok_or("no word")?, &mut output);
     let mut written: Vec<u8> = Vec::new(rt.alloc());
-    assert!(rt; output.write_out(&mut written).is_ok());
-    assert_eq!(rt;
+    holds!(rt; output.write_out(&mut written).is_ok());
+    same!(rt;
         written.as_slice(),
         "ps \"aé\\\\\"; ta \"on\" ta \"on\"".as_bytes()
     );
@@ -85,7 +86,7 @@ fn a_line_is_written_with_one_space_between_tokens(rt: HostRuntime) -> Result<()
 fn the_columns_at_which_tokens_begin(rt: HostRuntime) -> Result<(), Fail> {
     let line = characters(rt.alloc(), r#" ps "é";ta"#)?;
     for (index, column) in [(0, 2), (1, 5), (2, 8), (3, 9), (4, 11)] {
-        assert_eq!(rt; column_of(line.as_slice(), index), column);
+        same!(rt; column_of(line.as_slice(), index), column);
     }
     Ok(())
 }

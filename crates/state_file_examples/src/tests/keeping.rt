@@ -2,6 +2,7 @@
 ghost use Rattle.std.specs.Prelude.{◌≡◌, ◌∷◌, [], slice_index_or};
 ghost use Rattle.std.proofs.Common.{ap, sym, ◌∙◌};
 
+use crate::tests::asserting::same;
 use kept_state::{Found, Image, KeepFault, Kept, Opened, Saved};
 use sqlite::{Connection, MemStore};
 use std::alloc::{AllocError, Global};
@@ -58,12 +59,12 @@ fn saved_once(alloc: Global) -> Result<bool, KeepFault> {
 
 #[test]
 fn images_are_saved(rt: HostRuntime) {
-    assert_eq!(rt; kept_twice(rt.alloc()), Ok(()));
+    same!(rt; kept_twice(rt.alloc()), Ok(()));
 }
 
 #[test]
 fn values_are_saved(rt: HostRuntime) {
-    assert_eq!(rt; saved_once(rt.alloc()), Ok(true));
+    same!(rt; saved_once(rt.alloc()), Ok(true));
 }
 
 #[test]
@@ -79,7 +80,7 @@ fn faults_are_told(rt: HostRuntime) -> Result<(), Fail> {
         (KeepFault::OutOfMemory, "out of memory"),
         (KeepFault::Failed, "state failed"),
     ] {
-        assert_eq!(rt; format!(in rt.alloc(); "{fault}")?.as_str(), want);
+        same!(rt; format!(in rt.alloc(); "{fault}")?.as_str(), want);
     }
     Ok(())
 }

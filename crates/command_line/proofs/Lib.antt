@@ -1,0 +1,6 @@
+pub mod Options
+pub mod Apps
+pub mod Asked
+pub mod Helps
+pub mod Examples
+pub mod Refusals

@@ -1,0 +1,18 @@
+use Rattle.std.proofs.Common.{refl, sym, ap, ◌∙◌, codes, option_map, Some}
+use Rattle.clap.specs.Words.{found_of}
+use Rattle.clap.proofs.WalkLemmas.{first_value-rows}
+use Rattle.command_line.proofs.matched.task_of.Goals as goal
+
+pub returns-in_ok-from_str-in-Some : goal.returns-in_ok-from_str-in-Some
+returns-in_ok-from_str-in-Some c = (
+  refl,
+  sym (first_value-rows (found_of c.args.found.now) (codes "state")) ∙ sym c.get_str.ensures
+      ∙ ap (option_map (λ s. s.now)) c.in-Some.is ∙ ap Some (sym c.in_ok-from_str-in-Some.ensures.ok),
+)
+
+pub returns-in-None : goal.returns-in-None
+returns-in-None c = (
+  refl,
+  sym (first_value-rows (found_of c.args.found.now) (codes "state")) ∙ sym c.get_str.ensures
+      ∙ ap (option_map (λ s. s.now)) c.in-None.is,
+)

@@ -1,0 +1,626 @@
+-- The command line that the program takes, and what it asks for (profile).
+use Rattle.std.specs.Prelude.{◌≡◌, ◌⊎◌, ℕ, ◌≤◌, ◌==◌, Bool, true, false, not, ◌||◌, is_some, List, [], ◌∷◌, ◌++◌, codes}
+use Rattle.std.specs.Prelude.{map, Option}
+use Rattle.std.specs.Prelude.{Some, None, IfSome, Ok, is_none, option_map, unwrap_or, pos, if◌then◌else◌}
+use Rattle.std.specs.List.{slice_split}
+use Rattle.std.specs.String.{string_bytes}
+use Rattle.std.specs.Str.Parse.{IsNumeral, without_leading_plus, digits_value}
+use Rattle.hex.specs.Hex.{decode_sized}
+use Rattle.clap.specs.Walk.{Row, Rule, one_of, first_of}
+use Rattle.clap.specs.Simple.{App, Shape, new_rule, new_shape, subcommand_of}
+use Rattle.clap.specs.Faults.{fault_of}
+use Rattle.clap.specs.Kinds.{IsAmong}
+use Rattle.clap.specs.Values.{kind_of}
+use Rattle.clap.specs.declared.builder.action.ArgAction.TheVariants.{Set, SetTrue}
+use Rattle.clap.specs.declared.builder.value_parser.ValueParser.TheVariants.{Signed}
+use Rattle.uecp_jobs.specs.declared.job.Job.{Job}
+use Rattle.uecp_jobs.specs.declared.job.Job.TheVariants.{Answer, AnswerAs, Show, ShowAs, Make, MakeWords}
+use Rattle.uecp_jobs.specs.declared.job.Job.TheVariants.{Line, LineAs, Encoder, Server, Watch}
+use Rattle.commands.specs.declared.send_job.SendJob.{SendJob}
+use Rattle.command_line.specs.declared.task.Task.{Task}
+use Rattle.commands.specs.declared.device_job.DeviceJob.{DeviceJob}
+use Rattle.air_jobs.specs.declared.air_job.AirJob.{AirJob}
+use Rattle.receiving.specs.declared.receive_job.ReceiveJob.{ReceiveJob}
+use Rattle.shown_lines.specs.declared.shown_form.ShownForm.{ShownForm}
+use Rattle.shown_lines.specs.declared.shown_form.ShownForm.TheVariants as shown
+use Rattle.conformance_running.specs.declared.job.ConformanceJob.{ConformanceJob}
+use Rattle.page_edges.specs.declared.page_job.PageJob.{PageJob}
+use Rattle.command_line.specs.declared.task.Task.TheVariants.{Plain, Kept, Send, Device, OnAir, Receive, Conformance}
+use Rattle.command_line.specs.declared.task.Task.TheVariants.{Page}
+use Rattle.command_line.specs.declared.task.Task.TheVariants.{State, Ladder}
+use Rattle.ladders.specs.declared.ladder_job.LadderJob.{LadderJob}
+use Rattle.ladders.specs.declared.drawing.LadderForm.{LadderForm}
+use Rattle.ladders.specs.declared.drawing.LadderForm.TheVariants.{Picture, Text}
+use Rattle.output_forms.specs.declared.form.Form.{Form}
+use Rattle.output_forms.specs.declared.form.Form.TheVariants.{Lines, Words, Json}
+use Rattle.rds_text.specs.declared.programme_type.Region.{Region}
+use Rattle.rds_text.specs.declared.programme_type.Region.TheVariants.{Europe, NorthAmerica}
+use Rattle.command_line.specs.declared.numbers.NumberOption.{NumberOption}
+use Rattle.command_line.specs.declared.command_name.CommandName.{CommandName}
+use Rattle.command_line.specs.declared.command_name.CommandName.TheVariants as command
+use Rattle.command_line.specs.declared.usage.Usage.{Usage}
+use Rattle.command_line.specs.declared.usage.Usage.TheVariants.{Refused, NotAList, NotAForm, OutOfMemory}
+
+-- The parts of a list between its commas are two hexadecimal digits each, and spell these bytes in order.
+abbrev pub IsList : (list bytes : List ℕ) → Type 0
+IsList list bytes = map (λ part. decode_sized part 1) (slice_split (λ b. b == 44) list)
+    ≡ map (λ byte. Ok (byte ∷ [])) bytes
+
+-- Why a list was refused: it spells no bytes, or there was no memory.
+abbrev pub RefusesList : (list : List ℕ) → Usage → Type 0
+RefusesList list why = (why ≡ OutOfMemory) ⊎ ((why ≡ NotAList) × ((bytes : List ℕ) → IsList list bytes → ⊥))
+
+-- The text is decimal digits that spell this number; a plus may stand before them.
+abbrev pub Spells : (text : List ℕ) → ℕ → Type 0
+Spells text number = IsNumeral 10 (without_leading_plus text) × (digits_value 10 (without_leading_plus text) ≡ number)
+
+-- The number of an option with this text lies from the least to the greatest, and is the one that the text spells,
+-- where that lies there.
+pub record IsOption (text : Option (List ℕ)) (least greatest number : ℕ) : Type 0 where
+  pub at_least : least ≤ number
+  pub at_most : number ≤ greatest
+  pub spelled : (t : List ℕ) (n : ℕ) → text ≡ Some t → Spells t n → least ≤ n → n ≤ greatest → number ≡ n
+
+-- The number of an option that may be left out: none where it has no text; else it is as above.
+pub record IsMaybe (text : Option (List ℕ)) (least greatest : ℕ) (number : Option ℕ) : Type 0 where
+  pub absent : text ≡ None → number ≡ None
+  pub range : IfSome number (λ n. (least ≤ n) × (n ≤ greatest))
+  pub spelled : (t : List ℕ) (n : ℕ) → text ≡ Some t → Spells t n → least ≤ n → n ≤ greatest → number ≡ Some n
+
+-- A flag is set where its text is "true", and not where it is "false" or where there is none.
+pub record IsFlag (text : Option (List ℕ)) (is_set : Bool) : Type 0 where
+  pub given : text ≡ Some (codes "true") → is_set ≡ true
+  pub denied : text ≡ Some (codes "false") → is_set ≡ false
+  pub absent : text ≡ None → is_set ≡ false
+
+-- The text of an option that is a word, or its default where it is not given.
+abbrev pub word_text : (name default : List ℕ) → List Row → List ℕ
+word_text name default rows = unwrap_or (first_of name rows) default
+
+-- The text of the option `services`.
+abbrev pub services_text : List Row → List ℕ
+services_text rows = word_text (codes "services") (codes "01") rows
+
+-- The text of the option `host`.
+abbrev pub host_text : List Row → List ℕ
+host_text rows = word_text (codes "host") (codes "127.0.0.1") rows
+
+-- The site and the encoder's number at it are those that the matches of a command have.
+abbrev pub IsPlace : (rows : List Row) → (site encoder : ℕ) → Type 0
+IsPlace rows site encoder = IsOption (one_of (codes "site") rows) 1 1023 site
+    × IsOption (one_of (codes "encoder") rows) 1 63 encoder
+
+-- The options of an encoder are those that the matches of its command have.
+pub record AreOptions (rows : List Row) (site encoder sets : ℕ) (services : List ℕ) : Type 0 where
+  pub is_place : IsPlace rows site encoder
+  pub is_sets : IsOption (one_of (codes "sets") rows) 1 8 sets
+  pub is_services : IsList (services_text rows) services
+
+-- The flag for the store is set as the matches of a command have it.
+abbrev pub IsStore : (rows : List Row) → (store : Bool) → Type 0
+IsStore rows store = IsFlag (one_of (codes "store") rows) store
+
+-- The flag for the store at a device's end is set as the matches of the command `encoder` have it.
+abbrev pub IsFinalStore : (rows : List Row) → (store : Bool) → Type 0
+IsFinalStore rows store = IsFlag (one_of (codes "final-store") rows) store
+
+-- In words where a flag asks for them, with the names of North America where one asks for those.
+abbrev pub worded : (words rbds : Bool) → Form
+worded words rbds = if rbds then Words NorthAmerica else if words then Words Europe else Lines
+
+-- The form is lines or words, as the flags of a command's matches have it.
+pub record IsWording (rows : List Row) (form : Form) : Type 0 where
+  pub words : Bool
+  pub rbds : Bool
+  pub is_words : IsFlag (one_of (codes "words") rows) words
+  pub is_rbds : IsFlag (one_of (codes "rbds") rows) rbds
+  pub is : form ≡ worded words rbds
+
+-- The form is the one for which the flags of a command's matches ask: JSON goes before words.
+pub record IsForm (rows : List Row) (form : Form) : Type 0 where
+  pub json : Bool
+  pub plain : Form
+  pub is_json : IsFlag (one_of (codes "json") rows) json
+  pub is_plain : IsWording rows plain
+  pub is : form ≡ (if json then Json else plain)
+
+-- The time stands before what a read brought, unless the flag against it is set.
+abbrev pub IsTimed : (rows : List Row) → (time : Bool) → Type 0
+IsTimed rows time = (left_out : Bool) × IsFlag (one_of (codes "no-time") rows) left_out × (time ≡ not left_out)
+
+-- The port is that which the matches of a command have.
+abbrev pub IsPort : (rows : List Row) → (port : ℕ) → Type 0
+IsPort rows port = IsOption (one_of (codes "port") rows) 1 65535 port
+
+-- The matches of the command `encoder` ask for nothing that only a device does.
+pub record AreNoDevice (rows : List Row) : Type 0 where
+  pub no_listen : first_of (codes "listen") rows ≡ None
+  pub no_faults : first_of (codes "faults") rows ≡ None
+  pub no_air : IsMaybe (one_of (codes "air") rows) 1 65535 None
+  pub no_air_bits : IsFlag (one_of (codes "air-bits") rows) false
+  pub not_forever : IsFlag (one_of (codes "forever") rows) false
+  pub not_idle : IsOption (one_of (codes "idle") rows) 0 86400 0
+  pub no_log : IsFlag (one_of (codes "log") rows) false
+  pub no_store : IsFinalStore rows false
+  pub in_lines : IsForm rows Lines
+
+-- The bounds of an encoder that listens are those that the matches of its command have; its port is given, and nothing
+-- is asked for that only a device does.
+pub record AreListening (rows : List Row) (port connections turns : ℕ) : Type 0 where
+  pub is_port : IsMaybe (one_of (codes "port") rows) 1 65535 (Some port)
+  pub is_connections : IsOption (one_of (codes "connections") rows) 1 1000 connections
+  pub is_turns : IsOption (one_of (codes "turns") rows) 1 1000000 turns
+  pub are_no_device : AreNoDevice rows
+
+-- Where a server finds its encoder, its bounds, whether it joins first, goes on over silence and says why it found no
+-- connection, are those that the matches of its command have.
+pub record AreSending (rows : List Row) (host : List ℕ) (port tries timeout turns reconnects window : ℕ)
+    (join reconnect_silent verbose : Bool) : Type 0 where
+  pub is_host : host ≡ host_text rows
+  pub is_port : IsPort rows port
+  pub is_tries : IsOption (one_of (codes "tries") rows) 1 100 tries
+  pub is_timeout : IsOption (one_of (codes "timeout") rows) 1 60000 timeout
+  pub is_turns : IsOption (one_of (codes "turns") rows) 1 1000 turns
+  pub is_reconnects : IsOption (one_of (codes "reconnects") rows) 0 100 reconnects
+  pub is_window : IsOption (one_of (codes "window") rows) 1 8 window
+  pub is_join : IsFlag (one_of (codes "join") rows) join
+  pub is_reconnect_silent : IsFlag (one_of (codes "reconnect-silent") rows) reconnect_silent
+  pub is_verbose : IsFlag (one_of (codes "verbose") rows) verbose
+
+-- The matches of the command `answer` ask for no groups on the air.
+abbrev pub IsOffAir : (rows : List Row) → Type 0
+IsOffAir rows = IsMaybe (one_of (codes "air") rows) 1 1000000 None
+
+-- The matches of the command `line` ask for no ladder.
+abbrev pub IsUndrawn : (rows : List Row) → Type 0
+IsUndrawn rows = first_of (codes "ladder") rows ≡ None
+
+-- The job is that of the command of this name, with the options that its matches have.
+abbrev pub IsJobOf : (name : List ℕ) → List Row → Job → Type 0
+IsJobOf name rows (Answer site encoder sets services store) =
+    (name ≡ codes "answer") × AreOptions rows site encoder sets services.items × IsStore rows store × IsForm rows Lines
+    × IsOffAir rows
+IsJobOf name rows (AnswerAs site encoder sets services store form) =
+    (name ≡ codes "answer") × AreOptions rows site encoder sets services.items × IsStore rows store × IsForm rows form
+    × IsOffAir rows
+IsJobOf name rows (Line site encoder sets services store) =
+    (name ≡ codes "line") × AreOptions rows site encoder sets services.items × IsStore rows store × IsForm rows Lines
+    × IsUndrawn rows
+IsJobOf name rows (LineAs site encoder sets services store form) =
+    (name ≡ codes "line") × AreOptions rows site encoder sets services.items × IsStore rows store × IsForm rows form
+    × IsUndrawn rows
+IsJobOf name rows (Encoder site encoder sets services port connections turns) =
+    (name ≡ codes "encoder") × AreOptions rows site encoder sets services.items
+    × AreListening rows port connections turns
+IsJobOf name rows (Server site encoder host port tries timeout turns reconnects window join reconnect_silent verbose) =
+    (name ≡ codes "server") × IsPlace rows site encoder
+    × AreSending rows (string_bytes host) port tries timeout turns reconnects window join reconnect_silent verbose
+IsJobOf name rows Make = (name ≡ codes "make") × IsWording rows Lines
+IsJobOf name rows (MakeWords region) = (name ≡ codes "make") × IsWording rows (Words region)
+IsJobOf name rows Show = (name ≡ codes "show") × IsForm rows Lines
+IsJobOf name rows (ShowAs form) = (name ≡ codes "show") × IsForm rows form
+IsJobOf name rows (Watch form time) = (name ≡ codes "watch") × IsForm rows form × IsTimed rows time
+
+-- The region is North America's where a flag asks for it.
+abbrev pub IsRegion : (rows : List Row) → Region → Type 0
+IsRegion rows region =
+    (rbds : Bool) × IsFlag (one_of (codes "rbds") rows) rbds × (region ≡ (if rbds then NorthAmerica else Europe))
+
+-- What comes of messages is told in objects of JSON where a flag asks for them.
+abbrev pub IsToldIn : (rows : List Row) → Form → Type 0
+IsToldIn rows form =
+    (json : Bool) × IsFlag (one_of (codes "json") rows) json × (form ≡ (if json then Json else Lines))
+
+-- An encoder is joined anew where a flag asks for it, or a station's file is given.
+abbrev pub IsRejoin : (rows : List Row) → (rejoin : Bool) → Type 0
+IsRejoin rows rejoin = (asked : Bool) × IsFlag (one_of (codes "rejoin") rows) asked
+    × (rejoin ≡ asked || is_some (first_of (codes "station") rows))
+
+-- What is sent for as long as lines come is sent as the matches of the command have it.
+pub record IsLive (rows : List Row) (job : SendJob) : Type 0 where
+  pub is_place : IsPlace rows job.site job.encoder
+  pub is_host : string_bytes job.host ≡ host_text rows
+  pub is_port : IsPort rows job.port
+  pub is_tries : IsOption (one_of (codes "tries") rows) 1 100 job.tries
+  pub is_timeout : IsOption (one_of (codes "timeout") rows) 1 60000 job.timeout
+  pub is_turns : IsOption (one_of (codes "turns") rows) 1 1000 job.turns
+  pub is_window : IsOption (one_of (codes "window") rows) 1 8 job.window
+  pub is_retry_every : IsOption (one_of (codes "retry-every") rows) 1 3600 job.retry_every
+  pub is_give_up : IsOption (one_of (codes "give-up") rows) 0 1000000 job.give_up
+  pub is_silent : IsOption (one_of (codes "silent") rows) 1 86400 job.silent
+  pub is_region : IsRegion rows job.region
+  pub is_form : IsToldIn rows job.form
+  pub is_strict : IsFlag (one_of (codes "strict") rows) job.strict
+  pub is_join : IsFlag (one_of (codes "join") rows) job.join
+  pub is_rejoin : IsRejoin rows job.rejoin
+  pub is_state : option_map string_bytes job.state ≡ first_of (codes "state") rows
+  pub is_station : option_map string_bytes job.station ≡ first_of (codes "station") rows
+
+-- What a device does is what the matches of the command `encoder` ask for.
+pub record IsDevice (rows : List Row) (job : DeviceJob) : Type 0 where
+  pub are_options : AreOptions rows job.site job.encoder job.sets job.services.items
+  pub is_listen : option_map string_bytes job.listen ≡ first_of (codes "listen") rows
+  pub is_port : IsMaybe (one_of (codes "port") rows) 1 65535 job.port
+  pub is_air : IsMaybe (one_of (codes "air") rows) 1 65535 job.air
+  pub is_air_bits : IsFlag (one_of (codes "air-bits") rows) job.air_bits
+  pub is_connections : IsOption (one_of (codes "connections") rows) 1 1000 job.connections
+  pub is_turns : IsOption (one_of (codes "turns") rows) 1 1000000 job.turns
+  pub is_forever : IsFlag (one_of (codes "forever") rows) job.forever
+  pub is_idle : IsOption (one_of (codes "idle") rows) 0 86400 job.idle
+  pub is_log : IsFlag (one_of (codes "log") rows) job.log
+  pub is_form : IsForm rows job.form
+  pub is_time : IsTimed rows job.time
+  pub is_store : IsFinalStore rows job.store
+  pub is_faults : option_map string_bytes job.faults ≡ first_of (codes "faults") rows
+  pub is_seed : IsOption (one_of (codes "seed") rows) 0 1000000000 job.seed
+  pub is_state : option_map string_bytes job.state ≡ first_of (codes "state") rows
+
+-- What an encoder answers, and then has on the air, is what the matches of the command `answer` ask for.
+pub record IsOnAir (rows : List Row) (job : AirJob) : Type 0 where
+  pub are_options : AreOptions rows job.site job.encoder job.sets job.services.items
+  pub is_store : IsStore rows job.store
+  pub is_form : IsForm rows job.form
+  pub is_groups : IsMaybe (one_of (codes "air") rows) 1 1000000 (Some job.groups)
+
+-- The word for a ladder's form.
+abbrev pub ladder_word : LadderForm → List ℕ
+ladder_word Picture = codes "svg"
+ladder_word Text = codes "text"
+
+-- Why what the matches of the command `line` ask for was refused: the list of services is none, or the form of the
+-- ladder is none. Or there was no memory.
+abbrev pub RefusesLine : (rows : List Row) → Usage → Type 0
+RefusesLine rows why = RefusesList (services_text rows) why ⊎ ((why ≡ NotAForm)
+    × (is_some (first_of (codes "ladder") rows) ≡ true)
+    × ((form : LadderForm) → first_of (codes "ladder") rows ≡ Some (ladder_word form) → ⊥))
+
+-- A ladder is drawn as the matches of the command `line` ask for it.
+pub record IsLadder (rows : List Row) (job : LadderJob) : Type 0 where
+  pub are_options : AreOptions rows job.site job.encoder job.sets job.services.items
+  pub is_form : first_of (codes "ladder") rows ≡ Some (ladder_word job.form)
+
+-- What is shown is told in objects of JSON where a flag asks for them, else in words.
+abbrev pub IsShownForm : (rows : List Row) → ShownForm → Type 0
+IsShownForm rows form = (json : Bool) × (region : Region) × IsFlag (one_of (codes "json") rows) json
+    × IsRegion rows region × (form ≡ (if json then shown.Json else shown.Words region))
+
+-- What a receiver shows is told as the matches of the command `receive` ask for.
+pub record IsReceive (rows : List Row) (job : ReceiveJob) : Type 0 where
+  pub is_form : IsShownForm rows job.form
+  pub is_time : IsTimed rows job.time
+  pub is_bits : IsFlag (one_of (codes "bits") rows) job.bits
+
+-- The page is served where the matches of the command `page` say.
+pub record IsPage (rows : List Row) (job : PageJob) : Type 0 where
+  pub is_listen : option_map string_bytes job.listen ≡ first_of (codes "listen") rows
+  pub is_port : IsMaybe (one_of (codes "port") rows) 1 65535 job.port
+
+-- The cases are run as the matches of the command `conformance` ask for.
+pub record IsConformance (rows : List Row) (job : ConformanceJob) : Type 0 where
+  pub is_place : IsPlace rows job.site job.encoder
+  pub is_where : string_bytes job.place ≡ word_text (codes "place") [] rows
+  pub is_only : option_map string_bytes job.only ≡ first_of (codes "only") rows
+  pub is_timeout : IsOption (one_of (codes "timeout") rows) 1 60000 job.timeout
+  pub is_quiet : IsOption (one_of (codes "quiet") rows) 1 60000 job.quiet
+  pub is_json : IsFlag (one_of (codes "json") rows) job.json
+
+-- This, where the form is lines.
+abbrev pub if_lines : Form → Option ℕ → Option ℕ
+if_lines Lines port = port
+if_lines (Words region) port = None
+if_lines Json port = None
+
+-- The port of a job that asks for nothing that only a device does, if it has one.
+abbrev pub plain_port : DeviceJob → Option ℕ
+plain_port job =
+    if is_some job.listen || (is_some job.faults || (is_some job.air || (job.air_bits
+    || (job.forever || (job.log || job.store))))) then None
+    else if job.idle == 0 then if_lines job.form job.port else None
+
+-- The task is the job of `encoder` with these options, on this port, with the file of its state where one is given.
+abbrev pub IsPlainTask : DeviceJob → (port : ℕ) → Task → Type 0
+IsPlainTask job port (Plain same) =
+    (same ≡ Encoder job.site job.encoder job.sets job.services port job.connections job.turns) × (job.state ≡ None)
+IsPlainTask job port (Kept same path) =
+    (same ≡ Encoder job.site job.encoder job.sets job.services port job.connections job.turns)
+    × (job.state ≡ Some path)
+IsPlainTask job port (Send send) = ⊥
+IsPlainTask job port (Device device) = ⊥
+IsPlainTask job port (OnAir air) = ⊥
+IsPlainTask job port (Receive receive) = ⊥
+IsPlainTask job port (Conformance cases) = ⊥
+IsPlainTask job port (Page page) = ⊥
+IsPlainTask job port (State path) = ⊥
+IsPlainTask job port (Ladder ladder) = ⊥
+
+-- The job is that of one of the two ends, which have a state.
+abbrev pub IsEnd : Job → Type 0
+IsEnd (Encoder site encoder sets services port connections turns) = Unit {0}
+IsEnd (Server site encoder host port tries timeout turns reconnects window join reconnect_silent verbose) = Unit {0}
+IsEnd job = ⊥
+
+-- No file is given for the state of the job's end, if it is that of one.
+abbrev pub IsUnkept : List Row → Job → Type 0
+IsUnkept rows (Encoder site encoder sets services port connections turns) = first_of (codes "state") rows ≡ None
+IsUnkept rows (Server site encoder host port tries timeout turns reconnects window join reconnect_silent verbose) =
+    first_of (codes "state") rows ≡ None
+IsUnkept rows job = Unit {0}
+
+-- The task is this job, with the file for the state of its end where one is given.
+abbrev pub IsKeptAs : List Row → Job → Task → Type 0
+IsKeptAs rows job (Plain same) = (same ≡ job) × (first_of (codes "state") rows ≡ None)
+IsKeptAs rows job (Kept same path) = (same ≡ job) × (first_of (codes "state") rows ≡ Some (string_bytes path))
+IsKeptAs rows job (Send send) = ⊥
+IsKeptAs rows job (Device device) = ⊥
+IsKeptAs rows job (OnAir air) = ⊥
+IsKeptAs rows job (Receive receive) = ⊥
+IsKeptAs rows job (Conformance cases) = ⊥
+IsKeptAs rows job (Page page) = ⊥
+IsKeptAs rows job (State path) = ⊥
+IsKeptAs rows job (Ladder ladder) = ⊥
+
+-- The task is that of the command of this name: its job, with the file for the state of its end where one is given; or
+-- to send for as long as lines come; or what a device does; or what an encoder answers and then has on the air; or what
+-- a receiver shows; or conformance cases; or a live page; or what is in the file that is named; or a ladder.
+abbrev pub IsTaskOf : (name : List ℕ) → List Row → Task → Type 0
+IsTaskOf name rows (Plain job) = IsJobOf name rows job × IsUnkept rows job
+IsTaskOf name rows (Kept job path) =
+    IsJobOf name rows job × IsEnd job × (first_of (codes "state") rows ≡ Some (string_bytes path))
+IsTaskOf name rows (Send job) = (name ≡ codes "send") × IsLive rows job
+IsTaskOf name rows (Device job) = (name ≡ codes "encoder") × IsDevice rows job × (plain_port job ≡ None)
+IsTaskOf name rows (OnAir job) = (name ≡ codes "answer") × IsOnAir rows job
+IsTaskOf name rows (Receive job) = (name ≡ codes "receive") × IsReceive rows job
+IsTaskOf name rows (Conformance job) = (name ≡ codes "conformance") × IsConformance rows job
+IsTaskOf name rows (Page job) = (name ≡ codes "page") × IsPage rows job
+IsTaskOf name rows (State path) =
+    (name ≡ codes "state") × (string_bytes path ≡ word_text (codes "file") [] rows)
+IsTaskOf name rows (Ladder job) = (name ≡ codes "line") × IsLadder rows job
+
+-- The word for a command.
+abbrev pub command_word : CommandName → List ℕ
+command_word command.Answer = codes "answer"
+command_word command.Show = codes "show"
+command_word command.Make = codes "make"
+command_word command.Line = codes "line"
+command_word command.Encoder = codes "encoder"
+command_word command.Server = codes "server"
+command_word command.Send = codes "send"
+command_word command.Watch = codes "watch"
+command_word command.State = codes "state"
+command_word command.Receive = codes "receive"
+command_word command.Conformance = codes "conformance"
+command_word command.Page = codes "page"
+
+-- Why what the matches of this command ask for was refused: it has a list of services that is none, or a ladder's form
+-- that is none. Or there was no memory.
+abbrev pub RefusesTask : CommandName → (rows : List Row) → Usage → Type 0
+RefusesTask command.Answer rows why = RefusesList (services_text rows) why
+RefusesTask command.Encoder rows why = RefusesList (services_text rows) why
+RefusesTask command.Line rows why = RefusesLine rows why
+RefusesTask other rows why = why ≡ OutOfMemory
+
+-- ---- the command line that the program takes
+
+-- The text of an option that is not given: the default if it has one.
+abbrev pub default_texts : (default : Option (List ℕ)) → List (List ℕ)
+default_texts None = []
+default_texts (Some text) = text ∷ []
+
+-- An option with a word. One without a default has to be given.
+abbrev pub word_option : (name : List ℕ) → (default : Option (List ℕ)) → Rule
+word_option name default =
+    record (new_rule name) {
+      long = Some name;
+      action = Some Set;
+      value_names = 1;
+      defaults = default_texts default;
+      required = is_none default;
+    }
+
+-- An option with a number from the least to the greatest. One without a default has to be given.
+abbrev pub number_option : (name : List ℕ) → (least greatest : ℕ) → (default : Option (List ℕ)) → Rule
+number_option name least greatest default =
+    record (word_option name default) { parser = Some (Signed (pos least) (pos greatest)) }
+
+-- The option of a table's row.
+abbrev pub rule_for : NumberOption → Rule
+rule_for option = number_option option.name.now option.least option.most (option_map (λ text. text.now) option.default)
+
+-- An option with a word that may be left out.
+abbrev pub maybe_word : (name : List ℕ) → Rule
+maybe_word name = record (word_option name None) { required = false }
+
+-- An option with a number that may be left out.
+abbrev pub maybe_number : (name : List ℕ) → (least greatest : ℕ) → Rule
+maybe_number name least greatest = record (number_option name least greatest None) { required = false }
+
+-- The option with the file for the state of an end, which may be left out.
+abbrev pub state_option : Rule
+state_option = maybe_word (codes "state")
+
+-- The option with the file of a station's lines, which may be left out.
+abbrev pub station_option : Rule
+station_option = maybe_word (codes "station")
+
+-- The file to look at, which has to be named.
+abbrev pub file_argument : Rule
+file_argument = record (new_rule (codes "file")) { action = Some Set; value_names = 1; required = true }
+
+-- The option with the form of a ladder, which may be left out, and so may its word: then it is svg.
+abbrev pub ladder_option : Rule
+ladder_option = record (maybe_word (codes "ladder")) {
+  range = Some (record { start_inclusive = 0; end_inclusive = 1 });
+  missing = codes "svg" ∷ [];
+}
+
+-- The option with the list of services, 01 where it is not given.
+abbrev pub services_option : Rule
+services_option = word_option (codes "services") (Some (codes "01"))
+
+-- A flag.
+abbrev pub flag : (name : List ℕ) → Rule
+flag name = record (new_rule name) { long = Some name; action = Some SetTrue }
+
+-- The flags that ask for words, and for those of North America.
+abbrev pub word_flags : List Rule
+word_flags = flag (codes "words") ∷ flag (codes "rbds") ∷ []
+
+-- The flags that ask for a form.
+abbrev pub form_flags : List Rule
+form_flags = word_flags ++ flag (codes "json") ∷ []
+
+-- The options of an encoder's place: its site and its number there, both 1 where they are not given.
+abbrev pub place_options : List Rule
+place_options = number_option (codes "site") 1 1023 (Some (codes "1"))
+    ∷ number_option (codes "encoder") 1 63 (Some (codes "1")) ∷ []
+
+-- The options of an encoder, each with a default.
+abbrev pub encoder_options : List Rule
+encoder_options = place_options ++ number_option (codes "sets") 1 8 (Some (codes "1")) ∷ services_option ∷ []
+
+-- The port, which has to be given.
+abbrev pub port_option : Rule
+port_option = number_option (codes "port") 1 65535 None
+
+-- A command with these options.
+abbrev pub command_with : (name : List ℕ) → List Rule → Shape
+command_with name options = record (new_shape name) { rules = options }
+
+-- A command with the options of an encoder, the flag for its store and those for a form.
+abbrev pub store_command : (name : List ℕ) → Shape
+store_command name = command_with name (encoder_options ++ flag (codes "store") ∷ form_flags)
+
+-- The command `answer`: the same, and how many groups it is to have on the air.
+abbrev pub answering_command : Shape
+answering_command = command_with (codes "answer")
+    (encoder_options ++ flag (codes "store") ∷ form_flags ++ maybe_number (codes "air") 1 1000000 ∷ [])
+
+-- The command `line`: the same, and whether it draws a ladder.
+abbrev pub playing_command : Shape
+playing_command =
+    command_with (codes "line") (encoder_options ++ flag (codes "store") ∷ form_flags ++ ladder_option ∷ [])
+
+-- The command `receive`.
+abbrev pub receiving_command : Shape
+receiving_command = command_with (codes "receive")
+    (flag (codes "bits") ∷ flag (codes "rbds") ∷ flag (codes "json") ∷ flag (codes "no-time") ∷ [])
+
+-- The command `page`.
+abbrev pub paging_command : Shape
+paging_command = command_with (codes "page")
+    (maybe_word (codes "listen") ∷ maybe_number (codes "port") 1 65535 ∷ [])
+
+-- Where the encoder listens whose rules are tried, which has to be named.
+abbrev pub place_argument : Rule
+place_argument = record (new_rule (codes "place")) { action = Some Set; value_names = 1; required = true }
+
+-- The command `conformance`.
+abbrev pub trying_command : Shape
+trying_command = command_with (codes "conformance") (place_options ++ place_argument ∷ maybe_word (codes "only")
+    ∷ number_option (codes "timeout") 1 60000 (Some (codes "3000"))
+    ∷ number_option (codes "quiet") 1 60000 (Some (codes "300")) ∷ flag (codes "json") ∷ [])
+
+-- The command `show`.
+abbrev pub showing_command : Shape
+showing_command = command_with (codes "show") form_flags
+
+-- The command `watch`.
+abbrev pub watching_command : Shape
+watching_command = command_with (codes "watch") (form_flags ++ flag (codes "no-time") ∷ [])
+
+-- The command `make`.
+abbrev pub making_command : Shape
+making_command = command_with (codes "make") word_flags
+
+-- The options of how an encoder listens, serves and tells.
+abbrev pub serving_options : List Rule
+serving_options = maybe_word (codes "listen") ∷ maybe_number (codes "port") 1 65535
+    ∷ number_option (codes "connections") 1 1000 (Some (codes "1"))
+    ∷ number_option (codes "turns") 1 1000000 (Some (codes "100000")) ∷ flag (codes "forever")
+    ∷ number_option (codes "idle") 0 86400 (Some (codes "0")) ∷ flag (codes "log") ∷ flag (codes "final-store") ∷ []
+
+-- The command `encoder`.
+abbrev pub listening_command : Shape
+listening_command =
+    command_with (codes "encoder")
+    (encoder_options ++ serving_options ++ form_flags ++ flag (codes "no-time") ∷ maybe_word (codes "faults")
+    ∷ number_option (codes "seed") 0 1000000000 (Some (codes "0")) ∷ maybe_number (codes "air") 1 65535
+    ∷ flag (codes "air-bits") ∷ state_option ∷ [])
+
+-- The options of a server's bounds.
+abbrev pub bound_options : List Rule
+bound_options =
+    number_option (codes "tries") 1 100 (Some (codes "3"))
+    ∷ number_option (codes "timeout") 1 60000 (Some (codes "1000"))
+    ∷ number_option (codes "turns") 1 1000 (Some (codes "16"))
+    ∷ number_option (codes "reconnects") 0 100 (Some (codes "3"))
+    ∷ number_option (codes "window") 1 8 (Some (codes "1")) ∷ []
+
+-- The command `server`.
+abbrev pub sending_command : Shape
+sending_command = command_with (codes "server") (place_options ++ word_option (codes "host") (Some (codes "127.0.0.1"))
+    ∷ port_option ∷ bound_options ++ flag (codes "join") ∷ flag (codes "reconnect-silent") ∷ flag (codes "verbose")
+    ∷ state_option ∷ [])
+
+-- The command `send`.
+abbrev pub live_command : Shape
+live_command = command_with (codes "send") (place_options ++ word_option (codes "host") (Some (codes "127.0.0.1"))
+    ∷ port_option ∷ number_option (codes "tries") 1 100 (Some (codes "3"))
+    ∷ number_option (codes "timeout") 1 60000 (Some (codes "1000"))
+    ∷ number_option (codes "turns") 1 1000 (Some (codes "16"))
+    ∷ number_option (codes "window") 1 8 (Some (codes "1"))
+    ∷ number_option (codes "retry-every") 1 3600 (Some (codes "30"))
+    ∷ number_option (codes "give-up") 0 1000000 (Some (codes "0"))
+    ∷ number_option (codes "silent") 1 86400 (Some (codes "60"))
+    ∷ flag (codes "rbds") ∷ flag (codes "json") ∷ flag (codes "strict") ∷ flag (codes "join")
+    ∷ flag (codes "rejoin")
+    ∷ state_option ∷ station_option ∷ [])
+
+-- The command `state`.
+abbrev pub looking_command : Shape
+looking_command = command_with (codes "state") (file_argument ∷ [])
+
+-- A command that takes its options from a file too: the file may be named, and it may be looked at alone.
+abbrev pub configurable : Shape → Shape
+configurable shape = record shape {
+  rules = (shape.rules ++ maybe_word (codes "config") ∷ []) ++ flag (codes "check-config") ∷ [];
+}
+
+-- The program: it has a version, and one of twelve commands has to be named, each of which takes a file of options.
+abbrev pub uecp_app : App
+uecp_app = record {
+  top = record (new_shape (codes "uecp")) { is_leaf = false; has_version = true; subcommand_required = true };
+  subs = map configurable (answering_command ∷ showing_command ∷ making_command
+      ∷ playing_command ∷ listening_command ∷ sending_command ∷ live_command ∷ watching_command
+      ∷ looking_command ∷ receiving_command ∷ trying_command ∷ paging_command ∷ []);
+}
+
+-- The words have no fault, and ask for this: they name its command, and give its options.
+pub record Asks (words : List (List ℕ)) (task : Task) : Type 0 where
+  pub faultless : fault_of uecp_app words ≡ []
+  pub name : List ℕ
+  pub rows : List Row
+  pub command : subcommand_of uecp_app words ≡ Some (name, rows)
+  pub is_task : IsTaskOf name rows task
+
+-- The words name a command with an encoder, and give it a list of services that is none.
+pub record GivesNoList (words : List (List ℕ)) : Type 0 where
+  pub name : List ℕ
+  pub rows : List Row
+  pub command : subcommand_of uecp_app words ≡ Some (name, rows)
+  pub has_encoder : (name ≡ codes "answer") ⊎ ((name ≡ codes "line") ⊎ (name ≡ codes "encoder"))
+  pub no_list : (bytes : List ℕ) → IsList (services_text rows) bytes → ⊥
+
+-- The words ask for a ladder in a form that there is none of.
+pub record GivesNoForm (words : List (List ℕ)) : Type 0 where
+  pub rows : List Row
+  pub command : subcommand_of uecp_app words ≡ Some (codes "line", rows)
+  pub asks : is_some (first_of (codes "ladder") rows) ≡ true
+  pub no_form : (form : LadderForm) → first_of (codes "ladder") rows ≡ Some (ladder_word form) → ⊥
+
+-- Why the words were refused: they have a fault of this kind, or give no list, or no form. Or there was no memory.
+abbrev pub RefusesWords : (words : List (List ℕ)) → Usage → Type 0
+RefusesWords words (Refused error) = IsAmong (kind_of error) (fault_of uecp_app words)
+RefusesWords words NotAList = GivesNoList words
+RefusesWords words NotAForm = GivesNoForm words
+RefusesWords words OutOfMemory = Unit {0}

@@ -1,0 +1,6 @@
+-- The definitions that the contracts of the command line cite.
+pub mod Ranges
+pub mod Usages
+pub mod CommandLine
+pub mod FileLines
+pub mod Settled

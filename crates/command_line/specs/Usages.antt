@@ -1,0 +1,50 @@
+-- What is said of a command line that was refused (profile).
+use Rattle.std.specs.Prelude.{◌≡◌, ◌≢◌, ◌⊎◌, ℕ, List, Option, codes}
+use Rattle.clap.specs.Faults.{fault_of}
+use Rattle.clap.specs.Kinds.{IsAmong}
+use Rattle.clap.specs.declared.error.Error.{Error}
+use Rattle.clap.specs.declared.error.ErrorKind.TheVariants as kind
+use Rattle.clap.specs.Values.{kind_of}
+use Rattle.uecp_text.specs.declared.run_fault.RunFault.{RunFault}
+use Rattle.uecp_text.specs.Faults.{Fails, error_lines}
+use Rattle.uecp_text.specs.Written.{Begins}
+use Rattle.command_line.specs.declared.usage.Usage.{Usage}
+use Rattle.command_line.specs.declared.usage.Usage.TheVariants.{Refused, NotAList, NotAForm, OutOfMemory}
+use Rattle.command_line.specs.CommandLine.{uecp_app}
+
+-- The error as it is, but want of memory as that.
+abbrev pub SaysError : Error → Usage → Type 0
+SaysError error usage =
+    ((kind_of error ≡ kind.OutOfMemory) × (usage ≡ OutOfMemory))
+    ⊎ ((kind_of error ≢ kind.OutOfMemory) × (usage ≡ Refused error))
+
+-- The words ask for a help text or for the version.
+abbrev pub AskForText : (words : List (List ℕ)) → Type 0
+AskForText words = IsAmong kind.DisplayHelp (fault_of uecp_app words)
+    ⊎ IsAmong kind.DisplayVersion (fault_of uecp_app words)
+
+-- What is said of a list of services that is none.
+abbrev pub no_list_line : List ℕ
+no_list_line = codes "uecp: services: NotAList\n"
+
+-- What is said of a form of a ladder that is none.
+abbrev pub no_form_line : List ℕ
+no_form_line = codes "uecp: ladder: svg or text\n"
+
+-- It is a question for a text.
+abbrev pub AsksForText : Usage → Type 0
+AsksForText (Refused error) = (kind_of error ≡ kind.DisplayHelp) ⊎ (kind_of error ≡ kind.DisplayVersion)
+AsksForText NotAList = ⊥
+AsksForText NotAForm = ⊥
+AsksForText OutOfMemory = ⊥
+
+-- It is a mistake, and of a list of services and of a ladder's form that was said, or begun to be said.
+abbrev pub SaysMistake : Usage → (told told' : Option (List ℕ)) → Type 0
+SaysMistake (Refused error) told told' = (kind_of error ≢ kind.DisplayHelp) × (kind_of error ≢ kind.DisplayVersion)
+SaysMistake NotAList told told' = Begins told told' no_list_line
+SaysMistake NotAForm told told' = Begins told told' no_form_line
+SaysMistake OutOfMemory told told' = ⊥
+
+-- Memory was wanting, or the text that was asked for could not be written, and that was said, or begun to be said.
+abbrev pub SaysFailure : (told told' : Option (List ℕ)) → Type 0
+SaysFailure told told' = (fault : RunFault) × Fails fault × Begins told told' (error_lines fault)

@@ -1,7 +1,0 @@
-use Rattle.std.proofs.Common.{rules, ◌≡◌, Err, inl}
-use Rattle.uecp_cli.proofs.matched.line_of.Goals as goal
-
-pub returns-in_err-services-clause-refused : goal.returns-in_err-services-clause-refused
-returns-in_err-services-clause-refused c =
-    let err : c.from_residual.result ≡ Err c.in_err-services.field-0.0 = search rules in
-    rw err (inl c.in_err-services.ensures.refused)
