@@ -3,10 +3,10 @@ ghost use Rattle.std.specs.Prelude.{◌≤◌};
 
 use crate::connections::{Attended, Restarting};
 use crate::faults::{fail_faults, rules_of};
-use commands::DeviceJob;
 use crate::serving::run_device_from;
 use crate::telling::Told;
 use arrayvec::ArrayVec;
+use commands::DeviceJob;
 use device_edges::{Accepting, AddressFault, BindFault, HERE, listen_address};
 use device_serving::LogLines;
 use faulty_lines::Faulty;

@@ -5,8 +5,8 @@ ghost use Rattle.uecp_jobs.specs.Setups.{IsSetup, options_of as options_in, enco
 ghost use Rattle.state_jobs.specs.Texts.{IsClosed};
 ghost use Rattle.device_jobs.specs.Serving.{HasServedDevice, HasNoState, ServesIn, ServesUnkept};
 
-use commands::DeviceJob;
 use crate::limits::{Limits, limits_of};
+use commands::DeviceJob;
 use device_serving::{LogLines, NotKept, run_device};
 use kept_jobs::fail_state;
 use rds_store::RdsStore;

@@ -3,9 +3,9 @@ ghost use Rattle.std.specs.Prelude.{◌≡◌, ◌≤◌, [], None, IfOk, IfErr}
 ghost use Rattle.send_jobs.specs.Job.{IsSendable};
 ghost use Rattle.send_jobs.specs.OverTcp.{HasSentOver, DialsLive};
 
-use commands::SendJob;
 use crate::sending::run_send;
 use crate::station::{StationFault, read_station};
+use commands::SendJob;
 use kept_jobs::fail_state;
 use line_feed::{Arrival, LineFeed};
 use live_edges::{Heard, Patience, Patient, Watch};

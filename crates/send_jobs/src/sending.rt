@@ -3,8 +3,8 @@ ghost use Rattle.std.specs.Prelude.{◌≤◌, IsTrue};
 ghost use Rattle.uecp_frame.specs.Address.{is_exact};
 ghost use Rattle.send_jobs.specs.Job.{IsSendable, IsFor, HasSentLive, SendsTo};
 
-use commands::SendJob;
 use crate::live_in::run_live_in;
+use commands::SendJob;
 use kept_sending::Progress;
 use line_batches::Reading;
 use line_feed::Feed;
