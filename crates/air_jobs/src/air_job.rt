@@ -12,8 +12,8 @@ use std::io::{Read, Write};
 use uecp_jobs::fail;
 use uecp_text::{RunFault, run};
 
-/// The command `answer` with groups of its store behind. `uecp_cli`'s `parse` answers no other numbers than the ranges
-/// named here.
+/// The command `answer` with groups of its store behind. `command_line`'s `parse` answers no other numbers than the
+/// ranges named here.
 #[derive(Debug, Drop, PartialEq, Eq)]
 pub struct AirJob {
     /// The encoder's site, 1 to 1023.

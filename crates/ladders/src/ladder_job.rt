@@ -12,7 +12,8 @@ use std::io::{Read, Write};
 use uecp_jobs::fail;
 use uecp_text::{RunFault, run};
 
-/// The command `line` that draws a ladder. `uecp_cli`'s `parse` answers no other numbers than the ranges named here.
+/// The command `line` that draws a ladder. `command_line`'s `parse` answers no other numbers than the ranges named
+/// here.
 #[derive(Debug, Drop, PartialEq, Eq)]
 pub struct LadderJob {
     /// The site of both ends, 1 to 1023.

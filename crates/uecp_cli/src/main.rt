@@ -10,6 +10,8 @@
 //! ask for it sends for as long as lines come, by `run_send_over_tcp`.
 #![tactic(auto)]
 
+ghost use Rattle.command_line.specs.Ranges.{IsLiveInRange};
+
 mod program;
 mod unreached;
 
@@ -17,6 +19,7 @@ use crate::program::{Ran, receive, run_words, send};
 use air_jobs::run_answer_on_air;
 use clap::error;
 use command_line::{Usage, program, refuse, settle};
+use commands::{DeviceJob, SendJob};
 use conformance_running::run_conformance_over_tcp;
 use device_jobs::run_device_over_tcp;
 use ladders::run_ladder;
@@ -24,7 +27,7 @@ use live_edges::{Polled, Watch};
 use on_air_jobs::run_on_air_over_tcp;
 use page_edges::run_page_over_tcp;
 use std::env;
-use std::io::{ErrorKind, Input, Lock, Write};
+use std::io::{ErrorKind, Input, Lock, Read, Write};
 use std::process::ExitCode;
 
 /// The descriptor of standard input.
@@ -35,88 +38,75 @@ fn main(rt: HostRuntime) -> ExitCode {
     let mut writer = rt.stdout().lock();
     let mut errors = rt.stderr().lock();
     let status = match settled_words(&rt, &mut writer, &mut errors) {
-        Ok(words) => {
-            let words = words.as_slice();
-            let ran = run_words(
-                rt.alloc(),
-                words,
-                &mut reader,
-                &mut writer,
-                &mut errors,
-                &rt,
-                &rt,
-            );
-            match ran {
-                Ran::Ended(status) => status,
-                Ran::Sends(job) => {
-                    let watch = Watch::new();
-                    let mut losses = rt.stderr().lock();
-                    let arrival = Polled::new(rt.alloc(), &rt, STANDARD_INPUT, &watch, &mut losses);
-                    let mut notices = rt.stderr().lock();
-                    let status = send(
-                        rt.alloc(),
-                        &job,
-                        &mut reader,
-                        arrival,
-                        &mut writer,
-                        &mut errors,
-                        &watch,
-                        &mut notices,
-                        &rt,
-                        &rt,
-                    );
-                    watch.finish();
-                    status
-                }
-                Ran::Airs(job) => {
-                    run_answer_on_air(rt.alloc(), &job, &mut reader, &mut writer, &mut errors)
-                }
-                Ran::Draws(job) => {
-                    run_ladder(rt.alloc(), &job, &mut reader, &mut writer, &mut errors)
-                }
-                Ran::Receives(job) => {
-                    receive(rt.alloc(), &job, &rt, &mut reader, &mut writer, &mut errors)
-                }
-                Ran::Pages(job) => run_page_over_tcp(
-                    rt.alloc(),
-                    &job,
-                    &mut reader,
-                    STANDARD_INPUT,
-                    &mut errors,
-                    &rt,
-                ),
-                Ran::Tries(job) => {
-                    run_conformance_over_tcp(rt.alloc(), &job, &mut writer, &mut errors, &rt)
-                }
-                Ran::Serves(job) if job.air.is_some() || job.air_bits => {
-                    let mut notices = rt.stderr().lock();
-                    run_on_air_over_tcp(
-                        rt.alloc(),
-                        &job,
-                        &mut writer,
-                        &mut errors,
-                        &mut notices,
-                        &rt,
-                        &rt,
-                    )
-                }
-                Ran::Serves(job) => {
-                    let mut effects = rt.stdout().lock();
-                    run_device_over_tcp(
-                        rt.alloc(),
-                        &job,
-                        &mut writer,
-                        &mut errors,
-                        &mut effects,
-                        &rt,
-                        &rt,
-                    )
-                }
-            }
-        }
+        Ok(words) => run(&rt, words.as_slice(), &mut reader, &mut writer, &mut errors),
         Err(status) => status,
     };
     ExitCode::from(status)
+}
+
+/// Does what the words ask for, and answers the exit status.
+fn run<R: Read, W: Write, E: Write>(
+    rt: &HostRuntime,
+    words: &[String],
+    reader: &mut R,
+    writer: &mut W,
+    errors: &mut E,
+) -> u8 {
+    match run_words(rt.alloc(), words, reader, writer, errors, rt, rt) {
+        Ran::Ended(status) => status,
+        Ran::Sends(job) => send_lines(rt, &job, reader, writer, errors),
+        Ran::Airs(job) => run_answer_on_air(rt.alloc(), &job, reader, writer, errors),
+        Ran::Draws(job) => run_ladder(rt.alloc(), &job, reader, writer, errors),
+        Ran::Receives(job) => receive(rt.alloc(), &job, rt, reader, writer, errors),
+        Ran::Pages(job) => run_page_over_tcp(rt.alloc(), &job, reader, STANDARD_INPUT, errors, rt),
+        Ran::Tries(job) => run_conformance_over_tcp(rt.alloc(), &job, writer, errors, rt),
+        Ran::Serves(job) => serve(rt, &job, writer, errors),
+    }
+}
+
+/// Sends what the lines of the reader say, for as long as they come, and answers the exit status.
+fn send_lines<R: Read, W: Write, E: Write>(
+    rt: &HostRuntime,
+    job: &SendJob,
+    reader: &mut R,
+    writer: &mut W,
+    errors: &mut E,
+) -> u8
+    requires { IsLiveInRange job.now }
+{
+    let watch = Watch::new();
+    let mut losses = rt.stderr().lock();
+    let arrival = Polled::new(rt.alloc(), rt, STANDARD_INPUT, &watch, &mut losses);
+    let mut notices = rt.stderr().lock();
+    let status = send(
+        rt.alloc(),
+        job,
+        reader,
+        arrival,
+        writer,
+        errors,
+        &watch,
+        &mut notices,
+        rt,
+        rt,
+    );
+    watch.finish();
+    status
+}
+
+/// Is a device, on the air where the job asks for that, and answers the exit status.
+fn serve<W: Write, E: Write>(
+    rt: &HostRuntime,
+    job: &DeviceJob,
+    writer: &mut W,
+    errors: &mut E,
+) -> u8 {
+    if job.air.is_some() || job.air_bits {
+        let mut notices = rt.stderr().lock();
+        return run_on_air_over_tcp(rt.alloc(), job, writer, errors, &mut notices, rt, rt);
+    }
+    let mut effects = rt.stdout().lock();
+    run_device_over_tcp(rt.alloc(), job, writer, errors, &mut effects, rt, rt)
 }
 
 /// The words of the command line, with the options of the file that they name; or the exit status where they are none,

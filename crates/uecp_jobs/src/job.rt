@@ -4,7 +4,7 @@ use output_forms::Form;
 use rds_text::Region;
 use std::fmt;
 
-/// One command with its options. `uecp_cli`'s `parse` answers no other numbers than the ranges named here.
+/// One command with its options. `command_line`'s `parse` answers no other numbers than the ranges named here.
 #[derive(Drop, PartialEq, Eq)]
 pub enum Job {
     /// What an encoder answers to the pieces on standard input.
