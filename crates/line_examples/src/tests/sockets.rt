@@ -1,7 +1,7 @@
 //! Both ends over real sockets, in one process and one thread: what is written waits in the socket until the other end
 //! reads it.
 use super::line::{driven_in, message, store_encoder};
-use crate::tests::asserting::{holds, holds, same};
+use crate::tests::asserting::{holds, same};
 use faulty_devices::{ADD, own_address};
 use rds_store::RdsStore;
 use std::net::{TcpListener, TcpStream};
@@ -48,42 +48,42 @@ fn serve_until(
         }
         let _ = serve(encoder, &mut end.input, &mut end.output, 1);
     }
-    holds!(*rt; false, "not served");
+    holds!(rt; false, "not served");
 }
 
 /// Sends the text "HI" once, and hears nothing.
 fn sends_first(rt: &impl Abort, server: &mut Server, end: &mut End) {
-    holds!(*rt; server.is_idle());
+    holds!(rt; server.is_idle());
     let message = message(rt, &ADD);
     let driven = drive(server, &mut end.input, &mut end.output, &message, 1, 1);
-    same!(*rt; driven, Err(DriveFault::TriesSpent));
+    same!(rt; driven, Err(DriveFault::TriesSpent));
 }
 
 /// Sends it again, and hears the reply to the first.
 fn sends_again(rt: &impl Abort, server: &mut Server, end: &mut End) {
-    holds!(*rt; server.waiting() == 1);
+    assert!(rt; server.waiting() == 1);
     let driven = resend(server, &mut end.input, &mut end.output, 1, 16);
-    same!(*rt; driven, driven_in(1));
+    same!(rt; driven, driven_in(1));
 }
 
 /// Sends the text "HI" on a connection on which nothing is answered.
 fn is_outstanding<C: Connections>(rt: &impl Abort, sender: &mut Sender<'_, C>) {
-    holds!(*rt; sender.has_room());
+    holds!(rt; sender.has_room());
     let message = message(rt, &ADD);
     sender.submit(&message);
     let Err(reason) = sender.settle() else {
-        holds!(*rt; false, "acknowledged");
+        holds!(rt; false, "acknowledged");
         return;
     };
-    same!(*rt; reason, Outstanding::TriesSpent);
+    same!(rt; reason, Outstanding::TriesSpent);
 }
 
 /// Service 01 has the text "HI" once, and no other.
 fn has_one_text(rt: &impl Abort, encoder: &Encoder<RdsStore>) {
     let service = encoder.target().service(1, 0x01).expect(rt, "service 01");
-    same!(*rt; service.texts().len(), 1);
+    same!(rt; service.texts().len(), 1);
     for text in service.texts() {
-        same!(*rt; text.text(), b"HI".as_slice());
+        same!(rt; text.text(), b"HI".as_slice());
     }
 }
 
@@ -105,7 +105,7 @@ fn acts_once(
 /// Serves one connection for one turn.
 fn serves_one_turn(rt: &impl Abort, encoder: &mut Encoder<RdsStore>, listening: &mut Listening) {
     let served = serve_connection(encoder, 1, listening);
-    same!(*rt; served, Some(Err(ServeFault::TurnsSpent)));
+    same!(rt; served, Some(Err(ServeFault::TurnsSpent)));
     has_one_text(rt, encoder);
 }
 
