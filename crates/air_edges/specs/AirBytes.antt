@@ -2,7 +2,7 @@
 use Rattle.std.specs.Prelude.{ℕ, List, [], ◌∷◌, ◌++◌}
 use Rattle.rds_groups.specs.declared.group.Group.{Group}
 use Rattle.rds_groups.specs.Lines.{line}
-use Rattle.rds_sync.specs.Text.{bit_line}
+use Rattle.rds_groups.specs.Text.{bit_line}
 use Rattle.air_edges.specs.declared.hearers.AirForm.{AirForm}
 use Rattle.air_edges.specs.declared.hearers.AirForm.TheVariants.{Lines, Bits}
 

@@ -3,8 +3,7 @@ ghost use Rattle.std.specs.Prelude.{◌≡◌, ◌<◌, ◌++◌, ◌∷◌, [],
 ghost use Rattle.air_edges.specs.AirBytes.{air_bytes};
 
 use arrayvec::ArrayVec;
-use rds_groups::{Group, line};
-use rds_sync::bit_line;
+use rds_groups::{Group, bit_line, line};
 use slab::Slab;
 use std::alloc::Global;
 use std::io::{ErrorKind, Write};

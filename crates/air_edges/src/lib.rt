@@ -11,5 +11,5 @@ mod on_air;
 mod pace;
 
 pub use hearers::AirForm;
-pub use on_air::{OnAir, Places};
+pub use on_air::{Addresses, OnAir};
 pub use pace::Pace;

@@ -26,7 +26,7 @@ const TIME_MAX: u64 = (1 << 58) - 1;
 
 /// Where an encoder on the air is found.
 #[derive(Clone, Copy, Debug)]
-pub struct Places {
+pub struct Addresses {
     /// Where the studio connects.
     pub studio: SocketAddr,
     /// Where those connect who listen to the air.
@@ -61,7 +61,7 @@ impl<'a, N: Net<Listener = TcpListener, Stream = TcpStream> + Clock, W: Write> O
     pub fn new(
         alloc: Global,
         net: &'a N,
-        places: Places,
+        places: Addresses,
         form: AirForm,
         idle: Option<u32>,
         notices: &'a mut W,

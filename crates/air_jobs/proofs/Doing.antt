@@ -14,8 +14,7 @@ use Rattle.output_forms.specs.declared.form.Form.{Form}
 use Rattle.output_forms.specs.Forms.{answer_lines}
 use Rattle.uecp_jobs.specs.Commands.{AnswersIn}
 use Rattle.uecp_jobs.specs.Setups.{RefusesSetup, encoder_at_first}
-use Rattle.uecp_jobs.proofs.Parts.{whole_part}
-use Rattle.uecp_jobs.proofs.Doing.{not_failed, breaks_fails, setup_wants, job_status, stopped, same_fault}
+use Rattle.uecp_jobs.proofs.Public.{whole_part, not_failed, breaks_fails, setup_wants, job_status, stopped, same_fault}
 use Rattle.uecp_jobs.specs.declared.job.Job.TheVariants.{Answer}
 use Rattle.air_jobs.specs.declared.air_job.AirJob.{AirJob}
 use Rattle.air_jobs.specs.declared.answering.Asked.{Asked}

@@ -5,4 +5,4 @@ mod carousel;
 pub mod laws;
 mod station;
 
-pub use carousel::{Carousel, NextGroup};
+pub use crate::carousel::{Carousel, NextGroup};

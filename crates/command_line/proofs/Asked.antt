@@ -28,8 +28,8 @@ use Rattle.command_line.specs.declared.task.Task.TheVariants.{Plain, Kept, Send,
 use Rattle.command_line.specs.declared.task.Task.TheVariants.{Page}
 use Rattle.command_line.specs.declared.task.Task.TheVariants.{State, Ladder}
 use Rattle.air_jobs.specs.declared.air_job.AirJob.{AirJob}
-use Rattle.conformance_running.specs.declared.job.ConformanceJob.{ConformanceJob}
-use Rattle.conformance_running.specs.Conformance.{IsInRange as IsConformanceInRange}
+use Rattle.conformance_command.specs.declared.job.ConformanceJob.{ConformanceJob}
+use Rattle.conformance_command.specs.Conformance.{IsInRange as IsConformanceInRange}
 use Rattle.command_line.specs.declared.command_name.CommandName.{CommandName}
 use Rattle.command_line.specs.declared.command_name.CommandName.TheVariants as command
 use Rattle.command_line.specs.declared.usage.Usage.{Usage}

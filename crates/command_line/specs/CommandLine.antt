@@ -20,11 +20,11 @@ use Rattle.commands.specs.declared.send_job.SendJob.{SendJob}
 use Rattle.command_line.specs.declared.task.Task.{Task}
 use Rattle.commands.specs.declared.device_job.DeviceJob.{DeviceJob}
 use Rattle.air_jobs.specs.declared.air_job.AirJob.{AirJob}
-use Rattle.receiving.specs.declared.receive_job.ReceiveJob.{ReceiveJob}
-use Rattle.shown_lines.specs.declared.shown_form.ShownForm.{ShownForm}
-use Rattle.shown_lines.specs.declared.shown_form.ShownForm.TheVariants as shown
-use Rattle.conformance_running.specs.declared.job.ConformanceJob.{ConformanceJob}
-use Rattle.page_edges.specs.declared.page_job.PageJob.{PageJob}
+use Rattle.receive_command.specs.declared.receive_job.ReceiveJob.{ReceiveJob}
+use Rattle.receive_command.specs.declared.display.shown_form.ShownForm.{ShownForm}
+use Rattle.receive_command.specs.declared.display.shown_form.ShownForm.TheVariants as shown
+use Rattle.conformance_command.specs.declared.job.ConformanceJob.{ConformanceJob}
+use Rattle.page_server.specs.declared.page_job.PageJob.{PageJob}
 use Rattle.command_line.specs.declared.task.Task.TheVariants.{Plain, Kept, Send, Device, OnAir, Receive, Conformance}
 use Rattle.command_line.specs.declared.task.Task.TheVariants.{Page}
 use Rattle.command_line.specs.declared.task.Task.TheVariants.{State, Ladder}

@@ -7,7 +7,7 @@ use Rattle.commands.specs.declared.send_job.SendJob.{SendJob}
 use Rattle.commands.specs.declared.device_job.DeviceJob.{DeviceJob}
 use Rattle.command_line.specs.declared.task.Task.{Task}
 use Rattle.air_jobs.specs.declared.air_job.AirJob.{AirJob}
-use Rattle.conformance_running.specs.Conformance.{IsInRange as IsConformanceInRange}
+use Rattle.conformance_command.specs.Conformance.{IsInRange as IsConformanceInRange}
 use Rattle.command_line.specs.declared.task.Task.TheVariants.{Plain, Kept, Send, Device, OnAir, Receive, Conformance}
 use Rattle.command_line.specs.declared.task.Task.TheVariants.{Page}
 use Rattle.command_line.specs.declared.task.Task.TheVariants.{State, Ladder}

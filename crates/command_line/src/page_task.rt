@@ -10,7 +10,7 @@ use crate::numbers::PAGE_PORT;
 use crate::task::Task;
 use crate::usage::Usage;
 use clap::ArgMatches;
-use page_edges::PageJob;
+use page_server::PageJob;
 use std::alloc::Global;
 
 /// What the command `page` asks for.

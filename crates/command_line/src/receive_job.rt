@@ -7,7 +7,7 @@ use crate::forms::flag_of;
 use crate::live_job::region_of;
 use crate::task::Task;
 use clap::ArgMatches;
-use receiving::{ReceiveJob, ShownForm};
+use receive_command::{ReceiveJob, ShownForm};
 
 /// What the command `receive` asks for.
 pub fn receive_of(found: &ArgMatches<'_>) -> Task

@@ -2,10 +2,10 @@
 
 use air_jobs::AirJob;
 use commands::{DeviceJob, SendJob};
-use conformance_running::ConformanceJob;
+use conformance_command::ConformanceJob;
 use ladders::LadderJob;
-use page_edges::PageJob;
-use receiving::ReceiveJob;
+use page_server::PageJob;
+use receive_command::ReceiveJob;
 use uecp_jobs::Job;
 
 /// What the words of a command line ask for.

@@ -12,7 +12,7 @@ use crate::numbers::{CASE_TIMEOUT, ENCODER, QUIET, SITE};
 use crate::task::Task;
 use crate::usage::Usage;
 use clap::ArgMatches;
-use conformance_running::ConformanceJob;
+use conformance_command::ConformanceJob;
 use std::alloc::Global;
 
 /// What the command `conformance` asks for.

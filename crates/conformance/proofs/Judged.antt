@@ -9,9 +9,7 @@ use Rattle.uecp_frame.specs.declared.fed.Found.TheVariants as fed
 use Rattle.uecp_frame.specs.Findings.{Finding, OpenPart, Closed, found, open_part, open_from}
 use Rattle.uecp_frame.specs.Beyond.{found_beyond}
 use Rattle.uecp_frame.specs.Feeding.{FeedsAfter, findings_of}
-use Rattle.uecp_frame.proofs.Delimiters.{open_bytes-nil}
-use Rattle.uecp_frame.proofs.Future.{found-nil}
-use Rattle.uecp_frame.proofs.Pieces.{comes_after_lem}
+use Rattle.uecp_frame.proofs.Public.{open_bytes-nil, found-nil, comes_after_lem}
 use Rattle.conformance.specs.declared.verdict.Reply.{Reply}
 use Rattle.conformance.specs.declared.verdict.Expected.{Expected}
 use Rattle.conformance.specs.declared.verdict.Verdict.{Verdict}

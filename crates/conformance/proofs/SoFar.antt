@@ -4,8 +4,8 @@ use Rattle.std.proofs.Common.{Some, None, filter_map}
 use Rattle.uecp_text.specs.Input.{lines_of, said}
 use Rattle.conformance.specs.declared.case.Case.{Case}
 use Rattle.conformance.specs.declared.line.Line.{Line}
-use Rattle.conformance.specs.declared.reading.Open.{Open}
-use Rattle.conformance.specs.declared.reading.Open.TheVariants.{Start}
+use Rattle.conformance.specs.declared.case_file.Open.{Open}
+use Rattle.conformance.specs.declared.case_file.Open.TheVariants.{Start}
 use Rattle.conformance.specs.Lines.{IsLine}
 use Rattle.conformance.specs.Cases.{SayLines, Spells, Takes, so_far, all_lines}
 

@@ -5,8 +5,8 @@ use Rattle.uecp_text.specs.Input.{lines_of, said}
 use Rattle.conformance.specs.declared.case.Case.{Case}
 use Rattle.conformance.specs.declared.line.Line.{Line}
 use Rattle.conformance.specs.declared.line.Line.TheVariants.{Form, Name, Group, Rule, Profile, Pieces, Does}
-use Rattle.conformance.specs.declared.reading.Open.{Open}
-use Rattle.conformance.specs.declared.reading.Open.TheVariants.{Start, Between, Named, Grouped, Whole}
+use Rattle.conformance.specs.declared.case_file.Open.{Open}
+use Rattle.conformance.specs.declared.case_file.Open.TheVariants.{Start, Between, Named, Grouped, Whole}
 use Rattle.conformance.specs.Lines.{IsLine}
 
 -- The line that says that a case is this project's own, where it is.

@@ -9,18 +9,18 @@
 
 mod built_in;
 mod case;
-mod judging;
+mod case_bytes;
+mod case_file;
+mod comparison;
 mod line;
-mod reading;
-mod sending;
 mod steps;
 mod verdict;
 mod words;
 
 pub use built_in::CASES;
 pub use case::{Case, Counters, Edit, Step, To};
-pub use judging::judge;
+pub use case_bytes::{sent, wanted};
+pub use case_file::{Refusal, read_cases};
+pub use comparison::judge;
 pub use line::{CaseFault, Line};
-pub use reading::{Refusal, read_cases};
-pub use sending::{sent, wanted};
 pub use verdict::{Expected, Reply, Verdict};

@@ -28,13 +28,13 @@ pub fn listen_address(text: &str, port: Option<u16>) -> Result<SocketAddr, Addre
     ensures { MatchResult result (IsPlace text.now port) (IsNoPlace text.now port) }
 {
     match port {
-        None => place_of_text(text),
+        None => address_of_text(text),
         Some(port) => place_beside(text, port),
     }
 }
 
 /// The address and port of a text that has both.
-fn place_of_text(text: &str) -> Result<SocketAddr, AddressFault>
+fn address_of_text(text: &str) -> Result<SocketAddr, AddressFault>
     ensures { MatchResult result (IsPlace text.now None) (IsNoPlace text.now None) }
 {
     match text.parse::<SocketAddr>() {

@@ -1,8 +1,8 @@
 //! The connections of a device, as its edge tells of them (profile).
 
 use crate::telling::Told;
+use bad_line::{Effects, Faulty};
 use device_edges::{Accepting, Idle};
-use faulty_lines::{Effects, Faulty};
 use std::io::Write;
 use std::net::{Net, TcpListener, TcpStream};
 use std::time::Clock;

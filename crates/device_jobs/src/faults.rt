@@ -1,10 +1,10 @@
 //! The rules of a bad line out of a file (profile).
 ghost use Rattle.std.specs.Prelude.{◌≡◌, ◌≤◌, [], None, IfOk, IfErr};
 
+use bad_line::{Rule, RulesFault, read_rules};
 use commands::DeviceJob;
 use itoa::Buffer;
 use kept_jobs::fail_state;
-use line_faults::{Rule, RulesFault, read_rules};
 use std::alloc::Global;
 use std::fs::{Files, OpenOptions};
 use std::io::Write;

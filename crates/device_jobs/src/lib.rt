@@ -2,7 +2,7 @@
 //!
 //! - [`run_device_from`]: the device over connections that come from anywhere; [`run_device_over_tcp`] over TCP, where
 //!   the job has it listen, and with what a bad line does to them where the job has rules for that.
-//! - [`place_of`], [`fail_place`], [`fail_bind`]: where a job listens, and what is said where it can't.
+//! - [`address_of`], [`fail_address`], [`fail_bind`]: where a job listens, and what is said where it can't.
 //! - [`limits_of`]: the [`Limits`] of a job; [`closed_device`]: the exit status once the state is closed.
 #![tactic(auto)]
 
@@ -14,5 +14,5 @@ mod serving;
 mod telling;
 
 pub use limits::{Limits, limits_of};
-pub use over_tcp::{fail_bind, fail_place, place_of, run_device_over_tcp};
+pub use over_tcp::{address_of, fail_address, fail_bind, run_device_over_tcp};
 pub use serving::{closed_device, run_device_from};

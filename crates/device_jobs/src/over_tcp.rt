@@ -6,12 +6,11 @@ use crate::faults::{fail_faults, rules_of};
 use crate::serving::run_device_from;
 use crate::telling::Told;
 use arrayvec::ArrayVec;
+use bad_line::{Faulty, Rule};
 use commands::DeviceJob;
 use device_edges::{Accepting, AddressFault, BindFault, HERE, listen_address};
 use device_serving::LogLines;
-use faulty_lines::Faulty;
 use kept_jobs::fail_state;
-use line_faults::Rule;
 use state_jobs::OpenStates;
 use std::alloc::Global;
 use std::fs::Files;
@@ -64,9 +63,9 @@ fn begin<'a, E: Write, N: Net<Listener = TcpListener, Stream = TcpStream> + Cloc
     net: &'a N,
     errors: &mut E,
 ) -> Result<(Vec<Rule>, Accepting<'a, N>), u8> {
-    let place = match place_of(job) {
+    let place = match address_of(job) {
         Ok(place) => place,
-        Err(fault) => return Err(fail_place(fault, errors)),
+        Err(fault) => return Err(fail_address(fault, errors)),
     };
     let rules = match rules_of(alloc, job, net) {
         Ok(rules) => rules,
@@ -88,7 +87,7 @@ fn begin<'a, E: Write, N: Net<Listener = TcpListener, Stream = TcpStream> + Cloc
 }
 
 /// The address and port at which the job listens.
-pub fn place_of(job: &DeviceJob) -> Result<SocketAddr, AddressFault> {
+pub fn address_of(job: &DeviceJob) -> Result<SocketAddr, AddressFault> {
     match &job.listen {
         Some(text) => listen_address(text.as_str(), job.port),
         None => listen_address(HERE, job.port),
@@ -101,7 +100,7 @@ fn limit_of(seconds: u32) -> Option<u32> {
 }
 
 /// Says why the job asks for no address and port, and answers the exit status.
-pub fn fail_place<E: Write>(fault: AddressFault, errors: &mut E) -> u8
+pub fn fail_address<E: Write>(fault: AddressFault, errors: &mut E) -> u8
     ensures { (2 ≤ result) × (result ≤ 3) }
 {
     let text = match fault {

@@ -1,7 +1,7 @@
 //! What a bad line did, and that nothing came on a connection, as it is told (profile).
 
 use arrayvec::ArrayVec;
-use faulty_lines::{Effect, Effects, write_effect};
+use bad_line::{Effect, Effects, write_effect};
 use itoa::Buffer;
 use output_forms::Form;
 use std::cell::RefCell;

@@ -5,9 +5,9 @@ use Rattle.uecp_link.specs.Server.{ServerState}
 use Rattle.uecp_net.specs.Sending.{SenderOver}
 use Rattle.uecp_jobs.specs.Batches.{fault_of}
 use Rattle.uecp_jobs.specs.JoiningFirst.{not_joined_line}
-use Rattle.kept_sending.specs.declared.sending.KeptOutstanding.TheVariants as kept
-use Rattle.kept_sending.specs.Keeping.{KeptServer, kept_of, IsKept}
-use Rattle.kept_sending.specs.Joining.{Joined, Joins, OutlivesPass, StaysKeptJoining, HasJoined}
+use Rattle.uecp_net.specs.declared.saved.batch.KeptOutstanding.TheVariants as kept
+use Rattle.uecp_net.specs.Keeping.{KeptServer, kept_of, IsKept}
+use Rattle.uecp_net.specs.SavedJoining.{Joined, Joins, OutlivesPass, StaysKeptJoining, HasJoined}
 use Rattle.kept_jobs.specs.declared.stop.KeptStop.TheVariants.{Run, StateFailed}
 use Rattle.kept_jobs.specs.Stops.{Went, Then}
 use Rattle.kept_jobs.specs.ServerRun.{Standing, TellsTaken, BeginsAnew, BeginsAnewIf, JoinsOne, JoinsIf, anew}

@@ -3,10 +3,10 @@ use Rattle.std.proofs.Common.{arith, ◌≡◌, ℕ, zero, suc, ◌+◌, ◌≤�
 use Rattle.std.proofs.Common.{Ok, Err, refl, sym, ap, subst, ◌∙◌, inl, inr}
 use Rattle.std.proofs.lemmas.List.{length-take, length-drop}
 use Rattle.uecp_net.specs.Sending.{SenderOver, submitted_all}
-use Rattle.kept_sending.specs.declared.sending.KeptOutstanding.TheVariants as kept
-use Rattle.kept_sending.specs.Keeping.{KeptServer, kept_of, IsKept}
-use Rattle.kept_sending.specs.Sending.{Ended, SendsKept, Outlives, OutlivesBatch, StaysKept}
-use Rattle.kept_sending.specs.Laws.{Lives}
+use Rattle.uecp_net.specs.declared.saved.batch.KeptOutstanding.TheVariants as kept
+use Rattle.uecp_net.specs.Keeping.{KeptServer, kept_of, IsKept}
+use Rattle.uecp_net.specs.SavedSending.{Ended, SendsKept, Outlives, OutlivesBatch, StaysKept}
+use Rattle.uecp_net.specs.Laws.{Lives}
 use Rattle.kept_jobs.specs.declared.stop.KeptStop.{KeptStop}
 use Rattle.kept_jobs.specs.declared.stop.KeptStop.TheVariants.{StateFailed}
 use Rattle.kept_jobs.specs.Stops.{Went}

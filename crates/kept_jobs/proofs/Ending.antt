@@ -12,17 +12,17 @@ use Rattle.uecp_text.specs.Run.{IsInput, IsUnread, StopsReading}
 use Rattle.uecp_text.specs.Written.{Begins}
 use Rattle.uecp_link.specs.declared.counts.ServerCounts.{ServerCounts}
 use Rattle.uecp_link.specs.Server.{ServerState, waiting}
-use Rattle.uecp_net.specs.declared.sending.Limits.{Limits}
-use Rattle.uecp_net.specs.declared.sending.Outstanding.{Outstanding}
-use Rattle.uecp_net.specs.declared.sending.Outstanding.TheVariants.{TriesSpent, ConnectionFailed}
+use Rattle.uecp_net.specs.declared.sender.Limits.{Limits}
+use Rattle.uecp_net.specs.declared.sender.Outstanding.{Outstanding}
+use Rattle.uecp_net.specs.declared.sender.Outstanding.TheVariants.{TriesSpent, ConnectionFailed}
 use Rattle.uecp_net.specs.Sending.{SenderOver, submitted_all}
 use Rattle.uecp_jobs.specs.Batches.{batch_size, fault_of}
 use Rattle.uecp_jobs.specs.JoiningFirst.{not_joined_line}
 use Rattle.uecp_jobs.specs.Messages.{spelled, refused_at, messages_first, refusal_in}
-use Rattle.kept_sending.specs.declared.sending.KeptOutstanding.TheVariants as kept
-use Rattle.kept_sending.specs.Keeping.{KeptServer, kept_of, IsKept}
-use Rattle.kept_sending.specs.Sending.{Ended, SendsKept}
-use Rattle.kept_sending.specs.Joining.{Joined}
+use Rattle.uecp_net.specs.declared.saved.batch.KeptOutstanding.TheVariants as kept
+use Rattle.uecp_net.specs.Keeping.{KeptServer, kept_of, IsKept}
+use Rattle.uecp_net.specs.SavedSending.{Ended, SendsKept}
+use Rattle.uecp_net.specs.SavedJoining.{Joined}
 use Rattle.kept_jobs.specs.declared.stop.KeptStop.{KeptStop}
 use Rattle.kept_jobs.specs.declared.stop.KeptStop.TheVariants.{Run, Unanswered, StateFailed}
 use Rattle.kept_jobs.specs.Stops.{Went, Then, TellsKept, stop_status, stop_lines, stop_for, heard_nothing}

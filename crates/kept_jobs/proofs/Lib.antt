@@ -7,3 +7,4 @@ pub mod Calls
 pub mod Begun
 pub mod Surviving
 pub mod Ending
+pub mod Public

@@ -1,7 +1,7 @@
 -- A run of batches, one by one.
 use Rattle.std.proofs.Common.{◌≡◌, ◌≢◌, ℕ, suc, List, [], take, drop, Option, Ok, Err, refl, inl, inr}
 use Rattle.uecp_net.specs.Sending.{SenderOver}
-use Rattle.kept_sending.specs.Keeping.{KeptServer}
+use Rattle.uecp_net.specs.Keeping.{KeptServer}
 use Rattle.kept_jobs.specs.declared.stop.KeptStop.{KeptStop}
 use Rattle.kept_jobs.specs.Stops.{Went}
 use Rattle.kept_jobs.specs.ServerRun.{Standing, SendsTold, SendsOut}

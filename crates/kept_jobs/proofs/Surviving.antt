@@ -3,12 +3,12 @@ use Rattle.std.proofs.Common.{arith, ◌≡◌, ◌⊎◌, ℕ, ◌+◌, Bool, t
 use Rattle.std.proofs.Common.{refl, sym, ap, subst, ◌∙◌, inl, inr}
 use Rattle.uecp_text.specs.Input.{texts_of}
 use Rattle.uecp_link.specs.Server.{ServerState}
-use Rattle.uecp_net.specs.declared.sending.Limits.{Limits}
+use Rattle.uecp_net.specs.declared.sender.Limits.{Limits}
 use Rattle.uecp_net.specs.Sending.{SenderOver}
 use Rattle.uecp_jobs.specs.Batches.{batch_size}
 use Rattle.uecp_jobs.specs.Messages.{messages_first}
-use Rattle.kept_sending.specs.declared.keep.Progress.{Progress}
-use Rattle.kept_sending.specs.Keeping.{KeptServer, kept_of, IsKept}
+use Rattle.uecp_net.specs.declared.saved.keep.Progress.{Progress}
+use Rattle.uecp_net.specs.Keeping.{KeptServer, kept_of, IsKept}
 use Rattle.kept_jobs.specs.Stops.{Went, Then}
 use Rattle.kept_jobs.specs.ServerRun.{Standing, TellsTaken, BeginsAnewIf, RunsSender, SendsMessages, RunsServer}
 use Rattle.kept_jobs.specs.ServerRun.{sending}

@@ -6,10 +6,10 @@ use Rattle.uecp_text.specs.Run.{IsInput}
 use Rattle.uecp_link.specs.Server.{ServerState}
 use Rattle.uecp_net.specs.Sending.{SenderOver}
 use Rattle.uecp_jobs.specs.Messages.{messages_first, refusal_in}
-use Rattle.kept_sending.specs.declared.keep.Progress.{Progress}
-use Rattle.kept_sending.specs.Keeping.{KeptServer, kept_of}
-use Rattle.kept_sending.specs.Joining.{Joins}
-use Rattle.kept_sending.specs.Laws.{Lives}
+use Rattle.uecp_net.specs.declared.saved.keep.Progress.{Progress}
+use Rattle.uecp_net.specs.Keeping.{KeptServer, kept_of}
+use Rattle.uecp_net.specs.SavedJoining.{Joins}
+use Rattle.uecp_net.specs.Laws.{Lives}
 use Rattle.kept_jobs.specs.declared.stop.KeptStop.{KeptStop}
 use Rattle.kept_jobs.specs.declared.stop.KeptStop.TheVariants.{Run, Unanswered, StateFailed}
 use Rattle.kept_jobs.specs.ServerRun.{anew, not_joined, is_due}

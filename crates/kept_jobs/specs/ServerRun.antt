@@ -9,17 +9,17 @@ use Rattle.uecp_text.specs.Run.{IsInput, IsUnread}
 use Rattle.uecp_text.specs.Written.{Begins}
 use Rattle.uecp_link.specs.declared.counts.ServerCounts.{ServerCounts}
 use Rattle.uecp_link.specs.Server.{ServerState, idle_at, waiting}
-use Rattle.uecp_net.specs.declared.sending.Limits.{Limits}
+use Rattle.uecp_net.specs.declared.sender.Limits.{Limits}
 use Rattle.uecp_net.specs.Sending.{SenderOver, submitted_all}
 use Rattle.uecp_jobs.specs.Messages.{messages_first, refusal_in}
 use Rattle.uecp_jobs.specs.Batches.{batch_lines, batch_size, fault_of}
 use Rattle.uecp_jobs.specs.JoiningFirst.{joined_line, not_joined_line}
 use Rattle.uecp_jobs.specs.ServerRun.{unconnected, Finishes}
-use Rattle.kept_sending.specs.declared.keep.Progress.{Progress}
-use Rattle.kept_sending.specs.declared.sending.KeptOutstanding.TheVariants as kept
-use Rattle.kept_sending.specs.Keeping.{KeptServer, kept_of, taking, IsKept}
-use Rattle.kept_sending.specs.Sending.{Ended, SettlesKept, SendsKept, Outlives, OutlivesBatch, StaysKept}
-use Rattle.kept_sending.specs.Joining.{Joined, JoinsKept, OutlivesPass, StaysKeptJoining, joined_as}
+use Rattle.uecp_net.specs.declared.saved.keep.Progress.{Progress}
+use Rattle.uecp_net.specs.declared.saved.batch.KeptOutstanding.TheVariants as kept
+use Rattle.uecp_net.specs.Keeping.{KeptServer, kept_of, taking, IsKept}
+use Rattle.uecp_net.specs.SavedSending.{Ended, SettlesKept, SendsKept, Outlives, OutlivesBatch, StaysKept}
+use Rattle.uecp_net.specs.SavedJoining.{Joined, JoinsKept, OutlivesPass, StaysKeptJoining, joined_as}
 use Rattle.kept_jobs.specs.declared.stop.KeptStop.{KeptStop}
 use Rattle.kept_jobs.specs.declared.stop.KeptStop.TheVariants.{Run, StateFailed}
 use Rattle.kept_jobs.specs.Stops.{Went, TellsKept, Then, stop_for, stop_status, stop_lines}

@@ -2,20 +2,22 @@
 //! messages, batch by batch. Source: profile.
 ghost use Rattle.std.specs.Prelude.{◌≡◌, ◌≢◌, ◌<◌, ◌≤◌, ◌+◌, ◌^◌, [], length, false, IsTrue, IfOk, Ok};
 ghost use Rattle.uecp_jobs.specs.Batches.{batch_lines};
-ghost use Rattle.kept_sending.specs.Keeping.{taking};
+ghost use Rattle.uecp_net.specs.Keeping.{taking};
 ghost use Rattle.kept_jobs.specs.Stops.{TellsKept, heard_nothing, stop_for};
 ghost use Rattle.kept_jobs.specs.ServerRun.{JoinsIf, SettlesFirst, SendsTold, SendsAll};
 ghost use Rattle.kept_jobs.specs.ServerRun.{SettledTold, JoiningTold};
 
 use crate::stop::KeptStop;
 use crate::telling::write_told;
-use kept_sending::{KeepServer, KeptOutstanding, Progress, join_kept, send_kept, settle_kept};
 use std::alloc::Global;
 use std::io::Write;
 use uecp_frame::Message;
 use uecp_jobs::{fault_of, put_settled};
 use uecp_link::ServerCounts;
-use uecp_net::{Connections, Outstanding, Sender, Settled};
+use uecp_net::{
+    Connections, KeepServer, KeptOutstanding, Outstanding, Progress, Sender, Settled, join_kept,
+    send_kept, settle_kept,
+};
 use uecp_text::{Output, RunFault};
 
 /// Joins the encoder where that is due, and tells it once it is kept.

@@ -7,10 +7,10 @@ ghost use Rattle.kept_jobs.specs.ServerRun.{taken_line, given_up_line, TellsTake
 
 use crate::stop::KeptStop;
 use crate::telling::write_told;
-use kept_sending::{KeepServer, Progress, SaveFailed};
 use std::alloc::Global;
 use std::io::Write;
 use uecp_link::Server;
+use uecp_net::{KeepServer, Progress, SaveFailed};
 use uecp_text::Output;
 
 /// Tells how far the server has come, and begins anew where its encoder is to be joined.

@@ -7,7 +7,7 @@ ghost use Rattle.uecp_jobs.specs.Messages.{messages_first, refusal_in};
 ghost use Rattle.uecp_text.specs.declared.run_fault.RunFault.{RunFault};
 ghost use Rattle.uecp_text.specs.Faults.{error_lines};
 ghost use Rattle.uecp_text.specs.Written.{Begins};
-ghost use Rattle.kept_sending.specs.Keeping.{KeptServer, IsKept};
+ghost use Rattle.uecp_net.specs.Keeping.{KeptServer, IsKept};
 ghost use Rattle.kept_jobs.specs.declared.stop.KeptStop.{KeptStop};
 ghost use Rattle.kept_jobs.specs.Stops.{Went, stop_lines};
 ghost use Rattle.kept_jobs.specs.ServerKept.{IsReadWith, IsReasonFor, HasTakenInput, OutlivesRun};
@@ -17,13 +17,12 @@ ghost use Rattle.kept_jobs.specs.ServerRun.{is_due};
 use crate::batches::{join_if, send_batches, settle_first};
 use crate::beginning::begin;
 use crate::stop::{KeptStop, fail_run};
-use kept_sending::{KeepServer, Progress};
 use std::alloc::Global;
 use std::io::{Read, Write};
 use uecp_frame::Message;
 use uecp_jobs::{Messages, batch_size, messages_of};
 use uecp_link::Server;
-use uecp_net::{Connections, Limits, Sender};
+use uecp_net::{Connections, KeepServer, Limits, Progress, Sender};
 use uecp_text::read_all;
 
 /// How a server sends, with its state kept.

@@ -8,7 +8,7 @@ use Rattle.uecp_encoder.specs.Target.{Step}
 use Rattle.uecp_encoder.specs.State.{EncoderState, fed}
 use Rattle.uecp_encoder.specs.Answering.{answers}
 use Rattle.uecp_encoder.specs.Serving.{AnswersAll, StopsWriting}
-use Rattle.uecp_encoder.proofs.InPieces.{in_pieces_of_encoder}
+use Rattle.uecp_encoder.proofs.Public.{in_pieces_of_encoder}
 use Rattle.kept_serving.specs.Keeping.{Kept, kept_of, Outlives}
 
 pub starts_same : (s t : List ℕ) → t ≡ s → StartsWith s t

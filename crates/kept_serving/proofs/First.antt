@@ -7,8 +7,7 @@ use Rattle.uecp_encoder.specs.Target.{Step}
 use Rattle.uecp_encoder.specs.State.{EncoderState, fed}
 use Rattle.uecp_encoder.specs.Answering.{Response, Replied, responses, responses_to, bytes_sent, answers}
 use Rattle.uecp_encoder.specs.Serving.{replies_among, StopsWriting}
-use Rattle.uecp_encoder.proofs.InPieces.{in_pieces_of_encoder}
-use Rattle.uecp_encoder.proofs.InParts.{fed_none}
+use Rattle.uecp_encoder.proofs.Public.{in_pieces_of_encoder, fed_none}
 use Rattle.kept_serving.specs.declared.answering.Due.{Due}
 use Rattle.kept_serving.specs.declared.answering.Due.TheVariants as due
 use Rattle.kept_serving.specs.Keeping.{Kept, kept_of, Settled, Outlives}

@@ -6,3 +6,4 @@ pub mod First
 pub mod Ending
 pub mod Surviving
 pub mod Served
+pub mod Public

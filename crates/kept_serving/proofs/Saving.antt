@@ -2,13 +2,13 @@
 use Rattle.std.proofs.Common.{◌≡◌, ℕ, true, false, List, [], ◌∷◌, ◌++◌, refl, ◌∙◌, ap, sym, subst, arith, Ok, Err}
 use Rattle.uecp_frame.specs.Findings.{Finding, OpenPart}
 use Rattle.uecp_frame.specs.Beyond.{found_beyond, open_beyond}
-use Rattle.uecp_frame.proofs.Pieces.{in_pieces_lem, new_start_lem}
+use Rattle.uecp_frame.proofs.Public.{in_pieces_lem, new_start_lem}
 use Rattle.uecp_encoder.specs.Target.{Step}
 use Rattle.uecp_encoder.specs.State.{EncoderState, after_finding, after_findings, fed}
 use Rattle.uecp_encoder.specs.Answering.{Response, Replied, NotForMe, Unnumbered, NotNext, Dropped, response_to}
 use Rattle.uecp_encoder.specs.Answering.{responses, responses_to}
 use Rattle.uecp_encoder.specs.Laws.{fresh_in}
-use Rattle.uecp_encoder.proofs.InPieces.{findings_open}
+use Rattle.uecp_encoder.proofs.Public.{findings_open}
 use Rattle.kept_serving.specs.Keeping.{Kept, kept_of}
 use Rattle.kept_serving.specs.Serving.{fresh_among, SavesOnce, SavesEach, SavesFor}
 use Rattle.kept_serving.proofs.Unchanged.{kept_of_fed}

@@ -16,9 +16,8 @@ use Rattle.uecp_encoder.specs.State.{after_findings, fed}
 use Rattle.uecp_encoder.specs.Answering.{answers}
 use Rattle.uecp_encoder.specs.Laws.{Happening, Finds, Becomes, after_happening, after_happenings, applied_among}
 use Rattle.uecp_encoder.specs.Laws.{IsRepeat, IsNotApplied}
-use Rattle.uecp_encoder.proofs.InPieces.{after_findings-append, in_pieces_of_encoder}
-use Rattle.uecp_encoder.proofs.Repeating.{retry_acts_once_lem}
-use Rattle.uecp_encoder.proofs.Ordering.{applied_once_lem}
+use Rattle.uecp_encoder.proofs.Public.{after_findings-append, in_pieces_of_encoder, retry_acts_once_lem}
+use Rattle.uecp_encoder.proofs.Public.{applied_once_lem}
 use Rattle.kept_serving.specs.Keeping.{kept_of, going_on}
 use Rattle.kept_serving.specs.Laws.{LosesNothing, DoublesNothing}
 use Rattle.kept_serving.proofs.Unchanged.{kept_of_fed}

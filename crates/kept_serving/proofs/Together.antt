@@ -6,8 +6,7 @@ use Rattle.uecp_encoder.specs.Target.{Step}
 use Rattle.uecp_encoder.specs.State.{EncoderState, fed}
 use Rattle.uecp_encoder.specs.Answering.{Replied, responses_to, answers}
 use Rattle.uecp_encoder.specs.Serving.{AnswersAll, StopsWriting}
-use Rattle.uecp_encoder.proofs.InPieces.{in_pieces_of_encoder}
-use Rattle.uecp_encoder.proofs.InParts.{sends_nothing, sends_on, stops_on}
+use Rattle.uecp_encoder.proofs.Public.{in_pieces_of_encoder, sends_nothing, sends_on, stops_on}
 use Rattle.kept_serving.specs.declared.answering.Stop.{Stop}
 use Rattle.kept_serving.specs.declared.answering.Stop.TheVariants as stop
 use Rattle.kept_serving.specs.Keeping.{Kept}

@@ -16,7 +16,7 @@ use Rattle.uecp_encoder.specs.Answering.{Response, Replied, NotForMe, Unnumbered
 use Rattle.uecp_encoder.specs.Answering.{response_to}
 use Rattle.uecp_encoder.specs.Answering.{responses, responses_to}
 use Rattle.uecp_encoder.specs.Laws.{fresh_in}
-use Rattle.uecp_encoder.proofs.InPieces.{findings_open, in_pieces_of_encoder}
+use Rattle.uecp_encoder.proofs.Public.{findings_open, in_pieces_of_encoder}
 use Rattle.kept_serving.specs.Keeping.{kept_of}
 use Rattle.kept_serving.specs.Serving.{fresh_among}
 

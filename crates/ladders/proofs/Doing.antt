@@ -9,8 +9,7 @@ use Rattle.uecp_text.specs.Faults.{Fails, status_of}
 use Rattle.uecp_text.specs.Input.{texts_of}
 use Rattle.uecp_text.specs.Run.{Runs, RunsWhole}
 use Rattle.uecp_jobs.specs.Setups.{RefusesSetup}
-use Rattle.uecp_jobs.proofs.Parts.{whole_part}
-use Rattle.uecp_jobs.proofs.Doing.{not_failed, breaks_fails, setup_wants, job_status, stopped, same_fault}
+use Rattle.uecp_jobs.proofs.Public.{whole_part, not_failed, breaks_fails, setup_wants, job_status, stopped, same_fault}
 use Rattle.uecp_jobs.specs.declared.job.Job.TheVariants.{Line}
 use Rattle.ladders.specs.declared.drawing.LadderForm.{LadderForm}
 use Rattle.ladders.specs.declared.ladder_job.LadderJob.{LadderJob}

@@ -9,7 +9,7 @@ use Rattle.ladders.specs.declared.row.Mark.{Mark}
 use Rattle.ladders.specs.declared.row.Mark.TheVariants as mark
 use Rattle.ladders.specs.declared.row.Label.{Label}
 use Rattle.ladders.specs.declared.row.Label.TheVariants as label
-use Rattle.ladders.specs.declared.row.Said.TheVariants.{Lost, Step, GivenUp}
+use Rattle.ladders.specs.declared.row.Remark.TheVariants.{Lost, Step, GivenUp}
 use Rattle.ladders.specs.declared.row.Row.{Row}
 
 -- The arrow or mark of an event that took place: a frame goes to the encoder and a reply to the server, noise is

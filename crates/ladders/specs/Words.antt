@@ -5,8 +5,8 @@ use Rattle.uecp_lines.specs.Steps.{step_words, given_up_line}
 use Rattle.uecp_text.specs.Digits.{byte_word, counted}
 use Rattle.ladders.specs.declared.row.Label.{Label}
 use Rattle.ladders.specs.declared.row.Label.TheVariants as label
-use Rattle.ladders.specs.declared.row.Said.{Said}
-use Rattle.ladders.specs.declared.row.Said.TheVariants.{Lost, Step, GivenUp}
+use Rattle.ladders.specs.declared.row.Remark.{Remark}
+use Rattle.ladders.specs.declared.row.Remark.TheVariants.{Lost, Step, GivenUp}
 
 -- A name, the number of a message, and the counter that messages of this number have.
 abbrev pub with_counter : (name : List ℕ) → (number : ℕ) → List ℕ
@@ -20,7 +20,7 @@ label_words (label.Reply number) = with_counter (codes "reply") number
 label_words label.Noise = codes "noise"
 
 -- What is said beside it, with its line feed: the line that the command `line` writes of the same.
-abbrev pub said_line : Said → List ℕ
+abbrev pub said_line : Remark → List ℕ
 said_line Lost = codes "lost\n"
 said_line (Step outcome named) = step_words outcome named ++ codes "\n"
 said_line (GivenUp given_up) = given_up_line given_up

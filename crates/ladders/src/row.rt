@@ -40,7 +40,7 @@ pub enum Label {
 
 /// What is said beside it.
 #[derive(Clone, Copy, Debug, PartialEq, Eq)]
-pub enum Said {
+pub enum Remark {
     /// That the reply was lost: its message's frame came again.
     Lost,
     /// What came of the event, as the command `line` says it.
@@ -62,5 +62,5 @@ pub struct Row {
     /// What it carries.
     pub label: Label,
     /// What is said beside it.
-    pub said: Said,
+    pub said: Remark,
 }

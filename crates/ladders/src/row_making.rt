@@ -3,7 +3,7 @@ ghost use Rattle.std.specs.Prelude.{◌≡◌, ◌++◌, ◌∷◌, [], OnOk, op
 ghost use Rattle.uecp_link.specs.Events.{event_of};
 ghost use Rattle.ladders.specs.Rows.{rows_of, row_of, lost_before, replaced, mark_of, mark_by, label_of};
 
-use crate::row::{Label, Mark, Row, Said};
+use crate::row::{Label, Mark, Remark, Row};
 use std::alloc::AllocError;
 use uecp_jobs::named_message;
 use uecp_link::{LineEvent, LineRefusal, Side, Stepped};
@@ -34,7 +34,7 @@ pub fn row_of_replacement(given_up: usize) -> Row
     Row {
         mark: Mark::AtServer,
         label: Label::Nothing,
-        said: Said::GivenUp(given_up),
+        said: Remark::GivenUp(given_up),
     }
 }
 
@@ -52,7 +52,7 @@ fn lost_before(
             Some(Row {
                 mark: Mark::LostToServer,
                 label: Label::Reply(number),
-                said: Said::Lost,
+                said: Remark::Lost,
             })
         }
         _ => None,
@@ -66,7 +66,7 @@ fn row_of(event: &LineEvent<'_>, outcome: Result<Stepped, LineRefusal>) -> Row
     Row {
         mark: mark_by(event, outcome),
         label: label_of(event),
-        said: Said::Step {
+        said: Remark::Step {
             outcome,
             named: named_message(event),
         },

@@ -4,7 +4,7 @@ ghost use Rattle.uecp_link.specs.Counters.{counter_of};
 ghost use Rattle.uecp_text.specs.Written.{Adds};
 ghost use Rattle.ladders.specs.Words.{label_words, said_line, with_counter};
 
-use crate::row::{Label, Said};
+use crate::row::{Label, Remark};
 use itoa::Buffer;
 use uecp_lines::{put_given_up, put_step};
 use uecp_text::Output;
@@ -69,12 +69,12 @@ fn digit_count(number: usize) -> usize
 }
 
 /// Adds what is said of a row, and ends the line.
-pub(crate) fn put_said(said: Said, output: &mut Output)
+pub(crate) fn put_said(said: Remark, output: &mut Output)
     ensures { Adds output.old output.new (said_line said) }
 {
     match said {
-        Said::Lost => output.text("lost\n"),
-        Said::Step { outcome, named } => put_step(outcome, named, output),
-        Said::GivenUp(given_up) => put_given_up(given_up, output),
+        Remark::Lost => output.text("lost\n"),
+        Remark::Step { outcome, named } => put_step(outcome, named, output),
+        Remark::GivenUp(given_up) => put_given_up(given_up, output),
     }
 }

@@ -2,4 +2,6 @@ mod asserting;
 mod faults;
 mod joining;
 mod line;
+mod saved_encoder;
+mod saved_server;
 mod sockets;

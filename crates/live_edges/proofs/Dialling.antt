@@ -1,6 +1,6 @@
 -- Dialling on and on.
 use Rattle.std.proofs.Common.{◌≡◌, List, ℕ, [], ◌++◌, ap, ◌∙◌, refl, subst, sym}
-use Rattle.uecp_text.proofs.Begun.{appends_nothing, appends_then}
+use Rattle.uecp_text.proofs.Public.{appends_nothing, appends_then}
 use Rattle.live_edges.specs.Patience.{Dialled, DialsOn}
 
 pub dials_same : (d d' : Dialled) → d' ≡ d → DialsOn d d'

@@ -6,20 +6,20 @@ use std::io::{ErrorKind, Read};
 
 /// A reader, whether anything was read of it, and whether it ended or failed otherwise than by its limit of time.
 #[derive(Drop)]
-pub struct Heard<R> {
+pub struct ReadMeter<R> {
     reader: R,
     heard: bool,
     broken: bool,
 }
 
-impl<R> Heard<R> {
+impl<R> ReadMeter<R> {
     /// The reader, of which nothing was read yet.
-    pub fn new(reader: R) -> Heard<R>
+    pub fn new(reader: R) -> ReadMeter<R>
         ensures reader { result.reader ≡ reader }
         ensures heard { result.heard ≡ false }
         ensures broken { result.broken ≡ false }
     {
-        Heard {
+        ReadMeter {
             reader,
             heard: false,
             broken: false,
@@ -41,7 +41,7 @@ impl<R> Heard<R> {
     }
 }
 
-impl<R: Read> Read for Heard<R> {
+impl<R: Read> Read for ReadMeter<R> {
     ghost remaining = { λ heard. R.remaining heard.reader };
 
     fn read(&mut self, buf: &mut [u8]) -> io::Result<usize> {

@@ -5,7 +5,7 @@
 //!   connection that a [`Watch`] has.
 //! - [`Patient`]: [`Connections`](uecp_net::Connections) that are dialled again and again, with longer and longer
 //!   pauses; it says when the line is lost, there again, or silent, and [`Patience`] is for how long. They are read
-//!   through [`Heard`], which notes whether anything came.
+//!   through [`ReadMeter`], which notes whether anything came.
 //! - [`keep_alive`]: has the system ask whether somebody is at the other end of a connection.
 #![tactic(auto)]
 
@@ -18,7 +18,7 @@ mod polled;
 mod watch;
 
 pub use alive::keep_alive;
-pub use heard::Heard;
+pub use heard::ReadMeter;
 pub use patience::Patience;
 pub use patient::Patient;
 pub use polled::Polled;

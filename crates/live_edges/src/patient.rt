@@ -3,7 +3,7 @@ ghost use Rattle.std.specs.Prelude.{◌≡◌};
 ghost use Rattle.live_edges.specs.Patience.{Dialled, DialsOn};
 
 use crate::alive::keep_alive;
-use crate::heard::Heard;
+use crate::heard::ReadMeter;
 use crate::notices::{Said, say_away, say_given_up, say_lost, say_silent, say_there};
 use crate::patience::{Patience, Step, Wait};
 use crate::watch::Watch;
@@ -106,7 +106,7 @@ impl<'a, N: Net<Stream = TcpStream> + Clock, W: Write> Patient<'a, N, W> {
     }
 
     /// Makes one try after a pause, and says what came of it where that is new.
-    fn try_once(&mut self, pause: u64) -> Option<(Heard<TcpStream>, TcpStream)>
+    fn try_once(&mut self, pause: u64) -> Option<(ReadMeter<TcpStream>, TcpStream)>
         ensures { DialsOn self.old self.new }
     {
         thread::sleep(self.net, Duration::from_secs(pause));
@@ -115,7 +115,7 @@ impl<'a, N: Net<Stream = TcpStream> + Clock, W: Write> Patient<'a, N, W> {
                 keep_alive(&output);
                 self.watch.opened(&output);
                 self.found();
-                Some((Heard::new(input), output))
+                Some((ReadMeter::new(input), output))
             }
             None => {
                 self.missed();
@@ -156,7 +156,7 @@ impl<'a, N: Net<Stream = TcpStream> + Clock, W: Write> Patient<'a, N, W> {
 }
 
 impl<'a, N: Net<Stream = TcpStream> + Clock, W: Write> Connections for Patient<'a, N, W> {
-    type Input = Heard<TcpStream>;
+    type Input = ReadMeter<TcpStream>;
 
     type Output = TcpStream;
 
@@ -164,7 +164,7 @@ impl<'a, N: Net<Stream = TcpStream> + Clock, W: Write> Connections for Patient<'
 
     ghost closes = { λ d _ _ d'. d' ≡ d };
 
-    fn open(&mut self) -> Option<(Heard<TcpStream>, TcpStream)> {
+    fn open(&mut self) -> Option<(ReadMeter<TcpStream>, TcpStream)> {
         self.tell_lost();
         for _try in 0..TRIES_MAX {
             match self.next() {
@@ -189,7 +189,7 @@ impl<'a, N: Net<Stream = TcpStream> + Clock, W: Write> Connections for Patient<'
         None
     }
 
-    fn close(&mut self, input: Heard<TcpStream>, _output: TcpStream) {
+    fn close(&mut self, input: ReadMeter<TcpStream>, _output: TcpStream) {
         if input.is_heard() && self.said == Said::Broken {
             self.said = Said::There;
         }

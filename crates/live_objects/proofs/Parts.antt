@@ -3,11 +3,10 @@ use Rattle.std.proofs.Common.{◌≡◌, ℕ, nat_le, nat_lt, ◌==◌, ◌&&◌
 use Rattle.std.proofs.Common.{append-nil}
 use Rattle.std.proofs.Common.{refl, zero, suc, ◌<◌, arith, get_or}
 use Rattle.hex.specs.Hex.{encode_upper}
-use Rattle.uecp_json.proofs.Plain.{plain_digits}
+use Rattle.uecp_json.proofs.Public.{plain_digits, line_text, object_text}
 use Rattle.std.proofs.lemmas.Bool.{and_parts, and_from}
 use Rattle.std.specs.List.{list_all}
 use Rattle.uecp_json.specs.Texts.{is_plain_byte, is_plain as is_plain_text}
-use Rattle.uecp_json.proofs.Objects.{line_text, object_text}
 use Rattle.uecp_watch.specs.Stamps.{is_plain}
 
 pub ruleset parts = (line_text, object_text, append_assoc, append-nil)

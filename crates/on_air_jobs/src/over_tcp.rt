@@ -1,9 +1,9 @@
 //! A device on the air over TCP. Source: profile.
 
 use crate::serving::run_on_air_from;
-use air_edges::{AirForm, OnAir, Places};
+use air_edges::{Addresses, AirForm, OnAir};
 use commands::DeviceJob;
-use device_jobs::{fail_bind, fail_place, place_of};
+use device_jobs::{address_of, fail_address, fail_bind};
 use device_serving::LogLines;
 use kept_jobs::fail_state;
 use state_jobs::OpenStates;
@@ -32,7 +32,7 @@ pub fn run_on_air_over_tcp<
     net: &N,
     states: &S,
 ) -> u8 {
-    let places = match places_of(job, errors) {
+    let places = match addresses_of(job, errors) {
         Ok(places) => places,
         Err(status) => return status,
     };
@@ -62,7 +62,7 @@ pub fn run_on_air_over_tcp<
 }
 
 /// Where the job has it listen; or the exit status, and why was said.
-fn places_of<E: Write>(job: &DeviceJob, errors: &mut E) -> Result<Places, u8> {
+fn addresses_of<E: Write>(job: &DeviceJob, errors: &mut E) -> Result<Addresses, u8> {
     let Some(air) = job.air else {
         let _ = fail_state("air-bits: without --air", errors);
         return Err(2);
@@ -71,11 +71,11 @@ fn places_of<E: Write>(job: &DeviceJob, errors: &mut E) -> Result<Places, u8> {
         let _ = fail_state("air: not with --faults", errors);
         return Err(2);
     }
-    match place_of(job) {
-        Ok(studio) => Ok(Places {
+    match address_of(job) {
+        Ok(studio) => Ok(Addresses {
             studio,
             air: SocketAddr::new(studio.ip(), air),
         }),
-        Err(fault) => Err(fail_place(fault, errors)),
+        Err(fault) => Err(fail_address(fault, errors)),
     }
 }

@@ -5,7 +5,7 @@ ghost use Rattle.option_files.specs.Entries as spec;
 ghost use Rattle.option_files.specs.Entries.{entry_view, Gives, Refuses, RefusesEntry, RefusesTable};
 
 use crate::entries_fault::EntriesFault;
-use crate::saying::flag;
+use crate::option_words::flag;
 use itoa::Buffer;
 use std::alloc::{AllocError, Global};
 use toml::{Table, Value, table_from_str};

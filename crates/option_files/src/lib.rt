@@ -11,12 +11,12 @@
 
 mod entries;
 mod entries_fault;
-mod joining;
+mod joined_words;
 pub mod laws;
+mod option_words;
 mod place;
-mod saying;
 
 pub use entries::{Entry, entries_of};
 pub use entries_fault::EntriesFault;
-pub use joining::{file_in, has_option, words_to_try, words_with};
+pub use joined_words::{file_in, has_option, words_to_try, words_with};
 pub use place::{Place, place_at, place_of};

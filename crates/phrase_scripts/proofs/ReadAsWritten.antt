@@ -1,11 +1,9 @@
 -- The text of a message says it.
 use Rattle.std.proofs.Common.{sym, subst}
 use Rattle.phrase_tokens.specs.Tokens.{Lays}
-use Rattle.phrase_tokens.proofs.ReadBack.{read_back}
-use Rattle.phrase_tokens.proofs.Unicode.{through_utf8}
+use Rattle.phrase_tokens.proofs.Public.{read_back, through_utf8}
 use Rattle.uecp_phrases.specs.Written.{line_of}
-use Rattle.uecp_phrases.proofs.SaidMessages.{message_said}
-use Rattle.uecp_phrases.proofs.LineTokens.{line_writable}
+use Rattle.uecp_phrases.proofs.Public.{message_said, line_writable}
 use Rattle.phrase_scripts.specs.Laws.{IsReadAsWritten}
 
 pub read_as_written : IsReadAsWritten

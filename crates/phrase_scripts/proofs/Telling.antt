@@ -2,7 +2,7 @@
 use Rattle.std.proofs.Common.{ℕ, ◌≤◌, List, length, chars, subst, sym}
 use Rattle.rds_text.specs.declared.programme_type.Region.{Region}
 use Rattle.phrase_tokens.specs.Tokens.{Token, Lays}
-use Rattle.phrase_tokens.proofs.OneReading.{one_reading}
+use Rattle.phrase_tokens.proofs.Public.{one_reading}
 use Rattle.uecp_phrases.specs.Lines.{Say}
 use Rattle.phrase_scripts.specs.Lines.{Line, Begins, Says, AreFrame, Tell, SaysNothing}
 

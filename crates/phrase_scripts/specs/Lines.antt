@@ -12,8 +12,8 @@ use Rattle.uecp_text.specs.Digits.{byte_word, number_word}
 use Rattle.uecp_text.specs.declared.text_fault.TextFault.{TextFault}
 use Rattle.uecp_text.specs.declared.text_fault.TextFault.TheVariants.{Unsaid}
 use Rattle.uecp_lines.specs.Lines.{dropped_line}
-use Rattle.phrase_scripts.specs.declared.reading.PhraseLine.{PhraseLine}
-use Rattle.phrase_scripts.specs.declared.reading.PhraseLine.TheVariants as held
+use Rattle.phrase_scripts.specs.declared.script_line.PhraseLine.{PhraseLine}
+use Rattle.phrase_scripts.specs.declared.script_line.PhraseLine.TheVariants as held
 
 -- ---- Read.
 

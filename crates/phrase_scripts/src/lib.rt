@@ -13,7 +13,7 @@ mod finding_lines;
 mod frame_line;
 pub mod laws;
 mod line_fault;
-mod reading;
+mod script_line;
 
 pub use finding_lines::put_found;
-pub use reading::{PhraseLine, phrase_line};
+pub use script_line::{PhraseLine, phrase_line};

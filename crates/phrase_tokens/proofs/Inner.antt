@@ -3,7 +3,7 @@ use Rattle.std.proofs.Common.{◌≡◌, ◌≢◌, ℕ, ◌≤◌, List, [], �
 use Rattle.std.proofs.Common.{◌⊎◌, inl, inr, arith, length, length-append, append_assoc, append-nil, subst}
 use Rattle.rds_text.specs.Quoted.{Spells, SpellsNone}
 use Rattle.phrase_tokens.specs.Tokens.{SpellsEach}
-use Rattle.rds_text.proofs.ReadBack.{one_spelling}
+use Rattle.rds_text.proofs.Public.{one_spelling}
 use Rattle.phrase_tokens.proofs.Characters.{front_of, byte_begins, BeginsNot}
 
 -- These bytes are spelled at the front of the text, and behind them stand a quote and then this.

@@ -8,3 +8,4 @@ pub mod Words
 pub mod Told
 pub mod Written
 pub mod Passed
+pub mod Public

@@ -3,7 +3,7 @@ use Rattle.std.proofs.Common.{◌≡◌, ℕ, ◌≤◌, List, [], ◌∷◌, fa
 use Rattle.std.proofs.Common.{flat_map}
 use Rattle.std.specs.List.{AllByRecursion}
 use Rattle.rds_text.specs.Quoted.{written}
-use Rattle.rds_text.proofs.ReadBack.{read_back as byte_back}
+use Rattle.rds_text.proofs.Public.{read_back as byte_back}
 use Rattle.phrase_tokens.specs.Tokens.{Token, Word, Quoted, Semicolon, IsToken, SpellsToken, SpellsEach, EndsBefore}
 use Rattle.phrase_tokens.specs.Tokens.{Lays, goes_on, written_token, written_behind, written_tokens}
 

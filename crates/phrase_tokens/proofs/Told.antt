@@ -2,8 +2,8 @@
 use Rattle.std.proofs.Common.{◌≡◌, ◌≢◌, ℕ, ◌≤◌, List, [], ◌∷◌, ◌++◌, refl, sym, ap, ◌∙◌, arith, length}
 use Rattle.std.proofs.Common.{append_assoc, subst}
 use Rattle.rds_text.specs.Quoted.{SpellsNone, Plain}
-use Rattle.phrase_tokens.specs.declared.reading.Unread.{Unread as Reason}
-use Rattle.phrase_tokens.specs.declared.reading.Unread.TheVariants as why
+use Rattle.phrase_tokens.specs.declared.tokens_read.Unread.{Unread as Reason}
+use Rattle.phrase_tokens.specs.declared.tokens_read.Unread.TheVariants as why
 use Rattle.phrase_tokens.specs.Tokens.{Word, Quoted, Semicolon}
 use Rattle.phrase_tokens.specs.Fronts.{Front, FrontNone, WordNone, TellsOf, ToldAt}
 use Rattle.phrase_tokens.proofs.Inner.{Inner, InnerNone}

@@ -10,7 +10,7 @@ use Rattle.std.specs.Option.{option_map_or}
 use Rattle.std.specs.Str.{chars, encode_utf8_all, IsUtf8}
 use Rattle.rds_text.specs.BasicSet.{character_of}
 use Rattle.rds_text.specs.Quoted.{written, hex_digit}
-use Rattle.rds_text.proofs.Inverse.{small}
+use Rattle.rds_text.proofs.Public.{small}
 use Rattle.phrase_tokens.specs.Tokens.{Token, Word, Quoted, Semicolon, IsToken, is_word_character}
 use Rattle.phrase_tokens.specs.Tokens.{written_token, written_behind, written_tokens}
 use Rattle.phrase_tokens.proofs.Characters.{OfWord, of_word, both}

@@ -5,7 +5,7 @@ use Rattle.std.specs.Prelude.{encode_utf8_all, flat_map}
 use Rattle.std.specs.Char.{encode_utf8}
 use Rattle.rds_text.specs.Quoted.{written}
 use Rattle.uecp_text.specs.Written.{Kept, Adds}
-use Rattle.uecp_text.proofs.Leading.{Leads, adds_then, leads_on}
+use Rattle.uecp_text.proofs.Public.{Leads, adds_then, leads_on}
 use Rattle.phrase_tokens.specs.Tokens.{Token, Word, Quoted, Semicolon, written_token, written_behind, written_tokens}
 
 -- Tokens behind others are written one after another.

@@ -1,10 +1,10 @@
 -- What stands at the front of a text, and what is told of a text that reads as no tokens (profile).
 use Rattle.std.specs.Prelude.{◌≡◌, ◌≢◌, ◌≤◌, ◌-◌, ℕ, List, ◌∷◌, ◌++◌, length, slice_index, Some}
 use Rattle.rds_text.specs.BasicSet.{character_of}
-use Rattle.phrase_tokens.specs.declared.reading.Unread.{Unread as Reason}
-use Rattle.phrase_tokens.specs.declared.reading.Unread.TheVariants as why
-use Rattle.phrase_tokens.specs.declared.reading.TokenFault.{TokenFault}
-use Rattle.phrase_tokens.specs.declared.reading.TokenFault.TheVariants.{OutOfMemory, Unread}
+use Rattle.phrase_tokens.specs.declared.tokens_read.Unread.{Unread as Reason}
+use Rattle.phrase_tokens.specs.declared.tokens_read.Unread.TheVariants as why
+use Rattle.phrase_tokens.specs.declared.tokens_read.TokenFault.{TokenFault}
+use Rattle.phrase_tokens.specs.declared.tokens_read.TokenFault.TheVariants.{OutOfMemory, Unread}
 use Rattle.phrase_tokens.specs.Tokens.{Token, Word, SpellsToken, EndsBefore}
 
 -- The token stands at the front of the text, and this behind it.

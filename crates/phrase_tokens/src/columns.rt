@@ -2,7 +2,7 @@
 ghost use Rattle.std.specs.Prelude.{◌≡◌, ◌≢◌, ◌≤◌, ◌<◌, ◌+◌, ◌-◌, List, length, drop, slice_index};
 ghost use Rattle.phrase_tokens.specs.Tokens.{Token, Lays};
 
-use crate::reading::first_token;
+use crate::tokens_read::first_token;
 
 /// The column, counted from 1, at which the token of that index begins, the first having 0; where there is none, the
 /// column behind the last character.

@@ -8,11 +8,11 @@
 
 mod columns;
 pub mod laws;
-mod reading;
 mod token;
-mod writing;
+mod tokens_read;
+mod tokens_written;
 
 pub use columns::column_of;
-pub use reading::{TokenFault, Unread, tokens_of};
 pub use token::{QUOTED_MAX, Token, WORD_MAX};
-pub use writing::{put_behind, put_tokens};
+pub use tokens_read::{TokenFault, Unread, tokens_of};
+pub use tokens_written::{put_behind, put_tokens};

@@ -2,3 +2,9 @@ pub mod Linear
 pub mod Found
 pub mod LineProofs
 pub mod GroupProofs
+pub mod ReceiverReading
+pub mod Lines
+pub mod Window
+pub mod Finding
+pub mod SynchroniserReading
+pub mod Public

@@ -1,7 +1,12 @@
 //! What the check words find, and how groups read: each law the contract of a function that does
 //! nothing.
+//! What is heard of a group, each law the contract of a function that does nothing.
+//! What is found in a stream of bits, and in bits as text: each law the contract of a function that does nothing.
 ghost use Rattle.rds_groups.specs.Laws.{ReadsBack, IsTold, OneIsFound, TwoAreFound, BurstIsFound};
 ghost use Rattle.rds_groups.specs.Laws.{GroupsRead, SegmentsRead};
+ghost use Rattle.rds_groups.specs.ReceiverLaws.{ComesWhole, NoWordIsWrong};
+ghost use Rattle.rds_groups.specs.SynchroniserLaws.{EachGroupIsFound, StepIsKept, LinesReadBack, TextIsItsBits};
+ghost use Rattle.rds_groups.specs.SynchroniserLaws.{TextsAddUp};
 
 /// A block reads back as its word.
 #[tactic(auto, using(crate::proofs::Found::reads_back))]
@@ -43,4 +48,43 @@ pub fn groups_read()
 #[tactic(auto, using(crate::proofs::GroupProofs::segments_read))]
 pub fn segments_read()
     ensures { SegmentsRead }
+{}
+
+/// A group that comes as it went out comes whole.
+#[tactic(auto, using(crate::proofs::ReceiverReading::comes_whole))]
+pub fn comes_whole()
+    ensures { ComesWhole }
+{}
+
+/// Where in each block no bit is wrong, one, two, or some of ten in a row, each word comes as it is or is missing.
+pub fn no_word_is_wrong()
+    ensures { NoWordIsWrong }
+{}
+
+/// A group that comes as it went out is found with its last bit, whatever came before.
+pub fn each_group_is_found()
+    ensures { EachGroupIsFound }
+{}
+
+/// Once a group was found, what comes of the next one is given with its last bit, however much of it is wrong.
+pub fn step_is_kept()
+    ensures { StepIsKept }
+{}
+
+/// The line of a group reads as its bits.
+#[tactic(auto, using(crate::proofs::SynchroniserReading::lines_read_back))]
+pub fn lines_read_back()
+    ensures { LinesReadBack }
+{}
+
+/// A text brings what its bits bring: characters that are no bits make no difference.
+#[tactic(auto, using(crate::proofs::SynchroniserReading::text_is_its_bits))]
+pub fn text_is_its_bits()
+    ensures { TextIsItsBits }
+{}
+
+/// A text in two parts has the groups of the first, and then those of the second, wherever it is cut.
+#[tactic(auto, using(crate::proofs::SynchroniserReading::texts_add_up))]
+pub fn texts_add_up()
+    ensures { TextsAddUp }
 {}

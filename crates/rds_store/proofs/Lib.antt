@@ -7,3 +7,4 @@ pub mod MessageLaws
 pub mod Examples
 pub mod OneSet
 pub mod Judged
+pub mod Public

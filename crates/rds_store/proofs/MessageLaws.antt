@@ -9,7 +9,7 @@ use Rattle.uecp_elements.specs.declared.fault.ElementFault.{ElementFault}
 use Rattle.uecp_elements.specs.Grammar.{Element, Reading, Reads, AreBytes, EndsWith, is_known}
 use Rattle.uecp_elements.specs.Reading.{items, items_at, items_of, fault_item}
 use Rattle.uecp_elements.specs.Folding.{is_applied, where_applied, folded}
-use Rattle.uecp_elements.proofs.Items.{has_reading, only_reading}
+use Rattle.uecp_elements.proofs.Public.{has_reading, only_reading}
 use Rattle.rds_store.specs.Value.{Store}
 use Rattle.rds_store.specs.Put.{put}
 use Rattle.rds_store.specs.Step.{element_by_element, whole_or_none, step}

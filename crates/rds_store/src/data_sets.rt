@@ -6,7 +6,7 @@ ghost use Rattle.rds_store.specs.Opening.{opening, fault_of};
 
 use crate::group::Group;
 use crate::in_sets::{ServiceInSets, copy_services};
-use crate::opening::opening_services;
+use crate::opening_store::opening_services;
 use arrayvec::ArrayVec;
 use indexmap::IndexMap;
 use std::alloc::{AllocError, Global};

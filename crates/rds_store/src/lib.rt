@@ -13,18 +13,18 @@
 #![tactic(auto)]
 
 mod data_sets;
+mod element_effect;
 mod fault;
 mod group;
 mod in_sets;
-mod judging;
 pub mod laws;
 mod named_sets;
-mod opening;
-mod putting;
+mod opening_store;
 mod rules;
 mod service;
 mod store;
 mod text;
+mod verdict;
 
 pub use fault::StoreFault;
 pub use group::Group;

@@ -16,7 +16,7 @@ ghost use Rattle.rds_store.specs.Opening.{opening, fault_of};
 use crate::data_sets::DataSets;
 use crate::fault::StoreFault;
 use crate::group::Group;
-use crate::opening::fault_of;
+use crate::opening_store::fault_of;
 use crate::service::Service;
 use std::alloc::{AllocError, Global};
 use std::marker::Model;

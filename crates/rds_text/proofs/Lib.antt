@@ -2,3 +2,4 @@ pub mod Inverse
 pub mod Names
 pub mod Spelled
 pub mod ReadBack
+pub mod Public

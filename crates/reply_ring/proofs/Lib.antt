@@ -1,3 +1,4 @@
 pub mod Kept
 pub mod Entries
 pub mod Keeping
+pub mod Public

@@ -11,14 +11,14 @@ use Rattle.uecp_encoder.specs.State.{EncoderState}
 use Rattle.uecp_link.specs.Server.{ServerState}
 use Rattle.uecp_link.specs.Resuming.{IsServer}
 use Rattle.kept_serving.specs.Keeping as serving
-use Rattle.kept_sending.specs.declared.keep.Progress.{Progress}
-use Rattle.kept_sending.specs.Keeping as sending
-use Rattle.kept_state.specs.Kept.{Holds}
-use Rattle.kept_state.specs.Keeper.{Keeper, MayLeave, Keeps}
-use Rattle.kept_images.specs.declared.server_reading.KeptServer.{KeptServer}
-use Rattle.kept_images.specs.Images.{sealed, encoder_image, server_content, server_image}
-use Rattle.kept_images.specs.Laws.{SaysServer}
-use Rattle.kept_images.specs.Reading.{IsKeptServer}
+use Rattle.uecp_net.specs.declared.saved.keep.Progress.{Progress}
+use Rattle.uecp_net.specs.Keeping as sending
+use Rattle.sqlite_image.specs.Kept.{Holds}
+use Rattle.sqlite_image.specs.Keeper.{Keeper, MayLeave, Keeps}
+use Rattle.end_images.specs.declared.server_parts.KeptServer.{KeptServer}
+use Rattle.end_images.specs.Images.{sealed, encoder_image, server_content, server_image}
+use Rattle.end_images.specs.Laws.{SaysServer}
+use Rattle.end_images.specs.Reading.{IsKeptServer}
 use Rattle.state_files.specs.Encoders.{IsPlaced, TellsWhatIsKept, LeavesEncoder}
 use Rattle.state_files.specs.Servers.{LeavesServer, image_of}
 use Rattle.state_files.proofs.Sealed.{sealed_same}

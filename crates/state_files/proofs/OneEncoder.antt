@@ -5,7 +5,7 @@ use Rattle.uecp_elements.specs.declared.code.Code.{Code}
 use Rattle.uecp_elements.specs.Codes.{byte_of, code_of_byte, IsReadBack}
 use Rattle.rds_store.specs.Laws.{IsKnownByPlaces}
 use Rattle.store_phrases.specs.Laws.{messages_of}
-use Rattle.kept_images.specs.Images.{version, encoder_kind, counted, pair_bytes, message_bytes, encoder_content}
+use Rattle.end_images.specs.Images.{version, encoder_kind, counted, pair_bytes, message_bytes, encoder_content}
 use Rattle.state_files.specs.Encoders.{TellsWhatIsKept}
 use Rattle.state_files.proofs.Lists.{apart}
 use Rattle.state_files.proofs.Sealed.{sealed_same}

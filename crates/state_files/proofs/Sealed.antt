@@ -2,7 +2,7 @@
 use Rattle.std.proofs.Common.{◌≡◌, ℕ, List, length, ap, arith, length-append}
 use Rattle.uecp_frame.specs.Frame.{high_first}
 use Rattle.uecp_frame.specs.Check.{check}
-use Rattle.kept_images.specs.Images.{sealed}
+use Rattle.end_images.specs.Images.{sealed}
 use Rattle.state_files.proofs.Lists.{apart}
 
 pub sealed_same : (xs ys : List ℕ) → sealed xs ≡ sealed ys → xs ≡ ys

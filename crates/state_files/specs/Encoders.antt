@@ -9,11 +9,11 @@ use Rattle.rds_store.specs.declared.fault.StoreFault.{StoreFault}
 use Rattle.rds_store.specs.Opening.{fault_of}
 use Rattle.uecp_encoder.specs.State.{EncoderState}
 use Rattle.kept_serving.specs.Keeping.{Kept, kept_of}
-use Rattle.kept_state.specs.Kept.{Holds}
-use Rattle.kept_state.specs.Keeper.{Keeper, IsClean, MayLeave, Keeps, HasEnded}
-use Rattle.kept_images.specs.Images.{encoder_image, encoder_kind, server_kind}
-use Rattle.kept_images.specs.Reading.{IsFaultOf, EncoderRead}
-use Rattle.kept_images.specs.declared.fault.ImageFault.{ImageFault}
+use Rattle.sqlite_image.specs.Kept.{Holds}
+use Rattle.sqlite_image.specs.Keeper.{Keeper, IsClean, MayLeave, Keeps, HasEnded}
+use Rattle.end_images.specs.Images.{encoder_image, encoder_kind, server_kind}
+use Rattle.end_images.specs.Reading.{IsFaultOf, EncoderRead}
+use Rattle.end_images.specs.declared.fault.ImageFault.{ImageFault}
 use Rattle.state_files.specs.Faults.{IsOfFile, image_fault}
 use Rattle.state_files.specs.declared.fault.StateFault.{StateFault}
 use Rattle.state_files.specs.declared.fault.StateFault.TheVariants as state

@@ -1,9 +1,9 @@
 -- Why a state file is refused. Source: profile.
 use Rattle.std.specs.Prelude.{◌≡◌}
-use Rattle.kept_state.specs.declared.fault.KeepFault.{KeepFault}
-use Rattle.kept_state.specs.declared.fault.KeepFault.TheVariants as keep
-use Rattle.kept_images.specs.declared.fault.ImageFault.{ImageFault}
-use Rattle.kept_images.specs.declared.fault.ImageFault.TheVariants as image
+use Rattle.sqlite_image.specs.declared.fault.KeepFault.{KeepFault}
+use Rattle.sqlite_image.specs.declared.fault.KeepFault.TheVariants as keep
+use Rattle.end_images.specs.declared.fault.ImageFault.{ImageFault}
+use Rattle.end_images.specs.declared.fault.ImageFault.TheVariants as image
 use Rattle.state_files.specs.declared.fault.StateFault.{StateFault}
 use Rattle.state_files.specs.declared.fault.StateFault.TheVariants as state
 

@@ -3,7 +3,7 @@ pub mod Faults
 pub mod Encoders
 pub mod Servers
 pub mod Reading
-pub use Rattle.kept_state.specs.Keeper
-pub use Rattle.kept_state.specs.Kept as KeptRows
-pub use Rattle.kept_images.specs.Images
-pub use Rattle.kept_images.specs.Reading as ImageReading
+pub use Rattle.sqlite_image.specs.Keeper
+pub use Rattle.sqlite_image.specs.Kept as KeptRows
+pub use Rattle.end_images.specs.Images
+pub use Rattle.end_images.specs.Reading as ImageReading

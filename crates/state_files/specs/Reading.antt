@@ -1,6 +1,6 @@
 -- What a state file has. Source: profile.
 use Rattle.std.specs.Prelude.{ℕ, List, Ok}
-use Rattle.kept_images.specs.Reading.{EncoderRead, ServerRead}
+use Rattle.end_images.specs.Reading.{EncoderRead, ServerRead}
 use Rattle.state_files.specs.declared.reading.Found.{Found}
 use Rattle.state_files.specs.declared.reading.Found.TheVariants as found
 

@@ -4,14 +4,14 @@ use Rattle.sqlite.specs.Tree.{Trees}
 use Rattle.sqlite.specs.Store.{Ghosts}
 use Rattle.uecp_link.specs.Server.{ServerState}
 use Rattle.uecp_link.specs.Resuming.{IsServer}
-use Rattle.kept_sending.specs.declared.keep.Progress.{Progress}
-use Rattle.kept_sending.specs.Keeping.{KeptServer, kept_of}
-use Rattle.kept_state.specs.Kept.{Holds}
-use Rattle.kept_state.specs.Keeper.{Keeper, IsClean, MayLeave, Keeps}
-use Rattle.kept_images.specs.Images.{server_image, encoder_kind, server_kind}
-use Rattle.kept_images.specs.Reading.{IsFaultOf, ServerRead}
-use Rattle.kept_images.specs.declared.server_reading.KeptServer.{KeptServer as Image}
-use Rattle.kept_images.specs.declared.fault.ImageFault.{ImageFault}
+use Rattle.uecp_net.specs.declared.saved.keep.Progress.{Progress}
+use Rattle.uecp_net.specs.Keeping.{KeptServer, kept_of}
+use Rattle.sqlite_image.specs.Kept.{Holds}
+use Rattle.sqlite_image.specs.Keeper.{Keeper, IsClean, MayLeave, Keeps}
+use Rattle.end_images.specs.Images.{server_image, encoder_kind, server_kind}
+use Rattle.end_images.specs.Reading.{IsFaultOf, ServerRead}
+use Rattle.end_images.specs.declared.server_parts.KeptServer.{KeptServer as Image}
+use Rattle.end_images.specs.declared.fault.ImageFault.{ImageFault}
 use Rattle.state_files.specs.Faults.{IsOfFile, image_fault}
 use Rattle.state_files.specs.declared.fault.StateFault.{StateFault}
 use Rattle.state_files.specs.declared.fault.StateFault.TheVariants as state

@@ -5,15 +5,15 @@ ghost use Rattle.sqlite.specs.Recovery.{Image as Held};
 ghost use Rattle.sqlite.specs.WalFiles.{outcomes};
 ghost use Rattle.sqlite.specs.WalReads.{AreClean};
 ghost use Rattle.sqlite.specs.Files.{over_files};
-ghost use Rattle.kept_state.specs.Keeper.{Keeps};
-ghost use Rattle.kept_state.specs.Files.{FileHolds};
+ghost use Rattle.sqlite_image.specs.Keeper.{Keeps};
+ghost use Rattle.sqlite_image.specs.Files.{FileHolds};
 
 use crate::encoder_file::EncoderFile;
 use crate::fault::{StateFault, keep_fault};
 use crate::server_file::ServerFile;
-use kept_state::Kept;
 use sqlite::{FileStore, Files};
 use sqlite_disk::Disk;
+use sqlite_image::Kept;
 
 impl<D: Disk + Drop> EncoderFile<FileStore<D>> {
     /// A clean end: the log is copied in, so that the database file alone holds the image, also after a crash.

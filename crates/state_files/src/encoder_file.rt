@@ -1,18 +1,18 @@
 //! An encoder's state in a file. Source: profile.
 ghost use Rattle.std.specs.Prelude.{◌≡◌, ◌⊎◌, Some, Err, OnOk, OnErr};
 ghost use Rattle.sqlite.specs.Tree.{Trees};
-ghost use Rattle.kept_state.specs.Kept.{Holds};
-ghost use Rattle.kept_state.specs.Keeper.{IsClean, MayLeave, Keeps, HasEnded};
+ghost use Rattle.sqlite_image.specs.Kept.{Holds};
+ghost use Rattle.sqlite_image.specs.Keeper.{IsClean, MayLeave, Keeps, HasEnded};
 ghost use Rattle.kept_serving.specs.Keeping.{Settled};
-ghost use Rattle.kept_images.specs.Images.{encoder_image};
+ghost use Rattle.end_images.specs.Images.{encoder_image};
 ghost use Rattle.state_files.specs.Encoders.{IsPlaced, LeavesEncoder, SavesEncoder, FailsTo};
 
 use crate::laws::tells_what_is_kept;
-use kept_images::put_encoder;
+use end_images::put_encoder;
 use kept_serving::{KeepEncoder, SaveFailed};
-use kept_state::{KeepFault, Kept};
 use rds_store::RdsStore;
 use sqlite::Alter;
+use sqlite_image::{KeepFault, Kept};
 use std::marker::Model;
 use uecp_encoder::Encoder;
 
@@ -26,7 +26,7 @@ pub struct EncoderFile<S: Alter> {
 }
 
 impl<S: Alter> Model for EncoderFile<S> {
-    ghost use Rattle.kept_state.specs.Keeper.{Keeper, keeper_code};
+    ghost use Rattle.sqlite_image.specs.Keeper.{Keeper, keeper_code};
 
     ghost Value = { Keeper S };
 
@@ -67,7 +67,7 @@ impl<S: Alter> EncoderFile<S> {
 }
 
 impl<S: Alter> KeepEncoder<RdsStore> for EncoderFile<S> {
-    ghost use Rattle.kept_state.specs.Keeper.{IsClean};
+    ghost use Rattle.sqlite_image.specs.Keeper.{IsClean};
     ghost use Rattle.state_files.specs.Encoders.{LeavesEncoder, SavesEncoder, FailsTo};
 
     ghost leaves = { LeavesEncoder S.Store };

@@ -2,9 +2,9 @@
 ghost use Rattle.std.specs.Prelude.{◌≡◌};
 ghost use Rattle.state_files.specs.Faults.{keep_fault, image_fault};
 
-use kept_images::ImageFault;
-use kept_state::KeepFault;
+use end_images::ImageFault;
 use rds_store::StoreFault;
+use sqlite_image::KeepFault;
 use thiserror::Error;
 
 /// Why there is no end with this state file, or why a state was not saved. No refusal overwrites what the file has. Its

@@ -1,7 +1,7 @@
 //! The state of each end of the line in a file: what `uecp encoder --state FILE` and `uecp server --state FILE` keep
 //! (profile). A file keeps one image, and each save puts another in its place.
 //!
-//! - [`EncoderFile`], [`ServerFile`]: keepers, for `kept_serving` and `kept_sending`.
+//! - [`EncoderFile`], [`ServerFile`]: keepers, for `kept_serving` and `uecp_net`.
 //! - [`open_encoder`], [`open_server`]: an end that goes on from its file, or a new one in a new file.
 //! - [`read_state`]: what a file has, for looking at it.
 //! - [`StateFault`]: why there is no such end; nothing is overwritten by a refusal.

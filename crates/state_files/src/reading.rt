@@ -5,14 +5,14 @@ ghost use Rattle.state_files.specs.Reading.{IsFoundIn};
 use crate::closing::let_go;
 use crate::encoder_opening::VERSION;
 use crate::fault::{StateFault, image_fault, keep_fault};
-use kept_images::{ImageFault, KeptServer, read_encoder, read_server};
-use kept_sending::Progress;
-use kept_state::{Opened, open};
+use end_images::{ImageFault, KeptServer, read_encoder, read_server};
 use rds_store::RdsStore;
+use sqlite_image::{Opened, open};
 use std::alloc::Global;
 use std::rt::HostRuntime;
 use uecp_encoder::Encoder;
 use uecp_link::Server;
+use uecp_net::Progress;
 
 /// What a state file has.
 #[derive(Drop)]

@@ -2,19 +2,19 @@
 ghost use Rattle.std.specs.Prelude.{◌≡◌, ◌⊎◌, Some, Err, OnOk, OnErr};
 ghost use Rattle.sqlite.specs.Tree.{Trees};
 ghost use Rattle.uecp_link.specs.Resuming.{IsServer};
-ghost use Rattle.kept_state.specs.Kept.{Holds};
-ghost use Rattle.kept_state.specs.Keeper.{IsClean, MayLeave, Keeps, HasEnded};
-ghost use Rattle.kept_sending.specs.Keeping.{IsKept};
+ghost use Rattle.sqlite_image.specs.Kept.{Holds};
+ghost use Rattle.sqlite_image.specs.Keeper.{IsClean, MayLeave, Keeps, HasEnded};
+ghost use Rattle.uecp_net.specs.Keeping.{IsKept};
 ghost use Rattle.state_files.specs.Encoders.{FailsTo};
 ghost use Rattle.state_files.specs.Servers.{LeavesServer, image_of};
 
-use kept_images::laws::server_again;
-use kept_images::put_server;
-use kept_sending::{KeepServer, Progress, SaveFailed};
-use kept_state::{KeepFault, Kept};
+use end_images::laws::server_again;
+use end_images::put_server;
 use sqlite::Alter;
+use sqlite_image::{KeepFault, Kept};
 use std::marker::Model;
 use uecp_link::Server;
+use uecp_net::{KeepServer, Progress, SaveFailed};
 
 /// Keeps a server's state in a file. Clauses see what its `Kept` shows.
 #[derive(Drop)]
@@ -26,7 +26,7 @@ pub struct ServerFile<S: Alter> {
 }
 
 impl<S: Alter> Model for ServerFile<S> {
-    ghost use Rattle.kept_state.specs.Keeper.{Keeper, keeper_code};
+    ghost use Rattle.sqlite_image.specs.Keeper.{Keeper, keeper_code};
 
     ghost Value = { Keeper S };
 
@@ -67,7 +67,7 @@ impl<S: Alter> ServerFile<S> {
 }
 
 impl<S: Alter> KeepServer for ServerFile<S> {
-    ghost use Rattle.kept_state.specs.Keeper.{IsClean};
+    ghost use Rattle.sqlite_image.specs.Keeper.{IsClean};
     ghost use Rattle.state_files.specs.Encoders.{FailsTo};
     ghost use Rattle.state_files.specs.Servers.{LeavesServer, SavesServer};
 

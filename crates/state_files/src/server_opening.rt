@@ -2,15 +2,15 @@
 ghost use Rattle.std.specs.Prelude.{◌≡◌, ◌⊎◌, ℕ, List, Option, Some, None, IsTrue, IfOk, IfErr};
 ghost use Rattle.sqlite.specs.Files.{over_files};
 ghost use Rattle.sqlite.specs.WalFiles.{image_at};
-ghost use Rattle.kept_state.specs.Files.{FilesHold};
+ghost use Rattle.sqlite_image.specs.Files.{FilesHold};
 ghost use Rattle.uecp_frame.specs.Address.{is_exact};
 ghost use Rattle.uecp_link.specs.Server.{idle_at};
 ghost use Rattle.sqlite.specs.Tree.{Trees};
-ghost use Rattle.kept_state.specs.Kept.{Holds, bytes_of};
-ghost use Rattle.kept_state.specs.Keeper.{IsClean, MayLeave, Keeps};
-ghost use Rattle.kept_images.specs.Images.{server_image};
-ghost use Rattle.kept_images.specs.Reading.{IsKeptServer, restarted_kept};
-ghost use Rattle.kept_sending.specs.Keeping.{IsKept};
+ghost use Rattle.sqlite_image.specs.Kept.{Holds, bytes_of};
+ghost use Rattle.sqlite_image.specs.Keeper.{IsClean, MayLeave, Keeps};
+ghost use Rattle.end_images.specs.Images.{server_image};
+ghost use Rattle.end_images.specs.Reading.{IsKeptServer, restarted_kept};
+ghost use Rattle.uecp_net.specs.Keeping.{IsKept};
 ghost use Rattle.state_files.specs.Faults.{IsOfFile};
 ghost use Rattle.state_files.specs.Servers.{LeavesServer, IsOther, IsRefused, image_of, begins};
 
@@ -18,14 +18,14 @@ use crate::closing::let_go;
 use crate::encoder_opening::VERSION;
 use crate::fault::{StateFault, image_fault, keep_fault};
 use crate::server_file::{ServerFile, settled};
-use kept_images::{KeptServer, read_server};
-use kept_sending::Progress;
-use kept_state::{Kept, Opened, StateFile, open_from};
+use end_images::{KeptServer, read_server};
 use sqlite::{Alter, FileFrom, FileStore, Start, Wary};
+use sqlite_image::{Kept, Opened, StateFile, open_from};
 use std::alloc::Global;
 use std::rt::HostRuntime;
 use uecp_frame::Address;
 use uecp_link::Server;
+use uecp_net::Progress;
 
 /// Opens the file of a server, or makes it. A file with an image gives the server that goes on from it, with how far it
 /// has come; a new file a new server, which has taken nothing and not joined, and whose image is saved at once.

@@ -6,7 +6,7 @@ use Rattle.rds_store.specs.Value.{Store}
 use Rattle.rds_store.specs.Step.{step}
 use Rattle.uecp_encoder.specs.State.{EncoderState}
 use Rattle.uecp_text.specs.declared.run_fault.RunFault.TheVariants as run
-use Rattle.uecp_text.proofs.Begun.{appends_nothing, appends_then}
+use Rattle.uecp_text.proofs.Public.{appends_nothing, appends_then}
 use Rattle.uecp_jobs.specs.declared.job.Job.{Job}
 use Rattle.uecp_jobs.specs.declared.job.Job.TheVariants.{Answer, AnswerAs, Show, ShowAs, Make, MakeWords}
 use Rattle.uecp_jobs.specs.declared.job.Job.TheVariants.{Line, LineAs, Encoder, Server, Watch}

@@ -10,8 +10,8 @@ use Rattle.uecp_jobs.specs.declared.job.Job.TheVariants.{Encoder, Server}
 use Rattle.uecp_jobs.specs.Setups.{address_of}
 use Rattle.kept_serving.specs.Serving.{Ended}
 use Rattle.kept_serving.specs.Keeping as serving
-use Rattle.kept_sending.specs.declared.keep.Progress.{Progress}
-use Rattle.kept_sending.specs.Keeping as sending
+use Rattle.uecp_net.specs.declared.saved.keep.Progress.{Progress}
+use Rattle.uecp_net.specs.Keeping as sending
 use Rattle.kept_jobs.specs.declared.stop.KeptStop.{KeptStop}
 use Rattle.kept_jobs.specs.Stops.{stop_lines, state_line}
 use Rattle.kept_jobs.specs.EncoderRun.{ended_line}

@@ -1,13 +1,13 @@
 -- What the job `server` does whose state is in a file, and how it ends (profile).
 use Rattle.std.specs.Prelude.{◌≡◌, ◌⊎◌, ℕ, ◌≤◌, ◌^◌, Bool, List, Option, Ok, Err}
 use Rattle.uecp_link.specs.Server.{ServerState}
-use Rattle.uecp_net.specs.declared.sending.Limits.{Limits}
+use Rattle.uecp_net.specs.declared.sender.Limits.{Limits}
 use Rattle.uecp_text.specs.Written.{Begins}
 use Rattle.uecp_jobs.specs.declared.job.Job.{Job}
 use Rattle.uecp_jobs.specs.declared.job.Job.TheVariants.{Server}
 use Rattle.uecp_jobs.specs.Setups.{IsOneEncoder, address_of}
-use Rattle.kept_sending.specs.declared.keep.Progress.{Progress}
-use Rattle.kept_sending.specs.Keeping.{KeptServer, IsKept}
+use Rattle.uecp_net.specs.declared.saved.keep.Progress.{Progress}
+use Rattle.uecp_net.specs.Keeping.{KeptServer, IsKept}
 use Rattle.kept_jobs.specs.Stops.{Went, stop_status, state_line}
 use Rattle.kept_jobs.specs.ServerRun.{RunsServer, IsTold}
 use Rattle.kept_jobs.specs.ServerKept.{HasTakenInput, OutlivesRun}

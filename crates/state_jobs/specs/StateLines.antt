@@ -7,7 +7,7 @@ use Rattle.uecp_encoder.specs.State.{EncoderState}
 use Rattle.uecp_link.specs.Server.{Held, ServerState, waiting}
 use Rattle.uecp_text.specs.Digits.{byte_word, decimal_word, row_word}
 use Rattle.uecp_lines.specs.StoreLines.{store_lines}
-use Rattle.kept_sending.specs.declared.keep.Progress.{Progress}
+use Rattle.uecp_net.specs.declared.saved.keep.Progress.{Progress}
 use Rattle.state_files.specs.declared.reading.Found.{Found}
 use Rattle.state_files.specs.declared.reading.Found.TheVariants as found
 

@@ -1,10 +1,9 @@
 //! States in the files of the machine. The concrete store is named here alone. Source: profile.
 
 use crate::open_states::OpenStates;
-use kept_sending::{KeepServer, Progress};
 use kept_serving::KeepEncoder;
-use kept_state::StateFile;
 use rds_store::RdsStore;
+use sqlite_image::StateFile;
 use state_files::{
     EncoderFile, Found, ServerFile, StateFault, open_encoder, open_server, read_state,
 };
@@ -13,6 +12,7 @@ use std::rt::HostRuntime;
 use uecp_encoder::Encoder;
 use uecp_frame::Address;
 use uecp_link::Server;
+use uecp_net::{KeepServer, Progress};
 
 /// Keeps the state of an encoder in a file of the machine.
 #[derive(Drop)]
@@ -49,11 +49,7 @@ impl KeepServer for MachineServer {
 
     ghost fails = { λ m left n. ⟦<ServerFile<StateFile> as KeepServer>⟧.fails m.file left n.file };
 
-    fn save(
-        &mut self,
-        server: &Server,
-        progress: Progress,
-    ) -> Result<(), kept_sending::SaveFailed> {
+    fn save(&mut self, server: &Server, progress: Progress) -> Result<(), uecp_net::SaveFailed> {
         self.file.save(server, progress)
     }
 }

@@ -5,19 +5,19 @@ ghost use Rattle.rds_store.specs.Value.{Store};
 ghost use Rattle.uecp_encoder.specs.State.{EncoderState};
 ghost use Rattle.uecp_link.specs.Server.{ServerState};
 ghost use Rattle.kept_serving.specs.Keeping.{Settled};
-ghost use Rattle.kept_sending.specs.declared.keep.Progress.{Progress};
-ghost use Rattle.kept_sending.specs.Keeping.{IsKept};
+ghost use Rattle.uecp_net.specs.declared.saved.keep.Progress.{Progress};
+ghost use Rattle.uecp_net.specs.Keeping.{IsKept};
 ghost use Rattle.state_files.specs.Encoders.{IsDescribed};
 ghost use Rattle.state_files.specs.declared.fault.StateFault.{StateFault};
 ghost use Rattle.state_files.specs.declared.reading.Found.{Found};
 
-use kept_sending::{KeepServer, Progress};
 use kept_serving::KeepEncoder;
 use rds_store::RdsStore;
 use state_files::{Found, StateFault};
 use uecp_encoder::Encoder;
 use uecp_frame::Address;
 use uecp_link::Server;
+use uecp_net::{KeepServer, Progress};
 
 /// Opens the states of ends by their paths. What is refused is not overwritten.
 pub trait OpenStates {

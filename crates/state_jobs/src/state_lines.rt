@@ -7,13 +7,13 @@ ghost use Rattle.state_jobs.specs.StateLines.{found_lines, encoder_lines, encode
 ghost use Rattle.state_jobs.specs.StateLines.{last_line, counter_word, server_lines, server_line, taken_line};
 ghost use Rattle.state_jobs.specs.StateLines.{held_line, held_word, joined_words};
 
-use kept_sending::Progress;
 use rds_store::RdsStore;
 use state_files::Found;
 use uecp_encoder::Encoder;
 use uecp_frame::Address;
 use uecp_lines::put_last;
 use uecp_link::{LentMessage, Server};
+use uecp_net::Progress;
 use uecp_text::Output;
 
 /// The lines of what was found.

@@ -16,12 +16,12 @@ use Rattle.rds_text.specs.Quoted.{written}
 use Rattle.rds_text.specs.declared.programme_type.Region.{Region}
 use Rattle.phrase_tokens.specs.Tokens.{Token, Word, Quoted, Semicolon, IsToken, is_word_character}
 use Rattle.phrase_tokens.specs.Tokens.{written_token, written_behind, written_tokens}
-use Rattle.phrase_tokens.proofs.Characters.{OfWord, of_word, both}
+use Rattle.phrase_tokens.proofs.Public.{OfWord, of_word, both}
 use Rattle.uecp_phrases.specs.Written.{phrase_of, set_tokens, service_tokens, set_token, byte_token, number_token}
 use Rattle.uecp_phrases.specs.Written.{traffic_tokens, music_tokens, bits_tokens, programme_type_tokens, text_tokens}
 use Rattle.uecp_phrases.specs.Written.{group_tokens}
 use Rattle.uecp_phrases.specs.Written as phrase
-use Rattle.uecp_phrases.proofs.SaidTokens.{writable}
+use Rattle.uecp_phrases.proofs.Public.{writable}
 use Rattle.store_phrases.specs.Said.{line}
 use Rattle.store_phrases.proofs.Elements.{IsSayable}
 

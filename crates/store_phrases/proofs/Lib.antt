@@ -12,3 +12,4 @@ pub mod Lines
 pub mod Heard
 pub mod Messages
 pub mod Walks
+pub mod Public

@@ -16,9 +16,9 @@ use Rattle.rds_text.specs.Quoted.{written, hex_digit}
 use Rattle.rds_text.specs.declared.programme_type.Region.{Region}
 use Rattle.phrase_tokens.specs.Tokens.{Token, Word, Quoted, Semicolon, IsToken, is_word_character}
 use Rattle.phrase_tokens.specs.Tokens.{written_token, written_behind, written_tokens}
-use Rattle.phrase_tokens.proofs.Characters.{OfWord, of_word, both}
+use Rattle.phrase_tokens.proofs.Public.{OfWord, of_word, both}
 use Rattle.uecp_phrases.specs.Written.{phrase_of}
-use Rattle.uecp_phrases.proofs.SaidTokens.{writable}
+use Rattle.uecp_phrases.proofs.Public.{writable}
 use Rattle.store_phrases.specs.Said.{line, lines}
 use Rattle.store_phrases.proofs.Elements.{IsSayable, all_append}
 

@@ -5,20 +5,18 @@ use Rattle.std.specs.List.{AllByRecursion}
 use Rattle.uecp_elements.specs.declared.code.Code.TheVariants.{Applied}
 use Rattle.uecp_elements.specs.Grammar.{AreBytes, Element, Reading, Reads, IsElement, spelling}
 use Rattle.uecp_elements.specs.Reading.{items, items_of}
-use Rattle.uecp_elements.proofs.Items.{has_reading, only_reading}
+use Rattle.uecp_elements.proofs.Public.{has_reading, only_reading}
 use Rattle.rds_store.specs.Value.{Store}
 use Rattle.rds_store.specs.Put.{put}
 use Rattle.rds_store.specs.Step.{step}
 use Rattle.rds_store.specs.Laws.{PutsEach}
-use Rattle.rds_store.proofs.MessageLaws.{whole_message_is_applied}
+use Rattle.rds_store.proofs.Public.{whole_message_is_applied}
 use Rattle.rds_text.specs.declared.programme_type.Region.{Region}
 use Rattle.phrase_tokens.specs.Tokens.{written_tokens}
-use Rattle.phrase_tokens.proofs.ReadBack.{read_back}
-use Rattle.phrase_tokens.proofs.Unicode.{through_utf8}
+use Rattle.phrase_tokens.proofs.Public.{read_back, through_utf8}
 use Rattle.uecp_phrases.specs.Lines.{Say}
 use Rattle.uecp_phrases.specs.Written.{phrase_of, phrase_of_item, line_of, joined}
-use Rattle.uecp_phrases.proofs.SaidTokens.{writable}
-use Rattle.uecp_phrases.proofs.SaidMessages.{message_said}
+use Rattle.uecp_phrases.proofs.Public.{writable, message_said}
 use Rattle.store_phrases.specs.Said.{said_of, line}
 use Rattle.store_phrases.specs.Laws.{messages_of, groups_left, told, AreAlike, LineSays, LinesSay, AppliesEach}
 use Rattle.store_phrases.specs.Laws.{IsStoreSaid, IsMadeAgain}

@@ -11,8 +11,8 @@ use Rattle.rds_store.specs.Value.{place_cmp}
 use Rattle.rds_store.specs.Content.{opening_service}
 use Rattle.rds_store.specs.Opening.{opening, fault_of}
 use Rattle.rds_store.specs.Kept.{IsKept, in_set}
-use Rattle.rds_store.proofs.Places.{get-all_places, some_at}
-use Rattle.rds_store.proofs.Openings.{all_places-opening, keys-opening, lengths-opening, kept_opening}
+use Rattle.rds_store.proofs.Public.{get-all_places, some_at, all_places-opening, keys-opening, lengths-opening}
+use Rattle.rds_store.proofs.Public.{kept_opening}
 use Rattle.std.specs.FinMap.{from_entries}
 use Rattle.std.specs.Map.{lookup}
 use Rattle.std.specs.Option.{option_and_then}

@@ -14,8 +14,7 @@ use Rattle.rds_store.specs.Content.{taken}
 use Rattle.rds_store.specs.Refusals.{is_out_of_range, adds_text, is_full, is_full_in, has_full_set, set_numbers}
 use Rattle.rds_store.specs.Put.{change_where, put}
 use Rattle.rds_store.specs.Kept.{at_service}
-use Rattle.rds_store.proofs.Places.{get-change_where, same_places}
-use Rattle.rds_store.proofs.Addressed.{put-changed}
+use Rattle.rds_store.proofs.Public.{get-change_where, same_places, put-changed}
 
 -- the place is that of this set and service
 abbrev pub is_at : (set number : ℕ) → (place : ℕ × ℕ) → Bool

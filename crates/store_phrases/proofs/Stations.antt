@@ -19,12 +19,12 @@ use Rattle.rds_store.specs.Content.{taken}
 use Rattle.rds_store.specs.Refusals.{code_of}
 use Rattle.rds_store.specs.Put.{put, stored_on}
 use Rattle.rds_store.specs.Step.{group_taken, first_taken}
-use Rattle.rds_store.proofs.LawProofs.{changes_named_places_alone, keeps_sets_and_services}
+use Rattle.rds_store.proofs.Public.{changes_named_places_alone, keeps_sets_and_services}
 use Rattle.rds_store.specs.Step.{step, element_by_element}
 use Rattle.uecp_elements.specs.declared.fault.ElementFault.{ElementFault}
 use Rattle.uecp_elements.specs.Reading.{IsRead, items, fault_item}
 use Rattle.uecp_elements.specs.Folding.{folded}
-use Rattle.uecp_elements.proofs.Items.{has_reading}
+use Rattle.uecp_elements.proofs.Public.{has_reading}
 use Rattle.std.proofs.Common.{Ok, append_assoc}
 use Rattle.store_phrases.specs.Laws.{AreStations}
 use Rattle.store_phrases.proofs.Elements.{IsSayable}

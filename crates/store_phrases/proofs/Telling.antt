@@ -14,7 +14,7 @@ use Rattle.rds_store.specs.Content.{adds, is_wrong_rule}
 use Rattle.rds_store.specs.Refusals.{set_numbers, code_of}
 use Rattle.rds_store.specs.Put.{put, stored_on}
 use Rattle.rds_store.specs.Laws.{PutsEach}
-use Rattle.rds_store.proofs.Places.{same_places}
+use Rattle.rds_store.proofs.Public.{same_places}
 use Rattle.store_phrases.specs.Said.{rule_bits, group_said, groups_said, set_said}
 use Rattle.store_phrases.specs.Station.{IsWaiting}
 use Rattle.store_phrases.specs.Laws.{groups_left, told, IsSaidByElements}

@@ -12,8 +12,7 @@ use Rattle.kept_serving.specs.Serving.{fresh_among}
 use Rattle.told_serving.specs.declared.listener.Event.{Event}
 use Rattle.told_serving.specs.Telling.{HasHeard}
 use Rattle.told_serving.specs.Parts.{StopsAt, HearsUntil, stopped_after, fault_after}
-use Rattle.kept_serving.proofs.Unchanged.{fresh_among-append, fresh_on}
-use Rattle.kept_serving.proofs.Beginnings.{outlives_writing}
+use Rattle.kept_serving.proofs.Public.{fresh_among-append, fresh_on, outlives_writing}
 
 -- a fresh reply that is due is among all
 is_fresh : {V : Type 0} (step : Step V) (e : EncoderState V) (s : List ℕ) (place : ℕ) (reply : List ℕ) →

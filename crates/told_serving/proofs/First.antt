@@ -7,16 +7,13 @@ use Rattle.uecp_encoder.specs.Target.{Step}
 use Rattle.uecp_encoder.specs.State.{EncoderState, fed}
 use Rattle.uecp_encoder.specs.Answering.{Response, Replied, responses, responses_to, bytes_sent, answers}
 use Rattle.uecp_encoder.specs.Serving.{replies_among, StopsWriting}
-use Rattle.uecp_encoder.proofs.InPieces.{in_pieces_of_encoder}
-use Rattle.uecp_encoder.proofs.InParts.{fed_none}
+use Rattle.uecp_encoder.proofs.Public.{in_pieces_of_encoder, fed_none}
 use Rattle.kept_serving.specs.Keeping.{Kept, kept_of, Settled, Outlives}
 use Rattle.kept_serving.specs.Serving.{fresh_among, StopsSaving, SavesFor}
 use Rattle.kept_serving.specs.Parts.{Keeps, Breaks, Takes, SavesUpTo}
 use Rattle.told_serving.specs.Parts.{Owed, NoReply, KeptReply, FreshReply, due_bytes, due_replies, IsDue, IsKeptFor}
 use Rattle.told_serving.specs.Parts.{IsNotKeptFor}
-use Rattle.kept_serving.proofs.Unchanged.{unchanged, fresh_on}
-use Rattle.kept_serving.proofs.Saving.{saves_none, saves_quiet, saves_one}
-use Rattle.kept_serving.proofs.Beginnings.{starts_taken}
+use Rattle.kept_serving.proofs.Public.{unchanged, fresh_on, saves_none, saves_quiet, saves_one, starts_taken}
 
 -- ---- what is due, as bytes and as a number
 due_sent : (rs : List Response) (d : Owed) → IsDue rs d → flat_map bytes_sent rs ≡ due_bytes d

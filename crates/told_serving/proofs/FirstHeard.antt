@@ -14,12 +14,12 @@ use Rattle.uecp_frame.specs.declared.fault.FrameFault.{FrameFault}
 use Rattle.uecp_frame.specs.Findings.{Finding, OpenPart}
 use Rattle.uecp_frame.specs.Feeding.{findings_of, Feeds}
 use Rattle.uecp_frame.specs.Beyond.{found_beyond, open_beyond}
-use Rattle.uecp_frame.proofs.Pieces.{in_pieces_lem}
+use Rattle.uecp_frame.proofs.Public.{in_pieces_lem}
 use Rattle.uecp_encoder.specs.Target.{Step}
 use Rattle.uecp_encoder.specs.State.{EncoderState, after_finding, after_findings, fed}
 use Rattle.uecp_encoder.specs.Answering.{Response, Replied, response_to, responses}
 use Rattle.uecp_encoder.specs.Answering as answering
-use Rattle.uecp_encoder.proofs.InPieces.{findings_open}
+use Rattle.uecp_encoder.proofs.Public.{findings_open}
 use Rattle.told_serving.specs.declared.listener.Event.{Event}
 use Rattle.told_serving.specs.declared.listener.Answered.{Answered}
 use Rattle.told_serving.specs.declared.listener.Answered.TheVariants.{New, Repeat, NotNext, Unnumbered, NotForMe}

@@ -5,12 +5,12 @@ use Rattle.std.proofs.Common.{arith, Ok, Err}
 use Rattle.std.proofs.Math.Seq.{take-append-add, drop-append-add}
 use Rattle.uecp_frame.specs.Findings.{Finding, OpenPart}
 use Rattle.uecp_frame.specs.Beyond.{found_beyond, open_beyond}
-use Rattle.uecp_frame.proofs.Pieces.{in_pieces_lem, new_start_lem}
+use Rattle.uecp_frame.proofs.Public.{in_pieces_lem, new_start_lem}
 use Rattle.uecp_encoder.specs.Target.{Step}
 use Rattle.uecp_encoder.specs.State.{EncoderState, after_finding, after_findings, fed}
 use Rattle.uecp_encoder.specs.Answering.{response_to}
-use Rattle.uecp_encoder.proofs.InPieces.{findings_open}
-use Rattle.kept_serving.proofs.Beginnings.{fed_on_is}
+use Rattle.uecp_encoder.proofs.Public.{findings_open}
+use Rattle.kept_serving.proofs.Public.{fed_on_is}
 use Rattle.told_serving.specs.declared.listener.Event.{Event}
 use Rattle.told_serving.specs.declared.answering.Stop.{Stop}
 use Rattle.told_serving.specs.declared.answering.Stop.TheVariants as stop

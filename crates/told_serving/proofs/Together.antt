@@ -6,17 +6,14 @@ use Rattle.uecp_encoder.specs.Target.{Step}
 use Rattle.uecp_encoder.specs.State.{EncoderState, fed}
 use Rattle.uecp_encoder.specs.Answering.{Replied, responses_to, answers}
 use Rattle.uecp_encoder.specs.Serving.{AnswersAll, StopsWriting}
-use Rattle.uecp_encoder.proofs.InPieces.{in_pieces_of_encoder}
-use Rattle.uecp_encoder.proofs.InParts.{sends_nothing, sends_on, stops_on}
+use Rattle.uecp_encoder.proofs.Public.{in_pieces_of_encoder, sends_nothing, sends_on, stops_on}
 use Rattle.told_serving.specs.declared.answering.Stop.{Stop}
 use Rattle.told_serving.specs.declared.answering.Stop.TheVariants as stop
 use Rattle.kept_serving.specs.Keeping.{Kept}
 use Rattle.kept_serving.specs.Serving.{fresh_among, StopsSaving, SavesFor}
 use Rattle.kept_serving.specs.Parts.{Keeps, Breaks, Takes}
 use Rattle.told_serving.specs.Parts.{StopsAt, stopped_after}
-use Rattle.kept_serving.proofs.Together.{saving_on, keeps_on}
-use Rattle.kept_serving.proofs.Saving.{saves_on}
-use Rattle.kept_serving.proofs.Beginnings.{outlives_on}
+use Rattle.kept_serving.proofs.Public.{saving_on, keeps_on, saves_on, outlives_on}
 
 module _ {V K : Type 0} (step : Step V) (leaves : K → Kept V → Type 0) (is_clean : K → Type 0)
     (saves fails : K → Kept V → K → Type 0) where

@@ -6,7 +6,7 @@ use Rattle.uecp_elements.specs.declared.fault.ElementFault.{ElementFault}
 use Rattle.uecp_elements.specs.Codes.{byte_of}
 use Rattle.uecp_elements.specs.Grammar.{Element, spelling, IsElement, Spells, BeginsWithNone, Reads}
 use Rattle.uecp_elements.specs.Reading.{Item, items_of, IsRead}
-use Rattle.uecp_elements.proofs.Items.{spelling_some}
+use Rattle.uecp_elements.proofs.Public.{spelling_some}
 use Rattle.uecp_c.specs.Elements.{fault_byte}
 
 -- what an element's spelling at the front is

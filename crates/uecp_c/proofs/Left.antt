@@ -10,10 +10,9 @@ use Rattle.uecp_frame.specs.Stuffing.{is_delimiter}
 use Rattle.uecp_frame.specs.Findings.{OpenPart, Closed, found, open_bytes, open_part, open_from}
 use Rattle.uecp_frame.specs.Beyond.{found_beyond}
 use Rattle.uecp_frame.specs.Feeding.{Feeds, findings_of}
-use Rattle.uecp_frame.proofs.Delimiters.{HasNone, open_bytes-here, open_bytes-later, open_bytes-other, open_bytes-nil}
-use Rattle.uecp_frame.proofs.Delimiters.{segment_found-none}
-use Rattle.uecp_frame.proofs.Future.{found-nil, found-start, found-none}
-use Rattle.uecp_frame.proofs.Pieces.{comes_after_lem, new_start_lem}
+use Rattle.uecp_frame.proofs.Public.{HasNone, open_bytes-here, open_bytes-later, open_bytes-other, open_bytes-nil}
+use Rattle.uecp_frame.proofs.Public.{segment_found-none, found-nil, found-start, found-none, comes_after_lem}
+use Rattle.uecp_frame.proofs.Public.{new_start_lem}
 use Rattle.uecp_c.specs.Findings.{open_length, segment_length}
 
 -- ---- a segment that has not ended, as the end of bytes

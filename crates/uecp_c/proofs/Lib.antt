@@ -1,3 +1,4 @@
 pub mod Opened
 pub mod Left
 pub mod FirstItem
+pub mod Counters

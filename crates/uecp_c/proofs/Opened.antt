@@ -5,8 +5,8 @@ use Rattle.std.proofs.Common.{None, length, length-append}
 use Rattle.std.specs.Option.{option_map}
 use Rattle.std.proofs.lemmas.Bool.{ne_eqb}
 use Rattle.uecp_frame.specs.Findings.{open_bytes}
-use Rattle.uecp_frame.proofs.Delimiters.{HasNone, open_bytes-here, open_bytes-other, open_bytes-append_one}
-use Rattle.uecp_frame.proofs.Delimiters.{open_bytes-append_none, open_bytes-nil}
+use Rattle.uecp_frame.proofs.Public.{HasNone, open_bytes-here, open_bytes-other, open_bytes-append_one}
+use Rattle.uecp_frame.proofs.Public.{open_bytes-append_none, open_bytes-nil}
 use Rattle.uecp_c.specs.Findings.{segment_length, open_length}
 
 -- no bytes leave none open

@@ -3,8 +3,8 @@ use Rattle.std.specs.Prelude.{◌≡◌, ℕ, ◌+◌, List, ◌++◌, length, t
 use Rattle.uecp_frame.specs.declared.fed.Fed.{Fed}
 use Rattle.uecp_frame.specs.Findings.{OpenPart, Closed, found, open_bytes}
 use Rattle.uecp_frame.specs.Feeding.{Feeds, findings_of}
-use Rattle.c_findings.specs.declared.finding.Finding.{Finding}
-use Rattle.c_findings.specs.Findings.{shown}
+use Rattle.c_values.specs.declared.finding.Finding.{Finding}
+use Rattle.c_values.specs.Findings.{shown}
 
 -- How many bytes belong to a segment that has not ended: its FE and those behind it.
 abbrev pub segment_length : Option (List ℕ) → ℕ

@@ -4,11 +4,11 @@ ghost use Rattle.std.specs.Prelude.{◌≡◌, ◌++◌, ℕ, List, length, IfOk
 ghost use Rattle.uecp_elements.specs.Codes.{byte_of};
 ghost use Rattle.uecp_elements.specs.Grammar.{IsElement, spelling, BeginsWithNone};
 ghost use Rattle.uecp_elements.specs.View.{element_of};
-ghost use Rattle.c_buffers.specs.Buffers.{filled};
+ghost use Rattle.c_values.specs.Buffers.{filled};
 ghost use Rattle.uecp_c.specs.Elements.{element_bytes, fault_byte, ReadsFirst};
 
 use crate::plain_element::{PlainElement, show_element, told_element};
-use c_buffers::put;
+use c_values::buffer::put;
 use uecp_elements::{Code, Element, elements, push_element};
 use uecp_frame::Message;
 

@@ -1,10 +1,10 @@
 //! Names by their numbers. Source: profile.
 ghost use Rattle.std.specs.Prelude.{◌≡◌, length};
 ghost use Rattle.std.specs.Option.{option_map};
-ghost use Rattle.c_buffers.specs.Buffers.{filled};
+ghost use Rattle.c_values.specs.Buffers.{filled};
 ghost use Rattle.uecp_c.specs.Names.{fault_of, fault_name, code_name, byte_name};
 
-use c_buffers::put;
+use c_values::buffer::put;
 use uecp_elements::Code;
 use uecp_frame::FrameFault;
 

@@ -8,8 +8,8 @@ use Rattle.uecp_text.specs.declared.run_fault.RunFault.{RunFault}
 use Rattle.uecp_text.specs.Faults.{Fails, error_lines}
 use Rattle.uecp_text.specs.Written.{Begins}
 use Rattle.kept_serving.specs.Keeping as serving
-use Rattle.kept_sending.specs.declared.keep.Progress.{Progress}
-use Rattle.kept_sending.specs.Keeping as sending
+use Rattle.uecp_net.specs.declared.saved.keep.Progress.{Progress}
+use Rattle.uecp_net.specs.Keeping as sending
 use Rattle.kept_jobs.specs.Stops.{state_line}
 use Rattle.kept_jobs.specs.ServerKept.{IsReadWith}
 use Rattle.state_files.specs.declared.fault.StateFault.{StateFault}

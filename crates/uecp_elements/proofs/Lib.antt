@@ -1,3 +1,4 @@
 pub mod CodeBytes
 pub mod First
 pub mod Items
+pub mod Public

@@ -12,20 +12,20 @@
 
 mod code;
 mod element;
+mod element_bytes;
+mod element_reader;
 mod fault;
 mod first_byte;
 mod front;
 pub mod laws;
 mod part;
-mod reading;
 mod start;
-mod writing;
 
 pub use code::Code;
 pub use element::Element;
+pub use element_bytes::push_element;
+pub use element_reader::Elements;
 pub use fault::ElementFault;
 pub use first_byte::ACK;
 pub use part::{RtPart, TEXT_MAX};
-pub use reading::Elements;
 pub use start::elements;
-pub use writing::push_element;

@@ -3,7 +3,7 @@ ghost use Rattle.std.specs.Prelude.{◌≡◌};
 ghost use Rattle.std.specs.List.{AllByRecursion};
 ghost use Rattle.uecp_elements.specs.Reading.{items, IsRead, IsItem};
 
-use crate::reading::Elements;
+use crate::element_reader::Elements;
 
 /// The elements of a message in order, and its fault last. The empty message has none.
 ///

@@ -4,7 +4,7 @@ use Rattle.std.proofs.Common.{ap, sym, arith, length-append, take-append-drop}
 use Rattle.std.proofs.Math.Seq.{take-append-add}
 use Rattle.std.proofs.lemmas.List.{take-append-le}
 use Rattle.uecp_frame.specs.Beyond.{found_beyond, open_beyond}
-use Rattle.uecp_frame.proofs.Pieces.{new_start_lem}
+use Rattle.uecp_frame.proofs.Public.{new_start_lem}
 use Rattle.uecp_encoder.specs.declared.answer.Answer.{Answer}
 use Rattle.uecp_encoder.specs.Target.{Step}
 use Rattle.uecp_encoder.specs.State.{EncoderState, after_findings, fed}

@@ -10,8 +10,7 @@ use Rattle.uecp_frame.specs.Address.{reaches}
 use Rattle.uecp_frame.specs.Frame.{spelling}
 use Rattle.uecp_frame.specs.Findings.{Finding, OpenPart, Closed, Doomed, Part, has_frame, found, open_part}
 use Rattle.uecp_frame.specs.Beyond.{found_beyond, open_beyond, unended}
-use Rattle.uecp_frame.proofs.Pieces.{in_pieces_lem, new_start_lem, comes_after_lem}
-use Rattle.uecp_frame.proofs.HeardLemmas.{always_heard_lem}
+use Rattle.uecp_frame.proofs.Public.{in_pieces_lem, new_start_lem, comes_after_lem, always_heard_lem}
 use Rattle.uecp_encoder.specs.Target.{Step}
 use Rattle.uecp_encoder.specs.State.{EncoderState, raised, is_next, applied, numbered, after_finding, after_findings}
 use Rattle.uecp_encoder.specs.State.{fed}

@@ -6,3 +6,4 @@ pub mod Joining
 pub mod InPieces
 pub mod Damage
 pub mod InParts
+pub mod Public

@@ -7,8 +7,7 @@ use Rattle.uecp_elements.specs.Codes.{byte_of}
 use Rattle.uecp_frame.specs.Stuffing.{code, stuffed}
 use Rattle.uecp_frame.specs.Check.{check}
 use Rattle.uecp_frame.specs.Frame.{body, plain_bytes, spelling}
-use Rattle.uecp_frame.proofs.Codes.{stuffed-cons, code-plain, length-code-le}
-use Rattle.uecp_frame.proofs.Resumed.{length-stuffed-le}
+use Rattle.uecp_frame.proofs.Public.{stuffed-cons, code-plain, length-code-le, length-stuffed-le}
 use Rattle.uecp_encoder.specs.Answering.{reply_of}
 
 -- bytes below FD are sent as they are

@@ -16,7 +16,7 @@ use crate::answer::{Answer, Coded, ReplyBytes, What};
 use crate::counts::Counts;
 use crate::holdings::Holdings;
 use crate::outcome::{FedOutcome, Outcome};
-use crate::replying::spell_reply;
+use crate::reply_frame::spell_reply;
 use crate::target::Target;
 use rds_store::Group;
 use reply_ring::ReplyRing;

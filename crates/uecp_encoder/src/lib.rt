@@ -23,7 +23,7 @@ mod holdings;
 pub mod laws;
 mod meter;
 mod outcome;
-mod replying;
+mod reply_frame;
 mod serving;
 mod target;
 
@@ -32,6 +32,6 @@ pub use counts::Counts;
 pub use encoder::{Encoder, EncoderFault};
 pub use meter::{Failed, Meter};
 pub use outcome::{FedOutcome, Outcome};
-pub use replying::spell_reply;
+pub use reply_frame::spell_reply;
 pub use serving::{ServeFault, Served, serve};
 pub use target::Target;

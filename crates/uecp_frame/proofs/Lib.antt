@@ -16,3 +16,4 @@ pub mod Steps
 pub mod Register
 pub mod Sending
 pub mod Table
+pub mod Public

@@ -2,7 +2,7 @@
 use crate::fault::FrameFault;
 use crate::fed::Fed;
 use crate::fed_ref::{FedRef, FoundRef};
-use crate::lending::{address_in, found_of, lent};
+use crate::lent_segment::{address_in, found_of, lent};
 use crate::open_segment::OpenSegment;
 use std::marker::Model;
 

@@ -3,8 +3,8 @@
 use crate::address::Address;
 use crate::fault::FrameFault;
 use crate::frame::{END, PlainBytes, START};
-use crate::judging::judge;
-use crate::searching::first_start;
+use crate::search::first_start;
+use crate::verdict::judge;
 
 /// What bytes ended. Of a frame, the plain bytes stand in the segment.
 #[derive(Clone, Copy, Debug)]

@@ -12,8 +12,7 @@ use Rattle.uecp_link.specs.Headline.{IsHeadline}
 use Rattle.uecp_link.specs.Replacing.{Replaces}
 use Rattle.uecp_encoder.specs.State.{EncoderState}
 use Rattle.uecp_link.specs.Holds.{Plays as PlaysSteps}
-use Rattle.uecp_link.proofs.Opening.{holds_from, new_holds}
-use Rattle.uecp_link.proofs.Played.{headline, headline_from}
+use Rattle.uecp_link.proofs.Public.{holds_from, new_holds, headline, headline_from}
 use Rattle.uecp_text.specs.declared.run_fault.RunFault.{RunFault}
 use Rattle.uecp_text.specs.declared.run_fault.RunFault.TheVariants as RunFaults
 use Rattle.uecp_text.specs.Words.{words}

@@ -7,8 +7,8 @@ use Rattle.uecp_text.specs.declared.run_fault.RunFault.{RunFault}
 use Rattle.uecp_text.specs.declared.run_fault.RunFault.TheVariants as run
 use Rattle.uecp_text.specs.Faults.{status_of}
 use Rattle.uecp_text.specs.Written.{Begins}
-use Rattle.uecp_net.specs.declared.sending.Outstanding.{Outstanding}
-use Rattle.uecp_net.specs.declared.sending.Outstanding.TheVariants.{TriesSpent, ConnectionFailed}
+use Rattle.uecp_net.specs.declared.sender.Outstanding.{Outstanding}
+use Rattle.uecp_net.specs.declared.sender.Outstanding.TheVariants.{TriesSpent, ConnectionFailed}
 use Rattle.uecp_net.specs.Sending.{SenderOver}
 use Rattle.uecp_jobs.specs.Batches.{fault_of, Tells, AreBatches, lines_of_batches}
 use Rattle.uecp_jobs.specs.JoiningFirst.{joined_line, not_joined_line, joining_line, joining_end, Joins, JoinsFirst}

@@ -18,3 +18,4 @@ pub mod WrittenTokens
 pub mod WrittenLines
 pub mod ScriptTexts
 pub mod RemadeInWords
+pub mod Public

@@ -4,12 +4,12 @@ use Rattle.uecp_frame.specs.declared.fed.Fed.{Fed}
 use Rattle.uecp_frame.specs.Findings.{OpenPart}
 use Rattle.uecp_frame.specs.Beyond.{found_beyond, open_beyond}
 use Rattle.uecp_frame.specs.Feeding.{Feeds, findings_of}
-use Rattle.uecp_frame.proofs.Pieces.{in_pieces_lem, new_start_lem}
+use Rattle.uecp_frame.proofs.Public.{in_pieces_lem, new_start_lem}
 use Rattle.rds_store.specs.Value.{Store}
 use Rattle.rds_store.specs.Step.{step}
 use Rattle.uecp_encoder.specs.State.{EncoderState, after_findings, fed}
 use Rattle.uecp_encoder.specs.Answering.{responses, responses_to}
-use Rattle.uecp_encoder.proofs.InPieces.{in_pieces_of_encoder}
+use Rattle.uecp_encoder.proofs.Public.{in_pieces_of_encoder}
 
 pub found_on : (o o' : OpenPart) (f : Fed) (rest rest' : List ℕ) → Feeds o rest f o' → rest' ≡ drop f.used rest
     → found_beyond o rest ≡ findings_of f.found ++ found_beyond o' rest'

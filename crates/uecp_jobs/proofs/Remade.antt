@@ -8,7 +8,7 @@ use Rattle.uecp_elements.specs.Grammar.{Element, IsElement, AreBytes, EndsWith, 
 use Rattle.uecp_elements.specs.declared.fault.ElementFault.{ElementFault}
 use Rattle.uecp_text.specs.declared.text_fault.TextFault.{TextFault}
 use Rattle.uecp_elements.specs.Reading.{Item, items, fault_item}
-use Rattle.uecp_elements.proofs.Items.{has_reading}
+use Rattle.uecp_elements.proofs.Public.{has_reading}
 use Rattle.uecp_lines.specs.Lines.{element_words, item_line, frame_lines}
 use Rattle.uecp_text.specs.declared.run_fault.RunFault.{RunFault}
 use Rattle.uecp_text.specs.Digits.{byte_word, number_word}
@@ -16,9 +16,7 @@ use Rattle.uecp_text.specs.Input.{lines_of, numbered}
 use Rattle.uecp_text.specs.Run.{Runs}
 use Rattle.uecp_text.specs.Words.{words}
 use Rattle.uecp_words.specs.ScriptWords.{Line, Begins, Extends, Says}
-use Rattle.uecp_words.proofs.Shown.{named_as_shown, begun_as_shown}
-use Rattle.uecp_words.proofs.ShownLines.{element_line, frame_line}
-use Rattle.uecp_words.proofs.OneMeaning.{one_meaning}
+use Rattle.uecp_words.proofs.Public.{named_as_shown, begun_as_shown, element_line, frame_line, one_meaning}
 use Rattle.uecp_jobs.specs.FrameScript.{Makes, Does, IsUndone, spelled_line, extended}
 use Rattle.uecp_jobs.specs.Remade.{IsWhole, IsRemade, spelled_lines}
 

@@ -11,7 +11,7 @@ use Rattle.uecp_text.specs.Input.{lines_of, numbered}
 use Rattle.uecp_text.specs.Run.{Runs}
 use Rattle.phrase_scripts.specs.Lines.{Line, Begins, Says, SaysLine, heading_line, message_line, message_text}
 use Rattle.phrase_scripts.specs.Lines.{frame_lines, finding_lines}
-use Rattle.phrase_scripts.proofs.ReadAsWritten.{read_as_written}
+use Rattle.phrase_scripts.proofs.Public.{read_as_written}
 use Rattle.uecp_jobs.specs.FrameScript.{spelled_line}
 use Rattle.uecp_jobs.specs.PhraseScript.{Heading, left_line, DoesPhrase, MakesWords, first_heading}
 use Rattle.uecp_jobs.specs.Remade.{spelled_lines}

@@ -7,12 +7,12 @@ use Rattle.hex.specs.Hex.{decode_sized}
 use Rattle.uecp_frame.specs.Frame.{high_first}
 use Rattle.rds_text.specs.declared.programme_type.Region.{Region}
 use Rattle.phrase_tokens.specs.Tokens.{Token, Word}
-use Rattle.phrase_tokens.proofs.OneReading.{one_reading}
+use Rattle.phrase_tokens.proofs.Public.{one_reading}
 use Rattle.uecp_phrases.specs.declared.head.Head.{Head}
 use Rattle.uecp_phrases.specs.declared.head.Head.TheVariants as head
 use Rattle.uecp_phrases.specs.Phrases.{head_word, set_said, service_said, IsPhrase}
 use Rattle.uecp_phrases.specs.Lines.{AddsBytes, AddEach, phrases_in, Say}
-use Rattle.uecp_phrases.proofs.Cutting.{adds_one}
+use Rattle.uecp_phrases.proofs.Public.{adds_one}
 use Rattle.phrase_scripts.specs.Lines.{Line, Begins, Says, AreFrame, Tell, SaysLine}
 
 -- ---- With what a phrase begins.

@@ -17,23 +17,18 @@ use Rattle.uecp_frame.specs.Frame.{high_first}
 use Rattle.uecp_elements.specs.declared.fault.ElementFault.{ElementFault}
 use Rattle.uecp_elements.specs.Grammar.{Element, Pi, IsElement, AreBytes, EndsWith, spelling}
 use Rattle.uecp_elements.specs.Reading.{Item, fault_item}
-use Rattle.uecp_elements.proofs.Items.{has_reading}
+use Rattle.uecp_elements.proofs.Public.{has_reading}
 use Rattle.rds_text.specs.declared.programme_type.Region.{Region}
 use Rattle.rds_text.specs.declared.programme_type.Region.TheVariants.{Europe}
 use Rattle.uecp_text.specs.Digits.{byte_word, number_word, decimal_word}
 use Rattle.uecp_text.specs.Input.{lines_of, numbered}
 use Rattle.uecp_lines.specs.Lines.{place_words}
-use Rattle.uecp_words.proofs.Shown.{number_spelled, byte_spelled}
+use Rattle.uecp_words.proofs.Public.{number_spelled, byte_spelled}
 use Rattle.phrase_tokens.specs.Tokens.{Token, Word, Lays, IsToken, is_word_character, written_behind, written_tokens}
-use Rattle.phrase_tokens.proofs.Characters.{OfWord, of_word, both}
-use Rattle.phrase_tokens.proofs.ReadBack.{read_back}
-use Rattle.phrase_tokens.proofs.Unicode.{through_utf8}
+use Rattle.phrase_tokens.proofs.Public.{OfWord, of_word, both, read_back, through_utf8}
 use Rattle.uecp_phrases.specs.Written.{number_token, byte_token, phrase_of, phrase_of_item, joined_behind, joined}
 use Rattle.uecp_phrases.specs.Written.{line_of}
-use Rattle.uecp_phrases.proofs.LineTokens.{line_writable}
-use Rattle.uecp_phrases.proofs.Said.{said_as_written}
-use Rattle.uecp_phrases.proofs.SaidMessages.{bytes_left}
-use Rattle.uecp_phrases.proofs.SaidTokens.{is_one, byte_is, writable}
+use Rattle.uecp_phrases.proofs.Public.{line_writable, said_as_written, bytes_left, is_one, byte_is, writable}
 use Rattle.phrase_scripts.specs.Lines.{Begins, SaysLine, message_text, message_line, heading_line, finding_lines}
 use Rattle.uecp_jobs.proofs.SaidOnce.{Opens, phrase_opens}
 use Rattle.uecp_jobs.proofs.WrittenTokens.{AreShown, shown_then}

@@ -11,9 +11,9 @@ use Rattle.uecp_text.specs.declared.run_fault.RunFault.{RunFault}
 use Rattle.uecp_text.specs.declared.run_fault.RunFault.TheVariants as run
 use Rattle.uecp_text.specs.Faults.{status_of}
 use Rattle.uecp_text.specs.Written.{Begins}
-use Rattle.uecp_text.proofs.Begun.{begun_on}
-use Rattle.uecp_net.specs.declared.sending.Outstanding.{Outstanding}
-use Rattle.uecp_net.specs.declared.sending.Outstanding.TheVariants.{TriesSpent, ConnectionFailed}
+use Rattle.uecp_text.proofs.Public.{begun_on}
+use Rattle.uecp_net.specs.declared.sender.Outstanding.{Outstanding}
+use Rattle.uecp_net.specs.declared.sender.Outstanding.TheVariants.{TriesSpent, ConnectionFailed}
 use Rattle.uecp_net.specs.Sending.{SenderOver}
 use Rattle.uecp_jobs.specs.Batches.{batch_lines, fault_of, Acknowledges, SendsBatch, SendsOut, AreBatches}
 use Rattle.uecp_jobs.specs.Batches.{lines_of_batches}

@@ -9,7 +9,7 @@ use Rattle.uecp_text.specs.Input.{texts_of}
 use Rattle.uecp_text.specs.Run.{StopsReading}
 use Rattle.uecp_text.specs.Written.{Begins}
 use Rattle.uecp_link.specs.Server.{ServerState, idle_at}
-use Rattle.uecp_net.specs.declared.sending.Limits.{Limits}
+use Rattle.uecp_net.specs.declared.sender.Limits.{Limits}
 use Rattle.uecp_net.specs.Sending.{SenderState, SenderOver}
 use Rattle.uecp_jobs.specs.declared.job.Job.{Job}
 use Rattle.uecp_jobs.specs.declared.job.Job.TheVariants.{Server}

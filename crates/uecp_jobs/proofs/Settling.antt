@@ -3,9 +3,9 @@ use Rattle.std.proofs.Common.{◌≡◌, ◌≢◌, ℕ, ◌≤◌, List, [], le
 use Rattle.std.proofs.Common.{inr, arith}
 use Rattle.uecp_text.specs.declared.run_fault.RunFault.{RunFault}
 use Rattle.uecp_link.specs.Server.{waiting}
-use Rattle.uecp_net.specs.declared.sending.Outstanding.{Outstanding}
-use Rattle.uecp_net.specs.declared.sending.Outstanding.TheVariants.{ConnectionFailed}
-use Rattle.uecp_net.specs.declared.sending.Settled.{Settled}
+use Rattle.uecp_net.specs.declared.sender.Outstanding.{Outstanding}
+use Rattle.uecp_net.specs.declared.sender.Outstanding.TheVariants.{ConnectionFailed}
+use Rattle.uecp_net.specs.declared.sender.Settled.{Settled}
 use Rattle.uecp_net.specs.Sending.{SenderState, SenderOver, Marks, Delivers, AreTold, AreFreed, StillWait}
 use Rattle.uecp_net.specs.Sending.{submitted_all}
 use Rattle.uecp_jobs.specs.Batches.{SendsBatch, Tells, settled_lines, ended_by}

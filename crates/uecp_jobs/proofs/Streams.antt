@@ -4,10 +4,10 @@ use Rattle.std.proofs.lemmas.Grind.{flat_map-append}
 use Rattle.rds_store.specs.Step.{step}
 use Rattle.uecp_frame.specs.Findings.{OpenPart, Closed, Finding}
 use Rattle.uecp_frame.specs.Beyond.{found_beyond, open_beyond}
-use Rattle.uecp_frame.proofs.Pieces.{in_pieces_lem, new_start_lem}
+use Rattle.uecp_frame.proofs.Public.{in_pieces_lem, new_start_lem}
 use Rattle.uecp_encoder.specs.State.{fed}
 use Rattle.uecp_encoder.specs.Answering.{responses_to}
-use Rattle.uecp_encoder.proofs.InPieces.{in_pieces_of_encoder}
+use Rattle.uecp_encoder.proofs.Public.{in_pieces_of_encoder}
 use Rattle.uecp_text.specs.declared.run_fault.RunFault.TheVariants.{Text}
 use Rattle.uecp_text.specs.Run.{Runs}
 use Rattle.uecp_jobs.specs.Commands.{ShowsIn}

@@ -8,8 +8,8 @@ use Rattle.std.specs.Str.{encode_utf8_all}
 use Rattle.uecp_text.specs.Input.{lines_of, numbered, said, under, ends_in, without_end, is_space, trimmed}
 use Rattle.uecp_text.specs.Input.{unless_comment}
 use Rattle.phrase_tokens.specs.Tokens.{Token, IsToken, written_behind, written_tokens}
-use Rattle.phrase_tokens.proofs.Characters.{both}
-use Rattle.store_phrases.proofs.Heard.{Begins, Ends, heard_whole}
+use Rattle.phrase_tokens.proofs.Public.{both}
+use Rattle.store_phrases.proofs.Public.{Begins, Ends, heard_whole}
 use Rattle.uecp_jobs.proofs.SaidOnce.{Opens, is_opening}
 use Rattle.uecp_jobs.proofs.WrittenTokens.{AreShown, tokens_shown, bytes_shown, bytes_end, row_ends}
 

@@ -13,8 +13,8 @@ use Rattle.rds_text.specs.BasicSet.{upper, character_of}
 use Rattle.rds_text.specs.Quoted.{written, hex_digit}
 use Rattle.phrase_tokens.specs.Tokens.{Token, Word, Quoted, Semicolon, IsToken, is_word_character, written_token}
 use Rattle.phrase_tokens.specs.Tokens.{written_behind, written_tokens}
-use Rattle.phrase_tokens.proofs.Characters.{OfWord, of_word, both}
-use Rattle.store_phrases.proofs.Heard.{Ends}
+use Rattle.phrase_tokens.proofs.Public.{OfWord, of_word, both}
+use Rattle.store_phrases.proofs.Public.{Ends}
 
 -- a number that is no control character's
 abbrev pub IsShown : ℕ → Type 0

@@ -4,8 +4,8 @@ use Rattle.std.specs.Io.KnownBytes.{Appends}
 use Rattle.uecp_text.specs.declared.run_fault.RunFault.{RunFault}
 use Rattle.uecp_text.specs.declared.run_fault.RunFault.TheVariants as run
 use Rattle.uecp_text.specs.Written.{Begins}
-use Rattle.uecp_net.specs.declared.sending.Outstanding.{Outstanding}
-use Rattle.uecp_net.specs.declared.sending.Outstanding.TheVariants.{ConnectionFailed}
+use Rattle.uecp_net.specs.declared.sender.Outstanding.{Outstanding}
+use Rattle.uecp_net.specs.declared.sender.Outstanding.TheVariants.{ConnectionFailed}
 use Rattle.uecp_net.specs.Sending.{SenderOver, HangsUp}
 use Rattle.uecp_net.specs.Joining.{JoinsOver}
 use Rattle.uecp_jobs.specs.Batches.{fault_of, Tells}

@@ -10,7 +10,7 @@ use Rattle.uecp_text.specs.Faults.{error_lines}
 use Rattle.uecp_text.specs.Input.{texts_of}
 use Rattle.uecp_text.specs.Run.{IsInput, IsUnread}
 use Rattle.uecp_text.specs.Written.{Begins}
-use Rattle.uecp_net.specs.declared.sending.Limits.{Limits}
+use Rattle.uecp_net.specs.declared.sender.Limits.{Limits}
 use Rattle.uecp_net.specs.Sending.{SenderState, SenderOver, HangsUp}
 use Rattle.uecp_jobs.specs.declared.job.Job.{Job}
 use Rattle.uecp_jobs.specs.declared.job.Job.TheVariants.{Server}

@@ -3,3 +3,4 @@ pub mod Objects
 pub mod Places
 pub mod OneLine
 pub mod ReadBack
+pub mod Public

@@ -7,7 +7,7 @@ use Rattle.serde_json.specs.Written.{compact_text, members_text}
 use Rattle.uecp_json.specs.Objects.{Field, members_of, object_of, in_decimal, line_of}
 use Rattle.uecp_json.specs.Texts.{first_text, field_text, fields_text, opening_text}
 use Rattle.uecp_text.specs.Written.{Kept, Adds}
-use Rattle.uecp_text.proofs.Leading.{adds_then}
+use Rattle.uecp_text.proofs.Public.{adds_then}
 
 -- Further members and the brace behind them.
 rest_text : (fields : List Field) → members_text true (members_of fields) ≡ fields_text fields ++ codes "}"

@@ -16,7 +16,7 @@ use Rattle.rds_text.specs.BasicSet.{character_of, upper}
 use Rattle.rds_text.specs.Quoted.{written}
 use Rattle.uecp_json.specs.Texts.{is_plain_byte, is_plain}
 use Rattle.uecp_text.specs.Written.{Kept, Adds}
-use Rattle.uecp_text.proofs.Leading.{adds_then}
+use Rattle.uecp_text.proofs.Public.{adds_then}
 
 -- ---- Bytes and texts that need no escape.
 

@@ -10,7 +10,7 @@ use Rattle.uecp_elements.specs.declared.code.Code.{Code}
 use Rattle.uecp_frame.specs.declared.frame.Frame.{Frame}
 use Rattle.uecp_frame.specs.Findings.{Finding, OpenPart}
 use Rattle.uecp_frame.specs.Beyond.{found_beyond, open_beyond}
-use Rattle.uecp_frame.proofs.Pieces.{in_pieces_lem, new_start_lem}
+use Rattle.uecp_frame.proofs.Public.{in_pieces_lem, new_start_lem}
 use Rattle.uecp_encoder.specs.State.{raised}
 use Rattle.uecp_link.specs.declared.counts.ServerCounts.{ServerCounts}
 use Rattle.uecp_link.specs.Server.{ServerState, Held, waiting, acknowledges, freed, heard_finding, heard_findings}

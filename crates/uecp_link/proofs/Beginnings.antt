@@ -5,9 +5,7 @@ use Rattle.uecp_frame.specs.declared.frame.Frame.{Frame}
 use Rattle.uecp_frame.specs.Frame.{spelling}
 use Rattle.uecp_frame.specs.Findings.{Finding, Closed}
 use Rattle.uecp_frame.specs.Beyond.{found_beyond, open_beyond}
-use Rattle.uecp_frame.proofs.Pieces.{in_pieces_lem, new_start_lem}
-use Rattle.uecp_frame.proofs.HeardLemmas.{always_heard_lem}
-use Rattle.uecp_frame.proofs.PassedOver.{passed_over_lem}
+use Rattle.uecp_frame.proofs.Public.{in_pieces_lem, new_start_lem, always_heard_lem, passed_over_lem}
 
 -- Bytes that are cut in two, and the same bytes cut elsewhere.
 data Cut (x y a b : List ℕ) : Type 0 where

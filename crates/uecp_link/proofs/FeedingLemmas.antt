@@ -11,10 +11,10 @@ use Rattle.uecp_frame.specs.Findings.{Finding, OpenPart}
 use Rattle.uecp_frame.specs.Beyond.{found_beyond, open_beyond}
 use Rattle.uecp_frame.specs.declared.fed.Fed.{Fed}
 use Rattle.uecp_frame.specs.Feeding.{Feeds, findings_of}
-use Rattle.uecp_frame.proofs.Pieces.{in_pieces_lem, new_start_lem}
+use Rattle.uecp_frame.proofs.Public.{in_pieces_lem, new_start_lem}
 use Rattle.uecp_encoder.specs.Target.{Step}
 use Rattle.uecp_encoder.specs.State.{EncoderState, after_finding, after_findings, fed}
-use Rattle.uecp_encoder.proofs.InPieces.{in_pieces_of_encoder, findings_open, fed-part}
+use Rattle.uecp_encoder.proofs.Public.{in_pieces_of_encoder, findings_open, fed-part}
 use Rattle.uecp_link.specs.declared.heard.HeardWhat.{HeardWhat}
 use Rattle.uecp_link.specs.Server.{ServerState, acknowledges, freed, heard_finding, heard_findings, heard, heard_as}
 use Rattle.uecp_link.specs.Server.{all_heard_as}

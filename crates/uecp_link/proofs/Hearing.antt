@@ -10,7 +10,7 @@ use Rattle.uecp_frame.specs.Findings.{Finding, has_frame, is_quiet, OpenPart, fo
 use Rattle.uecp_frame.specs.Beyond.{found_beyond, open_beyond}
 use Rattle.uecp_frame.specs.Frame.{spelling}
 use Rattle.uecp_frame.specs.Address.{reaches}
-use Rattle.uecp_encoder.proofs.InPieces.{after_findings-append}
+use Rattle.uecp_encoder.proofs.Public.{after_findings-append}
 use Rattle.uecp_link.specs.Kept.{EncoderIs, ServerIs}
 use Rattle.uecp_link.proofs.Wire.{found_more, whole}
 use Rattle.uecp_encoder.specs.Target.{Step}

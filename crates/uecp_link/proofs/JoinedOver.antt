@@ -15,8 +15,7 @@ use Rattle.uecp_encoder.specs.State.{EncoderState, opening, next_after, after_fi
 use Rattle.uecp_encoder.specs.Answering.{responses, bytes_sent}
 use Rattle.uecp_encoder.specs.Laws.{after_happenings}
 use Rattle.uecp_encoder.specs.Joining.{rising, HasJoined}
-use Rattle.uecp_encoder.proofs.Joining.{joins_lem}
-use Rattle.uecp_encoder.proofs.InPieces.{findings_open, fed-part}
+use Rattle.uecp_encoder.proofs.Public.{joins_lem, findings_open, fed-part}
 use Rattle.uecp_link.specs.Joining.{reply_counter, reply_counters, IsJoinedBy, BringsBoth, JoinsOverALine}
 use Rattle.uecp_link.proofs.Beginnings.{spelled, found_as, Begins, second_empty, begins}
 use Rattle.uecp_link.proofs.Replying.{Rises, no_more, not_there, reply_as, firsts, taken, Replies, replies, after_taken}

@@ -37,3 +37,4 @@ pub mod WholePass
 pub mod Replaced
 pub mod Resumed
 pub mod RoomFor
+pub mod Public

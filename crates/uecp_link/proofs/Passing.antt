@@ -8,7 +8,7 @@ use Rattle.std.specs.Io.KnownBytes.{Appends}
 use Rattle.uecp_frame.specs.Frame.{spelling}
 use Rattle.uecp_frame.specs.Findings.{Finding, OpenPart, Closed as NothingOpen}
 use Rattle.uecp_frame.specs.Beyond.{found_beyond, open_beyond}
-use Rattle.uecp_frame.proofs.Sending.{length-spelling-le}
+use Rattle.uecp_frame.proofs.Public.{length-spelling-le}
 use Rattle.uecp_elements.specs.declared.code.Code.{Code}
 use Rattle.uecp_encoder.specs.Joining.{rising}
 use Rattle.uecp_encoder.specs.Metered.{Metered}

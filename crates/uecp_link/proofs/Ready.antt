@@ -4,7 +4,7 @@ use Rattle.std.proofs.Common.{arith, inl, inr}
 use Rattle.std.proofs.lemmas.List.{take-map}
 use Rattle.uecp_elements.specs.declared.code.Code.{Code}
 use Rattle.uecp_encoder.specs.Joining.{falling}
-use Rattle.uecp_encoder.proofs.Joining.{counters, back}
+use Rattle.uecp_encoder.proofs.Public.{counters, back}
 use Rattle.uecp_link.specs.Counters.{counter_of}
 use Rattle.uecp_link.specs.Kept.{IsReady, pairs}
 

@@ -4,7 +4,7 @@ use Rattle.uecp_elements.specs.declared.code.Code.{Code}
 use Rattle.uecp_encoder.specs.Target.{Step}
 use Rattle.uecp_encoder.specs.State.{EncoderState, fed}
 use Rattle.uecp_encoder.specs.Answering.{answers}
-use Rattle.uecp_encoder.proofs.Joining.{counters}
+use Rattle.uecp_encoder.proofs.Public.{counters}
 use Rattle.uecp_link.specs.Kept.{code_at}
 use Rattle.uecp_link.specs.Once.{at_first}
 use Rattle.uecp_link.specs.Server.{ServerState, idle_at}

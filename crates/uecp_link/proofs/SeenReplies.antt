@@ -6,7 +6,7 @@ use Rattle.std.proofs.lemmas.Bool.{cases_Bool, eqb-true}
 use Rattle.std.proofs.lemmas.List.Elements.{filter_map-append}
 use Rattle.uecp_frame.specs.Findings.{Finding, OpenPart}
 use Rattle.uecp_frame.specs.Beyond.{found_beyond, open_beyond}
-use Rattle.uecp_frame.proofs.Pieces.{in_pieces_lem, new_start_lem}
+use Rattle.uecp_frame.proofs.Public.{in_pieces_lem, new_start_lem}
 use Rattle.uecp_elements.specs.declared.code.Code.{Code}
 use Rattle.uecp_link.specs.declared.joining.Seen.{Seen}
 use Rattle.uecp_link.specs.declared.joining.Seen.TheVariants.{Neither, First, Both}

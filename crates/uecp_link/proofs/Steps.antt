@@ -25,7 +25,7 @@ use Rattle.uecp_link.specs.Once.{has_room, with_code, with_member, refusal_of, a
 use Rattle.uecp_link.specs.Once.{is_next as is_next_number}
 use Rattle.uecp_link.specs.Law.{frame_of, encoder_after, server_after, reply_bytes, Fits}
 use Rattle.uecp_link.specs.Kept.{pairs, last_counter, code_at, held_from, IsMessage, EncoderIs, ServerIs, Kept, Hears}
-use Rattle.uecp_encoder.proofs.InPieces.{fed-part}
+use Rattle.uecp_encoder.proofs.Public.{fed-part}
 use Rattle.uecp_link.proofs.Wire.{found_none, left_none, left_more, ended}
 use Rattle.uecp_link.proofs.Ring.{pairs_agree, kept_code-found, kept_code-absent, keep_next}
 use Rattle.uecp_link.proofs.Hearing.{fed_faults, heard_bytes_faults, fed_frame, heard_frame, after_whole, heard-part}

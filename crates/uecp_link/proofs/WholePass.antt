@@ -8,16 +8,14 @@ use Rattle.uecp_frame.specs.declared.frame.Frame.{Frame}
 use Rattle.uecp_frame.specs.Frame.{spelling}
 use Rattle.uecp_frame.specs.Findings.{Closed}
 use Rattle.uecp_frame.specs.Beyond.{found_beyond, open_beyond}
-use Rattle.uecp_frame.proofs.Pieces.{in_pieces_lem, new_start_lem}
-use Rattle.uecp_frame.proofs.HeardLemmas.{always_heard_lem}
+use Rattle.uecp_frame.proofs.Public.{in_pieces_lem, new_start_lem, always_heard_lem}
 use Rattle.uecp_encoder.specs.Target.{Step}
 use Rattle.reply_ring.specs.Ring.{newest}
 use Rattle.uecp_encoder.specs.State.{EncoderState, opening, next_after, after_findings, fed}
 use Rattle.uecp_encoder.specs.Answering.{responses, bytes_sent, answers}
 use Rattle.uecp_encoder.specs.Laws.{after_happenings}
 use Rattle.uecp_encoder.specs.Joining.{messages_to, counters_replied, rising, HasJoined}
-use Rattle.uecp_encoder.proofs.Joining.{counters, back, some_back, joins_from, replied_from}
-use Rattle.uecp_encoder.proofs.InPieces.{findings_open, fed-part}
+use Rattle.uecp_encoder.proofs.Public.{counters, back, some_back, joins_from, replied_from, findings_open, fed-part}
 use Rattle.uecp_link.specs.Frames.{frame_under}
 use Rattle.uecp_link.specs.Joining.{pass_sent, reply_counter, reply_counters, IsJoinedBy, BringsBoth, HasJoinedWith}
 use Rattle.uecp_link.specs.Joining.{WholePassBringsBoth}

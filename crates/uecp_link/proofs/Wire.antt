@@ -4,8 +4,7 @@ use Rattle.uecp_frame.specs.declared.frame.Frame.{Frame}
 use Rattle.uecp_frame.specs.Frame.{spelling}
 use Rattle.uecp_frame.specs.Findings.{Finding, OpenPart, Closed, Doomed, Part, has_frame, found, open_part}
 use Rattle.uecp_frame.specs.Beyond.{found_beyond, open_beyond, unended}
-use Rattle.uecp_frame.proofs.Pieces.{comes_after_lem, new_start_lem}
-use Rattle.uecp_frame.proofs.HeardLemmas.{always_heard_lem}
+use Rattle.uecp_frame.proofs.Public.{comes_after_lem, new_start_lem, always_heard_lem}
 
 pub found_none : found [] ≡ []
 found_none = sym (new_start_lem Closed []).found ∙ (new_start_lem Closed []).nothing

@@ -6,7 +6,7 @@ ghost use Rattle.uecp_link.specs.Server.{submitted, waiting};
 ghost use Rattle.uecp_link.specs.Driving.{Drives, IsFreed, StillWaits, frame_sent};
 ghost use Rattle.uecp_link.specs.Listening.{Listens};
 
-use crate::feeding::give_piece;
+use crate::pieces::give_piece;
 use crate::server::Server;
 use std::io::{Read, Write};
 use thiserror::Error;

@@ -10,7 +10,7 @@ ghost use Rattle.uecp_link.specs.Joining.{seen_after};
 
 use crate::counters::COUNTER_MAX;
 use crate::driving::{DriveFault, READ_MAX};
-use crate::feeding::rest_of;
+use crate::pieces::rest_of;
 use crate::server::Server;
 use std::io::{Read, Write};
 use uecp_encoder::{Failed, Meter};

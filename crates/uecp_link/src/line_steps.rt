@@ -18,8 +18,8 @@ ghost use Rattle.uecp_link.specs.Next.{Goes, Stops, codes_by, delivered_by, step
 
 use crate::counters::{counter_of, is_recent};
 use crate::event::Side;
-use crate::feeding::{dropped_by, give_cut};
 use crate::line::Line;
+use crate::pieces::{dropped_by, give_cut};
 use crate::refusal::LineRefusal;
 use crate::server::{REPLY, Server};
 use crate::stepped::Stepped;

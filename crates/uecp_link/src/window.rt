@@ -6,9 +6,9 @@ ghost use Rattle.uecp_link.specs.Server.{waiting, heard};
 ghost use Rattle.uecp_link.specs.Window.{Windows, Gathers, marks_in, window_sent};
 
 use crate::driving::{DriveFault, READ_MAX};
-use crate::feeding::rest_of;
 use crate::heard::HeardWhat;
 use crate::held_message::WINDOW_MAX;
+use crate::pieces::rest_of;
 use crate::server::Server;
 use arrayvec::ArrayVec;
 use std::io::{Read, Write};

@@ -7,12 +7,12 @@ use Rattle.uecp_link.specs.Server.{ServerState, heard}
 use Rattle.uecp_link.specs.declared.driving.DriveFault.{DriveFault}
 use Rattle.uecp_link.specs.declared.driving.DriveFault.TheVariants.{WriteFailed, Closed, TriesSpent}
 use Rattle.uecp_link.specs.declared.window.Windowed.TheVariants.{Idle, Spent}
-use Rattle.uecp_link.proofs.FeedingLemmas.{heard_none}
+use Rattle.uecp_link.proofs.Public.{heard_none}
 use Rattle.uecp_net.specs.Sending.{SenderOver, Marks, GoesOn, Opens, unused, Underway, underway, Calls, SpentCalls}
 use Rattle.uecp_net.specs.Sending.{Tried, Attempts, Delivers, HangsUp, reason_of, without_ends, reconnecting}
 use Rattle.uecp_net.specs.Sending.{opens_another}
-use Rattle.uecp_net.specs.declared.sending.TwoEnds.{TwoEnds}
-use Rattle.uecp_net.specs.declared.sending.Outstanding.{Outstanding}
+use Rattle.uecp_net.specs.declared.sender.TwoEnds.{TwoEnds}
+use Rattle.uecp_net.specs.declared.sender.Outstanding.{Outstanding}
 
 module _ {I O : Type 0} (remaining : I → Option (List ℕ)) (contents : O → Option (List ℕ)) where
   -- ---- what one call leaves

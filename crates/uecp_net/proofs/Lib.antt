@@ -3,3 +3,10 @@ pub mod Passing
 pub mod Told
 pub mod Loans
 pub mod Served
+pub mod Submitting
+pub mod GoingOn
+pub mod Waiting
+pub mod LosingNone
+pub mod Joined
+pub mod Living
+pub mod Public

@@ -1,7 +1,7 @@
 -- A sender keeps the loan under which it has where its connections come from.
 use Rattle.std.proofs.Common.{◌≡◌, ℕ, zero, suc, List, Option, Result, Ok, Err, ◌∙◌, ap, inl, inr}
 use Rattle.uecp_link.specs.declared.driving.DriveFault.{DriveFault}
-use Rattle.uecp_net.specs.declared.sending.Outstanding.{Outstanding}
+use Rattle.uecp_net.specs.declared.sender.Outstanding.{Outstanding}
 use Rattle.uecp_net.specs.Sending.{SenderOver, Marks, GoesOn, Attempts, Delivers}
 use Rattle.uecp_net.proofs.Breaking.{hung_loan}
 

@@ -7,8 +7,8 @@ use Rattle.uecp_link.specs.declared.joining.Joining.TheVariants.{Joined, Spent}
 use Rattle.uecp_link.specs.Joining.{MakesPass}
 use Rattle.uecp_net.specs.Sending.{SenderOver, Opens, HangsUp, without_ends, reconnecting}
 use Rattle.uecp_net.specs.Joining.{Passes, PassesTo, JoinsOver, pass_turns}
-use Rattle.uecp_net.specs.declared.sending.TwoEnds.{TwoEnds}
-use Rattle.uecp_net.specs.declared.sending.Outstanding.{Outstanding}
+use Rattle.uecp_net.specs.declared.sender.TwoEnds.{TwoEnds}
+use Rattle.uecp_net.specs.declared.sender.Outstanding.{Outstanding}
 
 module _ {C I O : Type 0} (remaining : I → Option (List ℕ)) (contents : O → Option (List ℕ))
     (opens : C → Option (I × O) → C → Type 0) (closes : C → I → O → C → Type 0) where

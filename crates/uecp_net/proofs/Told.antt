@@ -10,7 +10,7 @@ use Rattle.uecp_frame.specs.Findings.{Closed}
 use Rattle.uecp_elements.specs.declared.code.Code.{Code}
 use Rattle.uecp_link.specs.Server.{ServerState, waiting, waits_for, heard, raised_by, counters_waiting}
 use Rattle.uecp_link.specs.Window.{marks_in, code_under}
-use Rattle.uecp_link.proofs.Marks.{heard_keeps, raised_by-add, marks_counted, code_under-append, marks_complete}
+use Rattle.uecp_link.proofs.Public.{heard_keeps, raised_by-add, marks_counted, code_under-append, marks_complete}
 use Rattle.uecp_net.specs.Sending.{SenderOver, Marks, GoesOn, Follows, AreFreed, AreTold}
 
 pub follows_heard : (s s' : ServerState) (m m' : Marks) (read : List ℕ) → s' ≡ heard s read → m' ≡ m ++ marks_in s read

@@ -5,9 +5,9 @@ use Rattle.uecp_link.specs.declared.driving.DriveFault.{DriveFault}
 use Rattle.uecp_link.specs.declared.joining.Joining.{Joining}
 use Rattle.uecp_link.specs.declared.joining.Joining.TheVariants.{Joined, Spent}
 use Rattle.uecp_link.specs.Joining.{MakesPass}
-use Rattle.uecp_net.specs.declared.sending.TwoEnds.{TwoEnds}
-use Rattle.uecp_net.specs.declared.sending.Outstanding.{Outstanding}
-use Rattle.uecp_net.specs.declared.sending.Outstanding.TheVariants.{TriesSpent}
+use Rattle.uecp_net.specs.declared.sender.TwoEnds.{TwoEnds}
+use Rattle.uecp_net.specs.declared.sender.Outstanding.{Outstanding}
+use Rattle.uecp_net.specs.declared.sender.Outstanding.TheVariants.{TriesSpent}
 use Rattle.uecp_net.specs.Sending.{SenderOver, Opens, OpensNone, HangsUp, reason_of, reconnecting}
 
 -- How many reads a pass makes at most: as many as a try for each of its 255 messages.

@@ -11,9 +11,9 @@ use Rattle.uecp_link.specs.declared.window.Windowed.{Windowed}
 use Rattle.uecp_link.specs.declared.window.Windowed.TheVariants.{Idle, Spent}
 use Rattle.uecp_link.specs.Server.{ServerState, submitted, waiting, waits_for, counters_waiting, raised_by}
 use Rattle.uecp_link.specs.Window.{Windows, code_under}
-use Rattle.uecp_net.specs.declared.sending.TwoEnds.{TwoEnds}
-use Rattle.uecp_net.specs.declared.sending.Outstanding.{Outstanding}
-use Rattle.uecp_net.specs.declared.sending.Outstanding.TheVariants as out
+use Rattle.uecp_net.specs.declared.sender.TwoEnds.{TwoEnds}
+use Rattle.uecp_net.specs.declared.sender.Outstanding.{Outstanding}
+use Rattle.uecp_net.specs.declared.sender.Outstanding.TheVariants as out
 
 -- The server; how many tries and turns each connection has; how many reconnects are left; and whether one is made also
 -- where tries were spent, as on a silent line.

@@ -15,3 +15,4 @@ pub mod SaidMessages
 pub mod LineTokens
 pub mod WritingLines
 pub mod Turning
+pub mod Public

@@ -5,7 +5,7 @@ use Rattle.std.specs.List.{AllByRecursion}
 use Rattle.uecp_elements.specs.declared.fault.ElementFault.{ElementFault}
 use Rattle.uecp_elements.specs.Grammar.{Element, spelling, IsElement, AreBytes}
 use Rattle.uecp_elements.specs.Reading.{Item, items, fault_item}
-use Rattle.uecp_elements.proofs.Items.{has_reading}
+use Rattle.uecp_elements.proofs.Public.{has_reading}
 use Rattle.rds_text.specs.declared.programme_type.Region.{Region}
 use Rattle.phrase_tokens.specs.Tokens.{Token, Word, IsToken}
 use Rattle.uecp_phrases.specs.Written.{byte_token, phrase_of_item, joined_behind, joined, line_of}

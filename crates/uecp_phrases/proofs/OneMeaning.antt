@@ -9,7 +9,7 @@ use Rattle.uecp_elements.specs.Grammar.{Part, NoText, Text, Rt, spelling}
 use Rattle.uecp_text.specs.Words.{IsByte, IsNumber, decimal_in}
 use Rattle.rds_text.specs.declared.programme_type.Region.{Region}
 use Rattle.rds_text.specs.ProgrammeTypes.{HasName}
-use Rattle.rds_text.proofs.Names.{named_once}
+use Rattle.rds_text.proofs.Public.{named_once}
 use Rattle.phrase_tokens.specs.Tokens.{Token, Word, Quoted}
 use Rattle.uecp_phrases.specs.declared.head.Head.{Head}
 use Rattle.uecp_phrases.specs.declared.head.Head.TheVariants as head

@@ -13,7 +13,7 @@ use Rattle.uecp_elements.specs.declared.fault.ElementFault.{ElementFault}
 use Rattle.uecp_elements.specs.Grammar.{Part, NoText, Text, Element, Pi, Ps, TaTp, Ms, Pty, Rt, Select, Group, Ack}
 use Rattle.uecp_elements.specs.Grammar.{spelling, IsElement, AreBytes, EndsWith}
 use Rattle.uecp_elements.specs.Reading.{Item, items, items_of, fault_item}
-use Rattle.uecp_elements.proofs.Items.{has_reading}
+use Rattle.uecp_elements.proofs.Public.{has_reading}
 use Rattle.rds_text.specs.declared.programme_type.Region.{Region}
 use Rattle.rds_text.specs.ProgrammeTypes.{name_of}
 use Rattle.phrase_tokens.specs.Tokens.{Token, Word, Quoted, Semicolon}

@@ -7,9 +7,9 @@ use Rattle.uecp_elements.specs.Grammar.{Element, Pi, Ps, TaTp, Ms, Pty, Rt, Sele
 use Rattle.uecp_elements.specs.Reading.{Item, items}
 use Rattle.rds_text.specs.declared.programme_type.Region.{Region}
 use Rattle.uecp_text.specs.Written.{Kept, Adds}
-use Rattle.uecp_text.proofs.Leading.{Leads, leads_on, leads_from, leads_end, adds_then}
+use Rattle.uecp_text.proofs.Public.{Leads, leads_on, leads_from, leads_end, adds_then}
 use Rattle.phrase_tokens.specs.Tokens.{Token, Word, Semicolon, written_token, written_behind, written_tokens}
-use Rattle.phrase_tokens.proofs.Written.{behind_split}
+use Rattle.phrase_tokens.proofs.Public.{behind_split}
 use Rattle.uecp_phrases.specs.Written.{byte_token, place_tokens, phrase_of, phrase_of_item, joined, joined_behind}
 use Rattle.uecp_phrases.specs.Written.{line_of}
 use Rattle.uecp_phrases.specs.Written.{music_tokens, bits_tokens}

@@ -20,15 +20,15 @@ mod line;
 mod message_line;
 mod nearest;
 mod phrase;
+mod phrase_text;
 mod place;
 mod told;
 mod traffic_name;
 mod walk;
-mod writing;
 
 pub use expectation::Expectation;
 pub use expected::{Expected, expected_in};
 pub use line::message_in;
 pub use message_line::put_message;
 pub use phrase::phrase_in;
-pub use writing::{WRITTEN_MAX, phrase_of};
+pub use phrase_text::{WRITTEN_MAX, phrase_of};

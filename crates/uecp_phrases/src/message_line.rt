@@ -6,7 +6,7 @@ ghost use Rattle.uecp_text.specs.Written.{Adds};
 ghost use Rattle.phrase_tokens.specs.Tokens.{written_behind, written_tokens};
 ghost use Rattle.uecp_phrases.specs.Written.{byte_token, phrase_of_item, line_of};
 
-use crate::writing::{phrase_of, raw_token, word};
+use crate::phrase_text::{phrase_of, raw_token, word};
 use phrase_tokens::{Token, put_behind, put_tokens};
 use rds_text::Region;
 use uecp_elements::{Element, ElementFault, elements};

@@ -11,3 +11,4 @@ pub mod TwoDigits
 mod UpperCase
 pub mod DigitValues
 pub mod Spaced
+pub mod Public

@@ -4,7 +4,7 @@ use Rattle.uecp_frame.specs.declared.fed.Fed.{Fed}
 use Rattle.uecp_frame.specs.Findings.{OpenPart}
 use Rattle.uecp_frame.specs.Beyond.{found_beyond, open_beyond}
 use Rattle.uecp_frame.specs.Feeding.{Feeds, findings_of}
-use Rattle.uecp_frame.proofs.Pieces.{in_pieces_lem}
+use Rattle.uecp_frame.proofs.Public.{in_pieces_lem}
 
 pub found_on : (o o' : OpenPart) (f : Fed) (rest rest' : List ℕ) → Feeds o rest f o' → rest' ≡ drop f.used rest
     → found_beyond o rest ≡ findings_of f.found ++ found_beyond o' rest'

@@ -5,7 +5,7 @@ use Rattle.std.proofs.lemmas.List.Concat.{flat_map-append}
 use Rattle.std.specs.List.{concat}
 use Rattle.uecp_frame.specs.Findings.{Finding, OpenPart, Closed}
 use Rattle.uecp_frame.specs.Beyond.{found_beyond, open_beyond}
-use Rattle.uecp_frame.proofs.Pieces.{in_pieces_lem, new_start_lem}
+use Rattle.uecp_frame.proofs.Public.{in_pieces_lem, new_start_lem}
 use Rattle.output_forms.specs.declared.form.Form.{Form}
 use Rattle.output_forms.specs.Forms.{found_lines}
 use Rattle.uecp_watch.specs.Watching.{IsRead, IsTold, AreTold, IsOneStream}

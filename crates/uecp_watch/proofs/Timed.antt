@@ -9,7 +9,7 @@ use Rattle.uecp_frame.specs.Findings.{Finding, OpenPart}
 use Rattle.uecp_frame.specs.Beyond.{found_beyond}
 use Rattle.uecp_frame.specs.Feeding.{Feeds, findings_of}
 use Rattle.uecp_text.specs.Written.{Kept, Adds}
-use Rattle.uecp_text.proofs.Leading.{adds_then}
+use Rattle.uecp_text.proofs.Public.{adds_then}
 use Rattle.uecp_text.specs.declared.run_fault.RunFault.{RunFault}
 use Rattle.std.specs.declared.option.Option.{Option}
 use Rattle.output_forms.specs.declared.form.Form.{Form}

@@ -7,9 +7,9 @@ use Rattle.std.specs.Io.KnownBytes.{Consumes, Keeps, Appends}
 use Rattle.std.proofs.KnownBytes.{Consumes-trans, Consumes-kept}
 use Rattle.uecp_frame.specs.Findings.{OpenPart, Closed, open_part}
 use Rattle.uecp_frame.specs.Beyond.{found_beyond, open_beyond}
-use Rattle.uecp_frame.proofs.Pieces.{new_start_lem, comes_after_lem}
+use Rattle.uecp_frame.proofs.Public.{new_start_lem, comes_after_lem}
 use Rattle.uecp_text.specs.declared.run_fault.RunFault.{RunFault}
-use Rattle.uecp_text.proofs.Begun.{appends_nothing, appends_then}
+use Rattle.uecp_text.proofs.Public.{appends_nothing, appends_then}
 use Rattle.output_forms.specs.declared.form.Form.{Form}
 use Rattle.uecp_watch.specs.Watching.{IsRead, IsTold, HasTold, FailsToTell, HasFailed}
 use Rattle.uecp_watch.proofs.Streams.{told_then}

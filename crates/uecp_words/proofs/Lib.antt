@@ -4,3 +4,4 @@ pub mod EventNames
 pub mod Shown
 pub mod ShownLines
 pub mod OneMeaning
+pub mod Public

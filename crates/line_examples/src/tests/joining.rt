@@ -7,7 +7,7 @@ use super::line::{
     steps,
 };
 use crate::tests::asserting::{holds, same};
-use faulty_devices::{FaultyReader, FaultyWriter, new_encoder, own_address, replies, reply_made};
+use faulty_io::{FaultyReader, FaultyWriter, new_encoder, own_address, replies, reply_made};
 use rds_store::Group;
 use std::alloc::Global;
 use std::ops::Range;

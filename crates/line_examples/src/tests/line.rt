@@ -14,7 +14,7 @@ mod turns;
 mod window;
 
 use crate::tests::asserting::{holds, same};
-use faulty_devices::{ADD, CountTarget, EMPTY_1, new_store_encoder, own_address, texts_of};
+use faulty_io::{ADD, CountTarget, EMPTY_1, new_store_encoder, own_address, texts_of};
 use rds_store::RdsStore;
 use std::alloc::Global;
 use std::process::Abort;

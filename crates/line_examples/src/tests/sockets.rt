@@ -2,7 +2,7 @@
 //! reads it.
 use super::line::{driven_in, message, store_encoder};
 use crate::tests::asserting::{holds, same};
-use faulty_devices::{ADD, own_address};
+use faulty_io::{ADD, own_address};
 use rds_store::RdsStore;
 use std::net::{TcpListener, TcpStream};
 use std::process::Abort;

@@ -6,7 +6,7 @@ mod serving;
 
 use crate::tests::asserting::{holds, same};
 use crate::tests::making::store_encoder;
-use faulty_devices::{
+use faulty_io::{
     APPLIED_1, APPLIED_2, CountTarget, EMPTY_1, EMPTY_2, comes_to, own_address, pi_of, replies,
     texts_of,
 };

@@ -1,6 +1,6 @@
 //! What each fault of the crates below the line says as an error.
 use crate::tests::asserting::same;
-use faulty_devices::CountTarget;
+use faulty_io::CountTarget;
 use rds_store::StoreFault;
 use std::error::Error;
 use std::fmt::InlineText;

@@ -1,6 +1,6 @@
 //! What the tests begin with, each made by a function of its own: a test that gave up with `?` where memory is wanting
 //! would drop what it owns on one way out more.
-use faulty_devices::{CountTarget, ScarceMemory, new_encoder, new_store_encoder};
+use faulty_io::{CountTarget, ScarceMemory, new_encoder, new_store_encoder};
 use rds_store::RdsStore;
 use reply_ring::ReplyRing;
 use std::alloc::Global;

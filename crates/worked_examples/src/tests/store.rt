@@ -2,7 +2,7 @@ mod memory;
 
 use crate::tests::asserting::{holds, same};
 use crate::tests::making::store_of;
-use faulty_devices::{ADD, pi_of, texts_of};
+use faulty_io::{ADD, pi_of, texts_of};
 use rds_store::{Group, RdsStore, Service, StoreFault};
 use std::alloc::Global;
 use std::process::Abort;

@@ -1,5 +1,5 @@
 use Rattle.std.proofs.Common.{◌≡◌, ℕ, ◌+◌, ◌-◌, ◌≤◌, arith, ap, sym, ◌∙◌, if◌then◌else◌}
-use Rattle.uecp_text.proofs.Leading.{leads_on}
+use Rattle.uecp_text.proofs.Public.{leads_on}
 use Rattle.carousel.specs.Carousel.{switched_on}
 use Rattle.carousel.specs.Next.{behind}
 use Rattle.air_jobs.specs.Airing.{air_line, air_lines}

@@ -1,5 +1,5 @@
 use Rattle.std.proofs.Common.{◌-◌, ◌≤◌}
-use Rattle.uecp_text.proofs.Leading.{Leads}
+use Rattle.uecp_text.proofs.Public.{Leads}
 use Rattle.carousel.specs.Carousel.{switched_on}
 use Rattle.carousel.specs.Next.{behind}
 use Rattle.air_jobs.specs.Airing.{air_lines}

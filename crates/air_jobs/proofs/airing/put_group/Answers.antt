@@ -1,7 +1,7 @@
 use Rattle.std.proofs.Common.{sym, subst, codes, ◌++◌}
 use Rattle.output_forms.specs.declared.form.Form.{Form}
 use Rattle.uecp_text.specs.Written.{Adds}
-use Rattle.uecp_text.proofs.Leading.{adds_then}
+use Rattle.uecp_text.proofs.Public.{adds_then}
 use Rattle.air_jobs.specs.Airing.{air_words, air_line}
 use Rattle.air_jobs.proofs.airing.put_group.Goals as goal
 

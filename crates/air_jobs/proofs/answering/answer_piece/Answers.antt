@@ -4,9 +4,8 @@ use Rattle.rds_store.specs.Step.{step}
 use Rattle.uecp_encoder.specs.State.{fed}
 use Rattle.uecp_encoder.specs.Answering.{Response, responses_to}
 use Rattle.output_forms.specs.Forms.{answer_lines}
-use Rattle.uecp_text.proofs.Leading.{leads_on, leads_end}
-use Rattle.uecp_text.proofs.Lines.{empty_is}
-use Rattle.uecp_jobs.proofs.Pieces.{fed_nothing, responses_to_nothing, fed_on, responses_on}
+use Rattle.uecp_text.proofs.Public.{leads_on, leads_end, empty_is}
+use Rattle.uecp_jobs.proofs.Public.{fed_nothing, responses_to_nothing, fed_on, responses_on}
 use Rattle.air_jobs.proofs.answering.answer_piece.Goals as goal
 
 pub loop-rest-preserved : goal.loop-rest-preserved

@@ -3,7 +3,7 @@ use Rattle.rds_store.specs.Step.{step}
 use Rattle.uecp_encoder.specs.State.{fed}
 use Rattle.uecp_encoder.specs.Answering.{responses_to}
 use Rattle.output_forms.specs.Forms.{answer_lines}
-use Rattle.uecp_text.proofs.Leading.{Leads}
+use Rattle.uecp_text.proofs.Public.{Leads}
 use Rattle.air_jobs.proofs.answering.answer_piece.Given as goal
 
 -- what is left leads to the same

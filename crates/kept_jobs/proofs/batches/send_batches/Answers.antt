@@ -1,7 +1,7 @@
 use Rattle.std.proofs.Common.{rules, arith, ◌≡◌, ◌≢◌, min, [], length, take, drop, Ok, Err, sym, ap, subst}
 use Rattle.std.proofs.Common.{◌∙◌}
 use Rattle.std.proofs.lemmas.List.{take_min, length-take, length-drop}
-use Rattle.uecp_jobs.proofs.BatchLines.{drop_min, none_by_test}
+use Rattle.uecp_jobs.proofs.Public.{drop_min, none_by_test}
 use Rattle.kept_jobs.specs.ServerRun.{SendsTold, SendsAll}
 use Rattle.kept_jobs.proofs.Sending.{GoesOn, one_more, stops, ends}
 use Rattle.kept_jobs.proofs.batches.send_batches.Goals as goal

@@ -1,6 +1,6 @@
 use Rattle.std.proofs.Common.{rules, ◌≡◌, Err, codes, sym, subst}
-use Rattle.kept_sending.specs.declared.sending.KeptOutstanding.TheVariants.{Outstanding}
-use Rattle.kept_sending.specs.Sending.{Ended}
+use Rattle.uecp_net.specs.declared.saved.batch.KeptOutstanding.TheVariants.{Outstanding}
+use Rattle.uecp_net.specs.SavedSending.{Ended}
 use Rattle.kept_jobs.specs.Stops.{stop_for}
 use Rattle.kept_jobs.specs.ServerRun.{SettledTold}
 use Rattle.kept_jobs.proofs.Outliving.{stopped}

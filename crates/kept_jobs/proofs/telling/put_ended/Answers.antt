@@ -2,7 +2,7 @@ use Rattle.std.proofs.Common.{rules, ◌≡◌, Err, codes, sym, subst}
 use Rattle.uecp_encoder.specs.declared.serving.ServeFault.TheVariants.{WriteFailed}
 use Rattle.uecp_text.specs.Digits.{decimal_word}
 use Rattle.uecp_text.specs.Written.{Adds}
-use Rattle.uecp_jobs.proofs.BatchLines.{adds_on}
+use Rattle.uecp_jobs.proofs.Public.{adds_on}
 use Rattle.kept_serving.specs.declared.serving.KeptFault.TheVariants.{Serve, StateFailed}
 use Rattle.kept_serving.specs.Serving.{Ended}
 use Rattle.kept_jobs.specs.EncoderRun.{ended_words}

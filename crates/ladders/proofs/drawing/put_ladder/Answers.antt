@@ -1,6 +1,6 @@
 use Rattle.std.proofs.Common.{subst, sym}
 use Rattle.uecp_text.specs.Written.{Adds}
-use Rattle.uecp_text.proofs.Leading.{adds_then}
+use Rattle.uecp_text.proofs.Public.{adds_then}
 use Rattle.ladders.specs.Drawing.{ladder}
 use Rattle.ladders.proofs.drawing.put_ladder.Goals as goal
 

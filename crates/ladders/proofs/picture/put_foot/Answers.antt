@@ -1,4 +1,4 @@
-use Rattle.uecp_text.proofs.Leading.{adds_then}
+use Rattle.uecp_text.proofs.Public.{adds_then}
 use Rattle.ladders.proofs.picture.put_foot.Goals as goal
 
 pub returns : goal.returns

@@ -1,6 +1,6 @@
 use Rattle.std.proofs.Common.{subst, ◌+◌}
 use Rattle.uecp_text.specs.Written.{Adds}
-use Rattle.uecp_text.proofs.Leading.{adds_then}
+use Rattle.uecp_text.proofs.Public.{adds_then}
 use Rattle.ladders.specs.Drawing.{totals_of}
 use Rattle.ladders.specs.Picture.{head, foot}
 use Rattle.ladders.proofs.picture.put_picture.Goals as goal

@@ -1,6 +1,6 @@
 use Rattle.std.proofs.Common.{subst, decimal}
 use Rattle.uecp_text.specs.Written.{Adds}
-use Rattle.uecp_text.proofs.Leading.{adds_then}
+use Rattle.uecp_text.proofs.Public.{adds_then}
 use Rattle.ladders.proofs.picture.put_row.Goals as goal
 
 pub returns : goal.returns

@@ -1,5 +1,5 @@
 use Rattle.std.proofs.Common.{◌+◌, arith, drop}
-use Rattle.uecp_text.proofs.Leading.{leads_on, leads_end}
+use Rattle.uecp_text.proofs.Public.{leads_on, leads_end}
 use Rattle.ladders.specs.Picture.{picture_rows}
 use Rattle.ladders.proofs.Left.{no_row_left, picture_left}
 use Rattle.ladders.proofs.picture.put_rows.Goals as goal

@@ -1,5 +1,5 @@
 use Rattle.std.proofs.Common.{drop}
-use Rattle.uecp_text.proofs.Leading.{Leads}
+use Rattle.uecp_text.proofs.Public.{Leads}
 use Rattle.ladders.specs.Picture.{picture_rows}
 use Rattle.ladders.proofs.picture.put_rows.Given as goal
 

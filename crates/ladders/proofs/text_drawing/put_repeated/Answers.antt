@@ -1,5 +1,5 @@
 use Rattle.std.proofs.Common.{◌-◌, ◌+◌, arith}
-use Rattle.uecp_text.proofs.Leading.{leads_on, leads_end}
+use Rattle.uecp_text.proofs.Public.{leads_on, leads_end}
 use Rattle.ladders.specs.Text.{repeated}
 use Rattle.ladders.proofs.Left.{no_part_left, part_left}
 use Rattle.ladders.proofs.text_drawing.put_repeated.Goals as goal

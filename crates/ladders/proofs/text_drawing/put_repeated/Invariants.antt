@@ -1,5 +1,5 @@
 use Rattle.std.proofs.Common.{◌-◌}
-use Rattle.uecp_text.proofs.Leading.{Leads}
+use Rattle.uecp_text.proofs.Public.{Leads}
 use Rattle.ladders.specs.Text.{repeated}
 use Rattle.ladders.proofs.text_drawing.put_repeated.Given as goal
 

@@ -1,5 +1,5 @@
 use Rattle.std.proofs.Common.{flat_map, refl}
-use Rattle.uecp_text.proofs.Leading.{leads_from}
+use Rattle.uecp_text.proofs.Public.{leads_from}
 use Rattle.ladders.specs.Text.{text_head, text_ladder, text_row}
 use Rattle.ladders.proofs.text_drawing.put_text.Goals as goal
 

@@ -1,5 +1,5 @@
 use Rattle.std.proofs.Common.{drop, flat_map}
-use Rattle.uecp_text.proofs.Leading.{Leads}
+use Rattle.uecp_text.proofs.Public.{Leads}
 use Rattle.ladders.specs.Text.{text_row, text_ladder}
 use Rattle.ladders.proofs.text_drawing.put_text.Given as goal
 

@@ -1,6 +1,6 @@
 //! What a server counts.
 use crate::tests::asserting::{holds, same};
-use faulty_devices::{APPLIED_1, EMPTY_1, own_address, reply_made};
+use faulty_io::{APPLIED_1, EMPTY_1, own_address, reply_made};
 use std::process::Abort;
 use uecp_frame::Message;
 use uecp_link::{Server, ServerCounts};

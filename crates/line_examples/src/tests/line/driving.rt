@@ -1,7 +1,7 @@
 //! `drive` and `resend`, over a reader and a writer that fail where they are told to.
 use super::driven_in;
 use crate::tests::asserting::{holds, same};
-use faulty_devices::{APPLIED_1, APPLIED_2, EMPTY_1, FaultyReader, FaultyWriter, own_address};
+use faulty_io::{APPLIED_1, APPLIED_2, EMPTY_1, FaultyReader, FaultyWriter, own_address};
 use std::process::Abort;
 use uecp_encoder::Meter;
 use uecp_frame::Message;

@@ -1,7 +1,7 @@
 //! A message that is driven where no read succeeds and writes end somewhere, and then sent again over good ends.
 use super::driven_in;
 use crate::tests::asserting::{holds, same};
-use faulty_devices::{APPLIED_1, FaultyReader, FaultyWriter, own_address};
+use faulty_io::{APPLIED_1, FaultyReader, FaultyWriter, own_address};
 use std::process::Abort;
 use uecp_encoder::Meter;
 use uecp_frame::Message;

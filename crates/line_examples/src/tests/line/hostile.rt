@@ -1,7 +1,7 @@
 //! Bytes in which no frame stands.
 use super::heard_applied;
 use crate::tests::asserting::{holds, same};
-use faulty_devices::{
+use faulty_io::{
     APPLIED_1, EMPTY_1, KNOWN_FRAMES, altered, holds_no_frame, own_address, spelling_of,
 };
 use std::alloc::Global;

@@ -1,7 +1,7 @@
 //! The edge of lateness: the frame of a number comes again while at most 126 messages were numbered after it.
 use super::{delivered, frame, goes_over, is_taken, new_line, reply, steps};
 use crate::tests::asserting::same;
-use faulty_devices::CountTarget;
+use faulty_io::CountTarget;
 use std::alloc::Global;
 use std::process::Abort;
 use std::test::Fail;

@@ -3,7 +3,7 @@ use super::{
     delivered, driven_in, frame, goes_over, is_lost, is_taken, message, new_line, reply, steps,
 };
 use crate::tests::asserting::{holds, same};
-use faulty_devices::{
+use faulty_io::{
     ADD, APPLIED_1, CountTarget, EMPTY_1, FaultyReader, FaultyWriter, ScarceMemory, own_address,
 };
 use std::alloc::Global;

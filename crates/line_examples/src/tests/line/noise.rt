@@ -1,7 +1,7 @@
 //! Noise on a line, which is judged with what is open before it.
 use super::{acknowledged, delivered, frame, is_lost, is_taken, new_store_line, reply, steps};
 use crate::tests::asserting::same;
-use faulty_devices::pi_of;
+use faulty_io::pi_of;
 use rds_store::RdsStore;
 use std::process::Abort;
 use uecp_elements::Code;

@@ -3,7 +3,7 @@ use super::{
     acknowledged, delivered, frame, is_taken, message, new_line, new_store_line, reply, steps,
 };
 use crate::tests::asserting::{holds, same};
-use faulty_devices::{ADD, CountTarget, texts_of};
+use faulty_io::{ADD, CountTarget, texts_of};
 use rds_store::RdsStore;
 use std::process::Abort;
 use uecp_elements::Code;

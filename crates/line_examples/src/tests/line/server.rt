@@ -1,7 +1,7 @@
 //! What a server answers to what it hears.
 use super::{EMPTY_254, heard_applied};
 use crate::tests::asserting::{holds, same};
-use faulty_devices::{APPLIED_1, APPLIED_2, EMPTY_1, own_address, reply_made};
+use faulty_io::{APPLIED_1, APPLIED_2, EMPTY_1, own_address, reply_made};
 use std::process::Abort;
 use uecp_frame::{FrameFault, Message};
 use uecp_link::{HeardWhat, Server};

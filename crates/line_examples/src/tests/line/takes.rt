@@ -4,7 +4,7 @@ use super::{
     new_store_line, played, reply, steps,
 };
 use crate::tests::asserting::{holds, same};
-use faulty_devices::{ADD, CountTarget, texts_of};
+use faulty_io::{ADD, CountTarget, texts_of};
 use rds_store::{Group, RdsStore};
 use std::process::Abort;
 use uecp_elements::Code;

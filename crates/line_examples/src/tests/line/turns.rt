@@ -4,7 +4,7 @@ use super::{
     store_encoder,
 };
 use crate::tests::asserting::{holds, same};
-use faulty_devices::{ADD, ADD_1, APPLIED_1, CountTarget, EMPTY_1, replies, reply_made, texts_of};
+use faulty_io::{ADD, ADD_1, APPLIED_1, CountTarget, EMPTY_1, replies, reply_made, texts_of};
 use rds_store::RdsStore;
 use std::process::Abort;
 use uecp_elements::Code;

@@ -2,7 +2,7 @@
 use super::heard_applied;
 use crate::tests::asserting::{holds, same};
 use arrayvec::ArrayVec;
-use faulty_devices::{
+use faulty_io::{
     APPLIED_1, APPLIED_2, EMPTY_1, EMPTY_2, FaultyReader, FaultyWriter, framed, own_address,
     reply_made,
 };

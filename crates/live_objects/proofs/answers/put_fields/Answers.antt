@@ -1,6 +1,6 @@
 use Rattle.std.proofs.Common.{◌++◌}
 use Rattle.uecp_json.specs.Steps.{code_fields}
-use Rattle.uecp_json.proofs.Objects.{adds_more}
+use Rattle.uecp_json.proofs.Public.{adds_more}
 use Rattle.live_objects.specs.Objects.{message_fields, cost_fields}
 use Rattle.live_objects.proofs.answers.put_fields.Goals as goal
 

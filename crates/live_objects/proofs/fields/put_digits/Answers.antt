@@ -1,6 +1,6 @@
 use Rattle.std.proofs.Common.{zero, suc, [], ◌∷◌, arith}
 use Rattle.hex.specs.Hex.{encode_upper}
-use Rattle.uecp_json.proofs.Plain.{adds_quoted}
+use Rattle.uecp_json.proofs.Public.{adds_quoted}
 use Rattle.live_objects.proofs.Parts.{plain_digit}
 use Rattle.live_objects.proofs.fields.put_digits.Goals as goal
 

@@ -1,4 +1,4 @@
-use Rattle.uecp_json.proofs.Plain.{adds_quoted}
+use Rattle.uecp_json.proofs.Public.{adds_quoted}
 use Rattle.live_objects.proofs.fields.put_word.Goals as goal
 
 pub returns : goal.returns

@@ -1,5 +1,5 @@
 use Rattle.std.proofs.Common.{codes}
-use Rattle.uecp_json.proofs.Objects.{adds_line}
+use Rattle.uecp_json.proofs.Public.{adds_line}
 use Rattle.live_objects.specs.Objects.{refusal_fields}
 use Rattle.live_objects.proofs.station.put_refused.Goals as goal
 

@@ -1,8 +1,8 @@
 use Rattle.std.proofs.Common.{◌≡◌, ◌⊎◌, Some, IfOk, IfErr, subst}
 use Rattle.sqlite.specs.Tree.{Trees}
-use Rattle.kept_state.specs.Kept.{Holds}
-use Rattle.kept_state.specs.Keeper.{IsClean, MayLeave}
-use Rattle.kept_images.specs.Images.{encoder_image}
+use Rattle.sqlite_image.specs.Kept.{Holds}
+use Rattle.sqlite_image.specs.Keeper.{IsClean, MayLeave}
+use Rattle.end_images.specs.Images.{encoder_image}
 use Rattle.state_files.proofs.encoder_opening.begun.Goals as goal
 
 pub returns-in-Ok-clause-encoder : goal.returns-in-Ok-clause-encoder

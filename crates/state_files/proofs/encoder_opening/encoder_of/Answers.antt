@@ -1,5 +1,5 @@
 use Rattle.std.proofs.Common.{sym, subst}
-use Rattle.kept_state.specs.Kept.{bytes_of}
+use Rattle.sqlite_image.specs.Kept.{bytes_of}
 use Rattle.state_files.specs.Encoders.{IsOther, IsRefused}
 use Rattle.state_files.proofs.encoder_opening.encoder_of.Goals as goal
 

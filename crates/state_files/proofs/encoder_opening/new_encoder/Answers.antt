@@ -1,5 +1,5 @@
 use Rattle.std.proofs.Common.{inr, refl}
-use Rattle.kept_state.specs.declared.fault.KeepFault.TheVariants as keep
+use Rattle.sqlite_image.specs.declared.fault.KeepFault.TheVariants as keep
 use Rattle.state_files.proofs.encoder_opening.new_encoder.Goals as goal
 
 pub returns-in-Err-OutOfMemory-clause-refused : goal.returns-in-Err-OutOfMemory-clause-refused

@@ -1,5 +1,5 @@
 use Rattle.std.proofs.Common.{Some, None}
-use Rattle.kept_images.specs.Images.{encoder_image}
+use Rattle.end_images.specs.Images.{encoder_image}
 use Rattle.state_files.proofs.encoder_opening.open_encoder_from.Goals as goal
 
 pub returns-in-Ok-encoder_over-clause-found : goal.returns-in-Ok-encoder_over-clause-found

@@ -1,7 +1,7 @@
 use Rattle.std.proofs.Common.{◌⊎◌, Some, sym, subst}
 use Rattle.sqlite.specs.Tree.{Trees}
-use Rattle.kept_state.specs.Kept.{Holds}
-use Rattle.kept_state.specs.Keeper.{IsClean, MayLeave}
+use Rattle.sqlite_image.specs.Kept.{Holds}
+use Rattle.sqlite_image.specs.Keeper.{IsClean, MayLeave}
 use Rattle.uecp_link.specs.Server.{idle_at}
 use Rattle.state_files.specs.Servers.{image_of, begins}
 use Rattle.state_files.proofs.server_opening.begun.Goals as goal

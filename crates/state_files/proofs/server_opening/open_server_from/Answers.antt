@@ -1,5 +1,5 @@
 use Rattle.std.proofs.Common.{Some, None}
-use Rattle.kept_images.specs.Images.{server_image}
+use Rattle.end_images.specs.Images.{server_image}
 use Rattle.state_files.proofs.server_opening.open_server_from.Goals as goal
 
 pub returns-in-Ok-server_over-clause-found : goal.returns-in-Ok-server_over-clause-found

@@ -1,6 +1,6 @@
 use Rattle.std.proofs.Common.{Some, sym, subst, ◌∙◌}
-use Rattle.kept_state.specs.Keeper.{Keeps}
-use Rattle.kept_state.specs.Kept.{bytes_of}
+use Rattle.sqlite_image.specs.Keeper.{Keeps}
+use Rattle.sqlite_image.specs.Kept.{bytes_of}
 use Rattle.state_files.specs.Servers.{IsOther, IsRefused}
 use Rattle.state_files.proofs.server_opening.server_of.Goals as goal
 

@@ -1,6 +1,6 @@
 use Rattle.std.proofs.Common.{◌+◌, flat_map, drop, sym}
 use Rattle.uecp_link.specs.Resuming.{held_of}
-use Rattle.uecp_text.proofs.Leading.{leads_on}
+use Rattle.uecp_text.proofs.Public.{leads_on}
 use Rattle.state_jobs.specs.StateLines.{held_line}
 use Rattle.state_jobs.proofs.Walks.{line_first}
 use Rattle.state_jobs.proofs.state_lines.put_held.Goals as goal

@@ -1,5 +1,5 @@
 use Rattle.std.proofs.Common.{◌-◌, drop, length, flat_map}
-use Rattle.uecp_text.proofs.Leading.{Leads}
+use Rattle.uecp_text.proofs.Public.{Leads}
 use Rattle.state_jobs.specs.StateLines.{held_line}
 use Rattle.state_jobs.proofs.state_lines.put_held.Given as goal
 

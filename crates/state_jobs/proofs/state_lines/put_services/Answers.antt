@@ -1,6 +1,6 @@
 use Rattle.std.proofs.Common.{flat_map, drop, ap, sym, ◌∙◌}
 use Rattle.uecp_text.specs.Digits.{byte_word}
-use Rattle.uecp_text.proofs.Leading.{leads_end}
+use Rattle.uecp_text.proofs.Public.{leads_end}
 use Rattle.state_jobs.proofs.Walks.{none_left}
 use Rattle.state_jobs.proofs.state_lines.put_services.Goals as goal
 

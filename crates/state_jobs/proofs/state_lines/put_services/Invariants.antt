@@ -1,6 +1,6 @@
 use Rattle.std.proofs.Common.{◌-◌, drop, length, flat_map}
 use Rattle.uecp_text.specs.Digits.{byte_word}
-use Rattle.uecp_text.proofs.Leading.{Leads}
+use Rattle.uecp_text.proofs.Public.{Leads}
 use Rattle.state_jobs.proofs.state_lines.put_services.Given as goal
 
 -- what is left leads to the same

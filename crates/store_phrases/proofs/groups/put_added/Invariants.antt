@@ -1,6 +1,6 @@
 use Rattle.std.proofs.Common.{map, drop, true, flat_map}
 use Rattle.store_phrases.specs.Said.{group_said}
-use Rattle.uecp_text.proofs.Leading.{Leads}
+use Rattle.uecp_text.proofs.Public.{Leads}
 use Rattle.store_phrases.proofs.groups.put_added.Given as goal
 
 -- what is left leads to the same

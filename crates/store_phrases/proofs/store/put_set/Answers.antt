@@ -1,6 +1,6 @@
 use Rattle.std.proofs.Common.{flat_map, drop, ap, sym, ◌∙◌}
 use Rattle.store_phrases.specs.Said.{said_at, set_said}
-use Rattle.uecp_text.proofs.Leading.{leads_end}
+use Rattle.uecp_text.proofs.Public.{leads_end}
 use Rattle.store_phrases.proofs.Walks.{none_left}
 use Rattle.store_phrases.proofs.store.put_set.Goals as goal
 

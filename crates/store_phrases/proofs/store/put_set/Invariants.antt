@@ -1,6 +1,6 @@
 use Rattle.std.proofs.Common.{flat_map, drop, length, ◌-◌}
 use Rattle.store_phrases.specs.Said.{said_at, set_said}
-use Rattle.uecp_text.proofs.Leading.{Leads}
+use Rattle.uecp_text.proofs.Public.{Leads}
 use Rattle.store_phrases.proofs.store.put_set.Given as goal
 
 -- what is left leads to the same

@@ -2,7 +2,7 @@ use Rattle.std.proofs.Common.{◌<◌, ◌+◌, ◌-◌, flat_map, ap, ◌∙◌
 use Rattle.std.proofs.lemmas.Grind.{flat_map-append}
 use Rattle.rds_store.specs.Refusals.{count_up, set_numbers}
 use Rattle.store_phrases.specs.Said.{set_said}
-use Rattle.uecp_text.proofs.Leading.{leads_on}
+use Rattle.uecp_text.proofs.Public.{leads_on}
 use Rattle.store_phrases.proofs.Walks.{count_up_from}
 use Rattle.store_phrases.proofs.store.put_sets.Goals as goal
 

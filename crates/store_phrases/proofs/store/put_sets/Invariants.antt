@@ -1,7 +1,7 @@
 use Rattle.std.proofs.Common.{◌-◌, ◌+◌, flat_map}
 use Rattle.rds_store.specs.Refusals.{count_up, set_numbers}
 use Rattle.store_phrases.specs.Said.{set_said}
-use Rattle.uecp_text.proofs.Leading.{Leads}
+use Rattle.uecp_text.proofs.Public.{Leads}
 use Rattle.store_phrases.proofs.store.put_sets.Given as goal
 
 -- what is left leads to the same

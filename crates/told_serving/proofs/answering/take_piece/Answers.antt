@@ -3,7 +3,7 @@ use Rattle.std.proofs.Math.Seq.{take-add}
 use Rattle.std.proofs.lemmas.List.{take_rest}
 use Rattle.std.proofs.KnownBytes.{Appends-nil, Appends-trans}
 use Rattle.kept_serving.specs.Parts.{Takes}
-use Rattle.kept_serving.proofs.Together.{takes_nothing, takes_on}
+use Rattle.kept_serving.proofs.Public.{takes_nothing, takes_on}
 use Rattle.told_serving.specs.Telling.{HearsFor}
 use Rattle.told_serving.specs.Parts.{StopsAt, HearsUntil, stopped_after}
 use Rattle.told_serving.proofs.Hearing.{hears_nothing, hears_on, until_on}

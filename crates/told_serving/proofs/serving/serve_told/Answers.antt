@@ -4,8 +4,7 @@ use Rattle.std.proofs.KnownBytes.{Appends-nil, Appends-trans, Consumes-nil, Cons
 use Rattle.kept_serving.specs.Keeping.{Settled}
 use Rattle.kept_serving.specs.Serving.{ServesKept, KeptReadsMade, StaysSettled}
 use Rattle.kept_serving.specs.Parts.{Takes}
-use Rattle.kept_serving.proofs.Together.{takes_nothing, takes_on}
-use Rattle.kept_serving.proofs.Ending.{ends_whole}
+use Rattle.kept_serving.proofs.Public.{takes_nothing, takes_on, ends_whole}
 use Rattle.told_serving.specs.Telling.{HasHeard}
 use Rattle.told_serving.proofs.Hearing.{hears_nothing, hears_on, until_on}
 use Rattle.told_serving.proofs.Together.{stops_at_on}

@@ -1,5 +1,5 @@
 use Rattle.std.proofs.Common.{rules}
-use Rattle.kept_serving.proofs.Served.{settled_lost}
+use Rattle.kept_serving.proofs.Public.{settled_lost}
 use Rattle.told_serving.proofs.Served.{session_told}
 use Rattle.told_serving.proofs.sessions.serve_connection_told.Goals as goal
 

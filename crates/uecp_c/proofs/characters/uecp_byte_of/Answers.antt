@@ -1,6 +1,6 @@
 use Rattle.std.proofs.Common.{◌≡◌, ℕ, Some, arith, inr, refl}
 use Rattle.rds_text.specs.BasicSet.{character_of}
-use Rattle.rds_text.proofs.Inverse.{small}
+use Rattle.rds_text.proofs.Public.{small}
 use Rattle.uecp_c.proofs.characters.uecp_byte_of.Goals as goal
 
 -- a number that is no character is above those of the set

@@ -1,7 +1,7 @@
 use Rattle.std.proofs.Common.{[], refl, sym, ap, inl, inr, arith, append-nil}
 use Rattle.uecp_text.specs.Faults.{status_of}
 use Rattle.uecp_jobs.specs.EncoderRun.{connection_lines}
-use Rattle.uecp_jobs.proofs.Doing.{not_failed}
+use Rattle.uecp_jobs.proofs.Public.{not_failed}
 use Rattle.uecp_cli.proofs.program.run_any.Goals as goal
 
 pub returns-in-Encoder-clause-failed : goal.returns-in-Encoder-clause-failed

@@ -1,7 +1,7 @@
 use Rattle.std.proofs.Common.{rules, arith, ◌≡◌, ◌+◌, ◌++◌, ◌∷◌, [], None, Some, Ok, Err, refl, ap, sym, ◌∙◌}
 use Rattle.std.proofs.Common.{append_assoc, append-nil, inl, inr}
 use Rattle.uecp_text.specs.Input.{numbered, lines_of, said}
-use Rattle.uecp_text.proofs.Lines.{empty_is}
+use Rattle.uecp_text.proofs.Public.{empty_is}
 use Rattle.uecp_jobs.specs.Messages.{spelled, messages_first, refusal_in}
 use Rattle.uecp_jobs.proofs.MessageTexts.{no_texts_left, no_text, one_message, none_refused_yet, no_message}
 use Rattle.uecp_jobs.proofs.MessageTexts.{refused_here}

@@ -1,6 +1,6 @@
 use Rattle.std.proofs.Common.{flat_map, drop}
 use Rattle.uecp_json.specs.Stores.{group_line}
-use Rattle.uecp_text.proofs.Leading.{Leads}
+use Rattle.uecp_text.proofs.Public.{Leads}
 use Rattle.uecp_json.proofs.store.put_groups.Given as goal
 
 -- what is left leads to the same

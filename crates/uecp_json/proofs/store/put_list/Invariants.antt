@@ -3,7 +3,7 @@ use Rattle.serde_json.specs.Written.{compact_text}
 use Rattle.uecp_json.specs.Objects.{list_of}
 use Rattle.uecp_json.specs.Texts.{values_text}
 use Rattle.uecp_json.specs.Stores.{text_object}
-use Rattle.uecp_text.proofs.Leading.{Leads}
+use Rattle.uecp_text.proofs.Public.{Leads}
 use Rattle.uecp_json.proofs.store.put_list.Given as goal
 
 -- what is left leads to the same

@@ -1,6 +1,6 @@
 use Rattle.std.proofs.Common.{flat_map, drop, ap, sym, ◌∙◌}
 use Rattle.uecp_json.specs.Stores.{line_at, set_lines}
-use Rattle.uecp_text.proofs.Leading.{leads_end}
+use Rattle.uecp_text.proofs.Public.{leads_end}
 use Rattle.uecp_json.proofs.Places.{none_left}
 use Rattle.uecp_json.proofs.store.put_set.Goals as goal
 

@@ -1,6 +1,6 @@
 use Rattle.std.proofs.Common.{flat_map, drop, length, ◌-◌}
 use Rattle.uecp_json.specs.Stores.{line_at, set_lines}
-use Rattle.uecp_text.proofs.Leading.{Leads}
+use Rattle.uecp_text.proofs.Public.{Leads}
 use Rattle.uecp_json.proofs.store.put_set.Given as goal
 
 -- what is left leads to the same

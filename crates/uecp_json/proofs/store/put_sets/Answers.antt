@@ -1,7 +1,7 @@
 use Rattle.std.proofs.Common.{◌≡◌, ℕ, ◌<◌, ◌+◌, ◌-◌, ◌∷◌, suc, flat_map, ap, arith}
 use Rattle.rds_store.specs.Refusals.{count_up, set_numbers}
 use Rattle.uecp_json.specs.Stores.{set_lines}
-use Rattle.uecp_text.proofs.Leading.{leads_on}
+use Rattle.uecp_text.proofs.Public.{leads_on}
 use Rattle.uecp_json.proofs.store.put_sets.Goals as goal
 
 -- Numbers that are counted up to a stop begin with the first of them.

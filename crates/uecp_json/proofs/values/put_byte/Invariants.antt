@@ -2,7 +2,7 @@ use Rattle.std.proofs.Common.{drop}
 use Rattle.std.specs.Prelude.{encode_utf8_all}
 use Rattle.json.specs.Print.{escape}
 use Rattle.rds_text.specs.Quoted.{written}
-use Rattle.uecp_text.proofs.Leading.{Leads}
+use Rattle.uecp_text.proofs.Public.{Leads}
 use Rattle.uecp_json.proofs.values.put_byte.Given as goal
 
 -- what is left leads to the same

@@ -1,7 +1,7 @@
 use Rattle.std.proofs.Common.{◌++◌, List, ℕ, codes, lit<}
 use Rattle.std.proofs.lemmas.Fmt.{decimal_digit}
 use Rattle.uecp_text.specs.Digits.{decimal_word}
-use Rattle.uecp_text.proofs.Leading.{adds_then}
+use Rattle.uecp_text.proofs.Public.{adds_then}
 use Rattle.uecp_lines.proofs.finding_lines.put_judged.Goals as goal
 
 pub returns-in-BadStuffing : goal.returns-in-BadStuffing

@@ -1,6 +1,6 @@
 use Rattle.std.proofs.Common.{List, ℕ, ◌++◌, codes}
 use Rattle.uecp_text.specs.Digits.{counted}
-use Rattle.uecp_text.proofs.Leading.{adds_then}
+use Rattle.uecp_text.proofs.Public.{adds_then}
 use Rattle.uecp_lines.proofs.step_lines.put_counts.Goals as goal
 
 pub returns : goal.returns

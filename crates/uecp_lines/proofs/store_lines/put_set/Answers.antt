@@ -1,6 +1,6 @@
 use Rattle.std.proofs.Common.{flat_map, drop, ap, sym, ◌∙◌}
 use Rattle.uecp_lines.specs.StoreLines.{lines_at, set_lines}
-use Rattle.uecp_text.proofs.Leading.{leads_end}
+use Rattle.uecp_text.proofs.Public.{leads_end}
 use Rattle.uecp_lines.proofs.Places.{none_left}
 use Rattle.uecp_lines.proofs.store_lines.put_set.Goals as goal
 

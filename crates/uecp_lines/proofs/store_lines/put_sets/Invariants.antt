@@ -1,7 +1,7 @@
 use Rattle.std.proofs.Common.{◌-◌, ◌+◌, flat_map}
 use Rattle.rds_store.specs.Refusals.{count_up, set_numbers}
 use Rattle.uecp_lines.specs.StoreLines.{set_lines}
-use Rattle.uecp_text.proofs.Leading.{Leads}
+use Rattle.uecp_text.proofs.Public.{Leads}
 use Rattle.uecp_lines.proofs.store_lines.put_sets.Given as goal
 
 -- what is left leads to the same

@@ -1,6 +1,6 @@
 use Rattle.std.proofs.Common.{flat_map, drop}
 use Rattle.uecp_lines.specs.StoreLines.{text_line, texts_lines}
-use Rattle.uecp_text.proofs.Leading.{Leads}
+use Rattle.uecp_text.proofs.Public.{Leads}
 use Rattle.uecp_lines.proofs.store_lines.put_texts.Given as goal
 
 -- what is left leads to the same

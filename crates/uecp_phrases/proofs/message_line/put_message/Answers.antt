@@ -2,7 +2,7 @@ use Rattle.std.proofs.Common.{◌≡◌, ◌∷◌, subst, rules}
 use Rattle.std.specs.List.{AllByRecursion}
 use Rattle.uecp_elements.specs.Reading.{items, IsItem}
 use Rattle.uecp_elements.specs.View.{item_of}
-use Rattle.uecp_text.proofs.Leading.{Leads}
+use Rattle.uecp_text.proofs.Public.{Leads}
 use Rattle.uecp_phrases.proofs.WritingLines.{left_of, whole_of, line_begins, line_goes_on}
 use Rattle.uecp_phrases.proofs.message_line.put_message.Goals as goal
 

@@ -1,6 +1,6 @@
 use Rattle.std.specs.List.{AllByRecursion}
 use Rattle.uecp_elements.specs.Reading.{IsItem}
-use Rattle.uecp_text.proofs.Leading.{Leads}
+use Rattle.uecp_text.proofs.Public.{Leads}
 use Rattle.uecp_phrases.proofs.WritingLines.{left_of, whole_of}
 use Rattle.uecp_phrases.proofs.message_line.put_message.Given as goal
 

@@ -2,7 +2,7 @@ use Rattle.std.proofs.Common.{◌≡◌, ◌∷◌, [], ◌+◌, get_or, subst, 
 use Rattle.std.proofs.lemmas.List.{drop_more}
 use Rattle.std.specs.Prelude.{encode_utf8_all}
 use Rattle.uecp_text.specs.Written.{Adds}
-use Rattle.uecp_text.proofs.Leading.{Leads}
+use Rattle.uecp_text.proofs.Public.{Leads}
 use Rattle.phrase_tokens.specs.Tokens.{written_behind}
 use Rattle.uecp_phrases.specs.Written.{byte_token}
 use Rattle.uecp_phrases.proofs.WritingLines.{raw_more}

@@ -1,6 +1,6 @@
 use Rattle.std.proofs.Common.{drop, map}
 use Rattle.std.specs.Prelude.{encode_utf8_all}
-use Rattle.uecp_text.proofs.Leading.{Leads}
+use Rattle.uecp_text.proofs.Public.{Leads}
 use Rattle.phrase_tokens.specs.Tokens.{written_behind}
 use Rattle.uecp_phrases.specs.Written.{byte_token}
 use Rattle.uecp_phrases.proofs.message_line.put_raw.Given as goal

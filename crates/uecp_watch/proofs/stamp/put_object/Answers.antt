@@ -1,5 +1,5 @@
 use Rattle.std.proofs.Common.{codes, ◌++◌}
-use Rattle.uecp_text.proofs.Leading.{adds_then}
+use Rattle.uecp_text.proofs.Public.{adds_then}
 use Rattle.uecp_watch.proofs.stamp.put_object.Goals as goal
 
 pub returns : goal.returns

@@ -3,10 +3,9 @@ use Rattle.std.proofs.lemmas.Grind.{flat_map-append}
 use Rattle.uecp_frame.specs.Findings.{Finding}
 use Rattle.uecp_frame.specs.Beyond.{found_beyond, open_beyond}
 use Rattle.uecp_frame.specs.Feeding.{findings_of}
-use Rattle.uecp_frame.proofs.Pieces.{new_start_lem}
+use Rattle.uecp_frame.proofs.Public.{new_start_lem}
 use Rattle.output_forms.specs.Forms.{found_lines}
-use Rattle.uecp_text.proofs.Leading.{leads_on, leads_end}
-use Rattle.uecp_text.proofs.Lines.{empty_is}
+use Rattle.uecp_text.proofs.Public.{leads_on, leads_end, empty_is}
 use Rattle.uecp_watch.proofs.Pieces.{found_on, open_on}
 use Rattle.uecp_watch.proofs.telling.put_rest.Goals as goal
 

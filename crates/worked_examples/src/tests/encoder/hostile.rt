@@ -2,7 +2,7 @@
 use super::PI_1;
 use crate::tests::asserting::{holds, same};
 use crate::tests::making::count_encoder;
-use faulty_devices::{
+use faulty_io::{
     APPLIED_1, CountTarget, KNOWN_FRAMES, altered, comes_to, holds_no_frame, replies, spelling_of,
 };
 use std::alloc::Global;

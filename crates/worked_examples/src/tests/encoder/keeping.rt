@@ -2,7 +2,7 @@
 use super::{PI_2, is_begun, is_not_next};
 use crate::tests::asserting::{holds, same};
 use crate::tests::making::store_encoder;
-use faulty_devices::{
+use faulty_io::{
     ADD_1, APPLIED_1, APPLIED_2, EMPTY_1, EMPTY_2, comes_to, framed, pi_of, replies, texts_of,
 };
 use rds_store::RdsStore;

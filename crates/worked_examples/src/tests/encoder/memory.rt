@@ -2,7 +2,7 @@
 use super::{PI_1, gives_each_code};
 use crate::tests::asserting::{holds, same};
 use crate::tests::making::{scarce_memory, store_encoder};
-use faulty_devices::{
+use faulty_io::{
     APPLIED_1, CountTarget, FaultyReader, FaultyWriter, ScarceMemory, own_address, replies,
 };
 use rds_store::RdsStore;

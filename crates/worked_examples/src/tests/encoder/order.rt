@@ -2,7 +2,7 @@
 use super::{EMPTY_0, is_unnumbered};
 use crate::tests::asserting::{holds, same};
 use crate::tests::making::{count_encoder, store_encoder};
-use faulty_devices::{ADD, comes_to, framed, texts_of};
+use faulty_io::{ADD, comes_to, framed, texts_of};
 use std::process::Abort;
 use uecp_encoder::{Counts, Encoder, Target, What};
 

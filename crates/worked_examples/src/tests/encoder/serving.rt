@@ -2,7 +2,7 @@
 use super::PI_2;
 use crate::tests::asserting::same;
 use crate::tests::making::store_encoder;
-use faulty_devices::{ADD_1, APPLIED_1, APPLIED_2, FaultyReader, FaultyWriter, pi_of, texts_of};
+use faulty_io::{ADD_1, APPLIED_1, APPLIED_2, FaultyReader, FaultyWriter, pi_of, texts_of};
 use rds_store::RdsStore;
 use std::alloc::Global;
 use std::process::Abort;

@@ -1,7 +1,7 @@
 //! Each known frame begun and left, and with each byte altered to each other value, beside a finder that is slow and
 //! plain.
 use super::{Finding, frame_of, head_of, is_found_in, is_found_one_by_one, pi};
-use faulty_devices::{KNOWN_FRAMES, SlowFinding, altered, own_address, slow_findings, spelling_of};
+use faulty_io::{KNOWN_FRAMES, SlowFinding, altered, own_address, slow_findings, spelling_of};
 use std::alloc::Global;
 use std::process::Abort;
 use uecp_frame::{Frame, FrameBytes, FrameFault, encode};

@@ -1,7 +1,7 @@
 //! A ring where memory is wanting.
 use crate::tests::asserting::{holds, same};
 use crate::tests::making::{new_ring, scarce_memory};
-use faulty_devices::ScarceMemory;
+use faulty_io::ScarceMemory;
 use reply_ring::ReplyRing;
 use std::alloc::Global;
 use std::process::Abort;

@@ -2,7 +2,7 @@
 use super::answers;
 use crate::tests::asserting::{holds, same};
 use crate::tests::making::{scarce_memory, store_of};
-use faulty_devices::ScarceMemory;
+use faulty_io::ScarceMemory;
 use rds_store::{RdsStore, StoreFault};
 use std::alloc::Global;
 use std::process::Abort;

@@ -3,8 +3,8 @@ use Rattle.sqlite.specs.Recovery.{Image as Held}
 use Rattle.sqlite.specs.WalFiles.{outcomes}
 use Rattle.sqlite.specs.WalReads.{AreClean}
 use Rattle.sqlite.specs.Files.{over_files}
-use Rattle.kept_state.specs.Keeper.{Keeps}
-use Rattle.kept_state.specs.Files.{FileHolds}
+use Rattle.sqlite_image.specs.Keeper.{Keeps}
+use Rattle.sqlite_image.specs.Files.{FileHolds}
 use Rattle.state_files.proofs.closing.EncoderFile+FileStore+D.close.Goals as goal
 
 pub returns : goal.returns

@@ -1,0 +1,14 @@
+pub mod Wording
+pub mod RefusedRules
+pub mod Coming
+pub mod Filing
+pub mod Parts
+pub mod Steps
+pub mod Room
+pub mod Whole
+pub mod Bytes
+pub mod Taking
+pub mod Filling
+pub mod Delivering
+pub mod RefusedConnections
+pub mod Saying

@@ -1,0 +1,14 @@
+-- The definitions that the contracts of a bad line cite.
+-- The definitions that the contracts of a stream cut into segments cite.
+-- The definitions that the contracts of a line with faults cite.
+pub mod Rules
+pub mod Fates
+pub mod Parts
+pub mod Files
+pub mod Pieces
+pub mod Crossing
+pub mod Laws
+pub mod Passages
+pub mod Ends
+pub mod Connections
+pub mod Effects

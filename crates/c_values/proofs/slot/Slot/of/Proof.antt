@@ -1,0 +1,56 @@
+-- `of` moves two fields, and what they own goes with them. Assumes `Logic`.
+use Rattle.std.proofs.Common.{List, [], ◌∷◌, ◌++◌, refl, sym, subst, Some}
+use mir.Val.{Val}
+use base.Logic.{SProp, ent, emp, id⊢}
+use base.Fml.{ftrue, fsep}
+use prog.Wp.{WpFn}
+use types.Kit.{‵, raw, ◌⊛◌, ◌$◌, ◌∵◌, !, qed, move, drop, use1, split, join, fsplit, fjoin, suffices, done}
+use types.Run.{stop, fld, of_opd, no_more, and_then, returns, enter}
+use types.ByLocal.{alloc_all, pass_all, free_all, look_at, get, get_in, sets}
+use types.Part.{agg, sub, whole}
+use contract.Running.{tables}
+use denote.Signature.{plain}
+use denote.Steps.{nothing}
+use denote.Triple.Walked.{says, Stays, stay_dropped, Goes-dropped, walk_of, ends_at}
+use Rattle.std_alloc.proofs.BoxSteps.Form.{D, B, word, box_typed}
+use Rattle.std_alloc.proofs.BoxSteps.Steps.{box_out, box_in}
+use Rattle.std.proofs.raw_atomic.Walks.{proved_at}
+use Rattle.c_values.proofs.Slots.{Boxed, ASlot, AnUnboxed}
+use Rattle.c_values.specs.contracts.slot.Slot.of.{ended, clauses}
+use Rattle.c_values.specs.contracts.slot.Slot.of.Key.{name as #self}
+use Rattle.c_values.proofs.slot.Slot.of.Statement.{statement}
+use Rattle.c_values.proofs.slot.Slot.of.Code as code
+
+pub of_spec : {M : Type 1} → statement M
+of_spec 𝓤 𝓛 𝓜 𝓡 wired =
+    let H = 𝓛.H in
+    let 𝓣 = tables 𝓤 H 𝓜 𝓡 𝓡.env in
+    let said = clauses 𝓛 𝓜.mem 𝓡.returns in
+    let stays : Stays ended.signature.params ended.kept = (stay_dropped (plain (λ _. AnUnboxed)) ended.kept.0, tt) in
+    proved_at 𝓛 ended stays said 𝓜 𝓡 (Goes-dropped 𝓛 0 (plain (λ _. AnUnboxed)) ended.kept.0 (λ κs x w. refl), tt)
+    #self code.function (code.unfolded 𝓤 H 𝓜 𝓡 wired) (λ z are.
+    let given = z.0.3.0 in
+    let boxed : D Boxed = record { ptr = given.at; alloc = given.alloc; value = given.value } in
+    let made : ASlot.Denot = record { at = given.at; alloc = given.alloc; value = Some given.value } in
+    let Runs : List Val → SProp 𝓤 =
+    λ ws. WpFn 𝓤 H 𝓣.C 𝓣.Λ code.function ws ((walk_of 𝓛 ended stays said).post z) in
+    qed 𝓛 ((‵ ftrue ⊛ ‵ (fsep ((B Boxed).own_val boxed z.0.4.0) ftrue)) ∷ raw (emp 𝓤) ∷ []) ∵
+    split ! $ drop ! $ fsplit ! $
+    box_out Boxed ! boxed z.0.4.0 (λ b o h at word_is fits.
+    let w = word Boxed h b o in
+    box_in Boxed ! boxed b o boxed.value at refl $
+    -- what a box of the object owns is what the slot owns
+    use1 𝓛 (‵ (ASlot.own_val made (w ∷ []))) (id⊢ 𝓤 _) $
+    move ! (1 ∷ 2 ∷ []) $ drop ! $ drop ! $
+    suffices ! (Runs (w ∷ [])) (subst (λ ws. ent 𝓤 (Runs (w ∷ [])) (Runs ws)) (sym (λ i. word_is i ++ [])) (id⊢ 𝓤 _)) $
+    enter ! 𝓣.C 𝓣.Λ code.function (w ∷ []) _ $
+    alloc_all ! (λ l. pass_all ! refl (box_typed Boxed h b o fits, tt) $
+    -- let Unboxed { at, alloc } = object;
+    sets ! (of_opd ! (get_in ! (fld ! refl (stop !)) (sub ! 0 refl (whole !)))) refl (tt, tt) $
+    sets ! (of_opd ! (get_in ! (fld ! refl (stop !)) (sub ! 1 refl (whole !)))) refl fits $
+    -- Slot { at: at as *mut u8, alloc }
+    sets ! (of_opd ! (get ! refl)) refl (tt, tt) $
+    sets ! (agg ! (and_then ! (get ! refl) (and_then ! (get ! refl) (no_more !)))) refl (box_typed Boxed h b o fits) $
+    returns ! (look_at ! 0 refl) $ free_all ! refl $
+    suffices ! _ (ends_at 𝓛 ended stays said z w made (tt, tt) (tt, tt)) $ says ! refl $
+    nothing ! $ nothing ! $ fjoin ! $ join ! $ nothing ! $ join ! $ done !)))

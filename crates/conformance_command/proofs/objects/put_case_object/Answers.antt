@@ -1,0 +1,18 @@
+use Rattle.std.proofs.Common.{codes, ◌++◌, subst}
+use Rattle.uecp_text.specs.Written.{Adds}
+use Rattle.uecp_json.specs.Texts.{fields_text}
+use Rattle.uecp_json.proofs.Public.{adds_line, adds_more}
+use Rattle.conformance_command.specs.Choosing.{is_kept}
+use Rattle.conformance_command.specs.Telling.{case_fields, went_fields}
+use Rattle.conformance_command.proofs.objects.put_case_object.Goals as goal
+
+pub returns : goal.returns
+returns c =
+    let about = case_fields c.args.number c.args.case.now (is_kept c.args.went) in
+    let put = subst (λ kept. Adds c.open_line.new.output c.put_case.new.output
+    (fields_text (case_fields c.args.number c.args.case.now kept))) c.is_kept.ensures c.put_case.ensures in
+    adds_line c.args.output.now c.open_line.new.output c.put_went.new.output c.close_line.new.output (codes "case")
+    (about ++ went_fields c.args.went) c.open_line.ensures
+    (adds_more c.open_line.new.output c.put_case.new.output c.put_went.new.output about (went_fields c.args.went) put
+    c.put_went.ensures)
+    c.close_line.ensures

@@ -1,0 +1,44 @@
+//! The built-in cases over TCP (profile).
+ghost use Rattle.std.specs.Prelude.{◌≤◌};
+ghost use Rattle.conformance_command.specs.Conformance.{IsInRange};
+
+use crate::address::address_of;
+use crate::dialled::Dialled;
+use crate::job::ConformanceJob;
+use crate::run::{fail, run_conformance};
+use crate::unreached::say_unreached;
+use conformance::{CASES, read_cases};
+use std::alloc::Global;
+use std::io::Write;
+use std::net::{Net, TcpStream};
+use uecp_text::{RunFault, write_parts};
+
+/// Runs the chosen ones of the built-in cases over TCP, and answers the exit status: that of [`run_conformance`]. Where
+/// there was no connection to be had, it says why on `errors`.
+pub fn run_conformance_over_tcp<'a, W: Write, E: Write, N: Net<Stream = TcpStream>>(
+    alloc: Global,
+    job: &'a ConformanceJob,
+    writer: &mut W,
+    errors: &mut E,
+    net: &'a N,
+) -> u8
+    requires { IsInRange job.now }
+    ensures status { result ≤ 3 }
+{
+    let Ok(cases) = read_cases(alloc, CASES) else {
+        // A test reads them all, so it is for want of memory.
+        return fail(&RunFault::OutOfMemory, errors);
+    };
+    let timeout = u64::from(job.timeout);
+    let quiet = u64::from(job.quiet);
+    let Some((host, port)) = address_of(job.place.as_str()) else {
+        let _ = write_parts(&[b"uecp: no HOST:PORT\n"], errors);
+        return 2;
+    };
+    let mut dialled = Dialled::new(net, host, port, timeout, quiet);
+    let status = run_conformance(alloc, job, cases.as_slice(), &mut dialled, writer, errors);
+    if status == 3 {
+        say_unreached(host, port, dialled.failed(), errors);
+    }
+    status
+}

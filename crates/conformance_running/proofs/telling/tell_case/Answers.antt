@@ -1,9 +1,0 @@
-use Rattle.conformance_running.specs.Telling.{case_line}
-use Rattle.conformance_running.proofs.Told.{put_first}
-use Rattle.conformance_running.proofs.telling.tell_case.Goals as goal
-
-pub returns : goal.returns
-returns g c =
-    let line = (case_line c.args.json c.args.number c.args.case.now c.args.went) in
-    c.tell.ensures line (put_first c.new-output.result c.put_line.new.output line c.new-output.ensures.empty
-    c.put_line.ensures)

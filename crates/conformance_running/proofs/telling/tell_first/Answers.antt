@@ -1,9 +1,0 @@
-use Rattle.conformance_running.specs.Telling.{first_line}
-use Rattle.conformance_running.proofs.Told.{put_first}
-use Rattle.conformance_running.proofs.telling.tell_first.Goals as goal
-
-pub returns : goal.returns
-returns g c =
-    let line = (first_line c.args.json c.args.cases) in
-    c.tell.ensures line (put_first c.new-output.result c.put_first.new.output line c.new-output.ensures.empty
-    c.put_first.ensures)

@@ -1,5 +1,0 @@
-use Rattle.faulty_lines.proofs.Delivering.{take_least}
-use Rattle.faulty_lines.proofs.writer.first.Goals as goal
-
-pub returns-clause-first : goal.returns-clause-first
-returns-clause-first c = take_least c.args.bytes.now c.min.result c.min.ensures

@@ -1,5 +1,0 @@
-//! The worked examples of images, each a test, and nothing else.
-#![tactic(auto)]
-
-#[cfg(test)]
-mod tests;

@@ -1,5 +1,0 @@
-use Rattle.kept_images.proofs.Noticing.{notices}
-use Rattle.kept_images.proofs.laws.a_change_is_noticed.Goals as goal
-
-pub returns : goal.returns
-returns c = notices

@@ -1,5 +1,0 @@
-use Rattle.kept_images.proofs.Same.{servers_same}
-use Rattle.kept_images.proofs.laws.server_again.Goals as goal
-
-pub returns : goal.returns
-returns c = servers_same

@@ -1,6 +1,0 @@
-use Rattle.kept_sending.proofs.Joined.{begins_anew_lem}
-use Rattle.kept_sending.proofs.laws.a_cut_pass_begins_anew.Goals as goal
-
-pub returns : goal.returns
-returns g c = begins_anew_lem g.C.Connections.opens g.C.Connections.closes g.C.Input.Read.remaining
-    g.C.Output.Write.contents

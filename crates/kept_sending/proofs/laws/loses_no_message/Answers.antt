@@ -1,6 +1,0 @@
-use Rattle.kept_sending.proofs.LosingNone.{loses_no_message_lem}
-use Rattle.kept_sending.proofs.laws.loses_no_message.Goals as goal
-
-pub returns : goal.returns
-returns g c = loses_no_message_lem g.C.Connections.opens g.C.Connections.closes g.C.Input.Read.remaining
-    g.C.Output.Write.contents g.K.KeepServer.saves g.K.KeepServer.fails

@@ -1,6 +1,0 @@
-use Rattle.kept_sending.proofs.LosingNone.{sends_none_again_lem}
-use Rattle.kept_sending.proofs.laws.told_is_not_sent_again.Goals as goal
-
-pub returns : goal.returns
-returns g c = sends_none_again_lem g.C.Connections.opens g.C.Connections.closes g.C.Input.Read.remaining
-    g.C.Output.Write.contents

@@ -1,4 +1,0 @@
-pub mod Wording
-pub mod Refusing
-pub mod Coming
-pub mod Filing

@@ -1,8 +1,0 @@
-use Rattle.std.proofs.Common.{◌≡◌, drop}
-use Rattle.line_faults.specs.Fates.{named_place}
-use Rattle.line_faults.proofs.fates.place_named.Given as goal
-
--- the rules that were passed name no place
-abbrev pub invariant-loop-rule : goal.invariant-loop-rule
-invariant-loop-rule l =
-    named_place l.rules l.way l.number l.length ≡ named_place (drop l.rule-index l.rules) l.way l.number l.length

@@ -1,4 +1,0 @@
-use Rattle.line_faults.proofs.numbers.chance_of.Goals as goal
-
-pub returns-in-None-clause-other : goal.returns-in-None-clause-other
-returns-in-None-clause-other c = λ percent chance. c.in-None.ensures.other percent chance.0

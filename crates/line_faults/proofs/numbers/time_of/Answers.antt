@@ -1,6 +1,0 @@
-use Rattle.line_faults.proofs.Refusing.{no_time}
-use Rattle.line_faults.proofs.numbers.time_of.Goals as goal
-
-pub returns-in-None-count_before-clause-other : goal.returns-in-None-count_before-clause-other
-returns-in-None-count_before-clause-other c =
-    no_time c.args.word.now c.in-None.ensures.other c.in-None-count_before.ensures.other

@@ -1,7 +1,0 @@
-use Rattle.uecp_text.specs.Words.{words}
-use Rattle.line_faults.proofs.Refusing.{no_delay}
-use Rattle.line_faults.proofs.reading.delay.Goals as goal
-
-pub returns-in-None-time_of-clause-other : goal.returns-in-None-time_of-clause-other
-returns-in-None-time_of-clause-other c =
-    no_delay (words c.args.text.now) c.in-Some.word.now c.in-Some.ensures.word c.in-None-time_of.ensures.other

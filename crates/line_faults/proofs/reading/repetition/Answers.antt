@@ -1,6 +1,0 @@
-use Rattle.uecp_text.specs.Words.{words}
-use Rattle.line_faults.proofs.Refusing.{no_repetition}
-use Rattle.line_faults.proofs.reading.repetition.Goals as goal
-
-pub returns-in-None-clause-other : goal.returns-in-None-clause-other
-returns-in-None-clause-other c = no_repetition (words c.args.text.now) c.in-None.ensures.other

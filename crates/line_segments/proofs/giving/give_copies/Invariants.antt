@@ -1,7 +1,0 @@
-use Rattle.std.proofs.Common.{◌≡◌, ◌++◌}
-use Rattle.line_segments.specs.Pieces.{times}
-use Rattle.line_segments.proofs.giving.give_copies.Given as goal
-
--- so many copies have come out
-abbrev pub invariant-loop-copy : goal.invariant-loop-copy
-invariant-loop-copy l = l.out.items ≡ l.initial.out.items ++ times l._copy l.bytes

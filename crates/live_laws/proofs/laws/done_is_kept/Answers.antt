@@ -1,9 +1,0 @@
-use Rattle.live_laws.proofs.Ending.{done_is_kept_lem}
-use Rattle.live_laws.proofs.laws.done_is_kept.Goals as goal
-
-pub returns : goal.returns
-returns g c =
-    let k = g.K.KeepServer in
-    done_is_kept_lem g.C.Connections.opens g.C.Connections.closes g.C.Input.Read.remaining g.C.Output.Write.contents
-    k.leaves
-    k.is_clean k.saves k.fails

@@ -1,9 +1,0 @@
-use Rattle.live_laws.proofs.Ending.{told_is_taken_lem}
-use Rattle.live_laws.proofs.laws.told_is_taken.Goals as goal
-
-pub returns : goal.returns
-returns g c =
-    let k = g.K.KeepServer in
-    told_is_taken_lem g.C.Connections.opens g.C.Connections.closes g.C.Input.Read.remaining g.C.Output.Write.contents
-    k.leaves
-    k.is_clean k.saves k.fails

@@ -1,5 +1,0 @@
-use Rattle.std.proofs.Common.{length}
-use Rattle.live_sending.proofs.lines.+put_held.Given as goal
-
-abbrev pub decreases-put_held : goal.decreases-put_held
-decreases-put_held l = length l.marks.now

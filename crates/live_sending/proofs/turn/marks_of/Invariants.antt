@@ -1,7 +1,0 @@
-use Rattle.std.proofs.Common.{◌≡◌, take}
-use Rattle.live_sending.specs.Run.{marks_in}
-use Rattle.live_sending.proofs.turn.marks_of.Given as goal
-
--- the marks so far
-abbrev pub invariant-loop-place : goal.invariant-loop-place
-invariant-loop-place l = l.marks.items ≡ take l.place (marks_in l.server)

@@ -1,0 +1,53 @@
+-- What is counted of lines of JSON (profile).
+use Rattle.std.specs.Prelude.{ℕ, ◌+◌, ◌-◌, ◌^◌, min, Bool, true, List, ◌&&◌, ◌||◌, not, codes, if◌then◌else◌}
+use Rattle.serde_json.specs.Data.{Data}
+use Rattle.page.specs.Members.{flag_at, says, is_flag}
+
+-- Lines that are objects of ours, and others; messages, those that came again, those that were refused; segments that
+-- were no frame; connections.
+pub record Counts : Type 0 where
+  pub lines : ℕ
+  pub others : ℕ
+  pub messages : ℕ
+  pub repeats : ℕ
+  pub refusals : ℕ
+  pub dropped : ℕ
+  pub connections : ℕ
+
+abbrev pub no_counts : Counts
+no_counts = record { lines = 0; others = 0; messages = 0; repeats = 0; refusals = 0; dropped = 0; connections = 0 }
+
+-- One more, where something holds; no more are counted than 2^64 - 1.
+abbrev pub one_more : Bool → ℕ → ℕ
+one_more holds count = if holds then min (count + 1) (2 ^ 64 - 1) else count
+
+abbrev pub is_kind : (kind : List ℕ) → Data → Bool
+is_kind kind d = says (codes "kind") kind d
+
+-- A message: a frame, or what became of one where no frame is told.
+abbrev pub is_message : Data → Bool
+is_message d = is_kind (codes "frame") d || is_kind (codes "reply") d || is_kind (codes "answer") d
+
+-- It came again: an encoder wrote a kept reply once more.
+abbrev pub is_repeat : Data → Bool
+is_repeat d =
+    is_kind (codes "answered") d && says (codes "answer") (codes "repeat") d
+    || is_kind (codes "reply") d && not (is_flag (flag_at (codes "fresh") d))
+
+-- It was refused: its code is not 00.
+abbrev pub is_refusal : Data → Bool
+is_refusal d =
+    (is_kind (codes "answered") d && says (codes "answer") (codes "new") d || is_kind (codes "answer") d)
+    && not (says (codes "code") (codes "00") d)
+
+-- The counts behind an object of ours.
+abbrev pub counted : Data → Counts → Counts
+counted d c = record {
+  lines = one_more true c.lines;
+  others = c.others;
+  messages = one_more (is_message d) c.messages;
+  repeats = one_more (is_repeat d) c.repeats;
+  refusals = one_more (is_refusal d) c.refusals;
+  dropped = one_more (is_kind (codes "dropped") d) c.dropped;
+  connections = one_more (is_kind (codes "connection") d) c.connections;
+}

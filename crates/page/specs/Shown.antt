@@ -1,0 +1,80 @@
+-- What services have, by what the elements of messages say, and what a receiver tells (profile).
+use Rattle.std.specs.Prelude.{ℕ, ◌-◌, ◌==◌, Bool, ◌&&◌, ◌||◌, List, [], ◌∷◌, codes, Option, Some, None, option_and_then}
+use Rattle.std.specs.Prelude.{if◌then◌else◌}
+use Rattle.serde_json.specs.Data.{Data}
+use Rattle.serde_json.specs.Find.{get}
+use Rattle.page.specs.Members.{text_at, flag_at, number_at, says, is_flag}
+
+-- What was told last of a service of a data set: its PI, name, RadioText, TP, TA and programme type; None of what was
+-- not told, or is shown no more.
+pub record Service : Type 0 where
+  pub set : ℕ
+  pub service : ℕ
+  pub pi : Option (List ℕ)
+  pub name : Option (List ℕ)
+  pub rt : Option (List ℕ)
+  pub tp : Option Bool
+  pub ta : Option Bool
+  pub pty : Option ℕ
+
+-- Nothing was told of it yet.
+abbrev pub new_service : (set service : ℕ) → Service
+new_service set service = record {
+  set = set;
+  service = service;
+  pi = None;
+  name = None;
+  rt = None;
+  tp = None;
+  ta = None;
+  pty = None;
+}
+
+-- An object is this element of a message.
+abbrev pub is_element : (name : List ℕ) → Data → Bool
+is_element name d = says (codes "element") name d
+
+-- An object tells what a receiver shows.
+abbrev pub is_shown : Data → Bool
+is_shown d = says (codes "kind") (codes "shown") d
+
+-- It tells something of a service.
+abbrev pub tells : Data → Bool
+tells d =
+    is_element (codes "pi") d || is_element (codes "ps") d || is_element (codes "traffic") d
+    || is_element (codes "pty") d || is_element (codes "rt") d || is_shown d
+
+-- What an element says of RadioText: an empty one where it is cleared, else its text.
+abbrev pub element_text : Data → Option (List ℕ)
+element_text d = if is_flag (flag_at (codes "clear") d) then Some [] else text_at (codes "text") d
+
+-- A service once a receiver told all that it shows of it.
+abbrev pub all_told : Data → Service → Service
+all_told d s = record s {
+  pi = text_at (codes "pi") d;
+  name = text_at (codes "text") d;
+  rt = option_and_then (text_at (codes "text")) (get (codes "rt") d);
+  tp = flag_at (codes "tp") d;
+  ta = flag_at (codes "ta") d;
+  pty = number_at (codes "type") d;
+}
+
+-- A service once this was told of it: by an element what that says; by a receiver all that it shows.
+abbrev pub told : Data → Service → Service
+told d s =
+    if is_element (codes "pi") d then record s { pi = text_at (codes "pi") d }
+    else if is_element (codes "ps") d then record s { name = text_at (codes "text") d }
+    else if is_element (codes "traffic") d then record s { tp = flag_at (codes "tp") d; ta = flag_at (codes "ta") d }
+    else if is_element (codes "pty") d then record s { pty = number_at (codes "type") d }
+    else if is_element (codes "rt") d then record s { rt = element_text d }
+    else if is_shown d then all_told d s
+    else s
+
+abbrev pub is_of : (set service : ℕ) → Service → Bool
+is_of set service s = s.set == set && s.service == service
+
+-- Of services this one once that was told of it; a new one comes last, where there is room for so many more.
+abbrev pub told_among : (room set service : ℕ) → Data → List Service → List Service
+told_among room set service d [] = if room == 0 then [] else told d (new_service set service) ∷ []
+told_among room set service d (s ∷ ss) =
+    if is_of set service s then told d s ∷ ss else s ∷ told_among (room - 1) set service d ss

@@ -1,0 +1,84 @@
+//! What came of a connection's request, and what waits to be sent (profile; RFC 9112).
+ghost use Rattle.std.specs.Prelude.{◌≡◌, ◌≤◌, [], length, take, drop, IfOk, OnErr};
+ghost use Rattle.std.specs.Io.KnownBytes.{Appends, Keeps};
+ghost use Rattle.page.specs.ClientView.{standing_of};
+
+use crate::clients::asked::Asked;
+use crate::clients::client::{Client, Phase, Site};
+use http1::{Event, Limits, Server};
+use httparse::spans::EMPTY_HEADER_SPAN;
+use std::alloc::Global;
+use std::io;
+use std::io::Write;
+
+/// How many fields a head has at most.
+const FIELDS_MAX: usize = 64;
+
+impl Client {
+    /// A connection that has asked for nothing.
+    pub fn new(alloc: Global) -> Client
+        ensures waiting { (standing_of result).output ≡ [] }
+        ensures phase { (standing_of result).phase ≡ Phase.Asking }
+    {
+        Client {
+            server: Server::new(Limits::default()),
+            phase: Phase::Asking,
+            due: 0,
+            input: Vec::new(alloc),
+            output: Vec::new(alloc),
+        }
+    }
+
+    /// What it is for now.
+    pub fn phase(&self) -> Phase
+        ensures { result ≡ (standing_of self.now).phase }
+    {
+        self.phase
+    }
+
+    /// How many bytes wait to be written.
+    pub fn waiting(&self) -> usize
+        ensures { result ≡ length (standing_of self.now).output }
+    {
+        self.output.len()
+    }
+
+    /// Writes once what waits, as much as the writer takes.
+    ///
+    /// Errors: those of the writer; nothing changes then.
+    pub fn write_to<W: Write>(&mut self, writer: &mut W) -> io::Result<usize>
+        ensures ok { IfOk result (λ count. (count ≤ length (standing_of self.old).output)
+            × (standing_of self.new ≡ record (standing_of self.old) {
+              output =
+                  drop count (standing_of self.old).output;
+            })
+            × Appends (W.contents writer.old) (W.contents writer.new) (take count (standing_of self.old).output)) }
+        ensures err { OnErr result ((standing_of self.new ≡ standing_of self.old)
+            × Keeps (W.contents writer.old) (W.contents writer.new)) }
+    {
+        let count = writer.write(self.output.as_slice())?;
+        self.output.drain(..count);
+        Ok(count)
+    }
+
+    /// Takes what came of its request, and answers it once its head is whole. What comes behind that is passed over.
+    pub fn receive(&mut self, alloc: Global, came: &[u8], site: &Site<'_>) {
+        if self.phase != Phase::Asking {
+            return;
+        }
+        if self.input.extend_from_slice(came).is_err() {
+            self.phase = Phase::Closing;
+            return;
+        }
+        let mut fields = [EMPTY_HEADER_SPAN; FIELDS_MAX];
+        match self.server.read(self.input.as_slice(), &mut fields) {
+            Ok(progress) => {
+                if let Event::Head(head) = progress.event {
+                    let asked = Asked::of(self.input.as_slice(), &head, &fields, site.own_only);
+                    self.answer(alloc, &asked, site);
+                }
+            }
+            Err(error) => self.refuse(error.status()),
+        }
+    }
+}

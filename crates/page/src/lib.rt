@@ -1,0 +1,23 @@
+//! A live page of a station, as machines over values: what it shows, the events that browsers are owed, and each
+//! browser's connection. No clock, and no IO but through a writer that the caller gives.
+//!
+//! - [`Page`]: what is shown, a fold of the lines of JSON that `encoder`, `watch`, `receive`, `answer` and `send`
+//!   write; [`Took`] is what a line was. [`state_text`], [`metrics_text`]: it as JSON, and its [`Counts`] as monitoring
+//!   systems read them.
+//! - [`History`]: the last 1,000 events, and what a browser is owed that names the last one it has; [`put_event`],
+//!   [`GAP`], [`ALIVE`]: the parts of a stream of Server-Sent Events.
+//! - [`Client`]: one connection; [`Site`] is what it is answered from, [`Route`] what a request asks for, [`HTML`] the
+//!   page itself.
+//! - [`laws`]: a browser takes each line as it was sent; each event is sent once and in order, or the browser is lost.
+#![tactic(auto)]
+
+mod clients;
+mod events;
+pub mod laws;
+mod state;
+
+pub use clients::{
+    Client, EndOfEvents, HTML, Phase, Route, Site, WAITING_MAX, is_own, route_of, served,
+};
+pub use events::{ALIVE, AddFault, GAP, History, KEPT_MAX, number_of, put_event};
+pub use state::{Counts, Page, SERVICES_MAX, Took, metrics_text, state_text};

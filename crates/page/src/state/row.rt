@@ -1,0 +1,113 @@
+//! What was told last of a service of a data set (profile).
+ghost use Rattle.std.specs.Prelude.{◌≡◌, OnOk, IfOk, option_map, string_bytes};
+ghost use Rattle.serde_json.specs.View.{view};
+ghost use Rattle.page.specs.Shown.{new_service, is_element, is_of, told, all_told, element_text};
+ghost use Rattle.page.specs.StateView.{service_of};
+
+use crate::state::members::{flag_at, number_at, says, text_at};
+use serde_json::Value;
+use std::alloc::{AllocError, Global};
+
+/// What was told last of a service of a data set. None of what was not told, or is shown no more.
+#[derive(Drop)]
+pub(crate) struct Row {
+    /// The data set's number.
+    pub(crate) set: u64,
+    /// The programme service's number.
+    pub(crate) service: u64,
+    /// The PI, four hexadecimal digits.
+    pub(crate) pi: Option<String>,
+    /// What the name says.
+    pub(crate) name: Option<String>,
+    /// What the RadioText says.
+    pub(crate) rt: Option<String>,
+    /// Whether it has traffic announcements.
+    pub(crate) tp: Option<bool>,
+    /// Whether one is on the air.
+    pub(crate) ta: Option<bool>,
+    /// The programme type.
+    pub(crate) pty: Option<u64>,
+}
+
+impl Row {
+    /// Nothing was told of it yet.
+    pub(crate) fn new(set: u64, service: u64) -> Row
+        ensures { service_of result ≡ new_service set service }
+    {
+        Row {
+            set,
+            service,
+            pi: None,
+            name: None,
+            rt: None,
+            tp: None,
+            ta: None,
+            pty: None,
+        }
+    }
+
+    /// Whether it is this service of this data set.
+    pub(crate) fn is_of(&self, set: u64, service: u64) -> bool
+        ensures { result ≡ is_of set service (service_of self.now) }
+    {
+        self.set == set && self.service == service
+    }
+
+    /// This is told of it.
+    ///
+    /// Errors: where memory is refused it may have been told in part.
+    pub(crate) fn tell(&mut self, alloc: Global, value: &Value) -> Result<(), AllocError>
+        ensures { OnOk result (service_of self.new ≡ told (view value.now) (service_of self.old)) }
+    {
+        if is_element(value, "pi") {
+            self.pi = text_at(alloc, value, "pi")?;
+        } else if is_element(value, "ps") {
+            self.name = text_at(alloc, value, "text")?;
+        } else if is_element(value, "traffic") {
+            self.tp = flag_at(value, "tp");
+            self.ta = flag_at(value, "ta");
+        } else if is_element(value, "pty") {
+            self.pty = number_at(value, "type");
+        } else if is_element(value, "rt") {
+            self.rt = element_text(alloc, value)?;
+        } else if says(value, "kind", "shown") {
+            self.show(alloc, value)?;
+        }
+        Ok(())
+    }
+
+    /// All that a receiver shows is told of it.
+    ///
+    /// Errors: where memory is refused it may have been told in part.
+    fn show(&mut self, alloc: Global, value: &Value) -> Result<(), AllocError>
+        ensures { OnOk result (service_of self.new ≡ all_told (view value.now) (service_of self.old)) }
+    {
+        self.pi = text_at(alloc, value, "pi")?;
+        self.name = text_at(alloc, value, "text")?;
+        self.rt = match value.get("rt") {
+            Some(rt) => text_at(alloc, rt, "text")?,
+            None => None,
+        };
+        self.tp = flag_at(value, "tp");
+        self.ta = flag_at(value, "ta");
+        self.pty = number_at(value, "type");
+        Ok(())
+    }
+}
+
+/// Whether an object is this element of a message.
+pub(crate) fn is_element(value: &Value, name: &str) -> bool
+    ensures { result ≡ is_element name.now (view value.now) }
+{
+    says(value, "element", name)
+}
+
+/// What an element says of RadioText: an empty one where it is cleared, else its text.
+fn element_text(alloc: Global, value: &Value) -> Result<Option<String>, AllocError>
+    ensures { IfOk result (λ text. option_map string_bytes text ≡ element_text (view value.now)) }
+{
+    if flag_at(value, "clear") == Some(true) {
+        return Ok(Some(String::new(alloc)));
+    }
+    text_at(alloc, value, "text")
+}

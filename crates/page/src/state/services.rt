@@ -1,0 +1,49 @@
+//! What is told of services (profile).
+ghost use Rattle.std.specs.Prelude.{◌≡◌, ◌≤◌, ◌⊎◌, OnOk, length, map};
+ghost use Rattle.serde_json.specs.View.{view};
+ghost use Rattle.page.specs.Shown.{tells, told_among};
+ghost use Rattle.page.specs.StateView.{service_of};
+
+use crate::state::members::says;
+use crate::state::page::SERVICES_MAX;
+use crate::state::row::{Row, is_element};
+use serde_json::Value;
+use std::alloc::{AllocError, Global};
+
+/// Whether an object tells something of a service.
+pub(crate) fn tells(value: &Value) -> bool
+    ensures { result ≡ tells (view value.now) }
+{
+    is_element(value, "pi")
+        || is_element(value, "ps")
+        || is_element(value, "traffic")
+        || is_element(value, "pty")
+        || is_element(value, "rt")
+        || says(value, "kind", "shown")
+}
+
+/// This is told of a service; a new one comes last, where there is room.
+///
+/// Errors: where memory is refused it may have been told in part.
+pub(crate) fn tell_of(
+    alloc: Global,
+    set: u64,
+    service: u64,
+    value: &Value,
+    rows: &mut Vec<Row>,
+) -> Result<(), AllocError>
+    ensures { OnOk result (map service_of rows.new.items
+        ≡ told_among 128 set service (view value.now) (map service_of rows.old.items)) }
+{
+    for place in 0..rows.len() {
+        if rows[place].is_of(set, service) {
+            return rows[place].tell(alloc, value);
+        }
+    }
+    if rows.len() < SERVICES_MAX {
+        let mut row = Row::new(set, service);
+        row.tell(alloc, value)?;
+        rows.push(row)?;
+    }
+    Ok(())
+}

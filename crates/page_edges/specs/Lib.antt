@@ -1,1 +1,0 @@
--- No definition of its own.

@@ -1,9 +1,0 @@
--- The objects so far are those of the services so far.
-use Rattle.std.proofs.Common.{◌≡◌, take, map}
-use Rattle.serde_json.specs.View.{view}
-use Rattle.page_state.specs.Texts.{service_data}
-use Rattle.page_state.specs.View.{service_of}
-use Rattle.page_state.proofs.texts.services_value.Given as goal
-
-abbrev pub invariant-loop-row : goal.invariant-loop-row
-invariant-loop-row l = map view l.list.items ≡ map (λ r. service_data (service_of r)) (take l.row-index l.rows)

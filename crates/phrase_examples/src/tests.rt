@@ -1,6 +1,0 @@
-//! Characters, tokens, and phrases with what is expected where there is none.
-mod asserting;
-mod characters;
-mod expectations;
-mod phrases;
-mod tokens;

@@ -1,0 +1,5 @@
+mod air;
+mod asserting;
+mod faults;
+mod jobs;
+mod phrases;

@@ -1,0 +1,110 @@
+-- What a receiver shows is what the store holds.
+use Rattle.std.specs.Prelude.{ℕ, ◌+◌, ◌*◌, ◌≤◌, ◌≡◌, ◌⊎◌, ◌==◌, true, false, List, [], ◌∷◌, length, Some, None}
+use Rattle.std.specs.Prelude.{IfSome, Contains, map, if◌then◌else◌}
+use Rattle.std.specs.List.{AllByRecursion}
+use Rattle.rds_groups.specs.Groups.{bit}
+use Rattle.rds_store.specs.Value.{Store, ServiceData, StoredText}
+use Rattle.rds_groups.specs.Shown.{Receiver, text_shown, switched_on}
+use Rattle.rds_groups.specs.Damage.{IsGroupDamage}
+use Rattle.carousel.specs.Carousel.{Carousel}
+use Rattle.carousel.specs.Texts.{line_up, segment_count}
+use Rattle.carousel.specs.Next.{sent, is_waiting}
+use Rattle.carousel.specs.Service.{main_service}
+use Rattle.promises.specs.OnAir.{IsService, IsStore, Has, after, carousel_after, Moment, after_damage}
+
+-- The bytes before the first 0D.
+abbrev pub up_to_return : List ℕ → List ℕ
+up_to_return [] = []
+up_to_return (byte ∷ bytes) = if byte == 0x0D then [] else byte ∷ up_to_return bytes
+
+-- ---- A service that stays is shown.
+-- All but the text.
+pub record Shows (s : ServiceData) (r : Receiver) : Type 0 where
+  pub pi : r.pi ≡ Some s.pi
+  pub tp : r.tp ≡ Some s.tp
+  pub pty : r.pty ≡ Some s.pty
+  pub ta : r.ta ≡ Some s.ta
+  pub music : r.music ≡ Some s.music
+  pub name : r.name ≡ Some s.ps
+
+-- Wherever the carousel stood, and whatever a receiver had heard before, after 16 groups it shows the service, and goes
+-- on to, whatever free-format groups of other types go out between.
+abbrev pub ServiceIsShown : Type 0
+ServiceIsShown =
+    (s : ServiceData) (vs : List Store) (c : Carousel) (r : Receiver)
+    → IsService s → AllByRecursion (Has s) vs → 16 ≤ length vs → Shows s (after vs c r)
+
+-- In how many of these stores a group waits.
+abbrev pub waiting : List Store → ℕ
+waiting [] = 0
+waiting (v ∷ vs) = bit (is_waiting v.groups) + waiting vs
+
+-- And after two groups for each segment of its text, and two for each store where a free-format group waits, it shows
+-- that text, where there is one, and an empty one where there is none: at most 32 groups where no group waits.
+abbrev pub TextIsShown : Type 0
+TextIsShown =
+    (s : ServiceData) (t : StoredText) (vs : List Store) (c : Carousel) (r : Receiver)
+    → IsService s → line_up s.texts ≡ t ∷ [] → AllByRecursion (Has s) vs
+    → 2 * (segment_count t.bytes + waiting vs) ≤ length vs → text_shown (after vs c r) ≡ Some (up_to_return t.bytes)
+
+-- Traffic announcements are told within two groups.
+abbrev pub TrafficIsTold : Type 0
+TrafficIsTold =
+    (s : ServiceData) (vs : List Store) (c : Carousel) (r : Receiver)
+    → IsService s → AllByRecursion (Has s) vs → 2 ≤ length vs → (after vs c r).ta ≡ Some s.ta
+
+-- ---- Texts that change are shown.
+-- Whatever changes in the store and when: from the beginning of a pass on, whatever a receiver had heard before, at the
+-- end of each pass it shows the text that is on the air, if it misses no group.
+abbrev pub EachPassIsShown : Type 0
+EachPassIsShown =
+    (vs : List Store) (c : Carousel) (r : Receiver) → AllByRecursion IsStore vs → c.text_segment ≡ 0
+    → (carousel_after vs c).text_segment ≡ segment_count (carousel_after vs c).text
+    → text_shown (after vs c r) ≡ Some (up_to_return (carousel_after vs c).text)
+
+-- ---- Nothing is mixed.
+-- Whatever changes in the store and whatever is lost, a receiver that was switched on shows nothing, or a name that the
+-- store held.
+abbrev pub NoNameIsMixed : Type 0
+NoNameIsMixed =
+    (ms : List Moment) (c : Carousel)
+    → AllByRecursion (λ m. IsStore m.store) ms → AllByRecursion (λ m. IsGroupDamage m.damage) ms
+    → IfSome (after_damage ms c switched_on).name (Contains (map (λ m. (main_service m.store).ps) ms))
+
+-- All that a receiver has heard of a text is of the one that is on the air.
+pub record HasHeardOnly (c : Carousel) (r : Receiver) : Type 0 where
+  pub flag : r.flag ≡ c.flag
+  pub long : r.is_short ≡ false
+  pub at : (place : ℕ) → (r.text place ≡ None) ⊎ (r.text place ≡ Some (sent c.text place))
+  pub few : length c.text ≤ 64
+
+-- The toggle of each text is set.
+abbrev pub Toggles : Store → Type 0
+Toggles v = AllByRecursion (λ (t : StoredText). t.toggle ≡ true) (main_service v).texts
+
+-- Where each text has its toggle set, a receiver that misses no group shows of a text the one that is on the air, or
+-- nothing, whatever changes in the store and when.
+abbrev pub NoTextIsMixed : Type 0
+NoTextIsMixed =
+    (vs : List Store) (c : Carousel) (r : Receiver)
+    → AllByRecursion IsStore vs → AllByRecursion Toggles vs → HasHeardOnly c r
+    → IfSome (text_shown (after vs c r)) (λ shown. shown ≡ up_to_return (carousel_after vs c).text)
+
+-- ---- Nothing false is shown.
+-- What it shows of each thing is the service's, or nothing.
+pub record ShowsNothingFalse (s : ServiceData) (t : StoredText) (r : Receiver) : Type 0 where
+  pub pi : IfSome r.pi (λ pi. pi ≡ s.pi)
+  pub tp : IfSome r.tp (λ tp. tp ≡ s.tp)
+  pub pty : IfSome r.pty (λ pty. pty ≡ s.pty)
+  pub ta : IfSome r.ta (λ ta. ta ≡ s.ta)
+  pub music : IfSome r.music (λ music. music ≡ s.music)
+  pub name : IfSome r.name (λ name. name ≡ s.ps)
+  pub text : IfSome (text_shown r) (λ shown. shown ≡ up_to_return t.bytes)
+
+-- Whatever groups are damaged, if in each block no bit is wrong, one, two, or some of ten in a row, a receiver that was
+-- switched on shows of a service that stays what it is, or nothing.
+abbrev pub NothingFalseIsShown : Type 0
+NothingFalseIsShown =
+    (s : ServiceData) (t : StoredText) (ms : List Moment) (c : Carousel)
+    → IsService s → line_up s.texts ≡ t ∷ [] → AllByRecursion (λ m. Has s m.store) ms
+    → AllByRecursion (λ m. IsGroupDamage m.damage) ms → ShowsNothingFalse s t (after_damage ms c switched_on)

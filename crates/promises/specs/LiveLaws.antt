@@ -1,0 +1,64 @@
+-- What holds of whole runs of a server whose lines come as they like: which lines it took, and what a crash leaves of
+-- it (profile).
+use Rattle.std.specs.Prelude.{◌≡◌, ◌⊎◌, ℕ, false, List, length, Option}
+use Rattle.std.specs.Io.KnownBytes.{Appends}
+use Rattle.uecp_elements.specs.declared.code.Code.{Code}
+use Rattle.uecp_link.specs.Server.{ServerState}
+use Rattle.uecp_net.specs.Keeping.{KeptServer, IsKept}
+use Rattle.kept_jobs.specs.ServerRun.{Standing}
+use Rattle.kept_jobs.specs.ServerKept.{HasTaken}
+use Rattle.line_batches.specs.declared.intake.Given.{Given}
+use Rattle.line_batches.specs.Intake.{messages_in}
+use Rattle.sending.specs.declared.options.LiveOptions.{LiveOptions}
+use Rattle.sending.specs.Run.{Lives}
+use Rattle.promises.specs.Taken.{TakesSome, TakesAll}
+use Rattle.promises.specs.Left.{OutlivesLive}
+use Rattle.promises.specs.LiveTold.{TellsAll, IsStatusOf}
+
+-- the status of a run that came to its end
+abbrev pub IsDone : (status : ℕ) → Type 0
+IsDone status = (status ≡ 0) ⊎ (status ≡ 1) ⊎ (status ≡ 4)
+
+module _ {C I O K : Type 0} (opens : C → Option (I × O) → C → Type 0) (closes : C → I → O → C → Type 0)
+    (remaining : I → Option (List ℕ)) (contents : O → Option (List ℕ)) (leaves : K → KeptServer → Type 0)
+    (is_clean : K → Type 0) (saves fails : K → KeptServer → K → Type 0) where
+  -- A run that came to its end took all lines up to that of its input, and what they gave is kept: of what was kept as
+  -- the server was at the start, whatever a crash leaves then is joined, counts as taken the messages of these lines
+  -- besides those of before, and none waits.
+  abbrev pub DoneIsKept : Type 0
+  DoneIsKept =
+      (options : LiveOptions) (c c' : C) (x : Standing ServerState K) (k' : K)
+      (held' unread unread' said said' : Option (List ℕ)) (status : ℕ) →
+      Lives opens closes remaining contents leaves is_clean saves fails options c c' x k' held' unread unread' said
+      said' status → IsDone status →
+      (lines : List (List ℕ × Given)) × TakesAll options unread unread' said lines
+      × (IsKept (leaves x.keeper) x.progress x.runs → is_clean k' → (left : KeptServer) → leaves k' left →
+      HasTaken x.progress (length (messages_in lines)) left)
+
+  -- However a run ended it took some lines of its input, and of what was kept as the server was at the start a crash
+  -- leaves what it may of a run with the messages of these lines.
+  abbrev pub WhatACrashLeaves : Type 0
+  WhatACrashLeaves =
+      (options : LiveOptions) (c c' : C) (x : Standing ServerState K) (k' : K)
+      (held' unread unread' said said' : Option (List ℕ)) (status : ℕ) →
+      Lives opens closes remaining contents leaves is_clean saves fails options c c' x k' held' unread unread' said
+      said' status →
+      (lines : List (List ℕ × Given)) × TakesSome options unread unread' said lines
+      × (IsKept (leaves x.keeper) x.progress x.runs → is_clean k' → (left : KeptServer) → leaves k' left →
+      OutlivesLive opens closes remaining contents saves fails options x.progress x.runs (length (messages_in lines))
+      left)
+
+  -- A run that came to its end took all lines up to that of its input; and it told of each message that these gave one
+  -- line, in order and under its number, and nothing else but of the server and its encoder, which without `rejoin` is
+  -- taken for a new one at no time; and its status says how that went.
+  abbrev pub ToldIsTaken : Type 0
+  ToldIsTaken =
+      (options : LiveOptions) (c c' : C) (x : Standing ServerState K) (k' : K)
+      (held' unread unread' said said' : Option (List ℕ)) (status : ℕ) →
+      Lives opens closes remaining contents leaves is_clean saves fails options c c' x k' held' unread unread' said
+      said' status → IsDone status →
+      (lines : List (List ℕ × Given)) × TakesAll options unread unread' said lines
+      × (answers : List (Option Code)) × (text : List ℕ) × (length answers ≡ length (messages_in lines))
+      × ((again : ℕ) × (options.rejoin ≡ false → again ≡ 0) × TellsAll options x.progress x.runs again answers text)
+      × Appends x.held held' text
+      × IsStatusOf lines answers status

@@ -1,0 +1,65 @@
+-- A carousel on the air, and a receiver that hears it.
+use Rattle.std.specs.Prelude.{◌/◌, ◌≤◌, ◌<◌, ◌≡◌, ◌≢◌, ◌^◌, List, [], ◌∷◌, length, All, IfSome, slice_get}
+use Rattle.rds_groups.specs.Groups.{blocks}
+use Rattle.rds_store.specs.Value.{Store, ServiceData, StoredText}
+use Rattle.rds_store.specs.declared.group.Group.{Group as StoredGroup}
+use Rattle.rds_groups.specs.Heard.{came}
+use Rattle.rds_groups.specs.Shown.{Receiver, hears}
+use Rattle.rds_groups.specs.Damage.{GroupDamage, damaged}
+use Rattle.carousel.specs.Carousel.{Carousel}
+use Rattle.carousel.specs.Next.{next_group}
+use Rattle.carousel.specs.Service.{main_service}
+
+-- ---- What a store has.
+pub record IsText (t : StoredText) : Type 0 where
+  pub short : length t.bytes ≤ 64
+  pub are_bytes : All (λ byte. byte < 256) t.bytes
+
+pub record IsService (s : ServiceData) : Type 0 where
+  pub pi : s.pi < 2 ^ 16
+  pub eight : length s.ps ≡ 8
+  pub are_bytes : All (λ byte. byte < 256) s.ps
+  pub pty : s.pty < 32
+  pub texts : All IsText s.texts
+
+-- A free-format group that is of neither type 0 nor type 2: a receiver takes such a one for the station's own.
+pub record IsOther (g : StoredGroup) : Type 0 where
+  pub kind : g.kind < 32
+  pub bits : g.bits < 32
+  pub not_type_0 : g.kind / 2 ≢ 0
+  pub not_type_2 : g.kind / 2 ≢ 2
+  pub block3 : g.block3 < 2 ^ 16
+  pub block4 : g.block4 < 2 ^ 16
+
+-- A store as a carousel finds it: its main service, and if a group waits the first is of another type than 0 and 2.
+pub record IsStore (v : Store) : Type 0 where
+  pub service : IsService (main_service v)
+  pub first : IfSome (slice_get v.groups 0) IsOther
+
+-- The main service has stayed the same.
+pub record Has (s : ServiceData) (v : Store) : Type 0 where
+  pub same : main_service v ≡ s
+  pub first : IfSome (slice_get v.groups 0) IsOther
+
+-- ---- On the air.
+-- A receiver after the groups of these stores, one group of each: what it hears of each is its four blocks.
+abbrev pub after : List Store → Carousel → Receiver → Receiver
+after [] c r = r
+after (v ∷ vs) c r = after vs (next_group v c).1 (hears (came (blocks (next_group v c).0)) r)
+
+-- Where the carousel stands then.
+abbrev pub carousel_after : List Store → Carousel → Carousel
+carousel_after [] c = c
+carousel_after (v ∷ vs) c = carousel_after vs (next_group v c).1
+
+-- A store, and what comes wrong of the group that it sends.
+pub record Moment : Type 0 where
+  pub store : Store
+  pub damage : GroupDamage
+
+-- The same receiver where the blocks of each group come so damaged.
+abbrev pub after_damage : List Moment → Carousel → Receiver → Receiver
+after_damage [] c r = r
+after_damage (m ∷ ms) c r =
+    after_damage ms (next_group m.store c).1
+    (hears (came (damaged m.damage (blocks (next_group m.store c).0))) r)

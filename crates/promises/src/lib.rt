@@ -1,0 +1,31 @@
+//! What holds of the whole, in theorems: the crate to read first. It has no code. Each is the contract of a function
+//! that does nothing; what it says of the program stands on the clauses of the calls that the program makes.
+//!
+//! - [`steps_keep_the_headline`] (of `uecp_link`, whose `Line::play` promises the same of a list that it plays): **over
+//!   every list of events on the line the encoder's store is what a prefix of the sent messages makes, each applied
+//!   once and in order; every acknowledged message is in it with its one reply, and every missing one is still
+//!   outstanding.**
+//! - [`headline_with_disks`]: so it is over every crash of either end, each followed by a start from its file.
+//! - [`told_is_taken`], [`done_is_kept`]: what a run of `send` took and told, each message once and in order, and what
+//!   a crash leaves of it.
+//! - [`said_station_made`], [`station_is_out`]: where each message that tells a station was acknowledged with 00, the
+//!   encoder's store is that station, but for groups that were taken; and `station applied` is told only where each was
+//!   told 00.
+//! - [`service_is_shown`], [`text_is_shown`], [`no_name_is_mixed`], [`no_said_text_is_mixed`]: what a receiver shows is
+//!   what the store holds.
+//!
+//! They rest on `uecp_frame`, `uecp_elements`, `rds_store`, `uecp_encoder` and `uecp_link` (the ends and the line),
+//! `uecp_net` and `kept_serving` (what is saved, and when), `line_batches`, `kept_jobs` and `sending` (a run),
+//! `store_phrases` and `uecp_phrases` (what is said of a store), and `carousel` and `rds_groups` (the air).
+#![tactic(auto)]
+
+pub mod air;
+pub mod crash;
+pub mod live;
+pub mod station;
+
+pub use air::{no_name_is_mixed, no_said_text_is_mixed, service_is_shown, text_is_shown};
+pub use crash::headline_with_disks;
+pub use live::{done_is_kept, told_is_taken};
+pub use station::{said_station_made, station_is_out};
+pub use uecp_link::laws::steps_keep_the_headline;

@@ -1,5 +1,0 @@
-use Rattle.rds_receiver.proofs.Lines.{nothing_in}
-use Rattle.rds_receiver.proofs.receiver.no_text.Goals as goal
-
-pub returns : goal.returns
-returns c = nothing_in 64

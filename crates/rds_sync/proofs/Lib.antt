@@ -1,3 +1,0 @@
-pub mod Window
-pub mod Finding
-pub mod Reading

@@ -1,5 +1,0 @@
-use Rattle.rds_sync.proofs.Finding.{each_group_is_found}
-use Rattle.rds_sync.proofs.laws.each_group_is_found.Goals as goal
-
-pub returns : goal.returns
-returns c = each_group_is_found

@@ -1,5 +1,0 @@
-use Rattle.rds_sync.proofs.Finding.{step_is_kept}
-use Rattle.rds_sync.proofs.laws.step_is_kept.Goals as goal
-
-pub returns : goal.returns
-returns c = step_is_kept

@@ -1,0 +1,47 @@
+-- Lines that are heard one after another, and how that begins and ends.
+use Rattle.std.proofs.Common.{◌≡◌, ℕ, Bool, false, List, [], ◌∷◌, ◌++◌, Option, refl, ap, subst, ◌∙◌}
+use Rattle.uecp_text.specs.declared.run_fault.RunFault.{RunFault}
+use Rattle.uecp_text.specs.declared.run_fault.RunFault.TheVariants as run
+use Rattle.uecp_text.specs.Faults.{status_of}
+use Rattle.rds_groups.specs.Shown.{Receiver, switched_on}
+use Rattle.rds_groups.specs.View.{receiver_of}
+use Rattle.receive_command.specs.declared.display.shown_form.ShownForm.{ShownForm}
+use Rattle.receive_command.specs.declared.group_lines.group_line.GroupLine.{GroupLine}
+use Rattle.receive_command.specs.declared.line_input.Hearing.{Hearing}
+use Rattle.receive_command.specs.Receiving.{Standing, at_first, Hears, HearsEach, FailsFor}
+use Rattle.receive_command.specs.View.{standing_of}
+
+abbrev standing_with : (unread : Option (List ℕ)) (lines : ℕ) (refused : Bool) (heard : Receiver)
+    (held said : Option (List ℕ)) → Standing
+standing_with unread lines refused heard held said = record {
+  unread = unread;
+  lines = lines;
+  refused = refused;
+  heard = heard;
+  held = held;
+  said = said;
+}
+
+-- at first nothing was heard
+pub stands_first : (h : Hearing) (unread held said : Option (List ℕ)) → receiver_of h.receiver ≡ switched_on
+    → h.lines ≡ 0 → h.refused ≡ false → standing_of h unread held said ≡ at_first unread held said
+stands_first h unread held said receiver lines refused =
+    ap (λ n. standing_with unread n h.refused (receiver_of h.receiver) held said) lines
+    ∙ ap (λ b. standing_with unread 0 b (receiver_of h.receiver) held said) refused
+    ∙ ap (λ r. standing_with unread 0 false r held said) receiver
+
+-- one more line was heard
+pub hears_on : (form : ShownForm) (timed : Bool) (lines : List GroupLine) (is : GroupLine) (x y z : Standing)
+    → HearsEach form timed lines x y → Hears form timed is y z → HearsEach form timed (lines ++ is ∷ []) x z
+hears_on form timed [] is x y z same hears =
+    (z, subst (λ w. Hears form timed is w z) same hears, refl)
+hears_on form timed (line ∷ lines) is x y z (next, first, others) hears =
+    (next, first, hears_on form timed lines is next y z others hears)
+
+-- a run that fails so has status 3
+pub fails_status : (form : ShownForm) (timed : Bool) (x : Standing) (unread' held' : Option (List ℕ))
+    (fault : RunFault) → FailsFor fault form timed x unread' held' → status_of fault ≡ 3
+fails_status form timed x unread' held' run.Reading fails = refl
+fails_status form timed x unread' held' run.Writing fails = refl
+fails_status form timed x unread' held' run.OutOfMemory fails = refl
+fails_status form timed x unread' held' fault fails = absurd fails

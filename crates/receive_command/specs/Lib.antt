@@ -1,0 +1,14 @@
+-- The definitions of what a receiver hears of lines or bits as they come, and of what is told of it.
+-- The definitions of what a receiver shows, and of what is told of a change.
+-- The definitions of what a line is to a receiver.
+pub mod Bits
+pub mod Receiving
+pub mod View
+pub use Rattle.rds_groups.specs.SynchroniserLaws
+pub use Rattle.line_feed.specs.Lines
+pub mod Shown
+pub mod Told
+pub mod DisplayView
+pub mod GroupLines
+pub mod Laws
+pub use Rattle.rds_groups.specs.Heard

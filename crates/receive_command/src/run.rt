@@ -1,0 +1,84 @@
+//! Lines are heard as they come (profile).
+ghost use Rattle.std.specs.Prelude.{◌≡◌, ◌&&◌, is_some};
+ghost use Rattle.uecp_text.specs.Faults.{status_of, error_lines};
+ghost use Rattle.uecp_text.specs.Written.{Begins};
+ghost use Rattle.receive_command.specs.Receiving.{Receives, at_first};
+
+use crate::display::ShownForm;
+use crate::line_input::{Hearing, hear_next};
+use crate::receive_job::ReceiveJob;
+use line_feed::Feed;
+use rds_groups::Receiver;
+use std::alloc::Global;
+use std::io::Write;
+use std::time::Clock;
+use uecp_text::{Output, RunFault, report};
+
+/// Tells what a receiver shows of the groups that the lines are, as it changes: behind each line what changed is
+/// written and flushed before the next line is waited for. A line that is no group is refused on `errors` by its
+/// number and passed over, and the run goes on. It answers the exit status: 0 at the end of the input, 1 there where a
+/// line was refused, 3 where memory, reading or writing failed, which is said on `errors`.
+pub fn run_receive<F: Feed, W: Write, E: Write, C: Clock>(
+    alloc: Global,
+    job: &ReceiveJob,
+    clock: Option<&C>,
+    feed: &mut F,
+    writer: &mut W,
+    errors: &mut E,
+) -> u8
+    ensures { Receives job.now.form (job.now.time && is_some clock.entry) result
+        (at_first (F.remaining feed.old) (W.contents writer.old) (E.contents errors.old))
+        (F.remaining feed.new) (W.contents writer.new) (E.contents errors.new) }
+{
+    let clock = if job.time { clock } else { None };
+    receive(alloc, job.form, clock, feed, writer, errors)
+}
+
+/// Hears one line after another, and answers the exit status.
+fn receive<F: Feed, W: Write, E: Write, C: Clock>(
+    alloc: Global,
+    form: ShownForm,
+    clock: Option<&C>,
+    feed: &mut F,
+    writer: &mut W,
+    errors: &mut E,
+) -> u8
+    ensures { Receives form (is_some clock.entry) result
+        (at_first (F.remaining feed.old) (W.contents writer.old) (E.contents errors.old))
+        (F.remaining feed.new) (W.contents writer.new) (E.contents errors.new) }
+{
+    let mut line = Vec::new(alloc);
+    let mut output = Output::new(alloc);
+    let mut hearing = Hearing::new();
+    for _turn in 0..u64::MAX {
+        let next = hear_next(
+            alloc,
+            form,
+            clock,
+            feed,
+            &mut line,
+            &mut hearing,
+            &mut output,
+            writer,
+            errors,
+        );
+        match next {
+            Ok(goes_on) => {
+                if !goes_on {
+                    return u8::from(hearing.refused);
+                }
+            }
+            Err(fault) => return fail(&fault, errors),
+        }
+    }
+    fail(&RunFault::Reading, errors)
+}
+
+/// Says why a run stopped, and answers its status.
+pub(crate) fn fail<E: Write>(fault: &RunFault, errors: &mut E) -> u8
+    ensures status { result ≡ status_of fault.now }
+    ensures said { Begins (E.contents errors.old) (E.contents errors.new) (error_lines fault.now) }
+{
+    let _ = report(fault, errors);
+    fault.status()
+}

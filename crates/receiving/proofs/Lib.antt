@@ -1,3 +1,0 @@
-pub mod Heard
-pub mod HeardBits
-pub mod Texts

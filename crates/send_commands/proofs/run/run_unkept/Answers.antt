@@ -1,0 +1,21 @@
+use Rattle.std.proofs.Common.{◌≡◌, false, subst}
+use Rattle.uecp_link.specs.Server.{ServerState}
+use Rattle.sending.specs.Run.{Lives}
+use Rattle.send_commands.proofs.run.run_unkept.Goals as goal
+
+pub returns : goal.returns
+returns g c =
+    let run = c.run_live in (
+      _,
+      run.new.keeper,
+      subst (λ (s : ServerState). Lives g.C.Connections.opens g.C.Connections.closes g.C.Input.Read.remaining
+          g.C.Output.Write.contents (λ k left. Unit {0}) (λ k. ⊥) (λ k left k'. k' ≡ k) (λ k left k'. ⊥)
+          c.args.options.now c.args.connect.now run.new.connect (record {
+            runs = s;
+            keeper = _;
+            progress = record { taken = 0; joined = false };
+            held = g.W.Write.contents c.args.writer.now;
+          }) run.new.keeper (g.W.Write.contents run.new.writer) (g.F.Feed.remaining c.args.feed.now)
+          (g.F.Feed.remaining run.new.feed) (g.E.Write.contents c.args.errors.now)
+          (g.E.Write.contents run.new.errors) run.result) c.new.ensures run.ensures.runs,
+    )

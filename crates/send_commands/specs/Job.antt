@@ -1,0 +1,80 @@
+-- What the job `send` does, and how it ends (profile).
+use Rattle.std.specs.Prelude.{◌≡◌, ◌⊎◌, ℕ, ◌≤◌, ◌^◌, ◌-◌, List, Option, Some, None, Result, true, false, option_map}
+use Rattle.std.specs.String.{string_bytes}
+use Rattle.uecp_text.specs.Faults.{error_lines}
+use Rattle.uecp_text.specs.declared.run_fault.RunFault.TheVariants as run
+use Rattle.uecp_text.specs.Written.{Begins}
+use Rattle.uecp_link.specs.Server.{ServerState, idle_at}
+use Rattle.uecp_jobs.specs.Setups.{IsOneEncoder, address_of}
+use Rattle.uecp_net.specs.declared.saved.keep.Progress.{Progress}
+use Rattle.uecp_net.specs.Keeping.{KeptServer}
+use Rattle.state_files.specs.declared.fault.StateFault.{StateFault}
+use Rattle.sending.specs.declared.not_kept.NotKept.{NotKept}
+use Rattle.sending.specs.declared.options.LiveOptions.{LiveOptions}
+use Rattle.sending.specs.Run.{Lives}
+use Rattle.commands.specs.declared.send_job.SendJob.{SendJob}
+use Rattle.send_commands.specs.LiveIn.{LivesIn, HasNoState}
+
+-- The numbers of a job that can be done.
+pub record IsSendable (job : SendJob) : Type 0 where
+  pub some : 1 ≤ job.window
+  pub most : job.window ≤ 8
+
+-- The options of its run are those of the job; connections are made again as often as they can be counted, also where
+-- one is silent.
+pub record IsFor (job : SendJob) (station : List (List ℕ)) (options : LiveOptions) : Type 0 where
+  pub limits : options.limits ≡ record {
+    tries = job.tries;
+    turns = job.turns;
+    reconnects = 2 ^ 32 - 1;
+    reconnect_silent = true;
+  }
+  pub reading : options.reading ≡ record { region = job.region; size = job.window; strict = job.strict }
+  pub join : options.join ≡ job.join
+  pub rejoin : options.rejoin ≡ job.rejoin
+  pub form : options.form ≡ job.form
+  pub sends_station : options.station.now ≡ station
+
+-- The site and the encoder's number are not those of one encoder, and that was said, or begun to be said.
+abbrev pub IsOfNobody : SendJob → (said said' : Option (List ℕ)) → (status : ℕ) → Type 0
+IsOfNobody job said said' status =
+    (IsOneEncoder job.site job.encoder → ⊥) × (status ≡ 2) × Begins said said' (error_lines run.Address)
+
+module _ {C I O : Type 0} (opens : C → Option (I × O) → C → Type 0) (closes : C → I → O → C → Type 0)
+    (remaining : I → Option (List ℕ)) (contents : O → Option (List ℕ)) where
+  -- A run was made with no state, by a new server to the encoder, of which nothing was taken and which is not joined.
+  -- What it would keep is kept nowhere.
+  abbrev pub SendsTo : (address : ℕ) → LiveOptions → (c c' : C)
+      → (unread unread' held held' said said' : Option (List ℕ)) → (status : ℕ) → Type 0
+  SendsTo address options c c' unread unread' held held' said said' status =
+      (keeper : NotKept) × (keeper' : NotKept)
+      × Lives opens closes remaining contents (λ k left. Unit {0}) (λ k. ⊥) (λ k left k'. k' ≡ k) (λ k left k'. ⊥)
+      options c c' (record {
+        runs = idle_at address;
+        keeper = keeper;
+        progress = record { taken = 0; joined = false };
+        held = held;
+      }) keeper' held' unread unread' said said' status
+
+  module _ {K : Type 0} (gives : (path : List ℕ) → ServerState → Progress → K → Type 0)
+      (refuses : List ℕ → StateFault → Type 0) (ends : K → Result (Unit {0}) StateFault → Type 0)
+      (leaves : K → KeptServer → Type 0) (is_clean : K → Type 0) (saves fails : K → KeptServer → K → Type 0) where
+    -- A run was made from the state in the file of this path; or with no state.
+    abbrev pub SendsFrom : (state : Option (List ℕ)) → (address : ℕ) → LiveOptions → (c c' : C)
+        → (unread unread' held held' said said' : Option (List ℕ)) → (status : ℕ) → Type 0
+    SendsFrom (Some path) address options c c' unread unread' held held' said said' status =
+        LivesIn gives ends leaves is_clean saves fails opens closes remaining contents path address options c c' unread
+        unread' held held' said said' status
+        ⊎ (HasNoState gives refuses path said said' status × (unread' ≡ unread) × (held' ≡ held) × (c' ≡ c))
+    SendsFrom None address options c c' unread unread' held held' said said' status =
+        SendsTo address options c c' unread unread' held held' said said' status
+
+    -- So for the options of the job and its encoder. Or the address is not that of one, and nothing was taken, opened
+    -- or written.
+    abbrev pub HasSentLive : SendJob → (station : List (List ℕ)) → (c c' : C)
+        → (unread unread' held held' said said' : Option (List ℕ)) → (status : ℕ) → Type 0
+    HasSentLive job station c c' unread unread' held held' said said' status =
+        ((options : LiveOptions) × IsFor job station options × IsOneEncoder job.site job.encoder
+        × SendsFrom (option_map string_bytes job.state) (address_of job.site job.encoder) options c c' unread unread'
+        held held' said said' status)
+        ⊎ (IsOfNobody job said said' status × (unread' ≡ unread) × (held' ≡ held) × (c' ≡ c))

@@ -1,0 +1,55 @@
+-- A run with its lines as they come whose state is in a file (profile).
+use Rattle.std.specs.Prelude.{◌≡◌, ◌≢◌, ◌⊎◌, ℕ, List, Option, Result, Ok, Err}
+use Rattle.uecp_link.specs.Server.{ServerState}
+use Rattle.uecp_text.specs.Written.{Begins}
+use Rattle.uecp_net.specs.declared.saved.keep.Progress.{Progress}
+use Rattle.uecp_net.specs.Keeping.{KeptServer, IsKept}
+use Rattle.kept_jobs.specs.Stops.{state_line}
+use Rattle.state_files.specs.declared.fault.StateFault.{StateFault}
+use Rattle.state_jobs.specs.Texts.{state_text}
+use Rattle.state_jobs.specs.ServerJob.{RefusesServer}
+use Rattle.sending.specs.declared.options.LiveOptions.{LiveOptions}
+use Rattle.sending.specs.Run.{Lives}
+
+-- A run ended with a status, and its state was closed so: the status stays, and nothing is said, where the state was
+-- closed or the run had stopped; or the run came to its end, the state could not be closed, that was said, or begun to
+-- be said, and the status is 3.
+abbrev pub IsClosedLive : (status : ℕ) → Result (Unit {0}) StateFault → (status' : ℕ) → (said said' : Option (List ℕ))
+    → Type 0
+IsClosedLive status closed status' said said' =
+    ((status' ≡ status) × (said' ≡ said) × ((status ≢ 3) → closed ≡ Ok tt))
+    ⊎ ((fault : StateFault) × (closed ≡ Err fault) × (status ≢ 3) × (status' ≡ 3)
+    × Begins said said' (state_line (state_text fault)))
+
+-- The state at the path could not be opened, and that was said, or begun to be said.
+abbrev pub HasNoState : {K : Type 0} → (gives : List ℕ → ServerState → Progress → K → Type 0)
+    → (refuses : List ℕ → StateFault → Type 0) → (path : List ℕ) → (said said' : Option (List ℕ)) → (status : ℕ)
+    → Type 0
+HasNoState gives refuses path said said' status =
+    (fault : StateFault) × RefusesServer gives refuses path fault × (status ≡ 3)
+    × Begins said said' (state_line (state_text fault))
+
+module _ {K C I O : Type 0} (gives : (path : List ℕ) → ServerState → Progress → K → Type 0)
+    (ends : K → Result (Unit {0}) StateFault → Type 0) (leaves : K → KeptServer → Type 0) (is_clean : K → Type 0)
+    (saves fails : K → KeptServer → K → Type 0) (opens : C → Option (I × O) → C → Type 0)
+    (closes : C → I → O → C → Type 0) (remaining : I → Option (List ℕ)) (contents : O → Option (List ℕ)) where
+  -- The state at the path was opened, its server is one to the encoder that is asked for, and a crash would leave of
+  -- it what is to be kept; the run was made from there, as `run_live` says, and ended with a status; and then the state
+  -- was closed.
+  pub record LivesIn (path : List ℕ) (address : ℕ) (options : LiveOptions) (c c' : C)
+      (unread unread' held held' said said' : Option (List ℕ)) (status' : ℕ) : Type 0 where
+    pub server : ServerState
+    pub progress : Progress
+    pub keeper : K
+    pub keeper_after : K
+    pub status : ℕ
+    pub between : Option (List ℕ)
+    pub closed : Result (Unit {0}) StateFault
+    pub given : gives path server progress keeper
+    pub address_is : server.address ≡ address
+    pub settled : is_clean keeper → IsKept (leaves keeper) progress server
+    pub lives : Lives opens closes remaining contents leaves is_clean saves fails options c c'
+        (record { runs = server; keeper = keeper; progress = progress; held = held }) keeper_after held' unread unread'
+        said between status
+    pub closes_so : ends keeper_after closed
+    pub is_closed : IsClosedLive status closed status' between said'

@@ -1,0 +1,46 @@
+-- The job `send` over TCP (profile).
+use Rattle.std.specs.Prelude.{◌≡◌, ◌⊎◌, ℕ, ◌≤◌, List, [], Option, None, Result}
+use Rattle.std.specs.String.{string_bytes}
+use Rattle.uecp_text.specs.declared.run_fault.RunFault.TheVariants.{OutOfMemory}
+use Rattle.uecp_text.specs.Faults.{error_lines}
+use Rattle.uecp_text.specs.Written.{Begins}
+use Rattle.uecp_link.specs.Server.{ServerState}
+use Rattle.uecp_net.specs.declared.saved.keep.Progress.{Progress}
+use Rattle.uecp_net.specs.Keeping.{KeptServer}
+use Rattle.state_files.specs.declared.fault.StateFault.{StateFault}
+use Rattle.live_edges.specs.Patience.{Dialled}
+use Rattle.commands.specs.declared.send_job.SendJob.{SendJob}
+use Rattle.send_commands.specs.Job.{HasSentLive}
+
+-- The host and the port of the job are dialled, with its limit of time; so much was said before.
+abbrev pub DialsLive : SendJob → (told : Option (List ℕ)) → Dialled → Type 0
+DialsLive job told dialled =
+    dialled ≡ record { host = string_bytes job.host; port = job.port; timeout = job.timeout; told = told }
+
+-- The messages of the job's station could not be had, or there was no memory for the feed of its lines: nothing was
+-- taken, opened or written. Where the job has no file for a station it is memory alone, and that was said, or begun to
+-- be said.
+pub record HasNotBegun (job : SendJob) (held held' said said' : Option (List ℕ)) (status : ℕ) : Type 0 where
+  pub same : held' ≡ held
+  pub at_least : 2 ≤ status
+  pub at_most : status ≤ 3
+  pub memory : job.station ≡ None → (status ≡ 3) × Begins said said' (error_lines OutOfMemory)
+
+-- Where the job has no file for a station, no message makes one, and nothing was said yet.
+abbrev pub IsBegun : SendJob → (station : List (List ℕ)) → (said begun : Option (List ℕ)) → Type 0
+IsBegun job station said begun = job.station ≡ None → (station ≡ []) × (begun ≡ said)
+
+module _ {I O K : Type 0} (opens : Dialled → Option (I × O) → Dialled → Type 0)
+    (closes : Dialled → I → O → Dialled → Type 0) (remaining : I → Option (List ℕ)) (contents : O → Option (List ℕ))
+    (gives : (path : List ℕ) → ServerState → Progress → K → Type 0) (refuses : List ℕ → StateFault → Type 0)
+    (ends : K → Result (Unit {0}) StateFault → Type 0) (leaves : K → KeptServer → Type 0) (is_clean : K → Type 0)
+    (saves fails : K → KeptServer → K → Type 0) where
+  -- The job was done with the lines of the input, of which so much was left, and with the messages of the station, as
+  -- `run_send` says, over connections to the job's host and port, from where this had been said.
+  abbrev pub HasSentOver : SendJob → (told unread held held' said said' : Option (List ℕ)) → (status : ℕ) → Type 0
+  HasSentOver job told unread held held' said said' status =
+      ((station : List (List ℕ)) × (dialled : Dialled) × (dialled' : Dialled) × (unread' : Option (List ℕ))
+      × (begun : Option (List ℕ)) × DialsLive job told dialled × IsBegun job station said begun
+      × HasSentLive opens closes remaining contents gives refuses ends leaves is_clean saves fails job station dialled
+      dialled' unread unread' held held' begun said' status)
+      ⊎ HasNotBegun job held held' said said' status

@@ -1,0 +1,16 @@
+//! The job `send`: a studio's server whose lines come as they like, from its options to its exit status.
+//!
+//! - [`run_send_over_tcp`]: does it over TCP, with lines from a reader and messages of the station from a file.
+//! - [`run_send`]: does it over every feed of lines and source of connections.
+//! - [`run_live_in`]: so with the state in a file.
+#![tactic(auto)]
+
+mod closing;
+mod live_in;
+mod over_tcp;
+mod run;
+mod station;
+
+pub use live_in::run_live_in;
+pub use over_tcp::run_send_over_tcp;
+pub use run::run_send;

@@ -1,0 +1,145 @@
+//! The job `send` over TCP, with lines from a reader. Source: profile.
+ghost use Rattle.std.specs.Prelude.{◌≡◌, ◌≤◌, [], None, IfOk, IfErr};
+ghost use Rattle.send_commands.specs.Job.{IsSendable};
+ghost use Rattle.send_commands.specs.OverTcp.{HasSentOver, DialsLive};
+
+use crate::run::run_send;
+use crate::station::{StationFault, read_station};
+use commands::SendJob;
+use kept_jobs::fail_state;
+use line_feed::{Arrival, LineFeed};
+use live_edges::{Patience, Patient, ReadMeter, Watch};
+use state_jobs::OpenStates;
+use std::alloc::Global;
+use std::fs::Files;
+use std::io::{Read, Write};
+use std::net::{Net, TcpStream};
+use std::time::Clock;
+use uecp_frame::Message;
+use uecp_jobs::fail;
+use uecp_net::Connections;
+use uecp_text::RunFault;
+
+/// Does the job over TCP with the lines of a reader, and answers the exit status: that of [`run_send`], or 2 where a
+/// line of the station's file is refused, and 3 where that can't be read. What is said of the connection goes to
+/// `notices`, and the watch has the connection that is there, so that the arrival can look after it.
+pub fn run_send_over_tcp<
+    'a,
+    R: Read,
+    A: Arrival + Drop,
+    W: Write,
+    E: Write,
+    M: Write,
+    N: Net<Stream = TcpStream> + Clock + Files,
+    S: OpenStates,
+>(
+    alloc: Global,
+    job: &'a SendJob,
+    reader: &mut R,
+    arrival: A,
+    writer: &mut W,
+    errors: &mut E,
+    watch: &'a Watch,
+    notices: &'a mut M,
+    net: &'a N,
+    states: &S,
+) -> u8
+    requires { IsSendable job.now }
+    ensures { HasSentOver ⟦<Patient<'a, N, M> as Connections>⟧.opens ⟦<Patient<'a, N, M> as Connections>⟧.closes
+        ⟦<ReadMeter<TcpStream> as Read>⟧.remaining ⟦<TcpStream as Write>⟧.contents
+        (S.gives_server states.now) (S.refuses_server states.now) (S.closes_server states.now)
+        S.ServerKeeper.leaves S.ServerKeeper.is_clean S.ServerKeeper.saves S.ServerKeeper.fails job.now
+        (M.contents notices.old) (R.remaining reader.old) (W.contents writer.old) (W.contents writer.new)
+        (E.contents errors.old) (E.contents errors.new) result }
+{
+    match station_of(alloc, job, net, errors) {
+        Err(fault) => fail_station(&fault, errors),
+        Ok(station) => {
+            let Ok(mut feed) = LineFeed::new(alloc, reader, arrival) else {
+                return fail(&RunFault::OutOfMemory, errors);
+            };
+            let mut patient = patient_of(net, job, watch, notices);
+            let station = station.as_slice();
+            run_send(
+                alloc,
+                job,
+                station,
+                states,
+                &mut feed,
+                writer,
+                errors,
+                &mut patient,
+                net,
+            )
+        }
+    }
+}
+
+/// The messages of the job's station; none where it has no file.
+fn station_of<F: Files, E: Write>(
+    alloc: Global,
+    job: &SendJob,
+    files: &F,
+    errors: &mut E,
+) -> Result<Vec<Message>, StationFault>
+    ensures { job.now.station ≡ None → IfOk result (λ station. station.items ≡ []) × IfErr result (λ _. ⊥)
+        × (errors.new ≡ errors.old) }
+{
+    match &job.station {
+        None => Ok(Vec::new(alloc)),
+        Some(path) => read_station(alloc, job.region, path.as_str(), files, errors),
+    }
+}
+
+/// Says why there is no station, and answers the exit status.
+fn fail_station<E: Write>(fault: &StationFault, errors: &mut E) -> u8
+    ensures { (2 ≤ result) × (result ≤ 3) }
+{
+    match fault {
+        StationFault::OutOfMemory => fail(&RunFault::OutOfMemory, errors),
+        StationFault::Unreadable => fail_state("the station's file can't be read", errors),
+        StationFault::LineRefused => {
+            let _ = fail_state("that line is in the station's file", errors);
+            2
+        }
+        StationFault::TooLong => {
+            let _ = fail_state("the station has more than 4096 messages", errors);
+            2
+        }
+    }
+}
+
+/// Where the connections come from: the job's host and port, dialled again and again.
+fn patient_of<'a, N: Net<Stream = TcpStream> + Clock, M: Write>(
+    net: &'a N,
+    job: &'a SendJob,
+    watch: &'a Watch,
+    notices: &'a mut M,
+) -> Patient<'a, N, M>
+    ensures { DialsLive job.now (M.contents notices.old) result }
+{
+    let patience = Patience {
+        retry_every: u64::from(job.retry_every),
+        give_up: limit_of(job.give_up),
+        silent: u64::from(job.silent),
+        stop_when_silent: job.rejoin,
+    };
+    Patient::new(
+        net,
+        job.host.as_str(),
+        job.port,
+        u64::from(job.timeout),
+        patience,
+        watch,
+        notices,
+    )
+}
+
+/// A limit of so many seconds; none where it is 0.
+fn limit_of(seconds: u32) -> Option<u64> {
+    if seconds == 0 {
+        None
+    } else {
+        Some(u64::from(seconds))
+    }
+}

@@ -1,0 +1,117 @@
+//! The job `send`. Source: profile.
+ghost use Rattle.std.specs.Prelude.{◌≤◌, IsTrue};
+ghost use Rattle.uecp_frame.specs.Address.{is_exact};
+ghost use Rattle.send_commands.specs.Job.{IsSendable, IsFor, HasSentLive, SendsTo};
+
+use crate::live_in::run_live_in;
+use commands::SendJob;
+use line_batches::Reading;
+use line_feed::Feed;
+use sending::{LiveOptions, NotKept, run_live};
+use state_jobs::OpenStates;
+use std::alloc::Global;
+use std::io::Write;
+use std::time::Clock;
+use uecp_frame::{Address, Message};
+use uecp_jobs::{address_of, fail};
+use uecp_link::Server;
+use uecp_net::{Connections, Limits, Progress};
+use uecp_text::RunFault;
+
+/// Sends the messages of the lines that come, and answers the exit status: 0 all were applied, 1 a line was refused, 2
+/// the address is not that of one encoder, 3 the state can't be opened, saved or closed, a message is outstanding, or
+/// memory, reading or writing failed, 4 the encoder refused a message. With a state in a file the run goes on from it;
+/// else it begins with a new server, which joins its encoder. The messages of the station are sent behind each join.
+pub fn run_send<S: OpenStates, F: Feed, W: Write, E: Write, C: Connections, T: Clock>(
+    alloc: Global,
+    job: &SendJob,
+    station: &[Message],
+    states: &S,
+    feed: &mut F,
+    writer: &mut W,
+    errors: &mut E,
+    connect: &mut C,
+    clock: &T,
+) -> u8
+    requires { IsSendable job.now }
+    ensures { HasSentLive C.opens C.closes C.Input.remaining C.Output.contents (S.gives_server states.now)
+        (S.refuses_server states.now) (S.closes_server states.now) S.ServerKeeper.leaves S.ServerKeeper.is_clean
+        S.ServerKeeper.saves S.ServerKeeper.fails job.now station.now connect.old connect.new (F.remaining feed.old)
+        (F.remaining feed.new) (W.contents writer.old) (W.contents writer.new) (E.contents errors.old)
+        (E.contents errors.new) result }
+{
+    let Some(address) = address_of(job.site, job.encoder) else {
+        return fail(&RunFault::Address, errors);
+    };
+    let options = options_of(job, station);
+    match &job.state {
+        Some(path) => {
+            let path = path.as_str();
+            run_live_in(
+                alloc, &options, address, path, states, feed, writer, errors, connect, clock,
+            )
+        }
+        None => run_unkept(
+            alloc, &options, address, feed, writer, errors, connect, clock,
+        ),
+    }
+}
+
+/// The options of a run.
+fn options_of<'a>(job: &SendJob, station: &'a [Message]) -> LiveOptions<'a>
+    ensures { IsFor job.now station.now result }
+{
+    LiveOptions {
+        limits: Limits {
+            tries: job.tries,
+            turns: job.turns,
+            reconnects: u32::MAX,
+            reconnect_silent: true,
+        },
+        reading: Reading {
+            region: job.region,
+            size: usize::from(job.window),
+            strict: job.strict,
+        },
+        join: job.join,
+        rejoin: job.rejoin,
+        form: job.form,
+        station,
+    }
+}
+
+/// Sends with no state, from a new server on.
+fn run_unkept<F: Feed, W: Write, E: Write, C: Connections, T: Clock>(
+    alloc: Global,
+    options: &LiveOptions<'_>,
+    address: Address,
+    feed: &mut F,
+    writer: &mut W,
+    errors: &mut E,
+    connect: &mut C,
+    clock: &T,
+) -> u8
+    requires exact { IsTrue (is_exact address) }
+    requires some { 1 ≤ options.now.reading.size }
+    requires most { options.now.reading.size ≤ 8 }
+    ensures { SendsTo C.opens C.closes C.Input.remaining C.Output.contents address options.now connect.old connect.new
+        (F.remaining feed.old) (F.remaining feed.new) (W.contents writer.old) (W.contents writer.new)
+        (E.contents errors.old) (E.contents errors.new) result }
+{
+    let progress = Progress {
+        taken: 0,
+        joined: false,
+    };
+    run_live(
+        alloc,
+        options,
+        Server::new(address),
+        progress,
+        &mut NotKept,
+        feed,
+        writer,
+        errors,
+        connect,
+        clock,
+    )
+}

@@ -1,0 +1,49 @@
+-- One sender after another.
+use Rattle.std.proofs.Common.{◌≡◌, ℕ, zero, suc, arith, ◌+◌, ◌-◌, ◌^◌, ◌≤◌, ◌⊎◌, Bool, true, false, List, ◌++◌, ap}
+use Rattle.std.proofs.Common.{subst, inl, inr}
+use Rattle.std.specs.Prelude.{Option, Result, Ok, Err}
+use Rattle.uecp_link.specs.Server.{ServerState}
+use Rattle.uecp_net.specs.Sending.{SenderOver}
+use Rattle.uecp_net.specs.Keeping.{KeptServer}
+use Rattle.kept_jobs.specs.Stops.{Went}
+use Rattle.sending.specs.declared.options.LiveOptions.{LiveOptions}
+use Rattle.sending.specs.Run.{Live, RunsAgain, RunsFor, IsLast}
+use Rattle.sending.specs.Lines.{unknown_line, unknown_lines}
+
+-- the line of one message more that is unknown
+pub unknown_on : (first count : ℕ) → 1 ≤ count
+    → unknown_lines first count ≡ unknown_line first ++ unknown_lines (first + 1) (count - 1)
+unknown_on first zero some = absurd (omega (arith, some))
+unknown_on first (suc n) some =
+    ap (λ m. unknown_line first ++ unknown_lines (first + 1) m) (let same : n ≡ suc n - 1 = omega arith in same)
+
+module _ {C I O K : Type 0} (opens : C → Option (I × O) → C → Type 0) (closes : C → I → O → C → Type 0)
+    (remaining : I → Option (List ℕ)) (contents : O → Option (List ℕ)) (leaves : K → KeptServer → Type 0)
+    (is_clean : K → Type 0) (saves fails : K → KeptServer → K → Type 0) (options : LiveOptions) (n : ℕ) where
+  abbrev All : (due : Bool) → (n : ℕ) → (c c' : C) → (x x' : Live ServerState K) → Went → Type 0
+  All = RunsFor opens closes remaining contents leaves is_clean saves fails options
+
+  pub one_more : (due : Bool) (c d e : C) (x y z : Live ServerState K) (stopped went : Went)
+      → All due n c d x y stopped → options.rejoin ≡ true → 1 ≤ y.unknown
+      → (address : ℕ) → address ≡ x.sends.runs.address
+      → RunsAgain opens closes remaining contents leaves is_clean saves fails options address d e y z went
+      → All due (n + 1) c e x z went
+  one_more due c d e x y z stopped went so rejoin some address is again =
+      let step : suc n ≡ n + 1 = search arith in
+      subst (λ k. All due k c e x z went) step (
+        d,
+        y,
+        stopped,
+        so,
+        rejoin,
+        some,
+        subst (λ a. RunsAgain opens closes remaining contents leaves is_clean saves fails options a d e y z went) is
+            again,
+      )
+
+  pub is_last : (x : Live ServerState K)
+      → (x.unknown ≡ 0) ⊎ (options.rejoin ≡ false) ⊎ (2 ^ 63 ≤ x.sends.progress.taken)
+      → IsLast opens closes remaining contents leaves is_clean saves fails options n x
+  is_last x (inl none) = inl none
+  is_last x (inr (inl not)) = inr (inl not)
+  is_last x (inr (inr many)) = inr (inr (inl many))

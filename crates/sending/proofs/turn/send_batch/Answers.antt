@@ -1,0 +1,31 @@
+use Rattle.std.proofs.Common.{rules, ◌≡◌, length, sym, ap, subst, ◌∙◌}
+use Rattle.uecp_link.specs.declared.counts.ServerCounts.{ServerCounts}
+use Rattle.uecp_link.specs.Server.{counters_waiting}
+use Rattle.uecp_net.specs.Sending.{submitted_all}
+use Rattle.sending.specs.Counters.{counters_after}
+use Rattle.sending.specs.Run.{AnswersTold, RepliesOf}
+use Rattle.sending.proofs.Counting.{counters_of_batch}
+use Rattle.sending.proofs.turn.send_batch.Goals as goal
+
+pub returns-clause-sends : goal.returns-clause-sends
+returns-clause-sends g c =
+    let sent = c.send_kept-ended in
+    let last : c.last.result ≡ c.args.sender.now.sender.server.last = search rules in
+    let counts : c.counts.result ≡ sent.new.sender.sender.server.counts = search rules in
+    let counters : c.as_slice.result.now ≡ counters_waiting (submitted_all c.args.sender.now
+    c.args.batch.now).sender.server =
+    c.as_slice.ensures.value ∙ c.counters_after-counters.ensures
+    ∙ ap (λ n. counters_after n (length c.args.batch.now)) last
+    ∙ sym (counters_of_batch c.args.sender.now c.args.batch.now c.requires.idle) in (
+      sent.result,
+      search rules,
+      subst (λ (cs : ServerCounts). AnswersTold (RepliesOf c.args.form sent.new.progress.taken
+          (counters_waiting (submitted_all c.args.sender.now c.args.batch.now).sender.server)) cs sent.result
+          (g.W.Write.contents c.args.writer.now) (g.W.Write.contents c.tell_replies.new.writer) c.tell_replies.result)
+          counts
+          (subst (λ l. AnswersTold (RepliesOf c.args.form sent.new.progress.taken l) c.counts.result sent.result
+          (g.W.Write.contents c.args.writer.now) (g.W.Write.contents c.tell_replies.new.writer) c.tell_replies.result)
+          counters c.tell_replies.ensures.tells),
+      search rules,
+      c.unknown_of.ensures,
+    )

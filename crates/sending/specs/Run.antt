@@ -1,0 +1,318 @@
+-- What a server does whose lines come as they like, with its state kept, and how it ends (profile).
+use Rattle.std.specs.Prelude.{◌≡◌, ◌≢◌, ◌⊎◌, ℕ, zero, suc, ◌+◌, ◌-◌, ◌^◌, ◌≤◌, Bool, true, false, ◌&&◌, List, []}
+use Rattle.std.specs.Prelude.{length, map, Option, Result, Ok, Err, if◌then◌else◌}
+use Rattle.std.specs.List.{list_all}
+use Rattle.rds_text.specs.declared.programme_type.Region.{Region}
+use Rattle.uecp_elements.specs.declared.code.Code.{Code}
+use Rattle.uecp_elements.specs.declared.code.Code.TheVariants.{Applied}
+use Rattle.uecp_text.specs.declared.run_fault.RunFault.{RunFault}
+use Rattle.uecp_text.specs.declared.run_fault.RunFault.TheVariants as run
+use Rattle.uecp_text.specs.Written.{Begins}
+use Rattle.uecp_link.specs.declared.counts.ServerCounts.{ServerCounts}
+use Rattle.uecp_link.specs.Server.{ServerState, idle_at, counters_waiting}
+use Rattle.uecp_net.specs.declared.sender.Outstanding.TheVariants.{TriesSpent, ConnectionFailed}
+use Rattle.uecp_net.specs.declared.sender.Settled.{Settled}
+use Rattle.uecp_net.specs.Sending.{SenderOver, submitted_all}
+use Rattle.uecp_jobs.specs.ServerRun.{Finishes}
+use Rattle.uecp_net.specs.declared.saved.batch.KeptOutstanding.TheVariants as kept
+use Rattle.uecp_net.specs.Keeping.{KeptServer, kept_of, IsKept}
+use Rattle.uecp_net.specs.SavedSending.{Ended}
+use Rattle.kept_jobs.specs.declared.stop.KeptStop.{KeptStop}
+use Rattle.kept_jobs.specs.declared.stop.KeptStop.TheVariants.{Run, StateFailed}
+use Rattle.kept_jobs.specs.Stops.{Went, TellsKept, Then, stop_for, stop_status, stop_lines}
+use Rattle.kept_jobs.specs.ServerRun.{Standing, SettlesOne, SendsOne, sending, is_due}
+use Rattle.kept_jobs.specs.ServerRun.{not_joined}
+use Rattle.output_forms.specs.declared.form.Form.{Form}
+use Rattle.sending.specs.declared.options.LiveOptions.{LiveOptions}
+use Rattle.sending.specs.Lines.{is_applied}
+use Rattle.sending.specs.Forms.{AreReplies, AreHeld, unknown_in}
+use Rattle.sending.specs.Beginning.{TellsTaken, BeginsAnewIf}
+use Rattle.sending.specs.Station.{MakesIf}
+use Rattle.line_batches.specs.declared.taking.After.{After}
+use Rattle.line_batches.specs.declared.taking.After.TheVariants.{GoesOn, Ends}
+use Rattle.line_batches.specs.Intake.{Intake}
+use Rattle.line_batches.specs.Batches.{TakesBatch}
+
+-- ---- Where a run stands: what it sends, and where that is kept and told; what it takes; whether all messages that
+-- were told were applied; how many messages are outstanding, of which nothing was told yet; and what comes behind their
+-- batch, where they are one.
+pub record Live (S K : Type 0) : Type 0 where
+  pub sends : Standing S K
+  pub takes : Intake
+  pub applied : Bool
+  pub unknown : ℕ
+  pub behind : After
+
+-- how a run went that ends so
+abbrev pub ended_as : Result (Unit {0}) RunFault → Went
+ended_as (Ok done) = Ok tt
+ended_as (Err fault) = Err (Run fault)
+
+-- what comes behind what is outstanding, after a turn that went so and whose batch had this after it (private)
+abbrev pub behind_of : Went → (after before : After) → After
+behind_of (Ok done) after before = before
+behind_of (Err stop) after before = after
+
+-- ---- One batch is sent.
+
+-- What is told of messages that were settled so, and how the run goes on: such lines where they are acknowledged. Where
+-- they are not nothing is told, and it stops.
+abbrev pub AnswersTold : (are_told : Settled → List ℕ → Type 0) → ServerCounts → Ended
+    → (held held' : Option (List ℕ)) → Went → Type 0
+AnswersTold are_told counts (Ok settled) held held' went =
+    (told : List ℕ) × are_told settled told × TellsKept told (Ok tt) held held' went
+AnswersTold are_told counts (Err (kept.Outstanding reason)) held held' went =
+    (held' ≡ held) × (went ≡ Err (stop_for counts reason))
+AnswersTold are_told counts (Err kept.StateFailed) held held' went = (held' ≡ held) × (went ≡ Err StateFailed)
+
+-- the line of each of these messages, the last of which has this number and which were sent under these counters, by
+-- its own reply
+abbrev pub RepliesOf : Form → (last : ℕ) → (counters : List ℕ) → Settled → (told : List ℕ) → Type 0
+RepliesOf form last counters settled told =
+    AreReplies form (last + 1 - length settled.codes.items) counters settled told
+
+-- of the messages that a server holds, the oldest first, whether each is marked
+abbrev pub marks_in : ServerState → List Bool
+marks_in s = map (λ h. h.marked) s.held
+
+-- whether all messages that were settled so were applied, as far as they were answered
+abbrev pub are_applied : Ended → Bool
+are_applied (Ok settled) = list_all is_applied settled.codes.items
+are_applied (Err stopped) = true
+
+-- How many of so many messages that were settled so are unknown where the encoder is taken for a new one: all of them
+-- where each try was spent, so that connections were there and not all replies came; else none, as where there was no
+-- connection.
+abbrev pub unknown_of : (count : ℕ) → Ended → ℕ
+unknown_of count (Ok settled) = 0
+unknown_of count (Err (kept.Outstanding TriesSpent)) = count
+unknown_of count (Err (kept.Outstanding ConnectionFailed)) = 0
+unknown_of count (Err kept.StateFailed) = 0
+
+-- the exit status of a run that came to its end
+abbrev pub tally_status : (refused applied : Bool) → ℕ
+tally_status refused applied = if refused then 1 else if applied then 0 else 4
+
+-- ---- What is outstanding is given up.
+
+-- A new server is saved, not joined, in place of one of which so many messages are outstanding; and then each of
+-- these, the last that were taken, is told as unknown, under its number. Or the save fails, and nothing is told.
+pub record Renews {K : Type 0} (leaves : K → KeptServer → Type 0) (is_clean : K → Type 0)
+    (saves fails : K → KeptServer → K → Type 0) (form : Form) (unknown : ℕ) (x x' : Standing ServerState K)
+    (went : Went) : Type 0 where
+  pub progress : x'.progress ≡ not_joined x.progress
+  pub saved : (saves x.keeper (kept_of x'.progress x'.runs) x'.keeper
+      × TellsKept (unknown_in form (x.progress.taken + 1 - unknown) unknown) (Ok tt) x.held x'.held went)
+      ⊎ (fails x.keeper (kept_of x'.progress x'.runs) x'.keeper × (x'.held ≡ x.held) × (went ≡ Err StateFailed))
+  pub outlives : is_clean x'.keeper → (left : KeptServer) → leaves x'.keeper left
+      → leaves x.keeper left ⊎ (left ≡ kept_of x'.progress x'.runs)
+  pub settled : is_clean x'.keeper → IsKept (leaves x'.keeper) x'.progress x'.runs ⊎ (went ≡ Err StateFailed)
+  pub clean : is_clean x'.keeper → is_clean x.keeper
+
+module _ {C I O K : Type 0} (opens : C → Option (I × O) → C → Type 0) (closes : C → I → O → C → Type 0)
+    (remaining : I → Option (List ℕ)) (contents : O → Option (List ℕ)) (leaves : K → KeptServer → Type 0)
+    (is_clean : K → Type 0) (saves fails : K → KeptServer → K → Type 0) (form : Form) where
+  -- These messages were sent, as `send_kept` says, and then that was told.
+  abbrev pub SendsBatch : (messages : List (List ℕ)) → (x x' : Standing (SenderOver C I O) K)
+      → (applied applied' : Bool) → (unknown' : ℕ) → Went → Type 0
+  SendsBatch messages x x' applied applied' unknown' went =
+      (ended : Ended) × SendsOne opens closes remaining contents leaves is_clean saves fails messages ended x x'
+      × AnswersTold (RepliesOf form x'.progress.taken (counters_waiting (submitted_all x.runs messages).sender.server))
+      x'.runs.sender.server.counts ended x.held x'.held went
+      × (applied' ≡ applied && are_applied ended) × (unknown' ≡ unknown_of (length messages) ended)
+
+  -- They were sent so where there are some, and else nothing was done.
+  abbrev pub SendsSome : (messages : List (List ℕ)) → (x x' : Standing (SenderOver C I O) K)
+      → (applied applied' : Bool) → (unknown unknown' : ℕ) → Went → Type 0
+  SendsSome messages x x' applied applied' unknown unknown' went =
+      ((messages ≡ []) × (x' ≡ x) × (applied' ≡ applied) × (unknown' ≡ unknown) × (went ≡ Ok tt))
+      ⊎ ((messages ≢ []) × SendsBatch messages x x' applied applied' unknown' went)
+
+  -- Where messages wait they were settled, as `settle_kept` says, and then that was told; else nothing was done.
+  abbrev pub SettlesLive : (x x' : Standing (SenderOver C I O) K) → (applied applied' : Bool) → (unknown unknown' : ℕ)
+      → Went → Type 0
+  SettlesLive x x' applied applied' unknown unknown' went =
+      ((x.runs.sender.server.held ≡ []) × (x' ≡ x) × (applied' ≡ applied) × (unknown' ≡ unknown) × (went ≡ Ok tt))
+      ⊎ ((x.runs.sender.server.held ≢ []) × ((ended : Ended)
+      × SettlesOne opens closes remaining contents leaves is_clean saves fails ended x x'
+      × AnswersTold (AreHeld form (x'.progress.taken + 1 - length (marks_in x.runs.sender.server))
+      (marks_in x.runs.sender.server) (counters_waiting x.runs.sender.server))
+      x'.runs.sender.server.counts ended x.held x'.held went
+      × (applied' ≡ applied && are_applied ended)
+      × (unknown' ≡ unknown_of (length (marks_in x.runs.sender.server)) ended)))
+
+  -- One turn: a batch was taken, and then sent where it has a message; and this comes after it. Where the run stops
+  -- there, it is what comes behind what is outstanding.
+  pub record Turn (region : Region) (size : ℕ) (strict : Bool) (x x' : Live (SenderOver C I O) K) (after : After)
+      (went : Went) : Type 0 where
+    pub messages : List (List ℕ)
+    pub takes : TakesBatch region size strict messages after x.takes x'.takes
+    pub sends : SendsSome messages x.sends x'.sends x.applied x'.applied x.unknown x'.unknown went
+    pub behind : x'.behind ≡ behind_of went after x.behind
+
+  -- So many turns were made, one after another, each from where the one before ended, and the run goes on.
+  abbrev pub GoesOnFor : Region → (size : ℕ) → (strict : Bool) → (turns : ℕ) → (x x' : Live (SenderOver C I O) K)
+      → Type 0
+  GoesOnFor region size strict zero x x' = x' ≡ x
+  GoesOnFor region size strict (suc n) x x' =
+      (y : Live (SenderOver C I O) K) × GoesOnFor region size strict n x y × Turn region size strict y x' GoesOn (Ok tt)
+
+  -- The last turn, after which the run ends so: for what comes after its batch; or the batch could not be sent, or what
+  -- came of it not be told.
+  abbrev pub LastTurn : Region → (size : ℕ) → (strict : Bool) → (x x' : Live (SenderOver C I O) K) → Went → Type 0
+  LastTurn region size strict x x' went =
+      ((end : Result (Unit {0}) RunFault) × Turn region size strict x x' (Ends end) (Ok tt) × (went ≡ ended_as end))
+      ⊎ ((after : After) × (stop : KeptStop) × Turn region size strict x x' after (Err stop) × (went ≡ Err stop))
+
+  -- Turns were made up to the last one. Or 2^59 were made, and no more are.
+  abbrev pub RunsTurns : Region → (size : ℕ) → (strict : Bool) → (x x' : Live (SenderOver C I O) K) → Went → Type 0
+  RunsTurns region size strict x x' went =
+      (turns : ℕ) × (y : Live (SenderOver C I O) K) × GoesOnFor region size strict turns x y
+      × (LastTurn region size strict y x' went
+      ⊎ ((turns ≡ 2 ^ 59) × (x' ≡ y) × (went ≡ Err (Run run.Reading))))
+
+-- ---- One sender.
+
+module _ {C I O K : Type 0} (opens : C → Option (I × O) → C → Type 0) (closes : C → I → O → C → Type 0)
+    (remaining : I → Option (List ℕ)) (contents : O → Option (List ℕ)) (leaves : K → KeptServer → Type 0)
+    (is_clean : K → Type 0) (saves fails : K → KeptServer → K → Type 0) where
+  -- The encoder was joined and the station made, where the encoder is to be joined.
+  abbrev pub MakesOnce : LiveOptions → (due : Bool) → (x x' : Live (SenderOver C I O) K) → Went → Type 0
+  MakesOnce options due x x' went =
+      MakesIf opens closes remaining contents leaves is_clean saves fails options.form options.reading.size
+      options.station.now due x.sends x'.sends x.applied x'.applied went
+      × (x'.takes ≡ x.takes) × (x'.unknown ≡ x.unknown) × (x'.behind ≡ x.behind)
+
+  -- What waits was settled.
+  abbrev pub SettlesOnce : LiveOptions → (x x' : Live (SenderOver C I O) K) → Went → Type 0
+  SettlesOnce options x x' went =
+      SettlesLive opens closes remaining contents leaves is_clean saves fails options.form x.sends x'.sends x.applied
+      x'.applied x.unknown x'.unknown went
+      × (x'.takes ≡ x.takes) × (x'.behind ≡ x.behind)
+
+  -- What a sender does once its encoder is joined: it settles what waits, and then makes its turns. Or the run ends so,
+  -- which was found behind messages that were outstanding: nothing is settled, and no line is taken.
+  abbrev pub RunsOn : LiveOptions → (behind : After) → (x x' : Live (SenderOver C I O) K) → Went → Type 0
+  RunsOn options GoesOn x x' went =
+      Then (SettlesOnce options) (RunsTurns opens closes remaining contents leaves is_clean saves fails options.form
+      options.reading.region options.reading.size options.reading.strict) x x' went
+  RunsOn options (Ends end) x x' went = (x' ≡ record x { behind = GoesOn }) × (went ≡ ended_as end)
+
+  -- what a sender does that was given a server so: it joins its encoder and makes the station where that is due, and
+  -- then goes on by what comes behind what was outstanding
+  abbrev pub RunsLive : LiveOptions → (due : Bool) → (x x' : Live (SenderOver C I O) K) → Went → Type 0
+  RunsLive options due = Then (MakesOnce options due) (λ x x' went. RunsOn options x.behind x x' went)
+
+  -- ---- A whole run.
+
+  -- what is left of a sender that hangs up
+  abbrev pub ended_of : Live (SenderOver C I O) K → Live ServerState K
+  ended_of z = record {
+    sends = record {
+      runs = z.sends.runs.sender.server;
+      keeper = z.sends.keeper;
+      progress = z.sends.progress;
+      held = z.sends.held;
+    };
+    takes = z.takes;
+    applied = z.applied;
+    unknown = z.unknown;
+    behind = z.behind;
+  }
+
+  -- One sender ran so with a server, over connections that came from there, and hung up; and this is left.
+  abbrev pub RunsOne : LiveOptions → (due : Bool) → (c c' : C) → (x x' : Live ServerState K) → Went → Type 0
+  RunsOne options due c c' x x' went =
+      (loan : ℕ) × (z : Live (SenderOver C I O) K)
+      × RunsLive options due (record {
+        sends = sending opens closes remaining contents leaves is_clean saves fails c loan options.limits x.sends;
+        takes = x.takes;
+        applied = x.applied;
+        unknown = x.unknown;
+        behind = x.behind;
+      }) z went
+      × Finishes closes c' z.sends.runs × (x' ≡ ended_of z)
+
+  -- where a run stands with a new server: its messages that were outstanding count as not applied, and what comes
+  -- behind them comes still
+  abbrev pub from_anew : Live ServerState K → Standing ServerState K → Live ServerState K
+  from_anew x y = record {
+    sends = y;
+    takes = x.takes;
+    applied = false;
+    unknown = 0;
+    behind = x.behind;
+  }
+
+  -- It did so with a server to the encoder at this address that holds nothing, and then another sender ran with that,
+  -- which joins its encoder and makes the station first. Or the save failed, or a line could not be written, and no
+  -- sender ran.
+  abbrev pub RunsAgain : LiveOptions → (address : ℕ) → (c c' : C) → (x x' : Live ServerState K) → Went → Type 0
+  RunsAgain options address c c' x x' went =
+      (y : Standing ServerState K) × (y.runs ≡ idle_at address)
+      × ((Renews leaves is_clean saves fails options.form x.unknown x.sends y (Ok tt)
+      × RunsOne options true c c' (from_anew x y) x' went)
+      ⊎ ((stop : KeptStop) × Renews leaves is_clean saves fails options.form x.unknown x.sends y (Err stop) × (went ≡
+      Err stop)
+      × (c' ≡ c)
+      × (x' ≡ from_anew x y)))
+
+  -- One sender ran so, and after it so many more, one after another, each from where the one before stopped: there
+  -- messages were outstanding, and the encoder is taken for a new one.
+  abbrev pub RunsFor : LiveOptions → (due : Bool) → (again : ℕ) → (c c' : C) → (x x' : Live ServerState K) → Went
+      → Type 0
+  RunsFor options due zero c c' x x' went = RunsOne options due c c' x x' went
+  RunsFor options due (suc n) c c' x x' went =
+      (d : C) × (y : Live ServerState K) × (stopped : Went) × RunsFor options due n c d x y stopped
+      × (options.rejoin ≡ true) × (1 ≤ y.unknown) × RunsAgain options x.sends.runs.address d c' y x' went
+
+  -- No sender runs after these: no message is outstanding with each try spent, or an encoder is not taken for a new
+  -- one, or 2^63 messages were taken, or 2^59 ran.
+  abbrev pub IsLast : LiveOptions → (again : ℕ) → Live ServerState K → Type 0
+  IsLast options again x =
+      (x.unknown ≡ 0) ⊎ (options.rejoin ≡ false) ⊎ (2 ^ 63 ≤ x.sends.progress.taken) ⊎ (again ≡ 2 ^ 59)
+
+  -- The writer got the line of how far the server has come; it began anew where its encoder is to be joined; and then
+  -- one sender after another ran so, over connections that came from there, and this is left of that. Or the run
+  -- stopped before a connection was opened and a line taken.
+  abbrev pub LivesFrom : LiveOptions → (c c' : C) → (x : Live ServerState K) → (k' : K) → (held' : Option (List ℕ))
+      → (taken : Intake) → (applied : Bool) → Went → Type 0
+  LivesFrom options c c' x k' held' taken applied went =
+      ((y : Standing ServerState K) × (again : ℕ) × (z : Live ServerState K)
+      × Then (TellsTaken options.form)
+      (BeginsAnewIf leaves is_clean saves fails options.form (is_due options.join x.sends.progress)) x.sends y
+      (Ok tt)
+      × RunsFor options (is_due options.join x.sends.progress) again c c' (record {
+        sends = y;
+        takes = x.takes;
+        applied = x.applied;
+        unknown = 0;
+        behind = GoesOn;
+      }) z went
+      × IsLast options again z
+      × (k' ≡ z.sends.keeper) × (held' ≡ z.sends.held) × (taken ≡ z.takes) × (applied ≡ z.applied))
+      ⊎ ((y : Standing ServerState K) × (stop : KeptStop)
+      × Then (TellsTaken options.form)
+      (BeginsAnewIf leaves is_clean saves fails options.form (is_due options.join x.sends.progress)) x.sends y
+      (Err stop)
+      × (went ≡ Err stop) × (c' ≡ c) × (k' ≡ y.keeper) × (held' ≡ y.held) × (taken ≡ x.takes)
+      × (applied ≡ x.applied))
+
+  -- It ran so from a server of which no line was taken. Where it came to its end the status tells whether a line was
+  -- refused, or else a message by the encoder; where it stopped, why was said, or begun to be said.
+  abbrev pub Lives : LiveOptions → (c c' : C)
+      → (x : Standing ServerState K) → (k' : K) → (held' unread unread' said said' : Option (List ℕ)) → (status : ℕ)
+      → Type 0
+  Lives options c c' x k' held' unread unread' said said' status =
+      (went : Went) × (taken : Intake) × (applied : Bool)
+      × LivesFrom options c c' (record {
+        sends = x;
+        takes = record { unread = unread; lines = 0; refused = false; said = said };
+        applied = true;
+        unknown = 0;
+        behind = GoesOn;
+      }) k' held' taken applied went
+      × (unread' ≡ taken.unread)
+      × (((went ≡ Ok tt) × (status ≡ tally_status taken.refused applied) × (said' ≡ taken.said))
+      ⊎ ((stop : KeptStop) × (went ≡ Err stop) × (status ≡ stop_status stop)
+      × Begins taken.said said' (stop_lines stop)))

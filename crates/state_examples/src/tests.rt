@@ -1,0 +1,3 @@
+mod asserting;
+mod files;
+mod images;

@@ -1,5 +1,0 @@
-//! The worked examples of kept images and state files, each a test, and nothing else.
-#![tactic(auto)]
-
-#[cfg(test)]
-mod tests;

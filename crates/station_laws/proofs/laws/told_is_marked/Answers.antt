@@ -1,5 +1,0 @@
-use Rattle.station_laws.proofs.Hearing.{told_is_marked_lem}
-use Rattle.station_laws.proofs.laws.told_is_marked.Goals as goal
-
-pub returns : goal.returns
-returns g c = told_is_marked_lem g.T.Target.step g.T.Target.taken

@@ -1,4 +1,0 @@
--- What the contracts of the library's handles cite.
-pub mod Faults
-pub mod Told
-pub mod Windows

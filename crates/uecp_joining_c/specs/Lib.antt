@@ -1,2 +1,0 @@
--- What the contracts of joining for C cite.
-pub mod Joining
