@@ -1,6 +1,4 @@
--- The definitions that the contracts of a bad line cite.
--- The definitions that the contracts of a stream cut into segments cite.
--- The definitions that the contracts of a line with faults cite.
+-- The definitions that the contracts of a bad line cite: of its rules, of a stream cut into segments, of connections.
 pub mod Rules
 pub mod Fates
 pub mod Parts

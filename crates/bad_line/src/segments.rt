@@ -1,7 +1,6 @@
 //! A stream of bytes cut into segments as its bytes come, and what comes out of it on a bad line.
 //!
 //! - [`Cutter`]: the machine of one direction; [`Crossed`] is what a call brought.
-//! - [`laws`]: what holds of a whole stream.
 
 mod cutter;
 mod outcome;

@@ -1,4 +1,4 @@
--- What the contracts of exports with handles cite.
+-- What the contracts of exports cite of buffers, findings and objects behind handles.
 pub mod Buffers
 pub mod Findings
 pub mod Slots

@@ -1,6 +1,4 @@
--- The definitions of what a live page shows.
--- The definitions of the events of a live page.
--- The definitions of one connection of a live page.
+-- The definitions of a live page: what it shows, its events, and one connection.
 pub mod Members
 pub mod Shown
 pub mod Counts

@@ -2,7 +2,6 @@
 //!
 //! - [`History`]: the last 1,000 events, and what a browser is owed that names the last one it has.
 //! - [`put_event`], [`GAP`], [`ALIVE`]: the parts of a stream of Server-Sent Events.
-//! - [`laws`]: a browser takes each line as it was sent; each event is sent once and in order, or the browser is lost.
 
 mod history;
 mod number;

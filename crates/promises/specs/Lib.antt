@@ -1,7 +1,5 @@
--- What a receiver shows is what the store holds: the definitions of the laws.
--- The definitions of a line both of whose ends have a file, and those of lower crates that its laws cite.
--- What holds of whole runs of a server whose lines come as they like.
--- What a station makes that was sent to an encoder.
+-- The definitions of what holds of the whole, and those of lower crates that its laws cite: of what a receiver shows,
+-- of both ends with their files, of a whole run, and of a station that was sent to an encoder.
 pub mod OnAir
 pub mod AirLaws
 pub mod Said

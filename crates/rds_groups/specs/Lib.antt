@@ -1,6 +1,4 @@
--- The definitions of blocks, groups and their lines.
--- The definitions of a receiver, and those of groups that its clauses cite.
--- The definitions of a synchroniser and of bits as text, and those that its clauses cite of groups.
+-- The definitions of blocks, groups and their lines, of a receiver, of a synchroniser, and of bits as text.
 pub mod Blocks
 pub mod Groups
 pub mod Lines

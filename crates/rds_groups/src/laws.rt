@@ -1,7 +1,5 @@
-//! What the check words find, and how groups read: each law the contract of a function that does
-//! nothing.
-//! What is heard of a group, each law the contract of a function that does nothing.
-//! What is found in a stream of bits, and in bits as text: each law the contract of a function that does nothing.
+//! What the check words find, how groups read, what is heard of one, and what is found in a stream of bits and in bits
+//! as text: each law the contract of a function that does nothing.
 ghost use Rattle.rds_groups.specs.Laws.{ReadsBack, IsTold, OneIsFound, TwoAreFound, BurstIsFound};
 ghost use Rattle.rds_groups.specs.Laws.{GroupsRead, SegmentsRead};
 ghost use Rattle.rds_groups.specs.ReceiverLaws.{ComesWhole, NoWordIsWrong};

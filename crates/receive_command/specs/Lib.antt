@@ -1,6 +1,5 @@
--- The definitions of what a receiver hears of lines or bits as they come, and of what is told of it.
--- The definitions of what a receiver shows, and of what is told of a change.
--- The definitions of what a line is to a receiver.
+-- The definitions of what a line is to a receiver, of what it hears of lines or bits as they come, and of what is told
+-- of what it shows; and those of groups that its clauses cite.
 pub mod Bits
 pub mod Receiving
 pub mod View

@@ -1,5 +1,4 @@
--- What the contracts of the library for C cite.
--- What the contracts of joining for C cite.
+-- What the contracts of the library for C cite, and those of joining.
 pub mod Frames
 pub mod Findings
 pub mod Elements

@@ -1,5 +1,5 @@
--- The definitions that the contracts of connections cite.
--- The definitions of a server whose state is kept, and those of lower crates that its clauses cite.
+-- The definitions that the contracts of connections cite, of a server whose state is saved too, and those of lower
+-- crates that its clauses cite.
 pub mod Sessions
 pub mod Sending
 pub mod Joining

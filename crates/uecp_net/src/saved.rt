@@ -2,16 +2,12 @@
 //! Its state is saved before a message's frame is written the first time, and after its acknowledgement before that is
 //! told; where a save fails, nothing is written or told from there on.
 //!
-//! Where the state is kept is the matter of a [`KeepServer`], as a file. The crate opens none.
+//! Where the state is kept is the matter of a [`KeepServer`], as a file. None is opened here.
 //!
 //! - [`KeepServer`]: saves the state of a server and its [`Progress`]; [`SaveFailed`] says that it could not.
 //! - [`send_kept`]: a batch of messages; [`KeptOutstanding`] is why they are not acknowledged, or may not be.
 //! - [`settle_kept`]: the messages that are outstanding, as after a start.
 //! - [`join_kept`]: the encoder is joined.
-//!
-//! The laws that users rely on: [`laws::goes_on_as_it_was`], a server that goes on from what was kept lends the very
-//! frames that the one before did, and hears replies as that; and [`laws::loses_no_message`], each message of which a
-//! byte was written waits at it, or was acknowledged.
 
 mod batch;
 mod join;

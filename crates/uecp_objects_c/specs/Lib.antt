@@ -1,6 +1,4 @@
--- What the contracts of the library's handles cite.
--- What the contracts of images and of a store in words for C cite.
--- What the contracts of messages in words for C cite.
+-- What the contracts of the exports with memory cite: of handles, of images and a store in words, and of messages.
 pub mod Faults
 pub mod Told
 pub mod Windows
