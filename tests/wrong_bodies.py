@@ -3,7 +3,7 @@
 `crates/NAME/wrong-bodies.edits` has one after another, each as
 
     name: what_is_wrong
-    file: src/judging.rt
+    file: src/verdict.rt
     old: body.len() - HEAD
     new: body.len()
 
