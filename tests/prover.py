@@ -10,6 +10,7 @@ import importlib.machinery
 import importlib.util
 import os
 import shutil
+import signal
 import sys
 import tempfile
 
@@ -81,10 +82,11 @@ def prove(crate, jobs):
 
 def run(main):
     """Ends with the status of a main function; where it is interrupted, at once, and the checks at work with it."""
-    try:
-        status = main()
-    except KeyboardInterrupt:
-        print("stopped; what was proved is kept", flush=True)
+
+    def stop(*_):
+        print("\nstopped; what was proved is kept", flush=True)
         # the checks end with this process, and no lane is waited for
         os._exit(130)
-    sys.exit(status)
+
+    signal.signal(signal.SIGINT, stop)
+    sys.exit(main())
