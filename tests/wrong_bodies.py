@@ -152,6 +152,7 @@ def within(body, text):
     found = hit.pop()
     if found.type is None:
         return None, "its function is a trait's"
-    if any(re.match(r" *#\[cycle", it) for it in lines[found.first : found.head]):
+    itself = rf"\b[Ss]elf(?:\.|::){found.name}\(" if found.type else rf"(?<![\w.:]){found.name}\("
+    if any(re.match(r" *#\[cycle", it) for it in lines[found.first : found.head]) or re.search(itself, "\n".join(lines[found.head + 1 : found.last + 1])):
         return None, "its function calls itself"
     return found, None
