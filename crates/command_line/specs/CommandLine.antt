@@ -7,7 +7,7 @@ use Rattle.std.specs.String.{string_bytes}
 use Rattle.std.specs.Str.Parse.{IsNumeral, without_leading_plus, digits_value}
 use Rattle.hex.specs.Hex.{decode_sized}
 use Rattle.clap.specs.Walk.{Row, Rule, one_of, first_of}
-use Rattle.clap.specs.Simple.{App, Shape, new_rule, new_shape, subcommand_of}
+use Rattle.clap.specs.Simple.{App, Shape, new_rule, new_shape, subcommand_of, with_subcommand}
 use Rattle.clap.specs.Faults.{fault_of}
 use Rattle.clap.specs.Kinds.{IsAmong}
 use Rattle.clap.specs.Values.{kind_of}
@@ -585,6 +585,11 @@ abbrev pub configurable : Shape → Shape
 configurable shape = record shape {
   rules = (shape.rules ++ maybe_word (codes "config") ∷ []) ++ flag (codes "check-config") ∷ [];
 }
+
+-- A program with these commands too, each of which takes a file of options.
+abbrev pub with_commands : App → List Shape → App
+with_commands app [] = app
+with_commands app (shape ∷ shapes) = with_commands (with_subcommand app (configurable shape)) shapes
 
 -- The program: it has a version, and one of twelve commands has to be named, each of which takes a file of options.
 abbrev pub uecp_app : App

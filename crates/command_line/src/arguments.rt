@@ -15,12 +15,7 @@ pub fn number<'a>(alloc: Global, option: &NumberOption) -> Arg<'a>
     ensures own { result.global ≡ false }
 {
     let range = value_parser!(u32).range(i64::from(option.least)..=i64::from(option.most));
-    let arg = Arg::new(alloc, option.name)
-        .long(option.name)
-        .value_name("N")
-        .help(option.help)
-        .action(ArgAction::Set)
-        .value_parser(range);
+    let arg = maybe_word(alloc, option.name, "N", option.help).value_parser(range);
     match option.default {
         Some(text) => arg.default_value(text),
         None => arg.required(true),
@@ -52,14 +47,13 @@ pub fn services<'a>(alloc: Global) -> Arg<'a>
     ensures rule { rule_of result ≡ services_option }
     ensures own { result.global ≡ false }
 {
-    Arg::new(alloc, "services")
-        .long("services")
-        .value_name("LIST")
-        .help(
-            "The services of each data set, 1 to 8 hexadecimal numbers such as 01,0A, the main one first",
-        )
-        .action(ArgAction::Set)
-        .default_value("01")
+    maybe_word(
+        alloc,
+        "services",
+        "LIST",
+        "The services of each data set, 1 to 8 hexadecimal numbers such as 01,0A, the main one first",
+    )
+    .default_value("01")
 }
 
 /// A flag.
@@ -78,12 +72,13 @@ pub fn host<'a>(alloc: Global) -> Arg<'a>
     ensures rule { rule_of result ≡ word_option (codes "host") (Some (codes "127.0.0.1")) }
     ensures own { result.global ≡ false }
 {
-    Arg::new(alloc, "host")
-        .long("host")
-        .value_name("HOST")
-        .help("Where the encoder listens, a name or an address")
-        .action(ArgAction::Set)
-        .default_value("127.0.0.1")
+    maybe_word(
+        alloc,
+        "host",
+        "HOST",
+        "Where the encoder listens, a name or an address",
+    )
+    .default_value("127.0.0.1")
 }
 
 /// The option `ladder`.
@@ -91,15 +86,14 @@ pub fn ladder<'a>(alloc: Global) -> Arg<'a>
     ensures rule { rule_of result ≡ ladder_option }
     ensures own { result.global ≡ false }
 {
-    Arg::new(alloc, "ladder")
-        .long("ladder")
-        .value_name("FORM")
-        .help(
-            "Draw the line as a ladder, as SVG, or with 'text' for a terminal; it goes before the form and the store",
-        )
-        .action(ArgAction::Set)
-        .num_args(0..=1)
-        .default_missing_value("svg")
+    maybe_word(
+        alloc,
+        "ladder",
+        "FORM",
+        "Draw the line as a ladder, as SVG, or with 'text' for a terminal; it goes before the form and the store",
+    )
+    .num_args(0..=1)
+    .default_missing_value("svg")
 }
 
 /// The option `state`.
@@ -107,11 +101,12 @@ pub fn state<'a>(alloc: Global) -> Arg<'a>
     ensures rule { rule_of result ≡ state_option }
     ensures own { result.global ≡ false }
 {
-    Arg::new(alloc, "state")
-        .long("state")
-        .value_name("FILE")
-        .help("The file in which this end is kept, so that the next run goes on from it")
-        .action(ArgAction::Set)
+    maybe_word(
+        alloc,
+        "state",
+        "FILE",
+        "The file in which this end is kept, so that the next run goes on from it",
+    )
 }
 
 /// The option `station`.
@@ -119,13 +114,12 @@ pub fn station<'a>(alloc: Global) -> Arg<'a>
     ensures rule { rule_of result ≡ station_option }
     ensures own { result.global ≡ false }
 {
-    Arg::new(alloc, "station")
-        .long("station")
-        .value_name("FILE")
-        .help(
-            "The file with the lines that make the station, sent behind each join; it asks for --rejoin too",
-        )
-        .action(ArgAction::Set)
+    maybe_word(
+        alloc,
+        "station",
+        "FILE",
+        "The file with the lines that make the station, sent behind each join; it asks for --rejoin too",
+    )
 }
 
 /// The path of a state file.

@@ -1,9 +1,10 @@
 //! The program's commands and options (profile).
-ghost use Rattle.std.specs.Prelude.{◌≡◌, ◌++◌, ◌∷◌, [], ℕ, List, codes, map, false, IfOk, IfErr};
+ghost use Rattle.std.specs.Prelude.{◌≡◌, ◌++◌, ◌∷◌, [], ℕ, List, codes, map, false, true, IfOk, IfErr};
 ghost use Rattle.std.specs.String.{string_bytes};
-ghost use Rattle.clap.specs.Words.{app_of, rule_of, shape_of};
+ghost use Rattle.clap.specs.Words.{App, app_of, rule_of, shape_of, with_subcommand};
 ghost use Rattle.clap.specs.Simple.{Shape, new_shape};
-ghost use Rattle.command_line.specs.CommandLine.{uecp_app, command_with, place_options};
+ghost use Rattle.command_line.specs.CommandLine.{uecp_app, with_commands, command_with, place_options};
+ghost use Rattle.command_line.specs.CommandLine as spec;
 ghost use Rattle.command_line.specs.CommandLine.{encoder_options, answering_command, receiving_command, trying_command};
 ghost use Rattle.command_line.specs.CommandLine.{paging_command, playing_command};
 ghost use Rattle.command_line.specs.CommandLine.{store_command, showing_command, making_command, listening_command};
@@ -33,24 +34,61 @@ const STATUSES: &str =
 pub fn program<'a>(alloc: Global) -> Result<Command<'a>, AllocError>
     ensures { IfOk result (λ program. app_of program ≡ uecp_app) }
 {
-    Command::new(alloc, "uecp")
+    let program = Command::new(alloc, "uecp")
         .bin_name("uecp")?
         .version(VERSION)
         .about("Both ends of an RDS encoder's control line (UECP)")
         .after_help(STATUSES)
-        .subcommand_required(true)
-        .subcommand(configurable(alloc, answer_command(alloc)?)?)?
-        .subcommand(configurable(alloc, show_command(alloc)?)?)?
-        .subcommand(configurable(alloc, make_command(alloc)?)?)?
-        .subcommand(configurable(alloc, line_command(alloc)?)?)?
-        .subcommand(configurable(alloc, encoder_command(alloc)?)?)?
-        .subcommand(configurable(alloc, server_command(alloc)?)?)?
-        .subcommand(configurable(alloc, send_command(alloc)?)?)?
-        .subcommand(configurable(alloc, watch_command(alloc)?)?)?
-        .subcommand(configurable(alloc, state_command(alloc)?)?)?
-        .subcommand(configurable(alloc, receive_command(alloc)?)?)?
-        .subcommand(configurable(alloc, conformance_command(alloc)?)?)?
-        .subcommand(configurable(alloc, page_command(alloc)?)?)
+        .subcommand_required(true);
+    let program = with_scripts(alloc, program)?;
+    let program = with_ends(alloc, program)?;
+    with_others(alloc, program)
+}
+
+/// The program with the commands that read a script to its end.
+fn with_scripts<'a>(alloc: Global, program: Command<'a>) -> Result<Command<'a>, AllocError>
+    ensures { (app : App) → app_of program.entry ≡ app → IfOk result (λ whole. app_of whole
+        ≡ with_commands app (answering_command ∷ showing_command ∷ making_command ∷ playing_command ∷ [])) }
+{
+    let program = with_command(alloc, program, answer_command(alloc)?)?;
+    let program = with_command(alloc, program, show_command(alloc)?)?;
+    let program = with_command(alloc, program, make_command(alloc)?)?;
+    with_command(alloc, program, line_command(alloc)?)
+}
+
+/// The program with the commands of either end of a line, and the one that looks on.
+fn with_ends<'a>(alloc: Global, program: Command<'a>) -> Result<Command<'a>, AllocError>
+    ensures { (app : App) → app_of program.entry ≡ app → IfOk result (λ whole. app_of whole
+        ≡ with_commands app (listening_command ∷ sending_command ∷ live_command ∷ watching_command ∷ [])) }
+{
+    let program = with_command(alloc, program, encoder_command(alloc)?)?;
+    let program = with_command(alloc, program, server_command(alloc)?)?;
+    let program = with_command(alloc, program, send_command(alloc)?)?;
+    with_command(alloc, program, watch_command(alloc)?)
+}
+
+/// The program with its other commands.
+fn with_others<'a>(alloc: Global, program: Command<'a>) -> Result<Command<'a>, AllocError>
+    ensures { (app : App) → app_of program.entry ≡ app → IfOk result (λ whole. app_of whole
+        ≡ with_commands app (looking_command ∷ receiving_command ∷ trying_command ∷ paging_command ∷ [])) }
+{
+    let program = with_command(alloc, program, state_command(alloc)?)?;
+    let program = with_command(alloc, program, receive_command(alloc)?)?;
+    let program = with_command(alloc, program, conformance_command(alloc)?)?;
+    with_command(alloc, program, page_command(alloc)?)
+}
+
+/// The program with one more command, which takes a file of its options.
+fn with_command<'a>(
+    alloc: Global,
+    program: Command<'a>,
+    command: Command<'a>,
+) -> Result<Command<'a>, AllocError>
+    ensures { (app : App) (shape : Shape) → app_of program.entry ≡ app → shape_of command.entry ≡ shape
+        → (spec.configurable shape).is_plain ≡ true
+        → IfOk result (λ whole. app_of whole ≡ with_subcommand app (spec.configurable shape)) }
+{
+    program.subcommand(configurable(alloc, command)?)
 }
 
 fn answer_command<'a>(alloc: Global) -> Result<Command<'a>, AllocError>

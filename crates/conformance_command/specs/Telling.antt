@@ -6,7 +6,7 @@ use Rattle.std.specs.Prelude.{if◌then◌else◌}
 use Rattle.serde_json.specs.Data.{string, boolean}
 use Rattle.uecp_frame.specs.Fault.{number_of, name_of}
 use Rattle.uecp_text.specs.Digits.{byte_word, decimal_word}
-use Rattle.uecp_json.specs.Objects.{Field, in_decimal, in_digits, line_of}
+use Rattle.json_lines.specs.Objects.{Field, in_decimal, in_digits, line_of}
 use Rattle.conformance.specs.declared.case.Case.{Case}
 use Rattle.conformance.specs.declared.verdict.Reply.{Reply}
 use Rattle.conformance.specs.declared.verdict.Expected.{Expected}

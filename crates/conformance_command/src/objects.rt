@@ -1,22 +1,21 @@
 //! The objects of cases, written (profile).
 ghost use Rattle.conformance.specs.declared.verdict.Verdict.TheVariants.{Dropped};
-ghost use Rattle.uecp_json.specs.Texts.{fields_text};
+ghost use Rattle.json_lines.specs.Texts.{fields_text};
 ghost use Rattle.uecp_text.specs.Written.{Adds};
 ghost use Rattle.conformance_command.specs.Telling.{case_object, case_fields, went_fields, verdict_fields};
 ghost use Rattle.conformance_command.specs.Telling.{wanted_fields};
 ghost use Rattle.conformance_command.specs.Telling.{came_fields, tally_fields, tally_object};
 
 use crate::case_run::Went;
-use crate::fields::{
-    byte_field, close_line, flag_field, number_field, open_line, text_field, word_field,
-};
+use crate::fields::text_field;
 use crate::tally::{Tally, is_kept};
 use conformance::{Case, Expected, Reply, Verdict};
+use json_lines::{byte_field, close_line, flag_field, number_field, open_line, word_field};
 use uecp_frame::FrameFault;
 use uecp_text::Output;
 
 /// Adds the object of a case that went so.
-#[tactic(auto, using(crate::proofs::Parts::parts))]
+#[tactic(auto, using(json_lines::proofs::Public::parts))]
 pub(crate) fn put_case_object(number: usize, case: &Case<'_>, went: Went, output: &mut Output)
     ensures { Adds output.old output.new (case_object number case.now went) }
 {
@@ -30,7 +29,7 @@ pub(crate) fn put_case_object(number: usize, case: &Case<'_>, went: Went, output
 fn put_case(number: usize, case: &Case<'_>, kept: bool, output: &mut Output)
     ensures { Adds output.old output.new (fields_text (case_fields number case.now kept)) }
 {
-    number_field("number", number as u64, output);
+    number_field("number", number, output);
     text_field("name", case.name, output);
     text_field("group", case.group, output);
     text_field("rule", case.rule, output);
@@ -47,7 +46,7 @@ fn put_went(went: Went, output: &mut Output)
         Went::NotJoined => word_field("verdict", "not_joined", output),
         Went::NotSent(written) => {
             word_field("verdict", "not_sent", output);
-            number_field("written", written, output);
+            number_field("written", written as usize, output);
         }
         Went::NotQuiet => word_field("verdict", "not_quiet", output),
         Went::NotHeard => word_field("verdict", "not_heard", output),
@@ -84,11 +83,11 @@ fn put_wanted(reply: Expected, output: &mut Output)
 {
     match reply {
         Expected::This(reply) => {
-            number_field("wanted_counter", u64::from(reply.counter), output);
+            number_field("wanted_counter", usize::from(reply.counter), output);
             byte_field("wanted_code", reply.code, output);
         }
         Expected::Refusal(counter) => {
-            number_field("wanted_counter", u64::from(counter), output);
+            number_field("wanted_counter", usize::from(counter), output);
             flag_field("wanted_refusal", true, output);
         }
     }
@@ -98,7 +97,7 @@ fn put_wanted(reply: Expected, output: &mut Output)
 fn put_came(reply: Reply, output: &mut Output)
     ensures { Adds output.old output.new (fields_text (came_fields reply)) }
 {
-    number_field("came_counter", u64::from(reply.counter), output);
+    number_field("came_counter", usize::from(reply.counter), output);
     byte_field("came_code", reply.code, output);
 }
 
@@ -107,12 +106,12 @@ fn put_dropped(fault: FrameFault, output: &mut Output)
     ensures { Adds output.old output.new (fields_text (verdict_fields (Dropped fault))) }
 {
     word_field("verdict", "dropped", output);
-    number_field("fault", u64::from(fault.number()), output);
+    number_field("fault", usize::from(fault.number()), output);
     word_field("fault_name", fault.name(), output);
 }
 
 /// Adds the object of what was counted.
-#[tactic(auto, using(crate::proofs::Parts::parts))]
+#[tactic(auto, using(json_lines::proofs::Public::parts))]
 pub(crate) fn put_tally_object(cases: usize, tally: Tally, output: &mut Output)
     ensures { Adds output.old output.new (tally_object cases tally) }
 {
@@ -125,8 +124,8 @@ pub(crate) fn put_tally_object(cases: usize, tally: Tally, output: &mut Output)
 fn put_tally(cases: usize, tally: Tally, output: &mut Output)
     ensures { Adds output.old output.new (fields_text (tally_fields cases tally)) }
 {
-    number_field("cases", cases as u64, output);
-    number_field("kept", tally.kept as u64, output);
-    number_field("not_kept", tally.not_kept as u64, output);
-    number_field("profile_not_kept", tally.profile_not_kept as u64, output);
+    number_field("cases", cases, output);
+    number_field("kept", tally.kept, output);
+    number_field("not_kept", tally.not_kept, output);
+    number_field("profile_not_kept", tally.profile_not_kept, output);
 }

@@ -63,11 +63,5 @@ fn put_escape(byte: u8, output: &mut Output)
     requires { (0x20 ≤ byte) × (byte < 0x7F) }
     ensures { Adds output.old output.new (escape (byte ∷ [])) }
 {
-    if byte == b'"' {
-        output.text("\\\"");
-    } else if byte == b'\\' {
-        output.text("\\\\");
-    } else {
-        put_character(byte, output);
-    }
+    json_lines::put_character(char::from(byte), output);
 }

@@ -3,13 +3,13 @@
 use arrayvec::ArrayVec;
 use bad_line::{Effect, Effects, write_effect};
 use itoa::Buffer;
+use json_lines::stamp_of;
 use output_forms::Form;
 use std::cell::RefCell;
 use std::io;
 use std::io::Write;
 use std::time::Clock;
 use uecp_text::write_parts;
-use uecp_watch::stamp_of;
 
 /// How many bytes a line has at most.
 const LINE_MAX: usize = 192;

@@ -1,4 +1,3 @@
-pub mod Writing
 pub mod Serving
 pub mod Outliving
 pub mod InOrder

@@ -1,17 +1,19 @@
 -- The lines of connections, as a device tells them (profile).
-use Rattle.std.specs.Prelude.{ℕ, List, ◌++◌, codes, decimal, Ok, Err}
+use Rattle.std.specs.Prelude.{ℕ, List, [], ◌∷◌, ◌++◌, codes, Ok, Err}
+use Rattle.serde_json.specs.Data.{string}
 use Rattle.uecp_encoder.specs.declared.serving.ServeFault.TheVariants.{ReadFailed, WriteFailed, TurnsSpent}
 use Rattle.kept_serving.specs.declared.serving.KeptFault.TheVariants.{Serve, StateFailed}
 use Rattle.kept_serving.specs.Serving.{Ended}
 use Rattle.uecp_text.specs.Digits.{decimal_word}
+use Rattle.json_lines.specs.Objects.{Field, in_decimal, line_of}
 use Rattle.kept_jobs.specs.EncoderRun.{ended_words}
 use Rattle.output_forms.specs.declared.form.Form.{Form}
 use Rattle.output_forms.specs.declared.form.Form.TheVariants.{Lines, Words, Json}
-use Rattle.device_serving.specs.EventLines.{time_words, object_head}
+use Rattle.device_serving.specs.EventLines.{time_words, time_fields}
 
--- The number of a connection.
-abbrev pub number_member : ℕ → List ℕ
-number_member number = codes ",\"number\":" ++ decimal number
+-- The time, and the number of a connection.
+abbrev pub number_fields : (stamp : List ℕ) → (number : ℕ) → List Field
+number_fields stamp number = time_fields stamp ++ (codes "number", in_decimal number) ∷ []
 
 -- ---- A connection was opened.
 
@@ -19,8 +21,7 @@ abbrev pub opened_text : (stamp : List ℕ) → (number : ℕ) → List ℕ
 opened_text stamp number = time_words stamp ++ codes "connection" ++ decimal_word number ++ codes "\n"
 
 abbrev pub opened_object : (stamp : List ℕ) → (number : ℕ) → List ℕ
-opened_object stamp number =
-    object_head (codes "connection") stamp ++ (number_member number ++ codes "}\n")
+opened_object stamp number = line_of (codes "connection") (number_fields stamp number)
 
 -- The line of a connection that was opened, by its number, behind this time.
 abbrev pub opened_lines : Form → (stamp : List ℕ) → (number : ℕ) → List ℕ
@@ -37,16 +38,17 @@ ended_text stamp number ended =
 
 -- How it ended: the peer closed it after so many replies; a read failed; a write failed after so many bytes; the turns
 -- were spent; or a save failed.
-abbrev pub ended_members : Ended → List ℕ
-ended_members (Ok served) = codes ",\"end\":\"closed\",\"replies\":" ++ decimal served.replies
-ended_members (Err (Serve ReadFailed)) = codes ",\"end\":\"read_failed\""
-ended_members (Err (Serve (WriteFailed w))) = codes ",\"end\":\"write_failed\",\"written\":" ++ decimal w
-ended_members (Err (Serve TurnsSpent)) = codes ",\"end\":\"turns_spent\""
-ended_members (Err StateFailed) = codes ",\"end\":\"state_failed\""
+abbrev pub ended_fields : Ended → List Field
+ended_fields (Ok served) = (codes "end", string (codes "closed")) ∷ (codes "replies", in_decimal served.replies) ∷ []
+ended_fields (Err (Serve ReadFailed)) = (codes "end", string (codes "read_failed")) ∷ []
+ended_fields (Err (Serve (WriteFailed w))) =
+    (codes "end", string (codes "write_failed")) ∷ (codes "written", in_decimal w) ∷ []
+ended_fields (Err (Serve TurnsSpent)) = (codes "end", string (codes "turns_spent")) ∷ []
+ended_fields (Err StateFailed) = (codes "end", string (codes "state_failed")) ∷ []
 
 abbrev pub ended_object : (stamp : List ℕ) → (number : ℕ) → Ended → List ℕ
 ended_object stamp number ended =
-    object_head (codes "connection_end") stamp ++ (number_member number ++ (ended_members ended ++ codes "}\n"))
+    line_of (codes "connection_end") (number_fields stamp number ++ ended_fields ended)
 
 -- The line of a connection that ended, by its number, behind this time.
 abbrev pub ended_lines : Form → (stamp : List ℕ) → (number : ℕ) → Ended → List ℕ

@@ -1,6 +1,6 @@
 -- The lines of what an encoder finds and answers, as a device tells them (profile).
 use Rattle.std.specs.Prelude.{ℕ, ◌==◌, Bool, List, [], ◌∷◌, ◌++◌, length, codes, flat_map, if◌then◌else◌}
-use Rattle.hex.specs.Hex.{encode_upper}
+use Rattle.serde_json.specs.Data.{string, boolean}
 use Rattle.uecp_elements.specs.declared.code.Code.{Code}
 use Rattle.uecp_elements.specs.Codes.{byte_of}
 use Rattle.uecp_frame.specs.declared.frame.Frame.{Frame}
@@ -14,7 +14,9 @@ use Rattle.told_serving.specs.declared.listener.Event.{Event}
 use Rattle.uecp_text.specs.Digits.{byte_word, number_word, row_word}
 use Rattle.uecp_lines.specs.Lines.{dropped_line}
 use Rattle.phrase_scripts.specs.Lines.{message_text}
+use Rattle.json_lines.specs.Objects.{Field, in_digits, line_of}
 use Rattle.uecp_json.specs.Meanings.{meaning_of}
+use Rattle.uecp_json.specs.Steps.{code_fields}
 use Rattle.uecp_json.specs.Findings.{finding_line}
 use Rattle.output_forms.specs.declared.form.Form.{Form}
 use Rattle.output_forms.specs.declared.form.Form.TheVariants.{Lines, Words, Json}
@@ -67,13 +69,9 @@ text_line form stamp (found.Refused fault) answer sent = time_words stamp ++ dro
 
 -- ---- In JSON, two objects for each event: what was found, as `show` and `watch` write it, and what became of it.
 
--- The time as a member; nothing where none is told.
-abbrev pub time_member : (stamp : List ℕ) → List ℕ
-time_member stamp = if length stamp == 0 then [] else codes ",\"time\":\"" ++ (stamp ++ codes "\"")
-
--- How an object begins: its version of the format, its kind, and the time.
-abbrev pub object_head : (kind stamp : List ℕ) → List ℕ
-object_head kind stamp = codes "{\"format\":1,\"kind\":\"" ++ (kind ++ (codes "\"" ++ time_member stamp))
+-- The time; nothing where none is told.
+abbrev pub time_fields : (stamp : List ℕ) → List Field
+time_fields stamp = if length stamp == 0 then [] else (codes "time", string stamp) ∷ []
 
 -- The name of an answer.
 abbrev pub answer_name : Answered → List ℕ
@@ -84,35 +82,26 @@ answer_name Unnumbered = codes "unnumbered"
 answer_name NotForMe = codes "not_for_me"
 answer_name (Dropped fault) = codes "dropped"
 
--- An answer by its name.
-abbrev pub answer_member : Answered → List ℕ
-answer_member answer = codes ",\"answer\":\"" ++ answer_name answer ++ codes "\""
-
--- A code, and what it means.
-abbrev pub code_members : Code → List ℕ
-code_members code =
-    codes ",\"code\":\"" ++ encode_upper (byte_of code ∷ []) ++ codes "\",\"meaning\":\"" ++ meaning_of code
-    ++ codes "\""
-
 -- The bytes of a reply, and whether they were written whole.
-abbrev pub sent_members : (reply : List ℕ) → (sent : Bool) → List ℕ
-sent_members reply sent =
-    codes ",\"reply\":\"" ++ encode_upper reply
-    ++ (if sent then codes "\",\"sent\":true" else codes "\",\"sent\":false")
+abbrev pub sent_fields : (reply : List ℕ) → (sent : Bool) → List Field
+sent_fields reply sent = (codes "reply", in_digits reply) ∷ (codes "sent", boolean sent) ∷ []
 
--- The members of a reply, if there is one.
-abbrev pub reply_members : Answered → (sent : Bool) → List ℕ
-reply_members (New code reply) sent = code_members code ++ sent_members reply.items sent
-reply_members (Repeat code reply) sent = code_members code ++ sent_members reply.items sent
-reply_members NotNext sent = []
-reply_members Unnumbered sent = []
-reply_members NotForMe sent = []
-reply_members (Dropped fault) sent = []
+-- What is told of a reply, if there is one: its code, and what was written.
+abbrev pub reply_fields : Answered → (sent : Bool) → List Field
+reply_fields (New code reply) sent = code_fields code ++ sent_fields reply.items sent
+reply_fields (Repeat code reply) sent = code_fields code ++ sent_fields reply.items sent
+reply_fields NotNext sent = []
+reply_fields Unnumbered sent = []
+reply_fields NotForMe sent = []
+reply_fields (Dropped fault) sent = []
+
+-- An answer: its name, and its reply.
+abbrev pub answer_fields : Answered → (sent : Bool) → List Field
+answer_fields answer sent = (codes "answer", string (answer_name answer)) ∷ reply_fields answer sent
 
 -- The object of what became of something that was found.
 abbrev pub answered_line : (stamp : List ℕ) → Answered → (sent : Bool) → List ℕ
-answered_line stamp answer sent =
-    object_head (codes "answered") stamp ++ (answer_member answer ++ (reply_members answer sent ++ codes "}\n"))
+answered_line stamp answer sent = line_of (codes "answered") (time_fields stamp ++ answer_fields answer sent)
 
 -- ---- In each form.
 

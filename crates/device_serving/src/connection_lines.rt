@@ -1,13 +1,16 @@
 //! The lines of connections, put down (profile).
-ghost use Rattle.std.specs.Prelude.{◌≡◌, decimal};
+ghost use Rattle.std.specs.Prelude.{IsTrue};
+ghost use Rattle.std.specs.List.{list_all};
+ghost use Rattle.json_lines.specs.Stamps.{is_plain};
+ghost use Rattle.json_lines.specs.Texts.{fields_text};
 ghost use Rattle.uecp_text.specs.Written.{Adds};
 ghost use Rattle.kept_jobs.specs.EncoderRun.{ended_words};
 ghost use Rattle.device_serving.specs.ConnectionLines.{opened_lines, opened_text, opened_object};
-ghost use Rattle.device_serving.specs.ConnectionLines.{ended_lines, ended_text, ended_object, ended_members};
-ghost use Rattle.device_serving.specs.ConnectionLines.{number_member};
+ghost use Rattle.device_serving.specs.ConnectionLines.{ended_lines, ended_text, ended_object, ended_fields};
+ghost use Rattle.device_serving.specs.ConnectionLines.{number_fields};
 
-use crate::event_lines::{open_object, put_time};
-use itoa::Buffer;
+use crate::event_lines::{put_time, put_time_field};
+use json_lines::{close_line, number_field, open_line, word_field};
 use kept_serving::KeptFault;
 use output_forms::Form;
 use uecp_encoder::{ServeFault, Served};
@@ -15,6 +18,7 @@ use uecp_text::Output;
 
 /// Puts down that the connection of this number was opened.
 pub(crate) fn put_opened(form: Form, stamp: &str, number: u64, output: &mut Output)
+    requires { IsTrue (list_all is_plain stamp.now) }
     ensures { Adds output.old output.new (opened_lines form stamp.now number) }
 {
     match form {
@@ -36,26 +40,21 @@ fn put_opened_text(stamp: &str, number: u64, output: &mut Output)
 
 /// Puts that down as an object.
 fn put_opened_object(stamp: &str, number: u64, output: &mut Output)
+    requires { IsTrue (list_all is_plain stamp.now) }
     ensures { Adds output.old output.new (opened_object stamp.now number) }
 {
-    open_object("connection", stamp, output);
-    put_number_member(number, output);
-    output.text("}\n");
+    open_line("connection", output);
+    put_number(stamp, number, output);
+    close_line(output);
 }
 
-/// Puts down the number of a connection as a member.
-fn put_number_member(number: u64, output: &mut Output)
-    ensures { Adds output.old output.new (number_member number) }
+/// Puts down the time and the number of a connection as members.
+fn put_number(stamp: &str, number: u64, output: &mut Output)
+    requires { IsTrue (list_all is_plain stamp.now) }
+    ensures { Adds output.old output.new (fields_text (number_fields stamp.now number)) }
 {
-    output.text(",\"number\":");
-    put_number(number, output);
-}
-
-/// Puts down a number as JSON has it.
-fn put_number(number: u64, output: &mut Output)
-    ensures { Adds output.old output.new (decimal number) }
-{
-    output.text(Buffer::new().format(number));
+    put_time_field(stamp, output);
+    number_field("number", number as usize, output);
 }
 
 /// Puts down how the connection of this number ended.
@@ -66,6 +65,7 @@ pub(crate) fn put_ended(
     ended: Result<Served, KeptFault>,
     output: &mut Output,
 )
+    requires { IsTrue (list_all is_plain stamp.now) }
     ensures { Adds output.old output.new (ended_lines form stamp.now number ended) }
 {
     match form {
@@ -107,29 +107,30 @@ fn put_words(ended: Result<Served, KeptFault>, output: &mut Output)
 
 /// Puts that down as an object.
 fn put_ended_object(stamp: &str, number: u64, ended: Result<Served, KeptFault>, output: &mut Output)
+    requires { IsTrue (list_all is_plain stamp.now) }
     ensures { Adds output.old output.new (ended_object stamp.now number ended) }
 {
-    open_object("connection_end", stamp, output);
-    put_number_member(number, output);
-    put_members(ended, output);
-    output.text("}\n");
+    open_line("connection_end", output);
+    put_number(stamp, number, output);
+    put_fields(ended, output);
+    close_line(output);
 }
 
 /// Puts down how a connection ended, as members.
-fn put_members(ended: Result<Served, KeptFault>, output: &mut Output)
-    ensures { Adds output.old output.new (ended_members ended) }
+fn put_fields(ended: Result<Served, KeptFault>, output: &mut Output)
+    ensures { Adds output.old output.new (fields_text (ended_fields ended)) }
 {
     match ended {
         Ok(served) => {
-            output.text(",\"end\":\"closed\",\"replies\":");
-            put_number(served.replies, output);
+            word_field("end", "closed", output);
+            number_field("replies", served.replies as usize, output);
         }
-        Err(KeptFault::Serve(ServeFault::ReadFailed)) => output.text(",\"end\":\"read_failed\""),
+        Err(KeptFault::Serve(ServeFault::ReadFailed)) => word_field("end", "read_failed", output),
         Err(KeptFault::Serve(ServeFault::WriteFailed { written })) => {
-            output.text(",\"end\":\"write_failed\",\"written\":");
-            put_number(written, output);
+            word_field("end", "write_failed", output);
+            number_field("written", written as usize, output);
         }
-        Err(KeptFault::Serve(ServeFault::TurnsSpent)) => output.text(",\"end\":\"turns_spent\""),
-        Err(KeptFault::StateFailed) => output.text(",\"end\":\"state_failed\""),
+        Err(KeptFault::Serve(ServeFault::TurnsSpent)) => word_field("end", "turns_spent", output),
+        Err(KeptFault::StateFailed) => word_field("end", "state_failed", output),
     }
 }

@@ -1,12 +1,17 @@
 //! The lines of what an encoder finds and answers, put down (profile).
-ghost use Rattle.std.specs.Prelude.{◌≡◌, ◌++◌};
+ghost use Rattle.std.specs.Prelude.{◌≡◌, ◌++◌, IsTrue};
+ghost use Rattle.std.specs.List.{list_all};
+ghost use Rattle.json_lines.specs.Stamps.{is_plain};
+ghost use Rattle.json_lines.specs.Texts.{is_plain as is_plain_text, fields_text};
+ghost use Rattle.uecp_json.specs.Steps.{code_fields};
 ghost use Rattle.output_forms.specs.declared.form.Form.TheVariants.{Words as InWords};
 ghost use Rattle.uecp_text.specs.Written.{Adds};
 ghost use Rattle.device_serving.specs.EventLines.{time_words, meaning_words, answer_words, sent_words, message_words};
-ghost use Rattle.device_serving.specs.EventLines.{head_words, frame_words, text_line, time_member, object_head};
-ghost use Rattle.device_serving.specs.EventLines.{answer_name, answer_member, code_members, reply_members};
+ghost use Rattle.device_serving.specs.EventLines.{head_words, frame_words, text_line, time_fields, answer_name};
+ghost use Rattle.device_serving.specs.EventLines.{answer_fields, reply_fields, sent_fields};
 ghost use Rattle.device_serving.specs.EventLines.{answered_line, event_lines};
 
+use json_lines::{close_line, digits_field, flag_field, open_line, time_field, word_field};
 use output_forms::Form;
 use rds_text::Region;
 use told_serving::{Answered, Event};
@@ -18,6 +23,7 @@ use uecp_text::Output;
 
 /// Puts down the lines of an event, in this form and behind this time, which is empty where none is told.
 pub(crate) fn put_event(form: Form, stamp: &str, event: &Event, sent: bool, output: &mut Output)
+    requires { IsTrue (list_all is_plain stamp.now) }
     ensures { Adds output.old output.new (event_lines form stamp.now event.now sent) }
 {
     match form {
@@ -148,47 +154,38 @@ fn put_phrases(region: Region, message: &[u8], output: &mut Output)
 
 /// Puts down what became of something that was found, as an object.
 fn put_answered(stamp: &str, answer: &Answered, sent: bool, output: &mut Output)
+    requires { IsTrue (list_all is_plain stamp.now) }
     ensures { Adds output.old output.new (answered_line stamp.now answer.now sent) }
 {
-    open_object("answered", stamp, output);
-    put_name(answer, output);
-    put_reply(answer, sent, output);
-    output.text("}\n");
-}
-
-/// Puts down how an object begins: its kind, and the time, if one is told.
-pub(crate) fn open_object(kind: &str, stamp: &str, output: &mut Output)
-    ensures { Adds output.old output.new (object_head kind.now stamp.now) }
-{
-    output.text("{\"format\":1,\"kind\":\"");
-    output.text(kind);
-    output.text("\"");
-    put_time_member(stamp, output);
-}
-
-/// Puts down an answer by its name.
-fn put_name(answer: &Answered, output: &mut Output)
-    ensures { Adds output.old output.new (answer_member answer.now) }
-{
-    output.text(",\"answer\":\"");
-    output.text(name_of(answer));
-    output.text("\"");
+    open_line("answered", output);
+    put_time_field(stamp, output);
+    put_answer_fields(answer, sent, output);
+    close_line(output);
 }
 
 /// Puts down the time as a member, if one is told.
-fn put_time_member(stamp: &str, output: &mut Output)
-    ensures { Adds output.old output.new (time_member stamp.now) }
+#[tactic(auto, using(json_lines::proofs::Public::parts))]
+pub(crate) fn put_time_field(stamp: &str, output: &mut Output)
+    requires { IsTrue (list_all is_plain stamp.now) }
+    ensures { Adds output.old output.new (fields_text (time_fields stamp.now)) }
 {
     if !stamp.is_empty() {
-        output.text(",\"time\":\"");
-        output.text(stamp);
-        output.text("\"");
+        time_field(stamp, output);
     }
+}
+
+/// Puts down an answer by its name, and its reply.
+fn put_answer_fields(answer: &Answered, sent: bool, output: &mut Output)
+    ensures { Adds output.old output.new (fields_text (answer_fields answer.now sent)) }
+{
+    word_field("answer", name_of(answer), output);
+    put_reply(answer, sent, output);
 }
 
 /// The name of an answer.
 fn name_of(answer: &Answered) -> &'static str
-    ensures { result.now ≡ answer_name answer.now }
+    ensures value { result.now ≡ answer_name answer.now }
+    ensures plain { IsTrue (is_plain_text result.now) }
 {
     match answer {
         Answered::New { .. } => "new",
@@ -202,30 +199,22 @@ fn name_of(answer: &Answered) -> &'static str
 
 /// Puts down the members of a reply, if there is one.
 fn put_reply(answer: &Answered, sent: bool, output: &mut Output)
-    ensures { Adds output.old output.new (reply_members answer.now sent) }
+    ensures { Adds output.old output.new (fields_text (reply_fields answer.now sent)) }
 {
     match answer {
         Answered::New { code, reply } | Answered::Repeat { code, reply } => {
-            put_code_members(*code, output);
-            output.text(",\"reply\":\"");
-            output.digits(reply.as_slice());
-            output.text(if sent {
-                "\",\"sent\":true"
-            } else {
-                "\",\"sent\":false"
-            });
+            put_reply_fields(*code, reply.as_slice(), sent, output);
         }
         Answered::NotNext | Answered::Unnumbered | Answered::NotForMe | Answered::Dropped(_) => {}
     }
 }
 
-/// Puts down a code and what it means, as members.
-fn put_code_members(code: Code, output: &mut Output)
-    ensures { Adds output.old output.new (code_members code) }
+/// Puts down a code, a reply, and whether that was written whole.
+#[tactic(auto, using(json_lines::proofs::Public::parts))]
+fn put_reply_fields(code: Code, reply: &[u8], sent: bool, output: &mut Output)
+    ensures { Adds output.old output.new (fields_text (code_fields code ++ sent_fields reply.now sent)) }
 {
-    output.text(",\"code\":\"");
-    output.digits(&[code.byte()]);
-    output.text("\",\"meaning\":\"");
-    output.text(meaning(code));
-    output.text("\"");
+    uecp_json::put_code(code, output);
+    digits_field("reply", reply, output);
+    flag_field("sent", sent, output);
 }

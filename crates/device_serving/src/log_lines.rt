@@ -1,5 +1,7 @@
 //! What a device tells, line by line (profile).
 ghost use Rattle.std.specs.Prelude.{◌≡◌, ℕ, List, None, true, IsTrue, is_some};
+ghost use Rattle.std.specs.List.{list_all};
+ghost use Rattle.json_lines.specs.Stamps.{is_plain};
 ghost use Rattle.device_serving.specs.Logging.{Log, IsTimeOf, WritesLog, Logs, LogsEvent, LogsOpening};
 ghost use Rattle.device_serving.specs.EventLines.{event_lines};
 ghost use Rattle.device_serving.specs.ConnectionLines.{opened_lines, ended_lines};
@@ -8,6 +10,7 @@ ghost use Rattle.output_forms.specs.Forms.{store_lines};
 use crate::connection_lines::{put_ended, put_opened};
 use crate::event_lines::put_event;
 use arrayvec::ArrayString;
+use json_lines::{STAMP_MAX, stamp_of};
 use kept_serving::KeptFault;
 use output_forms::{Form, put_store};
 use rds_store::RdsStore;
@@ -18,7 +21,6 @@ use std::time::Clock;
 use told_serving::{Event, Listener};
 use uecp_encoder::Served;
 use uecp_text::Output;
-use uecp_watch::{STAMP_MAX, stamp_of};
 
 /// Why a log ended.
 #[derive(Clone, Copy, Debug, PartialEq, Eq)]
@@ -113,7 +115,8 @@ impl<'a, W: Write, C: Clock> LogLines<'a, W, C> {
 
     /// What the clock shows, or nothing where there is none.
     fn stamp(&self) -> ArrayString<STAMP_MAX>
-        ensures { IsTimeOf self.now.timed result.bytes }
+        ensures time { IsTimeOf self.now.timed result.bytes }
+        ensures plain { IsTrue (list_all is_plain result.bytes) }
     {
         match self.clock {
             Some(clock) => stamp_of(clock),

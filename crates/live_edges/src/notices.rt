@@ -4,12 +4,12 @@ ghost use Rattle.std.specs.Io.KnownBytes.{Appends};
 
 use arrayvec::ArrayVec;
 use itoa::Buffer;
+use json_lines::stamp_of;
 use std::fmt::InlineText;
 use std::io::Write;
 use std::time::Clock;
 use uecp_net::DialFault;
 use uecp_text::write_parts;
-use uecp_watch::stamp_of;
 
 /// How many bytes a notice has at most; a name of a host has 253.
 const LINE_MAX: usize = 512;

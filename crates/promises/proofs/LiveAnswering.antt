@@ -9,8 +9,8 @@ use Rattle.uecp_net.specs.declared.sender.Settled.{Settled}
 use Rattle.uecp_net.specs.declared.saved.keep.Progress.{Progress}
 use Rattle.output_forms.specs.declared.form.Form.{Form}
 use Rattle.output_forms.specs.declared.form.Form.TheVariants.{Lines, Words, Json}
-use Rattle.uecp_watch.specs.Stamps.{IsStamp}
-use Rattle.live_objects.specs.Objects as objects
+use Rattle.json_lines.specs.Stamps.{IsStamp}
+use Rattle.sending.specs.Objects as objects
 use Rattle.sending.specs.declared.options.LiveOptions.{LiveOptions}
 use Rattle.sending.specs.Lines as lines
 use Rattle.sending.specs.Forms.{AreReplies, unknown_in}

@@ -9,10 +9,10 @@ use Rattle.uecp_net.specs.declared.saved.keep.Progress.{Progress}
 use Rattle.kept_jobs.specs.ServerRun.{is_due}
 use Rattle.output_forms.specs.declared.form.Form.{Form}
 use Rattle.output_forms.specs.declared.form.Form.TheVariants.{Lines, Words, Json}
-use Rattle.uecp_watch.specs.Stamps.{IsStamp}
+use Rattle.json_lines.specs.Stamps.{IsStamp}
 use Rattle.line_batches.specs.declared.intake.Given.{Given}
 use Rattle.line_batches.specs.Intake.{has_refused}
-use Rattle.live_objects.specs.Objects as objects
+use Rattle.sending.specs.Objects as objects
 use Rattle.sending.specs.declared.options.LiveOptions.{LiveOptions}
 use Rattle.sending.specs.Lines as lines
 use Rattle.sending.specs.Forms.{AreHeld, unknown_in, station_in, taken_in, given_up_in}

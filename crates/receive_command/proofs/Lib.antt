@@ -2,6 +2,5 @@ pub mod Heard
 pub mod HeardBits
 pub mod Texts
 pub mod Same
-pub mod Stamps
 pub mod Telling
 pub mod OneThing

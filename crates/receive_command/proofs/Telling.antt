@@ -5,13 +5,13 @@ use Rattle.serde_json.specs.Data.{string}
 use Rattle.uecp_elements.specs.Grammar.{Element}
 use Rattle.rds_text.specs.declared.programme_type.Region.{Region}
 use Rattle.output_forms.specs.declared.form.Form.TheVariants as form
-use Rattle.uecp_json.specs.Objects.{Field}
-use Rattle.uecp_json.specs.Texts.{field_text, fields_text}
-use Rattle.uecp_json.proofs.Public.{adds_field}
+use Rattle.json_lines.specs.Objects.{Field}
+use Rattle.json_lines.specs.Texts.{field_text, fields_text}
+use Rattle.json_lines.proofs.Public.{adds_field}
 use Rattle.uecp_text.specs.Written.{Kept, Adds}
 use Rattle.uecp_text.proofs.Public.{adds_then}
-use Rattle.uecp_watch.specs.Stamps.{IsStamp, time_line}
-use Rattle.uecp_watch.specs.Watching.{IsTime}
+use Rattle.json_lines.specs.Stamps.{IsStamp}
+use Rattle.uecp_watch.specs.Watching.{IsTime, time_line}
 use Rattle.receive_command.specs.Told.{phrase_line, AreTold, IsTimeIn}
 
 -- the time of a clock that there is

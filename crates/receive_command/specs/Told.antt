@@ -9,9 +9,9 @@ use Rattle.rds_text.specs.declared.programme_type.Region.{Region}
 use Rattle.rds_groups.specs.Groups.{bit}
 use Rattle.phrase_tokens.specs.Tokens.{written_tokens}
 use Rattle.uecp_phrases.specs.Written.{phrase_of}
-use Rattle.uecp_json.specs.Objects.{Field, object_of, in_decimal, in_digits, said_fields, line_of}
+use Rattle.json_lines.specs.Objects.{Field, object_of, in_decimal, in_digits, said_fields, line_of}
 use Rattle.output_forms.specs.declared.form.Form.TheVariants as form
-use Rattle.uecp_watch.specs.Stamps.{IsStamp}
+use Rattle.json_lines.specs.Stamps.{IsStamp}
 use Rattle.uecp_watch.specs.Watching.{IsTime}
 use Rattle.receive_command.specs.declared.display.shown_form.ShownForm.{ShownForm}
 use Rattle.receive_command.specs.declared.display.shown_form.ShownForm.TheVariants.{Words, Json}

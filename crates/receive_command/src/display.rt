@@ -10,7 +10,6 @@ mod objects;
 mod shown;
 mod shown_form;
 mod times;
-mod values;
 
 pub use changes::put_change;
 pub use shown::Shown;

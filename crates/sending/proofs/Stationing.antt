@@ -16,7 +16,7 @@ use Rattle.uecp_jobs.specs.Batches.{Acknowledges, GivesUp}
 use Rattle.uecp_jobs.proofs.Public.{adds_on, all_wait, all_tries, SettlesSo}
 use Rattle.output_forms.specs.declared.form.Form.{Form}
 use Rattle.output_forms.specs.declared.form.Form.TheVariants.{Lines, Words, Json}
-use Rattle.live_objects.specs.Objects as objects
+use Rattle.sending.specs.Objects as objects
 use Rattle.sending.specs.Lines.{is_applied, refused_line, refused_lines}
 use Rattle.sending.specs.Forms.{refused_in}
 use Rattle.sending.specs.Station.{SettlesBatch, SentFor, SendsStation}

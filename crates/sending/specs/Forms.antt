@@ -7,9 +7,9 @@ use Rattle.uecp_jobs.specs.JoiningFirst.{joined_line, not_joined_line}
 use Rattle.kept_jobs.specs.ServerRun.{taken_line, given_up_line}
 use Rattle.output_forms.specs.declared.form.Form.{Form}
 use Rattle.output_forms.specs.declared.form.Form.TheVariants.{Lines, Words, Json}
-use Rattle.uecp_watch.specs.Stamps.{IsStamp}
+use Rattle.json_lines.specs.Stamps.{IsStamp}
 use Rattle.uecp_json.specs.Steps as steps
-use Rattle.live_objects.specs.Objects as objects
+use Rattle.sending.specs.Objects as objects
 use Rattle.sending.specs.Lines as lines
 
 -- ---- The beginning.

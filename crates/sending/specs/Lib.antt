@@ -1,5 +1,6 @@
 -- The definitions that the contracts of a server cite whose lines come as they like.
 pub mod Lines
+pub mod Objects
 pub mod Forms
 pub mod Counters
 pub mod Beginning

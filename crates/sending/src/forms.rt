@@ -7,18 +7,18 @@ ghost use Rattle.sending.specs.Forms.{taken_in, given_up_in, given_up_object, Ar
 ghost use Rattle.sending.specs.Forms.{refused_in, joined_in, not_joined_in, applied_in, applied_object};
 
 use crate::lines::{put_applied, put_held, put_refused, put_replies, put_unknown};
-use crate::timing::{milliseconds_since, now};
-use live_objects::{
+use crate::objects::{
     put_answers, put_held_answers, put_joined, put_progress, put_station_applied,
     put_station_refused,
 };
+use crate::timing::{milliseconds_since, now};
+use json_lines::stamp_of;
 use output_forms::Form;
 use std::time::Clock;
 use uecp_elements::Code;
 use uecp_frame::Message;
 use uecp_net::Settled;
 use uecp_text::Output;
-use uecp_watch::stamp_of;
 
 /// Puts down how many messages were taken since the state was made, and how many of them wait.
 pub(crate) fn put_taken_in(form: Form, taken: u64, outstanding: usize, output: &mut Output)
@@ -180,7 +180,7 @@ pub(crate) fn put_unknown_in(form: Form, first: u64, count: usize, output: &mut 
     match form {
         Form::Lines => put_unknown(first, count, output),
         Form::Words(_) => put_unknown(first, count, output),
-        Form::Json => live_objects::put_unknown(first, count, output),
+        Form::Json => crate::objects::put_unknown(first, count, output),
     }
 }
 

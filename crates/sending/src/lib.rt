@@ -8,6 +8,7 @@ mod forms;
 mod lines;
 mod lives;
 mod not_kept;
+mod objects;
 mod options;
 mod run;
 mod station;

@@ -4,7 +4,12 @@ use Rattle.serde_json.specs.Data.{Data, boolean, string}
 use Rattle.uecp_frame.specs.Frame.{high_first}
 use Rattle.rds_store.specs.Bits.{bit_0, bit_1}
 use Rattle.uecp_elements.specs.Grammar.{Part, NoText, Text, Element, Pi, Ps, TaTp, Ms, Pty, Rt, Select, Group, Ack}
-use Rattle.uecp_json.specs.Objects.{Field, object_of, in_decimal, in_digits, said_fields, block_fields}
+use Rattle.json_lines.specs.Objects.{Field, object_of, in_decimal, in_digits, said_fields}
+
+-- Blocks 3 and 4 of a group (SPB 490, free-format group).
+abbrev pub block_fields : (block3 block4 : ℕ) → List Field
+block_fields block3 block4 =
+    (codes "block3", in_digits (high_first block3)) ∷ (codes "block4", in_digits (high_first block4)) ∷ []
 
 -- The data set and the service that an element names (SPB 490, data sets and programme services).
 abbrev pub place_fields : (dsn psn : ℕ) → List Field

@@ -12,7 +12,7 @@ use Rattle.uecp_elements.specs.Codes.{byte_of}
 use Rattle.uecp_elements.specs.declared.fault.ElementFault.{ElementFault}
 use Rattle.uecp_elements.specs.Reading.{Item, items}
 use Rattle.uecp_encoder.specs.Answering.{Response, Replied, NotForMe, Unnumbered, NotNext, Dropped}
-use Rattle.uecp_json.specs.Objects.{Field, object_of, list_of, in_decimal, in_digits, line_of}
+use Rattle.json_lines.specs.Objects.{Field, object_of, list_of, in_decimal, in_digits, line_of}
 use Rattle.uecp_json.specs.Elements.{element_object}
 
 -- The objects of the elements among the items of a message (profile).

@@ -9,7 +9,8 @@ use Rattle.uecp_link.specs.declared.stepped.Stepped.TheVariants.{Noise, Lost, Re
 use Rattle.uecp_link.specs.declared.refusal.LineRefusal.{LineRefusal}
 use Rattle.uecp_link.specs.Refusal.{number_of, name_of}
 use Rattle.rds_store.specs.declared.group.Group.{Group}
-use Rattle.uecp_json.specs.Objects.{Field, object_of, in_decimal, in_digits, block_fields, line_of}
+use Rattle.json_lines.specs.Objects.{Field, object_of, in_decimal, in_digits, line_of}
+use Rattle.uecp_json.specs.Elements.{block_fields}
 use Rattle.uecp_json.specs.Meanings.{meaning_of}
 
 -- A reply's code and what it means (profile).

@@ -7,7 +7,7 @@ use Rattle.uecp_frame.specs.Frame.{high_first}
 use Rattle.rds_store.specs.declared.group.Group.{Group}
 use Rattle.rds_store.specs.Value.{StoredText, ServiceData, Store}
 use Rattle.rds_store.specs.Refusals.{set_numbers}
-use Rattle.uecp_json.specs.Objects.{Field, object_of, list_of, in_decimal, in_digits, said_fields, line_of}
+use Rattle.json_lines.specs.Objects.{Field, object_of, list_of, in_decimal, in_digits, said_fields, line_of}
 use Rattle.uecp_json.specs.Elements.{place_fields}
 use Rattle.uecp_json.specs.Steps.{group_fields}
 

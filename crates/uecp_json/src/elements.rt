@@ -2,18 +2,19 @@
 ghost use Rattle.std.specs.Prelude.{◌≡◌, IsTrue};
 ghost use Rattle.serde_json.specs.Written.{compact_text};
 ghost use Rattle.uecp_elements.specs.View.{element_of, part_of};
-ghost use Rattle.uecp_json.specs.Elements.{place_fields, part_fields, element_name, element_fields, element_object};
-ghost use Rattle.uecp_json.specs.Texts.{is_plain, fields_text};
+ghost use Rattle.uecp_json.specs.Elements.{block_fields, place_fields, part_fields, element_name};
+ghost use Rattle.uecp_json.specs.Elements.{element_fields, element_object};
+ghost use Rattle.json_lines.specs.Texts.{is_plain, fields_text};
 ghost use Rattle.uecp_text.specs.Written.{Adds};
 
-use crate::fields::{
-    block_field, block_fields, byte_field, close, flag_field, number_field, open_word, said_fields,
+use json_lines::{
+    block_field, byte_field, close, flag_field, number_field, open_word, said_fields,
 };
 use uecp_elements::{Element, RtPart};
 use uecp_text::Output;
 
 /// The object of an element: its name and what it holds.
-#[tactic(auto, using(crate::proofs::Objects::parts))]
+#[tactic(auto, using(json_lines::proofs::Public::parts))]
 pub fn put_element(element: &Element<'_>, output: &mut Output)
     ensures { Adds output.old output.new (compact_text (element_object (element_of element.now))) }
 {
@@ -81,13 +82,21 @@ fn put_fields(element: &Element<'_>, output: &mut Output)
         } => {
             byte_field("type", kind, output);
             byte_field("mode", mode, output);
-            block_fields(block3, block4, output);
+            put_blocks(block3, block4, output);
         }
         Element::Ack { code, counter } => {
             byte_field("code", code, output);
             number_field("counter", usize::from(counter), output);
         }
     }
+}
+
+/// Blocks 3 and 4 of a group.
+pub fn put_blocks(block3: u16, block4: u16, output: &mut Output)
+    ensures { Adds output.old output.new (fields_text (block_fields block3 block4)) }
+{
+    block_field("block3", block3, output);
+    block_field("block4", block4, output);
 }
 
 /// The data set and the service that are named.

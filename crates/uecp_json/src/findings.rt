@@ -4,19 +4,18 @@ ghost use Rattle.serde_json.specs.Written.{compact_text, comma_if};
 ghost use Rattle.uecp_frame.specs.Feeding.{findings_of};
 ghost use Rattle.uecp_elements.specs.Reading.{items};
 ghost use Rattle.uecp_elements.specs.View.{element_of};
-ghost use Rattle.uecp_json.specs.Objects.{list_of};
-ghost use Rattle.uecp_json.specs.Texts.{is_plain, field_text, fields_text};
+ghost use Rattle.json_lines.specs.Objects.{list_of};
+ghost use Rattle.json_lines.specs.Texts.{is_plain, field_text, fields_text};
 ghost use Rattle.uecp_json.specs.Elements.{element_object};
 ghost use Rattle.uecp_json.specs.Findings.{objects_in, fault_in, fault_object, head_fields, message_fields};
 ghost use Rattle.uecp_json.specs.Findings.{place_of, frame_line, dropped_line, finding_line};
 ghost use Rattle.uecp_text.specs.Written.{Adds};
 
 use crate::elements::put_element;
-use crate::fields::{
+use json_lines::{
     close, close_line, digits_field, null_field, number_field, open_digits, open_line, put_name,
-    word_field,
+    put_null, word_field,
 };
-use crate::values::put_null;
 use uecp_elements::{Element, ElementFault, elements};
 use uecp_frame::{Address, Found, Frame, FrameFault};
 use uecp_text::Output;
@@ -33,7 +32,7 @@ pub fn put_found(found: &Found, output: &mut Output)
 }
 
 /// The line of a frame.
-#[tactic(auto, using(crate::proofs::Objects::parts))]
+#[tactic(auto, using(json_lines::proofs::Public::parts))]
 fn put_frame(frame: &Frame, output: &mut Output)
     ensures { Adds output.old output.new (frame_line frame.now) }
 {
@@ -44,7 +43,7 @@ fn put_frame(frame: &Frame, output: &mut Output)
 }
 
 /// The line of a segment that is no frame: the number, the name and the place of its fault.
-#[tactic(auto, using(crate::proofs::Objects::parts))]
+#[tactic(auto, using(json_lines::proofs::Public::parts))]
 pub fn put_dropped(fault: FrameFault, output: &mut Output)
     ensures { Adds output.old output.new (dropped_line fault) }
 {
@@ -74,7 +73,7 @@ fn put_message(message: &[u8], output: &mut Output)
 }
 
 /// The elements of a message.
-#[tactic(auto, unfolding(crate::specs::Texts::field_text))]
+#[tactic(auto, unfolding(json_lines::specs::Texts::field_text))]
 fn elements_field(message: &[u8], output: &mut Output)
     ensures { Adds output.old output.new (field_text (codes "elements") (list_of (objects_in (items message.now)))) }
 {
@@ -83,7 +82,7 @@ fn elements_field(message: &[u8], output: &mut Output)
 }
 
 /// The fault of a message, or null.
-#[tactic(auto, unfolding(crate::specs::Texts::field_text))]
+#[tactic(auto, unfolding(json_lines::specs::Texts::field_text))]
 fn fault_field(message: &[u8], output: &mut Output)
     ensures { Adds output.old output.new (field_text (codes "fault") (fault_object (fault_in (items message.now)))) }
 {
@@ -92,7 +91,7 @@ fn fault_field(message: &[u8], output: &mut Output)
 }
 
 /// The list of the elements of a message.
-#[tactic(auto, unfolding(crate::specs::Texts::values_text, crate::specs::Objects::list_of))]
+#[tactic(auto, unfolding(json_lines::specs::Texts::values_text, json_lines::specs::Objects::list_of))]
 fn put_elements(message: &[u8], output: &mut Output)
     ensures { Adds output.old output.new (compact_text (list_of (objects_in (items message.now)))) }
 {
@@ -133,7 +132,7 @@ fn fault_in(message: &[u8]) -> Option<ElementFault>
 }
 
 /// The object of that fault.
-#[tactic(auto, using(crate::proofs::Objects::parts))]
+#[tactic(auto, using(json_lines::proofs::Public::parts))]
 fn put_fault(fault: Option<ElementFault>, output: &mut Output)
     ensures { Adds output.old output.new (compact_text (fault_object fault)) }
 {

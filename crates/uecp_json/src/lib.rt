@@ -7,21 +7,18 @@
 //! - [`put_found`], [`put_answer`], [`put_step`]: the line of one finding, answer or event.
 //! - [`put_given_up`]: the line of a server that was started again.
 //! - [`put_totals`], [`put_store`]: the lines that come last.
-//! - [`meaning`]: what a reply's code means.
+//! - [`meaning`], [`put_code`]: what a reply's code means, and the members of both.
 #![tactic(auto)]
 
 mod elements;
-mod fields;
 mod findings;
-pub mod laws;
 mod meanings;
 mod responses;
 mod steps;
 mod store;
-mod values;
 
 pub use findings::put_found;
 pub use meanings::meaning;
 pub use responses::put_answer;
-pub use steps::{put_given_up, put_step, put_totals};
+pub use steps::{put_code, put_given_up, put_step, put_totals};
 pub use store::put_store;

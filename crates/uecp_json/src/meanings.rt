@@ -1,7 +1,7 @@
 //! What a reply's code means, in a user's words (profile).
 ghost use Rattle.std.specs.Prelude.{◌≡◌, IsTrue};
 ghost use Rattle.uecp_json.specs.Meanings.{meaning_of};
-ghost use Rattle.uecp_json.specs.Texts.{is_plain};
+ghost use Rattle.json_lines.specs.Texts.{is_plain};
 
 use uecp_elements::Code;
 

@@ -1,13 +1,11 @@
 //! What an encoder answers, as objects (profile).
-ghost use Rattle.std.specs.Prelude.{flat_map, [], IsTrue};
+ghost use Rattle.std.specs.Prelude.{flat_map};
 ghost use Rattle.uecp_encoder.specs.Answering.{responses_of, Replied};
 ghost use Rattle.uecp_json.specs.Findings.{response_line};
-ghost use Rattle.uecp_json.specs.Objects.{line_of};
-ghost use Rattle.uecp_json.specs.Texts.{is_plain};
 ghost use Rattle.uecp_text.specs.Written.{Adds};
 
-use crate::fields::{close_line, digits_field, flag_field, open_line};
 use crate::findings::put_dropped;
+use json_lines::{close_line, digits_field, flag_field, open_line, put_kind};
 use uecp_encoder::What;
 use uecp_text::Output;
 
@@ -27,22 +25,12 @@ pub fn put_answer(what: What<'_>, output: &mut Output)
 }
 
 /// The line of a reply.
-#[tactic(auto, using(crate::proofs::Objects::parts))]
+#[tactic(auto, using(json_lines::proofs::Public::parts))]
 fn put_reply(reply: &[u8], fresh: bool, output: &mut Output)
     ensures { Adds output.old output.new (response_line (Replied reply.now fresh)) }
 {
     open_line("reply", output);
     flag_field("fresh", fresh, output);
     digits_field("reply", reply, output);
-    close_line(output);
-}
-
-/// A line with its kind alone.
-#[tactic(auto, using(crate::proofs::Objects::parts))]
-pub fn put_kind(kind: &str, output: &mut Output)
-    requires { IsTrue (is_plain kind.now) }
-    ensures { Adds output.old output.new (line_of kind.now []) }
-{
-    open_line(kind, output);
     close_line(output);
 }

@@ -6,19 +6,18 @@ ghost use Rattle.uecp_link.specs.Once.{least_missing};
 ghost use Rattle.uecp_link.specs.Holds.{is_acknowledged};
 ghost use Rattle.uecp_link.specs.declared.stepped.Stepped.TheVariants.{Delivered, Acknowledged, Taken};
 ghost use Rattle.uecp_link.specs.Refusal.{number_of, name_of};
-ghost use Rattle.uecp_json.specs.Objects.{in_decimal, line_of};
-ghost use Rattle.uecp_json.specs.Texts.{is_plain, fields_text};
+ghost use Rattle.json_lines.specs.Objects.{in_decimal, line_of};
+ghost use Rattle.json_lines.specs.Texts.{is_plain, fields_text};
 ghost use Rattle.uecp_json.specs.Steps.{code_fields, bits_fields, taken_group, step_line, given_up_line};
 ghost use Rattle.uecp_json.specs.Steps.{total_fields, totals_line};
 ghost use Rattle.uecp_text.specs.Written.{Adds};
 
-use crate::fields::{
-    block_fields, byte_field, close, close_line, flag_field, number_field, open_digits, open_line,
-    put_name, word_field,
-};
+use crate::elements::put_blocks;
 use crate::meanings::meaning;
-use crate::responses::put_kind;
-use crate::values::put_null;
+use json_lines::{
+    byte_field, close, close_line, flag_field, number_field, open_digits, open_line, put_kind,
+    put_name, put_null, word_field,
+};
 use rds_store::{Group, RdsStore};
 use uecp_elements::Code;
 use uecp_link::{Line, LineRefusal, Stepped};
@@ -43,7 +42,7 @@ pub fn put_step(stepped: Result<Stepped, LineRefusal>, named: usize, output: &mu
 }
 
 /// A line of a kind, with one number.
-#[tactic(auto, using(crate::proofs::Objects::parts))]
+#[tactic(auto, using(json_lines::proofs::Public::parts))]
 fn put_count(kind: &str, name: &str, number: usize, output: &mut Output)
     requires kind { IsTrue (is_plain kind.now) }
     requires name { IsTrue (is_plain name.now) }
@@ -55,7 +54,7 @@ fn put_count(kind: &str, name: &str, number: usize, output: &mut Output)
 }
 
 /// The line of a message that the encoder has.
-#[tactic(auto, using(crate::proofs::Objects::parts))]
+#[tactic(auto, using(json_lines::proofs::Public::parts))]
 fn put_delivered(named: usize, fresh: bool, code: Code, output: &mut Output)
     ensures { Adds output.old output.new (step_line (Ok (Delivered fresh code)) named) }
 {
@@ -67,7 +66,7 @@ fn put_delivered(named: usize, fresh: bool, code: Code, output: &mut Output)
 }
 
 /// The line of a message of which the server knows that it arrived.
-#[tactic(auto, using(crate::proofs::Objects::parts))]
+#[tactic(auto, using(json_lines::proofs::Public::parts))]
 fn put_acknowledged(code: Code, output: &mut Output)
     ensures { Adds output.old output.new (line_of (codes "acknowledged") (code_fields code)) }
 {
@@ -77,7 +76,7 @@ fn put_acknowledged(code: Code, output: &mut Output)
 }
 
 /// A code and what it means.
-fn put_code(code: Code, output: &mut Output)
+pub fn put_code(code: Code, output: &mut Output)
     ensures { Adds output.old output.new (fields_text (code_fields code)) }
 {
     byte_field("code", code.byte(), output);
@@ -85,7 +84,7 @@ fn put_code(code: Code, output: &mut Output)
 }
 
 /// The line of a group that was to be taken.
-#[tactic(auto, unfolding(crate::specs::Texts::field_text), using(crate::proofs::Objects::parts))]
+#[tactic(auto, unfolding(json_lines::specs::Texts::field_text), using(json_lines::proofs::Public::parts))]
 fn put_taken(group: Option<Group>, output: &mut Output)
     ensures { Adds output.old output.new (line_of (codes "taken") ((codes "group", taken_group group) ∷ [])) }
 {
@@ -96,7 +95,7 @@ fn put_taken(group: Option<Group>, output: &mut Output)
 }
 
 /// The object of a group, or null where there was none.
-#[tactic(auto, using(crate::proofs::Objects::parts))]
+#[tactic(auto, using(json_lines::proofs::Public::parts))]
 fn put_group(group: Option<Group>, output: &mut Output)
     ensures { Adds output.old output.new (compact_text (taken_group group)) }
 {
@@ -111,7 +110,7 @@ fn put_group(group: Option<Group>, output: &mut Output)
 }
 
 /// The line of a refusal.
-#[tactic(auto, using(crate::proofs::Objects::parts))]
+#[tactic(auto, using(json_lines::proofs::Public::parts))]
 fn put_refused(refusal: LineRefusal, output: &mut Output)
     ensures { Adds output.old output.new (line_of (codes "refused")
         ((codes "number", in_decimal (number_of refusal)) ∷ (codes "name", string (name_of refusal)) ∷ [])) }
@@ -143,7 +142,7 @@ pub fn put_totals(line: &Line<RdsStore>, output: &mut Output)
 }
 
 /// The line of these totals.
-#[tactic(auto, using(crate::proofs::Objects::parts))]
+#[tactic(auto, using(json_lines::proofs::Public::parts))]
 fn put_counts(sent: usize, applied: usize, acknowledged: usize, output: &mut Output)
     ensures { Adds output.old output.new (totals_line sent applied acknowledged) }
 {
@@ -166,5 +165,5 @@ pub fn put_bits(group: &Group, output: &mut Output)
     ensures { Adds output.old output.new (fields_text (bits_fields group.now)) }
 {
     byte_field("bits", group.bits, output);
-    block_fields(group.block3, group.block4, output);
+    put_blocks(group.block3, group.block4, output);
 }

@@ -2,19 +2,19 @@
 ghost use Rattle.std.specs.Prelude.{◌++◌, [], ◌∷◌, false, flat_map, map, codes, take};
 ghost use Rattle.serde_json.specs.Written.{compact_text, comma_if};
 ghost use Rattle.rds_store.specs.Refusals.{set_numbers};
-ghost use Rattle.uecp_json.specs.Objects.{in_decimal, line_of, list_of};
-ghost use Rattle.uecp_json.specs.Texts.{field_text, fields_text};
+ghost use Rattle.json_lines.specs.Objects.{in_decimal, line_of, list_of};
+ghost use Rattle.json_lines.specs.Texts.{field_text, fields_text};
 ghost use Rattle.uecp_json.specs.Stores.{text_object, name_fields, flag_fields, texts_fields, service_line, line_at};
 ghost use Rattle.uecp_json.specs.Stores.{set_lines, group_line, store_lines, first_line, value_fields, content_fields};
 ghost use Rattle.uecp_json.specs.Elements.{place_fields};
 ghost use Rattle.uecp_text.specs.Written.{Adds};
 
 use crate::elements::put_place;
-use crate::fields::{
+use crate::steps::put_bits;
+use json_lines::{
     block_field, byte_field, close, close_line, flag_field, number_field, open_flag, open_line,
     put_name, said_fields,
 };
-use crate::steps::put_bits;
 use rds_store::{Group, RadioText, RdsStore, Service};
 use uecp_text::Output;
 
@@ -28,7 +28,7 @@ pub fn put_store(store: &RdsStore, output: &mut Output)
 }
 
 /// The first line of a store.
-#[tactic(auto, using(crate::proofs::Objects::parts))]
+#[tactic(auto, using(json_lines::proofs::Public::parts))]
 fn put_first(store: &RdsStore, output: &mut Output)
     ensures { Adds output.old output.new (first_line store.now) }
 {
@@ -69,7 +69,7 @@ fn put_at(store: &RdsStore, set: u8, number: u8, output: &mut Output)
 }
 
 /// The line of a service.
-#[tactic(auto, using(crate::proofs::Objects::parts))]
+#[tactic(auto, using(json_lines::proofs::Public::parts))]
 fn put_service(set: u8, number: u8, service: &Service, output: &mut Output)
     ensures { Adds output.old output.new (service_line set number service.now) }
 {
@@ -114,7 +114,7 @@ fn put_flags(service: &Service, output: &mut Output)
 }
 
 /// The texts of a service.
-#[tactic(auto, unfolding(crate::specs::Texts::field_text))]
+#[tactic(auto, unfolding(json_lines::specs::Texts::field_text))]
 fn put_texts(texts: &[RadioText], output: &mut Output)
     ensures { Adds output.old output.new (fields_text (texts_fields texts.now)) }
 {
@@ -123,7 +123,7 @@ fn put_texts(texts: &[RadioText], output: &mut Output)
 }
 
 /// The list of texts, the oldest first.
-#[tactic(auto, unfolding(crate::specs::Texts::values_text, crate::specs::Objects::list_of))]
+#[tactic(auto, unfolding(json_lines::specs::Texts::values_text, json_lines::specs::Objects::list_of))]
 fn put_list(texts: &[RadioText], output: &mut Output)
     ensures { Adds output.old output.new (compact_text (list_of (map text_object texts.now))) }
 {
@@ -147,7 +147,7 @@ fn put_behind(later: bool, text: &RadioText, output: &mut Output)
 }
 
 /// The object of a text.
-#[tactic(auto, using(crate::proofs::Objects::parts))]
+#[tactic(auto, using(json_lines::proofs::Public::parts))]
 fn put_text(text: &RadioText, output: &mut Output)
     ensures { Adds output.old output.new (compact_text (text_object text.now)) }
 {
@@ -174,7 +174,7 @@ fn put_groups(groups: &[Group], output: &mut Output)
 }
 
 /// The line of a group that waits.
-#[tactic(auto, using(crate::proofs::Objects::parts))]
+#[tactic(auto, using(json_lines::proofs::Public::parts))]
 fn put_group(group: &Group, output: &mut Output)
     ensures { Adds output.old output.new (group_line group.now) }
 {

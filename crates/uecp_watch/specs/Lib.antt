@@ -1,3 +1,2 @@
 -- The definitions that the contracts of watching a control line cite.
-pub mod Stamps
 pub mod Watching

@@ -1,16 +1,26 @@
 -- What is told of a control line as it is read (profile).
-use Rattle.std.specs.Prelude.{◌≡◌, ◌<◌, ◌≤◌, ◌⊎◌, ℕ, Bool, true, false, Option, List, [], ◌∷◌, ◌++◌, flat_map, length}
+use Rattle.std.specs.Prelude.{◌≡◌, ◌<◌, ◌≤◌, ◌⊎◌, ℕ, Bool, true, false, Option, List, [], ◌∷◌, ◌++◌}
+use Rattle.std.specs.Prelude.{flat_map, length, codes}
 use Rattle.std.specs.Prelude.{Result, MatchResult}
 use Rattle.std.specs.List.{concat}
 use Rattle.std.specs.Io.KnownBytes.{Consumes, IsAtEnd, Appends}
+use Rattle.serde_json.specs.Data.{string}
 use Rattle.uecp_frame.specs.Findings.{Finding, OpenPart, Closed, open_part, found}
 use Rattle.uecp_frame.specs.Beyond.{found_beyond, open_beyond}
 use Rattle.uecp_text.specs.declared.run_fault.RunFault.{RunFault}
 use Rattle.uecp_text.specs.declared.run_fault.RunFault.TheVariants.{Reading, Writing, OutOfMemory}
 use Rattle.uecp_text.specs.Written.{Begins}
+use Rattle.json_lines.specs.Objects.{line_of}
+use Rattle.json_lines.specs.Stamps.{IsStamp}
 use Rattle.output_forms.specs.declared.form.Form.{Form}
-use Rattle.output_forms.specs.Forms.{found_lines}
-use Rattle.uecp_watch.specs.Stamps.{IsStamp, time_line}
+use Rattle.output_forms.specs.declared.form.Form.TheVariants.{Lines, Words, Json}
+use Rattle.output_forms.specs.Forms.{found_lines, remark}
+
+-- The line of a time: a remark, or an object of JSON (profile).
+abbrev pub time_line : Form → (stamp : List ℕ) → List ℕ
+time_line Lines stamp = remark (stamp ++ codes "\n")
+time_line (Words region) stamp = remark (stamp ++ codes "\n")
+time_line Json stamp = line_of (codes "time") ((codes "time", string stamp) ∷ [])
 
 -- The time before what a read brought: a line with some stamp, and nothing where there is no clock (profile).
 abbrev pub IsTime : Form → (timed : Bool) → List ℕ → Type 0

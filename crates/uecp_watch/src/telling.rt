@@ -7,7 +7,7 @@ ghost use Rattle.uecp_text.specs.Written.{Adds};
 ghost use Rattle.output_forms.specs.Forms.{found_lines};
 ghost use Rattle.uecp_watch.specs.Watching.{IsTime, IsTimed, IsTold, FailsToTell};
 
-use crate::stamp::put_time;
+use crate::times::put_time;
 use output_forms::{Form, put_found};
 use std::io::Write;
 use std::time::Clock;

@@ -1,18 +1,17 @@
 //! All that is shown, as an object of JSON (profile).
 ghost use Rattle.std.specs.Prelude.{ℕ, List, ◌++◌, codes, is_some};
-ghost use Rattle.uecp_json.specs.Objects.{Field};
-ghost use Rattle.uecp_json.specs.Texts.{field_text, fields_text};
+ghost use Rattle.json_lines.specs.Objects.{Field};
+ghost use Rattle.json_lines.specs.Texts.{field_text, fields_text};
 ghost use Rattle.uecp_text.specs.Written.{Adds};
 ghost use Rattle.receive_command.specs.Told.{IsTimeIn, IsShownLine, pi_value, type_value, name_fields};
 ghost use Rattle.receive_command.specs.Told.{radio_text_fields};
 ghost use Rattle.receive_command.specs.Told.{flag_fields, shown_fields};
 ghost use Rattle.receive_command.specs.DisplayView.{shown_in};
 
-use crate::display::fields::{
-    block_field, close_line, flag_field, null_field, number_field, open_line, put_said, said_field,
-};
+use crate::display::fields::{put_known, put_said};
 use crate::display::shown::Shown;
 use crate::display::times::put_time_field;
+use json_lines::{block_field, close_line, null_field, number_field, open_line, said_fields};
 use std::time::Clock;
 use uecp_text::Output;
 
@@ -60,7 +59,7 @@ fn put_name(shown: &Shown, output: &mut Output)
     ensures { Adds output.old output.new (fields_text (name_fields (shown_in shown.now).name)) }
 {
     match &shown.name {
-        Some(name) => put_said("name", name, output),
+        Some(name) => said_fields("name", name, output),
         None => {
             null_field("name", output);
             null_field("text", output);
@@ -72,9 +71,9 @@ fn put_name(shown: &Shown, output: &mut Output)
 fn put_flags(shown: &Shown, output: &mut Output)
     ensures { Adds output.old output.new (fields_text (flag_fields (shown_in shown.now))) }
 {
-    flag_field("tp", shown.tp, output);
-    flag_field("ta", shown.ta, output);
-    flag_field("music", shown.music, output);
+    put_known("tp", shown.tp, output);
+    put_known("ta", shown.ta, output);
+    put_known("music", shown.music, output);
     put_type(shown.pty, output);
 }
 
@@ -93,7 +92,7 @@ fn put_radio_text(shown: &Shown, output: &mut Output)
     ensures { Adds output.old output.new (fields_text (radio_text_fields (shown_in shown.now).text)) }
 {
     match &shown.text {
-        Some(text) => said_field("rt", text.as_slice(), output),
+        Some(text) => put_said("rt", text.as_slice(), output),
         None => null_field("rt", output),
     }
 }

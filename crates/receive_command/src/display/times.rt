@@ -3,18 +3,17 @@ ghost use Rattle.std.specs.Prelude.{ℕ, List, codes, is_some};
 ghost use Rattle.rds_text.specs.declared.programme_type.Region.{Region};
 ghost use Rattle.output_forms.specs.declared.form.Form.TheVariants as form;
 ghost use Rattle.serde_json.specs.Data.{string};
-ghost use Rattle.uecp_json.specs.Objects.{Field};
-ghost use Rattle.uecp_json.specs.Texts.{field_text, fields_text};
+ghost use Rattle.json_lines.specs.Objects.{Field};
+ghost use Rattle.json_lines.specs.Texts.{field_text, fields_text};
 ghost use Rattle.uecp_text.specs.Written.{Adds};
-ghost use Rattle.uecp_watch.specs.Stamps.{IsStamp};
+ghost use Rattle.json_lines.specs.Stamps.{IsStamp};
 ghost use Rattle.uecp_watch.specs.Watching.{IsTime};
 ghost use Rattle.receive_command.specs.Told.{IsTimeIn};
 
-use crate::display::fields::word_field;
+use json_lines::{stamp_of, time_field};
 use rds_text::Region;
 use std::time::Clock;
 use uecp_text::Output;
-use uecp_watch::stamp_of;
 
 /// Adds the time behind `#`, where there is a clock.
 pub(crate) fn put_time<C: Clock>(region: Region, clock: Option<&C>, output: &mut Output)
@@ -44,5 +43,5 @@ fn put_stamp<C: Clock>(clock: &C, output: &mut Output)
     ensures { (stamp : List ℕ) × IsStamp stamp × Adds output.old output.new (field_text (codes "time") (string stamp)) }
 {
     let stamp = stamp_of(clock);
-    word_field("time", stamp.as_str(), output);
+    time_field(stamp.as_str(), output);
 }

@@ -1,7 +1,7 @@
 use Rattle.std.proofs.Common.{codes, ◌++◌, subst}
 use Rattle.uecp_text.specs.Written.{Adds}
-use Rattle.uecp_json.specs.Texts.{fields_text}
-use Rattle.uecp_json.proofs.Public.{adds_line, adds_more}
+use Rattle.json_lines.specs.Texts.{fields_text}
+use Rattle.json_lines.proofs.Public.{adds_line, adds_more}
 use Rattle.conformance_command.specs.Choosing.{is_kept}
 use Rattle.conformance_command.specs.Telling.{case_fields, went_fields}
 use Rattle.conformance_command.proofs.objects.put_case_object.Goals as goal

@@ -1,5 +1,5 @@
 use Rattle.std.proofs.Common.{codes}
-use Rattle.uecp_json.proofs.Public.{adds_line}
+use Rattle.json_lines.proofs.Public.{adds_line}
 use Rattle.conformance_command.specs.Telling.{tally_fields}
 use Rattle.conformance_command.proofs.objects.put_tally_object.Goals as goal
 

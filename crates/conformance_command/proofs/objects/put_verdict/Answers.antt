@@ -2,8 +2,8 @@ use Rattle.std.proofs.Common.{rules, ◌≡◌, codes, sym, subst}
 use Rattle.serde_json.specs.Data.{string}
 use Rattle.uecp_text.specs.Written.{Adds}
 use Rattle.uecp_text.proofs.Public.{adds_then}
-use Rattle.uecp_json.specs.Texts.{field_text, fields_text}
-use Rattle.uecp_json.proofs.Public.{adds_field}
+use Rattle.json_lines.specs.Texts.{field_text, fields_text}
+use Rattle.json_lines.proofs.Public.{adds_field}
 use Rattle.conformance.specs.declared.verdict.Verdict.TheVariants.{TooMany, NoReply}
 use Rattle.conformance_command.specs.Telling.{verdict_fields, came_fields}
 use Rattle.conformance_command.proofs.objects.put_verdict.Goals as goal

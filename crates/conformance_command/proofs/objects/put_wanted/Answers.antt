@@ -2,9 +2,9 @@ use Rattle.std.proofs.Common.{rules, ◌≡◌, true, [], ◌∷◌, codes, sym,
 use Rattle.serde_json.specs.Data.{boolean}
 use Rattle.uecp_text.specs.Written.{Adds}
 use Rattle.uecp_text.proofs.Public.{adds_then}
-use Rattle.uecp_json.specs.Objects.{in_decimal}
-use Rattle.uecp_json.specs.Texts.{field_text, fields_text}
-use Rattle.uecp_json.proofs.Public.{adds_field}
+use Rattle.json_lines.specs.Objects.{in_decimal}
+use Rattle.json_lines.specs.Texts.{field_text, fields_text}
+use Rattle.json_lines.proofs.Public.{adds_field}
 use Rattle.conformance.specs.declared.verdict.Expected.TheVariants.{Refusal}
 use Rattle.conformance_command.specs.Telling.{wanted_fields}
 use Rattle.conformance_command.proofs.objects.put_wanted.Goals as goal

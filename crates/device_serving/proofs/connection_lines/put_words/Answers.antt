@@ -2,10 +2,10 @@ use Rattle.std.proofs.Common.{rules, ◌≡◌, Err, codes, sym, subst}
 use Rattle.uecp_encoder.specs.declared.serving.ServeFault.TheVariants.{WriteFailed}
 use Rattle.uecp_text.specs.Digits.{decimal_word}
 use Rattle.uecp_text.specs.Written.{Adds}
+use Rattle.uecp_text.proofs.Public.{adds_then}
 use Rattle.kept_serving.specs.declared.serving.KeptFault.TheVariants.{Serve, StateFailed}
 use Rattle.kept_serving.specs.Serving.{Ended}
 use Rattle.kept_jobs.specs.EncoderRun.{ended_words}
-use Rattle.device_serving.proofs.Writing.{adds_on}
 use Rattle.device_serving.proofs.connection_lines.put_words.Goals as goal
 
 pub returns-in-Err-Serve-WriteFailed : goal.returns-in-Err-Serve-WriteFailed
@@ -16,7 +16,7 @@ returns-in-Err-Serve-WriteFailed c =
     let ended : Ended = Err (Serve (WriteFailed i.written)) in
     let is : c.args.ended ≡ ended = search rules in
     subst (λ ended. Adds c.args.output.now second.new.self (ended_words ended)) (sym is)
-    (adds_on c.args.output.now first.new.self second.new.self (codes " write failed") (decimal_word i.written)
+    (adds_then c.args.output.now first.new.self second.new.self (codes " write failed") (decimal_word i.written)
     first.ensures.added second.ensures.added)
 
 pub returns-in-Err-StateFailed : goal.returns-in-Err-StateFailed

@@ -1,7 +1,7 @@
 use Rattle.uecp_elements.specs.Reading.{items}
 use Rattle.serde_json.specs.Written.{compact_text}
-use Rattle.uecp_json.specs.Objects.{list_of}
-use Rattle.uecp_json.specs.Texts.{values_text}
+use Rattle.json_lines.specs.Objects.{list_of}
+use Rattle.json_lines.specs.Texts.{values_text}
 use Rattle.uecp_json.specs.Findings.{objects_in}
 use Rattle.uecp_text.proofs.Public.{Leads}
 use Rattle.uecp_json.proofs.findings.put_elements.Given as goal

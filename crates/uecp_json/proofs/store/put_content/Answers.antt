@@ -1,6 +1,6 @@
 use Rattle.std.proofs.Common.{codes, ◌∷◌, []}
-use Rattle.uecp_json.specs.Objects.{in_decimal, said_fields}
-use Rattle.uecp_json.proofs.Objects.{adds_field, adds_more}
+use Rattle.json_lines.specs.Objects.{in_decimal, said_fields}
+use Rattle.json_lines.proofs.Public.{adds_field, adds_more}
 use Rattle.uecp_json.proofs.store.put_content.Goals as goal
 
 pub returns : goal.returns

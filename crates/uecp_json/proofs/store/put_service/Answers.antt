@@ -1,7 +1,7 @@
 use Rattle.std.proofs.Common.{◌++◌, codes}
 use Rattle.uecp_json.specs.Elements.{place_fields}
 use Rattle.uecp_json.specs.Stores.{value_fields}
-use Rattle.uecp_json.proofs.Objects.{adds_line}
+use Rattle.json_lines.proofs.Public.{adds_line}
 use Rattle.uecp_json.proofs.store.put_service.Goals as goal
 
 pub returns : goal.returns

@@ -1,4 +1,4 @@
-use Rattle.uecp_json.proofs.Public.{adds_more}
+use Rattle.json_lines.proofs.Public.{adds_more}
 use Rattle.receive_command.specs.Told.{shown_fields}
 use Rattle.receive_command.specs.DisplayView.{shown_in}
 use Rattle.receive_command.proofs.display.objects.put_members.Goals as goal

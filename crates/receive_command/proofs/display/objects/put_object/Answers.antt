@@ -1,6 +1,6 @@
 use Rattle.std.proofs.Common.{◌++◌, codes, refl}
-use Rattle.uecp_json.specs.Objects.{line_of}
-use Rattle.uecp_json.proofs.Public.{adds_line}
+use Rattle.json_lines.specs.Objects.{line_of}
+use Rattle.json_lines.proofs.Public.{adds_line}
 use Rattle.receive_command.specs.Told.{shown_fields}
 use Rattle.receive_command.specs.DisplayView.{shown_in}
 use Rattle.receive_command.proofs.display.objects.put_object.Goals as goal

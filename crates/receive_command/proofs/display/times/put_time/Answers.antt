@@ -1,5 +1,5 @@
 use Rattle.std.proofs.Common.{sym, subst}
-use Rattle.uecp_watch.specs.Stamps.{IsStamp}
+use Rattle.json_lines.specs.Stamps.{IsStamp}
 use Rattle.receive_command.proofs.Telling.{timed_line}
 use Rattle.receive_command.proofs.display.times.put_time.Goals as goal
 

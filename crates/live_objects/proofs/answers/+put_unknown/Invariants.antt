@@ -1,4 +1,0 @@
-use Rattle.live_objects.proofs.answers.+put_unknown.Given as goal
-
-abbrev pub decreases-put_unknown : goal.decreases-put_unknown
-decreases-put_unknown l = l.count
