@@ -93,15 +93,16 @@ def encoder(program, file, *options, **how):
             child.kill()
 
 
-def send(child, port, frames, count=None):
-    """The replies to frames that are sent one after another over one connection, and how the child ended if it did."""
+def send(child, port, frames, at_once=False):
+    """The replies to frames over one connection, sent each behind the reply to the one before, or all at once; and how the child ended if it
+    did."""
     end, replies = time.monotonic() + SECONDS, b""
     while time.monotonic() < end and child.poll() is None:
         try:
             with socket.create_connection(("127.0.0.1", port), SECONDS) as line:
-                for number, frame in enumerate(frames):
-                    line.sendall(frame)
-                    while replies.count(b"\xff") <= number:
+                for number, part in enumerate([b"".join(frames)] if at_once else frames):
+                    line.sendall(part)
+                    while not at_once and replies.count(b"\xff") <= number:
                         data = line.recv(4096)
                         if not data:
                             return replies

@@ -7,7 +7,7 @@ use Rattle.carousel.specs.Carousel.{Carousel}
 use Rattle.uecp_encoder.specs.State.{EncoderState}
 use Rattle.device_serving.specs.Logging.{Log}
 use Rattle.uecp_text.specs.declared.run_fault.RunFault.TheVariants as run
-use Rattle.kept_serving.specs.Keeping.{Kept}
+use Rattle.uecp_encoder.specs.Keeping.{Kept}
 use Rattle.kept_jobs.specs.declared.stop.KeptStop.{KeptStop}
 use Rattle.kept_jobs.specs.declared.stop.KeptStop.TheVariants.{Run}
 use Rattle.kept_jobs.specs.Stops.{Went}
@@ -42,18 +42,18 @@ connects_so closes turns None line' input output e e' l l' m m' k c left (encode
 connects_so closes turns (Some line) line' input output e e' l l' m m' k c left (encoder, told, closed, now) =
     (closed, cc, refl)
 
-module _ {K M I O : Type 0} (leaves : K → Kept Store → Type 0) (is_clean : K → Type 0)
+module _ {K M I O : Type 0} (most room : ℕ) (leaves : K → Kept Store → Type 0) (is_clean : K → Type 0)
     (saves fails : K → Kept Store → K → Type 0) (waits : M → Bool → Moment I O → M → Type 0)
     (closes : M → I → O → M → Type 0) (sends : M → Group → M → Type 0) (remaining : I → Option (List ℕ))
     (contents : O → Option (List ℕ)) (turns : ℕ) (x : OnAir K M I O) (n : ℕ) (y : OnAir K M I O) where
   abbrev Next : (y z : OnAir K M I O) → Went → Type 0
-  Next = DoesNext leaves is_clean saves fails waits closes sends remaining contents turns
+  Next = DoesNext most room leaves is_clean saves fails waits closes sends remaining contents turns
 
   abbrev So : (n : ℕ) → (y : OnAir K M I O) → Type 0
-  So n y = GoesOnFor leaves is_clean saves fails waits closes sends remaining contents turns n x y
+  So n y = GoesOnFor most room leaves is_clean saves fails waits closes sends remaining contents turns n x y
 
   abbrev All : (z : OnAir K M I O) → Went → Type 0
-  All z went = DoesAll leaves is_clean saves fails waits closes sends remaining contents turns x z went
+  All z went = DoesAll most room leaves is_clean saves fails waits closes sends remaining contents turns x z went
 
   pub one_more : So n y → 0 < y.left → (z : OnAir K M I O) → Next y z (Ok tt) → So (n + 1) z
   one_more so some z next =

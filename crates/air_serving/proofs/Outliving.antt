@@ -7,9 +7,9 @@ use Rattle.rds_store.specs.Step.{step as store_step}
 use Rattle.carousel.specs.Next.{is_queued, aired}
 use Rattle.uecp_encoder.specs.State.{EncoderState}
 use Rattle.uecp_text.specs.declared.run_fault.RunFault.TheVariants as run
-use Rattle.kept_serving.specs.declared.serving.KeptFault.TheVariants as kept
-use Rattle.kept_serving.specs.Keeping.{Kept, kept_of, Settled}
-use Rattle.kept_serving.specs.Serving.{Ended}
+use Rattle.uecp_encoder.specs.declared.serving.KeptFault.TheVariants as kept
+use Rattle.uecp_encoder.specs.Keeping.{Kept, kept_of, Settled}
+use Rattle.uecp_encoder.specs.ServingWith.{Ended}
 use Rattle.kept_jobs.specs.declared.stop.KeptStop.{KeptStop}
 use Rattle.kept_jobs.specs.declared.stop.KeptStop.TheVariants.{Run, StateFailed}
 use Rattle.kept_jobs.specs.Stops.{Went, stop_status}
@@ -71,12 +71,12 @@ state_stops : (fault : Option LogFault) → on ≡ went_after fault (Err kept.St
 state_stops None is = on_not_stopped StateFailed is
 state_stops (Some fault) is = on_not_stopped (stop_of fault) is
 
-module _ {K M I O : Type 0} (leaves : K → Kept Store → Type 0) (is_clean : K → Type 0)
+module _ {K M I O : Type 0} (most room : ℕ) (leaves : K → Kept Store → Type 0) (is_clean : K → Type 0)
     (saves fails : K → Kept Store → K → Type 0) (waits : M → Bool → Moment I O → M → Type 0)
     (closes : M → I → O → M → Type 0) (sends : M → Group → M → Type 0) (remaining : I → Option (List ℕ))
     (contents : O → Option (List ℕ)) (turns : ℕ) where
   abbrev Outlives : (x' : OnAir K M I O) → Kept Store → Type 0
-  Outlives = OutlivesRun leaves is_clean saves fails waits closes sends remaining contents turns
+  Outlives = OutlivesRun most room leaves is_clean saves fails waits closes sends remaining contents turns
 
   -- what a crash leaves after what went so
   pub record After (x x' : OnAir K M I O) (end : Went) : Type 0 where
@@ -112,25 +112,25 @@ module _ {K M I O : Type 0} (leaves : K → Kept Store → Type 0) (is_clean : K
   broken false left sent line' told x x' is (same, goes) = let no : true ≡ false = is in cc
 
   read_so : (line : OpenLine I O) (x x' : OnAir K M I O) (end : Went) (ended : Ended)
-      (r : ReadsLine leaves is_clean saves fails closes remaining contents line x x' end) → r.ended ≡ ended
+      (r : ReadsLine most room leaves is_clean saves fails closes remaining contents line x x' end) → r.ended ≡ ended
       → After x x' end
   read_so line x x' end (Ok served) r is =
-      let keeps = subst (λ ended. KeepsOn leaves is_clean saves fails closes remaining contents ended x x') is r.keeps
-      in record {
+      let keeps = subst (λ ended. KeepsOn most room leaves is_clean saves fails closes remaining contents ended x x') is
+      r.keeps in record {
         clean = keeps.clean;
         settled = λ goes settled clean. keeps.settled settled clean;
         outlives = λ settled clean left leaves_it. inl (keeps.settled settled clean left leaves_it);
       }
   read_so line x x' end (Err (kept.Serve fault)) r is =
-      let keeps = subst (λ ended. KeepsOn leaves is_clean saves fails closes remaining contents ended x x') is r.keeps
-      in record {
+      let keeps = subst (λ ended. KeepsOn most room leaves is_clean saves fails closes remaining contents ended x x') is
+      r.keeps in record {
         clean = keeps.clean;
         settled = λ goes settled clean. keeps.settled settled clean;
         outlives = λ settled clean left leaves_it. inl (keeps.settled settled clean left leaves_it);
       }
   read_so line x x' end (Err kept.StateFailed) r is =
-      let reads = subst (λ ended. ReadsOnce store_step leaves is_clean saves fails LogsEvent remaining contents
-      x.encoder x'.encoder x.keeper x'.keeper x.log r.told line r.line' ended) is r.reads in
+      let reads = subst (λ ended. ReadsOnce most room store_step leaves is_clean saves fails LogsEvent remaining
+      contents x.encoder x'.encoder x.keeper x'.keeper x.log r.told line r.line' ended) is r.reads in
       let goes = subst (λ ended. GoesOnOrEnds closes (is_over r.line'.left ended) line.sent r.line' ended r.told x x'
       end) is r.goes in
       record {
@@ -149,14 +149,14 @@ module _ {K M I O : Type 0} (leaves : K → Kept Store → Type 0) (is_clean : K
       }
 
   read : (x x' : OnAir K M I O) (end : Went) (line : Option (OpenLine I O))
-      → ReadsOpen leaves is_clean saves fails closes remaining contents line x x' end → After x x' end
+      → ReadsOpen most room leaves is_clean saves fails closes remaining contents line x x' end → After x x' end
   read x x' end None (is, goes) =
       stays x x' end (ap (λ (y : OnAir K M I O). y.keeper) is) (ap (λ (y : OnAir K M I O). kept_of y.encoder) is)
   read x x' end (Some line) r = read_so line x x' end r.ended r refl
 
   -- what is to be kept of an encoder of which nothing was taken
   sent_on : (x x' : OnAir K M I O) (end : Went) (queued : Bool) → is_queued x.encoder.value x.carousel ≡ queued
-      → KeepsIf leaves is_clean saves fails sends queued x x' end
+      → KeepsIf most room leaves is_clean saves fails sends queued x x' end
       → x'.encoder ≡ record x.encoder { value = (aired x.encoder.value x.carousel).1 } → After x x' end
   sent_on x x' end true queued keeps taken =
       let failed : (stop : KeptStop) → end ≡ stopped stop → fails x.keeper (kept_of x'.encoder) x'.keeper =
@@ -188,7 +188,8 @@ module _ {K M I O : Type 0} (leaves : K → Kept Store → Type 0) (is_clean : K
       ∙ ap (λ (v : Store). kept_of (record x.encoder { value = v })) same)
 
   does : (moment : Moment I O) (x x' : OnAir K M I O) (end : Went)
-      → Does leaves is_clean saves fails waits closes sends remaining contents turns moment x x' end → After x x' end
+      → Does most room leaves is_clean saves fails waits closes sends remaining contents turns moment x x' end → After x
+      x' end
   does (Connected input output) x x' end d = connected x x' end x.line input output d
   does Readable x x' end d = read x x' end x.line d
   does Due x x' end (keeps, goes_out, is) =
@@ -197,7 +198,8 @@ module _ {K M I O : Type 0} (leaves : K → Kept Store → Type 0) (is_clean : K
       stays x x' end (ap (λ (y : OnAir K M I O). y.keeper) is) (ap (λ (y : OnAir K M I O). kept_of y.encoder) is)
 
   next : (x x' : OnAir K M I O) (end : Went)
-      → DoesNext leaves is_clean saves fails waits closes sends remaining contents turns x x' end → After x x' end
+      → DoesNext most room leaves is_clean saves fails waits closes sends remaining contents turns x x' end → After x x'
+      end
   next x x' end (moment, between, waited, done) =
       let after = does moment (record x { moments = between }) x' end done in
       record { clean = after.clean; settled = after.settled; outlives = after.outlives }
@@ -218,13 +220,15 @@ module _ {K M I O : Type 0} (leaves : K → Kept Store → Type 0) (is_clean : K
   }
 
   many_on : (many : ℕ) (x x' : OnAir K M I O)
-      → GoesOnFor leaves is_clean saves fails waits closes sends remaining contents turns many x x' → After x x' on
+      → GoesOnFor most room leaves is_clean saves fails waits closes sends remaining contents turns many x x' → After x
+      x' on
   many_on zero x x' is =
       stays x x' on (ap (λ (y : OnAir K M I O). y.keeper) is) (ap (λ (y : OnAir K M I O). kept_of y.encoder) is)
   many_on (suc n) x x' (y, before, some, last) = both x y x' on (many_on n x y before) (next y x' on last)
 
   ends : (many : ℕ) (x x' : OnAir K M I O) (end : Went)
-      → Ends leaves is_clean saves fails waits closes sends remaining contents turns many x x' end → After x x' end
+      → Ends most room leaves is_clean saves fails waits closes sends remaining contents turns many x x' end → After x
+      x' end
   ends many x x' end (inl (none, is, goes)) =
       stays x x' end (ap (λ (y : OnAir K M I O). y.keeper) is) (ap (λ (y : OnAir K M I O). kept_of y.encoder) is)
   ends many x x' end (inr (inl (stop, some, last, is))) = ended_at x x' end stop is (next x x' (stopped stop) last)
@@ -266,15 +270,17 @@ module _ {K M I O : Type 0} (leaves : K → Kept Store → Type 0) (is_clean : K
       subst (λ (z : OnAir K M I O). After x z end) (sym is) (hung_up x y x'.moments None end after)
 
   all : (x x' : OnAir K M I O) (end : Went)
-      → DoesAll leaves is_clean saves fails waits closes sends remaining contents turns x x' end → After x x' end
+      → DoesAll most room leaves is_clean saves fails waits closes sends remaining contents turns x x' end → After x x'
+      end
   all x x' end (many, y, so, last) = both x y x' end (many_on many x y so) (ends many y x' end last)
 
   serves : (x x' : OnAir K M I O) (end : Went)
-      → Serves leaves is_clean saves fails waits closes sends remaining contents turns x x' end → After x x' end
+      → Serves most room leaves is_clean saves fails waits closes sends remaining contents turns x x' end → After x x'
+      end
   serves x x' end (y, done, hangs) = hangs_up x y x' end y.line hangs (all x y end done)
 
   abbrev Runs : (store : Bool) → (x x' : OnAir K M I O) → Went → Type 0
-  Runs = RunsOnAir leaves is_clean saves fails waits closes sends remaining contents turns
+  Runs = RunsOnAir most room leaves is_clean saves fails waits closes sends remaining contents turns
 
   pub after_run : (store : Bool) (x x' : OnAir K M I O) (end : Went) → Runs store x x' end → After x x' end
   after_run store x x' end (inl (y, served, (told, is))) =
@@ -296,14 +302,14 @@ module _ {K M I O : Type 0} (leaves : K → Kept Store → Type 0) (is_clean : K
       after_status x'.log.fault ended stop goes
 
   read_status : (x x' : OnAir K M I O) (stop : KeptStop) (line : Option (OpenLine I O))
-      → ReadsOpen leaves is_clean saves fails closes remaining contents line x x' (stopped stop)
+      → ReadsOpen most room leaves is_clean saves fails closes remaining contents line x x' (stopped stop)
       → stop_status stop ≡ 3
   read_status x x' stop None (same, goes) = absurd (on_not_stopped stop (sym goes))
   read_status x x' stop (Some line) r =
       over_status (is_over r.line'.left r.ended) line.sent r.line' r.ended r.told x x' stop r.goes
 
   keeps_status : (queued : Bool) (x x' : OnAir K M I O) (stop : KeptStop)
-      → KeepsIf leaves is_clean saves fails sends queued x x' (stopped stop) → stop_status stop ≡ 3
+      → KeepsIf most room leaves is_clean saves fails sends queued x x' (stopped stop) → stop_status stop ≡ 3
   keeps_status true x x' stop keeps = elim keeps.saved [
     | inl saved ↦ absurd (on_not_stopped stop (sym saved.1))
     | inr failed ↦ same_status stop StateFailed refl failed.1
@@ -311,15 +317,15 @@ module _ {K M I O : Type 0} (leaves : K → Kept Store → Type 0) (is_clean : K
   keeps_status false x x' stop (same, goes) = absurd (on_not_stopped stop (sym goes))
 
   does_status : (moment : Moment I O) (x x' : OnAir K M I O) (stop : KeptStop)
-      → Does leaves is_clean saves fails waits closes sends remaining contents turns moment x x' (stopped stop)
-      → stop_status stop ≡ 3
+      → Does most room leaves is_clean saves fails waits closes sends remaining contents turns moment x x' (stopped
+      stop) → stop_status stop ≡ 3
   does_status (Connected input output) x x' stop d = absurd (connects_on x x' stop x.line input output d)
   does_status Readable x x' stop d = read_status x x' stop x.line d
   does_status Due x x' stop (keeps, goes_out, is) = keeps_status (is_queued x.encoder.value x.carousel) x x' stop keeps
   does_status Over x x' stop (same, goes) = same_status stop (Run run.Listening) refl goes
 
   ends_status : (many : ℕ) (x x' : OnAir K M I O) (stop : KeptStop)
-      → Ends leaves is_clean saves fails waits closes sends remaining contents turns many x x' (stopped stop)
+      → Ends most room leaves is_clean saves fails waits closes sends remaining contents turns many x x' (stopped stop)
       → stop_status stop ≡ 3
   ends_status many x x' stop (inl (none, same, goes)) = absurd (on_not_stopped stop (sym goes))
   ends_status many x x' stop (inr (inl (why, some, (moment, between, waited, done), is))) =

@@ -8,13 +8,13 @@ use Rattle.uecp_encoder.specs.State.{EncoderState, after_finding}
 use Rattle.uecp_encoder.specs.Answering.{response_to, responses, responses_to, answers, bytes_sent}
 use Rattle.uecp_encoder.specs.Serving.{replies_in, replies_among}
 use Rattle.uecp_encoder.specs.declared.serving.ServeFault.TheVariants.{ReadFailed, WriteFailed, TurnsSpent}
-use Rattle.kept_serving.specs.declared.serving.KeptFault.TheVariants.{Serve, StateFailed}
-use Rattle.kept_serving.specs.Serving.{Ended, ServesOrStops}
-use Rattle.told_serving.specs.declared.listener.Answered.{Answered}
-use Rattle.told_serving.specs.declared.listener.Answered.TheVariants.{New, Repeat, NotNext, Unnumbered, NotForMe}
-use Rattle.told_serving.specs.declared.listener.Answered.TheVariants.{Dropped}
-use Rattle.told_serving.specs.declared.listener.Event.{Event}
-use Rattle.told_serving.specs.Telling.{HearsEach, HasHeard, response_of}
+use Rattle.uecp_encoder.specs.declared.serving.KeptFault.TheVariants.{Serve, StateFailed}
+use Rattle.uecp_encoder.specs.ServingWith.{Ended, ServesOrStops, KeptReadsMade}
+use Rattle.uecp_encoder.specs.declared.listener.Answered.{Answered}
+use Rattle.uecp_encoder.specs.declared.listener.Answered.TheVariants.{New, Repeat, NotNext, Unnumbered, NotForMe}
+use Rattle.uecp_encoder.specs.declared.listener.Answered.TheVariants.{Dropped}
+use Rattle.uecp_encoder.specs.declared.listener.Event.{Event}
+use Rattle.uecp_encoder.specs.Telling.{HearsEach, HearsWithin, HasHeard, response_of}
 use Rattle.air_serving.specs.declared.line.Sent.{Sent}
 use Rattle.air_serving.specs.Lines.{together, sent_too}
 use Rattle.air_serving.specs.Parts.{sent_with, counts_with}
@@ -52,8 +52,8 @@ one_counted s Unnumbered few = sym (none_more s few)
 one_counted s NotForMe few = sym (none_more s few)
 one_counted s (Dropped fault) few = sym (none_more s few)
 
-module _ {V T L : Type 0} (hears : L → Event → Bool → L → Type 0) (now : T → L) (sent : T → Sent) (name : T → ℕ)
-    (step : Step V) where
+module _ {V T L : Type 0} (most : ℕ) (hears : L → Event → Bool → L → Type 0) (now : T → L) (sent : T → Sent) (name : T →
+    ℕ) (step : Step V) where
   -- a listener that tells another, and counts
   abbrev pub HearsAndCounts : T → Event → Bool → T → Type 0
   HearsAndCounts t event whole t' =
@@ -89,15 +89,23 @@ module _ {V T L : Type 0} (hears : L → Event → Bool → L → Type 0) (now :
             (sym (length-append (bytes_sent r) (flat_map bytes_sent rs)));
       }
 
+  within : (e : EncoderState V) (xs : List Finding) (w : ℕ) (t t' : T) → HearsWithin HearsAndCounts step e xs w t t'
+      → HearsWithin hears step e xs w (now t) (now t') × (name t' ≡ name t)
+  within e [] w t t' is = (ap now is, ap name is)
+  within e (x ∷ xs) w t t' (between, (event, tells, (heard, counted, same)), rest) =
+      let (others, still_same) = within (after_finding step e x) xs (w - length (bytes_sent (response_to step e x)))
+      between t' rest in
+      ((now between, (event, tells, heard), others), still_same ∙ same)
+
   -- what that one heard in a call, and what was counted in it where it goes on
   pub record CountedIn (e e' : EncoderState V) (t t' : T) (s written : List ℕ) (ended : Ended) : Type 0 where
-    pub heard : HasHeard hears step e e' (now t) (now t') s written ended
+    pub heard : HasHeard most hears step e e' (now t) (now t') s written ended
     pub same : name t' ≡ name t
     pub counted : ended ≡ Err (Serve TurnsSpent)
         → sent t' ≡ sent_too (sent t) (replies_among (responses_to step e s)) (length (answers step e s))
 
   pub has_counted : (e e' : EncoderState V) (t t' : T) (s written : List ℕ) (ended : Ended) → Countable (sent t)
-      → HasHeard HearsAndCounts step e e' t t' s written ended → CountedIn e e' t t' s written ended
+      → HasHeard most HearsAndCounts step e e' t t' s written ended → CountedIn e e' t t' s written ended
   has_counted e e' t t' s written (Ok served) few heard =
       let all = each e _ t t' few heard in
       record { heard = all.heard; same = all.same; counted = λ is. all.counted }
@@ -107,36 +115,38 @@ module _ {V T L : Type 0} (hears : L → Event → Bool → L → Type 0) (now :
   has_counted e e' t t' s written (Err (Serve TurnsSpent)) few heard =
       let all = each e _ t t' few heard in
       record { heard = all.heard; same = all.same; counted = λ is. all.counted }
-  has_counted e e' t t' s written (Err (Serve (WriteFailed w))) few (place, stops, unsent) =
+  has_counted e e' t t' s written (Err (Serve (WriteFailed w))) few (start, place, stops, unsent) =
       let all = each e _ t unsent.before few unsent.earlier in
+      let (heard, same) = within _ _ _ unsent.before t' unsent.unsent in
       record {
         heard = (
+          start,
           place,
           stops,
-          record {
-            before = now unsent.before;
-            earlier = all.heard;
-            last = unsent.last;
-            ends = unsent.ends;
-            event = unsent.event;
-            tells = unsent.tells;
-            heard = unsent.heard.0;
-          },
+          record { before = now unsent.before; earlier = all.heard; unsent = heard },
         );
-        same = unsent.heard.2 ∙ all.same;
+        same = same ∙ all.same;
         counted = λ is. absurd (let no : Err (Serve (WriteFailed w)) ≡ Err (Serve TurnsSpent) = is in cc);
       }
-  has_counted e e' t t' s written (Err StateFailed) few (place, stops, heard) =
+  has_counted e e' t t' s written (Err StateFailed) few (start, place, stops, heard) =
       let all = each e _ t t' few heard in
       record {
-        heard = (place, stops, all.heard);
+        heard = (start, place, stops, all.heard);
         same = all.same;
         counted = λ is. absurd (let no : Err StateFailed ≡ Err (Serve TurnsSpent) = is in cc);
       }
 
 -- what was sent where the turns were spent
-pub all_written : {V : Type 0} (step : Step V) (e e' : EncoderState V) (s written : List ℕ) (unread : Option (List ℕ))
-    (turns : ℕ) (ended : Ended) → ended ≡ Err (Serve TurnsSpent)
-    → ServesOrStops step e e' s written unread turns ended → written ≡ answers step e s
-all_written step e e' s written unread turns ended is serves =
-    (subst (λ (how : Ended). ServesOrStops step e e' s written unread turns how) is serves).0.written
+pub all_written : {V : Type 0} (most room : ℕ) (step : Step V) (e e' : EncoderState V) (s written : List ℕ)
+    (unread : Option (List ℕ)) (turns : ℕ) (ended : Ended) → ended ≡ Err (Serve TurnsSpent)
+    → ServesOrStops most room step e e' s written unread turns ended → written ≡ answers step e s
+all_written most room step e e' s written unread turns ended is serves =
+    (subst (λ (how : Ended). ServesOrStops most room step e e' s written unread turns how) is serves).0.written
+
+-- one turn is one read
+pub one_read : (ended : Ended) (n : ℕ) → KeptReadsMade ended 1 n → n ≡ 1
+one_read (Ok served) n (some, few) = omega (arith, some, few)
+one_read (Err (Serve ReadFailed)) n (some, few) = omega (arith, some, few)
+one_read (Err (Serve (WriteFailed w))) n (some, few) = omega (arith, some, few)
+one_read (Err (Serve TurnsSpent)) n all = all
+one_read (Err StateFailed) n (some, few) = omega (arith, some, few)

@@ -10,9 +10,9 @@ use Rattle.carousel.specs.Next.{is_queued, aired}
 use Rattle.uecp_frame.specs.Findings.{Closed}
 use Rattle.uecp_encoder.specs.State.{EncoderState}
 use Rattle.uecp_text.specs.declared.run_fault.RunFault.TheVariants as run
-use Rattle.kept_serving.specs.declared.serving.KeptFault.TheVariants as kept
-use Rattle.kept_serving.specs.Keeping.{Kept, kept_of, Settled, Outlives}
-use Rattle.kept_serving.specs.Serving.{Ended, StaysSettled}
+use Rattle.uecp_encoder.specs.declared.serving.KeptFault.TheVariants as kept
+use Rattle.uecp_encoder.specs.Keeping.{Kept, kept_of, Settled, Outlives}
+use Rattle.uecp_encoder.specs.ServingWith.{Ended, StaysSettled}
 use Rattle.kept_jobs.specs.declared.stop.KeptStop.{KeptStop}
 use Rattle.kept_jobs.specs.declared.stop.KeptStop.TheVariants.{Run, StateFailed}
 use Rattle.kept_jobs.specs.Stops.{Went, Then}
@@ -72,7 +72,7 @@ GoesOnOrEnds closes true sent line' ended told x x' went =
       left = x.left - 1;
     }) × (went ≡ went_after x'.log.fault ended)
 
-module _ {K M I O : Type 0} (leaves : K → Kept Store → Type 0) (is_clean : K → Type 0)
+module _ {K M I O : Type 0} (most room : ℕ) (leaves : K → Kept Store → Type 0) (is_clean : K → Type 0)
     (saves fails : K → Kept Store → K → Type 0) (closes : M → I → O → M → Type 0)
     (remaining : I → Option (List ℕ)) (contents : O → Option (List ℕ)) where
   -- What a crash may leave after a read that ended so: where it was the encoder before, it is the encoder now, unless a
@@ -87,8 +87,8 @@ module _ {K M I O : Type 0} (leaves : K → Kept Store → Type 0) (is_clean : K
     pub ended : Ended
     pub line' : OpenLine I O
     pub told : Log
-    pub reads : ReadsOnce store_step leaves is_clean saves fails LogsEvent remaining contents x.encoder x'.encoder
-        x.keeper x'.keeper x.log told line line' ended
+    pub reads : ReadsOnce most room store_step leaves is_clean saves fails LogsEvent remaining contents x.encoder
+        x'.encoder x.keeper x'.keeper x.log told line line' ended
     pub keeps : KeepsOn ended x x'
     pub goes : GoesOnOrEnds closes (is_over line'.left ended) line.sent line' ended told x x' went
 
@@ -104,7 +104,7 @@ abbrev pub SendsIf : {M : Type 0} → (sends : M → Group → M → Type 0) →
 SendsIf sends (Ok done) group m m' = sends m group m'
 SendsIf sends (Err stop) group m m' = m' ≡ m
 
-module _ {K M I O : Type 0} (leaves : K → Kept Store → Type 0) (is_clean : K → Type 0)
+module _ {K M I O : Type 0} (most room : ℕ) (leaves : K → Kept Store → Type 0) (is_clean : K → Type 0)
     (saves fails : K → Kept Store → K → Type 0) (sends : M → Group → M → Type 0) where
   -- A group that waited in the store was taken, and the encoder saved as it is without that; or the save failed. What a
   -- crash may leave is that encoder; where the save failed it may be the one before.
@@ -148,15 +148,15 @@ abbrev pub TellsLast : {K M I O : Type 0} → (asked : Bool) → (x x' : OnAir K
 TellsLast asked x x' end =
     TellsStore asked x.encoder.value x.log x'.log end × (x' ≡ record x { log = x'.log })
 
-module _ {K M I O : Type 0} (leaves : K → Kept Store → Type 0) (is_clean : K → Type 0)
+module _ {K M I O : Type 0} (most room : ℕ) (leaves : K → Kept Store → Type 0) (is_clean : K → Type 0)
     (saves fails : K → Kept Store → K → Type 0) (waits : M → Bool → Moment I O → M → Type 0)
     (closes : M → I → O → M → Type 0) (sends : M → Group → M → Type 0) (remaining : I → Option (List ℕ))
     (contents : O → Option (List ℕ)) (turns : ℕ) where
   -- What is done at a moment.
   abbrev pub Does : Moment I O → (x x' : OnAir K M I O) → Went → Type 0
   Does (Connected input output) x x' went = Connects closes turns x.line input output x x' went
-  Does Readable x x' went = ReadsOpen leaves is_clean saves fails closes remaining contents x.line x x' went
-  Does Due x x' went = Airs leaves is_clean saves fails sends x x' went
+  Does Readable x x' went = ReadsOpen most room leaves is_clean saves fails closes remaining contents x.line x x' went
+  Does Due x x' went = Airs most room leaves is_clean saves fails sends x x' went
   Does Over x x' went = (x' ≡ x) × (went ≡ Err (Run run.Listening))
 
   -- It waited, once, and did what the moment that came asks for, and nothing else.
@@ -202,7 +202,7 @@ module _ {K M I O : Type 0} (leaves : K → Kept Store → Type 0) (is_clean : K
     pub told : Log
     pub line : OpenLine I O
     pub line' : OpenLine I O
-    pub reads : ReadsOnce store_step leaves is_clean saves fails LogsEvent remaining contents before.encoder
+    pub reads : ReadsOnce most room store_step leaves is_clean saves fails LogsEvent remaining contents before.encoder
         x'.encoder before.keeper x'.keeper before.log told line line' (Err kept.StateFailed)
     pub outlives : Outlives store_step before.encoder reads.read reads.sent left
 

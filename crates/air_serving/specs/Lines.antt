@@ -6,11 +6,11 @@ use Rattle.uecp_encoder.specs.State.{EncoderState}
 use Rattle.uecp_encoder.specs.Answering.{responses_to}
 use Rattle.uecp_encoder.specs.Serving.{replies_among}
 use Rattle.uecp_encoder.specs.declared.serving.ServeFault.TheVariants.{ReadFailed, WriteFailed, TurnsSpent}
-use Rattle.kept_serving.specs.declared.serving.KeptFault.TheVariants.{Serve, StateFailed}
-use Rattle.kept_serving.specs.Keeping.{Kept}
-use Rattle.kept_serving.specs.Serving.{Ended, ServesKept}
-use Rattle.told_serving.specs.declared.listener.Event.{Event}
-use Rattle.told_serving.specs.Telling.{HasHeard}
+use Rattle.uecp_encoder.specs.declared.serving.KeptFault.TheVariants.{Serve, StateFailed}
+use Rattle.uecp_encoder.specs.Keeping.{Kept}
+use Rattle.uecp_encoder.specs.ServingWith.{Ended, ServesKept}
+use Rattle.uecp_encoder.specs.declared.listener.Event.{Event}
+use Rattle.uecp_encoder.specs.Telling.{HasHeard}
 use Rattle.air_serving.specs.declared.line.Sent.{Sent}
 use Rattle.air_serving.specs.declared.line.OpenLine.{OpenLine}
 
@@ -46,20 +46,20 @@ is_over left (Err (Serve (WriteFailed w))) = true
 is_over left (Err (Serve TurnsSpent)) = left == 0
 is_over left (Err StateFailed) = true
 
--- One read of a connection: these bytes came, and these were sent for them, as `serve_told` says of one turn; the
+-- One read of a connection: these bytes came, and these were sent for them, as `serve_with` says of one turn; the
 -- listener was told of what was found in them. One read less is left; and where it goes on, what was sent was counted.
-pub record ReadsOnce {V K L I O : Type 0} (step : Step V) (leaves : K → Kept V → Type 0) (is_clean : K → Type 0)
-    (saves fails : K → Kept V → K → Type 0) (hears : L → Event → Bool → L → Type 0)
+pub record ReadsOnce {V K L I O : Type 0} (most room : ℕ) (step : Step V) (leaves : K → Kept V → Type 0)
+    (is_clean : K → Type 0) (saves fails : K → Kept V → K → Type 0) (hears : L → Event → Bool → L → Type 0)
     (remaining : I → Option (List ℕ)) (contents : O → Option (List ℕ)) (old new : EncoderState V) (keeper keeper' : K)
     (listener listener' : L) (line line' : OpenLine I O) (ended : Ended) : Type 0 where
   pub read : List ℕ
   pub sent : List ℕ
   pub consumed : Consumes (remaining line.input) (remaining line'.input) read
   pub appended : Appends (contents line.output) (contents line'.output) sent
-  pub serves : ServesKept step leaves is_clean saves fails old new keeper keeper' read sent (remaining line'.input) 1
-      ended
-  pub heard : HasHeard hears step old new listener listener' read sent ended
-  pub few_bytes : length read ≤ 512
+  pub serves : ServesKept most room step leaves is_clean saves fails old new keeper keeper' read sent
+      (remaining line'.input) 1 1 ended
+  pub heard : HasHeard most hears step old new listener listener' read sent ended
+  pub few_bytes : length read ≤ room
   pub left : line'.left ≡ line.left - 1
   pub counted : ended ≡ Err (Serve TurnsSpent)
       → line'.sent ≡ sent_too line.sent (replies_among (responses_to step old read)) (length sent)

@@ -3,9 +3,9 @@ use Rattle.std.specs.Prelude.{◌≡◌, ℕ, Bool, true, false, length, Option,
 use Rattle.rds_store.specs.Value.{Store}
 use Rattle.uecp_frame.specs.Findings.{Closed}
 use Rattle.uecp_encoder.specs.State.{EncoderState}
-use Rattle.told_serving.specs.declared.listener.Answered.{Answered}
-use Rattle.told_serving.specs.declared.listener.Answered.TheVariants.{New, Repeat, NotNext, Unnumbered, NotForMe}
-use Rattle.told_serving.specs.declared.listener.Answered.TheVariants.{Dropped}
+use Rattle.uecp_encoder.specs.declared.listener.Answered.{Answered}
+use Rattle.uecp_encoder.specs.declared.listener.Answered.TheVariants.{New, Repeat, NotNext, Unnumbered, NotForMe}
+use Rattle.uecp_encoder.specs.declared.listener.Answered.TheVariants.{Dropped}
 use Rattle.device_serving.specs.Logging.{Log, LogsOpening}
 use Rattle.air_serving.specs.declared.line.Sent.{Sent}
 use Rattle.air_serving.specs.declared.line.OpenLine.{OpenLine}

@@ -7,9 +7,8 @@ ghost use Rattle.air_serving.specs.AirRun.{Airs};
 use crate::moments::Moments;
 use carousel::Carousel;
 use kept_jobs::KeptStop;
-use kept_serving::{KeepEncoder, SaveFailed, take_kept};
 use rds_store::RdsStore;
-use uecp_encoder::Encoder;
+use uecp_encoder::{Encoder, KeepEncoder, SaveFailed, take_kept};
 
 /// Sends the next group of the store. Where it is one that waited there, it is taken, and it goes out once that is
 /// saved.
@@ -20,7 +19,7 @@ pub(crate) fn send_next<K: KeepEncoder<RdsStore>, M: Moments>(
     carousel: &mut Carousel,
 ) -> Result<(), KeptStop>
     ensures airs { (log : Log) → (line : Option (OpenLineValue M.Input M.Output)) → (left : ℕ)
-        → Airs K.leaves K.is_clean K.saves K.fails M.sends (record {
+        → Airs K.TOGETHER_MAX K.READ_MAX K.leaves K.is_clean K.saves K.fails M.sends (record {
           encoder = encoder.old;
           keeper = keeper.old;
           log = log;

@@ -2,8 +2,7 @@
 ghost use Rattle.std.specs.Prelude.{◌≡◌};
 ghost use Rattle.air_serving.specs.Lines.{together, ended_over, is_over};
 
-use kept_serving::KeptFault;
-use uecp_encoder::{ServeFault, Served};
+use uecp_encoder::{KeptFault, ServeFault, Served};
 
 /// How many replies were sent over a connection so far, and how many bytes they are. At its greatest value each stays.
 #[derive(Clone, Copy, Debug)]

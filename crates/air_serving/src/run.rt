@@ -2,7 +2,7 @@
 ghost use Rattle.std.specs.Prelude.{◌≡◌, ◌⊎◌, ◌<◌, ℕ, None, Ok, Err};
 ghost use Rattle.uecp_text.specs.Written.{Begins};
 ghost use Rattle.rds_store.specs.Value.{Store};
-ghost use Rattle.kept_serving.specs.Keeping.{Kept, Settled};
+ghost use Rattle.uecp_encoder.specs.Keeping.{Kept, Settled};
 ghost use Rattle.kept_jobs.specs.declared.stop.KeptStop.{KeptStop};
 ghost use Rattle.kept_jobs.specs.Stops.{stop_lines};
 ghost use Rattle.kept_jobs.specs.EncoderRun.{ended_so};
@@ -21,12 +21,10 @@ use crate::tally::{Turn, read_once};
 use carousel::Carousel;
 use device_serving::{LogFault, LogLines};
 use kept_jobs::{KeptStop, fail_run};
-use kept_serving::{KeepEncoder, KeptFault};
 use rds_store::RdsStore;
 use std::io::Write;
 use std::time::Clock;
-use told_serving::Listener;
-use uecp_encoder::{Encoder, Served};
+use uecp_encoder::{Encoder, KeepEncoder, KeptFault, Listener, Served};
 use uecp_text::RunFault;
 
 /// How many moments a run waits for at most.
@@ -37,7 +35,7 @@ const MOMENTS_MAX: u64 = 1 << 63;
 /// status: 0 done, 3 nothing more was to be waited for, the encoder could not be saved, or memory or writing failed.
 ///
 /// One connection is open at a time. Each time something came on it one read of it is served, as
-/// [`serve_told`](told_serving::serve_told) does; it ends where the peer closes it, a read, a write or a save fails, or
+/// [`serve_with`](uecp_encoder::serve_with) does; it ends where the peer closes it, a read, a write or a save fails, or
 /// so many reads were made. Where a line can't be written the connection is served to its end, and none is opened after
 /// it; the groups go out until then.
 ///
@@ -64,8 +62,8 @@ pub fn run_on_air<K: KeepEncoder<RdsStore>, W: Write, Clk: Clock, E: Write, M: M
 ) -> u8
     ensures status { (result ≡ 0) ⊎ (result ≡ 3) }
     // 0: all connections were served, and all was told. Nothing was said on `errors`.
-    ensures done { result ≡ 0 → (left : ℕ) × RunsOnAir K.leaves K.is_clean K.saves K.fails M.waits M.closes M.sends
-        M.Input.remaining M.Output.contents turns store
+    ensures done { result ≡ 0 → (left : ℕ) × RunsOnAir K.TOGETHER_MAX K.READ_MAX K.leaves K.is_clean K.saves K.fails
+        M.waits M.closes M.sends M.Input.remaining M.Output.contents turns store
         (record {
           encoder = encoder.old;
           keeper = keeper.old;
@@ -86,8 +84,8 @@ pub fn run_on_air<K: KeepEncoder<RdsStore>, W: Write, Clk: Clock, E: Write, M: M
         × (errors.new ≡ errors.old) }
     // 3: moments went by up to one at which the run stopped, and why was said, or begun to be said.
     ensures failed { result ≡ 3 → (stop : KeptStop) × (left : ℕ)
-        × RunsOnAir K.leaves K.is_clean K.saves K.fails M.waits M.closes M.sends M.Input.remaining M.Output.contents
-        turns store
+        × RunsOnAir K.TOGETHER_MAX K.READ_MAX K.leaves K.is_clean K.saves K.fails M.waits M.closes M.sends
+        M.Input.remaining M.Output.contents turns store
         (record {
           encoder = encoder.old;
           keeper = keeper.old;
@@ -111,8 +109,8 @@ pub fn run_on_air<K: KeepEncoder<RdsStore>, W: Write, Clk: Clock, E: Write, M: M
         → Settled (K.leaves keeper.new) encoder.new }
     // 3: it is the encoder too, unless a save failed.
     ensures outlives { Settled (K.leaves keeper.old) encoder.old → K.is_clean keeper.new → (kept : Kept Store)
-        → K.leaves keeper.new kept → (left : ℕ) × OutlivesRun K.leaves K.is_clean K.saves K.fails M.waits M.closes
-        M.sends M.Input.remaining M.Output.contents turns
+        → K.leaves keeper.new kept → (left : ℕ) × OutlivesRun K.TOGETHER_MAX K.READ_MAX K.leaves K.is_clean K.saves
+        K.fails M.waits M.closes M.sends M.Input.remaining M.Output.contents turns
         (record {
           encoder = encoder.new;
           keeper = keeper.new;
@@ -150,8 +148,8 @@ fn serve_and_store<K: KeepEncoder<RdsStore>, W: Write, Clk: Clock, M: Moments>(
     carousel: &mut Carousel,
     moments: &mut M,
 ) -> Result<(), KeptStop>
-    ensures runs { (left : ℕ) × RunsOnAir K.leaves K.is_clean K.saves K.fails M.waits M.closes M.sends M.Input.remaining
-        M.Output.contents turns store
+    ensures runs { (left : ℕ) × RunsOnAir K.TOGETHER_MAX K.READ_MAX K.leaves K.is_clean K.saves K.fails M.waits M.closes
+        M.sends M.Input.remaining M.Output.contents turns store
         (record {
           encoder = encoder.old;
           keeper = keeper.old;
@@ -209,8 +207,8 @@ fn serve_all<K: KeepEncoder<RdsStore>, W: Write, Clk: Clock, M: Moments>(
     carousel: &mut Carousel,
     moments: &mut M,
 ) -> Result<(), KeptStop>
-    ensures serves { (left : ℕ) × Serves K.leaves K.is_clean K.saves K.fails M.waits M.closes M.sends M.Input.remaining
-        M.Output.contents turns
+    ensures serves { (left : ℕ) × Serves K.TOGETHER_MAX K.READ_MAX K.leaves K.is_clean K.saves K.fails M.waits M.closes
+        M.sends M.Input.remaining M.Output.contents turns
         (record {
           encoder = encoder.old;
           keeper = keeper.old;
@@ -254,8 +252,8 @@ fn do_all<K: KeepEncoder<RdsStore>, W: Write, Clk: Clock, M: Moments>(
     line: &mut Option<OpenLine<M::Input, M::Output>>,
     left: &mut u64,
 ) -> Result<(), KeptStop>
-    ensures all { DoesAll K.leaves K.is_clean K.saves K.fails M.waits M.closes M.sends M.Input.remaining
-        M.Output.contents turns
+    ensures all { DoesAll K.TOGETHER_MAX K.READ_MAX K.leaves K.is_clean K.saves K.fails M.waits M.closes M.sends
+        M.Input.remaining M.Output.contents turns
         (record {
           encoder = encoder.old;
           keeper = keeper.old;
@@ -295,8 +293,8 @@ fn do_next<K: KeepEncoder<RdsStore>, W: Write, Clk: Clock, M: Moments>(
     left: &mut u64,
 ) -> Result<(), KeptStop>
     requires { 0 < left.old }
-    ensures next { DoesNext K.leaves K.is_clean K.saves K.fails M.waits M.closes M.sends M.Input.remaining
-        M.Output.contents turns
+    ensures next { DoesNext K.TOGETHER_MAX K.READ_MAX K.leaves K.is_clean K.saves K.fails M.waits M.closes M.sends
+        M.Input.remaining M.Output.contents turns
         (record {
           encoder = encoder.old;
           keeper = keeper.old;
@@ -370,8 +368,8 @@ fn read_open<K: KeepEncoder<RdsStore>, W: Write, Clk: Clock, M: Moments>(
     left: &mut u64,
 ) -> Result<(), KeptStop>
     requires { 0 < left.old }
-    ensures reads { (carousel : CarouselValue) → ReadsOpen K.leaves K.is_clean K.saves K.fails M.closes
-        M.Input.remaining
+    ensures reads { (carousel : CarouselValue) → ReadsOpen K.TOGETHER_MAX K.READ_MAX K.leaves K.is_clean K.saves K.fails
+        M.closes M.Input.remaining
         M.Output.contents line.old (record {
           encoder = encoder.old;
           keeper = keeper.old;

@@ -1,15 +1,15 @@
 //! One read of the connection that is open, with what is sent over it counted. Source: profile.
 ghost use Rattle.std.specs.Prelude.{◌≡◌};
-ghost use Rattle.kept_serving.specs.Keeping.{Settled};
-ghost use Rattle.kept_serving.specs.Serving.{StaysSettled};
+ghost use Rattle.uecp_encoder.specs.Keeping.{Settled};
+ghost use Rattle.uecp_encoder.specs.ServingWith.{StaysSettled};
 ghost use Rattle.air_serving.specs.Lines.{ReadsOnce};
 ghost use Rattle.air_serving.specs.Parts.{sent_with, counts_with};
 
 use crate::line::{OpenLine, Sent, together};
-use kept_serving::{KeepEncoder, KeptFault};
 use std::io::{Read, Write};
-use told_serving::{Answered, Event, Listener, serve_told};
-use uecp_encoder::{Encoder, Meter, Served, Target};
+use uecp_encoder::{
+    Answered, Encoder, Event, KeepEncoder, KeptFault, Listener, Meter, Served, Target, serve_with,
+};
 
 /// Tells a listener, and counts the replies that were written whole.
 #[derive(Drop)]
@@ -59,7 +59,7 @@ pub(crate) struct Turn<I, O> {
     pub(crate) ended: Result<Served, KeptFault>,
 }
 
-/// Makes one read of a connection and serves what it brings: one call of [`serve_told`] of one turn. What is sent is
+/// Makes one read of a connection and serves what it brings: one call of [`serve_with`] of one turn. What is sent is
 /// counted.
 pub(crate) fn read_once<T: Target, K: KeepEncoder<T>, L: Listener, I: Read + Drop, O: Write + Drop>(
     encoder: &mut Encoder<T>,
@@ -67,8 +67,9 @@ pub(crate) fn read_once<T: Target, K: KeepEncoder<T>, L: Listener, I: Read + Dro
     listener: &mut L,
     line: OpenLine<I, O>,
 ) -> Turn<I, O>
-    ensures reads { ReadsOnce T.step K.leaves K.is_clean K.saves K.fails L.hears I.remaining O.contents encoder.old
-        encoder.new keeper.old keeper.new listener.old listener.new line result.line result.ended }
+    ensures reads { ReadsOnce K.TOGETHER_MAX K.READ_MAX T.step K.leaves K.is_clean K.saves K.fails L.hears I.remaining
+        O.contents encoder.old encoder.new keeper.old keeper.new listener.old listener.new line result.line
+        result.ended }
     ensures settled { Settled (K.leaves keeper.old) encoder.old → K.is_clean keeper.new
         → StaysSettled (K.leaves keeper.new) encoder.new result.ended }
     ensures clean { K.is_clean keeper.new → K.is_clean keeper.old }
@@ -82,7 +83,7 @@ pub(crate) fn read_once<T: Target, K: KeepEncoder<T>, L: Listener, I: Read + Dro
     let mut reader = Meter::new(input);
     let mut writer = Meter::new(output);
     let mut tally = Tally { listener, sent };
-    let ended = serve_told(encoder, keeper, &mut reader, &mut writer, &mut tally, 1);
+    let ended = serve_with(encoder, keeper, &mut reader, &mut writer, &mut tally, 1);
     let sent = tally.sent;
     Turn {
         line: OpenLine {

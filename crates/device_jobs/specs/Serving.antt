@@ -9,7 +9,7 @@ use Rattle.uecp_text.specs.declared.run_fault.RunFault.TheVariants.{OutOfMemory}
 use Rattle.uecp_text.specs.Faults.{error_lines, status_of}
 use Rattle.uecp_text.specs.Written.{Begins}
 use Rattle.uecp_jobs.specs.Setups.{Options, IsSetup, RefusesSetup, address_of, encoder_at_first}
-use Rattle.kept_serving.specs.Keeping.{Kept, Settled}
+use Rattle.uecp_encoder.specs.Keeping.{Kept, Settled}
 use Rattle.kept_jobs.specs.declared.stop.KeptStop.{KeptStop}
 use Rattle.kept_jobs.specs.Stops.{stop_lines, state_line}
 use Rattle.state_files.specs.declared.fault.StateFault.{StateFault}
@@ -17,7 +17,7 @@ use Rattle.state_jobs.specs.EncoderJob.{IsOpened}
 use Rattle.state_jobs.specs.Texts.{IsClosed, state_text}
 use Rattle.device_serving.specs.Logging.{Log}
 use Rattle.device_serving.specs.DeviceRun.{RunsDevice, OutlivesRun, Standing}
-use Rattle.device_serving.specs.declared.not_kept.NotKept.{NotKept}
+use Rattle.uecp_encoder.specs.declared.keep.NotKept.{NotKept}
 use Rattle.commands.specs.declared.device_job.DeviceJob.{DeviceJob}
 use Rattle.device_jobs.specs.Limits.{connections_of, turns_of, options_of}
 
@@ -33,7 +33,7 @@ IsNoEncoder options said said' status =
     (fault : RunFault) × ((fault ≡ OutOfMemory) ⊎ RefusesSetup options fault) × (status ≡ status_of fault)
     × Begins said said' (error_lines fault)
 
-module _ {K C I O : Type 0} (leaves : K → Kept Store → Type 0) (is_clean : K → Type 0)
+module _ {K C I O : Type 0} (most room : ℕ) (leaves : K → Kept Store → Type 0) (is_clean : K → Type 0)
     (saves fails : K → Kept Store → K → Type 0) (opens : C → Option (I × O) → C → Type 0)
     (closes : C → I → O → C → Type 0) (remaining : I → Option (List ℕ)) (contents : O → Option (List ℕ))
     (turns connections : ℕ) (store : Bool) where
@@ -42,11 +42,11 @@ module _ {K C I O : Type 0} (leaves : K → Kept Store → Type 0) (is_clean : K
   abbrev pub EndsDevice : (x x' : Standing Store K C) → (said said' : Option (List ℕ)) → (status : ℕ) → Type 0
   EndsDevice x x' said said' status =
       ((status ≡ 0)
-      × RunsDevice leaves is_clean saves fails opens closes remaining contents turns connections store x x' (Ok tt)
-      × (said' ≡ said))
+      × RunsDevice most room leaves is_clean saves fails opens closes remaining contents turns connections store x x'
+      (Ok tt) × (said' ≡ said))
       ⊎ ((stop : KeptStop) × (status ≡ 3)
-      × RunsDevice leaves is_clean saves fails opens closes remaining contents turns connections store x x' (Err stop)
-      × Begins said said' (stop_lines stop))
+      × RunsDevice most room leaves is_clean saves fails opens closes remaining contents turns connections store x x'
+      (Err stop) × Begins said said' (stop_lines stop))
 
   -- The state at the path was opened, and its encoder is the one that is asked for; a device ran from there; and then
   -- the state was closed. Where it came to its end, whatever a crash leaves is the encoder as the last connection
@@ -68,7 +68,7 @@ module _ {K C I O : Type 0} (leaves : K → Kept Store → Type 0) (is_clean : K
         (record { encoder = after; keeper = keeper_after; connect = c'; log = l' }) said between status
     pub settled : status ≡ 0 → is_clean keeper_after → Settled (leaves keeper_after) after
     pub outlives : is_clean keeper_after → (left : Kept Store) → leaves keeper_after left
-        → OutlivesRun step leaves is_clean saves fails opens closes remaining contents turns
+        → OutlivesRun most room step leaves is_clean saves fails opens closes remaining contents turns
         (record { encoder = after; keeper = keeper_after; connect = c'; log = l' }) left
     pub clean : is_clean keeper_after → is_clean keeper
     pub closes_so : ends keeper_after closed
@@ -81,20 +81,20 @@ module _ {C I O : Type 0} (opens : C → Option (I × O) → C → Type 0) (clos
       → (said said' : Option (List ℕ)) → (status : ℕ) → Type 0
   ServesUnkept options turns connections store c c' l l' said said' status =
       (keeper : NotKept) × (keeper' : NotKept) × (after : EncoderState Store)
-      × EndsDevice (λ k left. Unit {0}) (λ k. ⊥) (λ k left k'. k' ≡ k) (λ k left k'. ⊥) opens closes remaining contents
-      turns connections store
+      × EndsDevice 1 512 (λ k left. Unit {0}) (λ k. ⊥) (λ k left k'. k' ≡ k) (λ k left k'. ⊥) opens closes remaining
+      contents turns connections store
       (record { encoder = encoder_at_first options; keeper = keeper; connect = c; log = l })
       (record { encoder = after; keeper = keeper'; connect = c'; log = l' }) said said' status
 
   module _ {K : Type 0} (gives : List ℕ → EncoderState Store → K → Type 0) (refuses : List ℕ → StateFault → Type 0)
-      (ends : K → Result (Unit {0}) StateFault → Type 0) (leaves : K → Kept Store → Type 0) (is_clean : K → Type 0)
-      (saves fails : K → Kept Store → K → Type 0) where
+      (ends : K → Result (Unit {0}) StateFault → Type 0) (most room : ℕ) (leaves : K → Kept Store → Type 0)
+      (is_clean : K → Type 0) (saves fails : K → Kept Store → K → Type 0) where
     -- A device ran from the state in the file of this path; or with no state.
     abbrev pub ServesFrom : (state : Option (List ℕ)) → Options → (turns connections : ℕ) → (store : Bool) → (c c' : C)
         → (l l' : Log) → (said said' : Option (List ℕ)) → (status : ℕ) → Type 0
     ServesFrom (Some path) options turns connections store c c' l l' said said' status =
-        ServesIn leaves is_clean saves fails opens closes remaining contents turns connections store gives ends path
-        (address_of options.site options.encoder) options.sets options.services c c' l l' said said' status
+        ServesIn most room leaves is_clean saves fails opens closes remaining contents turns connections store gives
+        ends path (address_of options.site options.encoder) options.sets options.services c c' l l' said said' status
         ⊎ (HasNoState refuses path said said' status × (c' ≡ c) × (l' ≡ l))
     ServesFrom None options turns connections store c c' l l' said said' status =
         ServesUnkept options turns connections store c c' l l' said said' status

@@ -7,7 +7,7 @@ ghost use Rattle.device_jobs.specs.Serving.{HasServedDevice, HasNoState, ServesI
 
 use crate::limits::{Limits, limits_of};
 use commands::DeviceJob;
-use device_serving::{LogLines, NotKept, run_device};
+use device_serving::{LogLines, run_device};
 use kept_jobs::fail_state;
 use rds_store::RdsStore;
 use state_files::StateFault;
@@ -15,7 +15,7 @@ use state_jobs::{OpenStates, state_text};
 use std::alloc::Global;
 use std::io::Write;
 use std::time::Clock;
-use uecp_encoder::Encoder;
+use uecp_encoder::{Encoder, NotKept};
 use uecp_frame::Address;
 use uecp_jobs::{Setup, fail, new_encoder};
 use uecp_net::Connections;
@@ -34,9 +34,10 @@ pub fn run_device_from<S: OpenStates, W: Write, T: Clock, E: Write, C: Connectio
     connect: &mut C,
 ) -> u8
     ensures { HasServedDevice C.opens C.closes C.Input.remaining C.Output.contents (S.gives_encoder states.now)
-        (S.refuses_encoder states.now) (S.closes_encoder states.now) S.EncoderKeeper.leaves S.EncoderKeeper.is_clean
-        S.EncoderKeeper.saves S.EncoderKeeper.fails job.now connect.old connect.new log.old log.new
-        (E.contents errors.old) (E.contents errors.new) result }
+        (S.refuses_encoder states.now) (S.closes_encoder states.now) S.EncoderKeeper.TOGETHER_MAX
+        S.EncoderKeeper.READ_MAX S.EncoderKeeper.leaves S.EncoderKeeper.is_clean S.EncoderKeeper.saves
+        S.EncoderKeeper.fails job.now connect.old connect.new log.old log.new (E.contents errors.old) (E.contents
+        errors.new) result }
 {
     let setup = Setup {
         site: job.site,
@@ -70,11 +71,11 @@ fn serve_in<S: OpenStates, W: Write, T: Clock, E: Write, C: Connections>(
     connect: &mut C,
 ) -> u8
     requires { IsTrue (is_exact address) }
-    ensures { ServesIn S.EncoderKeeper.leaves S.EncoderKeeper.is_clean S.EncoderKeeper.saves S.EncoderKeeper.fails
-        C.opens C.closes C.Input.remaining C.Output.contents limits.turns limits.connections limits.store
-        (S.gives_encoder states.now) (S.closes_encoder states.now) path.now address setup.now.sets
-        setup.now.services.now connect.old connect.new log.old log.new (E.contents errors.old) (E.contents errors.new)
-        result
+    ensures { ServesIn S.EncoderKeeper.TOGETHER_MAX S.EncoderKeeper.READ_MAX S.EncoderKeeper.leaves
+        S.EncoderKeeper.is_clean S.EncoderKeeper.saves S.EncoderKeeper.fails C.opens C.closes C.Input.remaining
+        C.Output.contents limits.turns limits.connections limits.store (S.gives_encoder states.now) (S.closes_encoder
+        states.now) path.now address setup.now.sets setup.now.services.now connect.old connect.new log.old log.new
+        (E.contents errors.old) (E.contents errors.new) result
         ⊎ (HasNoState (S.refuses_encoder states.now) path.now (E.contents errors.old) (E.contents errors.new) result
         × (connect.new ≡ connect.old) × (log.new ≡ log.old)) }
 {

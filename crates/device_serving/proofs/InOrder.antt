@@ -6,8 +6,8 @@ use Rattle.std.proofs.KnownBytes.{Appends-nil, Appends-trans}
 use Rattle.uecp_frame.specs.Findings.{Finding}
 use Rattle.uecp_encoder.specs.Target.{Step}
 use Rattle.uecp_encoder.specs.State.{EncoderState, after_finding}
-use Rattle.told_serving.specs.declared.listener.Event.{Event}
-use Rattle.told_serving.specs.Telling.{Tells, HearsEach}
+use Rattle.uecp_encoder.specs.declared.listener.Event.{Event}
+use Rattle.uecp_encoder.specs.Telling.{Tells, HearsEach}
 use Rattle.output_forms.specs.declared.form.Form.{Form}
 use Rattle.device_serving.specs.declared.log_lines.LogFault.{LogFault}
 use Rattle.device_serving.specs.EventLines.{event_lines}

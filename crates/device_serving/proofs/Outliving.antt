@@ -5,9 +5,9 @@ use Rattle.rds_store.specs.Value.{Store}
 use Rattle.rds_store.specs.Step.{step as store_step}
 use Rattle.uecp_encoder.specs.Target.{Step}
 use Rattle.uecp_text.specs.declared.run_fault.RunFault.TheVariants as run
-use Rattle.kept_serving.specs.declared.serving.KeptFault.TheVariants as kept
-use Rattle.kept_serving.specs.Keeping.{Kept, kept_of, Settled}
-use Rattle.kept_serving.specs.Serving.{Ended}
+use Rattle.uecp_encoder.specs.declared.serving.KeptFault.TheVariants as kept
+use Rattle.uecp_encoder.specs.Keeping.{Kept, kept_of, Settled}
+use Rattle.uecp_encoder.specs.ServingWith.{Ended}
 use Rattle.kept_jobs.specs.declared.stop.KeptStop.{KeptStop}
 use Rattle.kept_jobs.specs.declared.stop.KeptStop.TheVariants.{Run, StateFailed}
 use Rattle.kept_jobs.specs.Stops.{Went, stop_status}
@@ -51,20 +51,20 @@ state_stops : (fault : Option LogFault) → goes ≡ went_after fault (Err kept.
 state_stops None is = goes_not_stopped StateFailed is
 state_stops (Some fault) is = goes_not_stopped (stop_of fault) is
 
-module _ {V K C I O : Type 0} (step : Step V) (leaves : K → Kept V → Type 0) (is_clean : K → Type 0)
+module _ {V K C I O : Type 0} (most room : ℕ) (step : Step V) (leaves : K → Kept V → Type 0) (is_clean : K → Type 0)
     (saves fails : K → Kept V → K → Type 0) (opens : C → Option (I × O) → C → Type 0) (closes : C → I → O → C → Type 0)
     (remaining : I → Option (List ℕ)) (contents : O → Option (List ℕ)) (turns : ℕ) where
   abbrev Next : (x x' : Standing V K C) → Went → Type 0
-  Next = ServesNext step leaves is_clean saves fails opens closes remaining contents turns
+  Next = ServesNext most room step leaves is_clean saves fails opens closes remaining contents turns
 
   abbrev From : (many : ℕ) → (x x' : Standing V K C) → Went → Type 0
-  From = ServesFrom step leaves is_clean saves fails opens closes remaining contents turns
+  From = ServesFrom most room step leaves is_clean saves fails opens closes remaining contents turns
 
   abbrev Outlives : (x' : Standing V K C) → Kept V → Type 0
-  Outlives = OutlivesRun step leaves is_clean saves fails opens closes remaining contents turns
+  Outlives = OutlivesRun most room step leaves is_clean saves fails opens closes remaining contents turns
 
   abbrev Served : (x x' : Standing V K C) → Went → Type 0
-  Served = ServesAndTells step leaves is_clean saves fails opens closes remaining contents turns
+  Served = ServesAndTells most room step leaves is_clean saves fails opens closes remaining contents turns
 
   -- what a crash leaves after what went so
   pub record After (x x' : Standing V K C) (end : Went) : Type 0 where
@@ -87,24 +87,24 @@ module _ {V K C I O : Type 0} (step : Step V) (leaves : K → Kept V → Type 0)
   served_so : (x x' : Standing V K C) (end : Went) (ended : Ended) (s : Served x x' end) → s.ended ≡ ended
       → After x x' end
   served_so x x' end (Ok done) s is =
-      let keeps = subst (λ ended. KeepsOn step leaves is_clean saves fails opens closes remaining contents turns ended
-      x x') is s.keeps in
+      let keeps = subst (λ ended. KeepsOn most room step leaves is_clean saves fails opens closes remaining contents
+      turns ended x x') is s.keeps in
       record {
         clean = keeps.clean;
         settled = λ goes_on settled clean. keeps.settled settled clean;
         outlives = λ settled clean left leaves_it. inl (keeps.settled settled clean left leaves_it);
       }
   served_so x x' end (Err (kept.Serve fault)) s is =
-      let keeps = subst (λ ended. KeepsOn step leaves is_clean saves fails opens closes remaining contents turns ended
-      x x') is s.keeps in
+      let keeps = subst (λ ended. KeepsOn most room step leaves is_clean saves fails opens closes remaining contents
+      turns ended x x') is s.keeps in
       record {
         clean = keeps.clean;
         settled = λ goes_on settled clean. keeps.settled settled clean;
         outlives = λ settled clean left leaves_it. inl (keeps.settled settled clean left leaves_it);
       }
   served_so x x' end (Err kept.StateFailed) s is =
-      let serves = subst (λ ended. ServesOne step leaves is_clean saves fails opens closes remaining contents turns
-      ended
+      let serves = subst (λ ended. ServesOne most room step leaves is_clean saves fails opens closes remaining contents
+      turns ended
       x x' s.told) is s.serves in
       record {
         clean = s.keeps.clean;
@@ -163,32 +163,32 @@ store_status : (asked : Bool) (store : Store) (l l' : Log) (stop : KeptStop)
 store_status true store l l' stop (written, is) = went_status l'.fault stop is
 store_status false store l l' stop (same, is) = went_status l'.fault stop is
 
-module _ {K C I O : Type 0} (leaves : K → Kept Store → Type 0) (is_clean : K → Type 0)
+module _ {K C I O : Type 0} (most room : ℕ) (leaves : K → Kept Store → Type 0) (is_clean : K → Type 0)
     (saves fails : K → Kept Store → K → Type 0) (opens : C → Option (I × O) → C → Type 0)
     (closes : C → I → O → C → Type 0) (remaining : I → Option (List ℕ)) (contents : O → Option (List ℕ))
     (turns connections : ℕ) (asked : Bool) where
   abbrev Runs : (x x' : Standing Store K C) → Went → Type 0
-  Runs = RunsDevice leaves is_clean saves fails opens closes remaining contents turns connections asked
+  Runs = RunsDevice most room leaves is_clean saves fails opens closes remaining contents turns connections asked
 
   abbrev pub AfterRun : (x x' : Standing Store K C) → Went → Type 0
-  AfterRun = After store_step leaves is_clean saves fails opens closes remaining contents turns
+  AfterRun = After most room store_step leaves is_clean saves fails opens closes remaining contents turns
 
   pub after_run : (x x' : Standing Store K C) (end : Went) → Runs x x' end → AfterRun x x' end
   after_run x x' end (inl (y, served, last)) =
-      both store_step leaves is_clean saves fails opens closes remaining contents turns x y x' end
-      (after_from store_step leaves is_clean saves fails opens closes remaining contents turns connections x y goes
-      served)
-      (stays store_step leaves is_clean saves fails opens closes remaining contents turns y x' end last.keeper
+      both most room store_step leaves is_clean saves fails opens closes remaining contents turns x y x' end
+      (after_from most room store_step leaves is_clean saves fails opens closes remaining contents turns connections x y
+      goes served)
+      (stays most room store_step leaves is_clean saves fails opens closes remaining contents turns y x' end last.keeper
       last.encoder)
   after_run x x' end (inr (stop, served, is)) =
-      ended_at store_step leaves is_clean saves fails opens closes remaining contents turns x x' end stop is
-      (after_from store_step leaves is_clean saves fails opens closes remaining contents turns connections x x'
-      (stopped stop) served)
+      ended_at most room store_step leaves is_clean saves fails opens closes remaining contents turns x x' end stop is
+      (after_from most room store_step leaves is_clean saves fails opens closes remaining contents turns connections x
+      x' (stopped stop) served)
 
   pub run_status : (x x' : Standing Store K C) (stop : KeptStop) → Runs x x' (stopped stop) → stop_status stop ≡ 3
   run_status x x' stop (inl (y, served, last)) =
       store_status asked y.encoder.value y.log x'.log stop last.tells
   run_status x x' stop (inr (why, served, is)) =
       ap stop_status (same_stop stop why is)
-      ∙ from_status store_step leaves is_clean saves fails opens closes remaining contents turns connections x x' why
-      served
+      ∙ from_status most room store_step leaves is_clean saves fails opens closes remaining contents turns connections x
+      x' why served

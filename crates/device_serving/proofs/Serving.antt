@@ -2,8 +2,8 @@
 use Rattle.std.proofs.Common.{◌≡◌, ◌<◌, ℕ, ◌+◌, ◌-◌, suc, List, Option, Some, None, Ok, Err, refl, subst, inl, inr}
 use Rattle.std.proofs.Common.{arith}
 use Rattle.uecp_encoder.specs.Target.{Step}
-use Rattle.kept_serving.specs.Keeping.{Kept}
-use Rattle.kept_serving.specs.Serving.{Ended}
+use Rattle.uecp_encoder.specs.Keeping.{Kept}
+use Rattle.uecp_encoder.specs.ServingWith.{Ended}
 use Rattle.kept_jobs.specs.declared.stop.KeptStop.{KeptStop}
 use Rattle.kept_jobs.specs.Stops.{Went}
 use Rattle.kept_jobs.specs.EncoderRun.{ended_so}
@@ -27,15 +27,15 @@ pub goes_after : (fault : Option LogFault) (ended : Ended) → goes ≡ went fau
 goes_after None ended is = refl
 goes_after (Some fault) ended is = absurd (let no : goes ≡ went (Some fault) = is in cc)
 
-module _ {V K C I O : Type 0} (step : Step V) (leaves : K → Kept V → Type 0) (is_clean : K → Type 0)
+module _ {V K C I O : Type 0} (most room : ℕ) (step : Step V) (leaves : K → Kept V → Type 0) (is_clean : K → Type 0)
     (saves fails : K → Kept V → K → Type 0) (opens : C → Option (I × O) → C → Type 0) (closes : C → I → O → C → Type 0)
     (remaining : I → Option (List ℕ)) (contents : O → Option (List ℕ)) (turns connections : ℕ)
     (start : Standing V K C) where
   abbrev Next : (x x' : Standing V K C) → Went → Type 0
-  Next = ServesNext step leaves is_clean saves fails opens closes remaining contents turns
+  Next = ServesNext most room step leaves is_clean saves fails opens closes remaining contents turns
 
   abbrev From : (many : ℕ) → (x x' : Standing V K C) → Went → Type 0
-  From = ServesFrom step leaves is_clean saves fails opens closes remaining contents turns
+  From = ServesFrom most room step leaves is_clean saves fails opens closes remaining contents turns
 
   -- so many connections were served: however it goes on with the others, so it went with all
   abbrev pub GoesOn : (before : ℕ) → (now : Standing V K C) → Type 0

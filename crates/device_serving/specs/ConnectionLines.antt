@@ -2,8 +2,8 @@
 use Rattle.std.specs.Prelude.{ℕ, List, [], ◌∷◌, ◌++◌, codes, Ok, Err}
 use Rattle.serde_json.specs.Data.{string}
 use Rattle.uecp_encoder.specs.declared.serving.ServeFault.TheVariants.{ReadFailed, WriteFailed, TurnsSpent}
-use Rattle.kept_serving.specs.declared.serving.KeptFault.TheVariants.{Serve, StateFailed}
-use Rattle.kept_serving.specs.Serving.{Ended}
+use Rattle.uecp_encoder.specs.declared.serving.KeptFault.TheVariants.{Serve, StateFailed}
+use Rattle.uecp_encoder.specs.ServingWith.{Ended}
 use Rattle.uecp_text.specs.Digits.{decimal_word}
 use Rattle.json_lines.specs.Objects.{Field, in_decimal, line_of}
 use Rattle.kept_jobs.specs.EncoderRun.{ended_words}

@@ -4,9 +4,9 @@ use Rattle.uecp_frame.specs.Findings.{Closed}
 use Rattle.uecp_encoder.specs.Target.{Step}
 use Rattle.uecp_encoder.specs.State.{EncoderState}
 use Rattle.uecp_text.specs.declared.run_fault.RunFault.TheVariants as run
-use Rattle.kept_serving.specs.declared.serving.KeptFault.TheVariants as kept
-use Rattle.kept_serving.specs.Keeping.{Kept, kept_of, Settled, Outlives}
-use Rattle.kept_serving.specs.Serving.{Ended, StaysSettled}
+use Rattle.uecp_encoder.specs.declared.serving.KeptFault.TheVariants as kept
+use Rattle.uecp_encoder.specs.Keeping.{Kept, kept_of, Settled, Outlives}
+use Rattle.uecp_encoder.specs.ServingWith.{Ended, StaysSettled}
 use Rattle.kept_jobs.specs.declared.stop.KeptStop.{KeptStop}
 use Rattle.kept_jobs.specs.declared.stop.KeptStop.TheVariants.{Run}
 use Rattle.kept_jobs.specs.Stops.{Went, Then}
@@ -14,7 +14,7 @@ use Rattle.kept_jobs.specs.EncoderRun.{ended_so}
 use Rattle.rds_store.specs.Value.{Store}
 use Rattle.rds_store.specs.Step.{step as store_step}
 use Rattle.output_forms.specs.Forms.{store_lines}
-use Rattle.told_serving.specs.Sessions.{ServingTold}
+use Rattle.uecp_net.specs.Sessions.{ServingTold}
 use Rattle.device_serving.specs.declared.log_lines.LogFault.{LogFault}
 use Rattle.device_serving.specs.declared.log_lines.LogFault.TheVariants.{OutOfMemory, Writing}
 use Rattle.device_serving.specs.ConnectionLines.{ended_lines}
@@ -48,14 +48,14 @@ abbrev pub TellsStore : (asked : Bool) → Store → (l l' : Log) → Went → T
 TellsStore true store l l' end = WritesLog (store_lines l.form true store) l l' × (end ≡ went l'.fault)
 TellsStore false store l l' end = (l' ≡ l) × (end ≡ went l'.fault)
 
-module _ {V K C I O : Type 0} (step : Step V) (leaves : K → Kept V → Type 0) (is_clean : K → Type 0)
+module _ {V K C I O : Type 0} (most room : ℕ) (step : Step V) (leaves : K → Kept V → Type 0) (is_clean : K → Type 0)
     (saves fails : K → Kept V → K → Type 0) (opens : C → Option (I × O) → C → Type 0) (closes : C → I → O → C → Type 0)
     (remaining : I → Option (List ℕ)) (contents : O → Option (List ℕ)) (turns : ℕ) where
   -- The next connection was served so, with the encoder kept; the log was told that it was opened, and then of each
   -- thing that was found, and is left so.
   abbrev pub ServesOne : Ended → (x x' : Standing V K C) → (told : Log) → Type 0
-  ServesOne ended x x' told = ServingTold step leaves is_clean saves fails LogsOpening LogsEvent opens closes remaining
-      contents turns x.encoder x.keeper x.log x.connect ended x'.encoder x'.keeper told x'.connect
+  ServesOne ended x x' told = ServingTold most room step leaves is_clean saves fails LogsOpening LogsEvent opens closes
+      remaining contents turns x.encoder x.keeper x.log x.connect ended x'.encoder x'.keeper told x'.connect
 
   -- What a crash may leave after a connection: where it was the encoder before, it is the encoder now, unless a save
   -- failed. The premise reaches back.
@@ -107,11 +107,11 @@ module _ {V K C I O : Type 0} (step : Step V) (leaves : K → Kept V → Type 0)
     pub tells : TellsStore asked store x.log x'.log end
 
 -- A whole run: so many connections, and then the store, where that is asked for; or it stopped before.
-abbrev pub RunsDevice : {K C I O : Type 0} → (leaves : K → Kept Store → Type 0) → (is_clean : K → Type 0)
-    → (saves fails : K → Kept Store → K → Type 0) → (opens : C → Option (I × O) → C → Type 0)
+abbrev pub RunsDevice : {K C I O : Type 0} → (most room : ℕ) → (leaves : K → Kept Store → Type 0) → (is_clean : K → Type
+    0) → (saves fails : K → Kept Store → K → Type 0) → (opens : C → Option (I × O) → C → Type 0)
     → (closes : C → I → O → C → Type 0) → (remaining : I → Option (List ℕ)) → (contents : O → Option (List ℕ))
     → (turns connections : ℕ) → (store : Bool) → (x x' : Standing Store K C) → Went → Type 0
-RunsDevice leaves is_clean saves fails opens closes remaining contents turns connections store x x' end =
-    Then (ServesFrom store_step leaves is_clean saves fails opens closes remaining contents turns connections)
-    (λ y z. TellsLast store_step leaves is_clean saves fails opens closes remaining contents turns store y.encoder.value
-    y z) x x' end
+RunsDevice most room leaves is_clean saves fails opens closes remaining contents turns connections store x x' end =
+    Then (ServesFrom most room store_step leaves is_clean saves fails opens closes remaining contents turns connections)
+    (λ y z. TellsLast most room store_step leaves is_clean saves fails opens closes remaining contents turns store
+    y.encoder.value y z) x x' end

@@ -7,10 +7,10 @@ use Rattle.uecp_frame.specs.declared.frame.Frame.{Frame}
 use Rattle.uecp_frame.specs.declared.fed.Found.{Found}
 use Rattle.uecp_frame.specs.declared.fed.Found.TheVariants as found
 use Rattle.uecp_frame.specs.Feeding.{findings_of}
-use Rattle.told_serving.specs.declared.listener.Answered.{Answered}
-use Rattle.told_serving.specs.declared.listener.Answered.TheVariants.{New, Repeat, NotNext, Unnumbered, NotForMe}
-use Rattle.told_serving.specs.declared.listener.Answered.TheVariants.{Dropped}
-use Rattle.told_serving.specs.declared.listener.Event.{Event}
+use Rattle.uecp_encoder.specs.declared.listener.Answered.{Answered}
+use Rattle.uecp_encoder.specs.declared.listener.Answered.TheVariants.{New, Repeat, NotNext, Unnumbered, NotForMe}
+use Rattle.uecp_encoder.specs.declared.listener.Answered.TheVariants.{Dropped}
+use Rattle.uecp_encoder.specs.declared.listener.Event.{Event}
 use Rattle.uecp_text.specs.Digits.{byte_word, number_word, row_word}
 use Rattle.uecp_lines.specs.Lines.{dropped_line}
 use Rattle.phrase_scripts.specs.Lines.{message_text}

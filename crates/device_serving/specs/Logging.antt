@@ -4,7 +4,7 @@ use Rattle.std.specs.Io.KnownBytes.{Appends}
 use Rattle.uecp_encoder.specs.State.{raised}
 use Rattle.uecp_text.specs.Written.{Begins}
 use Rattle.json_lines.specs.Stamps.{IsStamp}
-use Rattle.told_serving.specs.declared.listener.Event.{Event}
+use Rattle.uecp_encoder.specs.declared.listener.Event.{Event}
 use Rattle.output_forms.specs.declared.form.Form.{Form}
 use Rattle.device_serving.specs.declared.log_lines.LogFault.{LogFault}
 use Rattle.device_serving.specs.declared.log_lines.LogFault.TheVariants.{OutOfMemory, Writing}

@@ -11,9 +11,8 @@ ghost use Rattle.device_serving.specs.ConnectionLines.{number_fields};
 
 use crate::event_lines::{put_time, put_time_field};
 use json_lines::{close_line, number_field, open_line, word_field};
-use kept_serving::KeptFault;
 use output_forms::Form;
-use uecp_encoder::{ServeFault, Served};
+use uecp_encoder::{KeptFault, ServeFault, Served};
 use uecp_text::Output;
 
 /// Puts down that the connection of this number was opened.

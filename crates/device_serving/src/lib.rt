@@ -2,7 +2,6 @@
 //! target, keeper, source of connections, clock and writer.
 //!
 //! - [`LogLines`]: where the lines go, and in which form; [`LogFault`] is why it ended.
-//! - [`NotKept`]: keeps nothing of an encoder.
 //! - [`run_device`]: serves one connection after another.
 //! - [`laws::tells_in_order`]: what a log holds is what was told, once and in order.
 #![tactic(auto)]
@@ -11,9 +10,7 @@ mod connection_lines;
 mod event_lines;
 pub mod laws;
 mod log_lines;
-mod not_kept;
 mod run;
 
 pub use log_lines::{LogFault, LogLines};
-pub use not_kept::NotKept;
 pub use run::run_device;

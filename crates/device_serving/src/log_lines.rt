@@ -11,15 +11,13 @@ use crate::connection_lines::{put_ended, put_opened};
 use crate::event_lines::put_event;
 use arrayvec::ArrayString;
 use json_lines::{STAMP_MAX, stamp_of};
-use kept_serving::KeptFault;
 use output_forms::{Form, put_store};
 use rds_store::RdsStore;
 use std::alloc::Global;
 use std::io::Write;
 use std::marker::Model;
 use std::time::Clock;
-use told_serving::{Event, Listener};
-use uecp_encoder::Served;
+use uecp_encoder::{Event, KeptFault, Listener, Served};
 use uecp_text::Output;
 
 /// Why a log ended.

@@ -3,7 +3,7 @@ ghost use Rattle.std.specs.Prelude.{◌≡◌, ◌⊎◌, Ok, Err};
 ghost use Rattle.uecp_text.specs.Written.{Begins};
 ghost use Rattle.rds_store.specs.Value.{Store};
 ghost use Rattle.rds_store.specs.Step.{step};
-ghost use Rattle.kept_serving.specs.Keeping.{Kept, Settled};
+ghost use Rattle.uecp_encoder.specs.Keeping.{Kept, Settled};
 ghost use Rattle.kept_jobs.specs.declared.stop.KeptStop.{KeptStop};
 ghost use Rattle.kept_jobs.specs.Stops.{stop_lines};
 ghost use Rattle.kept_jobs.specs.EncoderRun.{ended_so};
@@ -12,13 +12,11 @@ ghost use Rattle.device_serving.specs.DeviceRun.{TellsStore, went};
 
 use crate::log_lines::{LogFault, LogLines};
 use kept_jobs::{KeptStop, fail_run};
-use kept_serving::{KeepEncoder, KeptFault};
 use rds_store::RdsStore;
 use std::io::Write;
 use std::time::Clock;
-use told_serving::serve_connection_told;
-use uecp_encoder::{Encoder, Served, Target};
-use uecp_net::Connections;
+use uecp_encoder::{Encoder, KeepEncoder, KeptFault, Served, Target};
+use uecp_net::{Connections, serve_connection_with};
 use uecp_text::RunFault;
 
 /// Serves so many connections, one after another, and tells what the log is to tell; then, where that is asked for, the
@@ -46,8 +44,8 @@ pub fn run_device<K: KeepEncoder<RdsStore>, W: Write, Clk: Clock, E: Write, C: C
 ) -> u8
     ensures status { (result ≡ 0) ⊎ (result ≡ 3) }
     // 0: all connections were served, and all was told. Nothing was said on `errors`.
-    ensures done { result ≡ 0 → RunsDevice K.leaves K.is_clean K.saves K.fails C.opens C.closes C.Input.remaining
-        C.Output.contents turns connections store (record {
+    ensures done { result ≡ 0 → RunsDevice K.TOGETHER_MAX K.READ_MAX K.leaves K.is_clean K.saves K.fails C.opens
+        C.closes C.Input.remaining C.Output.contents turns connections store (record {
           encoder = encoder.old;
           keeper = keeper.old;
           connect = connect.old;
@@ -59,8 +57,8 @@ pub fn run_device<K: KeepEncoder<RdsStore>, W: Write, Clk: Clock, E: Write, C: C
           log = log.new;
         }) (Ok tt) × (errors.new ≡ errors.old) }
     // 3: some were served up to one at which the run stopped, and why was said, or begun to be said.
-    ensures failed { result ≡ 3 → (stop : KeptStop) × RunsDevice K.leaves K.is_clean K.saves K.fails C.opens C.closes
-        C.Input.remaining C.Output.contents turns connections store (record {
+    ensures failed { result ≡ 3 → (stop : KeptStop) × RunsDevice K.TOGETHER_MAX K.READ_MAX K.leaves K.is_clean K.saves
+        K.fails C.opens C.closes C.Input.remaining C.Output.contents turns connections store (record {
           encoder = encoder.old;
           keeper = keeper.old;
           connect = connect.old;
@@ -76,8 +74,8 @@ pub fn run_device<K: KeepEncoder<RdsStore>, W: Write, Clk: Clock, E: Write, C: C
         → Settled (K.leaves keeper.new) encoder.new }
     // 3: it is the encoder too, unless a save failed.
     ensures outlives { Settled (K.leaves keeper.old) encoder.old → K.is_clean keeper.new → (left : Kept Store)
-        → K.leaves keeper.new left → OutlivesRun step K.leaves K.is_clean K.saves K.fails C.opens C.closes
-        C.Input.remaining C.Output.contents turns (record {
+        → K.leaves keeper.new left → OutlivesRun K.TOGETHER_MAX K.READ_MAX step K.leaves K.is_clean K.saves K.fails
+        C.opens C.closes C.Input.remaining C.Output.contents turns (record {
           encoder = encoder.new;
           keeper = keeper.new;
           connect = connect.new;
@@ -101,8 +99,8 @@ fn serve_and_store<K: KeepEncoder<RdsStore>, W: Write, Clk: Clock, C: Connection
     log: &mut LogLines<'_, W, Clk>,
     connect: &mut C,
 ) -> Result<(), KeptStop>
-    ensures runs { RunsDevice K.leaves K.is_clean K.saves K.fails C.opens C.closes C.Input.remaining C.Output.contents
-        turns connections store (record {
+    ensures runs { RunsDevice K.TOGETHER_MAX K.READ_MAX K.leaves K.is_clean K.saves K.fails C.opens C.closes
+        C.Input.remaining C.Output.contents turns connections store (record {
           encoder = encoder.old;
           keeper = keeper.old;
           connect = connect.old;
@@ -152,8 +150,8 @@ fn serve_connections<T: Target, K: KeepEncoder<T>, W: Write, Clk: Clock, C: Conn
     log: &mut LogLines<'_, W, Clk>,
     connect: &mut C,
 ) -> Result<(), KeptStop>
-    ensures serves { ServesFrom T.step K.leaves K.is_clean K.saves K.fails C.opens C.closes C.Input.remaining
-        C.Output.contents turns connections (record {
+    ensures serves { ServesFrom K.TOGETHER_MAX K.READ_MAX T.step K.leaves K.is_clean K.saves K.fails C.opens C.closes
+        C.Input.remaining C.Output.contents turns connections (record {
           encoder = encoder.old;
           keeper = keeper.old;
           connect = connect.old;
@@ -179,8 +177,8 @@ fn serve_next<T: Target, K: KeepEncoder<T>, W: Write, Clk: Clock, C: Connections
     log: &mut LogLines<'_, W, Clk>,
     connect: &mut C,
 ) -> Result<(), KeptStop>
-    ensures serves { ServesNext T.step K.leaves K.is_clean K.saves K.fails C.opens C.closes C.Input.remaining
-        C.Output.contents turns (record {
+    ensures serves { ServesNext K.TOGETHER_MAX K.READ_MAX T.step K.leaves K.is_clean K.saves K.fails C.opens C.closes
+        C.Input.remaining C.Output.contents turns (record {
           encoder = encoder.old;
           keeper = keeper.old;
           connect = connect.old;
@@ -192,7 +190,7 @@ fn serve_next<T: Target, K: KeepEncoder<T>, W: Write, Clk: Clock, C: Connections
           log = log.new;
         }) result }
 {
-    match serve_connection_told(encoder, keeper, log, turns, connect) {
+    match serve_connection_with(encoder, keeper, log, turns, connect) {
         None => Err(KeptStop::Run(RunFault::Listening)),
         Some(ended) => {
             log.tell_ended(ended);

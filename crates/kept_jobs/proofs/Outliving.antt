@@ -3,9 +3,9 @@ use Rattle.std.proofs.Common.{◌≡◌, ℕ, zero, suc, ◌+◌, List, Option, 
 use Rattle.std.proofs.Common.{inr}
 use Rattle.uecp_encoder.specs.Target.{Step}
 use Rattle.uecp_text.specs.declared.run_fault.RunFault.TheVariants as run
-use Rattle.kept_serving.specs.declared.serving.KeptFault.TheVariants as kept
-use Rattle.kept_serving.specs.Keeping.{Kept, kept_of, Settled}
-use Rattle.kept_serving.specs.Serving.{Ended}
+use Rattle.uecp_encoder.specs.declared.serving.KeptFault.TheVariants as kept
+use Rattle.uecp_encoder.specs.Keeping.{Kept, kept_of, Settled}
+use Rattle.uecp_encoder.specs.ServingWith.{Ended}
 use Rattle.kept_jobs.specs.declared.stop.KeptStop.{KeptStop}
 use Rattle.kept_jobs.specs.declared.stop.KeptStop.TheVariants.{Run, StateFailed}
 use Rattle.kept_jobs.specs.Stops.{Went, TellsKept, stop_status}
@@ -56,23 +56,23 @@ ended_status (Ok served) stop is = absurd (goes_not_stopped stop (sym is))
 ended_status (Err (kept.Serve fault)) stop is = absurd (goes_not_stopped stop (sym is))
 ended_status (Err kept.StateFailed) stop is = same_status stop StateFailed refl is
 
-module _ {V K C I O : Type 0} (step : Step V) (leaves : K → Kept V → Type 0) (is_clean : K → Type 0)
+module _ {V K C I O : Type 0} (most room : ℕ) (step : Step V) (leaves : K → Kept V → Type 0) (is_clean : K → Type 0)
     (saves fails : K → Kept V → K → Type 0) (opens : C → Option (I × O) → C → Type 0) (closes : C → I → O → C → Type 0)
     (remaining : I → Option (List ℕ)) (contents : O → Option (List ℕ)) (turns : ℕ) where
   abbrev Next : (number : ℕ) → (x x' : Standing V K C) → Went → Type 0
-  Next = ServesNext step leaves is_clean saves fails opens closes remaining contents turns
+  Next = ServesNext most room step leaves is_clean saves fails opens closes remaining contents turns
 
   abbrev From : (number many : ℕ) → (x x' : Standing V K C) → Went → Type 0
-  From = ServesFrom step leaves is_clean saves fails opens closes remaining contents turns
+  From = ServesFrom most room step leaves is_clean saves fails opens closes remaining contents turns
 
   abbrev Outlives : (x' : Standing V K C) → Kept V → Type 0
-  Outlives = OutlivesRun step leaves is_clean saves fails opens closes remaining contents turns
+  Outlives = OutlivesRun most room step leaves is_clean saves fails opens closes remaining contents turns
 
   abbrev One : Ended → (x x' : Standing V K C) → Type 0
-  One = ServesOne step leaves is_clean saves fails opens closes remaining contents turns
+  One = ServesOne most room step leaves is_clean saves fails opens closes remaining contents turns
 
   abbrev On : Ended → (x x' : Standing V K C) → Type 0
-  On = KeepsOn step leaves is_clean saves fails opens closes remaining contents turns
+  On = KeepsOn most room step leaves is_clean saves fails opens closes remaining contents turns
 
   -- what a crash leaves after what went so
   pub record After (x x' : Standing V K C) (went : Went) : Type 0 where

@@ -1,20 +1,24 @@
 -- A run of connections, one by one.
-use Rattle.std.proofs.Common.{◌≡◌, ◌<◌, ℕ, ◌+◌, ◌-◌, suc, List, Option, Ok, Err, refl, subst, inl, inr, arith}
+use Rattle.std.proofs.Common.{◌≡◌, ◌<◌, ℕ, ◌+◌, ◌-◌, suc, Bool, List, Option, Ok, Err, refl, subst, inl, inr, arith}
 use Rattle.uecp_encoder.specs.Target.{Step}
-use Rattle.kept_serving.specs.Keeping.{Kept}
+use Rattle.uecp_encoder.specs.State.{EncoderState}
+use Rattle.uecp_encoder.specs.declared.listener.Event.{Event}
+use Rattle.uecp_encoder.specs.Keeping.{Kept}
+use Rattle.uecp_encoder.specs.ServingWith.{Ended}
+use Rattle.uecp_net.specs.Sessions.{ServingKept, ServingTold}
 use Rattle.kept_jobs.specs.declared.stop.KeptStop.{KeptStop}
 use Rattle.kept_jobs.specs.Stops.{Went}
 use Rattle.kept_jobs.specs.EncoderRun.{Standing, ServesNext, ServesFrom}
 
-module _ {V K C I O : Type 0} (step : Step V) (leaves : K → Kept V → Type 0) (is_clean : K → Type 0)
+module _ {V K C I O : Type 0} (most room : ℕ) (step : Step V) (leaves : K → Kept V → Type 0) (is_clean : K → Type 0)
     (saves fails : K → Kept V → K → Type 0) (opens : C → Option (I × O) → C → Type 0) (closes : C → I → O → C → Type 0)
     (remaining : I → Option (List ℕ)) (contents : O → Option (List ℕ)) (turns connections : ℕ)
     (start : Standing V K C) where
   abbrev Next : (number : ℕ) → (x x' : Standing V K C) → Went → Type 0
-  Next = ServesNext step leaves is_clean saves fails opens closes remaining contents turns
+  Next = ServesNext most room step leaves is_clean saves fails opens closes remaining contents turns
 
   abbrev From : (number many : ℕ) → (x x' : Standing V K C) → Went → Type 0
-  From = ServesFrom step leaves is_clean saves fails opens closes remaining contents turns
+  From = ServesFrom most room step leaves is_clean saves fails opens closes remaining contents turns
 
   -- so many connections were served: however it goes on with the others, so it went with all
   abbrev pub GoesOn : (before : ℕ) → (now : Standing V K C) → Type 0
@@ -44,3 +48,16 @@ module _ {V K C I O : Type 0} (step : Step V) (leaves : K → Kept V → Type 0)
   ends before now all goes_on =
       goes_on now (Ok tt) (subst (λ m. From (before + 1) m now now (Ok tt))
       (let q : 0 ≡ connections - before = omega (arith, all) in q) (refl, refl))
+
+-- a connection of which nobody is told
+pub served_kept : {V K L C I O : Type 0} (most room : ℕ) (step : Step V) (leaves : K → Kept V → Type 0)
+    (is_clean : K → Type 0) (saves fails : K → Kept V → K → Type 0) (begins : L → L → Type 0)
+    (hears : L → Event → Bool → L → Type 0) (opens : C → Option (I × O) → C → Type 0)
+    (closes : C → I → O → C → Type 0) (remaining : I → Option (List ℕ)) (contents : O → Option (List ℕ)) (turns : ℕ)
+    (e e' : EncoderState V) (k k' : K) (l l' : L) (c c' : C) (ended : Ended) →
+    ServingTold most room step leaves is_clean saves fails begins hears opens closes remaining contents turns e k l c
+    ended e' k' l' c'
+    → ServingKept most room step leaves is_clean saves fails opens closes remaining contents turns e k c ended e' k' c'
+served_kept most room step leaves is_clean saves fails begins hears opens closes remaining contents turns e e' k k' l l'
+    c c' ended (input, input', output, output', between, opened, told, closed) =
+    (input, input', output, output', between, opened, told.session, closed)

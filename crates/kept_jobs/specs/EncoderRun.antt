@@ -6,10 +6,10 @@ use Rattle.uecp_encoder.specs.State.{EncoderState}
 use Rattle.uecp_text.specs.Digits.{decimal_word}
 use Rattle.uecp_text.specs.declared.run_fault.RunFault.TheVariants.{Listening}
 use Rattle.uecp_jobs.specs.EncoderRun.{ending_words}
-use Rattle.kept_serving.specs.declared.serving.KeptFault.TheVariants as kept
-use Rattle.kept_serving.specs.Keeping.{Kept, kept_of, Settled, Outlives}
-use Rattle.kept_serving.specs.Serving.{Ended, StaysSettled}
-use Rattle.kept_serving.specs.Sessions.{ServingKept}
+use Rattle.uecp_encoder.specs.declared.serving.KeptFault.TheVariants as kept
+use Rattle.uecp_encoder.specs.Keeping.{Kept, kept_of, Settled, Outlives}
+use Rattle.uecp_encoder.specs.ServingWith.{Ended, StaysSettled}
+use Rattle.uecp_net.specs.Sessions.{ServingKept}
 use Rattle.kept_jobs.specs.declared.stop.KeptStop.TheVariants.{Run, StateFailed}
 use Rattle.kept_jobs.specs.Stops.{Went, TellsKept, Then}
 
@@ -40,13 +40,13 @@ pub record Standing (V K C : Type 0) : Type 0 where
   pub connect : C
   pub held : Option (List ℕ)
 
-module _ {V K C I O : Type 0} (step : Step V) (leaves : K → Kept V → Type 0) (is_clean : K → Type 0)
+module _ {V K C I O : Type 0} (most room : ℕ) (step : Step V) (leaves : K → Kept V → Type 0) (is_clean : K → Type 0)
     (saves fails : K → Kept V → K → Type 0) (opens : C → Option (I × O) → C → Type 0) (closes : C → I → O → C → Type 0)
     (remaining : I → Option (List ℕ)) (contents : O → Option (List ℕ)) (turns : ℕ) where
   -- The next connection was served so, with the encoder kept.
   abbrev pub ServesOne : Ended → (x x' : Standing V K C) → Type 0
-  ServesOne ended x x' = ServingKept step leaves is_clean saves fails opens closes remaining contents turns x.encoder
-      x.keeper x.connect ended x'.encoder x'.keeper x'.connect
+  ServesOne ended x x' = ServingKept most room step leaves is_clean saves fails opens closes remaining contents turns
+      x.encoder x.keeper x.connect ended x'.encoder x'.keeper x'.connect
 
   -- What a crash may leave after a connection: where it was the encoder before, it is the encoder now, unless a save
   -- failed. The premise reaches back.

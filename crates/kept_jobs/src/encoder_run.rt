@@ -1,18 +1,17 @@
 //! The job `encoder` with its state kept. Source: profile.
 ghost use Rattle.std.specs.Prelude.{◌≡◌, ◌⊎◌, Ok, Err};
 ghost use Rattle.uecp_text.specs.Written.{Begins};
-ghost use Rattle.kept_serving.specs.Keeping.{Kept, Settled};
+ghost use Rattle.uecp_encoder.specs.Keeping.{Kept, Settled};
 ghost use Rattle.kept_jobs.specs.declared.stop.KeptStop.{KeptStop};
 ghost use Rattle.kept_jobs.specs.Stops.{stop_lines};
 ghost use Rattle.kept_jobs.specs.EncoderRun.{Standing, ServesNext, ServesFrom, OutlivesRun};
 
 use crate::stop::{KeptStop, fail_run};
 use crate::telling::tell_ended;
-use kept_serving::{KeepEncoder, serve_connection_kept};
 use std::alloc::Global;
 use std::io::Write;
-use uecp_encoder::{Encoder, Target};
-use uecp_net::Connections;
+use uecp_encoder::{Encoder, KeepEncoder, Target, Unheard};
+use uecp_net::{Connections, serve_connection_with};
 use uecp_text::RunFault;
 
 /// Serves so many connections, one after another, with the encoder's state kept, writes a line of how each ended before
@@ -38,8 +37,8 @@ pub fn run_encoder_kept<T: Target, K: KeepEncoder<T>, W: Write, E: Write, C: Con
 ) -> u8
     ensures status { (result ≡ 0) ⊎ (result ≡ 3) }
     // 0: all connections were served, and each has its line. Nothing was said on `errors`.
-    ensures done { result ≡ 0 → ServesFrom T.step K.leaves K.is_clean K.saves K.fails C.opens C.closes
-        C.Input.remaining C.Output.contents turns 1 connections (record {
+    ensures done { result ≡ 0 → ServesFrom K.TOGETHER_MAX K.READ_MAX T.step K.leaves K.is_clean K.saves K.fails C.opens
+        C.closes C.Input.remaining C.Output.contents turns 1 connections (record {
           encoder = encoder.old;
           keeper = keeper.old;
           connect = connect.old;
@@ -51,8 +50,8 @@ pub fn run_encoder_kept<T: Target, K: KeepEncoder<T>, W: Write, E: Write, C: Con
           held = W.contents writer.new;
         }) (Ok tt) × (errors.new ≡ errors.old) }
     // 3: some were served up to one at which the run stopped, and why was said, or begun to be said.
-    ensures failed { result ≡ 3 → (stop : KeptStop) × ServesFrom T.step K.leaves K.is_clean K.saves K.fails C.opens
-        C.closes C.Input.remaining C.Output.contents turns 1 connections (record {
+    ensures failed { result ≡ 3 → (stop : KeptStop) × ServesFrom K.TOGETHER_MAX K.READ_MAX T.step K.leaves K.is_clean
+        K.saves K.fails C.opens C.closes C.Input.remaining C.Output.contents turns 1 connections (record {
           encoder = encoder.old;
           keeper =
               keeper.old;
@@ -71,8 +70,8 @@ pub fn run_encoder_kept<T: Target, K: KeepEncoder<T>, W: Write, E: Write, C: Con
         → Settled (K.leaves keeper.new) encoder.new }
     // 3: it is the encoder too, unless a save failed.
     ensures outlives { Settled (K.leaves keeper.old) encoder.old → K.is_clean keeper.new → (left : Kept T)
-        → K.leaves keeper.new left → OutlivesRun T.step K.leaves K.is_clean K.saves K.fails C.opens C.closes
-        C.Input.remaining C.Output.contents turns (record {
+        → K.leaves keeper.new left → OutlivesRun K.TOGETHER_MAX K.READ_MAX T.step K.leaves K.is_clean K.saves K.fails
+        C.opens C.closes C.Input.remaining C.Output.contents turns (record {
           encoder = encoder.new;
           keeper = keeper.new;
           connect =
@@ -97,8 +96,8 @@ fn serve_connections<T: Target, K: KeepEncoder<T>, W: Write, C: Connections>(
     writer: &mut W,
     connect: &mut C,
 ) -> Result<(), KeptStop>
-    ensures serves { ServesFrom T.step K.leaves K.is_clean K.saves K.fails C.opens C.closes C.Input.remaining
-        C.Output.contents turns 1 connections (record {
+    ensures serves { ServesFrom K.TOGETHER_MAX K.READ_MAX T.step K.leaves K.is_clean K.saves K.fails C.opens C.closes
+        C.Input.remaining C.Output.contents turns 1 connections (record {
           encoder = encoder.old;
           keeper = keeper.old;
           connect =
@@ -128,8 +127,8 @@ fn serve_next<T: Target, K: KeepEncoder<T>, W: Write, C: Connections>(
     writer: &mut W,
     connect: &mut C,
 ) -> Result<(), KeptStop>
-    ensures serves { ServesNext T.step K.leaves K.is_clean K.saves K.fails C.opens C.closes C.Input.remaining
-        C.Output.contents turns number (record {
+    ensures serves { ServesNext K.TOGETHER_MAX K.READ_MAX T.step K.leaves K.is_clean K.saves K.fails C.opens C.closes
+        C.Input.remaining C.Output.contents turns number (record {
           encoder = encoder.old;
           keeper = keeper.old;
           connect = connect.old;
@@ -141,7 +140,7 @@ fn serve_next<T: Target, K: KeepEncoder<T>, W: Write, C: Connections>(
           held = W.contents writer.new;
         }) result }
 {
-    match serve_connection_kept(encoder, keeper, turns, connect) {
+    match serve_connection_with(encoder, keeper, &mut Unheard, turns, connect) {
         None => Err(KeptStop::Run(RunFault::Listening)),
         Some(ended) => tell_ended(alloc, number, ended, writer),
     }

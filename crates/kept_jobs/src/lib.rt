@@ -4,7 +4,7 @@
 //! [`run_encoder_kept`] serves one connection after another, and stops where the encoder could not be saved.
 //! [`run_server_kept`] settles what is outstanding, and then sends the messages of its input, batch by batch, and stops
 //! where the server could not be saved. The crate opens no file: where state is kept is the matter of a
-//! [`KeepEncoder`](kept_serving::KeepEncoder) or a [`KeepServer`](uecp_net::KeepServer).
+//! [`KeepEncoder`](uecp_encoder::KeepEncoder) or a [`KeepServer`](uecp_net::KeepServer).
 //!
 //! [`KeptStop`] is why a run stopped, and [`fail_state`] says why a state can't be kept.
 #![tactic(auto)]

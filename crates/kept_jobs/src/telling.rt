@@ -5,10 +5,9 @@ ghost use Rattle.kept_jobs.specs.Stops.{TellsKept};
 ghost use Rattle.kept_jobs.specs.EncoderRun.{ended_words, ended_line, ended_so};
 
 use crate::stop::KeptStop;
-use kept_serving::KeptFault;
 use std::alloc::Global;
 use std::io::Write;
-use uecp_encoder::{ServeFault, Served};
+use uecp_encoder::{KeptFault, ServeFault, Served};
 use uecp_text::{Output, RunFault};
 
 /// Writes the line of the connection of this number, which ended so; and says how the run goes on from there.

@@ -7,14 +7,14 @@ use Rattle.carousel.specs.Carousel.{Carousel, switched_on}
 use Rattle.uecp_encoder.specs.State.{EncoderState}
 use Rattle.uecp_text.specs.Written.{Begins}
 use Rattle.uecp_jobs.specs.Setups.{Options, IsSetup, address_of, encoder_at_first}
-use Rattle.kept_serving.specs.Keeping.{Kept, Settled}
+use Rattle.uecp_encoder.specs.Keeping.{Kept, Settled}
 use Rattle.kept_jobs.specs.declared.stop.KeptStop.{KeptStop}
 use Rattle.kept_jobs.specs.Stops.{stop_lines}
 use Rattle.state_files.specs.declared.fault.StateFault.{StateFault}
 use Rattle.state_jobs.specs.EncoderJob.{IsOpened}
 use Rattle.state_jobs.specs.Texts.{IsClosed}
 use Rattle.device_serving.specs.Logging.{Log}
-use Rattle.device_serving.specs.declared.not_kept.NotKept.{NotKept}
+use Rattle.uecp_encoder.specs.declared.keep.NotKept.{NotKept}
 use Rattle.air_serving.specs.declared.moments.Moment.{Moment}
 use Rattle.air_serving.specs.AirRun.{OnAir, RunsOnAir, OutlivesRun}
 use Rattle.commands.specs.declared.device_job.DeviceJob.{DeviceJob}
@@ -33,7 +33,7 @@ standing e k l m c left = record {
   left = left;
 }
 
-module _ {K M I O : Type 0} (leaves : K → Kept Store → Type 0) (is_clean : K → Type 0)
+module _ {K M I O : Type 0} (most room : ℕ) (leaves : K → Kept Store → Type 0) (is_clean : K → Type 0)
     (saves fails : K → Kept Store → K → Type 0) (waits : M → Bool → Moment I O → M → Type 0)
     (closes : M → I → O → M → Type 0) (sends : M → Group → M → Type 0) (remaining : I → Option (List ℕ))
     (contents : O → Option (List ℕ)) (turns connections : ℕ) (store : Bool) where
@@ -44,11 +44,11 @@ module _ {K M I O : Type 0} (leaves : K → Kept Store → Type 0) (is_clean : K
   EndsOnAir e e' k k' m m' l l' said said' status =
       (carousel : Carousel) × (left : ℕ)
       × (((status ≡ 0)
-      × RunsOnAir leaves is_clean saves fails waits closes sends remaining contents turns store
+      × RunsOnAir most room leaves is_clean saves fails waits closes sends remaining contents turns store
       (standing e k l m switched_on connections) (standing e' k' l' m' carousel left) (Ok tt)
       × (said' ≡ said))
       ⊎ ((stop : KeptStop) × (status ≡ 3)
-      × RunsOnAir leaves is_clean saves fails waits closes sends remaining contents turns store
+      × RunsOnAir most room leaves is_clean saves fails waits closes sends remaining contents turns store
       (standing e k l m switched_on connections) (standing e' k' l' m' carousel left) (Err stop)
       × Begins said said' (stop_lines stop)))
 
@@ -71,7 +71,7 @@ module _ {K M I O : Type 0} (leaves : K → Kept Store → Type 0) (is_clean : K
     pub settled : status ≡ 0 → is_clean keeper_after → Settled (leaves keeper_after) after
     pub outlives : is_clean keeper_after → (kept : Kept Store) → leaves keeper_after kept
         → (carousel : Carousel) × (left : ℕ)
-        × OutlivesRun leaves is_clean saves fails waits closes sends remaining contents turns
+        × OutlivesRun most room leaves is_clean saves fails waits closes sends remaining contents turns
         (standing after keeper_after l' m' carousel left) kept
     pub clean : is_clean keeper_after → is_clean keeper
     pub closes_so : ends keeper_after closed
@@ -84,18 +84,19 @@ module _ {M I O : Type 0} (waits : M → Bool → Moment I O → M → Type 0) (
       → (said said' : Option (List ℕ)) → (status : ℕ) → Type 0
   AirsUnkept options turns connections store m m' l l' said said' status =
       (keeper : NotKept) × (keeper' : NotKept) × (after : EncoderState Store)
-      × EndsOnAir (λ k left. Unit {0}) (λ k. ⊥) (λ k left k'. k' ≡ k) (λ k left k'. ⊥) waits closes sends remaining
-      contents turns connections store (encoder_at_first options) after keeper keeper' m m' l l' said said' status
+      × EndsOnAir 1 512 (λ k left. Unit {0}) (λ k. ⊥) (λ k left k'. k' ≡ k) (λ k left k'. ⊥) waits closes sends
+      remaining contents turns connections store (encoder_at_first options) after keeper keeper' m m' l l' said said'
+      status
 
   module _ {K : Type 0} (gives : List ℕ → EncoderState Store → K → Type 0) (refuses : List ℕ → StateFault → Type 0)
-      (ends : K → Result (Unit {0}) StateFault → Type 0) (leaves : K → Kept Store → Type 0) (is_clean : K → Type 0)
-      (saves fails : K → Kept Store → K → Type 0) where
+      (ends : K → Result (Unit {0}) StateFault → Type 0) (most room : ℕ) (leaves : K → Kept Store → Type 0)
+      (is_clean : K → Type 0) (saves fails : K → Kept Store → K → Type 0) where
     -- A device was on the air from the state in the file of this path; or with no state.
     abbrev pub AirsFrom : (state : Option (List ℕ)) → Options → (turns connections : ℕ) → (store : Bool) → (m m' : M)
         → (l l' : Log) → (said said' : Option (List ℕ)) → (status : ℕ) → Type 0
     AirsFrom (Some path) options turns connections store m m' l l' said said' status =
-        AirsIn leaves is_clean saves fails waits closes sends remaining contents turns connections store gives ends path
-        (address_of options.site options.encoder) options.sets options.services m m' l l' said said' status
+        AirsIn most room leaves is_clean saves fails waits closes sends remaining contents turns connections store gives
+        ends path (address_of options.site options.encoder) options.sets options.services m m' l l' said said' status
         ⊎ (HasNoState refuses path said said' status × (m' ≡ m) × (l' ≡ l))
     AirsFrom None options turns connections store m m' l l' said said' status =
         AirsUnkept options turns connections store m m' l l' said said' status

@@ -9,14 +9,14 @@ use air_serving::{Moments, run_on_air};
 use carousel::Carousel;
 use commands::DeviceJob;
 use device_jobs::{Limits, closed_device, limits_of};
-use device_serving::{LogLines, NotKept};
+use device_serving::LogLines;
 use kept_jobs::fail_state;
 use rds_store::RdsStore;
 use state_jobs::{OpenStates, state_text};
 use std::alloc::Global;
 use std::io::Write;
 use std::time::Clock;
-use uecp_encoder::Encoder;
+use uecp_encoder::{Encoder, NotKept};
 use uecp_frame::Address;
 use uecp_jobs::{Setup, fail, new_encoder};
 
@@ -34,9 +34,10 @@ pub fn run_on_air_from<S: OpenStates, W: Write, T: Clock, E: Write, M: Moments>(
     moments: &mut M,
 ) -> u8
     ensures { HasBeenOnAir M.waits M.closes M.sends M.Input.remaining M.Output.contents (S.gives_encoder states.now)
-        (S.refuses_encoder states.now) (S.closes_encoder states.now) S.EncoderKeeper.leaves S.EncoderKeeper.is_clean
-        S.EncoderKeeper.saves S.EncoderKeeper.fails job.now moments.old moments.new log.old log.new
-        (E.contents errors.old) (E.contents errors.new) result }
+        (S.refuses_encoder states.now) (S.closes_encoder states.now) S.EncoderKeeper.TOGETHER_MAX
+        S.EncoderKeeper.READ_MAX S.EncoderKeeper.leaves S.EncoderKeeper.is_clean S.EncoderKeeper.saves
+        S.EncoderKeeper.fails job.now moments.old moments.new log.old log.new (E.contents errors.old) (E.contents
+        errors.new) result }
 {
     let setup = Setup {
         site: job.site,
@@ -70,11 +71,11 @@ fn air_in<S: OpenStates, W: Write, T: Clock, E: Write, M: Moments>(
     moments: &mut M,
 ) -> u8
     requires { IsTrue (is_exact address) }
-    ensures { AirsIn S.EncoderKeeper.leaves S.EncoderKeeper.is_clean S.EncoderKeeper.saves S.EncoderKeeper.fails M.waits
-        M.closes M.sends M.Input.remaining M.Output.contents limits.turns limits.connections limits.store
-        (S.gives_encoder states.now) (S.closes_encoder states.now) path.now address setup.now.sets
-        setup.now.services.now moments.old moments.new log.old log.new (E.contents errors.old) (E.contents errors.new)
-        result
+    ensures { AirsIn S.EncoderKeeper.TOGETHER_MAX S.EncoderKeeper.READ_MAX S.EncoderKeeper.leaves
+        S.EncoderKeeper.is_clean S.EncoderKeeper.saves S.EncoderKeeper.fails M.waits M.closes M.sends M.Input.remaining
+        M.Output.contents limits.turns limits.connections limits.store (S.gives_encoder states.now) (S.closes_encoder
+        states.now) path.now address setup.now.sets setup.now.services.now moments.old moments.new log.old log.new
+        (E.contents errors.old) (E.contents errors.new) result
         ⊎ (HasNoState (S.refuses_encoder states.now) path.now (E.contents errors.old) (E.contents errors.new) result
         × (moments.new ≡ moments.old) × (log.new ≡ log.old)) }
 {

@@ -18,8 +18,8 @@ use Rattle.uecp_link.specs.History.{Act, act_of}
 use Rattle.uecp_link.specs.Law.{World, frame_of, start_from, Fits}
 use Rattle.uecp_link.specs.Kept.{IsReady}
 use Rattle.uecp_link.proofs.Public.{acknowledged_are, quiet_rest}
-use Rattle.kept_serving.specs.Keeping.{Kept}
-use Rattle.kept_serving.specs.Keeping.{kept_of as encoder_kept, going_on as encoder_going_on}
+use Rattle.uecp_encoder.specs.Keeping.{Kept}
+use Rattle.uecp_encoder.specs.Keeping.{kept_of as encoder_kept, going_on as encoder_going_on}
 use Rattle.uecp_net.specs.Keeping.{going_on as server_going_on}
 use Rattle.promises.specs.Station.{Station, DiskEvent, Happens, CutOff, ServerSaves, encoder_file_after}
 use Rattle.promises.specs.Station.{acknowledged_by, world_after, station_after, encoder_crashes, server_crashes}

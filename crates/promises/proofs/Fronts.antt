@@ -9,12 +9,12 @@ use Rattle.uecp_frame.specs.Frame.{spelling}
 use Rattle.uecp_frame.specs.Findings.{Finding, OpenPart, Closed, Doomed, Part, has_frame}
 use Rattle.uecp_frame.specs.Beyond.{found_beyond, open_beyond, unended, BreaksOff}
 use Rattle.uecp_frame.proofs.Public.{in_pieces_lem, new_start_lem, passed_over_lem}
+use Rattle.uecp_encoder.proofs.Public.{unchanged}
 use Rattle.uecp_encoder.specs.Target.{Step}
 use Rattle.uecp_encoder.specs.State.{EncoderState, after_finding, fed}
 use Rattle.uecp_encoder.specs.Answering.{responses, responses_to}
-use Rattle.kept_serving.specs.Serving.{fresh_among}
-use Rattle.kept_serving.specs.Keeping.{Kept, kept_of}
-use Rattle.kept_serving.proofs.Public.{unchanged}
+use Rattle.uecp_encoder.specs.ServingWith.{fresh_among}
+use Rattle.uecp_encoder.specs.Keeping.{Kept, kept_of}
 use Rattle.promises.specs.Station.{saved_for}
 
 -- ---- what begins bytes in which no frame is found

@@ -15,7 +15,7 @@ use Rattle.uecp_encoder.proofs.Public.{in_pieces_of_encoder, fed_none}
 use Rattle.uecp_link.specs.Once.{Event, Submit, FrameComes, ReplyComes, NoiseToEncoder, NoiseToServer, EncoderLost}
 use Rattle.uecp_link.specs.Once.{ServerLost, EncoderRestart, ServerRestart, Take, refusal_of}
 use Rattle.uecp_link.specs.Law.{frame_of}
-use Rattle.kept_serving.specs.Keeping.{kept_of as encoder_kept}
+use Rattle.uecp_encoder.specs.Keeping.{kept_of as encoder_kept}
 use Rattle.promises.specs.Station.{Station, station_after, encoder_took, happens_on_disks}
 use Rattle.promises.specs.Station.{run_on_disks, cut_off}
 use Rattle.promises.specs.CrashLaws.{bytes_to_encoder, stream_of, GoesOnServing, crash_within, crash_after}

@@ -16,8 +16,8 @@ use Rattle.uecp_link.specs.Kept.{IsReady}
 use Rattle.uecp_link.specs.Holds.{LineState, is_acknowledged, Holds}
 use Rattle.uecp_link.specs.Headline.{IsHeadline}
 use Rattle.uecp_link.specs.Using.{all_come, IsDone}
-use Rattle.kept_serving.specs.Keeping.{Kept, Outlives}
-use Rattle.kept_serving.specs.Keeping.{kept_of as encoder_kept}
+use Rattle.uecp_encoder.specs.Keeping.{Kept, Outlives}
+use Rattle.uecp_encoder.specs.Keeping.{kept_of as encoder_kept}
 use Rattle.uecp_net.specs.Sending.{SenderOver, submitted_all}
 use Rattle.uecp_net.specs.declared.saved.keep.Progress.{Progress}
 use Rattle.uecp_net.specs.Keeping.{KeptServer, taking}
@@ -91,7 +91,7 @@ AcknowledgedAfterAnyCrash {V} step taken =
     IsDone (run_on_disks step taken address s
     (map Happens (all_come (missing s.world.once.acknowledged (length s.world.once.sent))))).world
 
--- ---- What `kept_serving` says is a crash here.
+-- ---- What `serve_with` says is a crash here.
 
 -- The bytes that an event brings to the encoder.
 abbrev pub bytes_to_encoder : {V : Type 0} → ℕ → Once V → Event → List ℕ
@@ -127,7 +127,7 @@ crash_after [] n came = Happens EncoderRestart ∷ []
 crash_after (event ∷ events) zero came = crash_within event came ∷ []
 crash_after (event ∷ events) (suc n) came = Happens event ∷ crash_after events n came
 
--- An encoder's file is what is to be kept of it. Whatever `kept_serving` says that a crash may leave while the encoder
+-- An encoder's file is what is to be kept of it. Whatever `serve_with` says that a crash may leave while the encoder
 -- serves a connection over which events bring what comes, is its file after a crash within one of them; and so it is of
 -- a take.
 pub record LeavesACut {V : Type 0} (step : Step V) (taken : Taken V) (address : ℕ) (s : Station V) : Type 0 where

@@ -10,9 +10,9 @@ use Rattle.uecp_link.specs.Server.{ServerState, Held, is_marked, idle_at, submit
 use Rattle.uecp_link.specs.Once.{Event, Submit, FrameComes, ReplyComes, NoiseToEncoder, NoiseToServer}
 use Rattle.uecp_link.specs.Once.{ServerLost, EncoderRestart, ServerRestart, Take, refusal_of, after}
 use Rattle.uecp_link.specs.Law.{World, frame_of, encoder_after, server_after, start_from, Fits}
-use Rattle.kept_serving.specs.Serving.{fresh_among}
-use Rattle.kept_serving.specs.Keeping.{Kept}
-use Rattle.kept_serving.specs.Keeping.{kept_of as encoder_kept, going_on as encoder_going_on}
+use Rattle.uecp_encoder.specs.ServingWith.{fresh_among}
+use Rattle.uecp_encoder.specs.Keeping.{Kept}
+use Rattle.uecp_encoder.specs.Keeping.{kept_of as encoder_kept, going_on as encoder_going_on}
 use Rattle.uecp_net.specs.declared.saved.keep.Progress.{Progress}
 use Rattle.uecp_net.specs.Keeping.{KeptServer, taking}
 use Rattle.uecp_net.specs.Keeping.{kept_of as server_kept, going_on as server_going_on}

@@ -33,7 +33,7 @@ pub fn acknowledged_after_any_crash<T: Target>()
     ensures { AcknowledgedAfterAnyCrash T.step T.taken }
 {}
 
-/// What `kept_serving` says that a crash may leave of an encoder, over a connection on which events bring what comes or
+/// What `serve_with` says that a crash may leave of an encoder, over a connection on which events bring what comes or
 /// of a take, is its file here after a crash within one of these events.
 pub fn what_is_left_is_a_cut<T: Target>()
     ensures { WhatIsLeftIsACut T.step T.taken }

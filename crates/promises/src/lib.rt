@@ -15,7 +15,7 @@
 //!   what the store holds.
 //!
 //! They rest on `uecp_frame`, `uecp_elements`, `rds_store`, `uecp_encoder` and `uecp_link` (the ends and the line),
-//! `uecp_net` and `kept_serving` (what is saved, and when), `line_batches`, `kept_jobs` and `sending` (a run),
+//! `uecp_net` and `uecp_encoder` (what is saved, and when), `line_batches`, `kept_jobs` and `sending` (a run),
 //! `store_phrases` and `uecp_phrases` (what is said of a store), and `carousel` and `rds_groups` (the air).
 #![tactic(auto)]
 

@@ -10,7 +10,7 @@ use Rattle.uecp_frame.specs.Frame.{high_first}
 use Rattle.uecp_encoder.specs.State.{EncoderState}
 use Rattle.uecp_link.specs.Server.{ServerState}
 use Rattle.uecp_link.specs.Resuming.{IsServer}
-use Rattle.kept_serving.specs.Keeping as serving
+use Rattle.uecp_encoder.specs.Keeping as serving
 use Rattle.uecp_net.specs.declared.saved.keep.Progress.{Progress}
 use Rattle.uecp_net.specs.Keeping as sending
 use Rattle.sqlite_image.specs.Kept.{Holds}

@@ -8,7 +8,7 @@ use Rattle.rds_store.specs.Value.{Store}
 use Rattle.rds_store.specs.declared.fault.StoreFault.{StoreFault}
 use Rattle.rds_store.specs.Opening.{fault_of}
 use Rattle.uecp_encoder.specs.State.{EncoderState}
-use Rattle.kept_serving.specs.Keeping.{Kept, kept_of}
+use Rattle.uecp_encoder.specs.Keeping.{Kept, kept_of}
 use Rattle.sqlite_image.specs.Kept.{Holds}
 use Rattle.sqlite_image.specs.Keeper.{Keeper, IsClean, MayLeave, Keeps, HasEnded}
 use Rattle.end_images.specs.Images.{encoder_image, encoder_kind, server_kind}

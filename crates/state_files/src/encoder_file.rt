@@ -3,18 +3,25 @@ ghost use Rattle.std.specs.Prelude.{◌≡◌, ◌⊎◌, Some, Err, OnOk, OnErr
 ghost use Rattle.sqlite.specs.Tree.{Trees};
 ghost use Rattle.sqlite_image.specs.Kept.{Holds};
 ghost use Rattle.sqlite_image.specs.Keeper.{IsClean, MayLeave, Keeps, HasEnded};
-ghost use Rattle.kept_serving.specs.Keeping.{Settled};
+ghost use Rattle.uecp_encoder.specs.Keeping.{Settled};
 ghost use Rattle.end_images.specs.Images.{encoder_image};
 ghost use Rattle.state_files.specs.Encoders.{IsPlaced, LeavesEncoder, SavesEncoder, FailsTo};
 
 use crate::laws::tells_what_is_kept;
 use end_images::put_encoder;
-use kept_serving::{KeepEncoder, SaveFailed};
 use rds_store::RdsStore;
 use sqlite::Alter;
 use sqlite_image::{KeepFault, Kept};
 use std::marker::Model;
-use uecp_encoder::Encoder;
+use uecp_encoder::{Encoder, KeepEncoder, SaveFailed};
+
+/// How many bytes an encoder that is kept in a file reads at most, before it answers them: eight of the longest frames,
+/// as many as a window has.
+pub const READ_MAX: usize = 4192;
+
+/// How many things found are answered together at most, by one save. So many replies are kept and one more, so each of
+/// them is still known where a repeat comes with the last.
+pub const TOGETHER_MAX: usize = 126;
 
 /// Keeps an encoder's state in a file. Clauses see what its `Kept` shows.
 #[derive(Drop)]
@@ -69,6 +76,23 @@ impl<S: Alter> EncoderFile<S> {
 impl<S: Alter> KeepEncoder<RdsStore> for EncoderFile<S> {
     ghost use Rattle.sqlite_image.specs.Keeper.{IsClean};
     ghost use Rattle.state_files.specs.Encoders.{LeavesEncoder, SavesEncoder, FailsTo};
+    ghost use Rattle.std.proofs.Common.{lit≤};
+
+    const READ_MAX: usize = READ_MAX;
+
+    const TOGETHER_MAX: usize = TOGETHER_MAX;
+
+    ghost READ_MAX = { 4192 };
+
+    ghost TOGETHER_MAX = { 126 };
+
+    ghost reads_some = { lit≤ tt };
+
+    ghost reads_few = { lit≤ tt };
+
+    ghost answers_some = { lit≤ tt };
+
+    ghost answers_few = { lit≤ tt };
 
     ghost leaves = { LeavesEncoder S.Store };
 

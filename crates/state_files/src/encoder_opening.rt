@@ -12,7 +12,7 @@ ghost use Rattle.sqlite_image.specs.Kept.{Holds, bytes_of};
 ghost use Rattle.sqlite_image.specs.Keeper.{IsClean, MayLeave, Keeps};
 ghost use Rattle.end_images.specs.Images.{encoder_image};
 ghost use Rattle.end_images.specs.Reading.{IsEncoder};
-ghost use Rattle.kept_serving.specs.Keeping.{Settled};
+ghost use Rattle.uecp_encoder.specs.Keeping.{Settled};
 ghost use Rattle.state_files.specs.Encoders.{LeavesEncoder, IsOther, IsOtherEncoder, IsDescribed};
 ghost use Rattle.state_files.specs.Encoders.{IsUnbegun, IsRefused};
 

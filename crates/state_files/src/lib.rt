@@ -1,7 +1,7 @@
 //! The state of each end of the line in a file: what `uecp encoder --state FILE` and `uecp server --state FILE` keep
 //! (profile). A file keeps one image, and each save puts another in its place.
 //!
-//! - [`EncoderFile`], [`ServerFile`]: keepers, for `kept_serving` and `uecp_net`.
+//! - [`EncoderFile`], [`ServerFile`]: keepers, for `uecp_encoder` and `uecp_net`.
 //! - [`open_encoder`], [`open_server`]: an end that goes on from its file, or a new one in a new file.
 //! - [`read_state`]: what a file has, for looking at it.
 //! - [`StateFault`]: why there is no such end; nothing is overwritten by a refusal.
@@ -16,7 +16,7 @@ mod reading;
 mod server_file;
 mod server_opening;
 
-pub use encoder_file::EncoderFile;
+pub use encoder_file::{EncoderFile, READ_MAX, TOGETHER_MAX};
 pub use encoder_opening::{encoder_over, open_encoder, open_encoder_from};
 pub use fault::StateFault;
 pub use reading::{Found, read_state};

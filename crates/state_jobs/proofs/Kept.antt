@@ -10,8 +10,8 @@ use Rattle.uecp_text.proofs.Public.{appends_nothing, appends_then}
 use Rattle.uecp_jobs.specs.declared.job.Job.{Job}
 use Rattle.uecp_jobs.specs.declared.job.Job.TheVariants.{Answer, AnswerAs, Show, ShowAs, Make, MakeWords}
 use Rattle.uecp_jobs.specs.declared.job.Job.TheVariants.{Line, LineAs, Encoder, Server, Watch}
-use Rattle.kept_serving.specs.Keeping.{Kept}
-use Rattle.kept_serving.specs.Serving.{Ended}
+use Rattle.uecp_encoder.specs.Keeping.{Kept}
+use Rattle.uecp_encoder.specs.ServingWith.{Ended}
 use Rattle.kept_jobs.specs.declared.stop.KeptStop.{KeptStop}
 use Rattle.kept_jobs.specs.declared.stop.KeptStop.TheVariants.{Run}
 use Rattle.kept_jobs.specs.Stops.{Went, TellsKept}
@@ -21,7 +21,7 @@ use Rattle.state_jobs.specs.EncoderJob.{Closed, Serves, ServesJob, Stops, HasSto
 use Rattle.state_jobs.specs.Kept.{ended_lines, SaysWhy, ServedKept, HasServedKept}
 
 module _ {K C I O : Type 0} (gives : (path : List ℕ) → EncoderState Store → K → Type 0)
-    (ends : K → Closed → Type 0) (leaves : K → Kept Store → Type 0) (is_clean : K → Type 0)
+    (ends : K → Closed → Type 0) (most room : ℕ) (leaves : K → Kept Store → Type 0) (is_clean : K → Type 0)
     (saves fails : K → Kept Store → K → Type 0) (opens : C → Option (I × O) → C → Type 0)
     (closes : C → I → O → C → Type 0) (remaining : I → Option (List ℕ))
     (contents : O → Option (List ℕ)) where
@@ -38,15 +38,15 @@ module _ {K C I O : Type 0} (gives : (path : List ℕ) → EncoderState Store �
   ended_told number ended held held' (inr (begun, inr is)) = cc
 
   next_told : (turns number : ℕ) (x x' : Standing Store K C)
-      → ServesNext step leaves is_clean saves fails opens closes remaining contents turns number x x' (Ok tt)
+      → ServesNext most room step leaves is_clean saves fails opens closes remaining contents turns number x x' (Ok tt)
       → (ended : Ended) × Appends x.held x'.held (ended_line number ended)
   next_told turns number x x' (inl (none, same, is)) = cc
   next_told turns number x x' (inr (ended, serves, keeps, tells)) =
       (ended, ended_told number ended x.held x'.held tells)
 
   told_from : (turns number connections : ℕ) (x x' : Standing Store K C)
-      → ServesFrom step leaves is_clean saves fails opens closes remaining contents turns number connections x x'
-      (Ok tt)
+      → ServesFrom most room step leaves is_clean saves fails opens closes remaining contents turns number connections x
+      x' (Ok tt)
       → Lines number connections x.held x'.held
   told_from turns number zero x x' (same, is) =
       ([], refl, subst (λ (y : Standing Store K C). Appends x.held y.held []) (sym same) (appends_nothing x.held))
@@ -61,8 +61,8 @@ module _ {K C I O : Type 0} (gives : (path : List ℕ) → EncoderState Store �
 
   served : (path : List ℕ) (address sets : ℕ) (services : List ℕ) (connections turns : ℕ) (c c' : C)
       (held held' : Option (List ℕ))
-      → Serves gives ends leaves is_clean saves fails opens closes remaining contents path address sets services
-      connections turns c c' held held' (Ok tt) (Ok tt)
+      → Serves gives ends most room leaves is_clean saves fails opens closes remaining contents path address sets
+      services connections turns c c' held held' (Ok tt) (Ok tt)
       → ServedKept gives leaves is_clean path address sets services connections held held'
   served path address sets services connections turns c c' held held' s =
       let lines = told_from turns 1 connections _ _ s.serves in
@@ -80,8 +80,8 @@ module _ {K C I O : Type 0} (gives : (path : List ℕ) → EncoderState Store �
       }
 
   pub has_served : (path : List ℕ) (job : Job) (c c' : C) (held held' : Option (List ℕ))
-      → ServesJob gives ends leaves is_clean saves fails opens closes remaining contents path job c c' held held'
-      (Ok tt)
+      → ServesJob gives ends most room leaves is_clean saves fails opens closes remaining contents path job c c' held
+      held' (Ok tt)
       (Ok tt)
       → HasServedKept gives leaves is_clean path job held held'
   has_served path (Encoder site encoder sets services port connections turns) c c' held held' s =
@@ -102,16 +102,16 @@ module _ {K C I O : Type 0} (gives : (path : List ℕ) → EncoderState Store �
   stops_why : (refuses : StateFault → Type 0) (path : List ℕ) (job : Job) (c c' : C)
       (held held' told told' : Option (List ℕ))
       → Stops refuses
-      (ServesJob gives ends leaves is_clean saves fails opens closes remaining contents path job c c' held held') c c'
-      held held' told told' → SaysWhy told told'
+      (ServesJob gives ends most room leaves is_clean saves fails opens closes remaining contents path job c c' held
+      held') c c' held held' told told' → SaysWhy told told'
   stops_why refuses path job c c' held held' told told' (inl opened) = inl (opened.0, opened.4)
   stops_why refuses path job c c' held held' told told' (inr (inl stopped)) = inr (stopped.0, stopped.3)
   stops_why refuses path job c c' held held' told told' (inr (inr unclosed)) = inl (unclosed.0, unclosed.2)
 
   pub says_why : (refuses : List ℕ → StateFault → Type 0) (path : List ℕ) (job : Job) (c c' : C)
       (held held' told told' : Option (List ℕ))
-      → HasStopped gives ends leaves is_clean saves fails opens closes remaining contents refuses path job c c' held
-      held' told told' → SaysWhy told told'
+      → HasStopped gives ends most room leaves is_clean saves fails opens closes remaining contents refuses path job c
+      c' held held' told told' → SaysWhy told told'
   says_why refuses path job c c' held held' told told' (inl wanting) = inr (Run run.OutOfMemory, wanting.2)
   says_why refuses path job c c' held held' told told' (inr stops) =
       stops_why (refuses path) path job c c' held held' told told' stops

@@ -10,7 +10,7 @@ use Rattle.uecp_jobs.specs.declared.job.Job.{Job}
 use Rattle.uecp_jobs.specs.declared.job.Job.TheVariants.{Encoder}
 use Rattle.uecp_jobs.specs.Setups.{IsSetup, address_of}
 use Rattle.uecp_jobs.specs.Jobs.{options}
-use Rattle.kept_serving.specs.Keeping.{Kept, Settled}
+use Rattle.uecp_encoder.specs.Keeping.{Kept, Settled}
 use Rattle.kept_jobs.specs.declared.stop.KeptStop.{KeptStop}
 use Rattle.kept_jobs.specs.Stops.{Went, stop_lines, state_line}
 use Rattle.kept_jobs.specs.EncoderRun.{ServesFrom, OutlivesRun}
@@ -42,7 +42,7 @@ Stops refuses serves c c' held held' told told' =
     ⊎ ((fault : StateFault) × serves (Ok tt) (Err fault) × Begins told told' (state_line (state_text fault))))
 
 module _ {K C I O : Type 0} (gives : (path : List ℕ) → EncoderState Store → K → Type 0)
-    (ends : K → Closed → Type 0) (leaves : K → Kept Store → Type 0) (is_clean : K → Type 0)
+    (ends : K → Closed → Type 0) (most room : ℕ) (leaves : K → Kept Store → Type 0) (is_clean : K → Type 0)
     (saves fails : K → Kept Store → K → Type 0) (opens : C → Option (I × O) → C → Type 0)
     (closes : C → I → O → C → Type 0) (remaining : I → Option (List ℕ))
     (contents : O → Option (List ℕ)) where
@@ -57,8 +57,8 @@ module _ {K C I O : Type 0} (gives : (path : List ℕ) → EncoderState Store �
     pub after : EncoderState Store
     pub keeper_after : K
     pub is_opened : IsOpened (gives path) leaves is_clean address sets services encoder keeper
-    pub serves : ServesFrom step leaves is_clean saves fails opens closes remaining contents turns 1 connections
-        (record {
+    pub serves : ServesFrom most room step leaves is_clean saves fails opens closes remaining contents turns 1
+        connections (record {
           encoder = encoder;
           keeper = keeper;
           connect = c;
@@ -66,7 +66,7 @@ module _ {K C I O : Type 0} (gives : (path : List ℕ) → EncoderState Store �
         }) (record { encoder = after; keeper = keeper_after; connect = c'; held = held' }) went
     pub settled : went ≡ Ok tt → is_clean keeper_after → Settled (leaves keeper_after) after
     pub outlives : is_clean keeper_after → (left : Kept Store) → leaves keeper_after left
-        → OutlivesRun step leaves is_clean saves fails opens closes remaining contents turns
+        → OutlivesRun most room step leaves is_clean saves fails opens closes remaining contents turns
         (record { encoder = after; keeper = keeper_after; connect = c'; held = held' }) left
     pub clean : is_clean keeper_after → is_clean keeper
     pub is_closed : ends keeper_after closed

@@ -8,8 +8,8 @@ use Rattle.uecp_text.specs.Written.{Begins}
 use Rattle.uecp_jobs.specs.declared.job.Job.{Job}
 use Rattle.uecp_jobs.specs.declared.job.Job.TheVariants.{Encoder, Server}
 use Rattle.uecp_jobs.specs.Setups.{address_of}
-use Rattle.kept_serving.specs.Serving.{Ended}
-use Rattle.kept_serving.specs.Keeping as serving
+use Rattle.uecp_encoder.specs.ServingWith.{Ended}
+use Rattle.uecp_encoder.specs.Keeping as serving
 use Rattle.uecp_net.specs.declared.saved.keep.Progress.{Progress}
 use Rattle.uecp_net.specs.Keeping as sending
 use Rattle.kept_jobs.specs.declared.stop.KeptStop.{KeptStop}

@@ -35,7 +35,7 @@ pub fn run_encoder_in<S: OpenStates, W: Write, E: Write, C: Connections>(
     // 0: all connections were served, with the encoder kept, each has its line, and the state was closed. Nothing was
     // said on `errors`.
     ensures done { result ≡ 0 → ServesJob (S.gives_encoder states.now) (S.closes_encoder states.now)
-        S.EncoderKeeper.leaves S.EncoderKeeper.is_clean
+        S.EncoderKeeper.TOGETHER_MAX S.EncoderKeeper.READ_MAX S.EncoderKeeper.leaves S.EncoderKeeper.is_clean
         S.EncoderKeeper.saves
         S.EncoderKeeper.fails C.opens C.closes C.Input.remaining C.Output.contents
         path.now job.now connect.old connect.new (W.contents writer.old) (W.contents writer.new) (Ok tt) (Ok tt)
@@ -49,7 +49,7 @@ pub fn run_encoder_in<S: OpenStates, W: Write, E: Write, C: Connections>(
     // 3: the state could not be opened, saved or closed, there was no connection to be had, or memory or writing
     // failed. A state that was opened was closed.
     ensures failed { result ≡ 3 → HasStopped (S.gives_encoder states.now) (S.closes_encoder states.now)
-        S.EncoderKeeper.leaves
+        S.EncoderKeeper.TOGETHER_MAX S.EncoderKeeper.READ_MAX S.EncoderKeeper.leaves
         S.EncoderKeeper.is_clean S.EncoderKeeper.saves
         S.EncoderKeeper.fails C.opens C.closes C.Input.remaining C.Output.contents
         (S.refuses_encoder states.now) path.now job.now connect.old connect.new (W.contents writer.old)
@@ -125,13 +125,13 @@ fn serve_in<S: OpenStates, W: Write, E: Write, C: Connections>(
     requires { IsTrue (is_exact address) }
     ensures status { (result ≡ 0) ⊎ (result ≡ 3) }
     ensures done { result ≡ 0 → Serves (S.gives_encoder states.now) (S.closes_encoder states.now)
-        S.EncoderKeeper.leaves S.EncoderKeeper.is_clean S.EncoderKeeper.saves
-        S.EncoderKeeper.fails C.opens C.closes C.Input.remaining C.Output.contents
+        S.EncoderKeeper.TOGETHER_MAX S.EncoderKeeper.READ_MAX S.EncoderKeeper.leaves S.EncoderKeeper.is_clean
+        S.EncoderKeeper.saves S.EncoderKeeper.fails C.opens C.closes C.Input.remaining C.Output.contents
         path.now address setup.now.sets setup.now.services.now bounds.connections bounds.turns connect.old connect.new
         (W.contents writer.old) (W.contents writer.new) (Ok tt) (Ok tt) × (errors.new ≡ errors.old) }
     ensures failed { result ≡ 3 → Stops (S.refuses_encoder states.now path.now)
-        (Serves (S.gives_encoder states.now) (S.closes_encoder states.now) S.EncoderKeeper.leaves
-        S.EncoderKeeper.is_clean
+        (Serves (S.gives_encoder states.now) (S.closes_encoder states.now) S.EncoderKeeper.TOGETHER_MAX
+        S.EncoderKeeper.READ_MAX S.EncoderKeeper.leaves S.EncoderKeeper.is_clean
         S.EncoderKeeper.saves S.EncoderKeeper.fails C.opens C.closes C.Input.remaining C.Output.contents path.now
         address
         setup.now.sets setup.now.services.now bounds.connections bounds.turns connect.old connect.new

@@ -1,15 +1,15 @@
 //! States in the files of the machine. The concrete store is named here alone. Source: profile.
 
 use crate::open_states::OpenStates;
-use kept_serving::KeepEncoder;
 use rds_store::RdsStore;
 use sqlite_image::StateFile;
 use state_files::{
-    EncoderFile, Found, ServerFile, StateFault, open_encoder, open_server, read_state,
+    EncoderFile, Found, READ_MAX, ServerFile, StateFault, TOGETHER_MAX, open_encoder, open_server,
+    read_state,
 };
 use std::fs::File;
 use std::rt::HostRuntime;
-use uecp_encoder::Encoder;
+use uecp_encoder::{Encoder, KeepEncoder};
 use uecp_frame::Address;
 use uecp_link::Server;
 use uecp_net::{KeepServer, Progress};
@@ -21,6 +21,22 @@ pub struct MachineEncoder {
 }
 
 impl KeepEncoder<RdsStore> for MachineEncoder {
+    const READ_MAX: usize = READ_MAX;
+
+    const TOGETHER_MAX: usize = TOGETHER_MAX;
+
+    ghost READ_MAX = { ⟦<EncoderFile<StateFile> as KeepEncoder<RdsStore>>⟧.READ_MAX };
+
+    ghost TOGETHER_MAX = { ⟦<EncoderFile<StateFile> as KeepEncoder<RdsStore>>⟧.TOGETHER_MAX };
+
+    ghost reads_some = { ⟦<EncoderFile<StateFile> as KeepEncoder<RdsStore>>⟧.reads_some };
+
+    ghost reads_few = { ⟦<EncoderFile<StateFile> as KeepEncoder<RdsStore>>⟧.reads_few };
+
+    ghost answers_some = { ⟦<EncoderFile<StateFile> as KeepEncoder<RdsStore>>⟧.answers_some };
+
+    ghost answers_few = { ⟦<EncoderFile<StateFile> as KeepEncoder<RdsStore>>⟧.answers_few };
+
     ghost leaves = { λ m. ⟦<EncoderFile<StateFile> as KeepEncoder<RdsStore>>⟧.leaves m.file };
 
     ghost is_clean = { λ m. ⟦<EncoderFile<StateFile> as KeepEncoder<RdsStore>>⟧.is_clean m.file };
@@ -29,7 +45,7 @@ impl KeepEncoder<RdsStore> for MachineEncoder {
 
     ghost fails = { λ m left n. ⟦<EncoderFile<StateFile> as KeepEncoder<RdsStore>>⟧.fails m.file left n.file };
 
-    fn save(&mut self, encoder: &Encoder<RdsStore>) -> Result<(), kept_serving::SaveFailed> {
+    fn save(&mut self, encoder: &Encoder<RdsStore>) -> Result<(), uecp_encoder::SaveFailed> {
         self.file.save(encoder)
     }
 }

@@ -3,7 +3,7 @@ use Rattle.std.proofs.Common.{ℕ, List}
 use Rattle.std.specs.Prelude.{Option}
 use Rattle.rds_store.specs.Value.{Store}
 use Rattle.uecp_encoder.specs.State.{EncoderState}
-use Rattle.kept_serving.specs.Keeping.{Kept}
+use Rattle.uecp_encoder.specs.Keeping.{Kept}
 use Rattle.uecp_jobs.specs.declared.job.Job.{Job}
 use Rattle.uecp_jobs.specs.declared.job.Job.TheVariants.{Answer, AnswerAs, Show, ShowAs, Make, MakeWords}
 use Rattle.uecp_jobs.specs.declared.job.Job.TheVariants.{Line, LineAs, Encoder, Server, Watch}

@@ -7,7 +7,7 @@ use Rattle.uecp_link.specs.Server.{ServerState}
 use Rattle.uecp_text.specs.declared.run_fault.RunFault.{RunFault}
 use Rattle.uecp_text.specs.Faults.{Fails, error_lines}
 use Rattle.uecp_text.specs.Written.{Begins}
-use Rattle.kept_serving.specs.Keeping as serving
+use Rattle.uecp_encoder.specs.Keeping as serving
 use Rattle.uecp_net.specs.declared.saved.keep.Progress.{Progress}
 use Rattle.uecp_net.specs.Keeping as sending
 use Rattle.kept_jobs.specs.Stops.{state_line}
@@ -17,7 +17,7 @@ use Rattle.state_files.specs.declared.reading.Found.{Found}
 use Rattle.state_jobs.specs.Texts.{state_text}
 use Rattle.state_jobs.specs.StateLines.{found_lines}
 use Rattle.state_jobs.specs.Kept.{HasServedKept, HasSentKept, SaysWhy, ended_lines}
-use Rattle.kept_serving.specs.Serving.{Ended}
+use Rattle.uecp_encoder.specs.ServingWith.{Ended}
 use Rattle.uecp_jobs.specs.ServerRun.{IsServer}
 use Rattle.uecp_jobs.specs.declared.job.Job.TheVariants.{Encoder}
 use Rattle.uecp_jobs.specs.declared.job.Job.{Job}

@@ -14,7 +14,7 @@ use Rattle.uecp_jobs.specs.declared.job.Job.TheVariants.{Encoder, Server, Watch}
 use Rattle.rds_store.specs.Value.{Store}
 use Rattle.uecp_encoder.specs.State.{EncoderState}
 use Rattle.uecp_link.specs.Server.{ServerState}
-use Rattle.kept_serving.specs.Keeping as serving
+use Rattle.uecp_encoder.specs.Keeping as serving
 use Rattle.uecp_net.specs.declared.saved.keep.Progress.{Progress}
 use Rattle.uecp_net.specs.Keeping as sending
 use Rattle.state_files.specs.declared.reading.Found.{Found}

@@ -13,7 +13,7 @@ use Rattle.uecp_encoder.specs.Answering.{AnswersPiece}
 use Rattle.uecp_encoder.specs.Serving.{replies_among, AnswersAll, Sends, StopsWriting}
 use Rattle.uecp_encoder.proofs.InPieces.{in_pieces_of_encoder}
 
-replies_among-append : (xs ys : List Response) → replies_among (xs ++ ys) ≡ replies_among xs + replies_among ys
+pub replies_among-append : (xs ys : List Response) → replies_among (xs ++ ys) ≡ replies_among xs + replies_among ys
 replies_among-append [] ys = omega arith
 replies_among-append (x ∷ xs) ys = let later = replies_among-append xs ys in omega (arith, later)
 
@@ -90,63 +90,4 @@ sends_on step e e1 e2 s sent more now r b r' b' first second =
       bytes_are = omega (arith, length-append sent now, first.bytes_are, second.bytes_are);
       few_replies = omega (arith, long, first.few_replies, second.few_replies);
       few_bytes = omega (arith, long, first.few_bytes, second.few_bytes);
-    }
-
--- ---- a write that fails
-
--- what a longer part adds to the answers
-answers_on : {V : Type 0} (step : Step V) (e e1 : EncoderState V) (s sent more : List ℕ) → AnswersAll step e e1 s sent →
-    answers step e (s ++ more) ≡ sent ++ answers step e1 more
-answers_on step e e1 s sent more first =
-    (in_pieces_of_encoder step e s more).answers ∙ ap (λ x. x ++ answers step (fed step e s) more) (sym first.written)
-    ∙ ap (λ d. sent ++ answers step d more) (sym first.state)
-
-pub stops_on : {V : Type 0} (step : Step V) (e e1 e2 : EncoderState V) (s sent more now : List ℕ) (w place : ℕ) →
-    AnswersAll step e e1 s sent → StopsWriting step e1 e2 more now w place
-    → StopsWriting step e e2 (s ++ more) (sent ++ now) (length sent + w) (length s + place)
-stops_on step e e1 e2 s sent more now w place first second =
-    let up_to : take (length s + place) (s ++ more) ≡ s ++ take place more = take-append-add s more place in
-    let with_it : take (length s + place + 1) (s ++ more) ≡ s ++ take (place + 1) more =
-    ap (λ n. take n (s ++ more)) (let q : length s + place + 1 ≡ length s + (place + 1) = omega arith in q)
-    ∙ take-append-add s more (place + 1) in
-    let before : length (answers step e (take (length s + place) (s ++ more))) ≡ length sent
-    + length (answers step e1 (take place more)) =
-    ap (λ x. length (answers step e x)) up_to ∙ ap length (answers_on step e e1 s sent (take place more) first)
-    ∙ length-append sent (answers step e1 (take place more)) in
-    let due : length (answers step e (take (length s + place + 1) (s ++ more))) ≡ length sent
-    + length (answers step e1 (take (place + 1) more)) =
-    ap (λ x. length (answers step e x)) with_it ∙ ap length (answers_on step e e1 s sent (take (place + 1) more) first)
-    ∙ length-append sent (answers step e1 (take (place + 1) more)) in
-    record {
-      within = omega (arith, second.within, length-append s more);
-      state = second.state ∙ ap (λ d. fed step d (take (place + 1) more)) first.state
-          ∙ sym (in_pieces_of_encoder step e s (take (place + 1) more)).state ∙ ap (fed step e) (sym with_it);
-      written = ap (λ x. sent ++ x) second.written ∙ sym (take-append-add sent (answers step e1 more) w)
-          ∙ ap (take (length sent + w)) (sym (answers_on step e e1 s sent more first));
-      before = omega (arith, before, second.before);
-      due = omega (arith, due, second.due);
-    }
-
-pub stops_first : {V : Type 0} (step : Step V) (e e1 : EncoderState V) (piece : List ℕ) (a : Answer) (w : ℕ)
-    → AnswersPiece step e piece a →
-    0 < a.used → a.used ≤ length piece → e1 ≡ fed step e (take a.used piece)
-    → w < length (flat_map bytes_sent (responses_of a.what)) →
-    StopsWriting step e e1 piece (take w (flat_map bytes_sent (responses_of a.what))) w (a.used - 1)
-stops_first step e e1 piece a w answered some fits state part =
-    let place_is : a.used - 1 + 1 ≡ a.used = omega (arith, some) in
-    let reply : List ℕ = flat_map bytes_sent (responses_of a.what) in
-    let reply_is : answers step e (take a.used piece) ≡ reply = ap (flat_map bytes_sent) answered.said in
-    let nothing : length (answers step e (take (a.used - 1) piece)) ≡ 0 =
-    ap length (no_answers step e (take (a.used - 1) piece) (answered.first (a.used - 1) (omega (arith, some)))) in
-    let later : List ℕ = answers step (fed step e (take a.used piece)) (drop a.used piece) in
-    let whole : answers step e piece ≡ reply ++ later =
-    ap (answers step e) (sym (take-append-drop a.used piece))
-    ∙ (in_pieces_of_encoder step e (take a.used piece) (drop a.used piece)).answers
-    ∙ ap (λ x. x ++ later) reply_is in
-    record {
-      within = omega (arith, some, fits);
-      state = state ∙ ap (λ n. fed step e (take n piece)) (sym place_is);
-      written = sym (ap (take w) whole ∙ take-append-le w reply later (omega (arith, part)));
-      before = omega (arith, nothing);
-      due = omega (arith, part, ap (λ n. length (answers step e (take n piece))) place_is, ap length reply_is);
     }

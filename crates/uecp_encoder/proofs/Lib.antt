@@ -6,4 +6,13 @@ pub mod Joining
 pub mod InPieces
 pub mod Damage
 pub mod InParts
+pub mod Unchanged
+pub mod Beginnings
+pub mod Saving
+pub mod Together
+pub mod Hearing
+pub mod Adding
+pub mod Batching
+pub mod Ending
+pub mod Surviving
 pub mod Public

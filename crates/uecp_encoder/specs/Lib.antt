@@ -9,6 +9,11 @@ pub mod Laws
 pub mod Joining
 pub mod Metered
 pub mod Serving
+pub mod Keeping
+pub mod ServingWith
+pub mod Telling
+pub mod Batches
+pub mod Surviving
 pub use Rattle.uecp_frame.specs.Address
 pub use Rattle.uecp_frame.specs.Frame
 pub use Rattle.uecp_frame.specs.Findings

@@ -1,6 +1,5 @@
 //! What an encoder answers to a piece of the stream. Source: profile.
 use arrayvec::ArrayVec;
-use uecp_elements::Code;
 use uecp_frame::FrameFault;
 
 /// A reply as it is sent: a frame of 9 plain bytes, which takes 11 to 16.
@@ -32,13 +31,4 @@ pub struct Answer<'a> {
     pub used: usize,
     /// What the last used byte brought.
     pub what: What<'a>,
-}
-
-/// How far a piece was used, and the code of the reply that was due for it.
-#[derive(Clone, Copy, Debug)]
-pub struct Coded {
-    /// Bytes used, counted from the start of the piece. Feed the rest next.
-    pub used: usize,
-    /// Whether the reply is fresh, and its code; None where none was due.
-    pub reply: Option<(bool, Code)>,
 }

@@ -1,21 +1,23 @@
 //! The encoder's end of the line. Source: RDS Forum SPB 490, two-way mode; profile for the kept replies.
-ghost use Rattle.std.specs.Prelude.{◌≡◌, ◌<◌, ◌≤◌, ℕ, IsTrue, IfOk, IfErr, IfSome, length, take, option_to_list, []};
-ghost use Rattle.std.specs.Prelude.{◌∷◌};
+ghost use Rattle.std.specs.Prelude.{◌≡◌, ◌<◌, ◌≤◌, ℕ, [], IsTrue, IfOk, IfErr, length, take, option_to_list};
 ghost use Rattle.std.specs.Borrow.{sem};
 ghost use Rattle.std.specs.Io.BufRead.{Rests};
 ghost use Rattle.uecp_frame.specs.Address.{is_exact};
 ghost use Rattle.uecp_frame.specs.Findings.{Closed};
-ghost use Rattle.uecp_frame.specs.Frame.{spelling};
+ghost use Rattle.uecp_frame.specs.Beyond.{found_beyond};
 ghost use Rattle.uecp_encoder.specs.State.{opening, restarted, fed};
-ghost use Rattle.uecp_encoder.specs.Answering.{AnswersPiece, Replied, reply_of, responses_to};
+ghost use Rattle.uecp_encoder.specs.Answering.{AnswersPiece, responses_to};
 ghost use Rattle.uecp_encoder.specs.ReplyCodes.{replies};
-ghost use Rattle.uecp_encoder.specs.Outcomes.{said_of};
+ghost use Rattle.uecp_encoder.specs.declared.outcome.Outcome.TheVariants.{Nothing};
+ghost use Rattle.uecp_encoder.specs.Outcomes.{said_of, coded_of};
+ghost use Rattle.uecp_encoder.specs.Batches.{TellsOf};
 ghost use Rattle.uecp_encoder.specs.contracts.encoder.Encoder.{the_row};
 
-use crate::answer::{Answer, Coded, ReplyBytes, What};
+use crate::answer::{Answer, ReplyBytes, What};
+use crate::batch::{HeardEvent, event_of};
 use crate::counts::Counts;
 use crate::holdings::Holdings;
-use crate::outcome::{FedOutcome, Outcome};
+use crate::outcome::{Heard, Outcome};
 use crate::reply_frame::spell_reply;
 use crate::target::Target;
 use rds_store::Group;
@@ -114,9 +116,9 @@ impl<T: Target> Encoder<T> {
         ensures* after { sem 𝓛 (Rests (the_row T.row T.Target) self.entry
             (λ v. v ≡ fed T.step self.old (take result.used piece.now))) }
     {
-        let fed = self.deframer.feed_ref(piece);
-        let used = fed.used;
-        let what = match self.holdings.take(&fed.found) {
+        let heard = self.hear(piece);
+        let used = heard.used;
+        let what = match heard.outcome {
             Outcome::Nothing => What::Nothing,
             Outcome::Dropped(fault) => What::Dropped(fault),
             Outcome::NotForMe => What::NotForMe,
@@ -134,60 +136,46 @@ impl<T: Target> Encoder<T> {
         Answer { used, what }
     }
 
-    /// As `feed`, for a caller that sends no reply: of a reply it tells whether it is fresh, and its code, and spells
-    /// none.
+    /// As `feed`, for a caller that spells replies itself, or sends none: tells what the used bytes came to.
     ///
     /// ```
-    /// let coded = encoder.feed_coded(&[0xfe, 0xff, 0x00]); // used 2, no reply
-    /// ```
-    pub fn feed_coded(&mut self, piece: &[u8]) -> Coded
-        ensures fits { result.used ≤ length piece.now }
-        ensures moves { 0 < length piece.now → 0 < result.used }
-        ensures state { self.new ≡ fed T.step self.old (take result.used piece.now) }
-        ensures reply { replies T.step self.old (take result.used piece.now) ≡ option_to_list result.reply }
-        // It is the reply that `feed` would lend.
-        ensures spelled { IfSome result.reply (λ reply. (counter : ℕ)
-            × (responses_to T.step self.old (take result.used piece.now)
-            ≡ Replied (spelling (reply_of self.old.address counter reply.1)) reply.0 ∷ [])) }
-    {
-        let brought = self.deframer.feed_ref(piece);
-        Coded {
-            used: brought.used,
-            reply: match self.holdings.take(&brought.found) {
-                Outcome::Reply {
-                    code,
-                    counter: _,
-                    fresh,
-                } => Some((fresh, code)),
-                Outcome::Nothing
-                | Outcome::Dropped(_)
-                | Outcome::NotForMe
-                | Outcome::Unnumbered
-                | Outcome::NotNext => None,
-            },
-        }
-    }
-
-    /// As `feed`, for a caller that spells replies itself, or has them spelled already: of a reply it tells the code,
-    /// the counter and whether it is fresh.
-    ///
-    /// ```
-    /// let fed = encoder.feed_outcome(&[0xfe, 0xff, 0x00]); // used 2, Outcome::Dropped(FrameFault::TooShort)
+    /// let heard = encoder.hear(&[0xfe, 0xff, 0x00]); // used 2, Outcome::Dropped(FrameFault::TooShort)
     /// ```
     #[inline(always)]
-    pub fn feed_outcome(&mut self, piece: &[u8]) -> FedOutcome
+    pub fn hear(&mut self, piece: &[u8]) -> Heard
         ensures fits { result.used ≤ length piece.now }
         ensures moves { 0 < length piece.now → 0 < result.used }
         ensures state { self.new ≡ fed T.step self.old (take result.used piece.now) }
         ensures says { responses_to T.step self.old (take result.used piece.now)
             ≡ said_of self.old.address result.outcome }
+        ensures codes { replies T.step self.old (take result.used piece.now)
+            ≡ option_to_list (coded_of result.outcome) }
+        // It is the first thing that the piece brings; where it brings nothing the whole piece was used.
+        ensures first { (k : ℕ) → k < result.used → found_beyond self.old.part (take k piece.now) ≡ [] }
+        ensures all { result.outcome ≡ Nothing → result.used ≡ length piece.now }
         // A reply goes out from the address that the encoder still has.
         ensures address { self.new.address ≡ self.old.address }
     {
-        let brought = self.deframer.feed_ref(piece);
-        FedOutcome {
-            used: brought.used,
-            outcome: self.holdings.take(&brought.found),
+        let fed = self.deframer.feed_ref(piece);
+        Heard {
+            used: fed.used,
+            outcome: self.holdings.take(&fed.found),
+        }
+    }
+
+    /// As `hear`, for a caller that tells of it: what was found, in hands of its own, with what is answered.
+    pub(crate) fn hear_event(&mut self, piece: &[u8]) -> HeardEvent
+        ensures fits { result.used ≤ length piece.now }
+        ensures moves { 0 < length piece.now → 0 < result.used }
+        ensures state { self.new ≡ fed T.step self.old (take result.used piece.now) }
+        ensures first { (k : ℕ) → k < result.used → found_beyond self.old.part (take k piece.now) ≡ [] }
+        ensures tells { TellsOf T.step self.old (found_beyond self.old.part (take result.used piece.now)) result.event }
+    {
+        let fed = self.deframer.feed_ref(piece);
+        let outcome = self.holdings.take(&fed.found);
+        HeardEvent {
+            used: fed.used,
+            event: event_of(self.holdings.address, &fed.found, outcome),
         }
     }
 

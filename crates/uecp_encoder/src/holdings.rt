@@ -1,6 +1,7 @@
 //! What an encoder holds apart from the open part of the line, and what a finding does to it. Source: profile.
 ghost use Rattle.std.specs.Prelude.{◌≡◌, Ok, [], ◌∷◌, option_to_list};
 ghost use Rattle.reply_ring.specs.Ring.{newest};
+ghost use Rattle.uecp_frame.specs.declared.fed.Found.TheVariants.{Frame};
 ghost use Rattle.uecp_frame.specs.Findings.{OpenPart};
 ghost use Rattle.uecp_frame.specs.Feeding.{findings_of};
 ghost use Rattle.uecp_frame.specs.Lent.{found_lent, frame_lent};
@@ -8,7 +9,7 @@ ghost use Rattle.uecp_encoder.specs.State.{next_after, after_finding, after_find
 ghost use Rattle.uecp_encoder.specs.Answering.{response_to, responses};
 ghost use Rattle.uecp_encoder.specs.ReplyCodes.{replies_to};
 ghost use Rattle.uecp_encoder.specs.Holdings.{with_part};
-ghost use Rattle.uecp_encoder.specs.Outcomes.{said_of, coded_of};
+ghost use Rattle.uecp_encoder.specs.Outcomes.{said_of, coded_of, ComesTo};
 
 use crate::counts::Counts;
 use crate::outcome::Outcome;
@@ -42,6 +43,7 @@ impl<T: Target> Holdings<T> {
             ≡ responses T.step (with_part self.old part) (findings_of (found_lent found.now)) }
         ensures codes { (part : OpenPart) → option_to_list (coded_of result)
             ≡ replies_to T.step (with_part self.old part) (findings_of (found_lent found.now)) }
+        ensures comes { ComesTo (found_lent found.now) result }
         ensures address { self.new.address ≡ self.old.address }
     {
         match found {
@@ -64,6 +66,7 @@ impl<T: Target> Holdings<T> {
             ≡ response_to T.step (with_part self.old part) (Ok (frame_lent frame.now)) ∷ [] }
         ensures codes { (part : OpenPart) → option_to_list (coded_of result)
             ≡ replies_to T.step (with_part self.old part) (Ok (frame_lent frame.now) ∷ []) }
+        ensures comes { ComesTo (Frame (frame_lent frame.now)) result }
         ensures address { self.new.address ≡ self.old.address }
     {
         if !frame.address.reaches(self.address) {

@@ -30,7 +30,7 @@ pub enum Outcome {
 
 /// How far a piece was used, and what that came to.
 #[derive(Clone, Copy, Debug)]
-pub struct FedOutcome {
+pub struct Heard {
     /// Bytes used, counted from the start of the piece. Feed the rest next.
     pub used: usize,
     /// What the last used byte came to.

@@ -1,20 +1,26 @@
 //! The encoder over a reader and a writer. Source: profile.
-ghost use Rattle.std.specs.Prelude.{◌≡◌, ◌<◌, ◌≤◌, ◌+◌, ◌*◌, ◌^◌, ℕ, List, length, take, flat_map, OnOk, IfOk, IfErr};
-ghost use Rattle.std.specs.Io.KnownBytes.{Appends, Consumes};
-ghost use Rattle.uecp_encoder.specs.Answering.{bytes_sent, responses_of};
-ghost use Rattle.uecp_encoder.specs.Metered.{failures_after};
-ghost use Rattle.uecp_encoder.specs.Serving.{replies_among, Sends, StopsWriting, Serves, ReadsMade, read_failures};
-ghost use Rattle.uecp_encoder.specs.Serving.{empty_reads, write_failures};
+ghost use Rattle.std.specs.Prelude.{◌≡◌, ◌<◌, ◌≤◌, ◌+◌, ◌*◌, ◌^◌, ℕ, List, length, IfOk};
+ghost use Rattle.std.specs.Io.KnownBytes.{Appends, Consumes, ReadConsumes};
+ghost use Rattle.uecp_encoder.specs.Metered.{counted, failures_after, empty_after};
+ghost use Rattle.uecp_encoder.specs.Serving.{Serves, ReadsMade, read_failures, empty_reads, write_failures};
+ghost use Rattle.uecp_encoder.specs.Keeping.{Settled};
+ghost use Rattle.uecp_encoder.specs.ServingWith.{ServesKept, KeptReadsMade, kept_read_failures, kept_empty_reads};
+ghost use Rattle.uecp_encoder.specs.ServingWith.{kept_write_failures, StaysSettled, IsSaveFailed};
+ghost use Rattle.uecp_encoder.specs.Telling.{HasHeard};
+ghost use Rattle.uecp_encoder.specs.Batches.{written_at, fault_after};
 
-use crate::answer::What;
+use crate::answering::{Sent, Stop, both, take_piece};
+use crate::batch::Batch;
 use crate::encoder::Encoder;
+use crate::keep::{KeepEncoder, NotKept};
+use crate::listener::{Listener, Unheard};
 use crate::meter::{Failed, Meter};
 use crate::target::Target;
 use std::io::{Read, Write};
 use thiserror::Error;
 
-/// How many bytes one read takes at most.
-const READ_MAX: usize = 512;
+/// Room for what one read takes.
+const ROOM: usize = 4192;
 
 /// What a call did by the end of its input.
 #[derive(Clone, Copy, Debug, PartialEq, Eq)]
@@ -42,18 +48,14 @@ pub enum ServeFault {
     TurnsSpent,
 }
 
-/// What was written: how many replies, and how many bytes they are.
-#[derive(Clone, Copy, Debug)]
-struct Sent {
-    replies: u64,
-    bytes: u64,
-}
-
-/// What the first segment of a piece took, and what was written for it.
-#[derive(Clone, Copy, Debug)]
-struct First {
-    used: usize,
-    sent: Sent,
+/// Why a call ended before its input did.
+#[derive(Clone, Copy, Debug, PartialEq, Eq)]
+pub enum KeptFault {
+    /// As [`serve`] says. What is kept is what the encoder is.
+    Serve(ServeFault),
+    /// The encoder could not be saved. It has applied messages that may not be kept, and has not answered them: save it
+    /// before it serves again, or let it go and go on from what is kept.
+    StateFailed,
 }
 
 /// Makes at most `turns` reads of at most 512 bytes, and writes each reply before the next byte is fed.
@@ -78,135 +80,112 @@ pub fn serve<T: Target, R: Read, W: Write>(
     ensures empty_reads { reader.new.empty ≡ empty_reads result reader.old.empty }
     ensures write_failures { writer.new.failures ≡ write_failures result writer.old.failures }
 {
-    let mut buffer = [0u8; READ_MAX];
+    match serve_with(encoder, &mut NotKept, reader, writer, &mut Unheard, turns) {
+        Ok(served) => Ok(served),
+        Err(KeptFault::Serve(fault)) => Err(fault),
+        Err(KeptFault::StateFailed) => unreachable!(),
+    }
+}
+
+/// Makes at most `turns` reads, of at most as many bytes as the keeper says, and takes the bytes of each in batches, of
+/// as many things found at most as the keeper says. What a batch found is applied; then the encoder is saved, where one
+/// of the replies is fresh; then the replies are written; and then the listener is told what was found and what was
+/// answered. A batch with no fresh reply saves nothing.
+///
+/// Where the save fails none of the batch is replied to or told. Where a write fails the listener is told which replies
+/// were written whole, and which were not.
+///
+/// What is kept at the start is to be this encoder: a new one is saved first.
+///
+/// ```
+/// let served = serve_with(
+///     &mut encoder, &mut keeper, &mut Meter::new(input), &mut Meter::new(output), &mut listener, 16,
+/// )?;
+/// ```
+pub fn serve_with<T: Target, K: KeepEncoder<T>, R: Read, W: Write, L: Listener>(
+    encoder: &mut Encoder<T>,
+    keeper: &mut K,
+    reader: &mut Meter<R>,
+    writer: &mut Meter<W>,
+    listener: &mut L,
+    turns: u32,
+) -> Result<Served, KeptFault>
+    // What was read, by how many reads, what was written, what a crash may leave, and what the listener heard.
+    ensures bytes { (s : List ℕ) × (written : List ℕ) × (n : ℕ)
+        × Consumes (R.remaining reader.old.device) (R.remaining reader.new.device) s
+        × Appends (W.contents writer.old.device) (W.contents writer.new.device) written
+        × ServesKept K.TOGETHER_MAX K.READ_MAX T.step K.leaves K.is_clean K.saves K.fails encoder.old encoder.new
+        keeper.old keeper.new s written (R.remaining reader.new.device) turns n result
+        × HasHeard K.TOGETHER_MAX L.hears T.step encoder.old encoder.new listener.old listener.new s written result
+        × KeptReadsMade result turns n
+        × (reader.old.calls + n < 2 ^ 128 → reader.new.calls ≡ reader.old.calls + n)
+        × (length s ≤ K.READ_MAX * turns) }
+    // From here the next call goes on.
+    ensures settled { Settled (K.leaves keeper.old) encoder.old → K.is_clean keeper.new
+        → StaysSettled (K.leaves keeper.new) encoder.new result }
+    ensures clean { K.is_clean keeper.new → K.is_clean keeper.old }
+    ensures save_failed { IsSaveFailed K.fails encoder.new keeper.new result }
+    ensures read_failures { reader.new.failures ≡ kept_read_failures result reader.old.failures }
+    ensures empty_reads { reader.new.empty ≡ kept_empty_reads result reader.old.empty }
+    ensures write_failures { writer.new.failures ≡ kept_write_failures result writer.old.failures }
+{
+    let mut buffer = [0u8; ROOM];
+    let mut batch = Batch::new();
     let mut read = 0u64;
     let mut sent = Sent {
         replies: 0,
         bytes: 0,
     };
     for _turn in 0..turns {
-        match reader.read(&mut buffer) {
-            Err(Failed) => return Err(ServeFault::ReadFailed),
+        match read_front(reader, K::READ_MAX, &mut buffer) {
+            Err(Failed) => return Err(KeptFault::Serve(ServeFault::ReadFailed)),
             Ok(0) => {
                 return Ok(Served {
                     read,
                     replies: sent.replies,
                 });
             }
-            Ok(count) => match answer_piece(encoder, writer, &buffer[..count]) {
-                Err(written) => {
-                    return Err(ServeFault::WriteFailed {
-                        written: sent.bytes + written,
-                    });
+            Ok(count) => {
+                let piece = &buffer[..count];
+                match take_piece(encoder, keeper, writer, listener, &mut batch, piece) {
+                    Err(stop) => return Err(fault(sent.bytes, stop)),
+                    Ok(more) => {
+                        read += count as u64;
+                        sent = both(sent, more);
+                    }
                 }
-                Ok(more) => {
-                    read += count as u64;
-                    sent = both(sent, more);
-                }
-            },
-        }
-    }
-    Err(ServeFault::TurnsSpent)
-}
-
-/// Feeds one piece to its end, and writes each reply when it is due. A failure says how many bytes were written.
-fn answer_piece<T: Target, W: Write>(
-    encoder: &mut Encoder<T>,
-    writer: &mut Meter<W>,
-    piece: &[u8],
-) -> Result<Sent, u64>
-    requires { length piece.now ≤ 512 }
-    ensures ok { IfOk result (λ sent. (written : List ℕ)
-        × Appends (W.contents writer.old.device) (W.contents writer.new.device) written
-        × Sends T.step encoder.old encoder.new piece.now written sent.replies sent.bytes) }
-    ensures err { IfErr result (λ w. (written : List ℕ) × (place : ℕ)
-        × Appends (W.contents writer.old.device) (W.contents writer.new.device) written
-        × StopsWriting T.step encoder.old encoder.new piece.now written w place) }
-    ensures few_written { IfErr result (λ w. w ≤ 16 * length piece.now) }
-    ensures failures { writer.new.failures ≡ failures_after result writer.old.failures }
-{
-    let mut at = 0;
-    let mut sent = Sent {
-        replies: 0,
-        bytes: 0,
-    };
-    while at < piece.len() {
-        match answer_first(encoder, writer, &piece[at..]) {
-            Err(written) => return Err(sent.bytes + written),
-            Ok(first) => {
-                sent = both(sent, first.sent);
-                at += first.used;
             }
         }
     }
-    Ok(sent)
+    Err(KeptFault::Serve(ServeFault::TurnsSpent))
 }
 
-/// Both together.
-fn both(a: Sent, b: Sent) -> Sent
-    requires replies { a.replies + b.replies < 2 ^ 64 }
-    requires bytes { a.bytes + b.bytes < 2 ^ 64 }
-    ensures replies { result.replies ≡ a.replies + b.replies }
-    ensures bytes { result.bytes ≡ a.bytes + b.bytes }
+/// Makes one read, of at most so many bytes, into the front of the buffer.
+fn read_front<R: Read>(
+    reader: &mut Meter<R>,
+    most: usize,
+    buffer: &mut [u8; ROOM],
+) -> Result<usize, Failed>
+    requires some { 0 < most }
+    requires room { most ≤ 4192 }
+    ensures within { IfOk result (λ n. n ≤ most) }
+    ensures bytes { ReadConsumes (R.remaining reader.old.device) (R.remaining reader.new.device) result buffer.new }
+    ensures calls { reader.new.calls ≡ counted reader.old.calls }
+    ensures failures { reader.new.failures ≡ failures_after result reader.old.failures }
+    ensures empty { reader.new.empty ≡ empty_after result reader.old.empty }
 {
-    Sent {
-        replies: a.replies + b.replies,
-        bytes: a.bytes + b.bytes,
-    }
+    reader.read(&mut buffer[..most])
 }
 
-/// Feeds a piece up to the end of its first segment, and writes the reply if there is one.
-fn answer_first<T: Target, W: Write>(
-    encoder: &mut Encoder<T>,
-    writer: &mut Meter<W>,
-    piece: &[u8],
-) -> Result<First, u64>
-    requires { 0 < length piece.now }
-    ensures used { IfOk result (λ first. (0 < first.used) × (first.used ≤ length piece.now)) }
-    ensures ok { IfOk result (λ first. (written : List ℕ)
-        × Appends (W.contents writer.old.device) (W.contents writer.new.device) written
-        × Sends T.step encoder.old encoder.new (take first.used piece.now) written first.sent.replies
-        first.sent.bytes) }
-    ensures err { IfErr result (λ w. (written : List ℕ) × (place : ℕ)
-        × Appends (W.contents writer.old.device) (W.contents writer.new.device) written
-        × StopsWriting T.step encoder.old encoder.new piece.now written w place) }
-    ensures few_written { IfErr result (λ w. w ≤ 16) }
-    ensures failures { writer.new.failures ≡ failures_after result writer.old.failures }
+/// The fault of a call that wrote so many bytes before it stopped.
+fn fault(bytes: u64, stop: Stop) -> KeptFault
+    requires { bytes + written_at stop < 2 ^ 64 }
+    ensures { result ≡ fault_after bytes stop }
 {
-    let answer = encoder.feed(piece);
-    let used = answer.used;
-    match write_answer(writer, answer.what) {
-        Ok(sent) => Ok(First { used, sent }),
-        Err(written) => Err(written),
-    }
-}
-
-/// Writes the reply of an answer, if it has one. A failure says how many bytes were written.
-fn write_answer<W: Write>(writer: &mut Meter<W>, what: What<'_>) -> Result<Sent, u64>
-    ensures ok { OnOk result (Appends (W.contents writer.old.device) (W.contents writer.new.device)
-        (flat_map bytes_sent (responses_of what.entry))) }
-    ensures replies { IfOk result (λ sent. sent.replies ≡ replies_among (responses_of what.entry)) }
-    ensures bytes { IfOk result (λ sent. sent.bytes ≡ length (flat_map bytes_sent (responses_of what.entry))) }
-    ensures few { IfOk result (λ sent. (sent.replies ≤ 1) × (sent.bytes ≤ 16)) }
-    ensures err { IfErr result (λ w. (w < length (flat_map bytes_sent (responses_of what.entry)))
-        × Appends (W.contents writer.old.device) (W.contents writer.new.device)
-        (take w (flat_map bytes_sent (responses_of what.entry)))) }
-    ensures few_written { IfErr result (λ w. w ≤ 16) }
-    ensures failures { writer.new.failures ≡ failures_after result writer.old.failures }
-{
-    match what {
-        What::Reply(reply, _) => match writer.write_whole(reply.as_slice()) {
-            Ok(()) => Ok(Sent {
-                replies: 1,
-                bytes: reply.len() as u64,
-            }),
-            Err(written) => Err(written as u64),
-        },
-        What::Nothing | What::NotForMe | What::Unnumbered | What::NotNext | What::Dropped(_) => {
-            Ok(Sent {
-                replies: 0,
-                bytes: 0,
-            })
-        }
+    match stop {
+        Stop::Write(written) => KeptFault::Serve(ServeFault::WriteFailed {
+            written: bytes + written,
+        }),
+        Stop::State => KeptFault::StateFailed,
     }
 }

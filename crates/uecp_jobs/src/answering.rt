@@ -141,7 +141,7 @@ fn answer_in_lines(
         (responses_to step encoder.old (take result piece.now))) }
     ensures left { encoder.new ≡ fed step encoder.old (take result piece.now) }
 {
-    let fed = encoder.feed_outcome(piece);
-    replies.put(encoder.address(), fed.outcome, output);
-    fed.used
+    let heard = encoder.hear(piece);
+    replies.put(encoder.address(), heard.outcome, output);
+    heard.used
 }

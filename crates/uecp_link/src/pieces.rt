@@ -12,7 +12,7 @@ ghost use Rattle.uecp_link.specs.Replying.{acknowledgements, IsInPieces};
 use crate::heard::HeardWhat;
 use crate::server::Server;
 use uecp_elements::Code;
-use uecp_encoder::{Encoder, Target};
+use uecp_encoder::{Encoder, Outcome, Target};
 use uecp_frame::{Deframer, Found};
 
 /// What is left of a piece once this many bytes of it were used.
@@ -57,8 +57,19 @@ impl<T: Target> End for Encoder<T> {
     ghost says = { replies T.step };
 
     fn give_first(&mut self, piece: &[u8]) -> (usize, Option<(bool, Code)>) {
-        let coded = self.feed_coded(piece);
-        (coded.used, coded.reply)
+        let heard = self.hear(piece);
+        match heard.outcome {
+            Outcome::Reply {
+                code,
+                counter: _,
+                fresh,
+            } => (heard.used, Some((fresh, code))),
+            Outcome::Nothing
+            | Outcome::Dropped(_)
+            | Outcome::NotForMe
+            | Outcome::Unnumbered
+            | Outcome::NotNext => (heard.used, None),
+        }
     }
 
     fn in_pieces() {}

@@ -6,7 +6,8 @@
 //!   are TCP; [`DialFault`] is why there was none to be had.
 //! - [`Connect`]: what only opens connections, and [`Opening`], which makes [`Connections`] of it; it is [`Lent`] that,
 //!   under a [`Loan`].
-//! - [`serve_connection`]: an encoder over the next connection.
+//! - [`serve_connection`]: an encoder over the next connection; [`serve_connection_with`] with its state kept and what
+//!   it finds told.
 //! - [`Sender`]: a server with the connection that it has, which sends its messages in batches, within its [`Limits`];
 //!   [`Settled`] is how a batch went, and [`Outstanding`] why its messages are not acknowledged.
 //! - [`KeepServer`]: saves the state of a server and its [`Progress`]; [`SaveFailed`] says that it could not. A crash
@@ -35,5 +36,5 @@ pub use saved::{
     KeepServer, KeptOutstanding, Progress, SaveFailed, join_kept, send_kept, settle_kept,
 };
 pub use sender::{Limits, Outstanding, Sender, Settled};
-pub use sessions::serve_connection;
+pub use sessions::{serve_connection, serve_connection_with};
 pub use tcp::{DialFault, Dialing, Listening, Local};

@@ -2,14 +2,13 @@
 
 use crate::tests::asserting::{holds, same};
 use faulty_io::{FaultyReader, FaultyWriter, comes_to, new_store_encoder};
-use kept_serving::{
-    KeepEncoder, KeptFault, SaveFailed, serve_connection_kept, serve_kept, take_kept,
-};
 use rds_store::RdsStore;
 use std::process::Abort;
 use std::test::Fail;
-use uecp_encoder::{Encoder, Meter, Served, Target};
-use uecp_net::Connections;
+use uecp_encoder::{
+    Encoder, KeepEncoder, KeptFault, Meter, SaveFailed, Served, Unheard, serve_with, take_kept,
+};
+use uecp_net::{Connections, serve_connection_with};
 
 /// No element, counter 01, twice, and then counter 02.
 const TWICE_AND_NEXT: [u8; 24] =
@@ -25,17 +24,17 @@ const ALL: Served = Served {
 
 /// Keeps nothing, and fails where it is told to. It says of no crash what one leaves.
 #[derive(Drop)]
-struct FaultyKeeper<'a> {
+struct FaultyKeeper {
     /// How many saves were made.
     saves: u32,
     /// How many messages the encoder had applied when it was saved last.
     applied: u64,
-    /// The saves that fail, counted from 1.
-    failing: &'a [u32],
+    /// The save that fails, counted from 1; 0 for none.
+    failing: u32,
 }
 
-impl<'a> FaultyKeeper<'a> {
-    fn new(failing: &'a [u32]) -> FaultyKeeper<'a> {
+impl FaultyKeeper {
+    fn new(failing: u32) -> FaultyKeeper {
         FaultyKeeper {
             saves: 0,
             applied: 0,
@@ -44,7 +43,25 @@ impl<'a> FaultyKeeper<'a> {
     }
 }
 
-impl<T: Target> KeepEncoder<T> for FaultyKeeper<'_> {
+impl KeepEncoder<RdsStore> for FaultyKeeper {
+    ghost use Rattle.std.proofs.Common.{lit≤};
+
+    const READ_MAX: usize = 512;
+
+    const TOGETHER_MAX: usize = 1;
+
+    ghost READ_MAX = { 512 };
+
+    ghost TOGETHER_MAX = { 1 };
+
+    ghost reads_some = { lit≤ tt };
+
+    ghost reads_few = { lit≤ tt };
+
+    ghost answers_some = { lit≤ tt };
+
+    ghost answers_few = { lit≤ tt };
+
     ghost leaves = { λ _ _. Unit {0} };
 
     ghost is_clean = { λ _. ⊥ };
@@ -53,13 +70,51 @@ impl<T: Target> KeepEncoder<T> for FaultyKeeper<'_> {
 
     ghost fails = { λ _ _ _. Unit {0} };
 
-    fn save(&mut self, encoder: &Encoder<T>) -> Result<(), SaveFailed> {
+    fn save(&mut self, encoder: &Encoder<RdsStore>) -> Result<(), SaveFailed> {
         self.saves = self.saves.saturating_add(1);
         self.applied = encoder.counts().fresh;
-        if self.failing.contains(&self.saves) {
+        if self.failing == self.saves {
             return Err(SaveFailed);
         }
         Ok(())
+    }
+}
+
+/// The same, for which what one read brings is answered together.
+#[derive(Drop)]
+struct BatchKeeper {
+    keeper: FaultyKeeper,
+}
+
+impl KeepEncoder<RdsStore> for BatchKeeper {
+    ghost use Rattle.std.proofs.Common.{lit≤};
+
+    const READ_MAX: usize = 4192;
+
+    const TOGETHER_MAX: usize = 126;
+
+    ghost READ_MAX = { 4192 };
+
+    ghost TOGETHER_MAX = { 126 };
+
+    ghost reads_some = { lit≤ tt };
+
+    ghost reads_few = { lit≤ tt };
+
+    ghost answers_some = { lit≤ tt };
+
+    ghost answers_few = { lit≤ tt };
+
+    ghost leaves = { λ _ _. Unit {0} };
+
+    ghost is_clean = { λ _. ⊥ };
+
+    ghost saves = { λ _ _ _. Unit {0} };
+
+    ghost fails = { λ _ _ _. Unit {0} };
+
+    fn save(&mut self, encoder: &Encoder<RdsStore>) -> Result<(), SaveFailed> {
+        self.keeper.save(encoder)
     }
 }
 
@@ -90,10 +145,17 @@ impl<'a> Connections for OneConnection<'a> {
 
 /// A message, the same again, and the next: two saves and three replies.
 fn saves_what_is_fresh(rt: &impl Abort, encoder: &mut Encoder<RdsStore>) {
-    let mut keeper = FaultyKeeper::new(&[]);
+    let mut keeper = FaultyKeeper::new(0);
     let mut input = Meter::new(FaultyReader::new(&TWICE_AND_NEXT));
     let mut output = Meter::new(FaultyWriter::new());
-    let served = serve_kept(encoder, &mut keeper, &mut input, &mut output, 64);
+    let served = serve_with(
+        encoder,
+        &mut keeper,
+        &mut input,
+        &mut output,
+        &mut Unheard,
+        64,
+    );
     same!(*rt; served, Ok(ALL));
     same!(*rt; (keeper.saves, keeper.applied), (2, 2));
     same!(*rt; output.into_inner().taken(), ALL_APPLIED.as_slice());
@@ -106,18 +168,71 @@ fn a_repeat_saves_nothing(rt: HostRuntime) -> Result<(), Fail> {
     Ok(())
 }
 
-/// The second save fails: of its reply nothing is written. Then it is saved, and the message comes again.
-fn is_saved_before_it_goes_on(rt: &impl Abort, encoder: &mut Encoder<RdsStore>) {
-    let mut keeper = FaultyKeeper::new(&[2]);
+/// Two messages, of which one comes twice, in one read: one save, and three replies; or where that save fails, none.
+fn saves_once(rt: &impl Abort, encoder: &mut Encoder<RdsStore>, failing: u32) {
+    let mut keeper = BatchKeeper {
+        keeper: FaultyKeeper::new(failing),
+    };
     let mut input = Meter::new(FaultyReader::new(&TWICE_AND_NEXT));
     let mut output = Meter::new(FaultyWriter::new());
-    let served = serve_kept(encoder, &mut keeper, &mut input, &mut output, 64);
+    let served = serve_with(
+        encoder,
+        &mut keeper,
+        &mut input,
+        &mut output,
+        &mut Unheard,
+        64,
+    );
+    same!(*rt; (keeper.keeper.saves, keeper.keeper.applied), (1, 2));
+    if failing == 0 {
+        same!(*rt; served, Ok(ALL));
+        same!(*rt; output.into_inner().taken(), ALL_APPLIED.as_slice());
+    } else {
+        same!(*rt; served, Err(KeptFault::StateFailed));
+        same!(*rt; output.into_inner().taken(), &ALL_APPLIED[..0]);
+    }
+}
+
+#[test]
+fn what_one_read_brought_is_saved_once(rt: HostRuntime) -> Result<(), Fail> {
+    let mut encoder = new_store_encoder(rt.alloc(), 1)?;
+    saves_once(&rt, &mut encoder, 0);
+    Ok(())
+}
+
+#[test]
+fn a_failed_save_answers_none_of_its_batch(rt: HostRuntime) -> Result<(), Fail> {
+    let mut encoder = new_store_encoder(rt.alloc(), 1)?;
+    saves_once(&rt, &mut encoder, 1);
+    Ok(())
+}
+
+/// The second save fails: of its reply nothing is written. Then it is saved, and the message comes again.
+fn is_saved_before_it_goes_on(rt: &impl Abort, encoder: &mut Encoder<RdsStore>) {
+    let mut keeper = FaultyKeeper::new(2);
+    let mut input = Meter::new(FaultyReader::new(&TWICE_AND_NEXT));
+    let mut output = Meter::new(FaultyWriter::new());
+    let served = serve_with(
+        encoder,
+        &mut keeper,
+        &mut input,
+        &mut output,
+        &mut Unheard,
+        64,
+    );
     same!(*rt; served, Err(KeptFault::StateFailed));
     same!(*rt; output.into_inner().taken(), &ALL_APPLIED[..22]);
     same!(*rt; keeper.save(encoder), Ok(()));
     let mut input = Meter::new(FaultyReader::new(&TWICE_AND_NEXT[16..]));
     let mut output = Meter::new(FaultyWriter::new());
-    let served = serve_kept(encoder, &mut keeper, &mut input, &mut output, 64);
+    let served = serve_with(
+        encoder,
+        &mut keeper,
+        &mut input,
+        &mut output,
+        &mut Unheard,
+        64,
+    );
     same!(*rt;
         served,
         Ok(Served {
@@ -141,7 +256,7 @@ fn hands_out_what_is_saved(rt: &impl Abort, encoder: &mut Encoder<RdsStore>) {
     let group = [0x24, 0x00, 0x43, 0x12, 0x34, 0x56, 0x78];
     holds!(*rt; comes_to(encoder, 0x01, &group, 0x00));
     holds!(*rt; comes_to(encoder, 0x02, &group, 0x00));
-    let mut keeper = FaultyKeeper::new(&[2]);
+    let mut keeper = FaultyKeeper::new(2);
     let taken = take_kept(encoder, &mut keeper);
     same!(*rt;
         taken.map(|group| group.map(|group| group.block4)),
@@ -160,14 +275,14 @@ fn a_group_is_handed_out_once_it_is_saved(rt: HostRuntime) -> Result<(), Fail> {
 
 /// One connection is served, and there is no other.
 fn serves_one(rt: &impl Abort, encoder: &mut Encoder<RdsStore>) {
-    let mut keeper = FaultyKeeper::new(&[]);
+    let mut keeper = FaultyKeeper::new(0);
     let mut connect = OneConnection {
         input: Some(FaultyReader::new(&TWICE_AND_NEXT)),
         output: None,
     };
-    let ended = serve_connection_kept(encoder, &mut keeper, 64, &mut connect);
+    let ended = serve_connection_with(encoder, &mut keeper, &mut Unheard, 64, &mut connect);
     same!(*rt; ended, Some(Ok(ALL)));
-    let ended = serve_connection_kept(encoder, &mut keeper, 64, &mut connect);
+    let ended = serve_connection_with(encoder, &mut keeper, &mut Unheard, 64, &mut connect);
     same!(*rt; ended, None);
     same!(*rt; keeper.saves, 2);
     let output = connect.output.expect(rt, "the output");

@@ -7,7 +7,7 @@ use std::alloc::Global;
 use std::process::Abort;
 use std::test::Fail;
 use uecp_elements::Code;
-use uecp_encoder::Encoder;
+use uecp_encoder::{Encoder, Outcome};
 use uecp_frame::Message;
 use uecp_link::Server;
 
@@ -32,8 +32,8 @@ const SERVER: &[u8; 25] = b"\x01\x53\x00\x41\x01\x00\x00\x00\x00\x00\x00\x00\x05
 
 /// The frame with 1C 01 under counter 01 comes, and is applied.
 fn applies_one(rt: &impl Abort, encoder: &mut Encoder<RdsStore>) {
-    let coded = encoder.feed_coded(framed(1, &[0x1C, 0x01]).as_slice());
-    same!(rt; coded.reply, Some((true, Code::Applied)));
+    let heard = encoder.hear(framed(1, &[0x1C, 0x01]).as_slice());
+    holds!(rt; matches!(heard.outcome, Outcome::Reply { code: Code::Applied, counter: 1, fresh: true }));
 }
 
 /// The encoder that was read from its image.

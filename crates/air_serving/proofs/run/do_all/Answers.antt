@@ -8,9 +8,9 @@ loop-moment-preserved g c =
     let k = g.K.KeepEncoder in
     let m = g.M.Moments in
     let some : 0 < c.loop-moment.left = search rules in
-    one_more k.leaves k.is_clean k.saves k.fails m.waits m.closes m.sends g.M.Input.Read.remaining
-    g.M.Output.Write.contents c.args.turns _ c.loop-moment._moment _ c.loop-moment.invariant some _
-    c.in_ok-do_next.ensures.next
+    one_more k.TOGETHER_MAX k.READ_MAX k.leaves k.is_clean k.saves k.fails m.waits m.closes m.sends
+    g.M.Input.Read.remaining g.M.Output.Write.contents c.args.turns _ c.loop-moment._moment _ c.loop-moment.invariant
+    some _ c.in_ok-do_next.ensures.next
 
 pub returns-then-left-eq0 : goal.returns-then-left-eq0
 returns-then-left-eq0 g c =
@@ -18,8 +18,9 @@ returns-then-left-eq0 g c =
     let m = g.M.Moments in
     let none : c.loop-moment.left ≡ 0 = search rules in
     record {
-      all = done k.leaves k.is_clean k.saves k.fails m.waits m.closes m.sends g.M.Input.Read.remaining
-          g.M.Output.Write.contents c.args.turns _ c.loop-moment._moment _ c.loop-moment.invariant none;
+      all = done k.TOGETHER_MAX k.READ_MAX k.leaves k.is_clean k.saves k.fails m.waits m.closes m.sends
+          g.M.Input.Read.remaining g.M.Output.Write.contents c.args.turns _ c.loop-moment._moment _
+          c.loop-moment.invariant none;
     }
 
 pub returns-in_err-do_next : goal.returns-in_err-do_next
@@ -31,7 +32,7 @@ returns-in_err-do_next g c =
     let some : 0 < c.loop-moment.left = search rules in
     let same : c.from_residual.result ≡ Err stop = search rules in
     record {
-      all = subst (λ end. DoesAll k.leaves k.is_clean k.saves k.fails m.waits m.closes m.sends
+      all = subst (λ end. DoesAll k.TOGETHER_MAX k.READ_MAX k.leaves k.is_clean k.saves k.fails m.waits m.closes m.sends
           g.M.Input.Read.remaining g.M.Output.Write.contents c.args.turns (record {
             encoder = c.args.encoder.now;
             keeper = c.args.keeper.now;
@@ -49,9 +50,9 @@ returns-in_err-do_next g c =
             line = now.line;
             left = now.left;
           }) end) (sym same)
-          (stops k.leaves k.is_clean k.saves k.fails m.waits m.closes m.sends g.M.Input.Read.remaining
-          g.M.Output.Write.contents c.args.turns _ c.loop-moment._moment _ c.loop-moment.invariant some _ stop
-          c.in_err-do_next.ensures.next);
+          (stops k.TOGETHER_MAX k.READ_MAX k.leaves k.is_clean k.saves k.fails m.waits m.closes m.sends
+          g.M.Input.Read.remaining g.M.Output.Write.contents c.args.turns _ c.loop-moment._moment _
+          c.loop-moment.invariant some _ stop c.in_err-do_next.ensures.next);
     }
 
 pub returns : goal.returns
@@ -59,7 +60,7 @@ returns g c =
     let k = g.K.KeepEncoder in
     let m = g.M.Moments in
     record {
-      all = gives_up k.leaves k.is_clean k.saves k.fails m.waits m.closes m.sends g.M.Input.Read.remaining
-          g.M.Output.Write.contents c.args.turns _ c.loop-moment._moment _ c.loop-moment.invariant
-          (omega (arith, c.loop-moment-test.false));
+      all = gives_up k.TOGETHER_MAX k.READ_MAX k.leaves k.is_clean k.saves k.fails m.waits m.closes m.sends
+          g.M.Input.Read.remaining g.M.Output.Write.contents c.args.turns _ c.loop-moment._moment _
+          c.loop-moment.invariant (omega (arith, c.loop-moment-test.false));
     }

@@ -6,8 +6,8 @@ abbrev pub invariant-loop-moment : goal.invariant-loop-moment
 invariant-loop-moment g l =
     let k = g.K.KeepEncoder in
     let m = g.M.Moments in
-    GoesOnFor k.leaves k.is_clean k.saves k.fails m.waits m.closes m.sends g.M.Input.Read.remaining
-    g.M.Output.Write.contents l.turns l._moment (record {
+    GoesOnFor k.TOGETHER_MAX k.READ_MAX k.leaves k.is_clean k.saves k.fails m.waits m.closes m.sends
+    g.M.Input.Read.remaining g.M.Output.Write.contents l.turns l._moment (record {
       encoder = l.fn.encoder;
       keeper = l.fn.keeper;
       log = l.fn.log;

@@ -12,8 +12,8 @@ returns-then-is_over g c =
     let ended = t.result.ended in
     let over : is_over line.left ended ≡ true = sym c.is_over.ensures ∙ c.if-is_over.true in
     record {
-      reads = λ carousel. subst (λ l. ReadsOpen k.leaves k.is_clean k.saves k.fails g.M.Moments.closes
-          g.M.Input.Read.remaining g.M.Output.Write.contents l (record {
+      reads = λ carousel. subst (λ l. ReadsOpen k.TOGETHER_MAX k.READ_MAX k.leaves k.is_clean k.saves k.fails
+          g.M.Moments.closes g.M.Input.Read.remaining g.M.Output.Write.contents l (record {
             encoder = c.args.encoder.now;
             keeper = c.args.keeper.now;
             log = c.args.log.now;
@@ -77,8 +77,8 @@ returns-else-is_over g c =
     let ended = t.result.ended in
     let over : is_over line.left ended ≡ false = sym c.is_over.ensures ∙ c.if-is_over.false in
     record {
-      reads = λ carousel. subst (λ l. ReadsOpen k.leaves k.is_clean k.saves k.fails g.M.Moments.closes
-          g.M.Input.Read.remaining g.M.Output.Write.contents l (record {
+      reads = λ carousel. subst (λ l. ReadsOpen k.TOGETHER_MAX k.READ_MAX k.leaves k.is_clean k.saves k.fails
+          g.M.Moments.closes g.M.Input.Read.remaining g.M.Output.Write.contents l (record {
             encoder = c.args.encoder.now;
             keeper = c.args.keeper.now;
             log = c.args.log.now;

@@ -1,23 +1,24 @@
-use Rattle.std.proofs.Common.{rules, ◌≡◌, ◌≤◌, ◌^◌, ◌-◌, length, sym, ap, subst, ◌∙◌}
+use Rattle.std.proofs.Common.{rules, arith, ◌≡◌, ◌≤◌, ◌^◌, ◌-◌, length, sym, ap, subst, ◌∙◌}
 use Rattle.std.specs.Io.KnownBytes.{Appends, Consumes}
 use Rattle.uecp_encoder.specs.Answering.{responses_to}
 use Rattle.uecp_encoder.specs.Serving.{replies_among}
-use Rattle.kept_serving.specs.Serving.{ServesKept}
-use Rattle.told_serving.specs.Telling.{HasHeard}
+use Rattle.uecp_encoder.specs.ServingWith.{ServesKept}
+use Rattle.uecp_encoder.specs.Telling.{HasHeard}
 use Rattle.air_serving.specs.declared.tally.Tally.{Tally}
 use Rattle.air_serving.specs.Lines.{sent_too}
-use Rattle.air_serving.proofs.Tallying.{has_counted, all_written}
+use Rattle.air_serving.proofs.Tallying.{has_counted, all_written, one_read}
 use Rattle.air_serving.proofs.tally.read_once.Goals as goal
 
 pub returns-clause-reads : goal.returns-clause-reads
 returns-clause-reads g c =
     let step = g.T.Target.step in
     let k = g.K.KeepEncoder in
-    let called = c.serve_told-ended in
-    let (s, written, consumed, appended, serves, heard, few) = called.ensures.bytes in
+    let called = c.serve_with-ended in
+    let (s, written, n, consumed, appended, serves, heard, made, calls, few) = called.ensures.bytes in
+    let one : n ≡ 1 = one_read called.result n made in
     let replies : c.args.line.sent.replies ≤ 2 ^ 64 - 1 = search rules in
     let bytes : c.args.line.sent.bytes ≤ 2 ^ 64 - 1 = search rules in
-    let counted = has_counted g.L.Listener.hears (λ (t : Tally g.row.L.Denot). t.listener.now)
+    let counted = has_counted k.TOGETHER_MAX g.L.Listener.hears (λ (t : Tally g.row.L.Denot). t.listener.now)
     (λ (t : Tally g.row.L.Denot). t.sent) (λ (t : Tally g.row.L.Denot). t.listener.ghost_name) step
     c.args.encoder.now called.new.encoder _ called.new.listener s written called.result
     (record { replies = replies; bytes = bytes }) heard in
@@ -35,14 +36,19 @@ returns-clause-reads g c =
           (sym output)
           (subst (λ d. Appends (g.O.Write.contents d) (g.O.Write.contents called.new.writer.device) written)
           c.new-writer.ensures.device appended);
-      serves = subst (λ d. ServesKept step k.leaves k.is_clean k.saves k.fails c.args.encoder.now called.new.encoder
-          c.args.keeper.now called.new.keeper s written (g.I.Read.remaining d) 1 called.result) (sym input) serves;
-      heard = subst (λ l. HasHeard g.L.Listener.hears step c.args.encoder.now called.new.encoder c.args.listener.now l s
-          written called.result) (sym last) counted.heard;
-      few_bytes = few;
+      serves = subst (λ d. ServesKept k.TOGETHER_MAX k.READ_MAX step k.leaves k.is_clean k.saves k.fails
+          c.args.encoder.now called.new.encoder c.args.keeper.now called.new.keeper s written
+          (g.I.Read.remaining d) 1 1 called.result) (sym input)
+          (subst (λ reads. ServesKept k.TOGETHER_MAX k.READ_MAX step k.leaves k.is_clean k.saves k.fails
+          c.args.encoder.now called.new.encoder c.args.keeper.now called.new.keeper s written
+          (g.I.Read.remaining called.new.reader.device) 1 reads called.result) one serves);
+      heard = subst (λ l. HasHeard k.TOGETHER_MAX g.L.Listener.hears step c.args.encoder.now called.new.encoder
+          c.args.listener.now l s written called.result) (sym last) counted.heard;
+      few_bytes = omega (arith, few);
       left = c.saturating_sub.ensures;
       counted = λ is. counted.counted is
           ∙ ap (λ bytes. sent_too c.args.line.sent (replies_among (responses_to step c.args.encoder.now s))
           (length bytes))
-          (sym (all_written step c.args.encoder.now called.new.encoder s written _ 1 called.result is serves.serves));
+          (sym (all_written k.TOGETHER_MAX k.READ_MAX step c.args.encoder.now called.new.encoder s written _ 1
+          called.result is serves.serves));
     }

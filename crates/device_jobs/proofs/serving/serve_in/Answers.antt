@@ -8,8 +8,8 @@ pub returns-in-Ok : goal.returns-in-Ok
 returns-in-Ok g c =
     let run = c.run_device-status in
     let k = g.S.EncoderKeeper.KeepEncoder in
-    let ended = ends (λ (went : Went). RunsDevice k.leaves k.is_clean k.saves k.fails g.C.Connections.opens
-    g.C.Connections.closes g.C.Input.Read.remaining g.C.Output.Write.contents c.args.limits.turns
+    let ended = ends (λ (went : Went). RunsDevice k.TOGETHER_MAX k.READ_MAX k.leaves k.is_clean k.saves k.fails
+    g.C.Connections.opens g.C.Connections.closes g.C.Input.Read.remaining g.C.Output.Write.contents c.args.limits.turns
     c.args.limits.connections c.args.limits.store (record {
       encoder = c.in-Ok.encoder;
       keeper = c.in-Ok.keeper;

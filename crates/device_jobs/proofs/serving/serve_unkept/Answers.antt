@@ -10,9 +10,9 @@ use Rattle.device_jobs.proofs.serving.serve_unkept.Goals as goal
 pub returns : goal.returns
 returns g c =
     let run = c.run_device in
-    let ended = ends (λ (went : Went). RunsDevice (λ k left. Unit {0}) (λ k. ⊥) (λ k left k'. k' ≡ k) (λ k left k'. ⊥)
-    g.C.Connections.opens g.C.Connections.closes g.C.Input.Read.remaining g.C.Output.Write.contents c.args.limits.turns
-    c.args.limits.connections c.args.limits.store (record {
+    let ended = ends (λ (went : Went). RunsDevice 1 512 (λ k left. Unit {0}) (λ k. ⊥) (λ k left k'. k' ≡ k) (λ k left
+    k'. ⊥) g.C.Connections.opens g.C.Connections.closes g.C.Input.Read.remaining g.C.Output.Write.contents
+    c.args.limits.turns c.args.limits.connections c.args.limits.store (record {
       encoder = c.args.encoder.now;
       keeper = _;
       connect = c.args.connect.now;
@@ -27,7 +27,7 @@ returns g c =
       _,
       run.new.keeper,
       run.new.encoder,
-      subst (λ (e : EncoderState Store). EndsDevice (λ k left. Unit {0}) (λ k. ⊥) (λ k left k'. k' ≡ k)
+      subst (λ (e : EncoderState Store). EndsDevice 1 512 (λ k left. Unit {0}) (λ k. ⊥) (λ k left k'. k' ≡ k)
           (λ k left k'. ⊥) g.C.Connections.opens g.C.Connections.closes g.C.Input.Read.remaining
           g.C.Output.Write.contents c.args.limits.turns c.args.limits.connections c.args.limits.store
           (record { encoder = e; keeper = _; connect = c.args.connect.now; log = c.args.log.now })

@@ -3,8 +3,8 @@ use Rattle.serde_json.specs.Data.{string}
 use Rattle.uecp_encoder.specs.declared.serving.ServeFault.TheVariants.{ReadFailed, WriteFailed, TurnsSpent}
 use Rattle.uecp_text.specs.Written.{Adds}
 use Rattle.uecp_text.proofs.Public.{adds_then}
-use Rattle.kept_serving.specs.declared.serving.KeptFault.TheVariants.{Serve, StateFailed}
-use Rattle.kept_serving.specs.Serving.{Ended}
+use Rattle.uecp_encoder.specs.declared.serving.KeptFault.TheVariants.{Serve, StateFailed}
+use Rattle.uecp_encoder.specs.ServingWith.{Ended}
 use Rattle.json_lines.specs.Objects.{in_decimal}
 use Rattle.json_lines.specs.Texts.{field_text, fields_text}
 use Rattle.json_lines.proofs.Public.{adds_field}

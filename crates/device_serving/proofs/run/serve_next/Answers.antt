@@ -13,7 +13,7 @@ returns-in_err-went-in-Some g c =
     record {
       serves = inr (record {
         ended = i.ended;
-        told = c.serve_connection_told.new.listener;
+        told = c.serve_connection_with.new.listener;
         serves = i.ensures.served;
         keeps = record { settled = i.ensures.settled; clean = i.ensures.clean };
         tells = c.tell_ended.ensures;
@@ -29,7 +29,7 @@ returns-in_ok-went-in-Some g c =
     record {
       serves = inr (record {
         ended = i.ended;
-        told = c.serve_connection_told.new.listener;
+        told = c.serve_connection_with.new.listener;
         serves = i.ensures.served;
         keeps = record { settled = i.ensures.settled; clean = i.ensures.clean };
         tells = c.tell_ended.ensures;

@@ -6,15 +6,16 @@ use Rattle.kept_jobs.proofs.encoder_run.serve_connections.Goals as goal
 pub loop-before-init : goal.loop-before-init
 loop-before-init g c =
     let k = g.K.KeepEncoder in
-    begins g.T.Target.step k.leaves k.is_clean k.saves k.fails g.C.Connections.opens g.C.Connections.closes
-    g.C.Input.Read.remaining g.C.Output.Write.contents c.args.turns c.args.connections _
+    begins k.TOGETHER_MAX k.READ_MAX g.T.Target.step k.leaves k.is_clean k.saves k.fails g.C.Connections.opens
+    g.C.Connections.closes g.C.Input.Read.remaining g.C.Output.Write.contents c.args.turns c.args.connections _
 
 pub loop-before-preserved : goal.loop-before-preserved
 loop-before-preserved g c =
     let k = g.K.KeepEncoder in
-    one_more g.T.Target.step k.leaves k.is_clean k.saves k.fails g.C.Connections.opens g.C.Connections.closes
-    g.C.Input.Read.remaining g.C.Output.Write.contents c.args.turns c.args.connections _ c.loop-before.before _
-    (omega (arith, c.loop-before-test.true)) c.loop-before.invariant _ c.in_ok-serve_next.ensures.serves
+    one_more k.TOGETHER_MAX k.READ_MAX g.T.Target.step k.leaves k.is_clean k.saves k.fails g.C.Connections.opens
+    g.C.Connections.closes g.C.Input.Read.remaining g.C.Output.Write.contents c.args.turns c.args.connections _
+    c.loop-before.before _ (omega (arith, c.loop-before-test.true)) c.loop-before.invariant _
+    c.in_ok-serve_next.ensures.serves
 
 pub returns-in_err-serve_next : goal.returns-in_err-serve_next
 returns-in_err-serve_next g c =
@@ -23,8 +24,8 @@ returns-in_err-serve_next g c =
     let now = c.serve_next.new in
     let same : c.from_residual.result ≡ Err stop = search rules in
     record {
-      serves = subst (λ went. ServesFrom g.T.Target.step k.leaves k.is_clean k.saves k.fails g.C.Connections.opens
-          g.C.Connections.closes
+      serves = subst (λ went. ServesFrom k.TOGETHER_MAX k.READ_MAX g.T.Target.step k.leaves k.is_clean k.saves k.fails
+          g.C.Connections.opens g.C.Connections.closes
           g.C.Input.Read.remaining g.C.Output.Write.contents c.args.turns 1 c.args.connections (record {
             encoder = c.args.encoder.now;
             keeper = c.args.keeper.now;
@@ -36,16 +37,17 @@ returns-in_err-serve_next g c =
             connect = now.connect;
             held = g.W.Write.contents now.writer;
           }) went) (sym same)
-          (stops g.T.Target.step k.leaves k.is_clean k.saves k.fails g.C.Connections.opens g.C.Connections.closes
-          g.C.Input.Read.remaining g.C.Output.Write.contents c.args.turns c.args.connections _ c.loop-before.before _
-          (omega (arith, c.loop-before-test.true)) c.loop-before.invariant _ stop c.in_err-serve_next.ensures.serves);
+          (stops k.TOGETHER_MAX k.READ_MAX g.T.Target.step k.leaves k.is_clean k.saves k.fails g.C.Connections.opens
+          g.C.Connections.closes g.C.Input.Read.remaining g.C.Output.Write.contents c.args.turns c.args.connections _
+          c.loop-before.before _ (omega (arith, c.loop-before-test.true)) c.loop-before.invariant _ stop
+          c.in_err-serve_next.ensures.serves);
     }
 
 pub returns : goal.returns
 returns g c =
     let k = g.K.KeepEncoder in
     record {
-      serves = ends g.T.Target.step k.leaves k.is_clean k.saves k.fails g.C.Connections.opens g.C.Connections.closes
-          g.C.Input.Read.remaining g.C.Output.Write.contents c.args.turns c.args.connections _ c.loop-before.before _
-          (omega (arith, c.loop-before-test.false)) c.loop-before.invariant;
+      serves = ends k.TOGETHER_MAX k.READ_MAX g.T.Target.step k.leaves k.is_clean k.saves k.fails g.C.Connections.opens
+          g.C.Connections.closes g.C.Input.Read.remaining g.C.Output.Write.contents c.args.turns c.args.connections _
+          c.loop-before.before _ (omega (arith, c.loop-before-test.false)) c.loop-before.invariant;
     }

@@ -5,8 +5,8 @@ use Rattle.kept_jobs.proofs.encoder_run.serve_connections.Given as goal
 abbrev pub invariant-loop-before : goal.invariant-loop-before
 invariant-loop-before g l =
     let k = g.K.KeepEncoder in
-    GoesOn g.T.Target.step k.leaves k.is_clean k.saves k.fails g.C.Connections.opens g.C.Connections.closes
-    g.C.Input.Read.remaining g.C.Output.Write.contents l.fn.turns l.fn.connections (record {
+    GoesOn k.TOGETHER_MAX k.READ_MAX g.T.Target.step k.leaves k.is_clean k.saves k.fails g.C.Connections.opens
+    g.C.Connections.closes g.C.Input.Read.remaining g.C.Output.Write.contents l.fn.turns l.fn.connections (record {
       encoder = l.fn.encoder;
       keeper = l.fn.keeper;
       connect = l.fn.connect;

@@ -3,8 +3,8 @@ use Rattle.uecp_encoder.specs.declared.serving.ServeFault.TheVariants.{WriteFail
 use Rattle.uecp_text.specs.Digits.{decimal_word}
 use Rattle.uecp_text.specs.Written.{Adds}
 use Rattle.uecp_jobs.proofs.Public.{adds_on}
-use Rattle.kept_serving.specs.declared.serving.KeptFault.TheVariants.{Serve, StateFailed}
-use Rattle.kept_serving.specs.Serving.{Ended}
+use Rattle.uecp_encoder.specs.declared.serving.KeptFault.TheVariants.{Serve, StateFailed}
+use Rattle.uecp_encoder.specs.ServingWith.{Ended}
 use Rattle.kept_jobs.specs.EncoderRun.{ended_words}
 use Rattle.kept_jobs.proofs.telling.put_ended.Goals as goal
 

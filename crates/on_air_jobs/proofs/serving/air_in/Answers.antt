@@ -11,11 +11,11 @@ returns-in-Ok g c =
     let run = c.run_on_air-status in
     let k = g.S.EncoderKeeper.KeepEncoder in
     let m = g.M.Moments in
-    let ended = ends (λ (start : Carousel) (left : ℕ) (went : Went). RunsOnAir k.leaves k.is_clean k.saves k.fails
-    m.waits m.closes m.sends g.M.Input.Read.remaining g.M.Output.Write.contents c.args.limits.turns
-    c.args.limits.store (standing c.in-Ok.encoder c.in-Ok.keeper c.args.log.now c.args.moments.now start
-    c.args.limits.connections) (standing run.new.encoder run.new.keeper run.new.log run.new.moments run.new.carousel
-    left) went) g.E.Write.contents c.args.errors.now run.new.errors run.result c.new-carousel.result
+    let ended = ends (λ (start : Carousel) (left : ℕ) (went : Went). RunsOnAir k.TOGETHER_MAX k.READ_MAX k.leaves
+    k.is_clean k.saves k.fails m.waits m.closes m.sends g.M.Input.Read.remaining g.M.Output.Write.contents
+    c.args.limits.turns c.args.limits.store (standing c.in-Ok.encoder c.in-Ok.keeper c.args.log.now c.args.moments.now
+    start c.args.limits.connections) (standing run.new.encoder run.new.keeper run.new.log run.new.moments
+    run.new.carousel left) went) g.E.Write.contents c.args.errors.now run.new.errors run.result c.new-carousel.result
     c.new-carousel.ensures run.ensures.status run.ensures.done run.ensures.failed in
     inl (record {
       encoder = c.in-Ok.encoder;

@@ -12,7 +12,7 @@ pub returns : goal.returns
 returns g c =
     let run = c.run_on_air in
     let m = g.M.Moments in
-    let ended = ends (λ (start : Carousel) (left : ℕ) (went : Went). RunsOnAir (λ k left. Unit {0}) (λ k. ⊥)
+    let ended = ends (λ (start : Carousel) (left : ℕ) (went : Went). RunsOnAir 1 512 (λ k left. Unit {0}) (λ k. ⊥)
     (λ k left k'. k' ≡ k) (λ k left k'. ⊥) m.waits m.closes m.sends g.M.Input.Read.remaining
     g.M.Output.Write.contents c.args.limits.turns c.args.limits.store (standing c.args.encoder.now _ c.args.log.now
     c.args.moments.now start c.args.limits.connections) (standing run.new.encoder run.new.keeper run.new.log
@@ -21,7 +21,7 @@ returns g c =
       _,
       run.new.keeper,
       run.new.encoder,
-      subst (λ (e : EncoderState Store). EndsOnAir (λ k left. Unit {0}) (λ k. ⊥) (λ k left k'. k' ≡ k)
+      subst (λ (e : EncoderState Store). EndsOnAir 1 512 (λ k left. Unit {0}) (λ k. ⊥) (λ k left k'. k' ≡ k)
           (λ k left k'. ⊥) m.waits m.closes m.sends g.M.Input.Read.remaining g.M.Output.Write.contents
           c.args.limits.turns c.args.limits.connections c.args.limits.store e run.new.encoder _ run.new.keeper
           c.args.moments.now run.new.moments c.args.log.now run.new.log (g.E.Write.contents c.args.errors.now)

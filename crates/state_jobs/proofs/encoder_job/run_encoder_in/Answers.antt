@@ -12,12 +12,12 @@ returns-in-Ok-clause-failed g c = λ is.
     let held' = g.W.Write.contents c.serve_in.new.writer in
     inr (stops_as (g.S.OpenStates.refuses_encoder c.args.states.now c.args.path.now)
     (Serves (g.S.OpenStates.gives_encoder c.args.states.now)
-    (g.S.OpenStates.closes_encoder c.args.states.now) k.leaves k.is_clean k.saves k.fails
+    (g.S.OpenStates.closes_encoder c.args.states.now) k.TOGETHER_MAX k.READ_MAX k.leaves k.is_clean k.saves k.fails
     g.C.Connections.opens g.C.Connections.closes g.C.Input.Read.remaining g.C.Output.Write.contents c.args.path.now
     c.in-Ok.address c.in-Encoder.sets c.as_slice.result.now c.in-Encoder.connections c.in-Encoder.turns
     c.args.connect.now c.serve_in.new.connect held held')
     (ServesJob (g.S.OpenStates.gives_encoder c.args.states.now)
-    (g.S.OpenStates.closes_encoder c.args.states.now) k.leaves k.is_clean k.saves k.fails
+    (g.S.OpenStates.closes_encoder c.args.states.now) k.TOGETHER_MAX k.READ_MAX k.leaves k.is_clean k.saves k.fails
     g.C.Connections.opens g.C.Connections.closes g.C.Input.Read.remaining g.C.Output.Write.contents c.args.path.now
     c.args.job.now c.args.connect.now c.serve_in.new.connect held held') _ _ _ _ _ _
     (λ went closed serves. search rules) (c.serve_in.ensures.failed is))
@@ -27,17 +27,17 @@ returns-in-Ok-clause-kept g c = λ is.
     let k = g.S.EncoderKeeper.KeepEncoder in
     let ran = c.serve_in.ensures.done is in
     has_served (g.S.OpenStates.gives_encoder c.args.states.now)
-    (g.S.OpenStates.closes_encoder c.args.states.now) k.leaves k.is_clean k.saves k.fails g.C.Connections.opens
-    g.C.Connections.closes g.C.Input.Read.remaining g.C.Output.Write.contents c.args.path.now c.args.job.now
-    c.args.connect.now c.serve_in.new.connect (g.W.Write.contents c.args.writer.now)
+    (g.S.OpenStates.closes_encoder c.args.states.now) k.TOGETHER_MAX k.READ_MAX k.leaves k.is_clean k.saves k.fails
+    g.C.Connections.opens g.C.Connections.closes g.C.Input.Read.remaining g.C.Output.Write.contents c.args.path.now
+    c.args.job.now c.args.connect.now c.serve_in.new.connect (g.W.Write.contents c.args.writer.now)
     (g.W.Write.contents c.serve_in.new.writer) (search rules)
 
 pub returns-in-Ok-clause-said : goal.returns-in-Ok-clause-said
 returns-in-Ok-clause-said g c = λ is.
     let k = g.S.EncoderKeeper.KeepEncoder in
     says_why (g.S.OpenStates.gives_encoder c.args.states.now)
-    (g.S.OpenStates.closes_encoder c.args.states.now) k.leaves k.is_clean k.saves k.fails g.C.Connections.opens
-    g.C.Connections.closes g.C.Input.Read.remaining g.C.Output.Write.contents
+    (g.S.OpenStates.closes_encoder c.args.states.now) k.TOGETHER_MAX k.READ_MAX k.leaves k.is_clean k.saves k.fails
+    g.C.Connections.opens g.C.Connections.closes g.C.Input.Read.remaining g.C.Output.Write.contents
     (g.S.OpenStates.refuses_encoder c.args.states.now) c.args.path.now c.args.job.now
     c.args.connect.now c.serve_in.new.connect (g.W.Write.contents c.args.writer.now)
     (g.W.Write.contents c.serve_in.new.writer) (g.E.Write.contents c.args.errors.now)

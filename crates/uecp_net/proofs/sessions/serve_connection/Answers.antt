@@ -1,22 +1,22 @@
-use Rattle.std.proofs.Common.{rules}
-use Rattle.uecp_net.proofs.Served.{session_of}
+use Rattle.std.proofs.Common.{rules, ◌≡◌, Ok, Err}
+use Rattle.uecp_encoder.specs.declared.serving.KeptFault.TheVariants.{Serve}
+use Rattle.uecp_net.proofs.Served.{serving_plain}
 use Rattle.uecp_net.proofs.sessions.serve_connection.Goals as goal
 
-pub returns-clause-served : goal.returns-clause-served
-returns-clause-served g c =
-    let i = c.in_ok-input in
-    let s = c.serve-outcome in (
-      i.input,
-      s.new.reader,
-      i.output,
-      s.new.writer,
-      c.open.new.self,
-      search rules,
-      session_of g.T.Target.step g.C.Input.Read.remaining g.C.Output.Write.contents c.args.turns c.args.encoder.now
-          c.line_lost.new.self s.new.encoder i.input c.new-input.result s.new.reader i.output c.new-output.result
-          s.new.writer s.result
-          c.ranges.turns.fits c.new-input.ensures.device c.new-input.ensures.calls c.new-input.ensures.failures
-          c.new-input.ensures.empty c.new-output.ensures.device c.new-output.ensures.failures (search rules)
-          s.ensures.bytes s.ensures.reads s.ensures.read_failures s.ensures.empty_reads s.ensures.write_failures,
-      search rules,
-    )
+pub returns-in-Ok-clause-served : goal.returns-in-Ok-clause-served
+returns-in-Ok-clause-served g c =
+    let s = c.serve_connection_with in
+    let ended = c.in_ok-served.field-0 in
+    let is : ended ≡ Ok c.in-Ok.served = search rules in
+    serving_plain g.T.Target.step _ _ _ _ _ _ g.C.Connections.opens g.C.Connections.closes g.C.Input.Read.remaining
+    g.C.Output.Write.contents c.args.turns c.args.encoder.now s.new.encoder _ s.new.keeper _ s.new.listener
+    c.args.connect.now s.new.connect ended (Ok c.in-Ok.served) is c.in_ok-served.ensures.served
+
+pub returns-in-Err-Serve-clause-served : goal.returns-in-Err-Serve-clause-served
+returns-in-Err-Serve-clause-served g c =
+    let s = c.serve_connection_with in
+    let ended = c.in_ok-served.field-0 in
+    let is : ended ≡ Err (Serve c.in-Err-Serve.fault) = search rules in
+    serving_plain g.T.Target.step _ _ _ _ _ _ g.C.Connections.opens g.C.Connections.closes g.C.Input.Read.remaining
+    g.C.Output.Write.contents c.args.turns c.args.encoder.now s.new.encoder _ s.new.keeper _ s.new.listener
+    c.args.connect.now s.new.connect ended (Err c.in-Err-Serve.fault) is c.in_ok-served.ensures.served

@@ -1,5 +1,0 @@
-use Rattle.std.proofs.Common.{refl}
-use Rattle.kept_serving.proofs.laws.goes_on_as_it_was.Goals as goal
-
-pub returns : goal.returns
-returns g c = λ e. refl
