@@ -3,6 +3,7 @@
 import contextlib
 import os
 import random
+import re
 import socket
 import subprocess
 import threading
@@ -35,6 +36,12 @@ MESSAGES = [bytes.fromhex(digits) for digits in """
 010000C201 0A0000034048490100001002 240042123456780100001003 0A00000340484A0100001004 030000030100001005 2400401234567A0100001006
 0A00000340484B0100001007 0A000000010000C208 0A00000340484C0100001009 020000524144494F2031200100001010
 """.split()]
+
+
+def failed_so(fault, path, reasons):
+    """Whether this is what is said of a save that failed in the midst of a run: that it did, in which file, whose path ends so, and why."""
+    said = re.fullmatch(r"uecp: state failed\nuecp: (.*): (.*)\n", fault)
+    return bool(said) and said[1].endswith(path) and said[2] in reasons
 
 
 def frames_of(messages, first=0):

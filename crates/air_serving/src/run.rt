@@ -46,7 +46,7 @@ const MOMENTS_MAX: u64 = 1 << 63;
 ///
 /// ```
 /// let status = run_on_air(
-///     u64::MAX, 100_000, true, &mut encoder, &mut NotKept, &mut log, &mut errors, &mut carousel, &mut edge,
+///     u64::MAX, 100_000, true, &mut encoder, &mut NotSaved, &mut log, &mut errors, &mut carousel, &mut edge,
 /// );
 /// ```
 pub fn run_on_air<K: KeepEncoder<RdsStore>, W: Write, Clk: Clock, E: Write, M: Moments>(

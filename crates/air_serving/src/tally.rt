@@ -19,12 +19,23 @@ struct Tally<'a, L: Listener> {
 }
 
 impl<'a, L: Listener> Listener for Tally<'a, L> {
+    ghost use Rattle.std.specs.Prelude.{true};
+    ghost use Rattle.std.proofs.Common.{true≢false};
+
+    ghost listens = { λ _. true };
+
+    ghost deaf = { λ _ _ _ no. absurd (true≢false no) };
+
     ghost begins = { λ t t'. L.begins t.listener.now t'.listener.now × (t'.sent ≡ t.sent)
         × (t'.listener.ghost_name ≡ t.listener.ghost_name) };
 
     ghost hears = { λ t event sent t'. L.hears t.listener.now event sent t'.listener.now
         × (t'.sent ≡ counts_with t.sent event.answer sent)
         × (t'.listener.ghost_name ≡ t.listener.ghost_name) };
+
+    fn is_listening(&self) -> bool {
+        true
+    }
 
     fn begin(&mut self) {
         self.listener.begin();

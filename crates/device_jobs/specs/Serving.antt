@@ -17,7 +17,7 @@ use Rattle.state_jobs.specs.EncoderJob.{IsOpened}
 use Rattle.state_jobs.specs.Texts.{IsClosed, state_text}
 use Rattle.device_serving.specs.Logging.{Log}
 use Rattle.device_serving.specs.DeviceRun.{RunsDevice, OutlivesRun, Standing}
-use Rattle.uecp_encoder.specs.declared.keep.NotKept.{NotKept}
+use Rattle.uecp_encoder.specs.declared.keep.NotSaved.{NotSaved}
 use Rattle.commands.specs.declared.device_job.DeviceJob.{DeviceJob}
 use Rattle.device_jobs.specs.Limits.{connections_of, turns_of, options_of}
 
@@ -72,7 +72,7 @@ module _ {K C I O : Type 0} (most room : ℕ) (leaves : K → Kept Store → Typ
         (record { encoder = after; keeper = keeper_after; connect = c'; log = l' }) left
     pub clean : is_clean keeper_after → is_clean keeper
     pub closes_so : ends keeper_after closed
-    pub is_closed : IsClosed status closed status' between said'
+    pub is_closed : IsClosed path status closed status' between said'
 
 module _ {C I O : Type 0} (opens : C → Option (I × O) → C → Type 0) (closes : C → I → O → C → Type 0)
     (remaining : I → Option (List ℕ)) (contents : O → Option (List ℕ)) where
@@ -80,7 +80,7 @@ module _ {C I O : Type 0} (opens : C → Option (I × O) → C → Type 0) (clos
   abbrev pub ServesUnkept : Options → (turns connections : ℕ) → (store : Bool) → (c c' : C) → (l l' : Log)
       → (said said' : Option (List ℕ)) → (status : ℕ) → Type 0
   ServesUnkept options turns connections store c c' l l' said said' status =
-      (keeper : NotKept) × (keeper' : NotKept) × (after : EncoderState Store)
+      (keeper : NotSaved) × (keeper' : NotSaved) × (after : EncoderState Store)
       × EndsDevice 1 512 (λ k left. Unit {0}) (λ k. ⊥) (λ k left k'. k' ≡ k) (λ k left k'. ⊥) opens closes remaining
       contents turns connections store
       (record { encoder = encoder_at_first options; keeper = keeper; connect = c; log = l })

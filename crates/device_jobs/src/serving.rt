@@ -2,7 +2,6 @@
 ghost use Rattle.std.specs.Prelude.{◌≡◌, ◌⊎◌, IsTrue, Result};
 ghost use Rattle.uecp_frame.specs.Address.{is_exact};
 ghost use Rattle.uecp_jobs.specs.Setups.{IsSetup, options_of as options_in, encoder_at_first};
-ghost use Rattle.state_jobs.specs.Texts.{IsClosed};
 ghost use Rattle.device_jobs.specs.Serving.{HasServedDevice, HasNoState, ServesIn, ServesUnkept};
 
 use crate::limits::{Limits, limits_of};
@@ -10,12 +9,11 @@ use commands::DeviceJob;
 use device_serving::{LogLines, run_device};
 use kept_jobs::fail_state;
 use rds_store::RdsStore;
-use state_files::StateFault;
-use state_jobs::{OpenStates, state_text};
+use state_jobs::{OpenStates, closed_so, state_text};
 use std::alloc::Global;
 use std::io::Write;
 use std::time::Clock;
-use uecp_encoder::{Encoder, NotKept};
+use uecp_encoder::{Encoder, NotSaved};
 use uecp_frame::Address;
 use uecp_jobs::{Setup, fail, new_encoder};
 use uecp_net::Connections;
@@ -92,23 +90,8 @@ fn serve_in<S: OpenStates, W: Write, T: Clock, E: Write, C: Connections>(
                 errors,
                 connect,
             );
-            closed_device(status, states.close_encoder(keeper), errors)
+            closed_so(path, status, states.close_encoder(keeper), errors)
         }
-    }
-}
-
-/// The exit status of a run that ended with this one, and whose state was then closed so: where the run was done and
-/// the state could not be closed, that is said.
-///
-/// ```
-/// let status = closed_device(status, states.close_encoder(keeper), &mut errors);
-/// ```
-pub fn closed_device<E: Write>(status: u8, closed: Result<(), StateFault>, errors: &mut E) -> u8
-    ensures { IsClosed status closed result (E.contents errors.old) (E.contents errors.new) }
-{
-    match closed {
-        Err(fault) if status == 0 => fail_state(state_text(fault), errors),
-        _ => status,
     }
 }
 
@@ -131,7 +114,7 @@ fn serve_unkept<W: Write, T: Clock, E: Write, C: Connections>(
         limits.turns,
         limits.store,
         encoder,
-        &mut NotKept,
+        &mut NotSaved,
         log,
         errors,
         connect,

@@ -180,9 +180,21 @@ impl<'a, W: Write, C: Clock> LogLines<'a, W, C> {
 }
 
 impl<'a, W: Write, C: Clock> Listener for LogLines<'a, W, C> {
+    ghost use Rattle.std.proofs.Common.{refl, subst, sym};
+    ghost use Rattle.device_serving.specs.Logging.{LogsWhere};
+
+    ghost listens = { λ l. l.told };
+
+    ghost deaf = { λ l event sent no.
+        subst (λ told. LogsWhere told (λ stamp. event_lines l.form stamp event sent) l l) (sym no) refl };
+
     ghost begins = { λ l l'. LogsOpening l l' };
 
     ghost hears = { λ l event sent l'. LogsEvent l event sent l' };
+
+    fn is_listening(&self) -> bool {
+        self.events
+    }
 
     fn begin(&mut self) {
         self.number = self.number.saturating_add(1);

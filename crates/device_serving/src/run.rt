@@ -29,7 +29,7 @@ use uecp_text::RunFault;
 /// ```
 /// let mut log = LogLines::new(alloc, Form::Words(Region::Europe), Some(&rt), true, output);
 /// let status = run_device(
-///     u64::MAX, 100_000, true, &mut encoder, &mut NotKept, &mut log, &mut errors, &mut listening,
+///     u64::MAX, 100_000, true, &mut encoder, &mut NotSaved, &mut log, &mut errors, &mut listening,
 /// );
 /// ```
 pub fn run_device<K: KeepEncoder<RdsStore>, W: Write, Clk: Clock, E: Write, C: Connections>(

@@ -9,8 +9,9 @@ use crate::stop::KeptStop;
 use crate::telling::write_told;
 use std::alloc::Global;
 use std::io::Write;
+use uecp_encoder::SaveFailed;
 use uecp_link::Server;
-use uecp_net::{KeepServer, Progress, SaveFailed};
+use uecp_net::{KeepServer, Progress};
 use uecp_text::Output;
 
 /// Tells how far the server has come, and begins anew where its encoder is to be joined.

@@ -14,7 +14,7 @@ use Rattle.state_files.specs.declared.fault.StateFault.{StateFault}
 use Rattle.state_jobs.specs.EncoderJob.{IsOpened}
 use Rattle.state_jobs.specs.Texts.{IsClosed}
 use Rattle.device_serving.specs.Logging.{Log}
-use Rattle.uecp_encoder.specs.declared.keep.NotKept.{NotKept}
+use Rattle.uecp_encoder.specs.declared.keep.NotSaved.{NotSaved}
 use Rattle.air_serving.specs.declared.moments.Moment.{Moment}
 use Rattle.air_serving.specs.AirRun.{OnAir, RunsOnAir, OutlivesRun}
 use Rattle.commands.specs.declared.device_job.DeviceJob.{DeviceJob}
@@ -75,7 +75,7 @@ module _ {K M I O : Type 0} (most room : ℕ) (leaves : K → Kept Store → Typ
         (standing after keeper_after l' m' carousel left) kept
     pub clean : is_clean keeper_after → is_clean keeper
     pub closes_so : ends keeper_after closed
-    pub is_closed : IsClosed status closed status' between said'
+    pub is_closed : IsClosed path status closed status' between said'
 
 module _ {M I O : Type 0} (waits : M → Bool → Moment I O → M → Type 0) (closes : M → I → O → M → Type 0)
     (sends : M → Group → M → Type 0) (remaining : I → Option (List ℕ)) (contents : O → Option (List ℕ)) where
@@ -83,7 +83,7 @@ module _ {M I O : Type 0} (waits : M → Bool → Moment I O → M → Type 0) (
   abbrev pub AirsUnkept : Options → (turns connections : ℕ) → (store : Bool) → (m m' : M) → (l l' : Log)
       → (said said' : Option (List ℕ)) → (status : ℕ) → Type 0
   AirsUnkept options turns connections store m m' l l' said said' status =
-      (keeper : NotKept) × (keeper' : NotKept) × (after : EncoderState Store)
+      (keeper : NotSaved) × (keeper' : NotSaved) × (after : EncoderState Store)
       × EndsOnAir 1 512 (λ k left. Unit {0}) (λ k. ⊥) (λ k left k'. k' ≡ k) (λ k left k'. ⊥) waits closes sends
       remaining contents turns connections store (encoder_at_first options) after keeper keeper' m m' l l' said said'
       status

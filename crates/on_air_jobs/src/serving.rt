@@ -8,15 +8,15 @@ ghost use Rattle.on_air_jobs.specs.Serving.{HasBeenOnAir, AirsIn, AirsUnkept};
 use air_serving::{Moments, run_on_air};
 use carousel::Carousel;
 use commands::DeviceJob;
-use device_jobs::{Limits, closed_device, limits_of};
+use device_jobs::{Limits, limits_of};
 use device_serving::LogLines;
 use kept_jobs::fail_state;
 use rds_store::RdsStore;
-use state_jobs::{OpenStates, state_text};
+use state_jobs::{OpenStates, closed_so, state_text};
 use std::alloc::Global;
 use std::io::Write;
 use std::time::Clock;
-use uecp_encoder::{Encoder, NotKept};
+use uecp_encoder::{Encoder, NotSaved};
 use uecp_frame::Address;
 use uecp_jobs::{Setup, fail, new_encoder};
 
@@ -94,7 +94,7 @@ fn air_in<S: OpenStates, W: Write, T: Clock, E: Write, M: Moments>(
                 &mut carousel,
                 moments,
             );
-            closed_device(status, states.close_encoder(keeper), errors)
+            closed_so(path, status, states.close_encoder(keeper), errors)
         }
     }
 }
@@ -119,7 +119,7 @@ fn air_unkept<W: Write, T: Clock, E: Write, M: Moments>(
         limits.turns,
         limits.store,
         encoder,
-        &mut NotKept,
+        &mut NotSaved,
         log,
         errors,
         &mut carousel,

@@ -9,7 +9,7 @@ use Rattle.uecp_jobs.specs.Setups.{IsOneEncoder, address_of}
 use Rattle.uecp_net.specs.declared.saved.keep.Progress.{Progress}
 use Rattle.uecp_net.specs.Keeping.{KeptServer}
 use Rattle.state_files.specs.declared.fault.StateFault.{StateFault}
-use Rattle.sending.specs.declared.not_kept.NotKept.{NotKept}
+use Rattle.uecp_encoder.specs.declared.keep.NotSaved.{NotSaved}
 use Rattle.sending.specs.declared.options.LiveOptions.{LiveOptions}
 use Rattle.sending.specs.Run.{Lives}
 use Rattle.commands.specs.declared.send_job.SendJob.{SendJob}
@@ -47,7 +47,7 @@ module _ {C I O : Type 0} (opens : C → Option (I × O) → C → Type 0) (clos
   abbrev pub SendsTo : (address : ℕ) → LiveOptions → (c c' : C)
       → (unread unread' held held' said said' : Option (List ℕ)) → (status : ℕ) → Type 0
   SendsTo address options c c' unread unread' held held' said said' status =
-      (keeper : NotKept) × (keeper' : NotKept)
+      (keeper : NotSaved) × (keeper' : NotSaved)
       × Lives opens closes remaining contents (λ k left. Unit {0}) (λ k. ⊥) (λ k left k'. k' ≡ k) (λ k left k'. ⊥)
       options c c' (record {
         runs = idle_at address;

@@ -1,25 +1,15 @@
 -- A run with its lines as they come whose state is in a file (profile).
-use Rattle.std.specs.Prelude.{◌≡◌, ◌≢◌, ◌⊎◌, ℕ, List, Option, Result, Ok, Err}
+use Rattle.std.specs.Prelude.{◌≡◌, ℕ, List, Option, Result}
 use Rattle.uecp_link.specs.Server.{ServerState}
 use Rattle.uecp_text.specs.Written.{Begins}
 use Rattle.uecp_net.specs.declared.saved.keep.Progress.{Progress}
 use Rattle.uecp_net.specs.Keeping.{KeptServer, IsKept}
 use Rattle.kept_jobs.specs.Stops.{state_line}
 use Rattle.state_files.specs.declared.fault.StateFault.{StateFault}
-use Rattle.state_jobs.specs.Texts.{state_text}
+use Rattle.state_jobs.specs.Texts.{state_text, IsClosed}
 use Rattle.state_jobs.specs.ServerJob.{RefusesServer}
 use Rattle.sending.specs.declared.options.LiveOptions.{LiveOptions}
 use Rattle.sending.specs.Run.{Lives}
-
--- A run ended with a status, and its state was closed so: the status stays, and nothing is said, where the state was
--- closed or the run had stopped; or the run came to its end, the state could not be closed, that was said, or begun to
--- be said, and the status is 3.
-abbrev pub IsClosedLive : (status : ℕ) → Result (Unit {0}) StateFault → (status' : ℕ) → (said said' : Option (List ℕ))
-    → Type 0
-IsClosedLive status closed status' said said' =
-    ((status' ≡ status) × (said' ≡ said) × ((status ≢ 3) → closed ≡ Ok tt))
-    ⊎ ((fault : StateFault) × (closed ≡ Err fault) × (status ≢ 3) × (status' ≡ 3)
-    × Begins said said' (state_line (state_text fault)))
 
 -- The state at the path could not be opened, and that was said, or begun to be said.
 abbrev pub HasNoState : {K : Type 0} → (gives : List ℕ → ServerState → Progress → K → Type 0)
@@ -52,4 +42,4 @@ module _ {K C I O : Type 0} (gives : (path : List ℕ) → ServerState → Progr
         (record { runs = server; keeper = keeper; progress = progress; held = held }) keeper_after held' unread unread'
         said between status
     pub closes_so : ends keeper_after closed
-    pub is_closed : IsClosedLive status closed status' between said'
+    pub is_closed : IsClosed path status closed status' between said'

@@ -5,7 +5,6 @@
 //! - [`run_live_in`]: so with the state in a file.
 #![tactic(auto)]
 
-mod closing;
 mod live_in;
 mod over_tcp;
 mod run;

@@ -3,12 +3,11 @@ ghost use Rattle.std.specs.Prelude.{◌≡◌, ◌⊎◌, ◌≤◌, IsTrue};
 ghost use Rattle.uecp_frame.specs.Address.{is_exact};
 ghost use Rattle.send_commands.specs.LiveIn.{LivesIn, HasNoState};
 
-use crate::closing::closed_live;
 use kept_jobs::fail_state;
 use line_feed::Feed;
 use sending::{LiveOptions, run_live};
 use state_files::StateFault;
-use state_jobs::{OpenStates, state_text};
+use state_jobs::{OpenStates, closed_so, state_text};
 use std::alloc::Global;
 use std::io::Write;
 use std::time::Clock;
@@ -66,7 +65,7 @@ pub fn run_live_in<S: OpenStates, F: Feed, W: Write, E: Write, C: Connections, T
                 connect,
                 clock,
             );
-            closed_live(status, states.close_server(keeper), errors)
+            closed_so(path, status, states.close_server(keeper), errors)
         }
     }
 }

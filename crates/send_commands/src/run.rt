@@ -7,11 +7,12 @@ use crate::live_in::run_live_in;
 use commands::SendJob;
 use line_batches::Reading;
 use line_feed::Feed;
-use sending::{LiveOptions, NotKept, run_live};
+use sending::{LiveOptions, run_live};
 use state_jobs::OpenStates;
 use std::alloc::Global;
 use std::io::Write;
 use std::time::Clock;
+use uecp_encoder::NotSaved;
 use uecp_frame::{Address, Message};
 use uecp_jobs::{address_of, fail};
 use uecp_link::Server;
@@ -107,7 +108,7 @@ fn run_unkept<F: Feed, W: Write, E: Write, C: Connections, T: Clock>(
         options,
         Server::new(address),
         progress,
-        &mut NotKept,
+        &mut NotSaved,
         feed,
         writer,
         errors,

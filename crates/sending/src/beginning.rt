@@ -10,8 +10,9 @@ use kept_jobs::{KeptStop, write_told};
 use output_forms::Form;
 use std::alloc::Global;
 use std::io::Write;
+use uecp_encoder::SaveFailed;
 use uecp_link::Server;
-use uecp_net::{KeepServer, Progress, SaveFailed};
+use uecp_net::{KeepServer, Progress};
 use uecp_text::Output;
 
 /// Tells how far the server has come, and begins anew where its encoder is to be joined.

@@ -7,7 +7,6 @@ mod counters;
 mod forms;
 mod lines;
 mod lives;
-mod not_kept;
 mod objects;
 mod options;
 mod run;
@@ -15,7 +14,6 @@ mod station;
 mod timing;
 mod turn;
 
-pub use not_kept::NotKept;
 pub use options::LiveOptions;
 pub use output_forms::Form;
 pub use run::run_live;

@@ -19,9 +19,10 @@ use output_forms::Form;
 use std::alloc::Global;
 use std::io::Write;
 use std::time::Clock;
+use uecp_encoder::SaveFailed;
 use uecp_frame::Address;
 use uecp_link::Server;
-use uecp_net::{Connections, KeepServer, Progress, SaveFailed, Sender};
+use uecp_net::{Connections, KeepServer, Progress, Sender};
 use uecp_text::Output;
 
 /// How often another sender runs at most.

@@ -21,11 +21,10 @@ use kept_jobs::{KeptStop, write_told};
 use output_forms::Form;
 use std::alloc::Global;
 use std::io::Write;
+use uecp_encoder::SaveFailed;
 use uecp_frame::Message;
 use uecp_jobs::fault_of;
-use uecp_net::{
-    Connections, KeepServer, KeptOutstanding, Outstanding, Progress, SaveFailed, Sender, Settled,
-};
+use uecp_net::{Connections, KeepServer, KeptOutstanding, Outstanding, Progress, Sender, Settled};
 use uecp_text::Output;
 
 /// Joins the encoder and makes the station where that is due, saves the server as joined then, and tells it once that

@@ -1,5 +1,6 @@
 -- What the two files hold, from what a crash may leave.
 use Rattle.std.proofs.Common.{[], ◌≡◌, ℕ, List, Option, IsTrue, sym, ap, subst, ◌∙◌}
+use Rattle.std.specs.Prelude.{Result, Ok, Err, IfOk}
 use Rattle.std.proofs.Math.Logic.{∥∥₁_elim, ∥∥₁_map}
 use Rattle.std.specs.Coded.{coded_ℕ, coded_list, coded_option}
 use base.Stored.{Coded-set}
@@ -35,6 +36,12 @@ pub found_in : (version : ℕ) (image other : Option (List ℕ)) (files : Image)
     → Opens s → FindsIn files s → (Holds version image s.now.trees → other ≡ image) → other ≡ image
 found_in version image other files s held opened found is = ∥∥₁_elim held (images_set _ _) (λ (rows, has, holds).
     is (subst (Holds version image) (sym (ap (λ (d : Database). d.trees) opened.clean ∙ found.holds rows has)) holds))
+
+-- what holds of a value that there is, out of two things that do, of which the second has a premise
+pub if_ok : {A E : Type 0} (H : Type 0) (P Q R : A → Type 0) (r : Result A E) → IfOk r P → (H → IfOk r Q)
+    → ((a : A) → P a → (H → Q a) → R a) → IfOk r R
+if_ok H P Q R (Ok a) p q f = f a p q
+if_ok H P Q R (Err e) p q f = tt
 
 module _ {D : Type 0} {g : Ghosts D} where
   -- the last commit is one of those that a crash may leave

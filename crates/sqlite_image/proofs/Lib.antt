@@ -1,4 +1,3 @@
 pub mod FileLemmas
 pub mod KeepLemmas
-pub mod SavedLemmas
 pub mod TableLemmas

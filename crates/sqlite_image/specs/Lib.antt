@@ -2,4 +2,3 @@ pub mod Fault
 pub mod Files
 pub mod Keeper
 pub mod Kept
-pub mod Saved

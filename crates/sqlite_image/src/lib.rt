@@ -3,13 +3,12 @@
 
 mod fault;
 mod file;
+mod files;
 mod kept;
 mod ours;
-mod saved;
 mod start;
 mod table;
 
 pub use fault::KeepFault;
-pub use file::{StateFile, open, open_from, open_value, open_value_from};
+pub use files::{MachineFiles, OpenFiles, Wary};
 pub use kept::{Kept, Opened};
-pub use saved::{Found, Image, Saved};

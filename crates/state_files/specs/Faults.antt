@@ -1,5 +1,5 @@
 -- Why a state file is refused. Source: profile.
-use Rattle.std.specs.Prelude.{◌≡◌}
+use Rattle.std.specs.Prelude.{◌≡◌, Option, Some, None, Result, Ok, Err}
 use Rattle.sqlite_image.specs.declared.fault.KeepFault.{KeepFault}
 use Rattle.sqlite_image.specs.declared.fault.KeepFault.TheVariants as keep
 use Rattle.end_images.specs.declared.fault.ImageFault.{ImageFault}
@@ -29,3 +29,9 @@ image_fault (image.Newer version) = state.Newer version
 image_fault image.OtherEnd = state.OtherEnd
 image_fault image.Damaged = state.Damaged
 image_fault image.OutOfMemory = state.OutOfMemory
+
+-- why a save failed, the first that did, once one more went so
+abbrev pub noted : Result (Unit {0}) KeepFault → (before : Option KeepFault) → Option KeepFault
+noted saved (Some fault) = Some fault
+noted (Ok done) None = None
+noted (Err failed) None = Some failed

@@ -3,6 +3,7 @@ pub mod Faults
 pub mod Encoders
 pub mod Servers
 pub mod Reading
+pub mod Opening
 pub use Rattle.sqlite_image.specs.Keeper
 pub use Rattle.sqlite_image.specs.Kept as KeptRows
 pub use Rattle.end_images.specs.Images

@@ -8,11 +8,11 @@ ghost use Rattle.end_images.specs.Images.{encoder_image};
 ghost use Rattle.state_files.specs.Encoders.{IsPlaced, LeavesEncoder, SavesEncoder, FailsTo};
 
 use crate::laws::tells_what_is_kept;
+use crate::saved::{Saved, note};
 use end_images::put_encoder;
 use rds_store::RdsStore;
 use sqlite::Alter;
-use sqlite_image::{KeepFault, Kept};
-use std::marker::Model;
+use sqlite_image::KeepFault;
 use uecp_encoder::{Encoder, KeepEncoder, SaveFailed};
 
 /// How many bytes an encoder that is kept in a file reads at most, before it answers them: eight of the longest frames,
@@ -23,26 +23,10 @@ pub const READ_MAX: usize = 4192;
 /// them is still known where a repeat comes with the last.
 pub const TOGETHER_MAX: usize = 126;
 
-/// Keeps an encoder's state in a file. Clauses see what its `Kept` shows.
-#[derive(Drop)]
-pub struct EncoderFile<S: Alter> {
-    /// The file.
-    pub(crate) kept: Kept<S>,
-    /// Room for the image.
-    pub(crate) image: Vec<u8>,
-}
+/// An encoder's state in a file.
+pub type EncoderFile<S> = Saved<S, Encoder<RdsStore>>;
 
-impl<S: Alter> Model for EncoderFile<S> {
-    ghost use Rattle.sqlite_image.specs.Keeper.{Keeper, keeper_code};
-
-    ghost Value = { Keeper S };
-
-    ghost coded = { keeper_code S.code };
-
-    ghost view = { λ f. f.kept };
-}
-
-impl<S: Alter> EncoderFile<S> {
+impl<S: Alter> Saved<S, Encoder<RdsStore>> {
     /// Saves the encoder's image in place of the one that was kept. From `Ok` on, whatever a crash leaves holds it. At
     /// any outcome a crash leaves what it could leave before, or the new image. Where there was no memory for the image
     /// nothing has happened; after any other fault each later save answers `Failed` or `OutOfMemory`.
@@ -58,22 +42,16 @@ impl<S: Alter> EncoderFile<S> {
             ⊎ (result ≡ Err KeepFault.OutOfMemory) }
     {
         self.image.clear();
-        match put_encoder(encoder, &mut self.image) {
+        let saved = match put_encoder(encoder, &mut self.image) {
             Ok(()) => self.kept.save(self.image.as_slice()),
             Err(_) => Err(KeepFault::OutOfMemory),
-        }
-    }
-
-    /// What keeps the image, as it is.
-    pub fn into_kept(self) -> Kept<S>
-        ensures { result ≡ self }
-    {
-        let EncoderFile { kept, image: _ } = self;
-        kept
+        };
+        note(saved, &mut self.fault);
+        saved
     }
 }
 
-impl<S: Alter> KeepEncoder<RdsStore> for EncoderFile<S> {
+impl<S: Alter> KeepEncoder<RdsStore> for Saved<S, Encoder<RdsStore>> {
     ghost use Rattle.sqlite_image.specs.Keeper.{IsClean};
     ghost use Rattle.state_files.specs.Encoders.{LeavesEncoder, SavesEncoder, FailsTo};
     ghost use Rattle.std.proofs.Common.{lit≤};

@@ -1,8 +1,6 @@
 //! An encoder that goes on from its file, or a new one in a new file. Source: profile.
 ghost use Rattle.std.specs.Prelude.{◌≡◌, ◌⊎◌, ℕ, List, Option, Some, None, IsTrue, IfOk, IfErr, MatchOption};
 ghost use Rattle.sqlite.specs.Files.{over_files};
-ghost use Rattle.sqlite.specs.WalFiles.{image_at};
-ghost use Rattle.sqlite_image.specs.Files.{FilesHold};
 ghost use Rattle.uecp_frame.specs.Address.{is_exact};
 ghost use Rattle.rds_store.specs.Value.{Store};
 ghost use Rattle.rds_store.specs.Opening as stores;
@@ -15,17 +13,18 @@ ghost use Rattle.end_images.specs.Reading.{IsEncoder};
 ghost use Rattle.uecp_encoder.specs.Keeping.{Settled};
 ghost use Rattle.state_files.specs.Encoders.{LeavesEncoder, IsOther, IsOtherEncoder, IsDescribed};
 ghost use Rattle.state_files.specs.Encoders.{IsUnbegun, IsRefused};
+ghost use Rattle.state_files.specs.Opening.{GivesEncoder};
 
-use crate::closing::let_go;
 use crate::encoder_file::{EncoderFile, settled};
 use crate::fault::{StateFault, image_fault, keep_fault};
+use crate::saved::{Saved, let_go};
 use arrayvec::ArrayVec;
 use end_images::read_encoder;
 use rds_store::{RdsStore, StoreFault};
-use sqlite::{Alter, FileFrom, FileStore, Start, Wary};
-use sqlite_image::{Kept, Opened, StateFile, open_from};
+use sqlite::{Alter, FileStore};
+use sqlite_disk::Disk;
+use sqlite_image::{Kept, OpenFiles, Opened};
 use std::alloc::Global;
-use std::rt::HostRuntime;
 use uecp_encoder::Encoder;
 use uecp_frame::Address;
 
@@ -44,47 +43,23 @@ const SERVICES_MAX: usize = 8;
 /// The caller knows that the address is one encoder's own, as for [`Encoder::new`].
 ///
 /// ```
-/// let (mut encoder, mut file) = open_encoder(&rt, "encoder.db", address, 1, &[0x01])?;
+/// let (mut encoder, mut file) = open_encoder(&files, "encoder.db", address, 1, &[0x01])?;
 /// ```
-pub fn open_encoder(
-    rt: &HostRuntime,
+pub fn open_encoder<D: Disk + Drop, F: OpenFiles<D>>(
+    files: &F,
     path: &str,
     address: Address,
     sets: u8,
     services: &[u8],
-) -> Result<(Encoder<RdsStore>, EncoderFile<StateFile>), StateFault>
+) -> Result<(Encoder<RdsStore>, EncoderFile<FileStore<D>>), StateFault>
     requires { IsTrue (is_exact address) }
-    ensures kept { IfOk result (λ r. IsClean over_files r.1 → Keeps over_files r.1 (Some (encoder_image r.0))) }
+    ensures given { IfOk result (λ r. GivesEncoder F.OpenFiles.holds files.now path.now r.0 r.1) }
     ensures settled { IfOk result (λ r. IsClean over_files r.1 → Settled (LeavesEncoder over_files r.1) r.0) }
     ensures described { IfOk result (λ r. IsDescribed address sets services.now r.0) }
 {
-    match open_encoder_from(rt, path, Wary, address, sets, services) {
-        Ok(opened) => Ok(opened),
-        Err(fault) => Err(fault),
-    }
-}
-
-/// As [`open_encoder`], where `S` stands for what the two files held before.
-pub fn open_encoder_from<S: Start>(
-    rt: &HostRuntime,
-    path: &str,
-    start: S,
-    address: Address,
-    sets: u8,
-    services: &[u8],
-) -> Result<(Encoder<RdsStore>, EncoderFile<FileStore<FileFrom<S>>>), StateFault>
-    requires { IsTrue (is_exact address) }
-    ensures kept { IfOk result (λ r. IsClean over_files r.1 → Keeps over_files r.1 (Some (encoder_image r.0))) }
-    ensures settled { IfOk result (λ r. IsClean over_files r.1 → Settled (LeavesEncoder over_files r.1) r.0) }
-    ensures described { IfOk result (λ r. IsDescribed address sets services.now r.0) }
-    ensures found { (e : EncoderState Store) → IsEncoder e → FilesHold 1 (Some (encoder_image e)) (image_at S.Start)
-        → IfOk result (λ r. IsClean over_files r.1 → r.0 ≡ restarted e) }
-    ensures new { FilesHold 1 None (image_at S.Start)
-        → IfOk result (λ r. IsClean over_files r.1 → r.0 ≡ opening address (stores.opening sets services.now)) }
-{
-    match open_from(rt, path, VERSION, start) {
+    match files.open_file(path, VERSION) {
         Err(fault) => Err(keep_fault(fault)),
-        Ok(opened) => match encoder_over(opened, rt.alloc(), address, sets, services) {
+        Ok(opened) => match encoder_over(opened, files.alloc(), address, sets, services) {
             Ok(opened) => Ok(opened),
             Err((fault, kept)) => {
                 let_go(kept);
@@ -163,7 +138,7 @@ fn encoder_of<S: Alter + Drop>(
     let Opened { kept, image } = opened;
     match image {
         Some(image) => match found_encoder(image.as_slice(), alloc, address, sets, services) {
-            Ok(encoder) => Ok((encoder, EncoderFile { kept, image })),
+            Ok(encoder) => Ok((encoder, Saved::new(kept, image))),
             Err(fault) => Err((fault, kept)),
         },
         None => begun(kept, alloc, address, sets, services),
@@ -191,7 +166,7 @@ fn begun<S: Alter + Drop>(
         Err(fault) => Err((fault, kept)),
         Ok(encoder) => {
             let image = Vec::new(alloc);
-            first_saved(encoder, EncoderFile { kept, image })
+            first_saved(encoder, Saved::new(kept, image))
         }
     }
 }

@@ -1,15 +1,17 @@
 //! What a state file has, for looking at it. Source: profile.
 ghost use Rattle.std.specs.Prelude.{IfOk};
 ghost use Rattle.state_files.specs.Reading.{IsFoundIn};
+ghost use Rattle.state_files.specs.Opening.{Finds, IsFoundOf};
+ghost use Rattle.sqlite_image.specs.Kept.{bytes_of};
 
-use crate::closing::let_go;
 use crate::encoder_opening::VERSION;
 use crate::fault::{StateFault, image_fault, keep_fault};
+use crate::saved::let_go;
 use end_images::{ImageFault, KeptServer, read_encoder, read_server};
 use rds_store::RdsStore;
-use sqlite_image::{Opened, open};
+use sqlite_disk::Disk;
+use sqlite_image::{OpenFiles, Opened};
 use std::alloc::Global;
-use std::rt::HostRuntime;
 use uecp_encoder::Encoder;
 use uecp_link::Server;
 use uecp_net::Progress;
@@ -25,23 +27,41 @@ pub enum Found {
     Empty,
 }
 
-/// Reads the end that a state file has. A database with nothing in it gets our table, with no image; so does a file
-/// that is not there: a caller that wants none made looks for it first.
+/// Reads the end that a state file has. `Unreachable` where there is no file. A database with nothing in it gets our
+/// table, with no image.
 ///
 /// ```
-/// if let Found::Encoder(encoder) = read_state(&rt, "encoder.db")? {
+/// if let Found::Encoder(encoder) = read_state(&files, "encoder.db")? {
 ///     let store = encoder.target();
 /// }
 /// ```
-pub fn read_state(rt: &HostRuntime, path: &str) -> Result<Found, StateFault> {
-    let Opened { kept, image } = match open(rt, path, VERSION) {
+pub fn read_state<D: Disk + Drop, F: OpenFiles<D>>(
+    files: &F,
+    path: &str,
+) -> Result<Found, StateFault>
+    ensures found { IfOk result (λ found. Finds F.OpenFiles.holds files.now path.now D D.Disk found) }
+{
+    if !files.is_there(path) {
+        return Err(StateFault::Unreachable);
+    }
+    let Opened { kept, image } = match files.open_file(path, VERSION) {
         Ok(opened) => opened,
         Err(fault) => return Err(keep_fault(fault)),
     };
     let_go(kept);
-    match &image {
+    match found_of(files.alloc(), &image) {
+        Ok(found) => Ok(found),
+        Err(fault) => Err(fault),
+    }
+}
+
+/// The end of an image, if there is one.
+fn found_of(alloc: Global, image: &Option<Vec<u8>>) -> Result<Found, StateFault>
+    ensures { IfOk result (IsFoundOf (bytes_of image.now)) }
+{
+    match image {
         None => Ok(Found::Empty),
-        Some(image) => found_in(rt.alloc(), image.as_slice()),
+        Some(image) => found_in(alloc, image.as_slice()),
     }
 }
 

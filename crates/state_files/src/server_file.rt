@@ -8,34 +8,19 @@ ghost use Rattle.uecp_net.specs.Keeping.{IsKept};
 ghost use Rattle.state_files.specs.Encoders.{FailsTo};
 ghost use Rattle.state_files.specs.Servers.{LeavesServer, image_of};
 
+use crate::saved::{Saved, note};
 use end_images::laws::server_again;
 use end_images::put_server;
 use sqlite::Alter;
-use sqlite_image::{KeepFault, Kept};
-use std::marker::Model;
+use sqlite_image::KeepFault;
+use uecp_encoder::SaveFailed;
 use uecp_link::Server;
-use uecp_net::{KeepServer, Progress, SaveFailed};
+use uecp_net::{KeepServer, Progress};
 
-/// Keeps a server's state in a file. Clauses see what its `Kept` shows.
-#[derive(Drop)]
-pub struct ServerFile<S: Alter> {
-    /// The file.
-    pub(crate) kept: Kept<S>,
-    /// Room for the image.
-    pub(crate) image: Vec<u8>,
-}
+/// A server's state in a file.
+pub type ServerFile<S> = Saved<S, Server>;
 
-impl<S: Alter> Model for ServerFile<S> {
-    ghost use Rattle.sqlite_image.specs.Keeper.{Keeper, keeper_code};
-
-    ghost Value = { Keeper S };
-
-    ghost coded = { keeper_code S.code };
-
-    ghost view = { λ f. f.kept };
-}
-
-impl<S: Alter> ServerFile<S> {
+impl<S: Alter> Saved<S, Server> {
     /// Saves the server's image in place of the one that was kept. From `Ok` on, whatever a crash leaves holds it. At
     /// any outcome a crash leaves what it could leave before, or the new image. Where there was no memory for the image
     /// nothing has happened; after any other fault each later save answers `Failed` or `OutOfMemory`.
@@ -51,22 +36,16 @@ impl<S: Alter> ServerFile<S> {
             ⊎ (result ≡ Err KeepFault.OutOfMemory) }
     {
         self.image.clear();
-        match put_server(progress.joined, progress.taken, server, &mut self.image) {
+        let saved = match put_server(progress.joined, progress.taken, server, &mut self.image) {
             Ok(()) => self.kept.save(self.image.as_slice()),
             Err(_) => Err(KeepFault::OutOfMemory),
-        }
-    }
-
-    /// What keeps the image, as it is.
-    pub fn into_kept(self) -> Kept<S>
-        ensures { result ≡ self }
-    {
-        let ServerFile { kept, image: _ } = self;
-        kept
+        };
+        note(saved, &mut self.fault);
+        saved
     }
 }
 
-impl<S: Alter> KeepServer for ServerFile<S> {
+impl<S: Alter> KeepServer for Saved<S, Server> {
     ghost use Rattle.sqlite_image.specs.Keeper.{IsClean};
     ghost use Rattle.state_files.specs.Encoders.{FailsTo};
     ghost use Rattle.state_files.specs.Servers.{LeavesServer, SavesServer};

@@ -1,8 +1,6 @@
 //! A server that goes on from its file, or a new one in a new file. Source: profile.
 ghost use Rattle.std.specs.Prelude.{◌≡◌, ◌⊎◌, ℕ, List, Option, Some, None, IsTrue, IfOk, IfErr};
 ghost use Rattle.sqlite.specs.Files.{over_files};
-ghost use Rattle.sqlite.specs.WalFiles.{image_at};
-ghost use Rattle.sqlite_image.specs.Files.{FilesHold};
 ghost use Rattle.uecp_frame.specs.Address.{is_exact};
 ghost use Rattle.uecp_link.specs.Server.{idle_at};
 ghost use Rattle.sqlite.specs.Tree.{Trees};
@@ -13,16 +11,17 @@ ghost use Rattle.end_images.specs.Reading.{IsKeptServer, restarted_kept};
 ghost use Rattle.uecp_net.specs.Keeping.{IsKept};
 ghost use Rattle.state_files.specs.Faults.{IsOfFile};
 ghost use Rattle.state_files.specs.Servers.{LeavesServer, IsOther, IsRefused, image_of, begins};
+ghost use Rattle.state_files.specs.Opening.{GivesServer};
 
-use crate::closing::let_go;
 use crate::encoder_opening::VERSION;
 use crate::fault::{StateFault, image_fault, keep_fault};
+use crate::saved::{Saved, let_go};
 use crate::server_file::{ServerFile, settled};
 use end_images::{KeptServer, read_server};
-use sqlite::{Alter, FileFrom, FileStore, Start, Wary};
-use sqlite_image::{Kept, Opened, StateFile, open_from};
+use sqlite::{Alter, FileStore};
+use sqlite_disk::Disk;
+use sqlite_image::{Kept, OpenFiles, Opened};
 use std::alloc::Global;
-use std::rt::HostRuntime;
 use uecp_frame::Address;
 use uecp_link::Server;
 use uecp_net::Progress;
@@ -36,45 +35,21 @@ use uecp_net::Progress;
 /// The caller knows that the address is one encoder's own, as for [`Server::new`].
 ///
 /// ```
-/// let (mut server, mut progress, mut file) = open_server(&rt, "server.db", address)?;
+/// let (mut server, mut progress, mut file) = open_server(&files, "server.db", address)?;
 /// ```
-pub fn open_server(
-    rt: &HostRuntime,
+pub fn open_server<D: Disk + Drop, F: OpenFiles<D>>(
+    files: &F,
     path: &str,
     address: Address,
-) -> Result<(Server, Progress, ServerFile<StateFile>), StateFault>
+) -> Result<(Server, Progress, ServerFile<FileStore<D>>), StateFault>
     requires { IsTrue (is_exact address) }
-    ensures kept { IfOk result (λ r. IsClean over_files r.2 → Keeps over_files r.2 (Some (image_of r.1 r.0))) }
+    ensures given { IfOk result (λ r. GivesServer F.OpenFiles.holds files.now path.now r.0 r.1 r.2) }
     ensures settled { IfOk result (λ r. IsClean over_files r.2 → IsKept (LeavesServer over_files r.2) r.1 r.0) }
     ensures described { IfOk result (λ r. r.0.address ≡ address) }
 {
-    match open_server_from(rt, path, Wary, address) {
-        Ok(opened) => Ok(opened),
-        Err(fault) => Err(fault),
-    }
-}
-
-/// As [`open_server`], where `S` stands for what the two files held before.
-pub fn open_server_from<S: Start>(
-    rt: &HostRuntime,
-    path: &str,
-    start: S,
-    address: Address,
-) -> Result<(Server, Progress, ServerFile<FileStore<FileFrom<S>>>), StateFault>
-    requires { IsTrue (is_exact address) }
-    ensures kept { IfOk result (λ r. IsClean over_files r.2 → Keeps over_files r.2 (Some (image_of r.1 r.0))) }
-    ensures settled { IfOk result (λ r. IsClean over_files r.2 → IsKept (LeavesServer over_files r.2) r.1 r.0) }
-    ensures described { IfOk result (λ r. r.0.address ≡ address) }
-    ensures found { (k : KeptServer) → IsKeptServer k
-        → FilesHold 1 (Some (server_image k.joined k.taken k.server)) (image_at S.Start)
-        → IfOk result (λ r. IsClean over_files r.2 → record { joined = r.1.joined; taken = r.1.taken; server = r.0 }
-        ≡ restarted_kept k) }
-    ensures new { FilesHold 1 None (image_at S.Start)
-        → IfOk result (λ r. IsClean over_files r.2 → (r.0 ≡ idle_at address) × (r.1 ≡ begins)) }
-{
-    match open_from(rt, path, VERSION, start) {
+    match files.open_file(path, VERSION) {
         Err(fault) => Err(keep_fault(fault)),
-        Ok(opened) => match server_over(opened, rt.alloc(), address) {
+        Ok(opened) => match server_over(opened, files.alloc(), address) {
             Ok(opened) => Ok(opened),
             Err((fault, kept)) => {
                 let_go(kept);
@@ -149,14 +124,11 @@ fn server_of<S: Alter + Drop>(
     let Opened { kept, image } = opened;
     match image {
         Some(image) => match found_server(image.as_slice(), alloc, address) {
-            Ok((server, progress)) => Ok((server, progress, ServerFile { kept, image })),
+            Ok((server, progress)) => Ok((server, progress, Saved::new(kept, image))),
             Err(fault) => Err((fault, kept)),
         },
         None => {
-            let file = ServerFile {
-                kept,
-                image: Vec::new(alloc),
-            };
+            let file = Saved::new(kept, Vec::new(alloc));
             begun(file, address)
         }
     }

@@ -1,28 +1,56 @@
 -- How a run whose state was then closed ended.
-use Rattle.std.proofs.Common.{◌≡◌, ◌⊎◌, ℕ, List, refl, sym, ◌∙◌, inl, inr}
-use Rattle.std.specs.Prelude.{Option, Result, Ok, Err}
-use Rattle.uecp_text.specs.declared.run_fault.RunFault.{RunFault}
-use Rattle.uecp_text.specs.declared.run_fault.RunFault.TheVariants as run
-use Rattle.uecp_text.specs.Faults.{status_of}
-use Rattle.kept_jobs.specs.declared.stop.KeptStop.{KeptStop}
-use Rattle.kept_jobs.specs.declared.stop.KeptStop.TheVariants.{Run, Unanswered, StateFailed}
-use Rattle.kept_jobs.specs.Stops.{Went, stop_status}
+use Rattle.std.proofs.Common.{◌≡◌, ◌⊎◌, ℕ, List, refl, sym, ◌∙◌, inl, inr, subst}
+use Rattle.std.specs.Prelude.{Option, Ok, Err}
+use Rattle.uecp_text.specs.Written.{Begins}
+use Rattle.kept_jobs.specs.Stops.{Went, state_line}
 use Rattle.kept_jobs.specs.ServerRun.{IsTold}
 use Rattle.state_files.specs.declared.fault.StateFault.{StateFault}
-use Rattle.state_jobs.specs.Texts.{IsClosed}
+use Rattle.state_jobs.specs.Texts.{state_text, Closed, IsClosed, unclosed_line}
+use Rattle.state_jobs.specs.Kept.{SaysMore, SaysWhy}
 use Rattle.state_jobs.specs.ServerJob.{status_so}
 
-pub status_after : (status : ℕ) (closed : Result (Unit {0}) StateFault) (status' : ℕ) (told told' : Option (List ℕ))
-    → (status ≡ 0) ⊎ ((status ≡ 1) ⊎ (status ≡ 3)) → IsClosed status closed status' told told'
+pub status_after : (path : List ℕ) (status : ℕ) (closed : Closed) (status' : ℕ) (told told' : Option (List ℕ))
+    → (status ≡ 0) ⊎ ((status ≡ 1) ⊎ (status ≡ 3)) → IsClosed path status closed status' told told'
     → (status' ≡ 0) ⊎ ((status' ≡ 1) ⊎ (status' ≡ 3))
-status_after status closed status' told told' was closes = elim closes [
-  | inl same ↦ elim was [
-    | inl is ↦ inl (same.0 ∙ is)
-    | inr (inl is) ↦ inr (inl (same.0 ∙ is))
-    | inr (inr is) ↦ inr (inr (same.0 ∙ is))
-  ]
-  | inr lost ↦ inr (inr lost.3)
-]
+status_after path status (Ok done) status' told told' (inl was) is = inl (is.0 ∙ was)
+status_after path status (Ok done) status' told told' (inr (inl was)) is = inr (inl (is.0 ∙ was))
+status_after path status (Ok done) status' told told' (inr (inr was)) is = inr (inr (is.0 ∙ was))
+status_after path status (Err fault) status' told told' was is = inr (inr is.0)
+
+-- where the status is not 3 the close went well
+pub closed_well : (path : List ℕ) (status : ℕ) (closed : Closed) (status' : ℕ) (told told' : Option (List ℕ))
+    → (status' ≡ 3 → ⊥) → IsClosed path status closed status' told told'
+    → (closed ≡ Ok tt) × (status ≡ status') × (told' ≡ told)
+closed_well path status (Ok done) status' told told' never is = (refl, sym is.0, is.1)
+closed_well path status (Err fault) status' told told' never is = absurd (never is.0)
+
+-- where it is 3, the run stopped, or it was done and the close gave a fault
+pub closed_badly : (path : List ℕ) (status : ℕ) (closed : Closed) (told told' : Option (List ℕ))
+    → (status ≡ 0) ⊎ (status ≡ 3) → IsClosed path status closed 3 told told'
+    → (status ≡ 3) ⊎ ((fault : StateFault) × (status ≡ 0) × (closed ≡ Err fault)
+    × Begins told told' (state_line (state_text fault)))
+closed_badly path status closed told told' (inr was) is = inl was
+closed_badly path status (Ok done) told told' (inl was) is = absurd (let three : 3 ≡ 0 = is.0 ∙ was in cc)
+closed_badly path status (Err fault) told told' (inl was) is =
+    inr (fault, was, refl, subst (λ s. Begins told told' (unclosed_line path s fault)) was is.1)
+
+pub says_more : (path : List ℕ) (status : ℕ) (closed : Closed) (status' : ℕ) (told told' : Option (List ℕ))
+    → IsClosed path status closed status' told told' → SaysMore path told told'
+says_more path status (Ok done) status' told told' is = inl is.1
+says_more path status (Err fault) status' told told' is = inr (status, fault, is.1)
+
+-- what was said of a run whose state was then closed, where the status is 3
+pub says_end : (path : List ℕ) (went : Went) (status : ℕ) (closed : Closed) (told between told' : Option (List ℕ))
+    → IsTold went status told between → IsClosed path status closed 3 between told' → SaysWhy path told told'
+says_end path (Err stop) status closed told between told' is closes =
+    inr (stop, between, is.1, says_more path status closed 3 between told' closes)
+says_end path (Ok done) status (Ok well) told between told' is closes =
+    absurd (let three : 3 ≡ 0 = closes.0 ∙ is.0 in cc)
+says_end path (Ok done) status (Err fault) told between told' is closes = inl (
+  fault,
+  subst (λ x. Begins x told' (state_line (state_text fault))) is.1
+      (subst (λ s. Begins between told' (unclosed_line path s fault)) is.0 closes.1),
+)
 
 -- the status of a run that was told is that of how it went
 told_status : (went : Went) (status : ℕ) (told told' : Option (List ℕ)) → IsTold went status told told'
@@ -36,27 +64,3 @@ told_so went status told told' is was = elim was [
   | inl done ↦ inl (told_status went status told told' is ∙ done)
   | inr refused ↦ inr (told_status went status told told' is ∙ refused)
 ]
-
--- no fault has the status of a run that was done
-never_0 : (fault : RunFault) → status_of fault ≡ 0 → ⊥
-never_0 (run.Text number refusal) is = absurd cc
-never_0 (run.Services refusal) is = absurd cc
-never_0 run.NotAList is = absurd cc
-never_0 run.Address is = absurd cc
-never_0 run.TooLong is = absurd cc
-never_0 run.Reading is = absurd cc
-never_0 run.Writing is = absurd cc
-never_0 run.OutOfMemory is = absurd cc
-never_0 run.Listening is = absurd cc
-never_0 run.Connection is = absurd cc
-never_0 run.Outstanding is = absurd cc
-
-stop_never_0 : (stop : KeptStop) → stop_status stop ≡ 0 → ⊥
-stop_never_0 (Run fault) is = never_0 fault is
-stop_never_0 Unanswered is = absurd cc
-stop_never_0 StateFailed is = absurd cc
-
-pub told_done : (went : Went) (status : ℕ) (told told' : Option (List ℕ)) → IsTold went status told told'
-    → status ≡ 0 → (went ≡ Ok tt) × (told' ≡ told)
-told_done (Ok done) status told told' is zero = (refl, is.1)
-told_done (Err stop) status told told' is zero = absurd (stop_never_0 stop (sym is.0 ∙ zero))

@@ -1,6 +1,6 @@
 -- What comes of a job with its state in a file.
-use Rattle.std.proofs.Common.{◌≡◌, ◌⊎◌, ℕ, zero, suc, ◌+◌, List, [], ◌∷◌, ◌++◌, length, refl, sym, ap, subst, inl, inr}
-use Rattle.std.specs.Prelude.{Option, None, Ok, Err}
+use Rattle.std.proofs.Common.{◌≡◌, ℕ, zero, suc, ◌+◌, List, [], ◌∷◌, length, refl, sym, ap, subst, inl, inr}
+use Rattle.std.specs.Prelude.{Option, Ok}
 use Rattle.std.specs.Io.KnownBytes.{Appends}
 use Rattle.rds_store.specs.Value.{Store}
 use Rattle.rds_store.specs.Step.{step}
@@ -12,12 +12,13 @@ use Rattle.uecp_jobs.specs.declared.job.Job.TheVariants.{Answer, AnswerAs, Show,
 use Rattle.uecp_jobs.specs.declared.job.Job.TheVariants.{Line, LineAs, Encoder, Server, Watch}
 use Rattle.uecp_encoder.specs.Keeping.{Kept}
 use Rattle.uecp_encoder.specs.ServingWith.{Ended}
-use Rattle.kept_jobs.specs.declared.stop.KeptStop.{KeptStop}
 use Rattle.kept_jobs.specs.declared.stop.KeptStop.TheVariants.{Run}
-use Rattle.kept_jobs.specs.Stops.{Went, TellsKept}
+use Rattle.kept_jobs.specs.Stops.{TellsKept}
 use Rattle.kept_jobs.specs.EncoderRun.{Standing, ServesFrom, ServesNext, ended_line, ended_so}
 use Rattle.state_files.specs.declared.fault.StateFault.{StateFault}
-use Rattle.state_jobs.specs.EncoderJob.{Closed, Serves, ServesJob, Stops, HasStopped}
+use Rattle.state_jobs.specs.Texts.{Closed}
+use Rattle.state_jobs.specs.EncoderJob.{Serves, ServesJob, Stops, HasStopped}
+use Rattle.state_jobs.proofs.Ending.{says_more}
 use Rattle.state_jobs.specs.Kept.{ended_lines, SaysWhy, ServedKept, HasServedKept}
 
 module _ {K C I O : Type 0} (gives : (path : List ℕ) → EncoderState Store → K → Type 0)
@@ -101,17 +102,19 @@ module _ {K C I O : Type 0} (gives : (path : List ℕ) → EncoderState Store �
 
   stops_why : (refuses : StateFault → Type 0) (path : List ℕ) (job : Job) (c c' : C)
       (held held' told told' : Option (List ℕ))
-      → Stops refuses
+      → Stops path refuses
       (ServesJob gives ends most room leaves is_clean saves fails opens closes remaining contents path job c c' held
-      held') c c' held held' told told' → SaysWhy told told'
+      held') c c' held held' told told' → SaysWhy path told told'
   stops_why refuses path job c c' held held' told told' (inl opened) = inl (opened.0, opened.4)
-  stops_why refuses path job c c' held held' told told' (inr (inl stopped)) = inr (stopped.0, stopped.3)
+  stops_why refuses path job c c' held held' told told' (inr (inl stopped)) =
+      inr (stopped.0, stopped.2, stopped.4, says_more path 3 stopped.1 3 stopped.2 told' stopped.5)
   stops_why refuses path job c c' held held' told told' (inr (inr unclosed)) = inl (unclosed.0, unclosed.2)
 
   pub says_why : (refuses : List ℕ → StateFault → Type 0) (path : List ℕ) (job : Job) (c c' : C)
       (held held' told told' : Option (List ℕ))
       → HasStopped gives ends most room leaves is_clean saves fails opens closes remaining contents refuses path job c
-      c' held held' told told' → SaysWhy told told'
-  says_why refuses path job c c' held held' told told' (inl wanting) = inr (Run run.OutOfMemory, wanting.2)
+      c' held held' told told' → SaysWhy path told told'
+  says_why refuses path job c c' held held' told told' (inl wanting) =
+      inr (Run run.OutOfMemory, told', wanting.2, inl refl)
   says_why refuses path job c c' held held' told told' (inr stops) =
       stops_why (refuses path) path job c c' held held' told told' stops

@@ -1,18 +1,26 @@
 -- How a run that came to no end is told by another.
-use Rattle.std.proofs.Common.{◌≡◌, ◌⊎◌, ℕ, List, inl, inr, sym, ◌∙◌}
+use Rattle.std.proofs.Common.{◌≡◌, ℕ, List, inl, inr, sym, ◌∙◌}
 use Rattle.std.specs.Prelude.{Option, Ok, Err}
 use Rattle.kept_jobs.specs.declared.stop.KeptStop.{KeptStop}
 use Rattle.kept_jobs.specs.Stops.{Went}
 use Rattle.state_files.specs.declared.fault.StateFault.{StateFault}
-use Rattle.state_jobs.specs.EncoderJob.{Closed, Stops}
+use Rattle.state_jobs.specs.Texts.{Closed}
+use Rattle.state_jobs.specs.EncoderJob.{Stops}
 
-pub stops_as : {C : Type 0} (refuses : StateFault → Type 0) (P Q : Went → Closed → Type 0) (c c' : C)
+pub stops_as : {C : Type 0} (path : List ℕ) (refuses : StateFault → Type 0) (P Q : Went → Closed → Type 0) (c c' : C)
     (held held' told told' : Option (List ℕ))
     → ((went : Went) (closed : Closed) → P went closed → Q went closed)
-    → Stops refuses P c c' held held' told told' → Stops refuses Q c c' held held' told told'
-stops_as refuses P Q c c' held held' told told' f stops = elim stops [
+    → Stops path refuses P c c' held held' told told' → Stops path refuses Q c c' held held' told told'
+stops_as path refuses P Q c c' held held' told told' f stops = elim stops [
   | inl opened ↦ inl opened
-  | inr (inl stopped) ↦ inr (inl (stopped.0, stopped.1, f (Err stopped.0) stopped.1 stopped.2, stopped.3))
+  | inr (inl stopped) ↦ inr (inl (
+    stopped.0,
+    stopped.1,
+    stopped.2,
+    f (Err stopped.0) stopped.1 stopped.3,
+    stopped.4,
+    stopped.5,
+  ))
   | inr (inr unclosed) ↦ inr (inr (unclosed.0, f (Ok tt) (Err unclosed.0) unclosed.1, unclosed.2))
 ]
 

@@ -1,6 +1,6 @@
 -- What the loops over a state's parts go by.
 use Rattle.std.proofs.Common.{◌≡◌, ℕ, zero, suc, ◌+◌, List, [], ◌∷◌, ◌++◌, drop, flat_map, Some, None, refl, ap}
-use Rattle.std.proofs.Common.{sym, ◌∙◌, arith, unwrap_or}
+use Rattle.std.proofs.Common.{◌∙◌, arith, unwrap_or}
 use Rattle.std.specs.List.{slice_get}
 use Rattle.uecp_link.specs.Server.{Held}
 use Rattle.state_jobs.specs.StateLines.{held_line}

@@ -1,5 +1,5 @@
 -- What the job `encoder` does whose state is in a file, and how it ends (profile).
-use Rattle.std.specs.Prelude.{◌≡◌, ◌⊎◌, ℕ, List, Option, Result, Ok, Err}
+use Rattle.std.specs.Prelude.{◌≡◌, ◌⊎◌, ℕ, List, Option, Ok, Err}
 use Rattle.rds_store.specs.Value.{Store}
 use Rattle.rds_store.specs.Step.{step}
 use Rattle.uecp_encoder.specs.State.{EncoderState}
@@ -16,7 +16,7 @@ use Rattle.kept_jobs.specs.Stops.{Went, stop_lines, state_line}
 use Rattle.kept_jobs.specs.EncoderRun.{ServesFrom, OutlivesRun}
 use Rattle.state_files.specs.Encoders.{IsDescribed}
 use Rattle.state_files.specs.declared.fault.StateFault.{StateFault}
-use Rattle.state_jobs.specs.Texts.{state_text}
+use Rattle.state_jobs.specs.Texts.{state_text, Closed, IsClosed}
 
 -- An encoder came from a state that was opened so: it is the one that is asked for, and a crash would leave of it what
 -- is to be kept.
@@ -26,19 +26,16 @@ pub record IsOpened {K : Type 0} (gives : EncoderState Store → K → Type 0) (
   pub described : IsDescribed address sets services e
   pub settled : is_clean k → Settled (leaves k) e
 
--- how the close of a state went
-abbrev pub Closed : Type 0
-Closed = Result (Unit {0}) StateFault
-
 -- A run that serves so came to no end: the open of the state gave this fault, and then no connection was opened and
 -- nothing written; or the run stopped, and the state was closed; or it was done, and the close gave this fault. Why was
 -- said, or begun to be said.
-abbrev pub Stops : {C : Type 0} → (refuses : StateFault → Type 0) → (serves : Went → Closed → Type 0) → (c c' : C)
-    → (held held' told told' : Option (List ℕ)) → Type 0
-Stops refuses serves c c' held held' told told' =
+abbrev pub Stops : {C : Type 0} → (path : List ℕ) → (refuses : StateFault → Type 0)
+    → (serves : Went → Closed → Type 0) → (c c' : C) → (held held' told told' : Option (List ℕ)) → Type 0
+Stops path refuses serves c c' held held' told told' =
     ((fault : StateFault) × refuses fault × (c' ≡ c) × (held' ≡ held)
     × Begins told told' (state_line (state_text fault)))
-    ⊎ (((stop : KeptStop) × (closed : Closed) × serves (Err stop) closed × Begins told told' (stop_lines stop))
+    ⊎ (((stop : KeptStop) × (closed : Closed) × (between : Option (List ℕ)) × serves (Err stop) closed
+    × Begins told between (stop_lines stop) × IsClosed path 3 closed 3 between told')
     ⊎ ((fault : StateFault) × serves (Ok tt) (Err fault) × Begins told told' (state_line (state_text fault))))
 
 module _ {K C I O : Type 0} (gives : (path : List ℕ) → EncoderState Store → K → Type 0)
@@ -86,4 +83,4 @@ module _ {K C I O : Type 0} (gives : (path : List ℕ) → EncoderState Store �
       → (held held' told told' : Option (List ℕ)) → Type 0
   HasStopped refuses path job c c' held held' told told' =
       ((c' ≡ c) × (held' ≡ held) × Begins told told' (error_lines run.OutOfMemory))
-      ⊎ Stops (refuses path) (ServesJob path job c c' held held') c c' held held' told told'
+      ⊎ Stops path (refuses path) (ServesJob path job c c' held held') c c' held held' told told'

@@ -17,7 +17,7 @@ use Rattle.kept_jobs.specs.Stops.{stop_lines, state_line}
 use Rattle.kept_jobs.specs.EncoderRun.{ended_line}
 use Rattle.kept_jobs.specs.ServerKept.{HasTakenInput}
 use Rattle.state_files.specs.declared.fault.StateFault.{StateFault}
-use Rattle.state_jobs.specs.Texts.{state_text}
+use Rattle.state_jobs.specs.Texts.{state_text, unclosed_line}
 use Rattle.state_jobs.specs.EncoderJob.{IsOpened}
 
 -- the lines of connections, the first of which has this number
@@ -25,10 +25,17 @@ abbrev pub ended_lines : ℕ → List Ended → List ℕ
 ended_lines number [] = []
 ended_lines number (ended ∷ rest) = ended_line number ended ++ ended_lines (number + 1) rest
 
--- It was said that the state can't be had, and why; or why the run stopped. Or that was begun to be said.
-abbrev pub SaysWhy : (told told' : Option (List ℕ)) → Type 0
-SaysWhy told told' = ((fault : StateFault) × Begins told told' (state_line (state_text fault)))
-    ⊎ ((stop : KeptStop) × Begins told told' (stop_lines stop))
+-- Nothing more was said; or what became of the file at this path, or that was begun to be said.
+abbrev pub SaysMore : (path : List ℕ) → (told told' : Option (List ℕ)) → Type 0
+SaysMore path told told' = (told' ≡ told)
+    ⊎ ((status : ℕ) × (fault : StateFault) × Begins told told' (unclosed_line path status fault))
+
+-- It was said that the state can't be had, and why; or why the run stopped, and then, where the state at the path could
+-- not be closed, that too. Or that was begun to be said.
+abbrev pub SaysWhy : (path : List ℕ) → (told told' : Option (List ℕ)) → Type 0
+SaysWhy path told told' = ((fault : StateFault) × Begins told told' (state_line (state_text fault)))
+    ⊎ ((stop : KeptStop) × (between : Option (List ℕ)) × Begins told between (stop_lines stop)
+    × SaysMore path between told')
 
 -- The encoder in the state at the path, which is the one that is asked for, served so many connections, each has its
 -- line, and whatever a crash leaves then is the encoder as the last one left it.

@@ -13,8 +13,7 @@ use Rattle.kept_jobs.specs.ServerRun.{RunsServer, IsTold}
 use Rattle.kept_jobs.specs.ServerKept.{HasTakenInput, OutlivesRun}
 use Rattle.state_files.specs.declared.fault.StateFault.{StateFault}
 use Rattle.state_files.specs.declared.fault.StateFault.TheVariants.{Damaged}
-use Rattle.state_jobs.specs.Texts.{state_text}
-use Rattle.state_jobs.specs.EncoderJob.{Closed}
+use Rattle.state_jobs.specs.Texts.{state_text, Closed, IsClosed}
 
 -- the exit status of a run that went so
 abbrev pub status_so : Went → ℕ
@@ -28,6 +27,14 @@ abbrev pub RefusesServer : {K : Type 0} → (gives : List ℕ → ServerState �
 RefusesServer {K} gives refuses path fault = refuses path fault
     ⊎ ((s : ServerState) × (progress : Progress) × (k : K) × gives path s progress k × (2 ^ 63 ≤ progress.taken)
     × (fault ≡ Damaged))
+
+-- The state could not be opened: nothing was read, connected or written, and that was said, or begun to be said.
+abbrev pub HasLostState : {K C : Type 0} → (gives : List ℕ → ServerState → Progress → K → Type 0)
+    → (refuses : List ℕ → StateFault → Type 0) → (path : List ℕ) → (unread unread' : Option (List ℕ)) → (c c' : C)
+    → (held held' told told' : Option (List ℕ)) → Type 0
+HasLostState gives refuses path unread unread' c c' held held' told told' =
+    (fault : StateFault) × Begins told told' (state_line (state_text fault))
+    × RefusesServer gives refuses path fault × (unread' ≡ unread) × (c' ≡ c) × (held' ≡ held)
 
 module _ {K C I O : Type 0} (gives : (path : List ℕ) → ServerState → Progress → K → Type 0)
     (ends : K → Closed → Type 0) (leaves : K → KeptServer → Type 0) (is_clean : K → Type 0)
@@ -76,19 +83,10 @@ module _ {K C I O : Type 0} (gives : (path : List ℕ) → ServerState → Progr
       unread unread' c c' held held' went closed
   SendsJob path job unread unread' c c' held held' went closed = ⊥
 
-  -- The state could not be opened: nothing was read, opened or written. Or the run was done, and the close of the state
-  -- gave this fault. That was said, or begun to be said.
-  abbrev pub HasLostState : (refuses : List ℕ → StateFault → Type 0) → (path : List ℕ) → Job
-      → (unread unread' : Option (List ℕ)) → (c c' : C) → (held held' told told' : Option (List ℕ)) → Type 0
-  HasLostState refuses path job unread unread' c c' held held' told told' =
-      (fault : StateFault) × Begins told told' (state_line (state_text fault))
-      × ((RefusesServer gives refuses path fault × (unread' ≡ unread) × (c' ≡ c) × (held' ≡ held))
-      ⊎ SendsJob path job unread unread' c c' held held' (Ok tt) (Err fault))
-
-  -- Its messages were sent, and the run went so, and that was told; the state was closed, and where the status is 0,
-  -- that went well.
+  -- Its messages were sent, and the run went so, and that was told; then the state was closed.
   abbrev pub HasSent : (path : List ℕ) → Job → (status : ℕ) → (unread unread' : Option (List ℕ)) → (c c' : C)
       → (held held' told told' : Option (List ℕ)) → Type 0
   HasSent path job status unread unread' c c' held held' told told' =
-      (went : Went) × (closed : Closed) × SendsJob path job unread unread' c c' held held' went closed
-      × IsTold went status told told' × ((status ≡ 0) → closed ≡ Ok tt)
+      (went : Went) × (closed : Closed) × (before : ℕ) × (between : Option (List ℕ))
+      × SendsJob path job unread unread' c c' held held' went closed × IsTold went before told between
+      × IsClosed path before closed status between told'

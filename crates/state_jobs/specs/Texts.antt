@@ -1,5 +1,5 @@
 -- What is said of a state that can't be had (profile).
-use Rattle.std.specs.Prelude.{◌≡◌, ◌⊎◌, ℕ, List, codes, Option, Result, Ok, Err}
+use Rattle.std.specs.Prelude.{◌≡◌, ◌++◌, ◌==◌, if◌then◌else◌, ℕ, List, codes, Option, Result, Ok, Err}
 use Rattle.rds_store.specs.Fault.{name_of}
 use Rattle.uecp_text.specs.Written.{Begins}
 use Rattle.kept_jobs.specs.Stops.{state_line}
@@ -23,12 +23,30 @@ state_text state.Full = codes "no room for the state"
 state_text state.OutOfMemory = codes "out of memory"
 state_text state.Failed = codes "state failed"
 
--- A run ended with a status, and its state was closed so: the status stays, and nothing is said, where the state was
--- closed or the run was not done; or it was, the state could not be closed, that was said, or begun to be said, and the
--- status is 3.
-abbrev pub IsClosed : (status : ℕ) → Result (Unit {0}) StateFault → (status' : ℕ) → (told told' : Option (List ℕ))
+-- ---- The end of a run.
+
+-- why nothing more is kept in a file
+abbrev pub why_text : StateFault → List ℕ
+why_text state.Failed = codes "the disk failed"
+why_text fault = state_text fault
+
+-- the line that says so of the file at this path
+abbrev pub file_line : (path why : List ℕ) → List ℕ
+file_line path why = codes "uecp: " ++ (path ++ (codes ": " ++ (why ++ codes "\n")))
+
+-- how the close of a state went
+abbrev pub Closed : Type 0
+Closed = Result (Unit {0}) StateFault
+
+-- what is said of a close that gave this fault: behind a run that stopped, with status 3, in which file nothing more is
+-- kept, and why; behind another that the state could not be closed
+abbrev pub unclosed_line : (path : List ℕ) → (status : ℕ) → StateFault → List ℕ
+unclosed_line path status fault = if status == 3 then file_line path (why_text fault) else state_line (state_text fault)
+
+-- A run ended with a status, and its state was then closed so. Where that went well the status stays, and nothing is
+-- said; else the status is 3, and that is said, or begun to be said.
+abbrev pub IsClosed : (path : List ℕ) → (status : ℕ) → Closed → (status' : ℕ) → (told told' : Option (List ℕ))
     → Type 0
-IsClosed status closed status' told told' =
-    ((status' ≡ status) × (told' ≡ told) × ((status ≡ 0) → closed ≡ Ok tt))
-    ⊎ ((fault : StateFault) × (closed ≡ Err fault) × (status ≡ 0) × (status' ≡ 3)
-    × Begins told told' (state_line (state_text fault)))
+IsClosed path status (Ok done) status' told told' = (status' ≡ status) × (told' ≡ told)
+IsClosed path status (Err fault) status' told told' =
+    (status' ≡ 3) × Begins told told' (unclosed_line path status fault)

@@ -55,7 +55,7 @@ pub fn run_encoder_in<S: OpenStates, W: Write, E: Write, C: Connections>(
         (S.refuses_encoder states.now) path.now job.now connect.old connect.new (W.contents writer.old)
         (W.contents writer.new) (E.contents errors.old) (E.contents errors.new) }
     // 3: so why was said, or begun to be said.
-    ensures said { result ≡ 3 → SaysWhy (E.contents errors.old) (E.contents errors.new) }
+    ensures said { result ≡ 3 → SaysWhy path.now (E.contents errors.old) (E.contents errors.new) }
 {
     match job {
         Job::Encoder {
@@ -129,7 +129,7 @@ fn serve_in<S: OpenStates, W: Write, E: Write, C: Connections>(
         S.EncoderKeeper.saves S.EncoderKeeper.fails C.opens C.closes C.Input.remaining C.Output.contents
         path.now address setup.now.sets setup.now.services.now bounds.connections bounds.turns connect.old connect.new
         (W.contents writer.old) (W.contents writer.new) (Ok tt) (Ok tt) × (errors.new ≡ errors.old) }
-    ensures failed { result ≡ 3 → Stops (S.refuses_encoder states.now path.now)
+    ensures failed { result ≡ 3 → Stops path.now (S.refuses_encoder states.now path.now)
         (Serves (S.gives_encoder states.now) (S.closes_encoder states.now) S.EncoderKeeper.TOGETHER_MAX
         S.EncoderKeeper.READ_MAX S.EncoderKeeper.leaves S.EncoderKeeper.is_clean
         S.EncoderKeeper.saves S.EncoderKeeper.fails C.opens C.closes C.Input.remaining C.Output.contents path.now
@@ -151,7 +151,7 @@ fn serve_in<S: OpenStates, W: Write, E: Write, C: Connections>(
                 errors,
                 connect,
             );
-            closed_so(status, states.close_encoder(keeper), errors)
+            closed_so(path, status, states.close_encoder(keeper), errors)
         }
     }
 }

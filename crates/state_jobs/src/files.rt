@@ -1,97 +1,119 @@
-//! States in the files of the machine. The concrete store is named here alone. Source: profile.
+//! States in files, each at its path. Source: profile.
 
 use crate::open_states::OpenStates;
 use rds_store::RdsStore;
-use sqlite_image::StateFile;
+use sqlite::FileStore;
+use sqlite_disk::Disk;
+use sqlite_image::OpenFiles;
 use state_files::{
     EncoderFile, Found, READ_MAX, ServerFile, StateFault, TOGETHER_MAX, open_encoder, open_server,
     read_state,
 };
-use std::fs::File;
-use std::rt::HostRuntime;
-use uecp_encoder::{Encoder, KeepEncoder};
+use std::marker::PhantomData;
+use uecp_encoder::{Encoder, KeepEncoder, SaveFailed};
 use uecp_frame::Address;
 use uecp_link::Server;
 use uecp_net::{KeepServer, Progress};
 
-/// Keeps the state of an encoder in a file of the machine.
+/// Keeps the state of an encoder in a file.
 #[derive(Drop)]
-pub struct MachineEncoder {
-    file: EncoderFile<StateFile>,
+pub struct StoredEncoder<D: Disk> {
+    file: EncoderFile<FileStore<D>>,
 }
 
-impl KeepEncoder<RdsStore> for MachineEncoder {
+impl<D: Disk> KeepEncoder<RdsStore> for StoredEncoder<D> {
     const READ_MAX: usize = READ_MAX;
 
     const TOGETHER_MAX: usize = TOGETHER_MAX;
 
-    ghost READ_MAX = { ⟦<EncoderFile<StateFile> as KeepEncoder<RdsStore>>⟧.READ_MAX };
+    ghost READ_MAX = { ⟦<EncoderFile<FileStore<D>> as KeepEncoder<RdsStore>>⟧.READ_MAX };
 
-    ghost TOGETHER_MAX = { ⟦<EncoderFile<StateFile> as KeepEncoder<RdsStore>>⟧.TOGETHER_MAX };
+    ghost TOGETHER_MAX = { ⟦<EncoderFile<FileStore<D>> as KeepEncoder<RdsStore>>⟧.TOGETHER_MAX };
 
-    ghost reads_some = { ⟦<EncoderFile<StateFile> as KeepEncoder<RdsStore>>⟧.reads_some };
+    ghost reads_some = { ⟦<EncoderFile<FileStore<D>> as KeepEncoder<RdsStore>>⟧.reads_some };
 
-    ghost reads_few = { ⟦<EncoderFile<StateFile> as KeepEncoder<RdsStore>>⟧.reads_few };
+    ghost reads_few = { ⟦<EncoderFile<FileStore<D>> as KeepEncoder<RdsStore>>⟧.reads_few };
 
-    ghost answers_some = { ⟦<EncoderFile<StateFile> as KeepEncoder<RdsStore>>⟧.answers_some };
+    ghost answers_some = { ⟦<EncoderFile<FileStore<D>> as KeepEncoder<RdsStore>>⟧.answers_some };
 
-    ghost answers_few = { ⟦<EncoderFile<StateFile> as KeepEncoder<RdsStore>>⟧.answers_few };
+    ghost answers_few = { ⟦<EncoderFile<FileStore<D>> as KeepEncoder<RdsStore>>⟧.answers_few };
 
-    ghost leaves = { λ m. ⟦<EncoderFile<StateFile> as KeepEncoder<RdsStore>>⟧.leaves m.file };
+    ghost leaves = { λ m. ⟦<EncoderFile<FileStore<D>> as KeepEncoder<RdsStore>>⟧.leaves m.file };
 
-    ghost is_clean = { λ m. ⟦<EncoderFile<StateFile> as KeepEncoder<RdsStore>>⟧.is_clean m.file };
+    ghost is_clean = { λ m. ⟦<EncoderFile<FileStore<D>> as KeepEncoder<RdsStore>>⟧.is_clean m.file };
 
-    ghost saves = { λ m left n. ⟦<EncoderFile<StateFile> as KeepEncoder<RdsStore>>⟧.saves m.file left n.file };
+    ghost saves = { λ m left n. ⟦<EncoderFile<FileStore<D>> as KeepEncoder<RdsStore>>⟧.saves m.file left n.file };
 
-    ghost fails = { λ m left n. ⟦<EncoderFile<StateFile> as KeepEncoder<RdsStore>>⟧.fails m.file left n.file };
+    ghost fails = { λ m left n. ⟦<EncoderFile<FileStore<D>> as KeepEncoder<RdsStore>>⟧.fails m.file left n.file };
 
-    fn save(&mut self, encoder: &Encoder<RdsStore>) -> Result<(), uecp_encoder::SaveFailed> {
+    fn save(&mut self, encoder: &Encoder<RdsStore>) -> Result<(), SaveFailed> {
         self.file.save(encoder)
     }
 }
 
-/// Keeps the state of a server in a file of the machine.
+/// Keeps the state of a server in a file.
 #[derive(Drop)]
-pub struct MachineServer {
-    file: ServerFile<StateFile>,
+pub struct StoredServer<D: Disk> {
+    file: ServerFile<FileStore<D>>,
 }
 
-impl KeepServer for MachineServer {
-    ghost leaves = { λ m. ⟦<ServerFile<StateFile> as KeepServer>⟧.leaves m.file };
+impl<D: Disk> KeepServer for StoredServer<D> {
+    ghost leaves = { λ m. ⟦<ServerFile<FileStore<D>> as KeepServer>⟧.leaves m.file };
 
-    ghost is_clean = { λ m. ⟦<ServerFile<StateFile> as KeepServer>⟧.is_clean m.file };
+    ghost is_clean = { λ m. ⟦<ServerFile<FileStore<D>> as KeepServer>⟧.is_clean m.file };
 
-    ghost saves = { λ m left n. ⟦<ServerFile<StateFile> as KeepServer>⟧.saves m.file left n.file };
+    ghost saves = { λ m left n. ⟦<ServerFile<FileStore<D>> as KeepServer>⟧.saves m.file left n.file };
 
-    ghost fails = { λ m left n. ⟦<ServerFile<StateFile> as KeepServer>⟧.fails m.file left n.file };
+    ghost fails = { λ m left n. ⟦<ServerFile<FileStore<D>> as KeepServer>⟧.fails m.file left n.file };
 
-    fn save(&mut self, server: &Server, progress: Progress) -> Result<(), uecp_net::SaveFailed> {
+    fn save(&mut self, server: &Server, progress: Progress) -> Result<(), SaveFailed> {
         self.file.save(server, progress)
     }
 }
 
-impl OpenStates for HostRuntime {
-    type EncoderKeeper = MachineEncoder;
+/// Each state in a file of its own: what opening a path gives is what the file held, and a clean end leaves the state
+/// in the file alone.
+#[derive(Drop)]
+pub struct StatesInFiles<D, F> {
+    files: F,
+    of: PhantomData<D>,
+}
 
-    type ServerKeeper = MachineServer;
+impl<D: Disk + Drop, F: OpenFiles<D>> StatesInFiles<D, F> {
+    /// States in these files.
+    pub fn new(files: F) -> StatesInFiles<D, F> {
+        StatesInFiles {
+            files,
+            of: PhantomData,
+        }
+    }
+}
 
-    // of which file a path names, and what it holds, nothing is known
-    ghost gives_encoder = { λ files path e k. Unit {0} };
+impl<D: Disk + Drop, F: OpenFiles<D>> OpenStates for StatesInFiles<D, F> {
+    ghost use Rattle.state_files.specs.Opening.{GivesEncoder, GivesServer, Finds, Closes};
+    ghost use Rattle.std.specs.Prelude.{IfOk};
 
-    ghost gives_server = { λ files path s progress k. Unit {0} };
+    type EncoderKeeper = StoredEncoder<D>;
 
-    // nor why one can't be opened, closed or read
-    ghost refuses_encoder = { λ files path fault. Unit {0} };
+    type ServerKeeper = StoredServer<D>;
 
-    ghost refuses_server = { λ files path fault. Unit {0} };
+    ghost gives_encoder = { λ states path e k. GivesEncoder F.OpenFiles.holds states.files path e k.file };
 
-    ghost closes_encoder = { λ files k closed. Unit {0} };
+    ghost gives_server = { λ states path s progress k.
+        GivesServer F.OpenFiles.holds states.files path s progress k.file };
 
-    ghost closes_server = { λ files k closed. Unit {0} };
+    // why one can't be opened, closed or read is not said
+    ghost refuses_encoder = { λ states path fault. Unit {0} };
 
-    ghost finds = { λ files path found. Unit {0} };
+    ghost refuses_server = { λ states path fault. Unit {0} };
 
-    ghost hides = { λ files path fault. Unit {0} };
+    ghost closes_encoder = { λ states k closed. IfOk closed (λ _. Closes k.file) };
+
+    ghost closes_server = { λ states k closed. IfOk closed (λ _. Closes k.file) };
+
+    ghost finds = { λ states path found. Finds F.OpenFiles.holds states.files path D D.Disk found };
+
+    ghost hides = { λ states path fault. Unit {0} };
 
     fn open_encoder(
         &self,
@@ -99,9 +121,9 @@ impl OpenStates for HostRuntime {
         address: Address,
         sets: u8,
         services: &[u8],
-    ) -> Result<(Encoder<RdsStore>, MachineEncoder), StateFault> {
-        match open_encoder(self, path, address, sets, services) {
-            Ok((encoder, file)) => Ok((encoder, MachineEncoder { file })),
+    ) -> Result<(Encoder<RdsStore>, StoredEncoder<D>), StateFault> {
+        match open_encoder(&self.files, path, address, sets, services) {
+            Ok((encoder, file)) => Ok((encoder, StoredEncoder { file })),
             Err(fault) => Err(fault),
         }
     }
@@ -110,33 +132,30 @@ impl OpenStates for HostRuntime {
         &self,
         path: &str,
         address: Address,
-    ) -> Result<(Server, Progress, MachineServer), StateFault> {
-        match open_server(self, path, address) {
-            Ok((server, progress, file)) => Ok((server, progress, MachineServer { file })),
+    ) -> Result<(Server, Progress, StoredServer<D>), StateFault> {
+        match open_server(&self.files, path, address) {
+            Ok((server, progress, file)) => Ok((server, progress, StoredServer { file })),
             Err(fault) => Err(fault),
         }
     }
 
-    fn close_encoder(&self, keeper: MachineEncoder) -> Result<(), StateFault> {
-        let MachineEncoder { file } = keeper;
+    fn close_encoder(&self, encoder: StoredEncoder<D>) -> Result<(), StateFault> {
+        let StoredEncoder { file } = encoder;
         match file.close() {
-            Ok(_) => Ok(()),
+            Ok(_files) => Ok(()),
             Err(fault) => Err(fault),
         }
     }
 
-    fn close_server(&self, keeper: MachineServer) -> Result<(), StateFault> {
-        let MachineServer { file } = keeper;
+    fn close_server(&self, server: StoredServer<D>) -> Result<(), StateFault> {
+        let StoredServer { file } = server;
         match file.close() {
-            Ok(_) => Ok(()),
+            Ok(_files) => Ok(()),
             Err(fault) => Err(fault),
         }
     }
 
     fn read_state(&self, path: &str) -> Result<Found, StateFault> {
-        if File::open(self, path).is_err() {
-            return Err(StateFault::Unreachable);
-        }
-        read_state(self, path)
+        read_state(&self.files, path)
     }
 }

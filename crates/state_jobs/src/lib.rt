@@ -5,8 +5,7 @@
 //! in one. The services and the address are judged before a file is opened, and a state that is refused is not
 //! overwritten.
 //!
-//! Where states are kept is the matter of an [`OpenStates`]: the files of the machine, for a
-//! [`HostRuntime`](std::rt::HostRuntime).
+//! Where states are kept is the matter of an [`OpenStates`]: files, each at its path, for [`StatesInFiles`].
 #![tactic(auto)]
 
 mod encoder_job;
@@ -18,8 +17,8 @@ mod telling;
 mod texts;
 
 pub use encoder_job::run_encoder_in;
-pub use files::{MachineEncoder, MachineServer};
+pub use files::{StatesInFiles, StoredEncoder, StoredServer};
 pub use open_states::OpenStates;
 pub use server_job::run_server_in;
 pub use telling::tell_state;
-pub use texts::state_text;
+pub use texts::{closed_so, state_text};

@@ -1,19 +1,17 @@
 //! The job `server` with its state in a file. Source: profile.
-ghost use Rattle.std.specs.Prelude.{◌≡◌, ◌⊎◌, ◌≤◌, Some, None, Ok, Err, IsTrue};
+ghost use Rattle.std.specs.Prelude.{◌≡◌, ◌⊎◌, ◌≤◌, ℕ, List, Option, Some, None, IsTrue};
 ghost use Rattle.uecp_frame.specs.Address.{is_exact};
 ghost use Rattle.uecp_jobs.specs.Jobs.{IsUndescribed};
 ghost use Rattle.uecp_jobs.specs.ServerRun.{IsServer};
 ghost use Rattle.uecp_text.specs.Written.{Begins};
-ghost use Rattle.kept_jobs.specs.Stops.{Went, state_line};
+ghost use Rattle.kept_jobs.specs.Stops.{Went};
 ghost use Rattle.kept_jobs.specs.ServerRun.{IsTold};
-ghost use Rattle.state_files.specs.declared.fault.StateFault.{StateFault};
-ghost use Rattle.state_jobs.specs.Texts.{state_text};
+ghost use Rattle.state_jobs.specs.Texts.{Closed, IsClosed};
 ghost use Rattle.uecp_text.specs.declared.run_fault.RunFault.{RunFault};
 ghost use Rattle.uecp_text.specs.Faults.{error_lines};
 ghost use Rattle.kept_jobs.specs.ServerKept.{IsReadWith};
 ghost use Rattle.state_jobs.specs.Kept.{HasSentKept, SentKept, SaysWhy};
-ghost use Rattle.state_jobs.specs.EncoderJob.{Closed};
-ghost use Rattle.state_jobs.specs.ServerJob.{Sends, RefusesServer, HasLostState, HasSent};
+ghost use Rattle.state_jobs.specs.ServerJob.{Sends, HasLostState, HasSent};
 
 use crate::open_states::OpenStates;
 use crate::texts::{closed_so, state_text};
@@ -56,12 +54,9 @@ pub fn run_server_in<S: OpenStates, R: Read, W: Write, E: Write, C: Connections>
         C.opens C.closes C.Input.remaining C.Output.contents
         path.now job.now result (R.remaining reader.old) (R.remaining reader.new) connect.old connect.new
         (W.contents writer.old) (W.contents writer.new) (E.contents errors.old) (E.contents errors.new)
-        ⊎ ((result ≡ 3) × HasLostState (S.gives_server states.now) (S.closes_server states.now)
-        S.ServerKeeper.leaves S.ServerKeeper.is_clean
-        S.ServerKeeper.saves S.ServerKeeper.fails
-        C.opens C.closes C.Input.remaining C.Output.contents
-        (S.refuses_server states.now) path.now job.now (R.remaining reader.old) (R.remaining reader.new) connect.old
-        connect.new (W.contents writer.old) (W.contents writer.new) (E.contents errors.old) (E.contents errors.new))) }
+        ⊎ ((result ≡ 3) × HasLostState (S.gives_server states.now) (S.refuses_server states.now) path.now
+        (R.remaining reader.old) (R.remaining reader.new) connect.old connect.new (W.contents writer.old)
+        (W.contents writer.new) (E.contents errors.old) (E.contents errors.new))) }
     // 0: whatever the connections are, a crash leaves a server that has taken the messages of the input, of which none
     // waits, and no line is refused. Nothing was said on `errors`.
     ensures done { result ≡ 0 → HasSentKept (S.gives_server states.now) S.ServerKeeper.leaves S.ServerKeeper.is_clean
@@ -73,7 +68,7 @@ pub fn run_server_in<S: OpenStates, R: Read, W: Write, E: Write, C: Connections>
         × ((fault : RunFault) × IsReadWith (Some fault) (R.remaining reader.old) (R.remaining reader.new)
         × Begins (E.contents errors.old) (E.contents errors.new) (error_lines fault)) }
     // 3: why was said, or begun to be said.
-    ensures said { result ≡ 3 → SaysWhy (E.contents errors.old) (E.contents errors.new) }
+    ensures said { result ≡ 3 → SaysWhy path.now (E.contents errors.old) (E.contents errors.new) }
 {
     match job {
         Job::Server {
@@ -122,25 +117,18 @@ fn send_in<S: OpenStates, R: Read, W: Write, E: Write, C: Connections>(
 ) -> u8
     requires { IsTrue (is_exact address) }
     ensures status { (result ≡ 0) ⊎ ((result ≡ 1) ⊎ (result ≡ 3)) }
-    ensures sent { ((went : Went) × (closed : Closed) × Sends (S.gives_server states.now)
+    ensures sent { ((went : Went) × (closed : Closed) × (before : ℕ) × (between : Option (List ℕ))
+        × Sends (S.gives_server states.now)
         (S.closes_server states.now) S.ServerKeeper.leaves S.ServerKeeper.is_clean
         S.ServerKeeper.saves S.ServerKeeper.fails
         C.opens C.closes C.Input.remaining C.Output.contents
         path.now address options.now.limits options.now.window options.now.join (R.remaining reader.old)
         (R.remaining reader.new) connect.old connect.new (W.contents writer.old) (W.contents writer.new) went closed
-        × IsTold went result (E.contents errors.old) (E.contents errors.new) × ((result ≡ 0) → closed ≡ Ok tt))
-        ⊎ ((result ≡ 3) × ((fault : StateFault)
-        × Begins (E.contents errors.old) (E.contents errors.new) (state_line (state_text fault))
-        × ((RefusesServer (S.gives_server states.now) (S.refuses_server states.now) path.now fault
-        × (R.remaining reader.new ≡ R.remaining reader.old) × (connect.new ≡ connect.old)
-        × (W.contents writer.new ≡ W.contents writer.old))
-        ⊎ Sends (S.gives_server states.now) (S.closes_server states.now) S.ServerKeeper.leaves S.ServerKeeper.is_clean
-        S.ServerKeeper.saves
-        S.ServerKeeper.fails
-        C.opens C.closes C.Input.remaining C.Output.contents
-        path.now address options.now.limits options.now.window options.now.join (R.remaining reader.old)
-        (R.remaining reader.new) connect.old connect.new (W.contents writer.old) (W.contents writer.new) (Ok tt)
-        (Err fault)))) }
+        × IsTold went before (E.contents errors.old) between
+        × IsClosed path.now before closed result between (E.contents errors.new))
+        ⊎ ((result ≡ 3) × HasLostState (S.gives_server states.now) (S.refuses_server states.now) path.now
+        (R.remaining reader.old) (R.remaining reader.new) connect.old connect.new (W.contents writer.old)
+        (W.contents writer.new) (E.contents errors.old) (E.contents errors.new)) }
     // 0: whatever the connections are, a crash leaves a server that has taken the messages of the input, of which none
     // waits, and no line is refused. Nothing was said on `errors`.
     ensures done { result ≡ 0 → SentKept (S.gives_server states.now) S.ServerKeeper.leaves S.ServerKeeper.is_clean
@@ -152,7 +140,7 @@ fn send_in<S: OpenStates, R: Read, W: Write, E: Write, C: Connections>(
         × ((fault : RunFault) × IsReadWith (Some fault) (R.remaining reader.old) (R.remaining reader.new)
         × Begins (E.contents errors.old) (E.contents errors.new) (error_lines fault)) }
     // 3: why was said, or begun to be said.
-    ensures said { result ≡ 3 → SaysWhy (E.contents errors.old) (E.contents errors.new) }
+    ensures said { result ≡ 3 → SaysWhy path.now (E.contents errors.old) (E.contents errors.new) }
 {
     match states.open_server(path, address) {
         Err(fault) => fail_state(state_text(fault), errors),
@@ -171,7 +159,7 @@ fn send_in<S: OpenStates, R: Read, W: Write, E: Write, C: Connections>(
                 errors,
                 connect,
             );
-            closed_so(status, states.close_server(keeper), errors)
+            closed_so(path, status, states.close_server(keeper), errors)
         }
     }
 }

@@ -1,10 +1,12 @@
 //! What is said of a state that can't be had. Source: profile.
-ghost use Rattle.std.specs.Prelude.{◌≡◌};
-ghost use Rattle.state_jobs.specs.Texts.{state_text, IsClosed};
+ghost use Rattle.std.specs.Prelude.{◌≡◌, IfOk};
+ghost use Rattle.uecp_text.specs.Written.{Begins};
+ghost use Rattle.state_jobs.specs.Texts.{state_text, why_text, file_line, IsClosed};
 
 use kept_jobs::fail_state;
 use state_files::StateFault;
 use std::io::Write;
+use uecp_text::write_parts;
 
 /// What is said of a state that can't be opened, read or closed, behind `uecp: `.
 pub fn state_text(fault: StateFault) -> &'static str
@@ -28,14 +30,50 @@ pub fn state_text(fault: StateFault) -> &'static str
     }
 }
 
-/// The exit status of a run that ended with this one, and whose state was then closed so: where the run was done and
-/// the state could not be closed, that is said.
-pub(crate) fn closed_so<E: Write>(status: u8, closed: Result<(), StateFault>, errors: &mut E) -> u8
-    ensures closed { IsClosed status closed result (E.contents errors.old) (E.contents errors.new) }
-    ensures same { result ≡ status → errors.new ≡ errors.old }
+/// Why nothing more is kept in a file.
+fn why_text(fault: StateFault) -> &'static str
+    ensures { result.now ≡ why_text fault }
+{
+    match fault {
+        StateFault::Failed => "the disk failed",
+        other => state_text(other),
+    }
+}
+
+/// Says why nothing more is kept in the file at this path. A text that can't be written changes nothing.
+fn tell_file<'a, E: Write>(path: &'a str, why: &'a str, errors: &mut E)
+    ensures { Begins (E.contents errors.old) (E.contents errors.new) (file_line path.now why.now) }
+{
+    let parts = [b"uecp: ", path.as_bytes(), b": ", why.as_bytes(), b"\n"];
+    let _ = write_parts(&parts, errors);
+}
+
+/// The exit status of a run with its state at this path that ended with this status, and whose state was then closed
+/// so: where that went well the status stays; else it is 3, and that is said, or begun to be said. Behind a run that
+/// stopped, with 3, the line names the file and says why nothing more is kept in it.
+///
+/// ```
+/// let status = closed_so("tx1.db", status, states.close_encoder(keeper), &mut errors);
+/// // uecp: tx1.db: no room for the state
+/// ```
+pub fn closed_so<E: Write>(
+    path: &str,
+    status: u8,
+    closed: Result<(), StateFault>,
+    errors: &mut E,
+) -> u8
+    ensures closed { IsClosed path.now status closed result (E.contents errors.old) (E.contents errors.new) }
+    ensures same { IfOk closed (λ _. errors.new ≡ errors.old) }
 {
     match closed {
-        Err(fault) if status == 0 => fail_state(state_text(fault), errors),
-        _ => status,
+        Ok(()) => status,
+        Err(fault) => {
+            if status == 3 {
+                tell_file(path, why_text(fault), errors);
+                3
+            } else {
+                fail_state(state_text(fault), errors)
+            }
+        }
     }
 }

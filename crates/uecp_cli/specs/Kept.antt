@@ -55,10 +55,10 @@ IsKeptIn gives_encoder encoder_leaves encoder_clean gives_server server_leaves s
 -- The job came to no end, and why was said, or begun to be said: the state could not be opened, saved or closed, or the
 -- run stopped. Of an encoder no input was read; where a connection of a server could not be made the next line says
 -- why, if that is asked for.
-abbrev pub IsKeptStopped : Job → (unread unread' told told' : Option (List ℕ)) → Type 0
-IsKeptStopped job unread unread' told told' =
-    (SaysWhy told told' × (unread' ≡ unread))
-    ⊎ ((between : Option (List ℕ)) × SaysWhy told between × MaySayUnreached job between told')
+abbrev pub IsKeptStopped : (path : List ℕ) → Job → (unread unread' told told' : Option (List ℕ)) → Type 0
+IsKeptStopped path job unread unread' told told' =
+    (SaysWhy path told told' × (unread' ≡ unread))
+    ⊎ ((between : Option (List ℕ)) × SaysWhy path told between × MaySayUnreached job between told')
 
 -- What is in the file at the path was told, and no input was read.
 abbrev pub HasTold : (finds : (path : List ℕ) → Found → Type 0) → (path : List ℕ)

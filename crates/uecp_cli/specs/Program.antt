@@ -146,7 +146,7 @@ abbrev pub IsTaskStopped : (finds : (path : List ℕ) → Found → Type 0) → 
 IsTaskStopped finds (Plain job) unread unread' held held' told told' =
     HasNotEnded job unread unread' held held' told told'
 IsTaskStopped finds (Kept job path) unread unread' held held' told told' =
-    IsKeptStopped job unread unread' told told'
+    IsKeptStopped (string_bytes path) job unread unread' told told'
 IsTaskStopped finds (Send job) unread unread' held held' told told' = ⊥
 IsTaskStopped finds (Device job) unread unread' held held' told told' = ⊥
 IsTaskStopped finds (OnAir job) unread unread' held held' told told' = ⊥

@@ -26,6 +26,8 @@ use ladders::run_ladder;
 use live_edges::{Polled, Watch};
 use on_air_jobs::run_on_air_over_tcp;
 use page_server::run_page_over_tcp;
+use sqlite_image::{MachineFiles, Wary};
+use state_jobs::{OpenStates, StatesInFiles};
 use std::env;
 use std::io::{ErrorKind, Input, Lock, Read, Write};
 use std::process::ExitCode;
@@ -38,39 +40,51 @@ fn main(rt: HostRuntime) -> ExitCode {
     let mut writer = rt.stdout().lock();
     let mut errors = rt.stderr().lock();
     let status = match settled_words(&rt, &mut writer, &mut errors) {
-        Ok(words) => run(&rt, words.as_slice(), &mut reader, &mut writer, &mut errors),
+        Ok(words) => {
+            let states = StatesInFiles::new(MachineFiles::new(&rt, Wary));
+            run(
+                &rt,
+                words.as_slice(),
+                &mut reader,
+                &mut writer,
+                &mut errors,
+                &states,
+            )
+        }
         Err(status) => status,
     };
     ExitCode::from(status)
 }
 
 /// Does what the words ask for, and answers the exit status.
-fn run<R: Read, W: Write, E: Write>(
+fn run<R: Read, W: Write, E: Write, S: OpenStates>(
     rt: &HostRuntime,
     words: &[String],
     reader: &mut R,
     writer: &mut W,
     errors: &mut E,
+    states: &S,
 ) -> u8 {
-    match run_words(rt.alloc(), words, reader, writer, errors, rt, rt) {
+    match run_words(rt.alloc(), words, reader, writer, errors, rt, states) {
         Ran::Ended(status) => status,
-        Ran::Sends(job) => send_lines(rt, &job, reader, writer, errors),
+        Ran::Sends(job) => send_lines(rt, &job, reader, writer, errors, states),
         Ran::Airs(job) => run_answer_on_air(rt.alloc(), &job, reader, writer, errors),
         Ran::Draws(job) => run_ladder(rt.alloc(), &job, reader, writer, errors),
         Ran::Receives(job) => receive(rt.alloc(), &job, rt, reader, writer, errors),
         Ran::Pages(job) => run_page_over_tcp(rt.alloc(), &job, reader, STANDARD_INPUT, errors, rt),
         Ran::Tries(job) => run_conformance_over_tcp(rt.alloc(), &job, writer, errors, rt),
-        Ran::Serves(job) => serve(rt, &job, writer, errors),
+        Ran::Serves(job) => serve(rt, &job, writer, errors, states),
     }
 }
 
 /// Sends what the lines of the reader say, for as long as they come, and answers the exit status.
-fn send_lines<R: Read, W: Write, E: Write>(
+fn send_lines<R: Read, W: Write, E: Write, S: OpenStates>(
     rt: &HostRuntime,
     job: &SendJob,
     reader: &mut R,
     writer: &mut W,
     errors: &mut E,
+    states: &S,
 ) -> u8
     requires { IsLiveInRange job.now }
 {
@@ -88,25 +102,26 @@ fn send_lines<R: Read, W: Write, E: Write>(
         &watch,
         &mut notices,
         rt,
-        rt,
+        states,
     );
     watch.finish();
     status
 }
 
 /// Is a device, on the air where the job asks for that, and answers the exit status.
-fn serve<W: Write, E: Write>(
+fn serve<W: Write, E: Write, S: OpenStates>(
     rt: &HostRuntime,
     job: &DeviceJob,
     writer: &mut W,
     errors: &mut E,
+    states: &S,
 ) -> u8 {
     if job.air.is_some() || job.air_bits {
         let mut notices = rt.stderr().lock();
-        return run_on_air_over_tcp(rt.alloc(), job, writer, errors, &mut notices, rt, rt);
+        return run_on_air_over_tcp(rt.alloc(), job, writer, errors, &mut notices, rt, states);
     }
     let mut effects = rt.stdout().lock();
-    run_device_over_tcp(rt.alloc(), job, writer, errors, &mut effects, rt, rt)
+    run_device_over_tcp(rt.alloc(), job, writer, errors, &mut effects, rt, states)
 }
 
 /// The words of the command line, with the options of the file that they name; or the exit status where they are none,

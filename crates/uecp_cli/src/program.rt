@@ -334,7 +334,7 @@ fn run_kept<
         (E.contents errors.old) (E.contents errors.new) }
     ensures undescribed { result ≡ 2 → IsUndescribed job.now (E.contents errors.old) (E.contents errors.new)
         × (reader.new ≡ reader.old) × (writer.new ≡ writer.old) }
-    ensures failed { result ≡ 3 → IsKeptStopped job.now (R.remaining reader.old) (R.remaining reader.new)
+    ensures failed { result ≡ 3 → IsKeptStopped path.now job.now (R.remaining reader.old) (R.remaining reader.new)
         (E.contents errors.old) (E.contents errors.new) }
     ensures kept { (result ≡ 0) ⊎ (result ≡ 1) → IsKeptIn (S.gives_encoder states.now) S.EncoderKeeper.leaves
         S.EncoderKeeper.is_clean
@@ -363,7 +363,7 @@ fn run_kept_encoder<
         × (errors.new ≡ errors.old) }
     ensures undescribed { result ≡ 2 → IsUndescribed job.now (E.contents errors.old) (E.contents errors.new)
         × (writer.new ≡ writer.old) }
-    ensures failed { result ≡ 3 → SaysWhy (E.contents errors.old) (E.contents errors.new) }
+    ensures failed { result ≡ 3 → SaysWhy path.now (E.contents errors.old) (E.contents errors.new) }
     ensures kept { result ≡ 0 → HasServedKept (S.gives_encoder states.now) S.EncoderKeeper.leaves
         S.EncoderKeeper.is_clean
         path.now job.now (W.contents writer.old) (W.contents writer.new) }
@@ -397,7 +397,7 @@ fn run_kept_server<
         (E.contents errors.old) (E.contents errors.new) }
     ensures undescribed { result ≡ 2 → IsUndescribed job.now (E.contents errors.old) (E.contents errors.new)
         × (reader.new ≡ reader.old) × (writer.new ≡ writer.old) }
-    ensures failed { result ≡ 3 → (between : Option (List ℕ)) × SaysWhy (E.contents errors.old) between
+    ensures failed { result ≡ 3 → (between : Option (List ℕ)) × SaysWhy path.now (E.contents errors.old) between
         × MaySayUnreached job.now between (E.contents errors.new) }
     ensures kept { (result ≡ 0) ⊎ (result ≡ 1) → HasSentKept (S.gives_server states.now) S.ServerKeeper.leaves
         S.ServerKeeper.is_clean

@@ -17,6 +17,9 @@ use Rattle.uecp_encoder.specs.Laws.{fresh_in}
 use Rattle.uecp_encoder.specs.Serving.{replies_in, replies_among}
 use Rattle.uecp_encoder.specs.declared.batch.Batch.{Batch}
 use Rattle.uecp_encoder.specs.declared.listener.Event.{Event}
+use Rattle.uecp_encoder.specs.declared.outcome.Outcome.{Outcome}
+use Rattle.uecp_encoder.specs.declared.outcome.Outcome.TheVariants as outcome
+use Rattle.uecp_encoder.specs.Outcomes.{said_of}
 use Rattle.uecp_encoder.specs.ServingWith.{fresh_among}
 use Rattle.uecp_encoder.specs.Telling.{Tells, response_of}
 use Rattle.uecp_encoder.specs.Batches.{IsBatch, TellsOf, TellsEach}
@@ -27,21 +30,24 @@ use Rattle.uecp_encoder.proofs.Saving.{found_on}
 use Rattle.uecp_encoder.proofs.Hearing.{tells_any}
 
 -- nothing in it
-pub batch_none : {V : Type 0} (step : Step V) (e : EncoderState V) (batch : Batch) → batch.replies.items ≡ []
-    → batch.count ≡ 0 → batch.fresh ≡ false → batch.events.items ≡ [] → IsBatch step e [] batch
-batch_none step e batch replies count fresh events =
+pub batch_none : {V : Type 0} (listens : Bool) (step : Step V) (e : EncoderState V) (batch : Batch)
+    → batch.replies.items ≡ [] → batch.count ≡ 0 → batch.fresh ≡ false → batch.found ≡ 0 → batch.events.items ≡ []
+    → IsBatch listens step e [] batch
+batch_none listens step e batch replies count fresh none_found events =
     let none = responses_none step e in
     let found = (new_start_lem e.part []).nothing in
     record {
       replies = replies ∙ sym (ap (flat_map bytes_sent) none);
       count = count ∙ sym (ap replies_among none);
       fresh = fresh ∙ sym (ap (λ rs. not (fresh_among rs == 0)) none);
-      events = subst (λ xs. TellsEach step e xs batch.events.items) (sym found)
+      events = λ is. subst (λ xs. TellsEach step e xs batch.events.items) (sym found)
           (subst (λ events. TellsEach step e [] events) (sym events) tt);
-      found = ap length events ∙ sym (ap length found);
+      silent = λ is. events;
+      found = none_found ∙ sym (ap length found);
+      room = omega (arith, ap length events);
       short = omega (arith, ap length replies);
       few = omega (arith, count);
-      slow = omega (arith, ap length events);
+      slow = omega (arith, none_found);
     }
 
 -- what is told of it, and of one thing more
@@ -54,6 +60,15 @@ each_more step e (y ∷ xs) [] x event tells more = absurd tells
 each_more step e (y ∷ xs) (None ∷ events) x event tells more = absurd tells
 each_more step e (y ∷ xs) (Some other ∷ events) x event (tell, tells) more =
     (tell, each_more step (after_finding step e y) xs events x event tells more)
+
+both_fresh : (a b : ℕ) → (not (a == 0) || not (b == 0)) ≡ not (a + b == 0)
+both_fresh a b = grind (arith, nat_tests)
+
+length-responses : {V : Type 0} (step : Step V) (e : EncoderState V) (xs : List Finding)
+    → length (responses step e xs) ≡ length xs
+length-responses step e [] = refl
+length-responses step e (x ∷ xs) = let later = length-responses step (after_finding step e x) xs in
+    omega (arith, later)
 
 either_fresh : (a b : ℕ) → (not (a == 0) || not (b == 0)) ≡ not (a + (b + 0) == 0)
 either_fresh a b = grind (arith, nat_tests)
@@ -82,12 +97,12 @@ module _ {V : Type 0} (step : Step V) (start e : EncoderState V) (bytes more : L
       (sym (ap (λ (d : EncoderState V). d.part) e_is))
 
   -- nothing more was found
-  pub batch_same : (batch : Batch) → TellsOf step e (found_beyond e.part more) None → IsBatch step start bytes batch
-      → IsBatch step start (bytes ++ more) batch
+  pub batch_same : (batch : Batch) → TellsOf step e (found_beyond e.part more) None
+      → IsBatch true step start bytes batch → IsBatch true step start (bytes ++ more) batch
   batch_same batch told is = same (found_beyond e.part more) refl told
     where
       same : (xs : List Finding) → found_beyond e.part more ≡ xs → TellsOf step e xs None
-          → IsBatch step start (bytes ++ more) batch
+          → IsBatch true step start (bytes ++ more) batch
       same (x ∷ xs) found told = absurd told
       same [] found told =
           let rs : responses_to step start (bytes ++ more) ≡ responses_to step start bytes =
@@ -100,8 +115,10 @@ module _ {V : Type 0} (step : Step V) (start e : EncoderState V) (bytes more : L
             replies = is.replies ∙ sym (ap (flat_map bytes_sent) rs);
             count = is.count ∙ sym (ap replies_among rs);
             fresh = is.fresh ∙ sym (ap (λ ys. not (fresh_among ys == 0)) rs);
-            events = subst (λ ys. TellsEach step start ys batch.events.items) (sym xs) is.events;
+            events = λ here. subst (λ ys. TellsEach step start ys batch.events.items) (sym xs) (is.events here);
+            silent = is.silent;
             found = is.found ∙ sym (ap length xs);
+            room = is.room;
             short = is.short;
             few = is.few;
             slow = omega (arith, length-append bytes more, is.slow);
@@ -114,13 +131,14 @@ module _ {V : Type 0} (step : Step V) (start e : EncoderState V) (bytes more : L
       → batch'.count ≡ batch.count + replies_in (response_of event.answer)
       → batch'.fresh ≡ (batch.fresh || not (fresh_in (response_of event.answer) == 0))
       → batch'.events.items ≡ batch.events.items ++ Some event ∷ []
+      → batch'.found ≡ batch.found + 1
       → length batch'.replies.items ≤ length batch.replies.items + 16 → batch'.count ≤ batch.count + 1
-      → IsBatch step start bytes batch → IsBatch step start (bytes ++ more) batch'
-  batch_more batch batch' event told some replies_are count_is fresh_is events_are short few is =
+      → IsBatch true step start bytes batch → IsBatch true step start (bytes ++ more) batch'
+  batch_more batch batch' event told some replies_are count_is fresh_is events_are one_more short few is =
       one (found_beyond e.part more) refl told
     where
       one : (xs : List Finding) → found_beyond e.part more ≡ xs → TellsOf step e xs (Some event)
-          → IsBatch step start (bytes ++ more) batch'
+          → IsBatch true step start (bytes ++ more) batch'
       one [] found told = absurd told
       one (x ∷ xs) found (tells, alone) =
           let r : Response = response_of event.answer in
@@ -147,21 +165,69 @@ module _ {V : Type 0} (step : Step V) (start e : EncoderState V) (bytes more : L
             fresh = fresh_is ∙ ap (λ b. b || not (fresh_in r == 0)) is.fresh
                 ∙ either_fresh (fresh_among before) (fresh_in r)
                 ∙ sym (ap (λ s. not (s == 0)) (ap fresh_among rs ∙ fresh_among-append before (r ∷ [])));
-            events = subst (λ s. TellsEach step start s batch'.events.items) (sym ys)
+            events = λ here. subst (λ s. TellsEach step start s batch'.events.items) (sym ys)
                 (subst (λ s. TellsEach step start (found_beyond start.part bytes ++ x ∷ []) s) (sym events_are)
-                (each_more step start (found_beyond start.part bytes) batch.events.items x event is.events
+                (each_more step start (found_beyond start.part bytes) batch.events.items x event (is.events here)
                 (tells_any step (after_findings step start (found_beyond start.part bytes))
                 (open_beyond start.part bytes) x event (subst (λ d. Tells step d x event) e_is tells))));
+            silent = λ no. absurd (cc);
             found = omega (
               arith,
-              longer,
+              one_more,
               is.found,
               ap length ys ∙ length-append (found_beyond start.part bytes) (x ∷ []),
             );
-            short = omega (arith, longer, is.short, short);
-            few = omega (arith, longer, is.few, few);
-            slow = omega (arith, longer, length-append bytes more, is.slow, some);
+            room = omega (arith, longer, one_more, is.room);
+            short = omega (arith, one_more, is.short, short);
+            few = omega (arith, one_more, is.few, few);
+            slow = omega (arith, one_more, length-append bytes more, is.slow, some);
           }
+
+  -- what more was found, if anything, is told to nobody
+  pub batch_untold : (batch batch' : Batch) (rs : List Response) → responses_to step e more ≡ rs → length rs ≤ 1
+      → 0 < length more → batch'.replies.items ≡ batch.replies.items ++ flat_map bytes_sent rs
+      → batch'.count ≡ batch.count + replies_among rs
+      → batch'.fresh ≡ (batch.fresh || not (fresh_among rs == 0)) → batch'.found ≡ batch.found + length rs
+      → batch'.events.items ≡ batch.events.items
+      → length batch'.replies.items ≤ length batch.replies.items + 16 * length rs
+      → batch'.count ≤ batch.count + length rs
+      → IsBatch false step start bytes batch → IsBatch false step start (bytes ++ more) batch'
+  batch_untold batch batch' rs here one some replies_are count_is fresh_is found_is events_are short few is =
+      let before : List Response = responses_to step start bytes in
+      let all : responses_to step start (bytes ++ more) ≡ before ++ rs =
+      responses_more ∙ ap (λ ys. before ++ ys) here in
+      let found : length (found_beyond e.part more) ≡ length rs =
+      sym (length-responses step e (found_beyond e.part more)) ∙ ap length here in
+      record {
+        replies = replies_are ∙ ap (λ s. s ++ flat_map bytes_sent rs) is.replies
+            ∙ sym (answers_more ∙ ap (λ s. answers step start bytes ++ flat_map bytes_sent s) here);
+        count = omega (arith, count_is, is.count, ap replies_among all ∙ replies_among-append before rs);
+        fresh = fresh_is ∙ ap (λ b. b || not (fresh_among rs == 0)) is.fresh
+            ∙ both_fresh (fresh_among before) (fresh_among rs)
+            ∙ sym (ap (λ s. not (s == 0)) (ap fresh_among all ∙ fresh_among-append before rs));
+        events = λ no. absurd (cc);
+        silent = λ quiet. events_are ∙ is.silent quiet;
+        found = omega (
+          arith,
+          found_is,
+          is.found,
+          found,
+          ap length found_more ∙ length-append (found_beyond start.part bytes) (found_beyond e.part more),
+        );
+        room = omega (arith, ap length events_are, found_is, is.room);
+        short = omega (arith, found_is, is.short, short);
+        few = omega (arith, found_is, is.few, few);
+        slow = omega (arith, found_is, length-append bytes more, is.slow, some, one);
+      }
+
+-- an outcome says one thing at most
+pub said_one : (address : ℕ) (o : Outcome) → length (said_of address o) ≤ 1
+said_one address outcome.Nothing = omega arith
+said_one address (outcome.Dropped fault) = omega arith
+said_one address outcome.NotForMe = omega arith
+said_one address outcome.Unnumbered = omega arith
+said_one address outcome.NotNext = omega arith
+said_one address (outcome.Reply code counter fresh) = omega arith
 
 -- before its last byte a batch is not full
 pub not_full : {V : Type 0} (step : Step V) (e e1 : EncoderState V) (piece rest : List ℕ) (at used most : ℕ)

@@ -60,20 +60,20 @@ module _ {V K : Type 0} (most : ℕ) (step : Step V) (leaves : K → Kept V → 
     same = λ none. absurd (omega (arith, some_fresh (fresh_among (responses_to step e x)) fresh, none));
   }
 
-  batch_keeps : (e e' : EncoderState V) (k k' : K) (x : List ℕ) (batch : Batch) → e' ≡ fed step e x
-      → IsBatch step e x batch → IsKeptIf leaves is_clean saves e' batch.fresh k k' → (is_clean k' → is_clean k)
+  batch_keeps : (listens : Bool) (e e' : EncoderState V) (k k' : K) (x : List ℕ) (batch : Batch) → e' ≡ fed step e x
+      → IsBatch listens step e x batch → IsKeptIf leaves is_clean saves e' batch.fresh k k' → (is_clean k' → is_clean k)
       → Keeps step leaves is_clean e e' k k' x
-  batch_keeps e e' k k' x batch state is kept clean =
+  batch_keeps listens e e' k k' x batch state is kept clean =
       keeps_by e e' k k' x (fresh_among (responses_to step e x) == 0) refl state
       (subst (λ d. IsKeptIf leaves is_clean saves e' d k k') is.fresh kept) clean
 
-  pub batch_takes : (e e' : EncoderState V) (k k' : K) (piece : List ℕ) (used reads : ℕ) (batch : Batch)
-      → used ≤ length piece → e' ≡ fed step e (take used piece) → IsBatch step e (take used piece) batch
+  pub batch_takes : (listens : Bool) (e e' : EncoderState V) (k k' : K) (piece : List ℕ) (used reads : ℕ) (batch :
+      Batch) → used ≤ length piece → e' ≡ fed step e (take used piece) → IsBatch listens step e (take used piece) batch
       → IsKeptIf leaves is_clean saves e' batch.fresh k k' → (is_clean k' → is_clean k)
       → most ≤ most * reads + length (found_beyond e.part (take used piece))
       → Takes most step leaves is_clean saves e e' k k' (take used piece) batch.replies.items reads batch.count
       (length batch.replies.items)
-  batch_takes e e' k k' piece used reads batch fits state is kept clean few =
+  batch_takes listens e e' k k' piece used reads batch fits state is kept clean few =
       record {
         sends = record {
           all = record { state = state; written = is.replies };
@@ -82,7 +82,7 @@ module _ {V K : Type 0} (most : ℕ) (step : Step V) (leaves : K → Kept V → 
           few_replies = omega (arith, is.few, is.slow);
           few_bytes = omega (arith, is.short, is.slow);
         };
-        keeps = batch_keeps e e' k k' (take used piece) batch state is kept clean;
+        keeps = batch_keeps listens e e' k k' (take used piece) batch state is kept clean;
         saved = saves_part most saves step e e' (take used piece) batch.fresh reads leaves is_clean k k' state is.fresh
             kept few;
       }
@@ -130,16 +130,18 @@ module _ {V K : Type 0} (most : ℕ) (step : Step V) (leaves : K → Kept V → 
       (some_fresh (fresh_among (responses_to step e x)) fresh, either, failed)
 
   -- what is written and told of it, and where it stops
-  pub batch_stops : {L : Type 0} (hears : L → Event → Bool → L → Type 0) (e e' : EncoderState V) (k k' : K) (l l' : L)
+  pub batch_stops : {L : Type 0} (listens : Bool) (hears : L → Event → Bool → L → Type 0)
+      (e e' : EncoderState V) (k k' : K) (l l' : L)
       (held held' : Option (List ℕ)) (piece : List ℕ) (used : ℕ) (batch : Batch) (why : Stop) → 0 < used
-      → used ≤ length piece → e' ≡ fed step e (take used piece) → IsBatch step e (take used piece) batch
+      → used ≤ length piece → e' ≡ fed step e (take used piece) → IsBatch listens step e (take used piece) batch
+      → (listens ≡ false → (event : Event) (sent : Bool) → hears l event sent l)
       → ((n : ℕ) → n < used → length (found_beyond e.part (take n piece)) < most) → (is_clean k' → is_clean k)
       → IsUnanswered leaves is_clean saves fails hears e' batch held held' k k' l l' why
       → (sent : List ℕ) × Appends held held' sent
       × StopsAt most step leaves is_clean saves fails e e' k k' piece sent 1 0 (used - 1) why
       × HearsUntil hears step e piece 0 (used - 1) l l' why
-  batch_stops hears e e' k k' l l' held held' piece used batch (stop.Write w) some fits state is fewer clean
-      (part, appended, kept, heard) =
+  batch_stops listens hears e e' k k' l l' held held' piece used batch (stop.Write w) some fits state is deaf
+      fewer clean (part, appended, kept, heard) =
       let place_is : used - 1 + 1 ≡ used = omega (arith, some) in
       let bytes : List ℕ = take used piece in
       let later : List ℕ = answers step (fed step e bytes) (drop used piece) in
@@ -150,7 +152,7 @@ module _ {V K : Type 0} (most : ℕ) (step : Step V) (leaves : K → Kept V → 
       let parts : fresh_among (responses_to step e piece) ≡ fresh_among (responses_to step e bytes)
       + fresh_among (responses_to step (fed step e bytes) (drop used piece)) =
       ap (λ x. fresh_among (responses_to step e x)) cut ∙ fresh_on step e bytes (drop used piece) in
-      let keeps = batch_keeps e e' k k' bytes batch state is kept clean in (
+      let keeps = batch_keeps listens e e' k k' bytes batch state is kept clean in (
         take w batch.replies.items,
         appended,
         (
@@ -170,10 +172,10 @@ module _ {V K : Type 0} (most : ℕ) (step : Step V) (leaves : K → Kept V → 
               (saves_part most saves step e e' bytes batch.fresh 1 leaves is_clean k k' state is.fresh kept
               (omega arith)),
         ),
-        batch_unsent hears step e piece used batch.events.items w l l' some is.events heard,
+        batch_unsent hears step listens e piece used batch.events.items w l l' some deaf is.events is.silent heard,
       )
-  batch_stops hears e e' k k' l l' held held' piece used batch stop.State some fits state is fewer clean
-      (appended, unkept, same) =
+  batch_stops listens hears e e' k k' l l' held held' piece used batch stop.State some fits state is deaf fewer
+      clean (appended, unkept, same) =
       let place_is : used - 1 + 1 ≡ used = omega (arith, some) in
       let bytes : List ℕ = take used piece in
       let (fresh, either, failed) = fails_by e e' k k' bytes (fresh_among (responses_to step e bytes) == 0) refl

@@ -1,5 +1,6 @@
 -- What a listener is told, for one part of a stream after another.
-use Rattle.std.proofs.Common.{◌≡◌, ℕ, ◌+◌, ◌-◌, ◌<◌, ◌≤◌, Bool, true, List, [], ◌∷◌, ◌++◌, length, take, drop, flat_map}
+use Rattle.std.proofs.Common.{◌≡◌, ℕ, ◌+◌, ◌-◌, ◌<◌, ◌≤◌, Bool, true, false, List, [], ◌∷◌, ◌++◌, length, take, drop}
+use Rattle.std.proofs.Common.{flat_map}
 use Rattle.std.proofs.Common.{refl, ◌∙◌, ap, sym, subst, arith, length-append, Option, Some, None, Ok, Err}
 use Rattle.std.specs.Prelude.{nat_le}
 use Rattle.std.proofs.lemmas.Bool.{le-leb}
@@ -15,6 +16,7 @@ use Rattle.uecp_encoder.proofs.InPieces.{findings_open}
 use Rattle.uecp_encoder.proofs.InParts.{fed_none, responses_none}
 use Rattle.uecp_encoder.proofs.Beginnings.{answers_on, fed_on_is}
 use Rattle.uecp_encoder.proofs.Together.{next_is}
+use Rattle.uecp_encoder.proofs.Codes.{event_for}
 use Rattle.uecp_encoder.specs.declared.listener.Event.{Event}
 use Rattle.uecp_encoder.specs.declared.answering.Stop.{Stop}
 use Rattle.uecp_encoder.specs.declared.answering.Stop.TheVariants as stop
@@ -164,17 +166,44 @@ module _ {V L : Type 0} (hears : L → Event → Bool → L → Type 0) (step : 
         all_of (after_finding step e x) xs (written - length reply) between l' (omega (arith, long, enough)) rest,
       )
 
-  pub batch_heard : (e : EncoderState V) (bytes : List ℕ) (events : List (Option Event)) (replies : List ℕ) (l l' : L)
-      → TellsEach step e (found_beyond e.part bytes) events → replies ≡ answers step e bytes
-      → HeardEach hears events (length replies) l l' → HearsFor hears step e bytes l l'
-  batch_heard e bytes events replies l l' tells are heard =
-      all_of e (found_beyond e.part bytes) (length replies) l l' (omega (arith, ap length are))
-      (within_of e (found_beyond e.part bytes) events (length replies) l l' tells heard)
+  -- nobody listens, and that is as if all had been told
+  nobody : (e : EncoderState V) (xs : List Finding) (written : ℕ) (l : L)
+      → ((event : Event) (sent : Bool) → hears l event sent l) → HearsWithin hears step e xs written l l
+  nobody e [] written l deaf = refl
+  nobody e (x ∷ xs) written l deaf =
+      let told = event_for step e x in
+      let reply : ℕ = length (bytes_sent (response_to step e x)) in (
+        l,
+        (told.0, told.1, deaf told.0 (nat_le reply written)),
+        nobody (after_finding step e x) xs (written - reply) l deaf,
+      )
 
-  pub batch_unsent : (e : EncoderState V) (piece : List ℕ) (used : ℕ) (events : List (Option Event)) (w : ℕ) (l l' : L)
-      → 0 < used → TellsEach step e (found_beyond e.part (take used piece)) events → HeardEach hears events w l l'
+  -- what is told of a batch, whether somebody listens or not
+  within_batch : (listens : Bool) (e : EncoderState V) (xs : List Finding) (events : List (Option Event)) (written : ℕ)
+      (l l' : L) → (listens ≡ false → (event : Event) (sent : Bool) → hears l event sent l)
+      → (listens ≡ true → TellsEach step e xs events) → (listens ≡ false → events ≡ [])
+      → HeardEach hears events written l l' → HearsWithin hears step e xs written l l'
+  within_batch true e xs events written l l' deaf tells silent heard =
+      within_of e xs events written l l' (tells refl) heard
+  within_batch false e xs events written l l' deaf tells silent heard =
+      let same : l' ≡ l = subst (λ events. HeardEach hears events written l l') (silent refl) heard in
+      subst (λ j. HearsWithin hears step e xs written l j) (sym same) (nobody e xs written l (deaf refl))
+
+  pub batch_heard : (listens : Bool) (e : EncoderState V) (bytes : List ℕ) (events : List (Option Event))
+      (replies : List ℕ) (l l' : L) → (listens ≡ false → (event : Event) (sent : Bool) → hears l event sent l)
+      → (listens ≡ true → TellsEach step e (found_beyond e.part bytes)
+      events) → (listens ≡ false → events ≡ []) → replies ≡ answers step e bytes → HeardEach hears events (length
+      replies) l l' → HearsFor hears step e bytes l l'
+  batch_heard listens e bytes events replies l l' deaf tells silent are heard =
+      all_of e (found_beyond e.part bytes) (length replies) l l' (omega (arith, ap length are))
+      (within_batch listens e (found_beyond e.part bytes) events (length replies) l l' deaf tells silent heard)
+
+  pub batch_unsent : (listens : Bool) (e : EncoderState V) (piece : List ℕ) (used : ℕ) (events : List (Option Event))
+      (w : ℕ) (l l' : L) → 0 < used → (listens ≡ false → (event : Event) (sent : Bool) → hears l event sent l)
+      → (listens ≡ true → TellsEach step e (found_beyond e.part
+      (take used piece)) events) → (listens ≡ false → events ≡ []) → HeardEach hears events w l l'
       → HearsUnsent hears step e piece w 0 (used - 1) l l'
-  batch_unsent e piece used events w l l' some tells heard =
+  batch_unsent listens e piece used events w l l' some deaf tells silent heard =
       let place_is : used ≡ used - 1 + 1 = omega (arith, some) in
       let at : e ≡ fed step e [] = sym (fed_none step e) in
       let written : w ≡ w - length (answers step e []) =
@@ -186,5 +215,5 @@ module _ {V L : Type 0} (hears : L → Event → Bool → L → Type 0) (step : 
             (take (used - 1 + 1) piece)) n l l') written
             (subst (λ d. HearsWithin hears step d (found_beyond d.part (take (used - 1 + 1) piece)) w l l') at
             (subst (λ n. HearsWithin hears step e (found_beyond e.part (take n piece)) w l l') place_is
-            (within_of e (found_beyond e.part (take used piece)) events w l l' tells heard)));
+            (within_batch listens e (found_beyond e.part (take used piece)) events w l l' deaf tells silent heard)));
       }

@@ -10,6 +10,7 @@ pub mod Unchanged
 pub mod Beginnings
 pub mod Saving
 pub mod Together
+pub mod Codes
 pub mod Hearing
 pub mod Adding
 pub mod Batching

@@ -48,16 +48,19 @@ TellsEach step e (x ∷ xs) (None ∷ events) = ⊥
 TellsEach step e (x ∷ xs) (Some event ∷ events) =
     Tells step e x event × TellsEach step (after_finding step e x) xs events
 
--- The batch has what an encoder in this state answers to these bytes.
-pub record IsBatch {V : Type 0} (step : Step V) (e : EncoderState V) (bytes : List ℕ) (batch : Batch) : Type 0 where
+-- The batch has what an encoder in this state answers to these bytes, and where somebody listens what is told of it.
+pub record IsBatch {V : Type 0} (listens : Bool) (step : Step V) (e : EncoderState V) (bytes : List ℕ)
+    (batch : Batch) : Type 0 where
   pub replies : batch.replies.items ≡ answers step e bytes
   pub count : batch.count ≡ replies_among (responses_to step e bytes)
   pub fresh : batch.fresh ≡ not (fresh_among (responses_to step e bytes) == 0)
-  pub events : TellsEach step e (found_beyond e.part bytes) batch.events.items
-  pub found : length batch.events.items ≡ length (found_beyond e.part bytes)
-  pub short : length batch.replies.items ≤ 16 * length batch.events.items
-  pub few : batch.count ≤ length batch.events.items
-  pub slow : length batch.events.items ≤ length bytes
+  pub events : listens ≡ true → TellsEach step e (found_beyond e.part bytes) batch.events.items
+  pub silent : listens ≡ false → batch.events.items ≡ []
+  pub found : batch.found ≡ length (found_beyond e.part bytes)
+  pub room : length batch.events.items ≤ batch.found
+  pub short : length batch.replies.items ≤ 16 * batch.found
+  pub few : batch.count ≤ batch.found
+  pub slow : batch.found ≤ length bytes
 
 -- ---- Where a part stops.
 

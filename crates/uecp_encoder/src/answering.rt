@@ -60,7 +60,8 @@ pub(crate) fn take_piece<T: Target, K: KeepEncoder<T>, W: Write, L: Listener>(
         bytes: 0,
     };
     while at < piece.len() {
-        let used = take_batch(encoder, &piece[at..], K::TOGETHER_MAX, batch);
+        let listens = listener.is_listening();
+        let used = take_batch(encoder, &piece[at..], K::TOGETHER_MAX, listens, batch);
         match answer_batch(encoder, keeper, writer, listener, batch) {
             Err(stop) => return Err(after(sent.bytes, stop)),
             Ok(()) => {

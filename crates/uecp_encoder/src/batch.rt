@@ -1,7 +1,7 @@
 //! What is answered together. Source: profile.
 ghost use Rattle.std.specs.Prelude.{◌≡◌, ◌<◌, ◌≤◌, ◌+◌, ◌*◌, ◌==◌, ◌||◌, not, ℕ, List, [], ◌∷◌, ◌++◌, false, length};
 ghost use Rattle.std.specs.Prelude.{take};
-ghost use Rattle.std.specs.Prelude.{Some, IfNone, IfSome, if◌then◌else◌};
+ghost use Rattle.std.specs.Prelude.{Some, IfNone, IfSome, flat_map, if◌then◌else◌};
 ghost use Rattle.uecp_frame.specs.Frame.{spelling};
 ghost use Rattle.uecp_frame.specs.Feeding.{findings_of};
 ghost use Rattle.uecp_frame.specs.Lent.{found_lent, LendsAtMost};
@@ -9,9 +9,10 @@ ghost use Rattle.uecp_frame.specs.Beyond.{found_beyond};
 ghost use Rattle.uecp_encoder.specs.declared.listener.Answered.TheVariants.{New, Repeat};
 ghost use Rattle.uecp_encoder.specs.State.{EncoderState, fed};
 ghost use Rattle.uecp_encoder.specs.Answering.{bytes_sent, reply_of};
-ghost use Rattle.uecp_encoder.specs.Outcomes.{ComesTo};
+ghost use Rattle.uecp_encoder.specs.Outcomes.{ComesTo, said_of};
 ghost use Rattle.uecp_encoder.specs.Laws.{fresh_in};
-ghost use Rattle.uecp_encoder.specs.Serving.{replies_in};
+ghost use Rattle.uecp_encoder.specs.Serving.{replies_in, replies_among};
+ghost use Rattle.uecp_encoder.specs.ServingWith.{fresh_among};
 ghost use Rattle.uecp_encoder.specs.Telling.{response_of};
 ghost use Rattle.uecp_encoder.specs.Batches.{IsBatch, IsEventOf};
 
@@ -47,7 +48,9 @@ pub(crate) struct Batch {
     pub(crate) count: u64,
     /// Whether one of them is fresh.
     pub(crate) fresh: bool,
-    /// What was found, each with its answer; room that is free has none.
+    /// How many things were found.
+    pub(crate) found: usize,
+    /// What was found, each with its answer, where somebody listens; room that is free has none.
     pub(crate) events: ArrayVec<Option<Event>, TOGETHER_MAX>,
 }
 
@@ -58,6 +61,7 @@ impl Batch {
             replies: ArrayVec::new(),
             count: 0,
             fresh: false,
+            found: 0,
             events: ArrayVec::new(),
         }
     }
@@ -67,11 +71,13 @@ impl Batch {
         ensures replies { self.new.replies.items ≡ [] }
         ensures count { self.new.count ≡ 0 }
         ensures fresh { self.new.fresh ≡ false }
+        ensures found { self.new.found ≡ 0 }
         ensures events { self.new.events.items ≡ [] }
     {
         self.replies.clear();
         self.count = 0;
         self.fresh = false;
+        self.found = 0;
         self.events.clear();
     }
 
@@ -79,6 +85,7 @@ impl Batch {
     fn add(&mut self, event: Event)
         requires replies { length self.old.replies.items + 16 ≤ 2016 }
         requires count { self.old.count < 126 }
+        requires found { self.old.found < 126 }
         requires events { length self.old.events.items < 126 }
         ensures replies { self.new.replies.items
             ≡ self.old.replies.items ++ bytes_sent (response_of event.answer) }
@@ -87,8 +94,9 @@ impl Batch {
         ensures events { self.new.events.items ≡ self.old.events.items ++ Some event ∷ [] }
         ensures short { length self.new.replies.items ≤ length self.old.replies.items + 16 }
         ensures few { self.new.count ≤ self.old.count + 1 }
-        ensures more { length self.new.events.items ≤ length self.old.events.items + 1 }
+        ensures found { self.new.found ≡ self.old.found + 1 }
     {
+        self.found += 1;
         match &event.answer {
             Answered::New { code: _, reply } => {
                 self.fresh = true;
@@ -104,6 +112,38 @@ impl Batch {
         }
     }
 
+    /// What a piece came to was this, and nobody is told of it.
+    fn add_untold(&mut self, address: Address, outcome: Outcome)
+        requires replies { length self.old.replies.items + 16 ≤ 2016 }
+        requires count { self.old.count < 126 }
+        requires found { self.old.found < 126 }
+        ensures replies { self.new.replies.items ≡ self.old.replies.items ++ flat_map bytes_sent (said_of address
+            outcome) }
+        ensures count { self.new.count ≡ self.old.count + replies_among (said_of address outcome) }
+        ensures fresh { self.new.fresh ≡ (self.old.fresh || not (fresh_among (said_of address outcome) == 0)) }
+        ensures found { self.new.found ≡ self.old.found + length (said_of address outcome) }
+        ensures events { self.new.events ≡ self.old.events }
+        ensures short { length self.new.replies.items
+            ≤ length self.old.replies.items + 16 * length (said_of address outcome) }
+        ensures few { self.new.count ≤ self.old.count + length (said_of address outcome) }
+    {
+        match outcome {
+            Outcome::Nothing => {}
+            Outcome::Reply {
+                code,
+                counter,
+                fresh,
+            } => {
+                self.found += 1;
+                self.fresh = self.fresh || fresh;
+                self.add_reply(&spelled(address, code, counter));
+            }
+            Outcome::Dropped(_) | Outcome::NotForMe | Outcome::Unnumbered | Outcome::NotNext => {
+                self.found += 1;
+            }
+        }
+    }
+
     /// One reply more is due.
     fn add_reply(&mut self, reply: &ReplyBytes)
         requires replies { length self.old.replies.items + 16 ≤ 2016 }
@@ -112,6 +152,7 @@ impl Batch {
         ensures short { length self.new.replies.items ≤ length self.old.replies.items + 16 }
         ensures count { self.new.count ≡ self.old.count + 1 }
         ensures fresh { self.new.fresh ≡ self.old.fresh }
+        ensures found { self.new.found ≡ self.old.found }
         ensures events { self.new.events ≡ self.old.events }
     {
         self.count += 1;
@@ -128,6 +169,7 @@ pub(crate) fn take_batch<T: Target>(
     encoder: &mut Encoder<T>,
     piece: &[u8],
     most: usize,
+    listens: bool,
     batch: &mut Batch,
 ) -> usize
     requires some { 0 < length piece.now }
@@ -135,39 +177,52 @@ pub(crate) fn take_batch<T: Target>(
     requires room { most ≤ 126 }
     ensures used { (0 < result) × (result ≤ length piece.now) }
     ensures state { encoder.new ≡ fed T.step encoder.old (take result piece.now) }
-    ensures batch { IsBatch T.step encoder.old (take result piece.now) batch.new }
+    ensures batch { IsBatch listens T.step encoder.old (take result piece.now) batch.new }
     // It is full, or the piece was used up; and it was not full before its last byte.
     ensures full { result < length piece.now → most ≤ length (found_beyond encoder.old.part (take result piece.now)) }
     ensures fewer { (k : ℕ) → k < result → length (found_beyond encoder.old.part (take k piece.now)) < most }
 {
     batch.clear();
     let mut at = 0;
-    while at < piece.len() && batch.events.len() < most {
-        at += take_next(encoder, &piece[at..], batch);
+    while at < piece.len() && batch.found < most {
+        at += take_next(encoder, &piece[at..], listens, batch);
     }
     at
 }
 
 /// Feeds the piece up to the end of its first segment, puts what that found in the batch, and answers how many bytes
 /// that took.
-fn take_next<T: Target>(encoder: &mut Encoder<T>, piece: &[u8], batch: &mut Batch) -> usize
+fn take_next<T: Target>(
+    encoder: &mut Encoder<T>,
+    piece: &[u8],
+    listens: bool,
+    batch: &mut Batch,
+) -> usize
     requires some { 0 < length piece.now }
-    requires room { length batch.old.events.items < 126 }
-    requires short { length batch.old.replies.items ≤ 16 * length batch.old.events.items }
-    requires few { batch.old.count ≤ length batch.old.events.items }
+    requires found { batch.old.found < 126 }
+    requires room { length batch.old.events.items ≤ batch.old.found }
+    requires short { length batch.old.replies.items ≤ 16 * batch.old.found }
+    requires few { batch.old.count ≤ batch.old.found }
     ensures used { (0 < result) × (result ≤ length piece.now) }
     ensures state { encoder.new ≡ fed T.step encoder.old (take result piece.now) }
     ensures batch { (start : EncoderState T) (bytes : List ℕ) → encoder.old ≡ fed T.step start bytes
-        → IsBatch T.step start bytes batch.old
-        → IsBatch T.step start (bytes ++ take result piece.now) batch.new }
-    ensures more { length batch.new.events.items ≤ length batch.old.events.items + 1 }
+        → IsBatch listens T.step start bytes batch.old
+        → IsBatch listens T.step start (bytes ++ take result piece.now) batch.new }
+    ensures more { batch.new.found ≤ batch.old.found + 1 }
     ensures first { (k : ℕ) → k < result → found_beyond encoder.old.part (take k piece.now) ≡ [] }
 {
-    let HeardEvent { used, event } = encoder.hear_event(piece);
-    if let Some(event) = event {
-        batch.add(event);
+    if listens {
+        let HeardEvent { used, event } = encoder.hear_event(piece);
+        if let Some(event) = event {
+            batch.add(event);
+        }
+        used
+    } else {
+        let address = encoder.address();
+        let heard = encoder.hear(piece);
+        batch.add_untold(address, heard.outcome);
+        heard.used
     }
-    used
 }
 
 /// What is told of what was found, and of what it came to at the encoder of this address.

@@ -6,7 +6,7 @@ ghost use Rattle.uecp_encoder.specs.Keeping.{Kept, kept_of, Settled};
 use crate::encoder::Encoder;
 use crate::target::Target;
 
-/// The state of an encoder could not be saved. Why is for the keeper to say.
+/// The state of an end could not be saved. Why is for the keeper to say.
 #[derive(Clone, Copy, Debug, PartialEq, Eq)]
 pub struct SaveFailed;
 
@@ -54,12 +54,12 @@ pub trait KeepEncoder<T: Target> {
         ensures failed { IfErr result (λ _. fails self.old (kept_of encoder.now) self.new) };
 }
 
-/// Keeps nothing of an encoder: each save succeeds, and nothing is promised of what a crash leaves. Each reply is
-/// written before the next byte is fed.
+/// Keeps nothing: each save succeeds, and nothing is promised of what a crash leaves. An encoder with it writes each
+/// reply before the next byte is fed.
 #[derive(Clone, Copy, Debug)]
-pub struct NotKept;
+pub struct NotSaved;
 
-impl<T: Target> KeepEncoder<T> for NotKept {
+impl<T: Target> KeepEncoder<T> for NotSaved {
     const READ_MAX: usize = 512;
 
     const TOGETHER_MAX: usize = 1;

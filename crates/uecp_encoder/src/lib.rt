@@ -11,7 +11,7 @@
 //! - [`Counts`]: what came, by kind.
 //! - [`serve`]: the encoder over a reader and a writer, each in a [`Meter`]; [`serve_with`] does it with its state
 //!   kept, so that a crash at any moment loses nothing and doubles nothing, and with each thing that is found told.
-//! - [`KeepEncoder`]: saves the state of an encoder; [`NotKept`] keeps none. [`take_kept`]: the group that goes out
+//! - [`KeepEncoder`]: saves the state of an encoder; [`NotSaved`] keeps none. [`take_kept`]: the group that goes out
 //!   next, once that is kept.
 //! - [`Listener`]: is told of an [`Event`], with what was [`Answered`]; [`Unheard`] listens to nothing.
 //!
@@ -42,7 +42,7 @@ mod target;
 pub use answer::{Answer, ReplyBytes, What};
 pub use counts::Counts;
 pub use encoder::{Encoder, EncoderFault};
-pub use keep::{KeepEncoder, NotKept, SaveFailed};
+pub use keep::{KeepEncoder, NotSaved, SaveFailed};
 pub use listener::{Answered, Event, Listener, Unheard};
 pub use meter::{Failed, Meter};
 pub use outcome::{Heard, Outcome};

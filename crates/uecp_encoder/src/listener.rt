@@ -1,5 +1,5 @@
 //! Who is told of what an encoder finds and answers. Source: profile.
-ghost use Rattle.std.specs.Prelude.{◌≡◌, Bool};
+ghost use Rattle.std.specs.Prelude.{◌≡◌, Bool, false};
 ghost use Rattle.uecp_encoder.specs.declared.listener.Event.{Event};
 
 use crate::answer::ReplyBytes;
@@ -47,11 +47,21 @@ pub struct Event {
 
 /// Is told of each connection that is opened, and of each thing that an encoder finds, once it is answered.
 pub trait Listener {
+    // Whether it listens.
+    ghost listens: { Self → Bool };
+
     // Whether it may be left so by being told that a connection was opened.
     ghost begins: { Self → Self → Type 0 };
 
     // Whether it may be left so by being told of an event, whose reply, if it has one, was written whole or not.
     ghost hears: { Self → Event → Bool → Self → Type 0 };
+
+    // One that does not listen is as it would be left by being told.
+    ghost deaf: { (l : Self) (event : Event) (sent : Bool) → listens l ≡ false → hears l event sent l };
+
+    /// Whether it listens: one that does not is told of no event, and nothing is copied for it.
+    fn is_listening(&self) -> bool
+        ensures { result ≡ listens self.now };
 
     /// Is told that a connection was opened, before anything is read of it.
     fn begin(&mut self)
@@ -68,9 +78,19 @@ pub trait Listener {
 pub struct Unheard;
 
 impl Listener for Unheard {
+    ghost use Rattle.std.specs.Prelude.{false, refl};
+
+    ghost listens = { λ _. false };
+
+    ghost deaf = { λ l event sent no. refl };
+
     ghost begins = { λ l l'. l' ≡ l };
 
     ghost hears = { λ l _ _ l'. l' ≡ l };
+
+    fn is_listening(&self) -> bool {
+        false
+    }
 
     fn begin(&mut self) {}
 

@@ -12,7 +12,7 @@ ghost use Rattle.uecp_encoder.specs.Batches.{written_at, fault_after};
 use crate::answering::{Sent, Stop, both, take_piece};
 use crate::batch::Batch;
 use crate::encoder::Encoder;
-use crate::keep::{KeepEncoder, NotKept};
+use crate::keep::{KeepEncoder, NotSaved};
 use crate::listener::{Listener, Unheard};
 use crate::meter::{Failed, Meter};
 use crate::target::Target;
@@ -80,7 +80,7 @@ pub fn serve<T: Target, R: Read, W: Write>(
     ensures empty_reads { reader.new.empty ≡ empty_reads result reader.old.empty }
     ensures write_failures { writer.new.failures ≡ write_failures result writer.old.failures }
 {
-    match serve_with(encoder, &mut NotKept, reader, writer, &mut Unheard, turns) {
+    match serve_with(encoder, &mut NotSaved, reader, writer, &mut Unheard, turns) {
         Ok(served) => Ok(served),
         Err(KeptFault::Serve(fault)) => Err(fault),
         Err(KeptFault::StateFailed) => unreachable!(),

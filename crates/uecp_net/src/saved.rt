@@ -4,7 +4,7 @@
 //!
 //! Where the state is kept is the matter of a [`KeepServer`], as a file. None is opened here.
 //!
-//! - [`KeepServer`]: saves the state of a server and its [`Progress`]; [`SaveFailed`] says that it could not.
+//! - [`KeepServer`]: saves the state of a server and its [`Progress`].
 //! - [`send_kept`]: a batch of messages; [`KeptOutstanding`] is why they are not acknowledged, or may not be.
 //! - [`settle_kept`]: the messages that are outstanding, as after a start.
 //! - [`join_kept`]: the encoder is joined.
@@ -15,4 +15,4 @@ mod keep;
 
 pub use batch::{KeptOutstanding, send_kept, settle_kept};
 pub use join::join_kept;
-pub use keep::{KeepServer, Progress, SaveFailed};
+pub use keep::{KeepServer, Progress};

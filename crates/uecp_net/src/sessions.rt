@@ -6,8 +6,8 @@ ghost use Rattle.uecp_net.specs.Sessions.{Serving, ServingTold};
 
 use crate::connect::Connections;
 use uecp_encoder::{
-    Encoder, KeepEncoder, KeptFault, Listener, Meter, NotKept, ServeFault, Served, Target, Unheard,
-    serve_with,
+    Encoder, KeepEncoder, KeptFault, Listener, Meter, NotSaved, ServeFault, Served, Target,
+    Unheard, serve_with,
 };
 
 /// Serves the next connection and says how it ended, or answers None where there is none to be had. The encoder forgets
@@ -27,7 +27,7 @@ pub fn serve_connection<T: Target, C: Connections>(
         encoder.old connect.old outcome encoder.new connect.new) }
     ensures none { IfNone result (C.opens connect.old None connect.new × (encoder.new ≡ encoder.old)) }
 {
-    match serve_connection_with(encoder, &mut NotKept, &mut Unheard, turns, connect)? {
+    match serve_connection_with(encoder, &mut NotSaved, &mut Unheard, turns, connect)? {
         Ok(served) => Some(Ok(served)),
         Err(KeptFault::Serve(fault)) => Some(Err(fault)),
         Err(KeptFault::StateFailed) => unreachable!(),

@@ -6,11 +6,12 @@ use faulty_io::{APPLIED_1, FaultyReader, FaultyWriter, own_address, reply_made};
 use std::process::Abort;
 use std::test::Fail;
 use uecp_elements::Code;
+use uecp_encoder::SaveFailed;
 use uecp_frame::Message;
 use uecp_link::Server;
 use uecp_net::{
-    Connections, KeepServer, KeptOutstanding, Limits, Outstanding, Progress, SaveFailed, Sender,
-    join_kept, send_kept, settle_kept,
+    Connections, KeepServer, KeptOutstanding, Limits, Outstanding, Progress, Sender, join_kept,
+    send_kept, settle_kept,
 };
 
 /// One try over one connection, with no other.

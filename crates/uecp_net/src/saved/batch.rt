@@ -5,8 +5,9 @@ ghost use Rattle.uecp_net.specs.Keeping.{KeptServer, kept_of, taking, IsKept};
 ghost use Rattle.uecp_net.specs.SavedSending.{SendsKept, SettlesKept, StaysKept, Outlives, OutlivesBatch, told_as};
 
 use crate::connect::Connections;
-use crate::saved::keep::{KeepServer, Progress, SaveFailed};
+use crate::saved::keep::{KeepServer, Progress};
 use crate::sender::{Outstanding, Sender, Settled};
+use uecp_encoder::SaveFailed;
 use uecp_frame::Message;
 
 /// Why messages are outstanding, or may not be kept.

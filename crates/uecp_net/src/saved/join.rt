@@ -5,8 +5,9 @@ ghost use Rattle.uecp_net.specs.SavedJoining.{JoinsKept, joined_as, OutlivesPass
 
 use crate::connect::Connections;
 use crate::saved::batch::KeptOutstanding;
-use crate::saved::keep::{KeepServer, Progress, SaveFailed};
+use crate::saved::keep::{KeepServer, Progress};
 use crate::sender::Sender;
+use uecp_encoder::SaveFailed;
 
 /// Joins the encoder as [`join`](Sender::join) does, and says so once it is kept that it is joined. Where no pass was
 /// complete nothing is saved: what is kept says still that the encoder is not joined, as it does all the time that a

@@ -2,6 +2,7 @@
 ghost use Rattle.std.specs.Prelude.{◌≡◌, ◌⊎◌, OnOk, IfErr};
 ghost use Rattle.uecp_net.specs.Keeping.{KeptServer, kept_of, IsKept};
 
+use uecp_encoder::{NotSaved, SaveFailed};
 use uecp_link::Server;
 
 /// How far a server has come since its file was made.
@@ -12,10 +13,6 @@ pub struct Progress {
     /// Whether its encoder was joined. Until it was, a start begins with a pass.
     pub joined: bool,
 }
-
-/// The state of a server could not be saved. Why is for the keeper to say.
-#[derive(Clone, Copy, Debug, PartialEq, Eq)]
-pub struct SaveFailed;
 
 /// Keeps the state of a server: its last counter, the messages that it holds, and its progress. Contracts see what a
 /// crash may leave of it now; a crash within a save leaves what a save that failed may leave.
@@ -41,4 +38,18 @@ pub trait KeepServer {
         ensures clean { is_clean self.new → is_clean self.old }
         ensures made { OnOk result (saves self.old (kept_of progress server.now) self.new) }
         ensures failed { IfErr result (λ _. fails self.old (kept_of progress server.now) self.new) };
+}
+
+impl KeepServer for NotSaved {
+    ghost leaves = { λ _ _. Unit {0} };
+
+    ghost is_clean = { λ _. ⊥ };
+
+    ghost saves = { λ k _ k'. k' ≡ k };
+
+    ghost fails = { λ _ _ _. ⊥ };
+
+    fn save(&mut self, _server: &Server, _progress: Progress) -> Result<(), SaveFailed> {
+        Ok(())
+    }
 }

@@ -40,5 +40,5 @@ returns-in-Ok g c =
       outlives = λ clean. run.ensures.outlives (c.in-Ok.ensures.settled (run.ensures.clean clean)) clean;
       clean = run.ensures.clean;
       closes_so = c.close_encoder.ensures;
-      is_closed = c.closed_device.ensures;
+      is_closed = c.closed_so.ensures.closed;
     })

@@ -37,5 +37,5 @@ returns-in-Ok g c =
           (run.new.carousel, out.0, out.1);
       clean = run.ensures.clean;
       closes_so = c.close_encoder.ensures;
-      is_closed = c.closed_device.ensures;
+      is_closed = c.closed_so.ensures.closed;
     })

@@ -15,7 +15,9 @@ returns-in-Ok-clause-either g c =
     let kept = c.args.kept in
     subst (λ x. IfErr c.first_saved.result (λ e. IsClean store e.1 → (rows : Trees) → MayLeave store e.1 rows
     → MayLeave store kept rows ⊎ Holds kept.version (Some (encoder_image x)) rows)) c.in-Ok.ensures.encoder
-    c.first_saved.ensures.either
+    (subst (λ k. IfErr c.first_saved.result (λ e. IsClean store e.1 → (rows : Trees) → MayLeave store e.1 rows
+    → MayLeave store k rows ⊎ Holds k.version (Some (encoder_image c.in-Ok.encoder)) rows)) c.new.ensures
+    c.first_saved.ensures.either)
 
 pub returns-in-Ok-clause-refused : goal.returns-in-Ok-clause-refused
 returns-in-Ok-clause-refused g c = c.first_saved.ensures.refused c.args.sets c.args.services.now

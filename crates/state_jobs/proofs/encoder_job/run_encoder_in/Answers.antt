@@ -1,4 +1,4 @@
-use Rattle.std.proofs.Common.{rules, ◌≡◌, sym, inr, subst}
+use Rattle.std.proofs.Common.{rules, refl, inl, inr}
 use Rattle.state_jobs.specs.EncoderJob.{Serves, ServesJob}
 use Rattle.kept_jobs.specs.declared.stop.KeptStop.TheVariants.{Run}
 use Rattle.state_jobs.proofs.Stopping.{stops_as}
@@ -10,7 +10,7 @@ returns-in-Ok-clause-failed g c = λ is.
     let k = g.S.EncoderKeeper.KeepEncoder in
     let held = g.W.Write.contents c.args.writer.now in
     let held' = g.W.Write.contents c.serve_in.new.writer in
-    inr (stops_as (g.S.OpenStates.refuses_encoder c.args.states.now c.args.path.now)
+    inr (stops_as c.args.path.now (g.S.OpenStates.refuses_encoder c.args.states.now c.args.path.now)
     (Serves (g.S.OpenStates.gives_encoder c.args.states.now)
     (g.S.OpenStates.closes_encoder c.args.states.now) k.TOGETHER_MAX k.READ_MAX k.leaves k.is_clean k.saves k.fails
     g.C.Connections.opens g.C.Connections.closes g.C.Input.Read.remaining g.C.Output.Write.contents c.args.path.now
@@ -44,4 +44,5 @@ returns-in-Ok-clause-said g c = λ is.
     (g.E.Write.contents c.serve_in.new.errors) (returns-in-Ok-clause-failed g c is)
 
 pub returns-in-Err-clause-said : goal.returns-in-Err-clause-said
-returns-in-Err-clause-said g c = λ is. inr (Run c.in-Err.fault, c.fail.ensures.said)
+returns-in-Err-clause-said g c = λ is.
+    inr (Run c.in-Err.fault, g.E.Write.contents c.fail.new.errors, c.fail.ensures.said, inl refl)

@@ -1,4 +1,4 @@
-use Rattle.std.proofs.Common.{rules, ◌≡◌, refl, sym, inl, inr, subst}
+use Rattle.std.proofs.Common.{rules, refl, sym, inl, inr, subst}
 use Rattle.uecp_text.specs.declared.run_fault.RunFault.TheVariants.{Address}
 use Rattle.uecp_jobs.specs.Jobs.{RefusesJob}
 use Rattle.state_jobs.proofs.server_job.run_server_in.Goals as goal
@@ -19,16 +19,6 @@ returns-in_default-address_of-clause-undescribed g c = λ is. (
 pub returns-clause-sent : goal.returns-clause-sent
 returns-clause-sent g c =
     elim c.send_in.ensures.sent [
-      | inl sent ↦ inr (inl (sent.0, sent.1, search rules, sent.3, sent.4))
-      | inr lost ↦ inr (inr (
-        lost.0,
-        (
-          lost.1.0,
-          lost.1.1,
-          elim lost.1.2 [
-            | inl same ↦ inl same
-            | inr sends ↦ inr (search rules)
-          ],
-        ),
-      ))
+      | inl sent ↦ inr (inl (sent.0, sent.1, sent.2, sent.3, search rules, sent.5, sent.6))
+      | inr lost ↦ inr (inr lost)
     ]

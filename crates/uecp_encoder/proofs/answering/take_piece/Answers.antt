@@ -1,10 +1,12 @@
-use Rattle.std.proofs.Common.{rules, arith, ◌≡◌, ℕ, ◌+◌, ◌-◌, ◌<◌, ◌≤◌, ◌++◌, ◌∙◌, List, [], length, take, drop}
+use Rattle.std.proofs.Common.{rules, arith, ◌≡◌, ℕ, ◌+◌, ◌-◌, ◌<◌, ◌≤◌, ◌++◌, ◌∙◌, Bool, false, List, [], length, take}
+use Rattle.std.proofs.Common.{drop}
 use Rattle.std.proofs.Common.{refl, ap, sym, subst, take-append-drop, length-drop}
 use Rattle.std.proofs.Math.Seq.{take-add, take-length}
 use Rattle.std.proofs.lemmas.List.{take_rest}
 use Rattle.std.proofs.KnownBytes.{Appends-nil, Appends-trans}
 use Rattle.uecp_frame.specs.Beyond.{found_beyond}
 use Rattle.uecp_encoder.specs.Telling.{HearsFor}
+use Rattle.uecp_encoder.specs.declared.listener.Event.{Event}
 use Rattle.uecp_encoder.specs.Batches.{Takes, StopsAt, HearsUntil, stopped_after}
 use Rattle.uecp_encoder.proofs.Hearing.{hears_nothing, hears_on, until_on, batch_heard}
 use Rattle.uecp_encoder.proofs.Together.{takes_nothing, takes_on, takes_most, stops_at_on}
@@ -38,6 +40,10 @@ returns-in-Err-clause-err g c =
     let rest : List ℕ = take (length piece - at) (drop at piece) in
     let (before, reads, within, gave, taken, failures, heard, few, none) = c.loop-at.invariant in
     let batch = c.take_batch-used.ensures in
+    let listens = c.is_listening-listens.result in
+    let deaf : listens ≡ false → (event : Event) (sent : Bool)
+    → hears c.loop-at.listener event sent c.loop-at.listener =
+    λ no event sent. g.L.Listener.deaf c.loop-at.listener event sent (sym c.is_listening-listens.ensures ∙ no) in
     let e = c.args.encoder.now in
     let e1 = c.loop-at.encoder in
     let e' = c.take_batch-used.new.encoder in
@@ -52,9 +58,10 @@ returns-in-Err-clause-err g c =
     let fewer : (n : ℕ) → n < used → length (found_beyond e1.part (take n rest)) < most =
     subst (λ m. (n : ℕ) → n < used → length (found_beyond e1.part (take n rest)) < m) c.TOGETHER_MAX.ensures
     batch.fewer in
-    let (now, appended, stops, until) = batch_stops most step k.leaves k.is_clean k.saves k.fails hears e1 e'
+    let (now, appended, stops, until) = batch_stops most step k.leaves k.is_clean k.saves k.fails
+    listens hears e1 e'
     c.loop-at.keeper k' c.loop-at.listener l' _ _ rest used c.take_batch-used.new.batch why batch.used.0 batch.used.1
-    batch.state batch.batch fewer c.in-Err.ensures.clean c.in-Err.ensures.err in
+    batch.state batch.batch deaf fewer c.in-Err.ensures.clean c.in-Err.ensures.err in
     let read : reads + 1 ≡ 1 = omega (arith, none c.loop-at-test.true) in
     let start = length first + 0 in
     let place = length first + (used - 1) in
@@ -93,6 +100,10 @@ loop-at-preserved g c =
     let rest_is : rest ≡ drop at piece = take_rest piece at in
     let (before, reads, within, gave, taken, failures, heard, few, none) = c.loop-at.invariant in
     let batch = c.take_batch-used.ensures in
+    let listens = c.is_listening-listens.result in
+    let deaf : listens ≡ false → (event : Event) (sent : Bool)
+    → hears c.loop-at.listener event sent c.loop-at.listener =
+    λ no event sent. g.L.Listener.deaf c.loop-at.listener event sent (sym c.is_listening-listens.ensures ∙ no) in
     let filled = c.take_batch-used.new.batch in
     let ok = c.in-Ok.ensures.ok in
     let e = c.args.encoder.now in
@@ -114,8 +125,8 @@ loop-at-preserved g c =
     (length (found_beyond e1.part (take used rest))) full in
     let takes = takes_on most step k.leaves k.is_clean k.saves k.fails e e1 e' k0 c.loop-at.keeper k' first before
     (take used rest) now reads _ _ more filled.count (length now) taken
-    (batch_takes most step k.leaves k.is_clean k.saves k.fails e1 e' c.loop-at.keeper k' rest used more filled
-    batch.used.1 batch.state batch.batch ok.1 c.in-Ok.ensures.clean enough) in
+    (batch_takes most step k.leaves k.is_clean k.saves k.fails listens e1 e' c.loop-at.keeper k' rest used
+    more filled batch.used.1 batch.state batch.batch ok.1 c.in-Ok.ensures.clean enough) in
     let bytes_is : c.both-sent.result.bytes ≡ c.loop-at.sent.bytes + length now =
     omega (arith, c.both-sent.ensures.bytes, c.len.ensures.value) in (
       before ++ now,
@@ -131,8 +142,8 @@ loop-at-preserved g c =
       search rules,
       subst (λ s. HearsFor hears step e s l0 l') joined
           (hears_on hears step e e1 first (take used rest) l0 c.loop-at.listener l' taken.sends.all.state heard
-          (batch_heard hears step e1 (take used rest) filled.events.items now c.loop-at.listener l' batch.batch.events
-          batch.batch.replies c.in-Ok.ensures.heard)),
+          (batch_heard hears step listens e1 (take used rest) filled.events.items now
+          c.loop-at.listener l' deaf batch.batch.events batch.batch.silent batch.batch.replies c.in-Ok.ensures.heard)),
       omega (arith, none c.loop-at-test.true, one),
       λ behind. omega (arith, none c.loop-at-test.true, last (omega (arith, behind, left))),
     )

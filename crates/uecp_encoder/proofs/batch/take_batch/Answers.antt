@@ -14,8 +14,9 @@ loop-at-init g c =
     let clear = c.clear.ensures in (
       omega arith,
       sym (fed_none g.T.Target.step c.args.encoder.now),
-      batch_none g.T.Target.step c.args.encoder.now c.clear.new.self clear.replies clear.count clear.fresh clear.events,
-      omega (arith, ap length clear.events),
+      batch_none c.args.listens g.T.Target.step c.args.encoder.now c.clear.new.self clear.replies clear.count
+          clear.fresh clear.found clear.events,
+      omega (arith, clear.found),
       λ k less. absurd (omega (arith, less)),
     )
 
@@ -32,11 +33,11 @@ loop-at-preserved g c =
     let rest_is : rest ≡ drop at piece = take_rest piece at in
     let joined : take at piece ++ take used rest ≡ take (at + used) piece =
     ap (λ l. take at piece ++ take used l) rest_is ∙ sym (take-add at used piece) in
-    let room : length c.loop-at.batch.events.items < c.args.most =
-    omega (arith, c.if-len-most.true, c.len.ensures.value) in (
+    let room : c.loop-at.batch.found < c.args.most = search rules in (
       search rules,
       next.state ∙ fed_on_is step e c.loop-at.encoder (take at piece) (take used rest) state ∙ ap (fed step e) joined,
-      subst (λ s. IsBatch step e s c.take_next-at.new.batch) joined (next.batch e (take at piece) state is),
+      subst (λ s. IsBatch c.args.listens step e s c.take_next-at.new.batch) joined (next.batch e (take at piece) state
+          is),
       omega (arith, next.more, room),
       not_full step e c.loop-at.encoder piece rest at used c.args.most state rest_is (omega (arith, is.found, room))
           fewer next.first,

@@ -8,8 +8,8 @@ use Rattle.uecp_encoder.proofs.batch.take_batch.Given as goal
 abbrev pub invariant-loop-at : goal.invariant-loop-at
 invariant-loop-at g l = (l.at ≤ length l.piece)
     × (l.encoder ≡ fed g.T.Target.step l.fn.encoder (take l.at l.piece))
-    × IsBatch g.T.Target.step l.fn.encoder (take l.at l.piece) l.batch
-    × (length l.batch.events.items ≤ l.most)
+    × IsBatch l.listens g.T.Target.step l.fn.encoder (take l.at l.piece) l.batch
+    × (l.batch.found ≤ l.most)
     × ((k : ℕ) → k < l.at → length (found_beyond l.fn.encoder.part (take k l.piece)) < l.most)
 
 abbrev pub decreases-loop-at : goal.decreases-loop-at

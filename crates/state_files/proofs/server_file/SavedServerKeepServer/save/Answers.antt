@@ -1,6 +1,6 @@
 use Rattle.std.proofs.Common.{refl, rules, ◌<◌, ◌^◌}
 use Rattle.state_files.proofs.Images.{server_saved, server_either}
-use Rattle.state_files.proofs.server_file.ServerFileKeepServer.save.Goals as goal
+use Rattle.state_files.proofs.server_file.SavedServerKeepServer.save.Goals as goal
 
 pub returns-in-Ok-clause-saved : goal.returns-in-Ok-clause-saved
 returns-in-Ok-clause-saved g c clean left leaves =

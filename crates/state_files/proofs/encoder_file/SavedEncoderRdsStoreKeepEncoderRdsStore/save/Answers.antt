@@ -1,6 +1,6 @@
 use Rattle.std.proofs.Common.{refl}
 use Rattle.state_files.proofs.Images.{encoder_saved, encoder_either}
-use Rattle.state_files.proofs.encoder_file.EncoderFileKeepEncoderRdsStore.save.Goals as goal
+use Rattle.state_files.proofs.encoder_file.SavedEncoderRdsStoreKeepEncoderRdsStore.save.Goals as goal
 
 pub returns-in-Ok-clause-saved : goal.returns-in-Ok-clause-saved
 returns-in-Ok-clause-saved g c clean left leaves =
