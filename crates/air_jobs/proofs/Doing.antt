@@ -14,8 +14,7 @@ use Rattle.output_forms.specs.declared.form.Form.{Form}
 use Rattle.output_forms.specs.Forms.{answer_lines}
 use Rattle.uecp_jobs.specs.Commands.{AnswersIn}
 use Rattle.uecp_jobs.specs.Setups.{RefusesSetup, encoder_at_first}
-use Rattle.uecp_jobs.proofs.Public.{whole_part, not_failed, breaks_fails, setup_wants, job_status, stopped, same_fault}
-use Rattle.uecp_jobs.specs.declared.job.Job.TheVariants.{Answer}
+use Rattle.uecp_jobs.proofs.Public.{whole_part, not_failed, breaks_fails, setup_wants, says_status, stopped, same_fault}
 use Rattle.air_jobs.specs.declared.air_job.AirJob.{AirJob}
 use Rattle.air_jobs.specs.declared.answering.Asked.{Asked}
 use Rattle.air_jobs.specs.declared.answering.AnsweringOnAir.{AnsweringOnAir}
@@ -79,7 +78,7 @@ unmade_refuses job fault (inr refused) two = refused
 unmade_status : (job : AirJob) (fault : RunFault) → IsUnmade job fault → status_of fault ≡ 1 → ⊥
 unmade_status job fault (inl is) one = let three : 3 ≡ 1 = sym (ap status_of is) ∙ one in omega (arith, three)
 unmade_status job fault (inr refused) one =
-    job_status (Answer job.site job.encoder job.sets job.services job.store) fault refused one
+    says_status (options_of job) fault refused one
 
 -- a run that broke failed
 air_breaks_fails : (job : AirJob) (unread unread' held held' : Option (List ℕ)) (fault : RunFault)

@@ -8,13 +8,13 @@ use Rattle.uecp_text.specs.Run.{IsInput, Prints, Breaks}
 use Rattle.uecp_text.specs.Written.{Begins}
 use Rattle.uecp_jobs.specs.Commands.{AnswersIn}
 use Rattle.uecp_jobs.specs.Setups.{Options, IsSetup, RefusesSetup, encoder_at_first}
+use Rattle.uecp_jobs.specs.Setups as setup
 use Rattle.air_jobs.specs.declared.air_job.AirJob.{AirJob}
 use Rattle.air_jobs.specs.Airing.{last_lines}
 
 -- The encoder that the options describe.
 abbrev pub options_of : AirJob → Options
-options_of job =
-    record { site = job.site; encoder = job.encoder; sets = job.sets; services = job.services.items }
+options_of job = setup.options_of job.setup
 
 -- What is written of an input: what `answer` writes of it, and where no line is refused what comes last.
 abbrev pub AirPrints : AirJob → (input : List ℕ) → Result (Unit {0}) RunFault → (written : List ℕ) → Type 0

@@ -9,21 +9,14 @@ use crate::answering::AnsweringOnAir;
 use output_forms::Form;
 use std::alloc::Global;
 use std::io::{Read, Write};
-use uecp_jobs::fail;
+use uecp_jobs::{Setup, fail};
 use uecp_text::{RunFault, run};
 
-/// The command `answer` with groups of its store behind. `command_line`'s `parse` answers no other numbers than the
-/// ranges named here.
-#[derive(Debug, Drop, PartialEq, Eq)]
-pub struct AirJob {
-    /// The encoder's site, 1 to 1023.
-    pub site: u16,
-    /// The encoder's number at its site, 1 to 63.
-    pub encoder: u8,
-    /// How many data sets it has, 1 to 8.
-    pub sets: u8,
-    /// The numbers of its services, the main one first. The store judges them.
-    pub services: Vec<u8>,
+/// What is asked of the command `answer` with groups of its store behind.
+#[derive(Clone, Copy, Debug)]
+pub struct AirJob<'a> {
+    /// The encoder.
+    pub setup: Setup<'a>,
     /// Whether the store is written out at the end of the input, before the groups.
     pub store: bool,
     /// The form of all that is written.
@@ -37,7 +30,7 @@ pub struct AirJob {
 /// stopped is said on `errors`, as far as that takes it.
 pub fn run_answer_on_air<R: Read, W: Write, E: Write>(
     alloc: Global,
-    job: &AirJob,
+    job: &AirJob<'_>,
     reader: &mut R,
     writer: &mut W,
     errors: &mut E,
@@ -61,7 +54,7 @@ pub fn run_answer_on_air<R: Read, W: Write, E: Write>(
 /// Does the job. The options are judged before anything is read or written.
 fn answer_on_air<R: Read, W: Write>(
     alloc: Global,
-    job: &AirJob,
+    job: &AirJob<'_>,
     reader: &mut R,
     writer: &mut W,
 ) -> Result<(), RunFault>

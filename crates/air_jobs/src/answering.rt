@@ -18,7 +18,7 @@ use output_forms::{Form, put_answer, put_store};
 use rds_store::RdsStore;
 use std::alloc::Global;
 use uecp_encoder::Encoder;
-use uecp_jobs::{Setup, new_encoder};
+use uecp_jobs::new_encoder;
 use uecp_text::{Interpreter, Output, PieceBuffer, RunFault, Taken, TextFault, rest_after};
 
 /// What of an encoder is written.
@@ -46,20 +46,14 @@ pub(crate) struct AnsweringOnAir {
 impl AnsweringOnAir {
     /// The encoder that the job describes, with an opening store, before any piece. The services are judged before the
     /// address; `OutOfMemory` where there is no memory.
-    pub(crate) fn new(alloc: Global, job: &AirJob) -> Result<AnsweringOnAir, RunFault>
+    pub(crate) fn new(alloc: Global, job: &AirJob<'_>) -> Result<AnsweringOnAir, RunFault>
         ensures described { IfOk result (λ a. IsSetup (options_of job.now)) }
         ensures made { IfOk result (λ a. a.encoder ≡ encoder_at_first (options_of job.now)) }
         ensures asked { IfOk result (λ a. a.asked ≡ asked_of job.now) }
         ensures refused { IfErr result (λ fault. (fault ≡ OutOfMemory) ⊎ RefusesSetup (options_of job.now) fault) }
     {
-        let setup = Setup {
-            site: job.site,
-            encoder: job.encoder,
-            sets: job.sets,
-            services: job.services.as_slice(),
-        };
         Ok(AnsweringOnAir {
-            encoder: new_encoder(alloc, &setup)?,
+            encoder: new_encoder(alloc, &job.setup)?,
             asked: Asked {
                 form: job.form,
                 store: job.store,

@@ -7,8 +7,8 @@ use Rattle.std.specs.Str.Parse.{ParsesUnsigned}
 use Rattle.std.specs.Borrow.{Bor}
 use Rattle.hex.specs.Hex.{decode_sized}
 use Rattle.clap.specs.Matches.{ReadsOne}
-use Rattle.ladders.specs.declared.drawing.LadderForm.{LadderForm}
-use Rattle.ladders.specs.declared.drawing.LadderForm.TheVariants.{Picture, Text}
+use Rattle.commands.specs.declared.line_options.LadderForm.{LadderForm}
+use Rattle.commands.specs.declared.line_options.LadderForm.TheVariants.{Picture, Text}
 use Rattle.command_line.specs.CommandLine.{Spells, ladder_word}
 
 -- what `get_one` reads of a text that spells a number

@@ -11,26 +11,26 @@ use Rattle.clap.specs.Simple.{App, Shape, new_rule, new_shape, subcommand_of, wi
 use Rattle.clap.specs.Faults.{fault_of}
 use Rattle.clap.specs.Kinds.{IsAmong}
 use Rattle.clap.specs.Values.{kind_of}
+use Rattle.clap.specs.declared.error.Error.{Error}
+use Rattle.clap.specs.declared.error.kind.ErrorKind.TheVariants.{InvalidValue}
 use Rattle.clap.specs.declared.builder.action.ArgAction.TheVariants.{Set, SetTrue}
 use Rattle.clap.specs.declared.builder.value_parser.ValueParser.TheVariants.{Signed}
-use Rattle.uecp_jobs.specs.declared.job.Job.{Job}
-use Rattle.uecp_jobs.specs.declared.job.Job.TheVariants.{Answer, AnswerAs, Show, ShowAs, Make, MakeWords}
-use Rattle.uecp_jobs.specs.declared.job.Job.TheVariants.{Line, LineAs, Encoder, Server, Watch}
-use Rattle.commands.specs.declared.send_job.SendJob.{SendJob}
-use Rattle.command_line.specs.declared.task.Task.{Task}
-use Rattle.commands.specs.declared.device_job.DeviceJob.{DeviceJob}
-use Rattle.air_jobs.specs.declared.air_job.AirJob.{AirJob}
-use Rattle.receive_command.specs.declared.receive_job.ReceiveJob.{ReceiveJob}
-use Rattle.receive_command.specs.declared.display.shown_form.ShownForm.{ShownForm}
-use Rattle.receive_command.specs.declared.display.shown_form.ShownForm.TheVariants as shown
-use Rattle.conformance_command.specs.declared.job.ConformanceJob.{ConformanceJob}
-use Rattle.page_server.specs.declared.page_job.PageJob.{PageJob}
-use Rattle.command_line.specs.declared.task.Task.TheVariants.{Plain, Kept, Send, Device, OnAir, Receive, Conformance}
-use Rattle.command_line.specs.declared.task.Task.TheVariants.{Page}
-use Rattle.command_line.specs.declared.task.Task.TheVariants.{State, Ladder}
-use Rattle.ladders.specs.declared.ladder_job.LadderJob.{LadderJob}
-use Rattle.ladders.specs.declared.drawing.LadderForm.{LadderForm}
-use Rattle.ladders.specs.declared.drawing.LadderForm.TheVariants.{Picture, Text}
+use Rattle.commands.specs.declared.job.Job.{Job}
+use Rattle.commands.specs.declared.job.Job.TheVariants.{AnswerWith, ShowWith, MakeWith, LineWith, EncoderWith}
+use Rattle.commands.specs.declared.job.Job.TheVariants.{ServerWith, Send, Watch, State, Receive, Conformance, Page}
+use Rattle.commands.specs.Jobs.{in_short}
+use Rattle.commands.specs.declared.answer_options.AnswerOptions.{AnswerOptions}
+use Rattle.commands.specs.declared.conformance_options.ConformanceOptions.{ConformanceOptions}
+use Rattle.commands.specs.declared.encoder_options.EncoderOptions.{EncoderOptions}
+use Rattle.commands.specs.declared.line_options.LadderForm.{LadderForm}
+use Rattle.commands.specs.declared.line_options.LadderForm.TheVariants.{Picture, Text}
+use Rattle.commands.specs.declared.line_options.LineOptions.{LineOptions}
+use Rattle.commands.specs.declared.page_options.PageOptions.{PageOptions}
+use Rattle.commands.specs.declared.receive_options.ReceiveOptions.{ReceiveOptions}
+use Rattle.commands.specs.declared.receive_options.ShownForm.{ShownForm}
+use Rattle.commands.specs.declared.receive_options.ShownForm.TheVariants as shown
+use Rattle.commands.specs.declared.send_options.SendOptions.{SendOptions}
+use Rattle.commands.specs.declared.server_options.ServerOptions.{ServerOptions}
 use Rattle.output_forms.specs.declared.form.Form.{Form}
 use Rattle.output_forms.specs.declared.form.Form.TheVariants.{Lines, Words, Json}
 use Rattle.rds_text.specs.declared.programme_type.Region.{Region}
@@ -39,7 +39,7 @@ use Rattle.command_line.specs.declared.numbers.NumberOption.{NumberOption}
 use Rattle.command_line.specs.declared.command_name.CommandName.{CommandName}
 use Rattle.command_line.specs.declared.command_name.CommandName.TheVariants as command
 use Rattle.command_line.specs.declared.usage.Usage.{Usage}
-use Rattle.command_line.specs.declared.usage.Usage.TheVariants.{Refused, NotAList, NotAForm, OutOfMemory}
+use Rattle.command_line.specs.declared.usage.Usage.TheVariants.{Refused, NotAList, OutOfMemory}
 
 -- The parts of a list between its commas are two hexadecimal digits each, and spell these bytes in order.
 abbrev pub IsList : (list bytes : List ℕ) → Type 0
@@ -132,74 +132,33 @@ IsTimed rows time = (left_out : Bool) × IsFlag (one_of (codes "no-time") rows) 
 abbrev pub IsPort : (rows : List Row) → (port : ℕ) → Type 0
 IsPort rows port = IsOption (one_of (codes "port") rows) 1 65535 port
 
--- The matches of the command `encoder` ask for nothing that only a device does.
-pub record AreNoDevice (rows : List Row) : Type 0 where
-  pub no_listen : first_of (codes "listen") rows ≡ None
-  pub no_faults : first_of (codes "faults") rows ≡ None
-  pub no_air : IsMaybe (one_of (codes "air") rows) 1 65535 None
-  pub no_air_bits : IsFlag (one_of (codes "air-bits") rows) false
-  pub not_forever : IsFlag (one_of (codes "forever") rows) false
-  pub not_idle : IsOption (one_of (codes "idle") rows) 0 86400 0
-  pub no_log : IsFlag (one_of (codes "log") rows) false
-  pub no_store : IsFinalStore rows false
-  pub in_lines : IsForm rows Lines
+-- What an encoder answers is what the matches of the command `answer` ask for.
+pub record IsAnswer (rows : List Row) (o : AnswerOptions) : Type 0 where
+  pub are_options : AreOptions rows o.site o.encoder o.sets o.services.items
+  pub is_store : IsStore rows o.store
+  pub is_form : IsForm rows o.form
+  pub is_air : IsMaybe (one_of (codes "air") rows) 1 1000000 o.air
 
--- The bounds of an encoder that listens are those that the matches of its command have; its port is given, and nothing
--- is asked for that only a device does.
-pub record AreListening (rows : List Row) (port connections turns : ℕ) : Type 0 where
-  pub is_port : IsMaybe (one_of (codes "port") rows) 1 65535 (Some port)
-  pub is_connections : IsOption (one_of (codes "connections") rows) 1 1000 connections
-  pub is_turns : IsOption (one_of (codes "turns") rows) 1 1000000 turns
-  pub are_no_device : AreNoDevice rows
+-- A script is of phrases where the form is words.
+abbrev pub words_of : Option Region → Form
+words_of None = Lines
+words_of (Some region) = Words region
 
 -- Where a server finds its encoder, its bounds, whether it joins first, goes on over silence and says why it found no
--- connection, are those that the matches of its command have.
-pub record AreSending (rows : List Row) (host : List ℕ) (port tries timeout turns reconnects window : ℕ)
-    (join reconnect_silent verbose : Bool) : Type 0 where
-  pub is_host : host ≡ host_text rows
-  pub is_port : IsPort rows port
-  pub is_tries : IsOption (one_of (codes "tries") rows) 1 100 tries
-  pub is_timeout : IsOption (one_of (codes "timeout") rows) 1 60000 timeout
-  pub is_turns : IsOption (one_of (codes "turns") rows) 1 1000 turns
-  pub is_reconnects : IsOption (one_of (codes "reconnects") rows) 0 100 reconnects
-  pub is_window : IsOption (one_of (codes "window") rows) 1 8 window
-  pub is_join : IsFlag (one_of (codes "join") rows) join
-  pub is_reconnect_silent : IsFlag (one_of (codes "reconnect-silent") rows) reconnect_silent
-  pub is_verbose : IsFlag (one_of (codes "verbose") rows) verbose
-
--- The matches of the command `answer` ask for no groups on the air.
-abbrev pub IsOffAir : (rows : List Row) → Type 0
-IsOffAir rows = IsMaybe (one_of (codes "air") rows) 1 1000000 None
-
--- The matches of the command `line` ask for no ladder.
-abbrev pub IsUndrawn : (rows : List Row) → Type 0
-IsUndrawn rows = first_of (codes "ladder") rows ≡ None
-
--- The job is that of the command of this name, with the options that its matches have.
-abbrev pub IsJobOf : (name : List ℕ) → List Row → Job → Type 0
-IsJobOf name rows (Answer site encoder sets services store) =
-    (name ≡ codes "answer") × AreOptions rows site encoder sets services.items × IsStore rows store × IsForm rows Lines
-    × IsOffAir rows
-IsJobOf name rows (AnswerAs site encoder sets services store form) =
-    (name ≡ codes "answer") × AreOptions rows site encoder sets services.items × IsStore rows store × IsForm rows form
-    × IsOffAir rows
-IsJobOf name rows (Line site encoder sets services store) =
-    (name ≡ codes "line") × AreOptions rows site encoder sets services.items × IsStore rows store × IsForm rows Lines
-    × IsUndrawn rows
-IsJobOf name rows (LineAs site encoder sets services store form) =
-    (name ≡ codes "line") × AreOptions rows site encoder sets services.items × IsStore rows store × IsForm rows form
-    × IsUndrawn rows
-IsJobOf name rows (Encoder site encoder sets services port connections turns) =
-    (name ≡ codes "encoder") × AreOptions rows site encoder sets services.items
-    × AreListening rows port connections turns
-IsJobOf name rows (Server site encoder host port tries timeout turns reconnects window join reconnect_silent verbose) =
-    (name ≡ codes "server") × IsPlace rows site encoder
-    × AreSending rows (string_bytes host) port tries timeout turns reconnects window join reconnect_silent verbose
-IsJobOf name rows Make = (name ≡ codes "make") × IsWording rows Lines
-IsJobOf name rows (MakeWords region) = (name ≡ codes "make") × IsWording rows (Words region)
-IsJobOf name rows Show = (name ≡ codes "show") × IsForm rows Lines
-IsJobOf name rows (ShowAs form) = (name ≡ codes "show") × IsForm rows form
-IsJobOf name rows (Watch form time) = (name ≡ codes "watch") × IsForm rows form × IsTimed rows time
+-- connection, and the file of its state, are those that the matches of the command `server` have.
+pub record IsServer (rows : List Row) (o : ServerOptions) : Type 0 where
+  pub is_place : IsPlace rows o.site o.encoder
+  pub is_host : string_bytes o.host ≡ host_text rows
+  pub is_port : IsPort rows o.port
+  pub is_tries : IsOption (one_of (codes "tries") rows) 1 100 o.tries
+  pub is_timeout : IsOption (one_of (codes "timeout") rows) 1 60000 o.timeout
+  pub is_turns : IsOption (one_of (codes "turns") rows) 1 1000 o.turns
+  pub is_reconnects : IsOption (one_of (codes "reconnects") rows) 0 100 o.reconnects
+  pub is_window : IsOption (one_of (codes "window") rows) 1 8 o.window
+  pub is_join : IsFlag (one_of (codes "join") rows) o.join
+  pub is_reconnect_silent : IsFlag (one_of (codes "reconnect-silent") rows) o.reconnect_silent
+  pub is_verbose : IsFlag (one_of (codes "verbose") rows) o.verbose
+  pub is_state : option_map string_bytes o.state ≡ first_of (codes "state") rows
 
 -- The region is North America's where a flag asks for it.
 abbrev pub IsRegion : (rows : List Row) → Region → Type 0
@@ -217,7 +176,7 @@ IsRejoin rows rejoin = (asked : Bool) × IsFlag (one_of (codes "rejoin") rows) a
     × (rejoin ≡ asked || is_some (first_of (codes "station") rows))
 
 -- What is sent for as long as lines come is sent as the matches of the command have it.
-pub record IsLive (rows : List Row) (job : SendJob) : Type 0 where
+pub record IsLive (rows : List Row) (job : SendOptions) : Type 0 where
   pub is_place : IsPlace rows job.site job.encoder
   pub is_host : string_bytes job.host ≡ host_text rows
   pub is_port : IsPort rows job.port
@@ -236,8 +195,8 @@ pub record IsLive (rows : List Row) (job : SendJob) : Type 0 where
   pub is_state : option_map string_bytes job.state ≡ first_of (codes "state") rows
   pub is_station : option_map string_bytes job.station ≡ first_of (codes "station") rows
 
--- What a device does is what the matches of the command `encoder` ask for.
-pub record IsDevice (rows : List Row) (job : DeviceJob) : Type 0 where
+-- What an encoder does is what the matches of the command `encoder` ask for.
+pub record IsEncoder (rows : List Row) (job : EncoderOptions) : Type 0 where
   pub are_options : AreOptions rows job.site job.encoder job.sets job.services.items
   pub is_listen : option_map string_bytes job.listen ≡ first_of (codes "listen") rows
   pub is_port : IsMaybe (one_of (codes "port") rows) 1 65535 job.port
@@ -255,29 +214,28 @@ pub record IsDevice (rows : List Row) (job : DeviceJob) : Type 0 where
   pub is_seed : IsOption (one_of (codes "seed") rows) 0 1000000000 job.seed
   pub is_state : option_map string_bytes job.state ≡ first_of (codes "state") rows
 
--- What an encoder answers, and then has on the air, is what the matches of the command `answer` ask for.
-pub record IsOnAir (rows : List Row) (job : AirJob) : Type 0 where
-  pub are_options : AreOptions rows job.site job.encoder job.sets job.services.items
-  pub is_store : IsStore rows job.store
-  pub is_form : IsForm rows job.form
-  pub is_groups : IsMaybe (one_of (codes "air") rows) 1 1000000 (Some job.groups)
-
 -- The word for a ladder's form.
 abbrev pub ladder_word : LadderForm → List ℕ
 ladder_word Picture = codes "svg"
 ladder_word Text = codes "text"
 
+-- A line is played, or drawn as a ladder, as the matches of the command `line` ask for it.
+pub record IsLine (rows : List Row) (o : LineOptions) : Type 0 where
+  pub are_options : AreOptions rows o.site o.encoder o.sets o.services.items
+  pub is_store : IsStore rows o.store
+  pub is_form : IsForm rows o.form
+  pub is_ladder : option_map ladder_word o.ladder ≡ first_of (codes "ladder") rows
+
+-- A ladder is asked for in a form that there is none of.
+abbrev pub HasNoForm : (rows : List Row) → Type 0
+HasNoForm rows = (is_some (first_of (codes "ladder") rows) ≡ true)
+    × ((form : LadderForm) → first_of (codes "ladder") rows ≡ Some (ladder_word form) → ⊥)
+
 -- Why what the matches of the command `line` ask for was refused: the list of services is none, or the form of the
 -- ladder is none. Or there was no memory.
 abbrev pub RefusesLine : (rows : List Row) → Usage → Type 0
-RefusesLine rows why = RefusesList (services_text rows) why ⊎ ((why ≡ NotAForm)
-    × (is_some (first_of (codes "ladder") rows) ≡ true)
-    × ((form : LadderForm) → first_of (codes "ladder") rows ≡ Some (ladder_word form) → ⊥))
-
--- A ladder is drawn as the matches of the command `line` ask for it.
-pub record IsLadder (rows : List Row) (job : LadderJob) : Type 0 where
-  pub are_options : AreOptions rows job.site job.encoder job.sets job.services.items
-  pub is_form : first_of (codes "ladder") rows ≡ Some (ladder_word job.form)
+RefusesLine rows why = RefusesList (services_text rows) why
+    ⊎ ((error : Error) × (why ≡ Refused error) × (kind_of error ≡ InvalidValue) × HasNoForm rows)
 
 -- What is shown is told in objects of JSON where a flag asks for them, else in words.
 abbrev pub IsShownForm : (rows : List Row) → ShownForm → Type 0
@@ -285,18 +243,18 @@ IsShownForm rows form = (json : Bool) × (region : Region) × IsFlag (one_of (co
     × IsRegion rows region × (form ≡ (if json then shown.Json else shown.Words region))
 
 -- What a receiver shows is told as the matches of the command `receive` ask for.
-pub record IsReceive (rows : List Row) (job : ReceiveJob) : Type 0 where
+pub record IsReceive (rows : List Row) (job : ReceiveOptions) : Type 0 where
   pub is_form : IsShownForm rows job.form
   pub is_time : IsTimed rows job.time
   pub is_bits : IsFlag (one_of (codes "bits") rows) job.bits
 
 -- The page is served where the matches of the command `page` say.
-pub record IsPage (rows : List Row) (job : PageJob) : Type 0 where
+pub record IsPage (rows : List Row) (job : PageOptions) : Type 0 where
   pub is_listen : option_map string_bytes job.listen ≡ first_of (codes "listen") rows
   pub is_port : IsMaybe (one_of (codes "port") rows) 1 65535 job.port
 
 -- The cases are run as the matches of the command `conformance` ask for.
-pub record IsConformance (rows : List Row) (job : ConformanceJob) : Type 0 where
+pub record IsConformance (rows : List Row) (job : ConformanceOptions) : Type 0 where
   pub is_place : IsPlace rows job.site job.encoder
   pub is_where : string_bytes job.place ≡ word_text (codes "place") [] rows
   pub is_only : option_map string_bytes job.only ≡ first_of (codes "only") rows
@@ -304,77 +262,21 @@ pub record IsConformance (rows : List Row) (job : ConformanceJob) : Type 0 where
   pub is_quiet : IsOption (one_of (codes "quiet") rows) 1 60000 job.quiet
   pub is_json : IsFlag (one_of (codes "json") rows) job.json
 
--- This, where the form is lines.
-abbrev pub if_lines : Form → Option ℕ → Option ℕ
-if_lines Lines port = port
-if_lines (Words region) port = None
-if_lines Json port = None
-
--- The port of a job that asks for nothing that only a device does, if it has one.
-abbrev pub plain_port : DeviceJob → Option ℕ
-plain_port job =
-    if is_some job.listen || (is_some job.faults || (is_some job.air || (job.air_bits
-    || (job.forever || (job.log || job.store))))) then None
-    else if job.idle == 0 then if_lines job.form job.port else None
-
--- The task is the job of `encoder` with these options, on this port, with the file of its state where one is given.
-abbrev pub IsPlainTask : DeviceJob → (port : ℕ) → Task → Type 0
-IsPlainTask job port (Plain same) =
-    (same ≡ Encoder job.site job.encoder job.sets job.services port job.connections job.turns) × (job.state ≡ None)
-IsPlainTask job port (Kept same path) =
-    (same ≡ Encoder job.site job.encoder job.sets job.services port job.connections job.turns)
-    × (job.state ≡ Some path)
-IsPlainTask job port (Send send) = ⊥
-IsPlainTask job port (Device device) = ⊥
-IsPlainTask job port (OnAir air) = ⊥
-IsPlainTask job port (Receive receive) = ⊥
-IsPlainTask job port (Conformance cases) = ⊥
-IsPlainTask job port (Page page) = ⊥
-IsPlainTask job port (State path) = ⊥
-IsPlainTask job port (Ladder ladder) = ⊥
-
--- The job is that of one of the two ends, which have a state.
-abbrev pub IsEnd : Job → Type 0
-IsEnd (Encoder site encoder sets services port connections turns) = Unit {0}
-IsEnd (Server site encoder host port tries timeout turns reconnects window join reconnect_silent verbose) = Unit {0}
-IsEnd job = ⊥
-
--- No file is given for the state of the job's end, if it is that of one.
-abbrev pub IsUnkept : List Row → Job → Type 0
-IsUnkept rows (Encoder site encoder sets services port connections turns) = first_of (codes "state") rows ≡ None
-IsUnkept rows (Server site encoder host port tries timeout turns reconnects window join reconnect_silent verbose) =
-    first_of (codes "state") rows ≡ None
-IsUnkept rows job = Unit {0}
-
--- The task is this job, with the file for the state of its end where one is given.
-abbrev pub IsKeptAs : List Row → Job → Task → Type 0
-IsKeptAs rows job (Plain same) = (same ≡ job) × (first_of (codes "state") rows ≡ None)
-IsKeptAs rows job (Kept same path) = (same ≡ job) × (first_of (codes "state") rows ≡ Some (string_bytes path))
-IsKeptAs rows job (Send send) = ⊥
-IsKeptAs rows job (Device device) = ⊥
-IsKeptAs rows job (OnAir air) = ⊥
-IsKeptAs rows job (Receive receive) = ⊥
-IsKeptAs rows job (Conformance cases) = ⊥
-IsKeptAs rows job (Page page) = ⊥
-IsKeptAs rows job (State path) = ⊥
-IsKeptAs rows job (Ladder ladder) = ⊥
-
--- The task is that of the command of this name: its job, with the file for the state of its end where one is given; or
--- to send for as long as lines come; or what a device does; or what an encoder answers and then has on the air; or what
--- a receiver shows; or conformance cases; or a live page; or what is in the file that is named; or a ladder.
-abbrev pub IsTaskOf : (name : List ℕ) → List Row → Task → Type 0
-IsTaskOf name rows (Plain job) = IsJobOf name rows job × IsUnkept rows job
-IsTaskOf name rows (Kept job path) =
-    IsJobOf name rows job × IsEnd job × (first_of (codes "state") rows ≡ Some (string_bytes path))
-IsTaskOf name rows (Send job) = (name ≡ codes "send") × IsLive rows job
-IsTaskOf name rows (Device job) = (name ≡ codes "encoder") × IsDevice rows job × (plain_port job ≡ None)
-IsTaskOf name rows (OnAir job) = (name ≡ codes "answer") × IsOnAir rows job
-IsTaskOf name rows (Receive job) = (name ≡ codes "receive") × IsReceive rows job
-IsTaskOf name rows (Conformance job) = (name ≡ codes "conformance") × IsConformance rows job
-IsTaskOf name rows (Page job) = (name ≡ codes "page") × IsPage rows job
-IsTaskOf name rows (State path) =
-    (name ≡ codes "state") × (string_bytes path ≡ word_text (codes "file") [] rows)
-IsTaskOf name rows (Ladder job) = (name ≡ codes "line") × IsLadder rows job
+-- A job with all options of its command is that of the command of this name, with the options that its matches have.
+abbrev pub IsFullOf : (name : List ℕ) → List Row → Job → Type 0
+IsFullOf name rows (AnswerWith o) = (name ≡ codes "answer") × IsAnswer rows o
+IsFullOf name rows (ShowWith o) = (name ≡ codes "show") × IsForm rows o.form
+IsFullOf name rows (MakeWith o) = (name ≡ codes "make") × IsWording rows (words_of o.words)
+IsFullOf name rows (LineWith o) = (name ≡ codes "line") × IsLine rows o
+IsFullOf name rows (EncoderWith o) = (name ≡ codes "encoder") × IsEncoder rows o
+IsFullOf name rows (ServerWith o) = (name ≡ codes "server") × IsServer rows o
+IsFullOf name rows (Send o) = (name ≡ codes "send") × IsLive rows o
+IsFullOf name rows (Watch o) = (name ≡ codes "watch") × IsForm rows o.form × IsTimed rows o.time
+IsFullOf name rows (State file) = (name ≡ codes "state") × (string_bytes file ≡ word_text (codes "file") [] rows)
+IsFullOf name rows (Receive o) = (name ≡ codes "receive") × IsReceive rows o
+IsFullOf name rows (Conformance o) = (name ≡ codes "conformance") × IsConformance rows o
+IsFullOf name rows (Page o) = (name ≡ codes "page") × IsPage rows o
+IsFullOf name rows job = ⊥
 
 -- The word for a command.
 abbrev pub command_word : CommandName → List ℕ
@@ -393,11 +295,11 @@ command_word command.Page = codes "page"
 
 -- Why what the matches of this command ask for was refused: it has a list of services that is none, or a ladder's form
 -- that is none. Or there was no memory.
-abbrev pub RefusesTask : CommandName → (rows : List Row) → Usage → Type 0
-RefusesTask command.Answer rows why = RefusesList (services_text rows) why
-RefusesTask command.Encoder rows why = RefusesList (services_text rows) why
-RefusesTask command.Line rows why = RefusesLine rows why
-RefusesTask other rows why = why ≡ OutOfMemory
+abbrev pub RefusesJobOf : CommandName → (rows : List Row) → Usage → Type 0
+RefusesJobOf command.Answer rows why = RefusesList (services_text rows) why
+RefusesJobOf command.Encoder rows why = RefusesList (services_text rows) why
+RefusesJobOf command.Line rows why = RefusesLine rows why
+RefusesJobOf other rows why = why ≡ OutOfMemory
 
 -- ---- the command line that the program takes
 
@@ -600,13 +502,16 @@ uecp_app = record {
       ∷ looking_command ∷ receiving_command ∷ trying_command ∷ paging_command ∷ []);
 }
 
--- The words have no fault, and ask for this: they name its command, and give its options.
-pub record Asks (words : List (List ℕ)) (task : Task) : Type 0 where
+-- The words have no fault, and ask for this: they name its command, and give its options. It is the job with those that
+-- the command had first, where no later one is given.
+pub record Asks (words : List (List ℕ)) (job : Job) : Type 0 where
   pub faultless : fault_of uecp_app words ≡ []
   pub name : List ℕ
   pub rows : List Row
   pub command : subcommand_of uecp_app words ≡ Some (name, rows)
-  pub is_task : IsTaskOf name rows task
+  pub full : Job
+  pub is_full : IsFullOf name rows full
+  pub is_short : job ≡ in_short full
 
 -- The words name a command with an encoder, and give it a list of services that is none.
 pub record GivesNoList (words : List (List ℕ)) : Type 0 where
@@ -620,12 +525,11 @@ pub record GivesNoList (words : List (List ℕ)) : Type 0 where
 pub record GivesNoForm (words : List (List ℕ)) : Type 0 where
   pub rows : List Row
   pub command : subcommand_of uecp_app words ≡ Some (codes "line", rows)
-  pub asks : is_some (first_of (codes "ladder") rows) ≡ true
-  pub no_form : (form : LadderForm) → first_of (codes "ladder") rows ≡ Some (ladder_word form) → ⊥
+  pub no_form : HasNoForm rows
 
 -- Why the words were refused: they have a fault of this kind, or give no list, or no form. Or there was no memory.
 abbrev pub RefusesWords : (words : List (List ℕ)) → Usage → Type 0
 RefusesWords words (Refused error) = IsAmong (kind_of error) (fault_of uecp_app words)
+    ⊎ ((kind_of error ≡ InvalidValue) × GivesNoForm words)
 RefusesWords words NotAList = GivesNoList words
-RefusesWords words NotAForm = GivesNoForm words
 RefusesWords words OutOfMemory = Unit {0}

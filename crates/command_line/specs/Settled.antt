@@ -10,7 +10,7 @@ use Rattle.clap.specs.declared.error.kind.ErrorKind.TheVariants.{MissingRequired
 use Rattle.std.specs.Io.KnownBytes.{Appends}
 use Rattle.option_files.specs.Words.{Entry, Text, file_in, names, option_words, words_to_try, words_with}
 use Rattle.option_files.specs.Entries.{Gives, Refuses}
-use Rattle.command_line.specs.declared.task.Task.{Task}
+use Rattle.commands.specs.declared.job.Job.{Job}
 use Rattle.command_line.specs.declared.file_fault.FileFault.{FileFault}
 use Rattle.command_line.specs.declared.file_fault.FileFault.TheVariants.{Entries, Refused, NotAList, OutOfMemory}
 use Rattle.command_line.specs.CommandLine.{Asks, GivesNoList, uecp_app}
@@ -73,4 +73,4 @@ ok_line path = path ++ codes ": ok\n"
 
 -- The words ask for something, and it was said that their file is ok.
 abbrev pub SaysOk : (path : Text) → (words : List Text) → (held held' : Option (List ℕ)) → Type 0
-SaysOk path words held held' = (task : Task) × Asks words task × Appends held held' (ok_line path)
+SaysOk path words held held' = (job : Job) × Asks words job × Appends held held' (ok_line path)

@@ -9,7 +9,7 @@ use Rattle.uecp_text.specs.declared.run_fault.RunFault.{RunFault}
 use Rattle.uecp_text.specs.Faults.{Fails, error_lines}
 use Rattle.uecp_text.specs.Written.{Begins}
 use Rattle.command_line.specs.declared.usage.Usage.{Usage}
-use Rattle.command_line.specs.declared.usage.Usage.TheVariants.{Refused, NotAList, NotAForm, OutOfMemory}
+use Rattle.command_line.specs.declared.usage.Usage.TheVariants.{Refused, NotAList, OutOfMemory}
 use Rattle.command_line.specs.CommandLine.{uecp_app}
 
 -- The error as it is, but want of memory as that.
@@ -27,22 +27,16 @@ AskForText words = IsAmong kind.DisplayHelp (fault_of uecp_app words)
 abbrev pub no_list_line : List ℕ
 no_list_line = codes "uecp: services: NotAList\n"
 
--- What is said of a form of a ladder that is none.
-abbrev pub no_form_line : List ℕ
-no_form_line = codes "uecp: ladder: svg or text\n"
-
 -- It is a question for a text.
 abbrev pub AsksForText : Usage → Type 0
 AsksForText (Refused error) = (kind_of error ≡ kind.DisplayHelp) ⊎ (kind_of error ≡ kind.DisplayVersion)
 AsksForText NotAList = ⊥
-AsksForText NotAForm = ⊥
 AsksForText OutOfMemory = ⊥
 
--- It is a mistake, and of a list of services and of a ladder's form that was said, or begun to be said.
+-- It is a mistake, and of a list of services that was said, or begun to be said.
 abbrev pub SaysMistake : Usage → (told told' : Option (List ℕ)) → Type 0
 SaysMistake (Refused error) told told' = (kind_of error ≢ kind.DisplayHelp) × (kind_of error ≢ kind.DisplayVersion)
 SaysMistake NotAList told told' = Begins told told' no_list_line
-SaysMistake NotAForm told told' = Begins told told' no_form_line
 SaysMistake OutOfMemory told told' = ⊥
 
 -- Memory was wanting, or the text that was asked for could not be written, and that was said, or begun to be said.

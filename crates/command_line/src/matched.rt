@@ -1,25 +1,31 @@
 //! The jobs that the matches of the program's commands ask for (profile).
-ghost use Rattle.std.specs.Prelude.{◌≡◌, ◌≤◌, [], true, codes, is_some, option_map, Some, IfOk, IfErr};
+ghost use Rattle.std.specs.Prelude.{◌≡◌, ◌⊎◌, ◌≤◌, [], codes, option_map, IfOk, IfErr};
 ghost use Rattle.std.specs.String.{string_bytes};
+ghost use Rattle.clap.specs.Values.{kind_of};
 ghost use Rattle.clap.specs.Words.{first_of, found_of, one_of, rows_of};
-ghost use Rattle.command_line.specs.CommandLine.{IsOption, IsList, IsTaskOf, RefusesList, services_text, host_text};
-ghost use Rattle.command_line.specs.CommandLine.{IsEnd, IsKeptAs, IsMaybe, RefusesLine, ladder_word, word_text};
-ghost use Rattle.command_line.specs.declared.usage.Usage.TheVariants.{NotAForm, OutOfMemory};
-ghost use Rattle.ladders.specs.declared.drawing.LadderForm.{LadderForm};
+ghost use Rattle.clap.specs.declared.error.Error.{Error};
+ghost use Rattle.clap.specs.declared.error.kind.ErrorKind.TheVariants.{InvalidValue};
+ghost use Rattle.command_line.specs.CommandLine.{IsOption, IsList, IsFullOf, RefusesList, services_text, host_text};
+ghost use Rattle.command_line.specs.CommandLine.{HasNoForm, IsMaybe, IsTimed, RefusesLine, ladder_word, word_text};
+ghost use Rattle.command_line.specs.declared.usage.Usage.TheVariants.{OutOfMemory, Refused};
 
+use crate::definition::program;
 use crate::forms::{flag_of, form_of, wording_of};
 use crate::numbers::{
     AIR_GROUPS, ENCODER, NumberOption, PORT, RECONNECTS, SETS, SITE, TIMEOUT, TRIES, TRY_TURNS,
     WINDOW,
 };
+use crate::send_options::word_of;
 use crate::services::services_of;
-use crate::task::Task;
 use crate::usage::Usage;
-use air_jobs::AirJob;
 use clap::ArgMatches;
-use ladders::{LadderForm, LadderJob};
+use clap::error::ErrorKind;
+use commands::{
+    AnswerOptions, Job, LadderForm, LineOptions, MakeOptions, ServerOptions, ShowOptions,
+    WatchOptions,
+};
 use std::alloc::{AllocError, Global};
-use uecp_jobs::{Form, Job};
+use uecp_jobs::Form;
 
 /// The number of an option.
 pub(crate) fn number_of(found: &ArgMatches<'_>, option: &NumberOption) -> u32
@@ -94,133 +100,101 @@ pub(crate) fn host_of(alloc: Global, found: &ArgMatches<'_>) -> Result<String, A
     String::from_str(alloc, found.get_str("host").unwrap_or("127.0.0.1"))
 }
 
-/// The job of the command `answer`.
-pub fn answer_of(alloc: Global, found: &ArgMatches<'_>) -> Result<Task, Usage>
-    ensures job { IfOk result (IsTaskOf (codes "answer") (rows_of (found_of found.now))) }
+/// What the command `answer` asks for.
+pub fn answer_of(alloc: Global, found: &ArgMatches<'_>) -> Result<Job, Usage>
+    ensures job { IfOk result (IsFullOf (codes "answer") (rows_of (found_of found.now))) }
     ensures refused { IfErr result (RefusesList (services_text (rows_of (found_of found.now)))) }
 {
-    let site = short_of(found, &SITE);
-    let encoder = small_of(found, &ENCODER);
-    let sets = small_of(found, &SETS);
-    let services = list_of(alloc, found)?;
-    let store = flag_of(found, "store");
-    match (maybe_of(found, &AIR_GROUPS), form_of(found)) {
-        (Some(groups), form) => Ok(Task::OnAir(AirJob {
-            site,
-            encoder,
-            sets,
-            services,
-            store,
-            form,
-            groups,
-        })),
-        (None, Form::Lines) => Ok(Task::Plain(Job::Answer {
-            site,
-            encoder,
-            sets,
-            services,
-            store,
-        })),
-        (None, form) => Ok(Task::Plain(Job::AnswerAs {
-            site,
-            encoder,
-            sets,
-            services,
-            store,
-            form,
-        })),
-    }
+    Ok(Job::AnswerWith(AnswerOptions {
+        site: short_of(found, &SITE),
+        encoder: small_of(found, &ENCODER),
+        sets: small_of(found, &SETS),
+        services: list_of(alloc, found)?,
+        store: flag_of(found, "store"),
+        form: form_of(found),
+        air: maybe_of(found, &AIR_GROUPS),
+    }))
 }
 
-/// The job of the command `line`.
-pub fn line_of(alloc: Global, found: &ArgMatches<'_>) -> Result<Task, Usage>
-    ensures job { IfOk result (IsTaskOf (codes "line") (rows_of (found_of found.now))) }
+/// What the command `line` asks for.
+pub fn line_of(alloc: Global, found: &ArgMatches<'_>) -> Result<Job, Usage>
+    ensures job { IfOk result (IsFullOf (codes "line") (rows_of (found_of found.now))) }
     ensures refused { IfErr result (RefusesLine (rows_of (found_of found.now))) }
 {
-    let site = short_of(found, &SITE);
-    let encoder = small_of(found, &ENCODER);
-    let sets = small_of(found, &SETS);
     let services = list_of(alloc, found)?;
-    let store = flag_of(found, "store");
-    match (ladder_of(found)?, form_of(found)) {
-        (Some(form), _) => Ok(Task::Ladder(LadderJob {
-            site,
-            encoder,
-            sets,
-            services,
-            form,
-        })),
-        (None, Form::Lines) => Ok(Task::Plain(Job::Line {
-            site,
-            encoder,
-            sets,
-            services,
-            store,
-        })),
-        (None, form) => Ok(Task::Plain(Job::LineAs {
-            site,
-            encoder,
-            sets,
-            services,
-            store,
-            form,
-        })),
-    }
+    let ladder = ladder_of(alloc, found)?;
+    Ok(Job::LineWith(LineOptions {
+        site: short_of(found, &SITE),
+        encoder: small_of(found, &ENCODER),
+        sets: small_of(found, &SETS),
+        services,
+        store: flag_of(found, "store"),
+        form: form_of(found),
+        ladder,
+    }))
 }
 
-/// The form of a ladder, where one is asked for; `NotAForm` where there is none of that name.
-fn ladder_of(found: &ArgMatches<'_>) -> Result<Option<LadderForm>, Usage>
+/// The form of a ladder, where one is asked for. Clap's error where there is none of that name.
+fn ladder_of(alloc: Global, found: &ArgMatches<'_>) -> Result<Option<LadderForm>, Usage>
     ensures form { IfOk result (λ form. option_map ladder_word form
         ≡ first_of (codes "ladder") (rows_of (found_of found.now))) }
-    ensures refused { IfErr result (λ why. (why ≡ NotAForm)
-        × (is_some (first_of (codes "ladder") (rows_of (found_of found.now))) ≡ true)
-        × ((form : LadderForm) → first_of (codes "ladder") (rows_of (found_of found.now)) ≡ Some (ladder_word form)
-        → ⊥)) }
+    ensures refused { IfErr result (λ why. (why ≡ OutOfMemory) ⊎ ((error : Error) × (why ≡ Refused error)
+        × (kind_of error ≡ InvalidValue) × HasNoForm (rows_of (found_of found.now)))) }
 {
     match found.get_str("ladder") {
         None => Ok(None),
         Some("svg") => Ok(Some(LadderForm::Picture)),
         Some("text") => Ok(Some(LadderForm::Text)),
-        Some(_) => Err(Usage::NotAForm),
+        Some(_) => {
+            let error = program(alloc)?.error(ErrorKind::InvalidValue, "ladder: svg or text")?;
+            Err(Usage::Refused(error))
+        }
     }
 }
 
-/// The job of the command `show`.
-pub fn show_of(found: &ArgMatches<'_>) -> Task
-    ensures { IsTaskOf (codes "show") (rows_of (found_of found.now)) result }
+/// What the command `show` asks for.
+pub fn show_of(found: &ArgMatches<'_>) -> Job
+    ensures { IsFullOf (codes "show") (rows_of (found_of found.now)) result }
 {
-    match form_of(found) {
-        Form::Lines => Task::Plain(Job::Show),
-        form => Task::Plain(Job::ShowAs { form }),
-    }
-}
-
-/// The job of the command `watch`.
-pub fn watch_of(found: &ArgMatches<'_>) -> Task
-    ensures { IsTaskOf (codes "watch") (rows_of (found_of found.now)) result }
-{
-    Task::Plain(Job::Watch {
+    Job::ShowWith(ShowOptions {
         form: form_of(found),
-        time: !flag_of(found, "no-time"),
     })
 }
 
-/// The job of the command `make`.
-pub fn make_of(found: &ArgMatches<'_>) -> Task
-    ensures { IsTaskOf (codes "make") (rows_of (found_of found.now)) result }
+/// What the command `watch` asks for.
+pub fn watch_of(found: &ArgMatches<'_>) -> Job
+    ensures { IsFullOf (codes "watch") (rows_of (found_of found.now)) result }
 {
-    match wording_of(found) {
-        Form::Words(region) => Task::Plain(Job::MakeWords { region }),
-        _ => Task::Plain(Job::Make),
-    }
+    Job::Watch(WatchOptions {
+        form: form_of(found),
+        time: is_timed(found),
+    })
 }
 
-/// The job of the command `server`, and the file of its state where one is given.
-pub fn server_of(alloc: Global, found: &ArgMatches<'_>) -> Result<Task, Usage>
-    ensures job { IfOk result (IsTaskOf (codes "server") (rows_of (found_of found.now))) }
+/// Whether the time stands before what is told.
+pub(crate) fn is_timed(found: &ArgMatches<'_>) -> bool
+    ensures { IsTimed (rows_of (found_of found.now)) result }
+{
+    !flag_of(found, "no-time")
+}
+
+/// What the command `make` asks for.
+pub fn make_of(found: &ArgMatches<'_>) -> Job
+    ensures { IsFullOf (codes "make") (rows_of (found_of found.now)) result }
+{
+    let words = match wording_of(found) {
+        Form::Words(region) => Some(region),
+        _ => None,
+    };
+    Job::MakeWith(MakeOptions { words })
+}
+
+/// What the command `server` asks for.
+pub fn server_of(alloc: Global, found: &ArgMatches<'_>) -> Result<Job, Usage>
+    ensures job { IfOk result (IsFullOf (codes "server") (rows_of (found_of found.now))) }
     ensures refused { IfErr result (λ why. why ≡ OutOfMemory) }
 {
-    let job = Job::Server {
+    Ok(Job::ServerWith(ServerOptions {
         site: short_of(found, &SITE),
         encoder: small_of(found, &ENCODER),
         host: host_of(alloc, found)?,
@@ -233,26 +207,18 @@ pub fn server_of(alloc: Global, found: &ArgMatches<'_>) -> Result<Task, Usage>
         join: flag_of(found, "join"),
         reconnect_silent: flag_of(found, "reconnect-silent"),
         verbose: flag_of(found, "verbose"),
-    };
-    Ok(task_of(alloc, found, job)?)
-}
-
-/// The job, with the file of its state where one is given.
-fn task_of(alloc: Global, found: &ArgMatches<'_>, job: Job) -> Result<Task, AllocError>
-    ensures { IfOk result (IsKeptAs (rows_of (found_of found.now)) job) }
-{
-    match found.get_str("state") {
-        Some(path) => Ok(Task::Kept(job, String::from_str(alloc, path)?)),
-        None => Ok(Task::Plain(job)),
-    }
+        state: word_of(alloc, found, "state")?,
+    }))
 }
 
 /// What the command `state` asks for.
-pub fn state_of(alloc: Global, found: &ArgMatches<'_>) -> Result<Task, Usage>
-    ensures job { IfOk result (IsTaskOf (codes "state") (rows_of (found_of found.now))) }
+pub fn state_of(alloc: Global, found: &ArgMatches<'_>) -> Result<Job, Usage>
+    ensures job { IfOk result (IsFullOf (codes "state") (rows_of (found_of found.now))) }
     ensures refused { IfErr result (λ why. why ≡ OutOfMemory) }
 {
-    Ok(Task::State(argument_of(alloc, found, "file")?))
+    Ok(Job::State {
+        file: argument_of(alloc, found, "file")?,
+    })
 }
 
 /// The text of an argument that has to be given.

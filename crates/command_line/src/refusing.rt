@@ -3,11 +3,11 @@ ghost use Rattle.std.specs.Prelude.{◌≡◌, ◌≢◌, ◌⊎◌, ◌≤◌, 
 ghost use Rattle.uecp_text.specs.declared.run_fault.RunFault.TheVariants.{Writing};
 ghost use Rattle.command_line.specs.Usages.{AsksForText, SaysFailure, SaysMistake};
 
-use crate::usage::{NO_FORM, Usage};
+use crate::usage::Usage;
 use clap::Error;
 use std::io::Write;
 use uecp_jobs::fail;
-use uecp_text::{RunFault, write_parts};
+use uecp_text::RunFault;
 
 /// Says why words ask for no job, and answers the exit status. A text that was asked for goes to the writer.
 pub fn refuse<W: Write, E: Write>(usage: &Usage, writer: &mut W, errors: &mut E) -> u8
@@ -28,10 +28,6 @@ pub fn refuse<W: Write, E: Write>(usage: &Usage, writer: &mut W, errors: &mut E)
             Err(fault) => fail(&fault, errors),
         },
         Usage::NotAList => fail(&RunFault::NotAList, errors),
-        Usage::NotAForm => {
-            let _ = write_parts(&[b"uecp: ", NO_FORM.as_bytes(), b"\n"], errors);
-            2
-        }
         Usage::OutOfMemory => fail(&RunFault::OutOfMemory, errors),
     }
 }

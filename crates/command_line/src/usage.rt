@@ -8,9 +8,6 @@ use std::alloc::{AllocError, AllocFailed};
 use thiserror::Error;
 use uecp_text::RunFault;
 
-/// What is said of a form of a ladder that is none.
-pub(crate) const NO_FORM: &str = "ladder: svg or text";
-
 /// Why a command line asks for no job. Its text is what the program says of it, behind `uecp: ` where it is not clap's.
 #[derive(Debug, Drop, Error)]
 pub enum Usage {
@@ -20,9 +17,6 @@ pub enum Usage {
     /// The services are not two-digit hexadecimal numbers between single commas.
     #[error("{}", RunFault::NotAList)]
     NotAList,
-    /// The form of a ladder is neither `svg` nor `text`.
-    #[error("{}", NO_FORM)]
-    NotAForm,
     /// There was no memory to read the words.
     #[error("{}", RunFault::OutOfMemory)]
     OutOfMemory,

@@ -9,7 +9,7 @@ use Rattle.uecp_text.specs.declared.run_fault.RunFault.{RunFault}
 use Rattle.uecp_text.specs.declared.run_fault.RunFault.TheVariants as run
 use Rattle.uecp_text.specs.Written.{Begins}
 use Rattle.conformance.specs.declared.case.Case.{Case}
-use Rattle.conformance_command.specs.declared.job.ConformanceJob.{ConformanceJob}
+use Rattle.commands.specs.declared.conformance_options.ConformanceOptions.{ConformanceOptions}
 use Rattle.conformance_command.specs.declared.case_run.Went.{Went}
 use Rattle.conformance_command.specs.declared.case_run.Went.TheVariants.{NotHeard}
 use Rattle.conformance_command.specs.Running.{RunsCase}
@@ -19,22 +19,22 @@ use Rattle.conformance_command.specs.Telling.{first_line, case_line, bail_line, 
 -- ---- What is asked for.
 
 -- The address is that of one encoder, and both limits of time are some.
-pub record IsInRange (job : ConformanceJob) : Type 0 where
+pub record IsInRange (job : ConformanceOptions) : Type 0 where
   pub site : (1 ≤ job.site) × (job.site ≤ 1023)
   pub encoder : (1 ≤ job.encoder) × (job.encoder ≤ 63)
   pub timeout : 1 ≤ job.timeout
   pub quiet : 1 ≤ job.quiet
 
 -- The encoder's address.
-abbrev pub own_address : ConformanceJob → ℕ
+abbrev pub own_address : ConformanceOptions → ℕ
 own_address job = job.site * 64 + job.encoder
 
 -- How many quiet times make up the timeout, the last of them perhaps not whole.
-abbrev pub patience_of : ConformanceJob → ℕ
+abbrev pub patience_of : ConformanceOptions → ℕ
 patience_of job = job.timeout / job.quiet + (if job.timeout % job.quiet == 0 then 0 else 1)
 
 -- The name of the case or group that alone is to be run, where one is given.
-abbrev pub only_of : ConformanceJob → Option (List ℕ)
+abbrev pub only_of : ConformanceOptions → Option (List ℕ)
 only_of job = option_map string_bytes job.only
 
 -- ---- What is done.

@@ -1,8 +1,8 @@
 //! The running of conformance cases against a device: each case over a connection of its own, told as it ends.
 //!
 //! - [`run_case`]: one case over a connection; [`Went`] is how it went, and [`NotRun`] why it was not run.
-//! - [`run_conformance`]: the chosen cases of a [`ConformanceJob`], one after another, told in lines of TAP or JSON; it
-//!   answers an exit status.
+//! - [`run_conformance`]: the cases that are asked for, one after another, told in lines of TAP or JSON; it answers an
+//!   exit status.
 //! - [`run_conformance_over_tcp`]: the built-in cases over TCP, with connections from [`Dialled`].
 #![tactic(auto)]
 
@@ -25,6 +25,5 @@ mod unreached;
 pub use address::address_of;
 pub use case_run::{NotRun, Went, run_case};
 pub use dialled::Dialled;
-pub use job::ConformanceJob;
 pub use over_tcp::run_conformance_over_tcp;
 pub use run::run_conformance;

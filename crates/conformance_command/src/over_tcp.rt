@@ -4,9 +4,9 @@ ghost use Rattle.conformance_command.specs.Conformance.{IsInRange};
 
 use crate::address::address_of;
 use crate::dialled::Dialled;
-use crate::job::ConformanceJob;
 use crate::run::{fail, run_conformance};
 use crate::unreached::say_unreached;
+use commands::ConformanceOptions;
 use conformance::{CASES, read_cases};
 use std::alloc::Global;
 use std::io::Write;
@@ -17,7 +17,7 @@ use uecp_text::{RunFault, write_parts};
 /// there was no connection to be had, it says why on `errors`.
 pub fn run_conformance_over_tcp<'a, W: Write, E: Write, N: Net<Stream = TcpStream>>(
     alloc: Global,
-    job: &'a ConformanceJob,
+    job: &'a ConformanceOptions,
     writer: &mut W,
     errors: &mut E,
     net: &'a N,

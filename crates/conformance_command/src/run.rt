@@ -15,9 +15,10 @@ ghost use Rattle.conformance_command.specs.Conformance.{IsUnknown, unknown_line}
 
 use crate::case_run::{NotRun, Went, run_case};
 use crate::choice::{count_chosen, is_chosen};
-use crate::job::{ConformanceJob, only_of, own_address, patience_of};
+use crate::job::{only_of, own_address, patience_of};
 use crate::report::{tell_bail, tell_case, tell_first, tell_last};
 use crate::tally::Tally;
+use commands::ConformanceOptions;
 use conformance::Case;
 use std::alloc::Global;
 use std::io::Write;
@@ -47,7 +48,7 @@ struct Manner<'a> {
 /// in which nothing came, and so is a reply that is missing, where what came is judged.
 pub fn run_conformance<C: Connections, W: Write, E: Write>(
     alloc: Global,
-    job: &ConformanceJob,
+    job: &ConformanceOptions,
     cases: &[Case<'_>],
     connect: &mut C,
     writer: &mut W,

@@ -1,17 +1,17 @@
 -- The limits of a device (profile).
 use Rattle.std.specs.Prelude.{ℕ, ◌^◌, ◌-◌, if◌then◌else◌}
-use Rattle.commands.specs.declared.device_job.DeviceJob.{DeviceJob}
+use Rattle.commands.specs.declared.encoder_options.EncoderOptions.{EncoderOptions}
 use Rattle.uecp_jobs.specs.Setups.{Options}
 
 -- How many connections are served: without end as many as can be counted.
-abbrev pub connections_of : DeviceJob → ℕ
+abbrev pub connections_of : EncoderOptions → ℕ
 connections_of job = if job.forever then 2 ^ 64 - 1 else job.connections
 
 -- How many reads one may take: without end as many as can be counted.
-abbrev pub turns_of : DeviceJob → ℕ
+abbrev pub turns_of : EncoderOptions → ℕ
 turns_of job = if job.forever then 2 ^ 32 - 1 else job.turns
 
 -- The options of the job's encoder.
-abbrev pub options_of : DeviceJob → Options
+abbrev pub options_of : EncoderOptions → Options
 options_of job =
     record { site = job.site; encoder = job.encoder; sets = job.sets; services = job.services.items }

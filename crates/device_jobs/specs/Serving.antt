@@ -18,7 +18,7 @@ use Rattle.state_jobs.specs.Texts.{IsClosed, state_text}
 use Rattle.device_serving.specs.Logging.{Log}
 use Rattle.device_serving.specs.DeviceRun.{RunsDevice, OutlivesRun, Standing}
 use Rattle.uecp_encoder.specs.declared.keep.NotSaved.{NotSaved}
-use Rattle.commands.specs.declared.device_job.DeviceJob.{DeviceJob}
+use Rattle.commands.specs.declared.encoder_options.EncoderOptions.{EncoderOptions}
 use Rattle.device_jobs.specs.Limits.{connections_of, turns_of, options_of}
 
 -- The state at the path could not be opened, and that was said, or begun to be said.
@@ -101,8 +101,8 @@ module _ {C I O : Type 0} (opens : C → Option (I × O) → C → Type 0) (clos
 
     -- So for the options of the job. Or they describe no encoder, and no state was opened, no connection, and nothing
     -- was told.
-    abbrev pub HasServedDevice : DeviceJob → (c c' : C) → (l l' : Log) → (said said' : Option (List ℕ)) → (status : ℕ)
-        → Type 0
+    abbrev pub HasServedDevice : EncoderOptions → (c c' : C) → (l l' : Log) → (said said' : Option (List ℕ))
+        → (status : ℕ) → Type 0
     HasServedDevice job c c' l l' said said' status =
         (IsSetup (options_of job)
         × ServesFrom (option_map string_bytes job.state) (options_of job) (turns_of job) (connections_of job) job.store

@@ -2,7 +2,7 @@
 ghost use Rattle.std.specs.Prelude.{◌≡◌, ◌≤◌, [], None, IfOk, IfErr};
 
 use bad_line::{Rule, RulesFault, read_rules};
-use commands::DeviceJob;
+use commands::EncoderOptions;
 use itoa::Buffer;
 use kept_jobs::fail_state;
 use std::alloc::Global;
@@ -25,7 +25,7 @@ pub(crate) enum FaultsFault {
 /// The rules of the job's file; none where it has none.
 pub(crate) fn rules_of<F: Files>(
     alloc: Global,
-    job: &DeviceJob,
+    job: &EncoderOptions,
     files: &F,
 ) -> Result<Vec<Rule>, FaultsFault>
     ensures { job.now.faults ≡ None → IfOk result (λ rules. rules.items ≡ []) × IfErr result (λ _. ⊥) }

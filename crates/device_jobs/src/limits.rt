@@ -2,7 +2,7 @@
 ghost use Rattle.std.specs.Prelude.{◌≡◌};
 ghost use Rattle.device_jobs.specs.Limits.{connections_of, turns_of};
 
-use commands::DeviceJob;
+use commands::EncoderOptions;
 
 /// The limits of a device.
 #[derive(Clone, Copy, Debug)]
@@ -20,7 +20,7 @@ pub struct Limits {
 /// ```
 /// let limits = limits_of(&job); // forever: u64::MAX connections of u32::MAX reads
 /// ```
-pub fn limits_of(job: &DeviceJob) -> Limits
+pub fn limits_of(job: &EncoderOptions) -> Limits
     ensures connections { result.connections ≡ connections_of job.now }
     ensures turns { result.turns ≡ turns_of job.now }
     ensures store { result.store ≡ job.now.store }

@@ -7,7 +7,7 @@ use crate::serving::run_device_from;
 use crate::telling::Told;
 use arrayvec::ArrayVec;
 use bad_line::{Faulty, Rule};
-use commands::DeviceJob;
+use commands::EncoderOptions;
 use device_edges::{Accepting, AddressFault, BindFault, HERE, listen_address};
 use device_serving::LogLines;
 use kept_jobs::fail_state;
@@ -33,7 +33,7 @@ pub fn run_device_over_tcp<
     S: OpenStates,
 >(
     alloc: Global,
-    job: &DeviceJob,
+    job: &EncoderOptions,
     writer: &mut W,
     errors: &mut E,
     effects: &mut M,
@@ -59,7 +59,7 @@ pub fn run_device_over_tcp<
 /// The rules of the job's line, and a listener at its address; or the exit status, and why was said.
 fn begin<'a, E: Write, N: Net<Listener = TcpListener, Stream = TcpStream> + Clock + Files>(
     alloc: Global,
-    job: &DeviceJob,
+    job: &EncoderOptions,
     net: &'a N,
     errors: &mut E,
 ) -> Result<(Vec<Rule>, Accepting<'a, N>), u8> {
@@ -87,7 +87,7 @@ fn begin<'a, E: Write, N: Net<Listener = TcpListener, Stream = TcpStream> + Cloc
 }
 
 /// The address and port at which the job listens.
-pub fn address_of(job: &DeviceJob) -> Result<SocketAddr, AddressFault> {
+pub fn address_of(job: &EncoderOptions) -> Result<SocketAddr, AddressFault> {
     match &job.listen {
         Some(text) => listen_address(text.as_str(), job.port),
         None => listen_address(HERE, job.port),
@@ -137,7 +137,7 @@ fn serve_with<
     S: OpenStates,
 >(
     alloc: Global,
-    job: &DeviceJob,
+    job: &EncoderOptions,
     rules: &[Rule],
     accepting: Accepting<'_, N>,
     writer: &mut W,
@@ -171,7 +171,7 @@ fn serve_with<
 /// in a file from that, and else with a new one.
 fn serve_restarting<S: OpenStates, W: Write, C: Clock, E: Write, M: Write, K: Connections + Drop>(
     alloc: Global,
-    job: &DeviceJob,
+    job: &EncoderOptions,
     states: &S,
     log: &mut LogLines<'_, W, C>,
     errors: &mut E,

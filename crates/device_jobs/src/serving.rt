@@ -5,7 +5,7 @@ ghost use Rattle.uecp_jobs.specs.Setups.{IsSetup, options_of as options_in, enco
 ghost use Rattle.device_jobs.specs.Serving.{HasServedDevice, HasNoState, ServesIn, ServesUnkept};
 
 use crate::limits::{Limits, limits_of};
-use commands::DeviceJob;
+use commands::EncoderOptions;
 use device_serving::{LogLines, run_device};
 use kept_jobs::fail_state;
 use rds_store::RdsStore;
@@ -25,7 +25,7 @@ use uecp_net::Connections;
 /// connection.
 pub fn run_device_from<S: OpenStates, W: Write, T: Clock, E: Write, C: Connections>(
     alloc: Global,
-    job: &DeviceJob,
+    job: &EncoderOptions,
     states: &S,
     log: &mut LogLines<'_, W, T>,
     errors: &mut E,

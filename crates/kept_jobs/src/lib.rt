@@ -19,6 +19,6 @@ mod telling;
 pub use batches::{join_if, stop_for};
 pub use beginning::begin;
 pub use encoder_run::run_encoder_kept;
-pub use server_run::{ServerOptions, run_server_kept};
+pub use server_run::run_server_kept;
 pub use stop::{KeptStop, fail_run, fail_state};
 pub use telling::write_told;

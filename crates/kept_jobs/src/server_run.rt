@@ -20,21 +20,10 @@ use crate::stop::{KeptStop, fail_run};
 use std::alloc::Global;
 use std::io::{Read, Write};
 use uecp_frame::Message;
-use uecp_jobs::{Messages, batch_size, messages_of};
+use uecp_jobs::{Messages, ServerSetup, batch_size, messages_of};
 use uecp_link::Server;
-use uecp_net::{Connections, KeepServer, Limits, Progress, Sender};
+use uecp_net::{Connections, KeepServer, Progress, Sender};
 use uecp_text::read_all;
-
-/// How a server sends, with its state kept.
-#[derive(Clone, Copy, Debug)]
-pub struct ServerOptions {
-    /// What its sender may spend.
-    pub limits: Limits,
-    /// How many messages are on their way at once, 1 to 8.
-    pub window: u8,
-    /// Whether its encoder is joined even where it was joined before. What waits is then given up.
-    pub join: bool,
-}
 
 /// Sends the messages of the input to this server's encoder, with the server's state kept, and answers the exit
 /// status: 0 done, 1 a line was refused, 3 a batch of messages is outstanding, the server could not be saved, or
@@ -55,7 +44,7 @@ pub struct ServerOptions {
 /// ```
 pub fn run_server_kept<K: KeepServer, R: Read, W: Write, E: Write, C: Connections>(
     alloc: Global,
-    options: &ServerOptions,
+    options: &ServerSetup,
     server: Server,
     progress: Progress,
     keeper: &mut K,
@@ -108,7 +97,7 @@ pub fn run_server_kept<K: KeepServer, R: Read, W: Write, E: Write, C: Connection
 /// Sends the messages of the input.
 fn send_all<K: KeepServer, R: Read, W: Write, C: Connections>(
     alloc: Global,
-    options: &ServerOptions,
+    options: &ServerSetup,
     server: Server,
     progress: Progress,
     keeper: &mut K,
@@ -150,7 +139,7 @@ fn after_refusal(messages: Messages, sent: Result<(), KeptStop>) -> Result<(), K
 /// Tells how far the server has come, and sends these messages by one sender, after what waits.
 fn send_messages<K: KeepServer, W: Write, C: Connections>(
     alloc: Global,
-    options: &ServerOptions,
+    options: &ServerSetup,
     messages: &[Message],
     server: Server,
     progress: Progress,

@@ -1,6 +1,6 @@
 -- The job by its run.
 use Rattle.std.proofs.Common.{◌≡◌, ◌⊎◌, ℕ, ◌∷◌, List, [], Option, None, Some, Result, Err, refl, sym, ap, subst}
-use Rattle.std.proofs.Common.{◌∙◌, false, inl, inr, arith}
+use Rattle.std.proofs.Common.{◌∙◌, inl, inr, arith}
 use Rattle.std.specs.Io.KnownBytes.{Consumes}
 use Rattle.std.proofs.KnownBytes.{Consumes-nil}
 use Rattle.uecp_text.specs.declared.run_fault.RunFault.{RunFault}
@@ -9,9 +9,8 @@ use Rattle.uecp_text.specs.Faults.{Fails, status_of}
 use Rattle.uecp_text.specs.Input.{texts_of}
 use Rattle.uecp_text.specs.Run.{Runs, RunsWhole}
 use Rattle.uecp_jobs.specs.Setups.{RefusesSetup}
-use Rattle.uecp_jobs.proofs.Public.{whole_part, not_failed, breaks_fails, setup_wants, job_status, stopped, same_fault}
-use Rattle.uecp_jobs.specs.declared.job.Job.TheVariants.{Line}
-use Rattle.ladders.specs.declared.drawing.LadderForm.{LadderForm}
+use Rattle.uecp_jobs.proofs.Public.{whole_part, not_failed, breaks_fails, setup_wants, says_status, stopped, same_fault}
+use Rattle.commands.specs.declared.line_options.LadderForm.{LadderForm}
 use Rattle.ladders.specs.declared.ladder_job.LadderJob.{LadderJob}
 use Rattle.ladders.specs.declared.playing.Drawing.{Drawing}
 use Rattle.ladders.specs.Jobs.{options_of, drawn_at_first, last_lines, LadderPrints, LadderBreaks, Wrote, DoesLadder}
@@ -69,7 +68,7 @@ unmade_refuses job fault (inr refused) two = refused
 unmade_status : (job : LadderJob) (fault : RunFault) → IsUnmade job fault → status_of fault ≡ 1 → ⊥
 unmade_status job fault (inl is) one = let three : 3 ≡ 1 = sym (ap status_of is) ∙ one in omega (arith, three)
 unmade_status job fault (inr refused) one =
-    job_status (Line job.site job.encoder job.sets job.services false) fault refused one
+    says_status (options_of job) fault refused one
 
 -- a run that broke failed
 ladder_breaks_fails : (job : LadderJob) (unread unread' held held' : Option (List ℕ)) (fault : RunFault)

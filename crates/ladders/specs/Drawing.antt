@@ -4,8 +4,8 @@ use Rattle.rds_store.specs.Value.{Store}
 use Rattle.uecp_link.specs.Holds.{LineState, is_acknowledged}
 use Rattle.uecp_link.specs.Once.{least_missing}
 use Rattle.uecp_lines.specs.Steps.{totals_line}
-use Rattle.ladders.specs.declared.drawing.LadderForm.{LadderForm}
-use Rattle.ladders.specs.declared.drawing.LadderForm.TheVariants.{Picture, Text}
+use Rattle.commands.specs.declared.line_options.LadderForm.{LadderForm}
+use Rattle.commands.specs.declared.line_options.LadderForm.TheVariants.{Picture, Text}
 use Rattle.ladders.specs.declared.row.Row.{Row}
 use Rattle.ladders.specs.Text.{text_ladder}
 use Rattle.ladders.specs.Picture.{picture}

@@ -6,15 +6,15 @@ use Rattle.uecp_text.specs.Faults.{status_of, error_lines}
 use Rattle.uecp_text.specs.Run.{IsInput, Prints, Breaks}
 use Rattle.uecp_text.specs.Written.{Begins}
 use Rattle.uecp_jobs.specs.Setups.{Options, IsSetup, RefusesSetup, line_at_first}
-use Rattle.ladders.specs.declared.drawing.LadderForm.{LadderForm}
+use Rattle.uecp_jobs.specs.Setups as setup
+use Rattle.commands.specs.declared.line_options.LadderForm.{LadderForm}
 use Rattle.ladders.specs.declared.ladder_job.LadderJob.{LadderJob}
 use Rattle.ladders.specs.Playing.{Drawn, Draws}
 use Rattle.ladders.specs.Drawing.{ladder}
 
 -- The encoder that the options describe.
 abbrev pub options_of : LadderJob → Options
-options_of job =
-    record { site = job.site; encoder = job.encoder; sets = job.sets; services = job.services.items }
+options_of job = setup.options_of job.setup
 
 -- A new line to that encoder, and no row.
 abbrev pub drawn_at_first : Options → Drawn

@@ -5,19 +5,11 @@ ghost use Rattle.ladders.specs.Drawing.{ladder};
 use crate::picture::put_picture;
 use crate::row::Row;
 use crate::text_drawing::put_text;
+use commands::LadderForm;
 use rds_store::RdsStore;
 use uecp_lines::put_totals;
 use uecp_link::Line;
 use uecp_text::Output;
-
-/// How a ladder is drawn.
-#[derive(Clone, Copy, Debug, PartialEq, Eq)]
-pub enum LadderForm {
-    /// As SVG, for a document or a browser.
-    Picture,
-    /// With the characters of boxes, for a terminal.
-    Text,
-}
 
 /// Adds a ladder of these rows, the first at the top, with the totals of the line below them.
 pub fn put_ladder(form: LadderForm, rows: &[Row], line: &Line<RdsStore>, output: &mut Output)

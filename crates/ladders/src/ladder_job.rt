@@ -5,25 +5,18 @@ ghost use Rattle.uecp_text.specs.declared.run_fault.RunFault.TheVariants.{OutOfM
 ghost use Rattle.uecp_jobs.specs.Setups.{IsSetup, RefusesSetup};
 ghost use Rattle.ladders.specs.Jobs.{options_of, IsDone, IsRefused, IsUndescribed, HasFailed, DoesLadder};
 
-use crate::drawing::LadderForm;
 use crate::playing::Drawing;
+use commands::LadderForm;
 use std::alloc::Global;
 use std::io::{Read, Write};
-use uecp_jobs::fail;
+use uecp_jobs::{Setup, fail};
 use uecp_text::{RunFault, run};
 
-/// The command `line` that draws a ladder. `command_line`'s `parse` answers no other numbers than the ranges named
-/// here.
-#[derive(Debug, Drop, PartialEq, Eq)]
-pub struct LadderJob {
-    /// The site of both ends, 1 to 1023.
-    pub site: u16,
-    /// The encoder's number at its site, 1 to 63.
-    pub encoder: u8,
-    /// How many data sets it has, 1 to 8.
-    pub sets: u8,
-    /// The numbers of its services, the main one first. The store judges them.
-    pub services: Vec<u8>,
+/// What is asked of the command `line` that draws a ladder.
+#[derive(Clone, Copy, Debug)]
+pub struct LadderJob<'a> {
+    /// The encoder at the line's end.
+    pub setup: Setup<'a>,
     /// How the ladder is drawn.
     pub form: LadderForm,
 }
@@ -33,7 +26,7 @@ pub struct LadderJob {
 /// `errors`, as far as that takes it.
 pub fn run_ladder<R: Read, W: Write, E: Write>(
     alloc: Global,
-    job: &LadderJob,
+    job: &LadderJob<'_>,
     reader: &mut R,
     writer: &mut W,
     errors: &mut E,
@@ -57,7 +50,7 @@ pub fn run_ladder<R: Read, W: Write, E: Write>(
 /// Does the job. The options are judged before anything is read or written.
 fn draw_ladder<R: Read, W: Write>(
     alloc: Global,
-    job: &LadderJob,
+    job: &LadderJob<'_>,
     reader: &mut R,
     writer: &mut W,
 ) -> Result<(), RunFault>

@@ -15,7 +15,7 @@ mod row_making;
 mod row_words;
 mod text_drawing;
 
-pub use drawing::{LadderForm, put_ladder};
+pub use drawing::put_ladder;
 pub use ladder_job::{LadderJob, run_ladder};
 pub use row::{Label, Mark, Remark, Row};
 pub use row_making::{row_of_replacement, rows_of};

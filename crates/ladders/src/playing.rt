@@ -12,14 +12,15 @@ ghost use Rattle.ladders.specs.Playing.{Draws, DrawsEvent, Drawn};
 ghost use Rattle.ladders.specs.Rows.{rows_of, replaced};
 ghost use Rattle.ladders.specs.View.{drawn_of};
 
-use crate::drawing::{LadderForm, put_ladder};
+use crate::drawing::put_ladder;
 use crate::ladder_job::LadderJob;
 use crate::row::Row;
 use crate::row_making::{row_of_replacement, rows_of};
+use commands::LadderForm;
 use rds_store::RdsStore;
 use rds_store::laws::empty_message_changes_nothing;
 use std::alloc::{AllocError, Global};
-use uecp_jobs::{Setup, line_event, named_message, new_line};
+use uecp_jobs::{line_event, named_message, new_line};
 use uecp_link::{Line, LineEvent};
 use uecp_text::{Interpreter, Output, RunFault, Taken, TextFault, words_of};
 use uecp_words::{event_of, is_replacement};
@@ -36,20 +37,14 @@ pub(crate) struct Drawing {
 impl Drawing {
     /// A new line to the encoder that the job describes, with an opening store, and no row. The services are judged
     /// before the address; `OutOfMemory` where there is no memory.
-    pub(crate) fn new(alloc: Global, job: &LadderJob) -> Result<Drawing, RunFault>
+    pub(crate) fn new(alloc: Global, job: &LadderJob<'_>) -> Result<Drawing, RunFault>
         ensures described { IfOk result (λ d. IsSetup (options_of job.now)) }
         ensures made { IfOk result (λ d. drawn_of d ≡ drawn_at_first (options_of job.now)) }
         ensures form { IfOk result (λ d. d.form ≡ job.now.form) }
         ensures refused { IfErr result (λ fault. (fault ≡ OutOfMemory) ⊎ RefusesSetup (options_of job.now) fault) }
     {
-        let setup = Setup {
-            site: job.site,
-            encoder: job.encoder,
-            sets: job.sets,
-            services: job.services.as_slice(),
-        };
         Ok(Drawing {
-            line: new_line(alloc, &setup)?,
+            line: new_line(alloc, &job.setup)?,
             rows: Vec::new(alloc),
             form: job.form,
         })

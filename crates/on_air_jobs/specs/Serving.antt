@@ -17,7 +17,7 @@ use Rattle.device_serving.specs.Logging.{Log}
 use Rattle.uecp_encoder.specs.declared.keep.NotSaved.{NotSaved}
 use Rattle.air_serving.specs.declared.moments.Moment.{Moment}
 use Rattle.air_serving.specs.AirRun.{OnAir, RunsOnAir, OutlivesRun}
-use Rattle.commands.specs.declared.device_job.DeviceJob.{DeviceJob}
+use Rattle.commands.specs.declared.encoder_options.EncoderOptions.{EncoderOptions}
 use Rattle.device_jobs.specs.Limits.{connections_of, turns_of, options_of}
 use Rattle.device_jobs.specs.Serving.{HasNoState, IsNoEncoder}
 
@@ -103,7 +103,7 @@ module _ {M I O : Type 0} (waits : M → Bool → Moment I O → M → Type 0) (
 
     -- So for the options of the job. Or they describe no encoder, and no state was opened, nothing was waited for or
     -- sent, and nothing was told.
-    abbrev pub HasBeenOnAir : DeviceJob → (m m' : M) → (l l' : Log) → (said said' : Option (List ℕ)) → (status : ℕ)
+    abbrev pub HasBeenOnAir : EncoderOptions → (m m' : M) → (l l' : Log) → (said said' : Option (List ℕ)) → (status : ℕ)
         → Type 0
     HasBeenOnAir job m m' l l' said said' status =
         (IsSetup (options_of job)

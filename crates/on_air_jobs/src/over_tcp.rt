@@ -2,7 +2,7 @@
 
 use crate::serving::run_on_air_from;
 use air_edges::{Addresses, AirForm, OnAir};
-use commands::DeviceJob;
+use commands::EncoderOptions;
 use device_jobs::{address_of, fail_address, fail_bind};
 use device_serving::LogLines;
 use kept_jobs::fail_state;
@@ -25,7 +25,7 @@ pub fn run_on_air_over_tcp<
     S: OpenStates,
 >(
     alloc: Global,
-    job: &DeviceJob,
+    job: &EncoderOptions,
     writer: &mut W,
     errors: &mut E,
     notices: &mut M,
@@ -62,7 +62,7 @@ pub fn run_on_air_over_tcp<
 }
 
 /// Where the job has it listen; or the exit status, and why was said.
-fn addresses_of<E: Write>(job: &DeviceJob, errors: &mut E) -> Result<Addresses, u8> {
+fn addresses_of<E: Write>(job: &EncoderOptions, errors: &mut E) -> Result<Addresses, u8> {
     let Some(air) = job.air else {
         let _ = fail_state("air-bits: without --air", errors);
         return Err(2);

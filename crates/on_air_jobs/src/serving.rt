@@ -7,7 +7,7 @@ ghost use Rattle.on_air_jobs.specs.Serving.{HasBeenOnAir, AirsIn, AirsUnkept};
 
 use air_serving::{Moments, run_on_air};
 use carousel::Carousel;
-use commands::DeviceJob;
+use commands::EncoderOptions;
 use device_jobs::{Limits, limits_of};
 use device_serving::LogLines;
 use kept_jobs::fail_state;
@@ -27,7 +27,7 @@ use uecp_jobs::{Setup, fail, new_encoder};
 /// opened, and the state before the first moment. What the carousel sends begins with the first segment of the name.
 pub fn run_on_air_from<S: OpenStates, W: Write, T: Clock, E: Write, M: Moments>(
     alloc: Global,
-    job: &DeviceJob,
+    job: &EncoderOptions,
     states: &S,
     log: &mut LogLines<'_, W, T>,
     errors: &mut E,

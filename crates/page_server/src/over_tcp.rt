@@ -1,8 +1,9 @@
 //! The job `page` over TCP (profile).
 ghost use Rattle.std.specs.Prelude.{◌≤◌};
 
-use crate::page_job::PageJob;
+use crate::place::place_of;
 use crate::server::{Serving, Stop};
+use commands::PageOptions;
 use device_edges::{AddressFault, BindFault, bind};
 use std::alloc::Global;
 use std::io::{Read, Write};
@@ -19,10 +20,10 @@ pub fn run_page_over_tcp<
     R: Read,
     E: Write,
     N: Net<Listener = TcpListener, Stream = TcpStream> + Clock,
->(alloc: Global, job: &PageJob, reader: &mut R, fd: RawFd, errors: &mut E, net: &N) -> u8
+>(alloc: Global, options: &PageOptions, reader: &mut R, fd: RawFd, errors: &mut E, net: &N) -> u8
     ensures { result ≤ 3 }
 {
-    let place = match job.place() {
+    let place = match place_of(options) {
         Ok(place) => place,
         Err(fault) => return fail_place(fault, errors),
     };

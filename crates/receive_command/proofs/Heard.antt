@@ -5,7 +5,7 @@ use Rattle.uecp_text.specs.declared.run_fault.RunFault.TheVariants as run
 use Rattle.uecp_text.specs.Faults.{status_of}
 use Rattle.rds_groups.specs.Shown.{Receiver, switched_on}
 use Rattle.rds_groups.specs.View.{receiver_of}
-use Rattle.receive_command.specs.declared.display.shown_form.ShownForm.{ShownForm}
+use Rattle.commands.specs.declared.receive_options.ShownForm.{ShownForm}
 use Rattle.receive_command.specs.declared.group_lines.group_line.GroupLine.{GroupLine}
 use Rattle.receive_command.specs.declared.line_input.Hearing.{Hearing}
 use Rattle.receive_command.specs.Receiving.{Standing, at_first, Hears, HearsEach, FailsFor}

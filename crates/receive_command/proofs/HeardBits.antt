@@ -13,7 +13,7 @@ use Rattle.uecp_text.specs.Written.{Begins}
 use Rattle.rds_groups.specs.Shown.{switched_on}
 use Rattle.rds_groups.specs.View.{receiver_of}
 use Rattle.rds_groups.specs.Sync as sync
-use Rattle.receive_command.specs.declared.display.shown_form.ShownForm.{ShownForm}
+use Rattle.commands.specs.declared.receive_options.ShownForm.{ShownForm}
 use Rattle.receive_command.specs.declared.bit_input.BitHearing.{BitHearing}
 use Rattle.receive_command.specs.Bits.{BitStanding, bits_at_first, HearsText, FailsInText, SaysForeign, is_foreign}
 use Rattle.receive_command.specs.Bits.{ReceivesBits}

@@ -11,7 +11,7 @@ use Rattle.rds_groups.specs.Text.{character_step}
 use Rattle.rds_groups.specs.SynchroniserLaws.{found_in_text, after_text}
 use Rattle.rds_groups.specs.declared.synchroniser.Synchroniser.{Synchroniser}
 use Rattle.rds_groups.proofs.Public.{texts_add_up}
-use Rattle.receive_command.specs.declared.display.shown_form.ShownForm.{ShownForm}
+use Rattle.commands.specs.declared.receive_options.ShownForm.{ShownForm}
 use Rattle.receive_command.specs.Shown.{shown_by}
 use Rattle.receive_command.specs.Told.{IsTold}
 use Rattle.receive_command.specs.Bits.{heard_all, AreTold, BitStanding, HearsText, FailsInText}

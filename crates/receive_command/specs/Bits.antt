@@ -12,7 +12,7 @@ use Rattle.rds_groups.specs.Shown.{Receiver, switched_on, hears}
 use Rattle.rds_groups.specs.Sync as sync
 use Rattle.rds_groups.specs.SynchroniserLaws.{found_in_text, after_text}
 use Rattle.rds_groups.specs.declared.synchroniser.Synchroniser.{Synchroniser}
-use Rattle.receive_command.specs.declared.display.shown_form.ShownForm.{ShownForm}
+use Rattle.commands.specs.declared.receive_options.ShownForm.{ShownForm}
 use Rattle.receive_command.specs.Shown.{shown_by}
 use Rattle.receive_command.specs.Told.{IsTold}
 

@@ -9,7 +9,7 @@ use Rattle.uecp_text.specs.Written.{Begins}
 use Rattle.line_feed.specs.declared.feed_fault.FeedFault.TheVariants as feed
 use Rattle.line_feed.specs.Lines.{IsFirstLine, IsUntaken}
 use Rattle.rds_groups.specs.Shown.{Receiver, switched_on}
-use Rattle.receive_command.specs.declared.display.shown_form.ShownForm.{ShownForm}
+use Rattle.commands.specs.declared.receive_options.ShownForm.{ShownForm}
 use Rattle.receive_command.specs.Shown.{shown_by}
 use Rattle.receive_command.specs.Told.{IsTold}
 use Rattle.receive_command.specs.declared.group_lines.group_line.GroupLine.{GroupLine}

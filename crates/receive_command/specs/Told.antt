@@ -13,8 +13,8 @@ use Rattle.json_lines.specs.Objects.{Field, object_of, in_decimal, in_digits, sa
 use Rattle.output_forms.specs.declared.form.Form.TheVariants as form
 use Rattle.json_lines.specs.Stamps.{IsStamp}
 use Rattle.uecp_watch.specs.Watching.{IsTime}
-use Rattle.receive_command.specs.declared.display.shown_form.ShownForm.{ShownForm}
-use Rattle.receive_command.specs.declared.display.shown_form.ShownForm.TheVariants.{Words, Json}
+use Rattle.commands.specs.declared.receive_options.ShownForm.{ShownForm}
+use Rattle.commands.specs.declared.receive_options.ShownForm.TheVariants.{Words, Json}
 use Rattle.receive_command.specs.Shown.{Shown}
 
 -- ---- In words: each thing that is shown now, and was not or was another, as a phrase of the main service in the

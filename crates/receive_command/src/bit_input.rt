@@ -8,9 +8,9 @@ ghost use Rattle.receive_command.specs.Bits.{HearsText, FailsInText, SaysForeign
 ghost use Rattle.receive_command.specs.View.{bits_of_hearing, SaysMore};
 ghost use Rattle.uecp_text.specs.Written.{Begins};
 
-use crate::display::ShownForm;
 use crate::group_lines::GroupLine;
 use crate::line_input::hear_group;
+use commands::ShownForm;
 use rds_groups::{Receiver, Synchroniser};
 use std::io::Write;
 use std::time::Clock;

@@ -3,9 +3,8 @@ ghost use Rattle.std.specs.Prelude.{◌≡◌, ◌&&◌, is_some};
 ghost use Rattle.receive_command.specs.Bits.{ReceivesBits};
 
 use crate::bit_input::{BitHearing, hear_bits, note_foreign};
-use crate::display::ShownForm;
-use crate::receive_job::ReceiveJob;
 use crate::run::fail;
+use commands::{ReceiveOptions, ShownForm};
 use std::alloc::Global;
 use std::io::{ErrorKind, Read, Write};
 use std::time::Clock;
@@ -20,7 +19,7 @@ const READ_MAX: usize = 4096;
 /// bit nor white space, 3 where memory, reading or writing failed, which is said on `errors`.
 pub fn run_receive_bits<R: Read, W: Write, E: Write, C: Clock>(
     alloc: Global,
-    job: &ReceiveJob,
+    job: &ReceiveOptions,
     clock: Option<&C>,
     reader: &mut R,
     writer: &mut W,

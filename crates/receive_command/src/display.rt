@@ -1,16 +1,14 @@
 //! What a receiver shows, and what is told where that changes: in words, as the phrases of a station, or in JSON.
 //!
 //! - [`Shown`]: what a [`Receiver`](rds_groups::Receiver) shows.
-//! - [`put_change`]: the lines of a change in the [`ShownForm`] that is asked for, with the time before them.
+//! - [`put_change`]: the lines of a change in the form that is asked for, with the time before them.
 
 mod changes;
 mod fields;
 mod news;
 mod objects;
 mod shown;
-mod shown_form;
 mod times;
 
 pub use changes::put_change;
 pub use shown::Shown;
-pub use shown_form::ShownForm;

@@ -12,8 +12,9 @@ ghost use Rattle.receive_command.specs.GroupLines.{after_line};
 ghost use Rattle.receive_command.specs.Receiving.{Hears, FailsFor, SaysOf, is_refused, refusal_line};
 ghost use Rattle.receive_command.specs.View.{standing_of, NextIs, NextFails, FailsToTell};
 
-use crate::display::{Shown, ShownForm, put_change};
+use crate::display::{Shown, put_change};
 use crate::group_lines::{GroupLine, hear_line, read_group};
+use commands::ShownForm;
 use itoa::Buffer;
 use line_feed::{Feed, FeedFault, Next};
 use rds_groups::Receiver;

@@ -4,9 +4,8 @@ ghost use Rattle.uecp_text.specs.Faults.{status_of, error_lines};
 ghost use Rattle.uecp_text.specs.Written.{Begins};
 ghost use Rattle.receive_command.specs.Receiving.{Receives, at_first};
 
-use crate::display::ShownForm;
 use crate::line_input::{Hearing, hear_next};
-use crate::receive_job::ReceiveJob;
+use commands::{ReceiveOptions, ShownForm};
 use line_feed::Feed;
 use rds_groups::Receiver;
 use std::alloc::Global;
@@ -20,7 +19,7 @@ use uecp_text::{Output, RunFault, report};
 /// line was refused, 3 where memory, reading or writing failed, which is said on `errors`.
 pub fn run_receive<F: Feed, W: Write, E: Write, C: Clock>(
     alloc: Global,
-    job: &ReceiveJob,
+    job: &ReceiveOptions,
     clock: Option<&C>,
     feed: &mut F,
     writer: &mut W,

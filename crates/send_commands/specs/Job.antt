@@ -12,17 +12,17 @@ use Rattle.state_files.specs.declared.fault.StateFault.{StateFault}
 use Rattle.uecp_encoder.specs.declared.keep.NotSaved.{NotSaved}
 use Rattle.sending.specs.declared.options.LiveOptions.{LiveOptions}
 use Rattle.sending.specs.Run.{Lives}
-use Rattle.commands.specs.declared.send_job.SendJob.{SendJob}
+use Rattle.commands.specs.declared.send_options.SendOptions.{SendOptions}
 use Rattle.send_commands.specs.LiveIn.{LivesIn, HasNoState}
 
 -- The numbers of a job that can be done.
-pub record IsSendable (job : SendJob) : Type 0 where
+pub record IsSendable (job : SendOptions) : Type 0 where
   pub some : 1 ≤ job.window
   pub most : job.window ≤ 8
 
 -- The options of its run are those of the job; connections are made again as often as they can be counted, also where
 -- one is silent.
-pub record IsFor (job : SendJob) (station : List (List ℕ)) (options : LiveOptions) : Type 0 where
+pub record IsFor (job : SendOptions) (station : List (List ℕ)) (options : LiveOptions) : Type 0 where
   pub limits : options.limits ≡ record {
     tries = job.tries;
     turns = job.turns;
@@ -36,7 +36,7 @@ pub record IsFor (job : SendJob) (station : List (List ℕ)) (options : LiveOpti
   pub sends_station : options.station.now ≡ station
 
 -- The site and the encoder's number are not those of one encoder, and that was said, or begun to be said.
-abbrev pub IsOfNobody : SendJob → (said said' : Option (List ℕ)) → (status : ℕ) → Type 0
+abbrev pub IsOfNobody : SendOptions → (said said' : Option (List ℕ)) → (status : ℕ) → Type 0
 IsOfNobody job said said' status =
     (IsOneEncoder job.site job.encoder → ⊥) × (status ≡ 2) × Begins said said' (error_lines run.Address)
 
@@ -71,7 +71,7 @@ module _ {C I O : Type 0} (opens : C → Option (I × O) → C → Type 0) (clos
 
     -- So for the options of the job and its encoder. Or the address is not that of one, and nothing was taken, opened
     -- or written.
-    abbrev pub HasSentLive : SendJob → (station : List (List ℕ)) → (c c' : C)
+    abbrev pub HasSentLive : SendOptions → (station : List (List ℕ)) → (c c' : C)
         → (unread unread' held held' said said' : Option (List ℕ)) → (status : ℕ) → Type 0
     HasSentLive job station c c' unread unread' held held' said said' status =
         ((options : LiveOptions) × IsFor job station options × IsOneEncoder job.site job.encoder

@@ -9,25 +9,25 @@ use Rattle.uecp_net.specs.declared.saved.keep.Progress.{Progress}
 use Rattle.uecp_net.specs.Keeping.{KeptServer}
 use Rattle.state_files.specs.declared.fault.StateFault.{StateFault}
 use Rattle.live_edges.specs.Patience.{Dialled}
-use Rattle.commands.specs.declared.send_job.SendJob.{SendJob}
+use Rattle.commands.specs.declared.send_options.SendOptions.{SendOptions}
 use Rattle.send_commands.specs.Job.{HasSentLive}
 
 -- The host and the port of the job are dialled, with its limit of time; so much was said before.
-abbrev pub DialsLive : SendJob → (told : Option (List ℕ)) → Dialled → Type 0
+abbrev pub DialsLive : SendOptions → (told : Option (List ℕ)) → Dialled → Type 0
 DialsLive job told dialled =
     dialled ≡ record { host = string_bytes job.host; port = job.port; timeout = job.timeout; told = told }
 
 -- The messages of the job's station could not be had, or there was no memory for the feed of its lines: nothing was
 -- taken, opened or written. Where the job has no file for a station it is memory alone, and that was said, or begun to
 -- be said.
-pub record HasNotBegun (job : SendJob) (held held' said said' : Option (List ℕ)) (status : ℕ) : Type 0 where
+pub record HasNotBegun (job : SendOptions) (held held' said said' : Option (List ℕ)) (status : ℕ) : Type 0 where
   pub same : held' ≡ held
   pub at_least : 2 ≤ status
   pub at_most : status ≤ 3
   pub memory : job.station ≡ None → (status ≡ 3) × Begins said said' (error_lines OutOfMemory)
 
 -- Where the job has no file for a station, no message makes one, and nothing was said yet.
-abbrev pub IsBegun : SendJob → (station : List (List ℕ)) → (said begun : Option (List ℕ)) → Type 0
+abbrev pub IsBegun : SendOptions → (station : List (List ℕ)) → (said begun : Option (List ℕ)) → Type 0
 IsBegun job station said begun = job.station ≡ None → (station ≡ []) × (begun ≡ said)
 
 module _ {I O K : Type 0} (opens : Dialled → Option (I × O) → Dialled → Type 0)
@@ -37,7 +37,7 @@ module _ {I O K : Type 0} (opens : Dialled → Option (I × O) → Dialled → T
     (saves fails : K → KeptServer → K → Type 0) where
   -- The job was done with the lines of the input, of which so much was left, and with the messages of the station, as
   -- `run_send` says, over connections to the job's host and port, from where this had been said.
-  abbrev pub HasSentOver : SendJob → (told unread held held' said said' : Option (List ℕ)) → (status : ℕ) → Type 0
+  abbrev pub HasSentOver : SendOptions → (told unread held held' said said' : Option (List ℕ)) → (status : ℕ) → Type 0
   HasSentOver job told unread held held' said said' status =
       ((station : List (List ℕ)) × (dialled : Dialled) × (dialled' : Dialled) × (unread' : Option (List ℕ))
       × (begun : Option (List ℕ)) × DialsLive job told dialled × IsBegun job station said begun

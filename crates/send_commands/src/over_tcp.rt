@@ -5,7 +5,7 @@ ghost use Rattle.send_commands.specs.OverTcp.{HasSentOver, DialsLive};
 
 use crate::run::run_send;
 use crate::station::{StationFault, read_station};
-use commands::SendJob;
+use commands::SendOptions;
 use kept_jobs::fail_state;
 use line_feed::{Arrival, LineFeed};
 use live_edges::{Patience, Patient, ReadMeter, Watch};
@@ -34,7 +34,7 @@ pub fn run_send_over_tcp<
     S: OpenStates,
 >(
     alloc: Global,
-    job: &'a SendJob,
+    job: &'a SendOptions,
     reader: &mut R,
     arrival: A,
     writer: &mut W,
@@ -78,7 +78,7 @@ pub fn run_send_over_tcp<
 /// The messages of the job's station; none where it has no file.
 fn station_of<F: Files, E: Write>(
     alloc: Global,
-    job: &SendJob,
+    job: &SendOptions,
     files: &F,
     errors: &mut E,
 ) -> Result<Vec<Message>, StationFault>
@@ -112,7 +112,7 @@ fn fail_station<E: Write>(fault: &StationFault, errors: &mut E) -> u8
 /// Where the connections come from: the job's host and port, dialled again and again.
 fn patient_of<'a, N: Net<Stream = TcpStream> + Clock, M: Write>(
     net: &'a N,
-    job: &'a SendJob,
+    job: &'a SendOptions,
     watch: &'a Watch,
     notices: &'a mut M,
 ) -> Patient<'a, N, M>

@@ -4,7 +4,7 @@ ghost use Rattle.uecp_frame.specs.Address.{is_exact};
 ghost use Rattle.send_commands.specs.Job.{IsSendable, IsFor, HasSentLive, SendsTo};
 
 use crate::live_in::run_live_in;
-use commands::SendJob;
+use commands::SendOptions;
 use line_batches::Reading;
 use line_feed::Feed;
 use sending::{LiveOptions, run_live};
@@ -25,7 +25,7 @@ use uecp_text::RunFault;
 /// else it begins with a new server, which joins its encoder. The messages of the station are sent behind each join.
 pub fn run_send<S: OpenStates, F: Feed, W: Write, E: Write, C: Connections, T: Clock>(
     alloc: Global,
-    job: &SendJob,
+    job: &SendOptions,
     station: &[Message],
     states: &S,
     feed: &mut F,
@@ -59,7 +59,7 @@ pub fn run_send<S: OpenStates, F: Feed, W: Write, E: Write, C: Connections, T: C
 }
 
 /// The options of a run.
-fn options_of<'a>(job: &SendJob, station: &'a [Message]) -> LiveOptions<'a>
+fn options_of<'a>(job: &SendOptions, station: &'a [Message]) -> LiveOptions<'a>
     ensures { IsFor job.now station.now result }
 {
     LiveOptions {

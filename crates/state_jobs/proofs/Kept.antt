@@ -7,9 +7,7 @@ use Rattle.rds_store.specs.Step.{step}
 use Rattle.uecp_encoder.specs.State.{EncoderState}
 use Rattle.uecp_text.specs.declared.run_fault.RunFault.TheVariants as run
 use Rattle.uecp_text.proofs.Public.{appends_nothing, appends_then}
-use Rattle.uecp_jobs.specs.declared.job.Job.{Job}
-use Rattle.uecp_jobs.specs.declared.job.Job.TheVariants.{Answer, AnswerAs, Show, ShowAs, Make, MakeWords}
-use Rattle.uecp_jobs.specs.declared.job.Job.TheVariants.{Line, LineAs, Encoder, Server, Watch}
+use Rattle.commands.specs.declared.encoder_options.EncoderOptions.{EncoderOptions}
 use Rattle.uecp_encoder.specs.Keeping.{Kept}
 use Rattle.uecp_encoder.specs.ServingWith.{Ended}
 use Rattle.kept_jobs.specs.declared.stop.KeptStop.TheVariants.{Run}
@@ -80,41 +78,28 @@ module _ {K C I O : Type 0} (gives : (path : List ℕ) → EncoderState Store �
         clean = s.clean;
       }
 
-  pub has_served : (path : List ℕ) (job : Job) (c c' : C) (held held' : Option (List ℕ))
-      → ServesJob gives ends most room leaves is_clean saves fails opens closes remaining contents path job c c' held
+  pub has_served : (path : List ℕ) (o : EncoderOptions) (c c' : C) (held held' : Option (List ℕ))
+      → ServesJob gives ends most room leaves is_clean saves fails opens closes remaining contents path o c c' held
       held' (Ok tt)
       (Ok tt)
-      → HasServedKept gives leaves is_clean path job held held'
-  has_served path (Encoder site encoder sets services port connections turns) c c' held held' s =
-      served path _ sets services.items connections turns c c' held held' s.1
-  has_served path (Answer site encoder sets services store) c c' held held' s = absurd s
-  has_served path (AnswerAs site encoder sets services store form) c c' held held' s = absurd s
-  has_served path Show c c' held held' s = absurd s
-  has_served path (ShowAs form) c c' held held' s = absurd s
-  has_served path (Watch form time) c c' held held' s = absurd s
-  has_served path Make c c' held held' s = absurd s
-  has_served path (MakeWords region) c c' held held' s = absurd s
-  has_served path (Line site encoder sets services store) c c' held held' s = absurd s
-  has_served path (LineAs site encoder sets services store form) c c' held held' s = absurd s
-  has_served path (Server site encoder host port tries timeout turns reconnects window join reconnect_silent verbose) c
-      c' held held' s =
-      absurd s
+      → HasServedKept gives leaves is_clean path o held held'
+  has_served path o c c' held held' s = served path _ o.sets o.services.items o.connections o.turns c c' held held' s.1
 
-  stops_why : (refuses : StateFault → Type 0) (path : List ℕ) (job : Job) (c c' : C)
+  stops_why : (refuses : StateFault → Type 0) (path : List ℕ) (o : EncoderOptions) (c c' : C)
       (held held' told told' : Option (List ℕ))
       → Stops path refuses
-      (ServesJob gives ends most room leaves is_clean saves fails opens closes remaining contents path job c c' held
+      (ServesJob gives ends most room leaves is_clean saves fails opens closes remaining contents path o c c' held
       held') c c' held held' told told' → SaysWhy path told told'
-  stops_why refuses path job c c' held held' told told' (inl opened) = inl (opened.0, opened.4)
-  stops_why refuses path job c c' held held' told told' (inr (inl stopped)) =
+  stops_why refuses path o c c' held held' told told' (inl opened) = inl (opened.0, opened.4)
+  stops_why refuses path o c c' held held' told told' (inr (inl stopped)) =
       inr (stopped.0, stopped.2, stopped.4, says_more path 3 stopped.1 3 stopped.2 told' stopped.5)
-  stops_why refuses path job c c' held held' told told' (inr (inr unclosed)) = inl (unclosed.0, unclosed.2)
+  stops_why refuses path o c c' held held' told told' (inr (inr unclosed)) = inl (unclosed.0, unclosed.2)
 
-  pub says_why : (refuses : List ℕ → StateFault → Type 0) (path : List ℕ) (job : Job) (c c' : C)
+  pub says_why : (refuses : List ℕ → StateFault → Type 0) (path : List ℕ) (o : EncoderOptions) (c c' : C)
       (held held' told told' : Option (List ℕ))
-      → HasStopped gives ends most room leaves is_clean saves fails opens closes remaining contents refuses path job c
+      → HasStopped gives ends most room leaves is_clean saves fails opens closes remaining contents refuses path o c
       c' held held' told told' → SaysWhy path told told'
-  says_why refuses path job c c' held held' told told' (inl wanting) =
+  says_why refuses path o c c' held held' told told' (inl wanting) =
       inr (Run run.OutOfMemory, told', wanting.2, inl refl)
-  says_why refuses path job c c' held held' told told' (inr stops) =
-      stops_why (refuses path) path job c c' held held' told told' stops
+  says_why refuses path o c c' held held' told told' (inr stops) =
+      stops_why (refuses path) path o c c' held held' told told' stops

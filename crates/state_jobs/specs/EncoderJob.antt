@@ -6,8 +6,7 @@ use Rattle.uecp_encoder.specs.State.{EncoderState}
 use Rattle.uecp_text.specs.declared.run_fault.RunFault.TheVariants as run
 use Rattle.uecp_text.specs.Faults.{error_lines}
 use Rattle.uecp_text.specs.Written.{Begins}
-use Rattle.uecp_jobs.specs.declared.job.Job.{Job}
-use Rattle.uecp_jobs.specs.declared.job.Job.TheVariants.{Encoder}
+use Rattle.commands.specs.declared.encoder_options.EncoderOptions.{EncoderOptions}
 use Rattle.uecp_jobs.specs.Setups.{IsSetup, address_of}
 use Rattle.uecp_jobs.specs.Jobs.{options}
 use Rattle.uecp_encoder.specs.Keeping.{Kept, Settled}
@@ -68,19 +67,18 @@ module _ {K C I O : Type 0} (gives : (path : List ℕ) → EncoderState Store �
     pub clean : is_clean keeper_after → is_clean keeper
     pub is_closed : ends keeper_after closed
 
-  -- so, for the options of the job
-  abbrev pub ServesJob : (path : List ℕ) → Job → (c c' : C) → (held held' : Option (List ℕ)) → Went → Closed → Type 0
-  ServesJob path (Encoder site encoder sets services port connections turns) c c' held held' went
-      closed =
-      IsSetup (options site encoder sets services.items)
-      × Serves path (address_of site encoder) sets services.items connections turns c c' held held' went
+  -- so, for these options
+  abbrev pub ServesJob : (path : List ℕ) → EncoderOptions → (c c' : C) → (held held' : Option (List ℕ)) → Went → Closed
+      → Type 0
+  ServesJob path o c c' held held' went closed =
+      IsSetup (options o.site o.encoder o.sets o.services.items)
+      × Serves path (address_of o.site o.encoder) o.sets o.services.items o.connections o.turns c c' held held' went
       closed
-  ServesJob path job c c' held held' went closed = ⊥
 
   -- It came to no end, and why was said, or begun to be said: as above; or there was no memory for an encoder, and then
   -- no state was opened, no connection, and nothing was written.
-  abbrev pub HasStopped : (refuses : List ℕ → StateFault → Type 0) → (path : List ℕ) → Job → (c c' : C)
+  abbrev pub HasStopped : (refuses : List ℕ → StateFault → Type 0) → (path : List ℕ) → EncoderOptions → (c c' : C)
       → (held held' told told' : Option (List ℕ)) → Type 0
-  HasStopped refuses path job c c' held held' told told' =
+  HasStopped refuses path o c c' held held' told told' =
       ((c' ≡ c) × (held' ≡ held) × Begins told told' (error_lines run.OutOfMemory))
-      ⊎ Stops path (refuses path) (ServesJob path job c c' held held') c c' held held' told told'
+      ⊎ Stops path (refuses path) (ServesJob path o c c' held held') c c' held held' told told'

@@ -5,8 +5,8 @@ use Rattle.rds_store.specs.Value.{Store}
 use Rattle.uecp_encoder.specs.State.{EncoderState}
 use Rattle.uecp_link.specs.Server.{ServerState}
 use Rattle.uecp_text.specs.Written.{Begins}
-use Rattle.uecp_jobs.specs.declared.job.Job.{Job}
-use Rattle.uecp_jobs.specs.declared.job.Job.TheVariants.{Encoder, Server}
+use Rattle.commands.specs.declared.encoder_options.EncoderOptions.{EncoderOptions}
+use Rattle.commands.specs.declared.server_options.ServerOptions.{ServerOptions}
 use Rattle.uecp_jobs.specs.Setups.{address_of}
 use Rattle.uecp_encoder.specs.ServingWith.{Ended}
 use Rattle.uecp_encoder.specs.Keeping as serving
@@ -53,13 +53,12 @@ pub record ServedKept {K : Type 0} (gives : (path : List ℕ) → EncoderState S
   pub settled : is_clean keeper_after → serving.Settled (leaves keeper_after) after
   pub clean : is_clean keeper_after → is_clean keeper
 
--- so, for the options of the job
+-- so, for these options
 abbrev pub HasServedKept : {K : Type 0} → (gives : (path : List ℕ) → EncoderState Store → K → Type 0)
-    → (leaves : K → serving.Kept Store → Type 0) → (is_clean : K → Type 0) → (path : List ℕ) → Job
-    → (held held' : Option (List ℕ)) → Type 0
-HasServedKept gives leaves is_clean path (Encoder site encoder sets services port connections turns) held held' =
-    ServedKept gives leaves is_clean path (address_of site encoder) sets services.items connections held held'
-HasServedKept gives leaves is_clean path job held held' = ⊥
+    → (leaves : K → serving.Kept Store → Type 0) → (is_clean : K → Type 0) → (path : List ℕ)
+    → EncoderOptions → (held held' : Option (List ℕ)) → Type 0
+HasServedKept gives leaves is_clean path o held held' =
+    ServedKept gives leaves is_clean path (address_of o.site o.encoder) o.sets o.services.items o.connections held held'
 
 -- The messages of the input were sent from where the server in the state at the path had come: whatever a crash leaves
 -- then has taken them, or those before the line that is refused, none of them waits, nor any that waited before.
@@ -77,11 +76,9 @@ pub record SentKept {K : Type 0} (gives : (path : List ℕ) → ServerState → 
       → HasTakenInput unread unread' progress left
   pub clean : is_clean keeper_after → is_clean keeper
 
--- so, for the options of the job
+-- so, for these options
 abbrev pub HasSentKept : {K : Type 0} → (gives : (path : List ℕ) → ServerState → Progress → K → Type 0)
-    → (leaves : K → sending.KeptServer → Type 0) → (is_clean : K → Type 0) → (path : List ℕ) → Job
-    → (unread unread' : Option (List ℕ)) → Type 0
-HasSentKept gives leaves is_clean path
-    (Server site encoder host port tries timeout turns reconnects window join reconnect_silent verbose) unread unread' =
-    SentKept gives leaves is_clean path (address_of site encoder) unread unread'
-HasSentKept gives leaves is_clean path job unread unread' = ⊥
+    → (leaves : K → sending.KeptServer → Type 0) → (is_clean : K → Type 0) → (path : List ℕ)
+    → ServerOptions → (unread unread' : Option (List ℕ)) → Type 0
+HasSentKept gives leaves is_clean path o unread unread' =
+    SentKept gives leaves is_clean path (address_of o.site o.encoder) unread unread'

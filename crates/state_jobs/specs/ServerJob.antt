@@ -3,8 +3,8 @@ use Rattle.std.specs.Prelude.{◌≡◌, ◌⊎◌, ℕ, ◌≤◌, ◌^◌, Boo
 use Rattle.uecp_link.specs.Server.{ServerState}
 use Rattle.uecp_net.specs.declared.sender.Limits.{Limits}
 use Rattle.uecp_text.specs.Written.{Begins}
-use Rattle.uecp_jobs.specs.declared.job.Job.{Job}
-use Rattle.uecp_jobs.specs.declared.job.Job.TheVariants.{Server}
+use Rattle.commands.specs.declared.server_options.ServerOptions.{ServerOptions}
+use Rattle.uecp_jobs.specs.ServerRun.{server_setup}
 use Rattle.uecp_jobs.specs.Setups.{IsOneEncoder, address_of}
 use Rattle.uecp_net.specs.declared.saved.keep.Progress.{Progress}
 use Rattle.uecp_net.specs.Keeping.{KeptServer, IsKept}
@@ -65,28 +65,18 @@ module _ {K C I O : Type 0} (gives : (path : List ℕ) → ServerState → Progr
     pub clean : is_clean keeper_after → is_clean keeper
     pub is_closed : ends keeper_after closed
 
-  -- so, for the options of the job
-  abbrev pub SendsJob : (path : List ℕ) → Job → (unread unread' : Option (List ℕ)) → (c c' : C)
+  -- so, for these options
+  abbrev pub SendsJob : (path : List ℕ) → ServerOptions → (unread unread' : Option (List ℕ)) → (c c' : C)
       → (held held' : Option (List ℕ)) → Went → Closed → Type 0
-  SendsJob path (Server site encoder host port tries timeout turns reconnects window join reconnect_silent verbose)
-      unread unread' c c' held
-      held'
-      went closed =
-      IsOneEncoder site encoder
-      × Sends path (address_of site encoder) (record {
-        tries = tries;
-        turns = turns;
-        reconnects = reconnects;
-        reconnect_silent = reconnect_silent;
-      }) window
-      join
-      unread unread' c c' held held' went closed
-  SendsJob path job unread unread' c c' held held' went closed = ⊥
+  SendsJob path o unread unread' c c' held held' went closed =
+      let s = server_setup o in
+      IsOneEncoder s.site s.encoder
+      × Sends path (address_of s.site s.encoder) s.limits s.window s.join unread unread' c c' held held' went closed
 
   -- Its messages were sent, and the run went so, and that was told; then the state was closed.
-  abbrev pub HasSent : (path : List ℕ) → Job → (status : ℕ) → (unread unread' : Option (List ℕ)) → (c c' : C)
+  abbrev pub HasSent : (path : List ℕ) → ServerOptions → (status : ℕ) → (unread unread' : Option (List ℕ)) → (c c' : C)
       → (held held' told told' : Option (List ℕ)) → Type 0
-  HasSent path job status unread unread' c c' held held' told told' =
+  HasSent path o status unread unread' c c' held held' told told' =
       (went : Went) × (closed : Closed) × (before : ℕ) × (between : Option (List ℕ))
-      × SendsJob path job unread unread' c c' held held' went closed × IsTold went before told between
+      × SendsJob path o unread unread' c c' held held' went closed × IsTold went before told between
       × IsClosed path before closed status between told'

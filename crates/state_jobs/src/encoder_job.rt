@@ -4,17 +4,18 @@ ghost use Rattle.uecp_frame.specs.Address.{is_exact};
 ghost use Rattle.uecp_text.specs.declared.run_fault.RunFault.TheVariants.{OutOfMemory};
 ghost use Rattle.uecp_jobs.specs.Setups.{IsSetup, RefusesSetup, options_of, address_of};
 ghost use Rattle.uecp_jobs.specs.Jobs.{IsUndescribed};
-ghost use Rattle.uecp_jobs.specs.EncoderRun.{IsEncoder};
+ghost use Rattle.commands.specs.declared.job.Job.TheVariants.{EncoderWith};
 ghost use Rattle.state_jobs.specs.Kept.{HasServedKept, SaysWhy};
 ghost use Rattle.state_jobs.specs.EncoderJob.{Serves, ServesJob, Stops, HasStopped};
 
 use crate::open_states::OpenStates;
 use crate::texts::{closed_so, state_text};
+use commands::EncoderOptions;
 use kept_jobs::{fail_state, run_encoder_kept};
 use std::alloc::Global;
 use std::io::Write;
 use uecp_frame::Address;
-use uecp_jobs::{Job, Setup, fail, new_encoder};
+use uecp_jobs::{Setup, fail, new_encoder};
 use uecp_net::Connections;
 use uecp_text::RunFault;
 
@@ -23,14 +24,13 @@ use uecp_text::RunFault;
 /// failed. The options are judged before the state is opened, and the state before the first connection.
 pub fn run_encoder_in<S: OpenStates, W: Write, E: Write, C: Connections>(
     alloc: Global,
-    job: &Job,
+    options: &EncoderOptions,
     path: &str,
     states: &S,
     writer: &mut W,
     errors: &mut E,
     connect: &mut C,
 ) -> u8
-    requires { IsEncoder job.now }
     ensures status { (result ≤ 3) × (result ≢ 1) }
     // 0: all connections were served, with the encoder kept, each has its line, and the state was closed. Nothing was
     // said on `errors`.
@@ -38,13 +38,14 @@ pub fn run_encoder_in<S: OpenStates, W: Write, E: Write, C: Connections>(
         S.EncoderKeeper.TOGETHER_MAX S.EncoderKeeper.READ_MAX S.EncoderKeeper.leaves S.EncoderKeeper.is_clean
         S.EncoderKeeper.saves
         S.EncoderKeeper.fails C.opens C.closes C.Input.remaining C.Output.contents
-        path.now job.now connect.old connect.new (W.contents writer.old) (W.contents writer.new) (Ok tt) (Ok tt)
+        path.now options.now connect.old connect.new (W.contents writer.old) (W.contents writer.new) (Ok tt) (Ok tt)
         × (errors.new ≡ errors.old) }
     // 0: so, whatever the connections are, each has its line, and a crash leaves the encoder as the last one left it.
     ensures kept { result ≡ 0 → HasServedKept (S.gives_encoder states.now) S.EncoderKeeper.leaves
-        S.EncoderKeeper.is_clean path.now job.now (W.contents writer.old) (W.contents writer.new) }
+        S.EncoderKeeper.is_clean path.now options.now (W.contents writer.old) (W.contents writer.new) }
     // 2: the options describe no encoder. No state was opened, no connection, and nothing was written.
-    ensures undescribed { result ≡ 2 → IsUndescribed job.now (E.contents errors.old) (E.contents errors.new)
+    ensures undescribed { result ≡ 2 → IsUndescribed (EncoderWith options.now) (E.contents errors.old)
+        (E.contents errors.new)
         × (writer.new ≡ writer.old) × (connect.new ≡ connect.old) }
     // 3: the state could not be opened, saved or closed, there was no connection to be had, or memory or writing
     // failed. A state that was opened was closed.
@@ -52,41 +53,28 @@ pub fn run_encoder_in<S: OpenStates, W: Write, E: Write, C: Connections>(
         S.EncoderKeeper.TOGETHER_MAX S.EncoderKeeper.READ_MAX S.EncoderKeeper.leaves
         S.EncoderKeeper.is_clean S.EncoderKeeper.saves
         S.EncoderKeeper.fails C.opens C.closes C.Input.remaining C.Output.contents
-        (S.refuses_encoder states.now) path.now job.now connect.old connect.new (W.contents writer.old)
+        (S.refuses_encoder states.now) path.now options.now connect.old connect.new (W.contents writer.old)
         (W.contents writer.new) (E.contents errors.old) (E.contents errors.new) }
     // 3: so why was said, or begun to be said.
     ensures said { result ≡ 3 → SaysWhy path.now (E.contents errors.old) (E.contents errors.new) }
 {
-    match job {
-        Job::Encoder {
-            site,
-            encoder,
-            sets,
-            services,
-            connections,
-            turns,
-            ..
-        } => {
-            let setup = Setup {
-                site: *site,
-                encoder: *encoder,
-                sets: *sets,
-                services: services.as_slice(),
+    let setup = Setup {
+        site: options.site,
+        encoder: options.encoder,
+        sets: options.sets,
+        services: options.services.as_slice(),
+    };
+    match address_for(alloc, &setup) {
+        Err(fault) => fail(&fault, errors),
+        Ok(address) => {
+            let bounds = Bounds {
+                connections: options.connections,
+                turns: options.turns,
             };
-            match address_for(alloc, &setup) {
-                Err(fault) => fail(&fault, errors),
-                Ok(address) => {
-                    let bounds = Bounds {
-                        connections: *connections,
-                        turns: *turns,
-                    };
-                    serve_in(
-                        alloc, &setup, address, bounds, path, states, writer, errors, connect,
-                    )
-                }
-            }
+            serve_in(
+                alloc, &setup, address, bounds, path, states, writer, errors, connect,
+            )
         }
-        _ => unreachable!(),
     }
 }
 

@@ -2,7 +2,7 @@
 ghost use Rattle.std.specs.Prelude.{◌≡◌, ◌⊎◌, ◌≤◌, ℕ, List, Option, Some, None, IsTrue};
 ghost use Rattle.uecp_frame.specs.Address.{is_exact};
 ghost use Rattle.uecp_jobs.specs.Jobs.{IsUndescribed};
-ghost use Rattle.uecp_jobs.specs.ServerRun.{IsServer};
+ghost use Rattle.commands.specs.declared.job.Job.TheVariants.{ServerWith};
 ghost use Rattle.uecp_text.specs.Written.{Begins};
 ghost use Rattle.kept_jobs.specs.Stops.{Went};
 ghost use Rattle.kept_jobs.specs.ServerRun.{IsTold};
@@ -15,13 +15,14 @@ ghost use Rattle.state_jobs.specs.ServerJob.{Sends, HasLostState, HasSent};
 
 use crate::open_states::OpenStates;
 use crate::texts::{closed_so, state_text};
-use kept_jobs::{ServerOptions, fail_state, run_server_kept};
+use commands::ServerOptions;
+use kept_jobs::{fail_state, run_server_kept};
 use state_files::StateFault;
 use std::alloc::Global;
 use std::io::{Read, Write};
 use uecp_frame::Address;
-use uecp_jobs::{Job, address_of, fail};
-use uecp_net::{Connections, Limits};
+use uecp_jobs::{ServerSetup, address_of, fail, server_setup_of};
+use uecp_net::Connections;
 use uecp_text::RunFault;
 
 /// How many messages a server has taken at most: a file that tells of more was damaged.
@@ -33,7 +34,7 @@ const TAKEN_MAX: u64 = 1 << 63;
 /// is read.
 pub fn run_server_in<S: OpenStates, R: Read, W: Write, E: Write, C: Connections>(
     alloc: Global,
-    job: &Job,
+    options: &ServerOptions,
     path: &str,
     states: &S,
     reader: &mut R,
@@ -41,10 +42,10 @@ pub fn run_server_in<S: OpenStates, R: Read, W: Write, E: Write, C: Connections>
     errors: &mut E,
     connect: &mut C,
 ) -> u8
-    requires { IsServer job.now }
     ensures status { result ≤ 3 }
     // 2: the address is not that of one encoder. No state was opened, no connection, and nothing was read or written.
-    ensures undescribed { result ≡ 2 → IsUndescribed job.now (E.contents errors.old) (E.contents errors.new)
+    ensures undescribed { result ≡ 2 → IsUndescribed (ServerWith options.now) (E.contents errors.old)
+        (E.contents errors.new)
         × (reader.new ≡ reader.old) × (writer.new ≡ writer.old) × (connect.new ≡ connect.old) }
     // 0, 1 and 3: the messages of the input were sent from where the state had come, as far as that went, and that was
     // told. 3 too: the state could not be opened or closed.
@@ -52,7 +53,7 @@ pub fn run_server_in<S: OpenStates, R: Read, W: Write, E: Write, C: Connections>
         S.ServerKeeper.leaves S.ServerKeeper.is_clean
         S.ServerKeeper.saves S.ServerKeeper.fails
         C.opens C.closes C.Input.remaining C.Output.contents
-        path.now job.now result (R.remaining reader.old) (R.remaining reader.new) connect.old connect.new
+        path.now options.now result (R.remaining reader.old) (R.remaining reader.new) connect.old connect.new
         (W.contents writer.old) (W.contents writer.new) (E.contents errors.old) (E.contents errors.new)
         ⊎ ((result ≡ 3) × HasLostState (S.gives_server states.now) (S.refuses_server states.now) path.now
         (R.remaining reader.old) (R.remaining reader.new) connect.old connect.new (W.contents writer.old)
@@ -60,53 +61,29 @@ pub fn run_server_in<S: OpenStates, R: Read, W: Write, E: Write, C: Connections>
     // 0: whatever the connections are, a crash leaves a server that has taken the messages of the input, of which none
     // waits, and no line is refused. Nothing was said on `errors`.
     ensures done { result ≡ 0 → HasSentKept (S.gives_server states.now) S.ServerKeeper.leaves S.ServerKeeper.is_clean
-        path.now job.now (R.remaining reader.old) (R.remaining reader.new)
+        path.now options.now (R.remaining reader.old) (R.remaining reader.new)
         × IsReadWith None (R.remaining reader.old) (R.remaining reader.new) × (errors.new ≡ errors.old) }
     // 1: so with the messages before a line that is refused, and its number and fault were said, or begun to be said.
     ensures refused { result ≡ 1 → HasSentKept (S.gives_server states.now) S.ServerKeeper.leaves S.ServerKeeper.is_clean
-        path.now job.now (R.remaining reader.old) (R.remaining reader.new)
+        path.now options.now (R.remaining reader.old) (R.remaining reader.new)
         × ((fault : RunFault) × IsReadWith (Some fault) (R.remaining reader.old) (R.remaining reader.new)
         × Begins (E.contents errors.old) (E.contents errors.new) (error_lines fault)) }
     // 3: why was said, or begun to be said.
     ensures said { result ≡ 3 → SaysWhy path.now (E.contents errors.old) (E.contents errors.new) }
 {
-    match job {
-        Job::Server {
-            site,
-            encoder,
-            tries,
-            turns,
-            reconnects,
-            window,
-            join,
-            reconnect_silent,
-            ..
-        } => {
-            let Some(address) = address_of(*site, *encoder) else {
-                return fail(&RunFault::Address, errors);
-            };
-            let options = ServerOptions {
-                limits: Limits {
-                    tries: *tries,
-                    turns: *turns,
-                    reconnects: *reconnects,
-                    reconnect_silent: *reconnect_silent,
-                },
-                window: *window,
-                join: *join,
-            };
-            send_in(
-                alloc, &options, address, path, states, reader, writer, errors, connect,
-            )
-        }
-        _ => unreachable!(),
-    }
+    let Some(address) = address_of(options.site, options.encoder) else {
+        return fail(&RunFault::Address, errors);
+    };
+    let setup = server_setup_of(options);
+    send_in(
+        alloc, &setup, address, path, states, reader, writer, errors, connect,
+    )
 }
 
 /// Opens the state, sends, and closes it.
 fn send_in<S: OpenStates, R: Read, W: Write, E: Write, C: Connections>(
     alloc: Global,
-    options: &ServerOptions,
+    setup: &ServerSetup,
     address: Address,
     path: &str,
     states: &S,
@@ -122,7 +99,7 @@ fn send_in<S: OpenStates, R: Read, W: Write, E: Write, C: Connections>(
         (S.closes_server states.now) S.ServerKeeper.leaves S.ServerKeeper.is_clean
         S.ServerKeeper.saves S.ServerKeeper.fails
         C.opens C.closes C.Input.remaining C.Output.contents
-        path.now address options.now.limits options.now.window options.now.join (R.remaining reader.old)
+        path.now address setup.now.limits setup.now.window setup.now.join (R.remaining reader.old)
         (R.remaining reader.new) connect.old connect.new (W.contents writer.old) (W.contents writer.new) went closed
         × IsTold went before (E.contents errors.old) between
         × IsClosed path.now before closed result between (E.contents errors.new))
@@ -150,7 +127,7 @@ fn send_in<S: OpenStates, R: Read, W: Write, E: Write, C: Connections>(
             }
             let status = run_server_kept(
                 alloc,
-                options,
+                setup,
                 server,
                 progress,
                 &mut keeper,

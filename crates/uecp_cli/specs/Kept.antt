@@ -1,5 +1,6 @@
 -- What a run of the program does whose end has its state in a file, and what it tells of such a file (profile).
-use Rattle.std.specs.Prelude.{◌≡◌, ◌⊎◌, ℕ, List, length, Option, Some, None}
+use Rattle.std.specs.Prelude.{◌≡◌, ◌⊎◌, ℕ, List, length, Option, Some, None, MatchOption}
+use Rattle.std.specs.String.{string_bytes}
 use Rattle.std.specs.Io.KnownBytes.{Appends}
 use Rattle.rds_store.specs.Value.{Store}
 use Rattle.uecp_encoder.specs.State.{EncoderState}
@@ -18,48 +19,68 @@ use Rattle.state_jobs.specs.Texts.{state_text}
 use Rattle.state_jobs.specs.StateLines.{found_lines}
 use Rattle.state_jobs.specs.Kept.{HasServedKept, HasSentKept, SaysWhy, ended_lines}
 use Rattle.uecp_encoder.specs.ServingWith.{Ended}
-use Rattle.uecp_jobs.specs.ServerRun.{IsServer}
-use Rattle.uecp_jobs.specs.declared.job.Job.TheVariants.{Encoder}
-use Rattle.uecp_jobs.specs.declared.job.Job.{Job}
-use Rattle.uecp_cli.specs.Unreached.{MaySayUnreached}
+use Rattle.uecp_jobs.specs.ServerRun.{AreAcknowledged, AreAcknowledgedBefore, AreNotAcknowledged}
+use Rattle.uecp_net.specs.declared.tcp.DialFault.{DialFault}
+use Rattle.commands.specs.declared.encoder_options.EncoderOptions.{EncoderOptions}
+use Rattle.commands.specs.declared.server_options.ServerOptions.{ServerOptions}
+use Rattle.commands.specs.declared.job.Job.TheVariants.{ServerWith}
+use Rattle.uecp_cli.specs.Unreached.{SaysUnreached}
 
--- The job of an encoder: its connections were served, and each has its line.
-abbrev pub HasServedLines : Job → (held held' : Option (List ℕ)) → Type 0
-HasServedLines (Encoder site encoder sets services port connections turns) held held' =
-    (endings : List Ended) × (length endings ≡ connections) × Appends held held' (ended_lines 1 endings)
-HasServedLines job held held' = ⊥
+-- ---- an encoder
+-- Its connections were served, and each has its line.
+abbrev pub HasServedLines : EncoderOptions → (held held' : Option (List ℕ)) → Type 0
+HasServedLines o held held' =
+    (endings : List Ended) × (length endings ≡ o.connections) × Appends held held' (ended_lines 1 endings)
 
--- The job was done: an encoder's connections were served, and no input was read; or a server's input was read to its
--- end, and no line of it is refused.
-abbrev pub IsKeptDone : Job → (unread unread' held held' : Option (List ℕ)) → Type 0
-IsKeptDone job unread unread' held held' =
-    (HasServedLines job held held' × (unread' ≡ unread)) ⊎ (IsServer job × IsReadWith None unread unread')
+-- Why its run stopped was said, or begun to be said, with what became of the file of its state, if it has one.
+abbrev pub SaysWhyOf : EncoderOptions → (told told' : Option (List ℕ)) → Type 0
+SaysWhyOf o told told' = MatchOption o.state ⊥ (λ path. SaysWhy (string_bytes path) told told')
 
+-- What is kept of it in the file of its state: what the last connection left.
+abbrev pub ServesKeptAs : {E : Type 0} → (gives : (path : List ℕ) → EncoderState Store → E → Type 0)
+    → (leaves : E → serving.Kept Store → Type 0) → (is_clean : E → Type 0) → EncoderOptions
+    → (held held' : Option (List ℕ)) → Type 0
+ServesKeptAs gives leaves is_clean o held held' = MatchOption o.state (Unit {0})
+    (λ path. HasServedKept gives leaves is_clean (string_bytes path) o held held')
+
+-- ---- a server
 -- A line was refused, and its number and fault were said, or begun to be said.
 abbrev pub IsKeptRefused : (unread unread' told told' : Option (List ℕ)) → Type 0
 IsKeptRefused unread unread' told told' =
     (fault : RunFault) × IsReadWith (Some fault) unread unread' × Begins told told' (error_lines fault)
 
--- What is kept in the file at the path then: of an encoder what the last connection left; of a server that the messages
--- of its input were taken and that none waits.
-abbrev pub IsKeptIn : {E S : Type 0} → (gives_encoder : (path : List ℕ) → EncoderState Store → E → Type 0)
-    → (encoder_leaves : E → serving.Kept Store → Type 0) → (encoder_clean : E → Type 0)
-    → (gives_server : (path : List ℕ) → ServerState → Progress → S → Type 0)
-    → (server_leaves : S → sending.KeptServer → Type 0) → (server_clean : S → Type 0) → (path : List ℕ) → Job
-    → (unread unread' held held' : Option (List ℕ)) → Type 0
-IsKeptIn gives_encoder encoder_leaves encoder_clean gives_server server_leaves server_clean path job unread unread' held
-    held' =
-    HasServedKept gives_encoder encoder_leaves encoder_clean path job held held'
-    ⊎ HasSentKept gives_server server_leaves server_clean path job unread unread'
+-- Its messages were acknowledged; or, with its state in a file, its input was read to its end, and no line is refused.
+abbrev pub SendsDone : ServerOptions → (unread unread' held held' : Option (List ℕ)) → Type 0
+SendsDone o unread unread' held held' = MatchOption o.state
+    (AreAcknowledged (ServerWith o) unread unread' held held') (λ path. IsReadWith None unread unread')
 
--- The job came to no end, and why was said, or begun to be said: the state could not be opened, saved or closed, or the
--- run stopped. Of an encoder no input was read; where a connection of a server could not be made the next line says
--- why, if that is asked for.
-abbrev pub IsKeptStopped : (path : List ℕ) → Job → (unread unread' told told' : Option (List ℕ)) → Type 0
-IsKeptStopped path job unread unread' told told' =
-    (SaysWhy path told told' × (unread' ≡ unread))
-    ⊎ ((between : Option (List ℕ)) × SaysWhy path told between × MaySayUnreached job between told')
+-- A line of its input was refused.
+abbrev pub SendsRefused : ServerOptions → (unread unread' held held' told told' : Option (List ℕ)) → Type 0
+SendsRefused o unread unread' held held' told told' = MatchOption o.state
+    (AreAcknowledgedBefore (ServerWith o) unread unread' held held' told told')
+    (λ path. IsKeptRefused unread unread' told told')
 
+-- It came to no end, and why was said, or begun to be said.
+abbrev pub SendsNotAll : ServerOptions → (unread unread' held held' told told' : Option (List ℕ)) → Type 0
+SendsNotAll o unread unread' held held' told told' = MatchOption o.state
+    (AreNotAcknowledged (ServerWith o) unread unread' held held' told told')
+    (λ path. SaysWhy (string_bytes path) told told')
+
+-- So it did, and then, where a connection could not be made and that is asked for, why that could not be was said, or
+-- begun to be said.
+abbrev pub SendsStopped : ServerOptions → (unread unread' held held' told told' : Option (List ℕ)) → Type 0
+SendsStopped o unread unread' held held' told told' = (between : Option (List ℕ)) × (failed : Option DialFault)
+    × SendsNotAll o unread unread' held held' told between
+    × SaysUnreached o.verbose (string_bytes o.host) o.port failed between told'
+
+-- What is kept of it in the file of its state: that the messages of its input were taken and that none waits.
+abbrev pub SendsKeptAs : {S : Type 0} → (gives : (path : List ℕ) → ServerState → Progress → S → Type 0)
+    → (leaves : S → sending.KeptServer → Type 0) → (is_clean : S → Type 0) → ServerOptions
+    → (unread unread' : Option (List ℕ)) → Type 0
+SendsKeptAs gives leaves is_clean o unread unread' = MatchOption o.state (Unit {0})
+    (λ path. HasSentKept gives leaves is_clean (string_bytes path) o unread unread')
+
+-- ---- a state file
 -- What is in the file at the path was told, and no input was read.
 abbrev pub HasTold : (finds : (path : List ℕ) → Found → Type 0) → (path : List ℕ)
     → (unread unread' held held' : Option (List ℕ)) → Type 0

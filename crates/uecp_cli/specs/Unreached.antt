@@ -1,11 +1,8 @@
 -- What is said where a connection of `server` could not be made (profile).
 use Rattle.std.specs.Prelude.{◌≡◌, ℕ, Bool, true, List, ◌++◌, codes, decimal, Option, Some}
-use Rattle.std.specs.String.{string_bytes}
 use Rattle.uecp_text.specs.Written.{Begins}
 use Rattle.uecp_net.specs.declared.tcp.DialFault.{DialFault}
 use Rattle.uecp_net.specs.declared.tcp.DialFault.TheVariants.{NoSuchHost, Refused, TimedOut, Unreachable, Failed}
-use Rattle.uecp_jobs.specs.declared.job.Job.{Job}
-use Rattle.uecp_jobs.specs.declared.job.Job.TheVariants.{Server}
 
 -- what is said of a fault
 abbrev pub dial_words : DialFault → List ℕ
@@ -25,11 +22,3 @@ abbrev pub SaysUnreached : (verbose : Bool) → (host : List ℕ) (port : ℕ) �
     → (told told' : Option (List ℕ)) → Type 0
 SaysUnreached true host port (Some fault) told told' = Begins told told' (dial_line host port fault)
 SaysUnreached verbose host port failed told told' = told' ≡ told
-
--- Of what the job dials it was said why no connection could be made, or begun to be said, where the job asks for that;
--- or nothing was said.
-abbrev pub MaySayUnreached : Job → (told told' : Option (List ℕ)) → Type 0
-MaySayUnreached (Server site encoder host port tries timeout turns reconnects window join reconnect_silent verbose) told
-    told' =
-    (failed : Option DialFault) × SaysUnreached verbose (string_bytes host) port failed told told'
-MaySayUnreached job told told' = told' ≡ told

@@ -4,28 +4,17 @@
 //! frames of a script, or what came of the events of a line; or it is one of the two ends over TCP. It has no rules of
 //! its own: each line of output is what one call of the crates below answered. It does not open a serial port.
 //!
-//! `parse` reads the command line into a `Task`. `run_job`, `run_encoder_over` and `run_server_over`, and with a state
-//! in a file `run_encoder_in` and `run_server_in`, do the job and answer the exit status, which is 0 to 3 whatever the
-//! input is. `run_words` is all of that; `main` gives it the machine's words, streams and network, and where the words
-//! ask for it sends for as long as lines come, by `run_send_over_tcp`.
+//! `parse` reads the command line into a `Job`; `run_words` reads it and does the job, each command by the call of its
+//! crate, and answers the exit status, which is 0 to 3 whatever the input is. `main` gives it the machine's words,
+//! streams, files and network.
 #![tactic(auto)]
-
-ghost use Rattle.command_line.specs.Ranges.{IsLiveInRange};
 
 mod program;
 mod unreached;
 
-use crate::program::{Ran, receive, run_words, send};
-use air_jobs::run_answer_on_air;
+use crate::program::{Hands, run_words};
 use clap::error;
 use command_line::{Usage, program, refuse, settle};
-use commands::{DeviceJob, SendJob};
-use conformance_command::run_conformance_over_tcp;
-use device_jobs::run_device_over_tcp;
-use ladders::run_ladder;
-use live_edges::{Polled, Watch};
-use on_air_jobs::run_on_air_over_tcp;
-use page_server::run_page_over_tcp;
 use sqlite_image::{MachineFiles, Wary};
 use state_jobs::{OpenStates, StatesInFiles};
 use std::env;
@@ -56,7 +45,7 @@ fn main(rt: HostRuntime) -> ExitCode {
     ExitCode::from(status)
 }
 
-/// Does what the words ask for, and answers the exit status.
+/// Does what the words ask for, with the hands that the machine gives, and answers the exit status.
 fn run<R: Read, W: Write, E: Write, S: OpenStates>(
     rt: &HostRuntime,
     words: &[String],
@@ -65,63 +54,16 @@ fn run<R: Read, W: Write, E: Write, S: OpenStates>(
     errors: &mut E,
     states: &S,
 ) -> u8 {
-    match run_words(rt.alloc(), words, reader, writer, errors, rt, states) {
-        Ran::Ended(status) => status,
-        Ran::Sends(job) => send_lines(rt, &job, reader, writer, errors, states),
-        Ran::Airs(job) => run_answer_on_air(rt.alloc(), &job, reader, writer, errors),
-        Ran::Draws(job) => run_ladder(rt.alloc(), &job, reader, writer, errors),
-        Ran::Receives(job) => receive(rt.alloc(), &job, rt, reader, writer, errors),
-        Ran::Pages(job) => run_page_over_tcp(rt.alloc(), &job, reader, STANDARD_INPUT, errors, rt),
-        Ran::Tries(job) => run_conformance_over_tcp(rt.alloc(), &job, writer, errors, rt),
-        Ran::Serves(job) => serve(rt, &job, writer, errors, states),
-    }
-}
-
-/// Sends what the lines of the reader say, for as long as they come, and answers the exit status.
-fn send_lines<R: Read, W: Write, E: Write, S: OpenStates>(
-    rt: &HostRuntime,
-    job: &SendJob,
-    reader: &mut R,
-    writer: &mut W,
-    errors: &mut E,
-    states: &S,
-) -> u8
-    requires { IsLiveInRange job.now }
-{
-    let watch = Watch::new();
     let mut losses = rt.stderr().lock();
-    let arrival = Polled::new(rt.alloc(), rt, STANDARD_INPUT, &watch, &mut losses);
     let mut notices = rt.stderr().lock();
-    let status = send(
-        rt.alloc(),
-        job,
-        reader,
-        arrival,
-        writer,
-        errors,
-        &watch,
-        &mut notices,
-        rt,
-        states,
-    );
-    watch.finish();
-    status
-}
-
-/// Is a device, on the air where the job asks for that, and answers the exit status.
-fn serve<W: Write, E: Write, S: OpenStates>(
-    rt: &HostRuntime,
-    job: &DeviceJob,
-    writer: &mut W,
-    errors: &mut E,
-    states: &S,
-) -> u8 {
-    if job.air.is_some() || job.air_bits {
-        let mut notices = rt.stderr().lock();
-        return run_on_air_over_tcp(rt.alloc(), job, writer, errors, &mut notices, rt, states);
-    }
     let mut effects = rt.stdout().lock();
-    run_device_over_tcp(rt.alloc(), job, writer, errors, &mut effects, rt, states)
+    let hands = Hands {
+        input: STANDARD_INPUT,
+        losses: &mut losses,
+        notices: &mut notices,
+        effects: &mut effects,
+    };
+    run_words(rt.alloc(), words, reader, writer, errors, hands, rt, states)
 }
 
 /// The words of the command line, with the options of the file that they name; or the exit status where they are none,

@@ -1,5 +1,5 @@
 -- Jobs by the runs of their commands.
-use Rattle.std.proofs.Common.{◌≡◌, ◌⊎◌, ℕ, ◌∷◌, List, [], Option, None, Some, Bool, Result, Err, refl, sym, ap, subst}
+use Rattle.std.proofs.Common.{◌≡◌, ◌⊎◌, ℕ, ◌∷◌, List, [], Option, None, Some, Result, Err, refl, sym, ap, subst}
 use Rattle.std.proofs.Common.{◌∙◌, inl, inr, arith}
 use Rattle.std.specs.Io.KnownBytes.{Consumes}
 use Rattle.std.proofs.KnownBytes.{Consumes-nil}
@@ -17,18 +17,19 @@ use Rattle.uecp_jobs.specs.declared.phrase_script.MakingWords.{MakingWords}
 use Rattle.uecp_jobs.specs.declared.event_script.Playing.{Playing}
 use Rattle.uecp_jobs.specs.declared.frame_script.Making.{Making}
 use Rattle.uecp_jobs.specs.declared.showing.Showing.{Showing}
-use Rattle.uecp_jobs.specs.declared.job.Job.{Job}
-use Rattle.uecp_jobs.specs.declared.job.Job.TheVariants.{Answer, AnswerAs, Show, ShowAs, Make, MakeWords, Line}
-use Rattle.uecp_jobs.specs.declared.job.Job.TheVariants.{LineAs, Encoder, Server, Watch}
+use Rattle.commands.specs.declared.job.Job.{Job}
+use Rattle.commands.specs.declared.job.Job.TheVariants.{AnswerWith, ShowWith, MakeWith, LineWith, EncoderWith}
+use Rattle.commands.specs.declared.job.Job.TheVariants.{ServerWith}
+use Rattle.commands.specs.Jobs.{in_full}
 use Rattle.output_forms.specs.declared.form.Form.{Form}
-use Rattle.uecp_jobs.specs.Commands.{ShowsIn, Shows, AnswersIn, Answers}
+use Rattle.uecp_jobs.specs.Commands.{ShowsIn, AnswersIn}
 use Rattle.output_forms.specs.Forms.{found_lines, answer_lines, store_lines}
 use Rattle.uecp_jobs.specs.PhraseScript.{MakesWords, first_heading, left_line}
 use Rattle.uecp_jobs.specs.FrameScript.{Makes, spelled_line}
-use Rattle.uecp_jobs.specs.Playing.{PlaysIn, Plays, closing_lines}
-use Rattle.uecp_jobs.specs.Setups.{Options, IsSetup, RefusesSetup, encoder_at_first, line_at_first}
-use Rattle.uecp_jobs.specs.Jobs.{options, Describes, IsLocal, ByCommand, JobPrints, JobBreaks, RefusesJob, DoesJob}
-use Rattle.uecp_jobs.specs.Jobs.{Wrote, IsDescribed}
+use Rattle.uecp_jobs.specs.Playing.{PlaysIn, closing_lines}
+use Rattle.uecp_jobs.specs.Setups.{Options, RefusesSetup, encoder_at_first, line_at_first}
+use Rattle.uecp_jobs.specs.Jobs.{options, IsLocal, IsLocalFull, ByScript, ByFull, ByCommand, JobPrints, JobBreaks}
+use Rattle.uecp_jobs.specs.Jobs.{RefusesFull, RefusesJob, DoesJob, RunsScript, Wrote}
 use Rattle.uecp_jobs.proofs.Parts.{whole_part}
 
 -- what is told of a meaning, a value, and closing lines
@@ -54,54 +55,29 @@ does_by job meaning v closing unread unread' held held' result ran by = elim ran
   )
 ]
 
--- ---- a job whose encoder was refused
-pub setup_refused : (job : Job) (o : Options) (fault : RunFault) → Describes job o → RefusesSetup o fault
-    → RefusesJob job fault
-setup_refused Show o fault is refused = absurd is
-setup_refused (ShowAs form) o fault is refused = absurd is
-setup_refused (Watch form time) o fault is refused = absurd is
-setup_refused Make o fault is refused = absurd is
-setup_refused (MakeWords region) o fault is refused = absurd is
-setup_refused (AnswerAs site encoder sets services store form) o fault is refused =
-    subst (λ o. RefusesSetup o fault) is refused
-setup_refused (Answer site encoder sets services store) o fault is refused =
-    subst (λ o. RefusesSetup o fault) is refused
-setup_refused (Line site encoder sets services store) o fault is refused = subst (λ o. RefusesSetup o fault) is refused
-setup_refused (LineAs site encoder sets services store form) o fault is refused =
-    subst (λ o. RefusesSetup o fault) is refused
-setup_refused (Encoder site encoder sets services port connections turns) o fault is refused =
-    subst (λ o. RefusesSetup o fault) is refused
-setup_refused (Server site encoder host port tries timeout turns reconnects window join reconnect_silent verbose) o
-    fault is refused = absurd is
+-- a script of either words that ran
+pub script_does : (job : Job) (words : Option Region) (unread unread' held held' : Option (List ℕ))
+    (result : Result (Unit {0}) RunFault) → RunsScript words unread unread' held held' result
+    → ((tells : Tells) → ByScript words tells → ByCommand job tells)
+    → DoesJob job unread unread' held held' result
+script_does job None unread unread' held held' result ran by =
+    does_by job Makes None spelled_line unread unread' held held' result ran by
+script_does job (Some region) unread unread' held held' result ran by =
+    does_by job (MakesWords region) first_heading left_line unread unread' held held' result ran by
 
 -- a job whose encoder was refused, or whose command ran
 pub refused_or_does : {V : Type 0} (job : Job) (o : Options) (meaning : Meaning V) (v : V) (closing : V → List ℕ)
     (unread unread' held held' : Option (List ℕ)) (unmoved unwritten : Type 0) (result : Result (Unit {0}) RunFault) →
-    Describes job o
+    ((fault : RunFault) → RefusesSetup o fault → RefusesJob job fault)
     → ((fault : RunFault) × (result ≡ Err fault) × RefusesSetup o fault × unmoved × unwritten)
     ⊎ RunsWhole meaning v closing unread unread' held held' result
     → ((tells : Tells) → tells V meaning v closing → ByCommand job tells)
     → ((fault : RunFault) × (result ≡ Err fault) × RefusesJob job fault × unmoved × unwritten)
     ⊎ DoesJob job unread unread' held held' result
-refused_or_does job o meaning v closing unread unread' held held' unmoved unwritten result is did by = elim did [
-  | inl (fault, same, refused, stays, kept) ↦ inl (fault, same, setup_refused job o fault is refused, stays, kept)
+refused_or_does job o meaning v closing unread unread' held held' unmoved unwritten result refuses did by = elim did [
+  | inl (fault, same, refused, stays, kept) ↦ inl (fault, same, refuses fault refused, stays, kept)
   | inr ran ↦ inr (does_by job meaning v closing unread unread' held held' result ran by)
 ]
-
--- a job whose encoder is described
-pub setup_described : (job : Job) (o : Options) → Describes job o → IsSetup o → IsDescribed job
-setup_described Show o is described = absurd is
-setup_described (ShowAs form) o is described = absurd is
-setup_described (Watch form time) o is described = absurd is
-setup_described Make o is described = absurd is
-setup_described (MakeWords region) o is described = absurd is
-setup_described (AnswerAs site encoder sets services store form) o is described = subst IsSetup is described
-setup_described (Answer site encoder sets services store) o is described = subst IsSetup is described
-setup_described (Line site encoder sets services store) o is described = subst IsSetup is described
-setup_described (LineAs site encoder sets services store form) o is described = subst IsSetup is described
-setup_described (Encoder site encoder sets services port connections turns) o is described = subst IsSetup is described
-setup_described (Server site encoder host port tries timeout turns reconnects window join reconnect_silent verbose) o
-    is described = absurd is
 
 -- ---- each command
 pub showed_in : (form : Form) (s : Showing) (unread unread' held held' : Option (List ℕ))
@@ -209,46 +185,43 @@ breaks_fails meaning start closing unread unread' held held' fault breaks =
     elim breaks [ inl ((read, consumed, stops), same) ↦ absurd stops | inr (input, is_input, some) ↦ absurd some ]
 
 -- what follows from what is told of any meaning
-from_command : (job : Job) (tells : Tells) (P : Type 0)
+from_script : (words : Option Region) (tells : Tells) (P : Type 0)
     → ((V : Type 0) (meaning : Meaning V) (start : V) (closing : V → List ℕ) → tells V meaning start closing → P)
-    → ByCommand job tells → P
-from_command Show tells P follows told = follows _ _ _ _ told
-from_command (ShowAs form) tells P follows told = follows _ _ _ _ told
-from_command Make tells P follows told = follows _ _ _ _ told
-from_command (MakeWords region) tells P follows told = follows _ _ _ _ told
-from_command (AnswerAs site encoder sets services store form) tells P follows told = follows _ _ _ _ told
-from_command (Answer site encoder sets services store) tells P follows told = follows _ _ _ _ told
-from_command (Line site encoder sets services store) tells P follows told = follows _ _ _ _ told
-from_command (LineAs site encoder sets services store form) tells P follows told = follows _ _ _ _ told
-from_command (Watch form time) tells P follows told = absurd told
-from_command (Server site encoder host port tries timeout turns reconnects window join reconnect_silent verbose) tells P
-    follows told =
-    absurd told
-from_command (Encoder site encoder sets services port connections turns) tells P follows told = absurd told
+    → ByScript words tells → P
+from_script None tells P follows told = follows _ _ _ _ told
+from_script (Some region) tells P follows told = follows _ _ _ _ told
+
+from_full : (full : Job) (tells : Tells) (P : Type 0)
+    → ((V : Type 0) (meaning : Meaning V) (start : V) (closing : V → List ℕ) → tells V meaning start closing → P)
+    → ByFull full tells → P
+from_full (ShowWith job) tells P follows told = follows _ _ _ _ told
+from_full (MakeWith job) tells P follows told = from_script job.words tells P follows told
+from_full (AnswerWith job) tells P follows told = follows _ _ _ _ told
+from_full (LineWith job) tells P follows told = follows _ _ _ _ told
+from_full full tells P follows told = absurd told
 
 pub job_breaks_fails : (job : Job) (unread unread' held held' : Option (List ℕ)) (fault : RunFault)
     → JobBreaks job unread unread' held held' fault → Fails fault
 job_breaks_fails job unread unread' held held' fault breaks =
-    from_command job (λ V meaning start closing. Breaks meaning start closing unread unread' held held' fault)
+    from_full (in_full job) (λ V meaning start closing. Breaks meaning start closing unread unread' held held' fault)
     (Fails fault) (λ V meaning start closing. breaks_fails meaning start closing unread unread' held held' fault)
     breaks
 
 -- what is told of every meaning
-of_local : (job : Job) → IsLocal job → (tells : Tells)
+of_script : (words : Option Region) (tells : Tells)
     → ((V : Type 0) (meaning : Meaning V) (start : V) (closing : V → List ℕ) → tells V meaning start closing)
-    → ByCommand job tells
-of_local Show local tells told = told _ _ _ _
-of_local (ShowAs form) local tells told = told _ _ _ _
-of_local Make local tells told = told _ _ _ _
-of_local (MakeWords region) local tells told = told _ _ _ _
-of_local (AnswerAs site encoder sets services store form) local tells told = told _ _ _ _
-of_local (Answer site encoder sets services store) local tells told = told _ _ _ _
-of_local (Line site encoder sets services store) local tells told = told _ _ _ _
-of_local (LineAs site encoder sets services store form) local tells told = told _ _ _ _
-of_local (Watch form time) local tells told = absurd local
-of_local (Server site encoder host port tries timeout turns reconnects window join reconnect_silent verbose) local tells
-    told = absurd local
-of_local (Encoder site encoder sets services port connections turns) local tells told = absurd local
+    → ByScript words tells
+of_script None tells told = told _ _ _ _
+of_script (Some region) tells told = told _ _ _ _
+
+of_local : (full : Job) → IsLocalFull full → (tells : Tells)
+    → ((V : Type 0) (meaning : Meaning V) (start : V) (closing : V → List ℕ) → tells V meaning start closing)
+    → ByFull full tells
+of_local (ShowWith job) local tells told = told _ _ _ _
+of_local (MakeWith job) local tells told = of_script job.words tells told
+of_local (AnswerWith job) local tells told = told _ _ _ _
+of_local (LineWith job) local tells told = told _ _ _ _
+of_local full local tells told = absurd local
 
 -- a text that stops a run has status 1 or 3
 stop_status : {V : Type 0} (meaning : Meaning V) (v v' : V) (texts : List (ℕ × List ℕ)) (lines : List ℕ)
@@ -266,25 +239,9 @@ stop_status meaning v v' ((number, text) ∷ texts) lines fault ran is = elim ra
 
 prints_status : (job : Job) (input written : List ℕ) (fault : RunFault) → JobPrints job input (Err fault) written
     → status_of fault ≡ 2 → ⊥
-prints_status Show input written fault (v', ran) is = stop_status Shows _ v' (texts_of input) written fault ran is
-prints_status (ShowAs form) input written fault (v', ran) is =
-    stop_status (ShowsIn (found_lines form)) _ v' (texts_of input) written fault ran is
-prints_status Make input written fault (v', ran) is = stop_status Makes _ v' (texts_of input) written fault ran is
-prints_status (MakeWords region) input written fault (v', ran) is =
-    stop_status (MakesWords region) _ v' (texts_of input) written fault ran is
-prints_status (AnswerAs site encoder sets services store form) input written fault (v', ran) is =
-    stop_status (AnswersIn (answer_lines form)) _ v' (texts_of input) written fault ran is
-prints_status (Answer site encoder sets services store) input written fault (v', ran) is =
-    stop_status Answers _ v' (texts_of input) written fault ran is
-prints_status (Line site encoder sets services store) input written fault (v', ran) is =
-    stop_status Plays _ v' (texts_of input) written fault ran is
-prints_status (LineAs site encoder sets services store form) input written fault (v', ran) is =
-    stop_status (PlaysIn form) _ v' (texts_of input) written fault ran is
-prints_status (Watch form time) input written fault prints is = absurd prints
-prints_status (Server site encoder host port tries timeout turns reconnects window join reconnect_silent verbose) input
-    written fault prints is =
-    absurd prints
-prints_status (Encoder site encoder sets services port connections turns) input written fault prints is = absurd prints
+prints_status job input written fault prints is =
+    from_full (in_full job) (λ V meaning start closing. Prints meaning start closing input (Err fault) written) ⊥
+    (λ V meaning start closing (v', ran). stop_status meaning start v' (texts_of input) written fault ran is) prints
 
 -- where no text ends a run, one that a text stops has status 1
 no_end : {V : Type 0} (meaning : Meaning V) (never : (v : V) (text lines : List ℕ) (v' : V)
@@ -299,29 +256,30 @@ no_end meaning never v v' ((number, text) ∷ texts) lines fault ran is = elim r
   | inr (inr (ended, stop)) ↦ never v text lines v' ended
 ]
 
+script_status : (words : Option Region) (input written : List ℕ) (fault : RunFault)
+    → ByScript words (λ V meaning start closing. Prints meaning start closing input (Err fault) written)
+    → status_of fault ≡ 3 → ⊥
+script_status None input written fault (v', ran) is =
+    no_end Makes (λ v text lines v' ended. ended) _ v' (texts_of input) written fault ran is
+script_status (Some region) input written fault (v', ran) is =
+    no_end (MakesWords region) (λ v text lines v' ended. ended) _ v' (texts_of input) written fault ran is
+
+full_status : (full : Job) (input written : List ℕ) (fault : RunFault)
+    → ByFull full (λ V meaning start closing. Prints meaning start closing input (Err fault) written)
+    → status_of fault ≡ 3 → ⊥
+full_status (ShowWith job) input written fault (v', ran) is =
+    no_end (ShowsIn (found_lines job.form)) (λ v text lines v' ended. ended) _ v' (texts_of input) written fault ran is
+full_status (MakeWith job) input written fault prints is = script_status job.words input written fault prints is
+full_status (AnswerWith job) input written fault (v', ran) is =
+    no_end (AnswersIn (answer_lines job.form)) (λ v text lines v' ended. ended) _ v' (texts_of input) written fault ran
+    is
+full_status (LineWith job) input written fault (v', ran) is =
+    no_end (PlaysIn job.form) (λ v text lines v' ended. ended) _ v' (texts_of input) written fault ran is
+full_status full input written fault prints is = absurd prints
+
 local_status : (job : Job) → IsLocal job → (input written : List ℕ) (fault : RunFault)
     → JobPrints job input (Err fault) written → status_of fault ≡ 3 → ⊥
-local_status Show local input written fault (v', ran) is =
-    no_end Shows (λ v text lines v' ended. ended) _ v' (texts_of input) written fault ran is
-local_status (ShowAs form) local input written fault (v', ran) is =
-    no_end (ShowsIn (found_lines form)) (λ v text lines v' ended. ended) _ v' (texts_of input) written fault ran is
-local_status Make local input written fault (v', ran) is =
-    no_end Makes (λ v text lines v' ended. ended) _ v' (texts_of input) written fault ran is
-local_status (MakeWords region) local input written fault (v', ran) is =
-    no_end (MakesWords region) (λ v text lines v' ended. ended) _ v' (texts_of input) written fault ran is
-local_status (AnswerAs site encoder sets services store form) local input written fault (v', ran) is =
-    no_end (AnswersIn (answer_lines form)) (λ v text lines v' ended. ended) _ v' (texts_of input) written fault ran is
-local_status (Answer site encoder sets services store) local input written fault (v', ran) is =
-    no_end Answers (λ v text lines v' ended. ended) _ v' (texts_of input) written fault ran is
-local_status (Line site encoder sets services store) local input written fault (v', ran) is =
-    no_end Plays (λ v text lines v' ended. ended) _ v' (texts_of input) written fault ran is
-local_status (LineAs site encoder sets services store form) local input written fault (v', ran) is =
-    no_end (PlaysIn form) (λ v text lines v' ended. ended) _ v' (texts_of input) written fault ran is
-local_status (Watch form time) local input written fault prints is = local
-local_status (Server site encoder host port tries timeout turns reconnects window join reconnect_silent verbose) local
-    input written fault prints
-    is = local
-local_status (Encoder site encoder sets services port connections turns) local input written fault prints is = local
+local_status job local input written fault prints is = full_status (in_full job) input written fault prints is
 
 -- a refusal of status 3 is want of memory
 pub setup_wants : (o : Options) (fault : RunFault) → RefusesSetup o fault → status_of fault ≡ 3
@@ -338,36 +296,30 @@ setup_wants o fault (inl (store.ServiceTwice, refused, says)) is =
 setup_wants o fault (inr (address, none, apart)) is =
     absurd (let two : 2 ≡ 3 = sym (ap status_of address) ∙ is in omega (arith, two))
 
+full_wants : (full : Job) → IsLocalFull full → (fault : RunFault) → RefusesFull full fault → status_of fault ≡ 3
+    → fault ≡ run.OutOfMemory
+full_wants (ShowWith job) local fault refused is = absurd refused
+full_wants (MakeWith job) local fault refused is = absurd refused
+full_wants (AnswerWith job) local fault refused is =
+    setup_wants (options job.site job.encoder job.sets job.services.items) fault refused is
+full_wants (LineWith job) local fault refused is =
+    setup_wants (options job.site job.encoder job.sets job.services.items) fault refused is
+full_wants full local fault refused is = absurd local
+
 job_wants : (job : Job) → IsLocal job → (fault : RunFault) → RefusesJob job fault → status_of fault ≡ 3
     → fault ≡ run.OutOfMemory
-job_wants Show local fault refused is = absurd refused
-job_wants (ShowAs form) local fault refused is = absurd refused
-job_wants (Watch form time) local fault refused is = absurd refused
-job_wants Make local fault refused is = absurd refused
-job_wants (MakeWords region) local fault refused is = absurd refused
-job_wants (AnswerAs site encoder sets services store form) local fault refused is =
-    setup_wants (options site encoder sets services.items) fault refused is
-job_wants (Answer site encoder sets services store) local fault refused is =
-    setup_wants (options site encoder sets services.items) fault refused is
-job_wants (Line site encoder sets services store) local fault refused is =
-    setup_wants (options site encoder sets services.items) fault refused is
-job_wants (LineAs site encoder sets services store form) local fault refused is =
-    setup_wants (options site encoder sets services.items) fault refused is
-job_wants (Server site encoder host port tries timeout turns reconnects window join reconnect_silent verbose) local
-    fault refused is =
-    absurd local
-job_wants (Encoder site encoder sets services port connections turns) local fault refused is = absurd local
+job_wants job local fault refused is = full_wants (in_full job) local fault refused is
 
 -- a job for which memory was wanting before anything was read
 wants_first : (job : Job) → IsLocal job → (unread unread' held held' : Option (List ℕ)) → unread' ≡ unread
     → held' ≡ held → JobBreaks job unread unread' held held' run.OutOfMemory
 wants_first job local unread unread' held held' unmoved unwritten =
-    of_local job local (λ V meaning start closing. Breaks meaning start closing unread unread' held held'
+    of_local (in_full job) local (λ V meaning start closing. Breaks meaning start closing unread unread' held held'
     run.OutOfMemory)
     (λ V meaning start closing. inl
     (([], subst (λ left. Consumes unread left []) (sym unmoved) (Consumes-nil unread), tt), unwritten))
 
-says_status : (o : Options) (fault : RunFault) → RefusesSetup o fault → status_of fault ≡ 1 → ⊥
+pub says_status : (o : Options) (fault : RunFault) → RefusesSetup o fault → status_of fault ≡ 1 → ⊥
 says_status o fault (inl (store.OutOfMemory, refused, says)) is = let two : 3 ≡ 1 = sym (ap status_of says) ∙ is in
     omega (arith, two)
 says_status o fault (inl (store.SetCount, refused, says)) is = let two : 2 ≡ 1 = sym (ap status_of says) ∙ is in
@@ -381,25 +333,19 @@ says_status o fault (inl (store.ServiceTwice, refused, says)) is = let two : 2 �
 says_status o fault (inr (address, none, apart)) is = let two : 2 ≡ 1 = sym (ap status_of address) ∙ is in
     omega (arith, two)
 
-pub job_status : (job : Job) (fault : RunFault) → RefusesJob job fault → status_of fault ≡ 1 → ⊥
-job_status Show fault refused is = refused
-job_status (ShowAs form) fault refused is = refused
-job_status (Watch form time) fault refused is = refused
-job_status Make fault refused is = refused
-job_status (MakeWords region) fault refused is = refused
-job_status (AnswerAs site encoder sets services store form) fault refused is =
-    says_status (options site encoder sets services.items) fault refused is
-job_status (Answer site encoder sets services store) fault refused is =
-    says_status (options site encoder sets services.items) fault refused is
-job_status (Line site encoder sets services store) fault refused is =
-    says_status (options site encoder sets services.items) fault refused is
-job_status (LineAs site encoder sets services store form) fault refused is =
-    says_status (options site encoder sets services.items) fault refused is
-job_status (Encoder site encoder sets services port connections turns) fault refused is =
-    says_status (options site encoder sets services.items) fault refused is
-job_status (Server site encoder host port tries timeout turns reconnects window join reconnect_silent verbose) fault
-    refused is =
+full_refuses : (full : Job) (fault : RunFault) → RefusesFull full fault → status_of fault ≡ 1 → ⊥
+full_refuses (AnswerWith job) fault refused is =
+    says_status (options job.site job.encoder job.sets job.services.items) fault refused is
+full_refuses (LineWith job) fault refused is =
+    says_status (options job.site job.encoder job.sets job.services.items) fault refused is
+full_refuses (EncoderWith job) fault refused is =
+    says_status (options job.site job.encoder job.sets job.services.items) fault refused is
+full_refuses (ServerWith job) fault refused is =
     let two : 2 ≡ 1 = sym (ap status_of refused.0) ∙ is in omega (arith, two)
+full_refuses full fault refused is = refused
+
+pub job_status : (job : Job) (fault : RunFault) → RefusesJob job fault → status_of fault ≡ 1 → ⊥
+job_status job fault refused is = full_refuses (in_full job) fault refused is
 
 -- a run that stopped for this
 abbrev pub stopped : RunFault → Result (Unit {0}) RunFault

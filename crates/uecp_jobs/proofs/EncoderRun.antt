@@ -11,8 +11,8 @@ use Rattle.uecp_text.specs.declared.run_fault.RunFault.{RunFault}
 use Rattle.uecp_text.specs.declared.run_fault.RunFault.TheVariants as run
 use Rattle.uecp_text.specs.Faults.{Fails, status_of, error_lines}
 use Rattle.uecp_text.specs.Written.{Begins}
-use Rattle.uecp_jobs.specs.declared.job.Job.{Job}
-use Rattle.uecp_jobs.specs.declared.job.Job.TheVariants.{Encoder}
+use Rattle.commands.specs.declared.job.Job.{Job}
+use Rattle.commands.specs.declared.job.Job.TheVariants.{Encoder}
 use Rattle.uecp_jobs.specs.Setups.{Options, IsSetup, encoder_at_first}
 use Rattle.uecp_jobs.specs.Jobs.{options, RefusesJob}
 use Rattle.uecp_jobs.specs.EncoderRun.{IsEncoder, ServedSome, Serves, HasNotServedAll, connection_lines}

@@ -1,23 +1,30 @@
 -- The job `server` by what was sent.
-use Rattle.std.proofs.Common.{◌≡◌, ◌⊎◌, ℕ, ◌≤◌, Bool, List, [], ◌∷◌, length, Option, Some, None, Result, Ok, Err, IfOk}
-use Rattle.std.proofs.Common.{IfErr, refl, sym, ap, subst, ◌∙◌, inl, inr, arith}
+use Rattle.std.proofs.Common.{◌≡◌, ◌⊎◌, ℕ, ◌≤◌, ◌++◌, List, [], ◌∷◌, length, Option, Some, None, Result, Ok, Err}
+use Rattle.std.proofs.Common.{IfOk, IfErr, refl, sym, ap, subst, ◌∙◌, inl, inr, arith}
 use Rattle.uecp_text.specs.declared.run_fault.RunFault.{RunFault}
 use Rattle.uecp_text.specs.declared.run_fault.RunFault.TheVariants as run
 use Rattle.uecp_text.specs.declared.text_fault.TextFault.{TextFault}
 use Rattle.uecp_text.specs.Faults.{status_of, error_lines}
 use Rattle.uecp_text.specs.Input.{texts_of}
-use Rattle.uecp_text.specs.Run.{StopsReading}
+use Rattle.std.specs.Io.KnownBytes.{Appends}
+use Rattle.uecp_text.specs.Run.{IsInput, StopsReading}
 use Rattle.uecp_text.specs.Written.{Begins}
 use Rattle.uecp_link.specs.Server.{ServerState, idle_at}
 use Rattle.uecp_net.specs.declared.sender.Limits.{Limits}
 use Rattle.uecp_net.specs.Sending.{SenderState, SenderOver}
-use Rattle.uecp_jobs.specs.declared.job.Job.{Job}
-use Rattle.uecp_jobs.specs.declared.job.Job.TheVariants.{Server}
-use Rattle.uecp_jobs.specs.Setups.{address_of}
-use Rattle.uecp_jobs.specs.Jobs.{RefusesJob}
+use Rattle.commands.specs.declared.job.Job.{Job}
+use Rattle.commands.specs.declared.job.Job.TheVariants.{ServerWith}
+use Rattle.commands.specs.Jobs.{in_full}
+use Rattle.uecp_jobs.specs.declared.server_setup.ServerSetup.{ServerSetup}
+use Rattle.uecp_jobs.specs.Setups.{address_of, IsOneEncoder, RefusesAddress}
+use Rattle.uecp_jobs.specs.Jobs.{RefusesJob, RefusesFull}
 use Rattle.uecp_jobs.specs.Messages.{spelled, refused_at, messages_first, refusal_in}
-use Rattle.uecp_jobs.specs.Batches.{batch_size, AreBatches}
-use Rattle.uecp_jobs.specs.ServerRun.{IsServer, sender_at_first, unconnected, SendsMessages, Sends, SendsNone}
+use Rattle.uecp_elements.specs.declared.code.Code.{Code}
+use Rattle.uecp_jobs.specs.Batches.{batch_size, AreBatches, lines_of_batches}
+use Rattle.uecp_jobs.specs.JoiningFirst.{joined_line}
+use Rattle.uecp_jobs.specs.ServerRun.{BreaksRun}
+use Rattle.uecp_jobs.specs.ServerRun.{IsServer, OnServer, server_setup, sender_at_first, unconnected, SendsMessages}
+use Rattle.uecp_jobs.specs.ServerRun.{SendsAs, SendsUpToAs, Sends, SendsNone}
 use Rattle.uecp_jobs.specs.ServerRun.{SendsUpTo, HasSentAll, HasSentBefore, HasNotSentAll, AreAcknowledged}
 use Rattle.uecp_jobs.specs.ServerRun.{AreAcknowledgedBefore, AreNotAcknowledged}
 use Rattle.uecp_jobs.proofs.MessageTexts.{all_bring}
@@ -59,47 +66,65 @@ err_map (Err e) P Q follows holds = follows e holds
 
 module _ {C I O : Type 0} (opens : C → Option (I × O) → C → Type 0) (closes : C → I → O → C → Type 0)
     (remaining : I → Option (List ℕ)) (contents : O → Option (List ℕ)) where
-  pub sends_by : (address site encoder port tries timeout turns reconnects window size : ℕ)
-      (reconnect_silent join : Bool)
+  pub sends_by : (address size : ℕ) (s : ServerSetup)
       (messages : List (List ℕ)) (input : List ℕ) (c c' : C) (held held' : Option (List ℕ))
       (result : Result (Unit {0}) RunFault) →
-      address ≡ address_of site encoder → size ≡ batch_size window → messages ≡ messages_first (texts_of input) →
-      SendsMessages opens closes remaining contents address
-      (record { tries = tries; turns = turns; reconnects = reconnects; reconnect_silent = reconnect_silent }) join size
-      messages c c' held held' result →
-      SendsMessages opens closes remaining contents (address_of site encoder)
-      (record { tries = tries; turns = turns; reconnects = reconnects; reconnect_silent = reconnect_silent }) join
-      (batch_size window)
+      address ≡ address_of s.site s.encoder → size ≡ batch_size s.window → messages ≡ messages_first (texts_of input) →
+      SendsMessages opens closes remaining contents address s.limits s.join size messages c c' held held' result →
+      SendsMessages opens closes remaining contents (address_of s.site s.encoder) s.limits s.join (batch_size s.window)
       (messages_first (texts_of input)) c c' held held' result
-  sends_by address site encoder port tries timeout turns reconnects window size reconnect_silent join messages input c
-      c' held held'
-      result address_is size_is messages_are sends =
-      subst (λ a. SendsMessages opens closes remaining contents a
-      (record { tries = tries; turns = turns; reconnects = reconnects; reconnect_silent = reconnect_silent }) join
-      (batch_size window)
+  sends_by address size s messages input c c' held held' result address_is size_is messages_are sends =
+      subst (λ a. SendsMessages opens closes remaining contents a s.limits s.join (batch_size s.window)
       (messages_first (texts_of input)) c c' held held' result) address_is
-      (subst (λ n. SendsMessages opens closes remaining contents address
-      (record { tries = tries; turns = turns; reconnects = reconnects; reconnect_silent = reconnect_silent }) join n
-      (messages_first (texts_of input)) c
-      c' held held' result) size_is
-      (subst (λ ms. SendsMessages opens closes remaining contents address
-      (record { tries = tries; turns = turns; reconnects = reconnects; reconnect_silent = reconnect_silent }) join size
-      ms c c' held held' result)
-      messages_are sends))
+      (subst (λ n. SendsMessages opens closes remaining contents address s.limits s.join n
+      (messages_first (texts_of input)) c c' held held' result) size_is
+      (subst (λ ms. SendsMessages opens closes remaining contents address s.limits s.join size ms c c' held held'
+      result) messages_are sends))
 
 -- a batch ended the run for this
 pub sent_to : {C I O : Type 0} (unmoved unwritten : Type 0) (opens : C → Option (I × O) → C → Type 0)
-    (closes : C → I → O → C → Type 0) (remaining : I → Option (List ℕ)) (contents : O → Option (List ℕ)) (job : Job)
-    (c c' : C) (unread unread' held held' : Option (List ℕ))
+    (closes : C → I → O → C → Type 0) (remaining : I → Option (List ℕ)) (contents : O → Option (List ℕ))
+    (s : ServerSetup) (c c' : C) (unread unread' held held' : Option (List ℕ))
     (result : Result (Unit {0}) RunFault) (fault : RunFault) → result ≡ Err fault
-    → SendsUpTo opens closes remaining contents job c c' unread unread' held held' fault →
-    IfErr result (λ f. (RefusesJob job f × unmoved × unwritten × (c' ≡ c))
+    → SendsUpToAs opens closes remaining contents s c c' unread unread' held held' fault →
+    IfErr result (λ f. (RefusesAddress s.site s.encoder f × unmoved × unwritten × (c' ≡ c))
     ⊎ ((SendsNone unread unread' held held' f × (c' ≡ c))
-    ⊎ SendsUpTo opens closes remaining contents job c c' unread unread' held held' f))
-sent_to unmoved unwritten opens closes remaining contents job c c' unread unread' held held' result fault is sends =
-    subst (λ r. IfErr r (λ f. (RefusesJob job f × unmoved × unwritten × (c' ≡ c))
+    ⊎ SendsUpToAs opens closes remaining contents s c c' unread unread' held held' f))
+sent_to unmoved unwritten opens closes remaining contents s c c' unread unread' held held' result fault is sends =
+    subst (λ r. IfErr r (λ f. (RefusesAddress s.site s.encoder f × unmoved × unwritten × (c' ≡ c))
     ⊎ ((SendsNone unread unread' held held' f × (c' ≡ c))
-    ⊎ SendsUpTo opens closes remaining contents job c c' unread unread' held held' f))) (sym is) (inr (inr sends))
+    ⊎ SendsUpToAs opens closes remaining contents s c c' unread unread' held held' f))) (sym is) (inr (inr sends))
+
+-- ---- by the job's options
+module _ {C I O : Type 0} (opens : C → Option (I × O) → C → Type 0) (closes : C → I → O → C → Type 0)
+    (remaining : I → Option (List ℕ)) (contents : O → Option (List ℕ)) (s : ServerSetup) (job : Job) (c c' : C)
+    (unread unread' held held' : Option (List ℕ))
+    (asks : (input : List ℕ) (r : Result (Unit {0}) RunFault)
+    → SendsAs opens closes remaining contents s input c c' unread unread' held held' r
+    → Sends opens closes remaining contents job input c c' unread unread' held held' r) where
+  pub has_all : (result : Result (Unit {0}) RunFault)
+      → IfOk result (λ _. (input : List ℕ) × SendsAs opens closes remaining contents s input c c' unread unread' held
+      held' (Ok tt) × (refusal_in (texts_of input) ≡ None))
+      → IfOk result (λ _. HasSentAll opens closes remaining contents job c c' unread unread' held held')
+  has_all (Ok done) (input, sends, none) = record { input = input; sends = asks input _ sends; none_refused = none }
+  has_all (Err fault) all = tt
+
+  pub has_some : (unmoved unwritten : Type 0) → ((fault : RunFault) → RefusesAddress s.site s.encoder fault
+      → RefusesJob job fault) → (result : Result (Unit {0}) RunFault)
+      → IfErr result (λ f. (RefusesAddress s.site s.encoder f × unmoved × unwritten × (c' ≡ c))
+      ⊎ ((SendsNone unread unread' held held' f × (c' ≡ c))
+      ⊎ SendsUpToAs opens closes remaining contents s c c' unread unread' held held' f))
+      → IfErr result (λ f. (RefusesJob job f × unmoved × unwritten × (c' ≡ c))
+      ⊎ ((SendsNone unread unread' held held' f × (c' ≡ c))
+      ⊎ SendsUpTo opens closes remaining contents job c c' unread unread' held held' f))
+  has_some unmoved unwritten refuses (Ok done) some = tt
+  has_some unmoved unwritten refuses (Err fault) (inl refused) =
+      inl (refuses fault refused.0, refused.1, refused.2, refused.3)
+  has_some unmoved unwritten refuses (Err fault) (inr (inl none)) = inr (inl none)
+  has_some unmoved unwritten refuses (Err fault) (inr (inr (input, inl (sends, refused)))) =
+      inr (inr (input, inl (asks input _ sends, refused)))
+  has_some unmoved unwritten refuses (Err fault) (inr (inr (input, inr sends))) =
+      inr (inr (input, inr (asks input _ sends)))
 
 -- ---- how it ends
 
@@ -107,10 +132,11 @@ some_size : (window : ℕ) → 1 ≤ batch_size window
 some_size window = omega arith
 
 server_refuses : (job : Job) (fault : RunFault) → IsServer job → RefusesJob job fault → status_of fault ≡ 2
-server_refuses (Server site encoder host port tries timeout turns reconnects window join reconnect_silent verbose) fault
-    serves refused =
-    ap status_of refused.0
-server_refuses job fault serves refused = absurd serves
+server_refuses job fault serves refused = by (in_full job) serves refused
+  where
+    by : (full : Job) → OnServer full (λ s. Unit {0}) → RefusesFull full fault → status_of fault ≡ 2
+    by (ServerWith o) serves refused = ap status_of refused.0
+    by full serves refused = absurd serves
 
 stops_status : (fault : RunFault) (read : List ℕ) → StopsReading fault read → status_of fault ≡ 3
 stops_status run.TooLong read stops = refl
@@ -138,102 +164,109 @@ refused_status ((number, text) ∷ texts) fault is =
 module _ {C I O : Type 0} (opens : C → Option (I × O) → C → Type 0) (closes : C → I → O → C → Type 0)
     (remaining : I → Option (List ℕ)) (contents : O → Option (List ℕ)) (job : Job) (c c' : C)
     (unread unread' held held' : Option (List ℕ)) where
+  -- what was sent of an input, by what a server is made of
+  abbrev Sent : (input : List ℕ) → Result (Unit {0}) RunFault → ServerSetup → Type 0
+  Sent input result s = SendsAs opens closes remaining contents s input c c' unread unread' held held' result
+
   pub acknowledged_all : HasSentAll opens closes remaining contents job c c' unread unread' held held'
       → AreAcknowledged job unread unread' held held'
-  acknowledged_all all = by job all.sends
+  acknowledged_all all = by (in_full job) all.sends
     where
       input : List ℕ
       input = all.input
 
-      by : (job : Job) → Sends opens closes remaining contents job input c c' unread unread' held held' (Ok tt)
-          → AreAcknowledged job unread unread' held held'
-      by (Server site encoder host port tries timeout turns reconnects window join reconnect_silent verbose)
-          (one, is_input, (loan, s', ran, finishes)) =
-          let (batches, are, appends) = sent_run opens closes remaining contents join (batch_size window)
-          (unconnected c loan (sender_at_first (address_of site encoder)
-          (record { tries = tries; turns = turns; reconnects = reconnects; reconnect_silent = reconnect_silent }))) s'
+      by : (full : Job) → OnServer full (Sent input (Ok tt)) → OnServer full
+          (λ s. IsOneEncoder s.site s.encoder
+          × ((input : List ℕ) × (batches : List (List Code × ℕ)) × IsInput unread unread' input
+          × (refusal_in (texts_of input) ≡ None)
+          × AreBatches (batch_size s.window) s.limits.tries (length (texts_of input)) batches
+          × Appends held held' (joined_line s.join ++ lines_of_batches batches)))
+      by (ServerWith o) (one, is_input, (loan, s', ran, finishes)) =
+          let s = server_setup o in
+          let (batches, are, appends) = sent_run opens closes remaining contents s.join (batch_size s.window)
+          (unconnected c loan (sender_at_first (address_of s.site s.encoder) s.limits)) s'
           (messages_first (texts_of input))
-          held held' (some_size window) ran in (
+          held held' (some_size s.window) ran in (
             one,
             (
               input,
               batches,
               is_input,
               all.none_refused,
-              subst (λ k. AreBatches (batch_size window) tries k batches)
+              subst (λ k. AreBatches (batch_size s.window) s.limits.tries k batches)
                   (all_bring (texts_of input) all.none_refused) are,
               appends,
             ),
           )
-      by job sends = absurd sends
+      by full sends = absurd sends
 
   acknowledged_up_to : (told told' : Option (List ℕ))
       → HasSentBefore opens closes remaining contents job c c' unread unread' held held' told told'
       → AreAcknowledgedBefore job unread unread' held held' told told'
-  acknowledged_up_to told told' before = by job before.sends
+  acknowledged_up_to told told' before = by (in_full job) before.sends
     where
       input : List ℕ
       input = before.input
 
-      by : (job : Job) → Sends opens closes remaining contents job input c c' unread unread' held held' (Ok tt)
-          → AreAcknowledgedBefore job unread unread' held held' told told'
-      by (Server site encoder host port tries timeout turns reconnects window join reconnect_silent verbose)
-          (one, is_input, (loan, s', ran, finishes)) =
-          let (batches, are, appends) = sent_run opens closes remaining contents join (batch_size window)
-          (unconnected c loan (sender_at_first (address_of site encoder)
-          (record { tries = tries; turns = turns; reconnects = reconnects; reconnect_silent = reconnect_silent }))) s'
+      by : (full : Job) → OnServer full (Sent input (Ok tt)) → OnServer full
+          (λ s. IsOneEncoder s.site s.encoder
+          × ((input : List ℕ) × (batches : List (List Code × ℕ)) × (fault : RunFault) × IsInput unread unread' input
+          × (refusal_in (texts_of input) ≡ Some fault)
+          × AreBatches (batch_size s.window) s.limits.tries (length (messages_first (texts_of input))) batches
+          × Appends held held' (joined_line s.join ++ lines_of_batches batches)
+          × Begins told told' (error_lines fault)))
+      by (ServerWith o) (one, is_input, (loan, s', ran, finishes)) =
+          let s = server_setup o in
+          let (batches, are, appends) = sent_run opens closes remaining contents s.join (batch_size s.window)
+          (unconnected c loan (sender_at_first (address_of s.site s.encoder) s.limits)) s'
           (messages_first (texts_of input))
-          held held' (some_size window) ran in
+          held held' (some_size s.window) ran in
           (one, (input, batches, before.fault, is_input, before.refused, are, appends, before.said))
-      by job sends = absurd sends
+      by full sends = absurd sends
 
-  stops_three : (job : Job) (input : List ℕ) (fault : RunFault)
+  stops_three : (input : List ℕ) (fault : RunFault)
       → Sends opens closes remaining contents job input c c' unread unread' held held' (Err fault) → status_of fault ≡ 3
-  stops_three (Server site encoder host port tries timeout turns reconnects window join reconnect_silent verbose) input
-      fault
-      (one, is_input, (loan, s', ran, finishes)) =
-      run_status join (batch_size window) tries (length (messages_first (texts_of input))) held held' fault
-      (stopped_run opens closes remaining contents join (batch_size window)
-      (unconnected c loan (sender_at_first (address_of site encoder)
-      (record { tries = tries; turns = turns; reconnects = reconnects; reconnect_silent = reconnect_silent }))) s'
-      (messages_first (texts_of input)) held
-      held' fault (some_size window) ran)
-  stops_three job input fault sends = absurd sends
+  stops_three input fault sends = by (in_full job) sends
+    where
+      by : (full : Job) → OnServer full (Sent input (Err fault)) → status_of fault ≡ 3
+      by (ServerWith o) (one, is_input, (loan, s', ran, finishes)) =
+          let s = server_setup o in
+          run_status s.join (batch_size s.window) s.limits.tries (length (messages_first (texts_of input))) held held'
+          fault
+          (stopped_run opens closes remaining contents s.join (batch_size s.window)
+          (unconnected c loan (sender_at_first (address_of s.site s.encoder) s.limits)) s'
+          (messages_first (texts_of input)) held
+          held' fault (some_size s.window) ran)
+      by full sends = absurd sends
 
   not_all : (told told' : Option (List ℕ)) → IsServer job
       → HasNotSentAll opens closes remaining contents job c c' unread unread' held held' told told'
       → AreNotAcknowledged job unread unread' held held' told told'
-  not_all told told' serves ended = by job serves ended.sends
+  not_all told told' serves ended = by (in_full job) serves ended.sends
     where
       fault : RunFault
       fault = ended.fault
 
-      by : (job : Job) → IsServer job → (SendsNone unread unread' held held' fault × (c' ≡ c))
-          ⊎ ((input : List ℕ) × Sends opens closes remaining contents job input c c' unread unread' held held'
-          (Err fault)) → AreNotAcknowledged job unread unread' held held' told told'
-      by (Server site encoder host port tries timeout turns reconnects window join reconnect_silent verbose) serves
-          (inl (none, same)) =
-          (fault, ended.said, inl none)
-      by (Server site encoder host port tries timeout turns reconnects window join reconnect_silent verbose) serves
-          (inr (input, (one, is_input, (loan, s', ran, finishes)))) = (
-            fault,
-            ended.said,
-            inr (
-              input,
-              is_input,
-              stopped_run opens closes remaining contents join (batch_size window)
-                  (unconnected c loan (sender_at_first (address_of site encoder)
-                  (record {
-                    tries = tries;
-                    turns = turns;
-                    reconnects = reconnects;
-                    reconnect_silent = reconnect_silent;
-                  }))) s'
-                  (messages_first (texts_of input))
-                  held held' fault (some_size window) ran,
-            ),
-          )
-      by job serves how = absurd serves
+      by : (full : Job) → OnServer full (λ s. Unit {0}) → (SendsNone unread unread' held held' fault × (c' ≡ c))
+          ⊎ ((input : List ℕ) × OnServer full (Sent input (Err fault))) → OnServer full
+          (λ s. (fault : RunFault) × Begins told told' (error_lines fault)
+          × (SendsNone unread unread' held held' fault ⊎ ((input : List ℕ) × IsInput unread unread' input
+          × BreaksRun s.join (batch_size s.window) s.limits.tries (length (messages_first (texts_of input))) held held'
+          fault)))
+      by (ServerWith o) serves (inl (none, same)) = (fault, ended.said, inl none)
+      by (ServerWith o) serves (inr (input, (one, is_input, (loan, s', ran, finishes)))) = let s = server_setup o in (
+        fault,
+        ended.said,
+        inr (
+          input,
+          is_input,
+          stopped_run opens closes remaining contents s.join (batch_size s.window)
+              (unconnected c loan (sender_at_first (address_of s.site s.encoder) s.limits)) s'
+              (messages_first (texts_of input))
+              held held' fault (some_size s.window) ran,
+        ),
+      )
+      by full serves how = absurd serves
 
   -- ---- by the status
 
@@ -255,7 +288,7 @@ module _ {C I O : Type 0} (opens : C → Option (I × O) → C → Type 0) (clos
           unread unread' held held' told told' =
           record { input = input; sends = sends; fault = fault; refused = refused; said = begins } in
           (before, acknowledged_up_to told told' before))
-      | inr (inr (input, inr sends)) ↦ absurd (let no = apart 3 1 (stops_three job input fault sends) is in
+      | inr (inr (input, inr sends)) ↦ absurd (let no = apart 3 1 (stops_three input fault sends) is in
           omega (arith, no))
     ]
 
@@ -266,7 +299,7 @@ module _ {C I O : Type 0} (opens : C → Option (I × O) → C → Type 0) (clos
           omega (arith, no))
       | inr (inr (input, inl (sends, refused))) ↦ absurd
           (let no = apart 1 2 (refused_status (texts_of input) fault refused) is in omega (arith, no))
-      | inr (inr (input, inr sends)) ↦ absurd (let no = apart 3 2 (stops_three job input fault sends) is in
+      | inr (inr (input, inr sends)) ↦ absurd (let no = apart 3 2 (stops_three input fault sends) is in
           omega (arith, no))
     ]
 

@@ -12,8 +12,8 @@ use Rattle.uecp_text.specs.Digits.{decimal_word}
 use Rattle.uecp_text.specs.Faults.{Fails, status_of, error_lines}
 use Rattle.uecp_text.specs.Written.{Begins}
 use Rattle.uecp_net.specs.Sessions.{Outcome, Sessions}
-use Rattle.uecp_jobs.specs.declared.job.Job.{Job}
-use Rattle.uecp_jobs.specs.declared.job.Job.TheVariants.{Encoder}
+use Rattle.commands.specs.declared.job.Job.{Job}
+use Rattle.commands.specs.declared.job.Job.TheVariants.{Encoder}
 use Rattle.uecp_jobs.specs.Setups.{IsSetup, encoder_at_first}
 use Rattle.uecp_jobs.specs.Jobs.{options}
 

@@ -1,73 +1,68 @@
 -- What each job of the program does (profile).
-use Rattle.std.specs.Prelude.{◌≡◌, ℕ, ◌⊎◌, List, [], Option, None, Result, Ok, Err}
+use Rattle.std.specs.Prelude.{◌≡◌, ℕ, ◌⊎◌, List, [], Option, Some, None, Result, Ok, Err}
 use Rattle.std.specs.Io.KnownBytes.{Appends}
 use Rattle.uecp_frame.specs.Findings.{Closed}
-use Rattle.uecp_jobs.specs.declared.job.Job.{Job}
-use Rattle.uecp_jobs.specs.declared.job.Job.TheVariants.{Answer, AnswerAs, Show, ShowAs, Make, MakeWords}
-use Rattle.uecp_jobs.specs.declared.job.Job.TheVariants.{Line, LineAs, Encoder, Server, Watch}
+use Rattle.rds_text.specs.declared.programme_type.Region.{Region}
+use Rattle.commands.specs.declared.job.Job.{Job}
+use Rattle.commands.specs.declared.job.Job.TheVariants.{AnswerWith, ShowWith, MakeWith, LineWith, EncoderWith}
+use Rattle.commands.specs.declared.job.Job.TheVariants.{ServerWith}
+use Rattle.commands.specs.Jobs.{in_full}
 use Rattle.uecp_text.specs.declared.run_fault.RunFault.{RunFault}
 use Rattle.uecp_text.specs.Faults.{status_of, error_lines}
 use Rattle.uecp_text.specs.Written.{Begins}
-use Rattle.uecp_text.specs.Run.{Meaning, IsInput, Prints, Breaks}
+use Rattle.uecp_text.specs.Run.{Meaning, IsInput, Prints, Breaks, RunsWhole}
 use Rattle.uecp_jobs.specs.Setups.{Options, IsOneEncoder, IsSetup, RefusesSetup, RefusesAddress, encoder_at_first}
 use Rattle.uecp_jobs.specs.Setups.{line_at_first}
-use Rattle.output_forms.specs.declared.form.Form.TheVariants.{Lines}
-use Rattle.uecp_jobs.specs.Commands.{ShowsIn, Shows, AnswersIn, Answers}
+use Rattle.uecp_jobs.specs.Commands.{ShowsIn, AnswersIn}
 use Rattle.output_forms.specs.Forms.{found_lines, answer_lines, store_lines}
 use Rattle.uecp_jobs.specs.FrameScript.{Makes, spelled_line}
 use Rattle.uecp_jobs.specs.PhraseScript.{MakesWords, first_heading, left_line}
-use Rattle.uecp_jobs.specs.Playing.{PlaysIn, Plays, closing_lines}
+use Rattle.uecp_jobs.specs.Playing.{PlaysIn, closing_lines}
 
 -- The options of a job that has an encoder.
 abbrev pub options : (site encoder sets : ℕ) (services : List ℕ) → Options
 options site encoder sets services = record { site = site; encoder = encoder; sets = sets; services = services }
 
--- The job has an encoder of its own.
-abbrev pub HasEncoder : Job → Type 0
-HasEncoder Show = ⊥
-HasEncoder (ShowAs form) = ⊥
-HasEncoder (Watch form time) = ⊥
-HasEncoder Make = ⊥
-HasEncoder (MakeWords region) = ⊥
-HasEncoder (Server site encoder host port tries timeout turns reconnects window join reconnect_silent verbose) = ⊥
-HasEncoder job = Unit {0}
+-- The job is that of a command without a connection that reads its input to the end before it writes: of `answer` with
+-- no groups on the air, and of `line` with no ladder.
+abbrev pub IsLocalFull : Job → Type 0
+IsLocalFull (AnswerWith job) = job.air ≡ None
+IsLocalFull (ShowWith job) = Unit {0}
+IsLocalFull (MakeWith job) = Unit {0}
+IsLocalFull (LineWith job) = job.ladder ≡ None
+IsLocalFull job = ⊥
 
--- These are the options of that encoder.
-abbrev pub Describes : Job → Options → Type 0
-Describes (Answer site encoder sets services store) o = o ≡ options site encoder sets services.items
-Describes (AnswerAs site encoder sets services store form) o = o ≡ options site encoder sets services.items
-Describes (Line site encoder sets services store) o = o ≡ options site encoder sets services.items
-Describes (LineAs site encoder sets services store form) o = o ≡ options site encoder sets services.items
-Describes (Encoder site encoder sets services port connections turns) o = o ≡ options site encoder sets services.items
-Describes job o = ⊥
-
--- The job is that of a command without a connection that reads its input to the end before it writes.
 abbrev pub IsLocal : Job → Type 0
-IsLocal (Watch form time) = ⊥
-IsLocal (Encoder site encoder sets services port connections turns) = ⊥
-IsLocal (Server site encoder host port tries timeout turns reconnects window join reconnect_silent verbose) = ⊥
-IsLocal job = Unit {0}
+IsLocal job = IsLocalFull (in_full job)
+
+-- What is told of a script: by what its texts mean, the value that it begins with, and its closing lines.
+abbrev pub ByScript : (words : Option Region)
+    → ((V : Type 0) → Meaning V → (start : V) → (closing : V → List ℕ) → Type 0) → Type 0
+ByScript (Some region) tells = tells _ (MakesWords region) first_heading left_line
+ByScript None tells = tells _ Makes None spelled_line
+
+-- What a script brought, in whichever words it is.
+abbrev pub RunsScript : (words : Option Region) → (unread unread' held held' : Option (List ℕ))
+    → Result (Unit {0}) RunFault → Type 0
+RunsScript words unread unread' held held' result = ByScript words
+    (λ V meaning start closing. RunsWhole meaning start closing unread unread' held held' result)
 
 -- What is told of a job by its command: by what texts mean to it, the value that it begins with, and its closing lines.
--- The jobs with connections, and the one that tells as it reads, are told of apart.
+-- The jobs with connections, and those that tell as they read, are told of apart, and so are groups and ladders.
+abbrev pub ByFull : Job → ((V : Type 0) → Meaning V → (start : V) → (closing : V → List ℕ) → Type 0) → Type 0
+ByFull (ShowWith job) tells = tells _ (ShowsIn (found_lines job.form)) Closed (λ part. [])
+ByFull (MakeWith job) tells = ByScript job.words tells
+ByFull (AnswerWith job) tells =
+    tells _ (AnswersIn (answer_lines job.form))
+    (encoder_at_first (options job.site job.encoder job.sets job.services.items))
+    (λ e. store_lines job.form job.store e.value)
+ByFull (LineWith job) tells =
+    tells _ (PlaysIn job.form) (line_at_first (options job.site job.encoder job.sets job.services.items))
+    (closing_lines job.form job.store)
+ByFull job tells = ⊥
+
 abbrev pub ByCommand : Job → ((V : Type 0) → Meaning V → (start : V) → (closing : V → List ℕ) → Type 0) → Type 0
-ByCommand Show tells = tells _ Shows Closed (λ part. [])
-ByCommand (ShowAs form) tells = tells _ (ShowsIn (found_lines form)) Closed (λ part. [])
-ByCommand Make tells = tells _ Makes None spelled_line
-ByCommand (MakeWords region) tells = tells _ (MakesWords region) first_heading left_line
-ByCommand (Answer site encoder sets services store) tells =
-    tells _ Answers (encoder_at_first (options site encoder sets services.items))
-    (λ e. store_lines Lines store e.value)
-ByCommand (AnswerAs site encoder sets services store form) tells =
-    tells _ (AnswersIn (answer_lines form)) (encoder_at_first (options site encoder sets services.items))
-    (λ e. store_lines form store e.value)
-ByCommand (Line site encoder sets services store) tells =
-    tells _ Plays (line_at_first (options site encoder sets services.items)) (closing_lines Lines store)
-ByCommand (LineAs site encoder sets services store form) tells =
-    tells _ (PlaysIn form) (line_at_first (options site encoder sets services.items)) (closing_lines form store)
-ByCommand (Watch form time) tells = ⊥
-ByCommand (Server site encoder host port tries timeout turns reconnects window join reconnect_silent verbose) tells = ⊥
-ByCommand (Encoder site encoder sets services port connections turns) tells = ⊥
+ByCommand job tells = ByFull (in_full job) tells
 
 -- What the job writes of an input: the lines of the texts, and the closing ones where no line is refused; the result
 -- names the refused line.
@@ -81,40 +76,27 @@ abbrev pub JobBreaks : Job → (unread unread' : Option (List ℕ)) → (held he
 JobBreaks job unread unread' held held' fault = ByCommand job
     (λ V meaning start closing. Breaks meaning start closing unread unread' held held' fault)
 
--- The options of a job describe an encoder, or where it is a server the address of one.
+-- The options of a job describe an encoder, or where it is a server the address of one, if it has such options.
+abbrev pub IsDescribedFull : Job → Type 0
+IsDescribedFull (AnswerWith job) = IsSetup (options job.site job.encoder job.sets job.services.items)
+IsDescribedFull (LineWith job) = IsSetup (options job.site job.encoder job.sets job.services.items)
+IsDescribedFull (EncoderWith job) = IsSetup (options job.site job.encoder job.sets job.services.items)
+IsDescribedFull (ServerWith job) = IsOneEncoder job.site job.encoder
+IsDescribedFull job = Unit {0}
+
 abbrev pub IsDescribed : Job → Type 0
-IsDescribed Show = Unit {0}
-IsDescribed (ShowAs form) = Unit {0}
-IsDescribed (Watch form time) = Unit {0}
-IsDescribed Make = Unit {0}
-IsDescribed (MakeWords region) = Unit {0}
-IsDescribed (Answer site encoder sets services store) = IsSetup (options site encoder sets services.items)
-IsDescribed (AnswerAs site encoder sets services store form) = IsSetup (options site encoder sets services.items)
-IsDescribed (Line site encoder sets services store) = IsSetup (options site encoder sets services.items)
-IsDescribed (LineAs site encoder sets services store form) = IsSetup (options site encoder sets services.items)
-IsDescribed (Encoder site encoder sets services port connections turns) =
-    IsSetup (options site encoder sets services.items)
-IsDescribed (Server site encoder host port tries timeout turns reconnects window join reconnect_silent verbose) =
-    IsOneEncoder site encoder
+IsDescribed job = IsDescribedFull (in_full job)
 
 -- The options of the job describe no encoder, and this is said.
+abbrev pub RefusesFull : Job → RunFault → Type 0
+RefusesFull (AnswerWith job) fault = RefusesSetup (options job.site job.encoder job.sets job.services.items) fault
+RefusesFull (LineWith job) fault = RefusesSetup (options job.site job.encoder job.sets job.services.items) fault
+RefusesFull (EncoderWith job) fault = RefusesSetup (options job.site job.encoder job.sets job.services.items) fault
+RefusesFull (ServerWith job) fault = RefusesAddress job.site job.encoder fault
+RefusesFull job fault = ⊥
+
 abbrev pub RefusesJob : Job → RunFault → Type 0
-RefusesJob Show fault = ⊥
-RefusesJob (ShowAs form) fault = ⊥
-RefusesJob (Watch form time) fault = ⊥
-RefusesJob Make fault = ⊥
-RefusesJob (MakeWords region) fault = ⊥
-RefusesJob (Answer site encoder sets services store) fault =
-    RefusesSetup (options site encoder sets services.items) fault
-RefusesJob (AnswerAs site encoder sets services store form) fault =
-    RefusesSetup (options site encoder sets services.items) fault
-RefusesJob (Line site encoder sets services store) fault = RefusesSetup (options site encoder sets services.items) fault
-RefusesJob (LineAs site encoder sets services store form) fault =
-    RefusesSetup (options site encoder sets services.items) fault
-RefusesJob (Encoder site encoder sets services port connections turns) fault =
-    RefusesSetup (options site encoder sets services.items) fault
-RefusesJob (Server site encoder host port tries timeout turns reconnects window join reconnect_silent verbose) fault =
-    RefusesAddress site encoder fault
+RefusesJob job fault = RefusesFull (in_full job) fault
 
 -- The writer got what the job writes of all that the reader had left, as far as both tell.
 abbrev pub Wrote : Job → (unread unread' : Option (List ℕ)) → Result (Unit {0}) RunFault

@@ -12,17 +12,39 @@ use Rattle.uecp_text.specs.Run.{IsInput, IsUnread}
 use Rattle.uecp_text.specs.Written.{Begins}
 use Rattle.uecp_net.specs.declared.sender.Limits.{Limits}
 use Rattle.uecp_net.specs.Sending.{SenderState, SenderOver, HangsUp}
-use Rattle.uecp_jobs.specs.declared.job.Job.{Job}
-use Rattle.uecp_jobs.specs.declared.job.Job.TheVariants.{Server}
+use Rattle.commands.specs.declared.job.Job.{Job}
+use Rattle.commands.specs.declared.job.Job.TheVariants.{ServerWith}
+use Rattle.commands.specs.declared.server_options.ServerOptions.{ServerOptions}
+use Rattle.commands.specs.Jobs.{in_full}
+use Rattle.uecp_jobs.specs.declared.server_setup.ServerSetup.{ServerSetup}
 use Rattle.uecp_jobs.specs.Setups.{IsOneEncoder, address_of}
 use Rattle.uecp_jobs.specs.Messages.{messages_first, refusal_in}
 use Rattle.uecp_jobs.specs.Batches.{batch_size, SendsOut, AreBatches, lines_of_batches}
 use Rattle.uecp_jobs.specs.JoiningFirst.{joined_line, JoinsFirst, StopsJoining}
 
+-- What a server is made of, by the options of its command.
+abbrev pub server_setup : ServerOptions → ServerSetup
+server_setup o = record {
+  site = o.site;
+  encoder = o.encoder;
+  limits = record {
+    tries = o.tries;
+    turns = o.turns;
+    reconnects = o.reconnects;
+    reconnect_silent = o.reconnect_silent;
+  };
+  window = o.window;
+  join = o.join;
+}
+
+-- This is so of the job's server, if it is that of `server`.
+abbrev pub OnServer : Job → (ServerSetup → Type 0) → Type 0
+OnServer (ServerWith o) P = P (server_setup o)
+OnServer job P = ⊥
+
 -- The job is that of `server`.
 abbrev pub IsServer : Job → Type 0
-IsServer (Server site encoder host port tries timeout turns reconnects window join reconnect_silent verbose) = Unit {0}
-IsServer job = ⊥
+IsServer job = OnServer (in_full job) (λ s. Unit {0})
 
 -- a server of this address at first, with so many tries and turns on each connection, and so many reconnects in all,
 -- also over silence or not
@@ -67,20 +89,23 @@ SendsMessages {C} {I} {O} opens closes remaining contents address limits join si
     × RunsSender opens closes remaining contents join size (unconnected c loan (sender_at_first address limits))
     messages held held' result s' × Finishes closes c' s'
 
--- The options of the job describe one encoder. The input was read to its end; the messages of its lines, or of those
--- before the first that is refused, were sent to that encoder, as far as the result says.
+-- A server is made for one encoder. The input was read to its end; the messages of its lines, or of those before the
+-- first that is refused, were sent to that encoder, as far as the result says.
+abbrev pub SendsAs : {C I O : Type 0} → (opens : C → Option (I × O) → C → Type 0)
+    → (closes : C → I → O → C → Type 0) → (remaining : I → Option (List ℕ)) → (contents : O → Option (List ℕ))
+    → ServerSetup → (input : List ℕ) → C → C → (unread unread' held held' : Option (List ℕ))
+    → Result (Unit {0}) RunFault → Type 0
+SendsAs opens closes remaining contents s input c c' unread unread' held held' result =
+    IsOneEncoder s.site s.encoder × IsInput unread unread' input
+    × SendsMessages opens closes remaining contents (address_of s.site s.encoder) s.limits s.join (batch_size s.window)
+    (messages_first (texts_of input)) c c' held held' result
+
+-- So by the job's options.
 abbrev pub Sends : {C I O : Type 0} → (opens : C → Option (I × O) → C → Type 0) → (closes : C → I → O → C → Type 0)
     → (remaining : I → Option (List ℕ)) → (contents : O → Option (List ℕ)) → Job → (input : List ℕ) → C → C
     → (unread unread' held held' : Option (List ℕ)) → Result (Unit {0}) RunFault → Type 0
-Sends opens closes remaining contents (Server site encoder host port tries timeout turns reconnects window join
-    reconnect_silent verbose) input c
-    c' unread unread' held held' result =
-    IsOneEncoder site encoder × IsInput unread unread' input
-    × SendsMessages opens closes remaining contents (address_of site encoder)
-    (record { tries = tries; turns = turns; reconnects = reconnects; reconnect_silent = reconnect_silent }) join
-    (batch_size window)
-    (messages_first (texts_of input)) c c' held held' result
-Sends opens closes remaining contents job input c c' unread unread' held held' result = ⊥
+Sends opens closes remaining contents job input c c' unread unread' held held' result = OnServer (in_full job)
+    (λ s. SendsAs opens closes remaining contents s input c c' unread unread' held held' result)
 
 -- Nothing was sent or written: the input was not read to its end, or there was no memory for its messages.
 abbrev pub SendsNone : (unread unread' held held' : Option (List ℕ)) → RunFault → Type 0
@@ -89,6 +114,16 @@ SendsNone unread unread' held held' fault = (IsUnread unread unread' fault
 
 -- The messages were sent up to this fault: that of the first line that is refused, before which all are acknowledged;
 -- or that of a batch (private).
+abbrev pub SendsUpToAs : {C I O : Type 0} → (opens : C → Option (I × O) → C → Type 0)
+    → (closes : C → I → O → C → Type 0) → (remaining : I → Option (List ℕ)) → (contents : O → Option (List ℕ))
+    → ServerSetup → C → C → (unread unread' held held' : Option (List ℕ)) → RunFault → Type 0
+SendsUpToAs opens closes remaining contents s c c' unread unread' held held' fault =
+    (input : List ℕ)
+    × ((SendsAs opens closes remaining contents s input c c' unread unread' held held' (Ok tt)
+    × (refusal_in (texts_of input) ≡ Some fault)) ⊎ SendsAs opens closes remaining contents s input c c' unread
+    unread' held held' (Err fault))
+
+-- So by the job's options (private).
 abbrev pub SendsUpTo : {C I O : Type 0} → (opens : C → Option (I × O) → C → Type 0) → (closes : C → I → O → C → Type 0)
     → (remaining : I → Option (List ℕ)) → (contents : O → Option (List ℕ)) → Job → C → C
     → (unread unread' held held' : Option (List ℕ)) → RunFault → Type 0
@@ -139,26 +174,22 @@ pub record HasNotSentAll {C I O : Type 0} (opens : C → Option (I × O) → C �
 -- All messages of the input were acknowledged, and the writer got the lines of that, one for each message, in order,
 -- after the line of the encoder that was joined where that was asked for.
 abbrev pub AreAcknowledged : Job → (unread unread' held held' : Option (List ℕ)) → Type 0
-AreAcknowledged (Server site encoder host port tries timeout turns reconnects window join reconnect_silent verbose)
-    unread unread' held held' =
-    IsOneEncoder site encoder
+AreAcknowledged job unread unread' held held' = OnServer (in_full job) (λ s.
+    IsOneEncoder s.site s.encoder
     × ((input : List ℕ) × (batches : List (List Code × ℕ)) × IsInput unread unread' input
-    × (refusal_in (texts_of input) ≡ None) × AreBatches (batch_size window) tries (length (texts_of input)) batches
-    × Appends held held' (joined_line join ++ lines_of_batches batches))
-AreAcknowledged job unread unread' held held' = ⊥
+    × (refusal_in (texts_of input) ≡ None)
+    × AreBatches (batch_size s.window) s.limits.tries (length (texts_of input)) batches
+    × Appends held held' (joined_line s.join ++ lines_of_batches batches)))
 
 -- The messages before the first line that is refused were acknowledged, the writer got the lines of that and no other
 -- line, and what is wrong with that line was said, or begun to be said.
 abbrev pub AreAcknowledgedBefore : Job → (unread unread' held held' told told' : Option (List ℕ)) → Type 0
-AreAcknowledgedBefore (Server site encoder host port tries timeout turns reconnects window join reconnect_silent
-    verbose) unread unread' held
-    held' told told' =
-    IsOneEncoder site encoder
+AreAcknowledgedBefore job unread unread' held held' told told' = OnServer (in_full job) (λ s.
+    IsOneEncoder s.site s.encoder
     × ((input : List ℕ) × (batches : List (List Code × ℕ)) × (fault : RunFault) × IsInput unread unread' input
     × (refusal_in (texts_of input) ≡ Some fault)
-    × AreBatches (batch_size window) tries (length (messages_first (texts_of input))) batches
-    × Appends held held' (joined_line join ++ lines_of_batches batches) × Begins told told' (error_lines fault))
-AreAcknowledgedBefore job unread unread' held held' told told' = ⊥
+    × AreBatches (batch_size s.window) s.limits.tries (length (messages_first (texts_of input))) batches
+    × Appends held held' (joined_line s.join ++ lines_of_batches batches) × Begins told told' (error_lines fault)))
 
 -- Some first of so many messages were acknowledged, in whole batches, and there are more.
 abbrev pub AreFirstBatches : (size tries messages : ℕ) → List (List Code × ℕ) → Type 0
@@ -198,10 +229,8 @@ BreaksRun join size tries messages held held' fault =
 
 -- Not all was sent or told, and that was said, or begun to be said.
 abbrev pub AreNotAcknowledged : Job → (unread unread' held held' told told' : Option (List ℕ)) → Type 0
-AreNotAcknowledged (Server site encoder host port tries timeout turns reconnects window join reconnect_silent verbose)
-    unread unread' held held'
-    told told' =
+AreNotAcknowledged job unread unread' held held' told told' = OnServer (in_full job) (λ s.
     (fault : RunFault) × Begins told told' (error_lines fault)
     × (SendsNone unread unread' held held' fault ⊎ ((input : List ℕ) × IsInput unread unread' input
-    × BreaksRun join (batch_size window) tries (length (messages_first (texts_of input))) held held' fault))
-AreNotAcknowledged job unread unread' held held' told told' = ⊥
+    × BreaksRun s.join (batch_size s.window) s.limits.tries (length (messages_first (texts_of input))) held held'
+    fault)))

@@ -10,9 +10,9 @@ ghost use Rattle.uecp_jobs.specs.Jobs.{RefusesJob, IsUndescribed};
 ghost use Rattle.uecp_jobs.specs.EncoderRun.{IsEncoder, ServedAll, Serves, HasNotServedAll, connection_line};
 ghost use Rattle.uecp_jobs.specs.EncoderRun.{connection_lines};
 
-use crate::job::Job;
 use crate::run::fail;
-use crate::setup::{new_encoder, setup_of};
+use crate::setup::{Setup, new_encoder};
+use commands::Job;
 use std::alloc::Global;
 use std::io::Write;
 use uecp_encoder::{Encoder, ServeFault, Served, Target};
@@ -62,11 +62,20 @@ fn serve_all<W: Write, C: Connections>(
 {
     match job {
         Job::Encoder {
+            site,
+            encoder,
+            sets,
+            services,
             connections,
             turns,
             ..
         } => {
-            let setup = setup_of(job);
+            let setup = Setup {
+                site: *site,
+                encoder: *encoder,
+                sets: *sets,
+                services: services.as_slice(),
+            };
             let mut encoder = new_encoder(alloc, &setup)?;
             match serve_connections(alloc, &mut encoder, *connections, *turns, connect, writer) {
                 Ok(()) => Ok(()),

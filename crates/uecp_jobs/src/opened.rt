@@ -7,8 +7,8 @@ ghost use Rattle.uecp_jobs.specs.ServerRun.{IsServer, HasSentAll, HasSentBefore,
 ghost use Rattle.uecp_jobs.specs.ServerRun.{AreAcknowledgedBefore, AreNotAcknowledged};
 
 use crate::encoder_run::run_encoder_over;
-use crate::job::Job;
 use crate::server_run::run_server_over;
+use commands::Job;
 use std::alloc::Global;
 use std::io::{Read, Write};
 use std::marker::Brand;

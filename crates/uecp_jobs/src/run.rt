@@ -1,15 +1,13 @@
 //! A job from its input to its exit status (profile).
-ghost use Rattle.std.specs.Prelude.{◌≡◌, ◌⊎◌, ◌≤◌, [], None, Err, IfOk};
+ghost use Rattle.std.specs.Prelude.{◌≡◌, ◌⊎◌, ◌≤◌, [], Err, IfOk};
 ghost use Rattle.uecp_frame.specs.Findings.{Closed};
 ghost use Rattle.uecp_text.specs.Faults.{status_of, error_lines};
 ghost use Rattle.uecp_text.specs.Written.{Begins};
 ghost use Rattle.uecp_text.specs.Run.{RunsWhole};
 ghost use Rattle.uecp_text.specs.declared.run_fault.RunFault.{RunFault};
 ghost use Rattle.uecp_jobs.specs.Jobs.{IsLocal, IsDescribed, RefusesJob, DoesJob, IsDone, IsRefused, IsUndescribed};
-ghost use Rattle.uecp_jobs.specs.Jobs.{HasFailed};
+ghost use Rattle.uecp_jobs.specs.Jobs.{HasFailed, RunsScript};
 ghost use Rattle.uecp_jobs.specs.Commands.{ShowsIn, AnswersIn};
-ghost use Rattle.uecp_jobs.specs.FrameScript.{Makes, spelled_line};
-ghost use Rattle.uecp_jobs.specs.PhraseScript.{MakesWords, first_heading, left_line};
 ghost use Rattle.uecp_jobs.specs.Playing.{PlaysIn, closing_lines};
 ghost use Rattle.uecp_jobs.specs.Setups.{options_of, IsSetup, RefusesSetup, encoder_at_first, line_at_first};
 ghost use Rattle.output_forms.specs.Forms.{found_lines, answer_lines, store_lines};
@@ -18,10 +16,10 @@ use crate::answering::Answering;
 use crate::asked::Asked;
 use crate::event_script::Playing;
 use crate::frame_script::Making;
-use crate::job::Job;
 use crate::phrase_script::MakingWords;
-use crate::setup::{Setup, setup_of};
+use crate::setup::Setup;
 use crate::showing::Showing;
+use commands::Job;
 use output_forms::Form;
 use rds_text::Region;
 use std::alloc::Global;
@@ -78,38 +76,74 @@ fn do_job<R: Read, W: Write>(
 {
     match job {
         Job::Show => show(alloc, Form::Lines, reader, writer),
-        Job::ShowAs { form } => show(alloc, *form, reader, writer),
-        Job::Make => make(alloc, reader, writer),
-        Job::MakeWords { region } => make_of_words(alloc, *region, reader, writer),
-        Job::Answer { store, .. } => {
+        Job::ShowWith(options) => show(alloc, options.form, reader, writer),
+        Job::Make => make(alloc, None, reader, writer),
+        Job::MakeWith(options) => make(alloc, options.words, reader, writer),
+        Job::Answer {
+            site,
+            encoder,
+            sets,
+            services,
+            store,
+        } => {
+            let setup = Setup {
+                site: *site,
+                encoder: *encoder,
+                sets: *sets,
+                services: services.as_slice(),
+            };
             let asked = Asked {
                 store: *store,
                 form: Form::Lines,
             };
-            answer(alloc, &setup_of(job), asked, reader, writer)
+            answer(alloc, &setup, asked, reader, writer)
         }
-        Job::AnswerAs { store, form, .. } => {
-            let asked = Asked {
-                store: *store,
-                form: *form,
+        Job::AnswerWith(options) => {
+            let setup = Setup {
+                site: options.site,
+                encoder: options.encoder,
+                sets: options.sets,
+                services: options.services.as_slice(),
             };
-            answer(alloc, &setup_of(job), asked, reader, writer)
+            let asked = Asked {
+                store: options.store,
+                form: options.form,
+            };
+            answer(alloc, &setup, asked, reader, writer)
         }
-        Job::Line { store, .. } => {
+        Job::Line {
+            site,
+            encoder,
+            sets,
+            services,
+            store,
+        } => {
+            let setup = Setup {
+                site: *site,
+                encoder: *encoder,
+                sets: *sets,
+                services: services.as_slice(),
+            };
             let asked = Asked {
                 store: *store,
                 form: Form::Lines,
             };
-            play(alloc, &setup_of(job), asked, reader, writer)
+            play(alloc, &setup, asked, reader, writer)
         }
-        Job::LineAs { store, form, .. } => {
-            let asked = Asked {
-                store: *store,
-                form: *form,
+        Job::LineWith(options) => {
+            let setup = Setup {
+                site: options.site,
+                encoder: options.encoder,
+                sets: options.sets,
+                services: options.services.as_slice(),
             };
-            play(alloc, &setup_of(job), asked, reader, writer)
+            let asked = Asked {
+                store: options.store,
+                form: options.form,
+            };
+            play(alloc, &setup, asked, reader, writer)
         }
-        Job::Watch { .. } | Job::Encoder { .. } | Job::Server { .. } => unreachable!(),
+        _ => unreachable!(),
     }
 }
 
@@ -126,25 +160,20 @@ fn show<R: Read, W: Write>(
     run(alloc, reader, &mut Showing::new(alloc, form), writer)
 }
 
-/// Makes the frames of a script.
-fn make<R: Read, W: Write>(alloc: Global, reader: &mut R, writer: &mut W) -> Result<(), RunFault>
-    ensures { RunsWhole Makes None spelled_line (R.remaining reader.old) (R.remaining reader.new)
-        (W.contents writer.old) (W.contents writer.new) result }
-{
-    run(alloc, reader, &mut Making::new(), writer)
-}
-
-/// Makes the frames of a phrase script, with the programme types of this region.
-fn make_of_words<R: Read, W: Write>(
+/// Makes the frames of a script: of phrases, with the programme types of this region, or of hexadecimal digits.
+fn make<R: Read, W: Write>(
     alloc: Global,
-    region: Region,
+    words: Option<Region>,
     reader: &mut R,
     writer: &mut W,
 ) -> Result<(), RunFault>
-    ensures { RunsWhole (MakesWords region) first_heading left_line (R.remaining reader.old) (R.remaining reader.new)
-        (W.contents writer.old) (W.contents writer.new) result }
+    ensures { RunsScript words (R.remaining reader.old) (R.remaining reader.new) (W.contents writer.old)
+        (W.contents writer.new) result }
 {
-    run(alloc, reader, &mut MakingWords::new(region), writer)
+    match words {
+        Some(region) => run(alloc, reader, &mut MakingWords::new(region), writer),
+        None => run(alloc, reader, &mut Making::new(), writer),
+    }
 }
 
 /// Answers the input as the encoder of these options. They are judged before anything is read or written.

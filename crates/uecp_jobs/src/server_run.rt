@@ -2,17 +2,21 @@
 ghost use Rattle.std.specs.Prelude.{◌≡◌, ◌≢◌, ◌⊎◌, ℕ, ◌+◌, ◌≤◌, List, [], length, Result, Some, None, Ok, Err, IfOk};
 ghost use Rattle.std.specs.Prelude.{IfErr, IsTrue};
 ghost use Rattle.uecp_frame.specs.Address.{is_exact};
+ghost use Rattle.uecp_text.specs.Input.{texts_of};
 ghost use Rattle.uecp_jobs.specs.Jobs.{RefusesJob, IsUndescribed};
+ghost use Rattle.uecp_jobs.specs.Messages.{refusal_in};
+ghost use Rattle.uecp_jobs.specs.Setups.{RefusesAddress};
 ghost use Rattle.uecp_jobs.specs.Batches.{batch_size};
 ghost use Rattle.uecp_jobs.specs.ServerRun.{IsServer, RunsSender, SendsMessages, SendsNone, SendsUpTo, HasSentAll};
 ghost use Rattle.uecp_jobs.specs.ServerRun.{HasSentBefore, HasNotSentAll, AreAcknowledged, AreAcknowledgedBefore};
-ghost use Rattle.uecp_jobs.specs.ServerRun.{AreNotAcknowledged};
+ghost use Rattle.uecp_jobs.specs.ServerRun.{AreNotAcknowledged, SendsAs, SendsUpToAs};
 
 use crate::batches::{join_first, send_batches};
-use crate::job::Job;
 use crate::messages::{Messages, messages_of};
 use crate::run::fail;
+use crate::server_setup::{ServerSetup, server_setup_of};
 use crate::setup::address_of;
+use commands::Job;
 use std::alloc::Global;
 use std::io::{Read, Write};
 use uecp_frame::{Address, Message};
@@ -97,36 +101,64 @@ fn send_all<R: Read, W: Write, C: Connections>(
             turns,
             reconnects,
             window,
-            join,
-            reconnect_silent,
             ..
         } => {
-            let Some(address) = address_of(*site, *encoder) else {
-                return Err(RunFault::Address);
+            let setup = ServerSetup {
+                site: *site,
+                encoder: *encoder,
+                limits: Limits {
+                    tries: *tries,
+                    turns: *turns,
+                    reconnects: *reconnects,
+                    reconnect_silent: false,
+                },
+                window: *window,
+                join: false,
             };
-            let input = read_all(alloc, reader)?;
-            let messages = messages_of(alloc, input.as_slice())?;
-            let limits = Limits {
-                tries: *tries,
-                turns: *turns,
-                reconnects: *reconnects,
-                reconnect_silent: *reconnect_silent,
-            };
-            let list = messages.list.as_slice();
-            send_messages(
-                alloc,
-                list,
-                batch_size(*window),
-                address,
-                limits,
-                *join,
-                writer,
-                connect,
-            )?;
-            refusal(messages)
+            send_input(alloc, setup, reader, writer, connect)
+        }
+        Job::ServerWith(options) => {
+            send_input(alloc, server_setup_of(options), reader, writer, connect)
         }
         _ => unreachable!(),
     }
+}
+
+/// Sends the messages of the input by a server that is made so. The address is judged before anything is read.
+fn send_input<R: Read, W: Write, C: Connections>(
+    alloc: Global,
+    setup: ServerSetup,
+    reader: &mut R,
+    writer: &mut W,
+    connect: &mut C,
+) -> Result<(), RunFault>
+    ensures all { IfOk result (λ _. (input : List ℕ) × SendsAs C.opens C.closes C.Input.remaining C.Output.contents
+        setup input connect.old connect.new (R.remaining reader.old) (R.remaining reader.new) (W.contents writer.old)
+        (W.contents writer.new) (Ok tt) × (refusal_in (texts_of input) ≡ None)) }
+    ensures some { IfErr result (λ fault. (RefusesAddress setup.site setup.encoder fault × (reader.new ≡ reader.old)
+        × (writer.new ≡ writer.old) × (connect.new ≡ connect.old))
+        ⊎ (SendsNone (R.remaining reader.old) (R.remaining reader.new) (W.contents writer.old) (W.contents writer.new)
+        fault × (connect.new ≡ connect.old))
+        ⊎ SendsUpToAs C.opens C.closes C.Input.remaining C.Output.contents setup connect.old connect.new
+        (R.remaining reader.old) (R.remaining reader.new) (W.contents writer.old) (W.contents writer.new) fault) }
+{
+    let Some(address) = address_of(setup.site, setup.encoder) else {
+        return Err(RunFault::Address);
+    };
+    let input = read_all(alloc, reader)?;
+    let messages = messages_of(alloc, input.as_slice())?;
+    let list = messages.list.as_slice();
+    send_messages(
+        alloc,
+        list,
+        batch_size(setup.window),
+        address,
+        setup.limits,
+        setup.join,
+        writer,
+        connect,
+    )?;
+    refusal(messages)
 }
 
 /// The refusal of the line after these messages, if there is one.

@@ -1,13 +1,11 @@
 //! The encoder that the options describe (profile).
 ghost use Rattle.std.specs.Prelude.{◌≡◌, ◌⊎◌, None, IfSome, IfNone, IfOk, IfErr, IsTrue};
 ghost use Rattle.uecp_frame.specs.Address.{is_exact};
-ghost use Rattle.uecp_jobs.specs.Jobs.{HasEncoder, Describes};
 ghost use Rattle.uecp_jobs.specs.Setups.{IsOneEncoder, address_of, options_of, IsSetup, encoder_at_first};
 ghost use Rattle.uecp_jobs.specs.Setups.{line_at_first, RefusesSetup};
 ghost use Rattle.rds_store.specs.Opening.{fault_of, opening};
 ghost use Rattle.uecp_text.specs.declared.run_fault.RunFault.TheVariants.{OutOfMemory};
 
-use crate::job::Job;
 use rds_store::{RdsStore, StoreFault};
 use std::alloc::Global;
 use uecp_encoder::Encoder;
@@ -26,61 +24,6 @@ pub struct Setup<'a> {
     pub sets: u8,
     /// The numbers of its services, the main one first.
     pub services: &'a [u8],
-}
-
-/// The encoder that the options of a job describe.
-pub(crate) fn setup_of(job: &Job) -> Setup<'_>
-    requires { HasEncoder job.now }
-    ensures { Describes job.now (options_of result) }
-{
-    match job {
-        Job::Answer {
-            site,
-            encoder,
-            sets,
-            services,
-            ..
-        }
-        | Job::AnswerAs {
-            site,
-            encoder,
-            sets,
-            services,
-            ..
-        }
-        | Job::Line {
-            site,
-            encoder,
-            sets,
-            services,
-            ..
-        }
-        | Job::LineAs {
-            site,
-            encoder,
-            sets,
-            services,
-            ..
-        }
-        | Job::Encoder {
-            site,
-            encoder,
-            sets,
-            services,
-            ..
-        } => Setup {
-            site: *site,
-            encoder: *encoder,
-            sets: *sets,
-            services: services.as_slice(),
-        },
-        Job::Show
-        | Job::ShowAs { .. }
-        | Job::Watch { .. }
-        | Job::Make
-        | Job::MakeWords { .. }
-        | Job::Server { .. } => unreachable!(),
-    }
 }
 
 /// The address of exactly one encoder, or None where a part is 0 or out of range.

@@ -4,9 +4,10 @@ ghost use Rattle.std.specs.String.{string_bytes};
 ghost use Rattle.uecp_jobs.specs.Jobs.{IsLocal};
 ghost use Rattle.uecp_quick.specs.Asked as spec;
 
+use commands::{AnswerOptions, Job, LineOptions, MakeOptions, ShowOptions};
 use rds_text::Region;
 use std::alloc::{AllocError, Global};
-use uecp_jobs::{Form, Job};
+use uecp_jobs::Form;
 
 /// The job of the command of this name, with the flags among these words; None where there is no such command, or where
 /// it has no such form.
@@ -17,26 +18,30 @@ pub fn job_of(alloc: Global, name: &str, flags: &[String]) -> Result<Option<Job>
     let form = form_of(flags);
     let store = has(flags, "--store");
     match name {
-        "answer" => Ok(Some(Job::AnswerAs {
+        "answer" => Ok(Some(Job::AnswerWith(AnswerOptions {
             site: 1,
             encoder: 1,
             sets: 1,
             services: vec![in alloc; 1]?,
             store,
             form,
-        })),
-        "line" => Ok(Some(Job::LineAs {
+            air: None,
+        }))),
+        "line" => Ok(Some(Job::LineWith(LineOptions {
             site: 1,
             encoder: 1,
             sets: 1,
             services: vec![in alloc; 1]?,
             store,
             form,
-        })),
-        "show" => Ok(Some(Job::ShowAs { form })),
+            ladder: None,
+        }))),
+        "show" => Ok(Some(Job::ShowWith(ShowOptions { form }))),
         "make" => match form {
             Form::Lines => Ok(Some(Job::Make)),
-            Form::Words(region) => Ok(Some(Job::MakeWords { region })),
+            Form::Words(region) => Ok(Some(Job::MakeWith(MakeOptions {
+                words: Some(region),
+            }))),
             Form::Json => Ok(None),
         },
         _ => Ok(None),

@@ -1,15 +1,15 @@
 //! What is told of a change (profile).
 ghost use Rattle.std.specs.Prelude.{ℕ, List, is_some};
 ghost use Rattle.uecp_text.specs.Written.{Adds};
-ghost use Rattle.receive_command.specs.declared.display.shown_form.ShownForm.TheVariants.{Json};
+ghost use Rattle.commands.specs.declared.receive_options.ShownForm.TheVariants.{Json};
 ghost use Rattle.receive_command.specs.Told.{IsTold, AreTold};
 ghost use Rattle.receive_command.specs.DisplayView.{shown_in, elements_in, IsShort};
 
 use crate::display::news::{News, news_of, put_news};
 use crate::display::objects::put_object;
 use crate::display::shown::Shown;
-use crate::display::shown_form::ShownForm;
 use crate::display::times::put_time;
+use commands::ShownForm;
 use rds_text::Region;
 use std::time::Clock;
 use uecp_text::Output;

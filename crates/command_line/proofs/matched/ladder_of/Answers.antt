@@ -1,4 +1,4 @@
-use Rattle.std.proofs.Common.{refl, sym, ap, ◌∙◌, codes, option_map, is_some, Some}
+use Rattle.std.proofs.Common.{refl, sym, ap, ◌∙◌, codes, option_map, is_some, Some, inr}
 use Rattle.clap.specs.Words.{found_of}
 use Rattle.clap.proofs.WalkLemmas.{first_value-rows}
 use Rattle.command_line.proofs.Options.{no_form}
@@ -19,8 +19,13 @@ returns-in-Some-text-clause-form c =
     sym (ap Some c.in-Some-text.is-text) ∙ sym (ap (option_map (λ s. s.now)) c.in-Some-text.is) ∙ c.get_str.ensures
     ∙ first_value-rows (found_of c.args.found.now) (codes "ladder")
 
-pub returns-in-Some-clause-refused : goal.returns-in-Some-clause-refused
-returns-in-Some-clause-refused c =
+pub returns-in_ok-error-in-Some-clause-refused : goal.returns-in_ok-error-in-Some-clause-refused
+returns-in_ok-error-in-Some-clause-refused c =
     let given = sym (first_value-rows (found_of c.args.found.now) (codes "ladder")) ∙ sym c.get_str.ensures
     ∙ ap (option_map (λ s. s.now)) c.in-Some.is in
-    (refl, ap is_some given, no_form _ c.in-Some.field-0.now given c.in-Some.not-svg c.in-Some.not-text)
+    inr (
+      c.in_ok-error-in-Some.error,
+      refl,
+      c.in_ok-error-in-Some.ensures.kind,
+      (ap is_some given, no_form _ c.in-Some.field-0.now given c.in-Some.not-svg c.in-Some.not-text),
+    )

@@ -1,9 +1,9 @@
 use Rattle.std.proofs.Common.{map, ap, subst, ◌∙◌, Some}
 use Rattle.std.specs.String.{string_bytes}
-use Rattle.std.proofs.lemmas.Result.{IfOk-weaker, IfErr-weaker}
 use Rattle.clap.specs.Words.{found_of, rows_of}
-use Rattle.command_line.specs.CommandLine.{IsTaskOf}
-use Rattle.command_line.proofs.Asked.{asks, no_other, faultless_of, faulty_of, met_of, refuses_task, refuses_words}
+use Rattle.command_line.specs.CommandLine.{IsFullOf}
+use Rattle.command_line.proofs.Asked.{are_in_range, asks, no_other, faultless_of, faulty_of, met_of}
+use Rattle.command_line.proofs.Asked.{refuses_job, refuses_words}
 use Rattle.command_line.proofs.parsing.parse.Goals as goal
 
 pub returns-in_err-matches-clause-refused : goal.returns-in_err-matches-clause-refused
@@ -22,25 +22,28 @@ unreachable-requires c =
     no_other words c.in_ok-matches.matches c.in-Some.word.now c.in-Some.ensures.name met none
     (λ command is. c.named.ensures.none command c.in-None-named.is is)
 
-pub returns-clause-asked : goal.returns-clause-asked
-returns-clause-asked c =
+pub returns-in-Ok-clause-asked : goal.returns-in-Ok-clause-asked
+returns-in-Ok-clause-asked c =
     let words = map string_bytes c.args.words.now in
     let now = c.in-Some in
     let rows = rows_of (found_of now.found.now) in
+    let full = c.in-Ok.job in
     let met = met_of _ words c.in_ok-matches.matches c.in_ok-program.ensures c.in_ok-matches.ensures.matches in
     let none = faultless_of _ words c.in_ok-program.ensures c.in_ok-matches.ensures.kinds in
-    IfOk-weaker c.task_of.result _ _
-    (λ task is. asks words c.in_ok-matches.matches now.word.now rows task now.ensures.name now.ensures.rows met none
-    (subst (λ name. IsTaskOf name rows task) c.in-Some-named.ensures.named is))
-    c.task_of.ensures.task
+    asks words c.in_ok-matches.matches now.word.now rows full c.in_short.result now.ensures.name now.ensures.rows met
+    none (subst (λ name. IsFullOf name rows full) c.in-Some-named.ensures.named c.in-Ok.ensures.full)
+    c.in_short.ensures.short
 
-pub returns-clause-refused : goal.returns-clause-refused
-returns-clause-refused c =
+pub returns-in-Ok-clause-range : goal.returns-in-Ok-clause-range
+returns-in-Ok-clause-range c =
+    are_in_range _ (rows_of (found_of c.in-Some.found.now)) c.in-Ok.job c.in_short.result c.in-Ok.ensures.full
+    c.in_short.ensures.same
+
+pub returns-in-Some-named-clause-refused : goal.returns-in-Some-named-clause-refused
+returns-in-Some-named-clause-refused c =
     let words = map string_bytes c.args.words.now in
     let now = c.in-Some in
     let rows = rows_of (found_of now.found.now) in
     let met = met_of _ words c.in_ok-matches.matches c.in_ok-program.ensures c.in_ok-matches.ensures.matches in
-    IfErr-weaker c.task_of.result _ _
-    (λ why no. refuses_task words c.in_ok-matches.matches c.in-Some-named.command rows why
-    (ap Some c.in-Some-named.ensures.named ∙ now.ensures.name) now.ensures.rows met no)
-    c.task_of.ensures.refused
+    refuses_job words c.in_ok-matches.matches c.in-Some-named.command rows c.in-Err.why
+    (ap Some c.in-Some-named.ensures.named ∙ now.ensures.name) now.ensures.rows met c.in-Err.ensures.refused

@@ -8,6 +8,7 @@ mod memory;
 mod server;
 
 use crate::tests::asserting::same;
+use commands::ServerOptions;
 use faulty_io::{APPLIED_1, FaultyReader, Taken};
 use std::alloc::Global;
 use std::io;
@@ -98,19 +99,6 @@ impl<'a> Connect for Prepared<'a> {
 pub(crate) fn server_job(alloc: Global, site: u16, reconnects: u32, window: u8) -> Result<Job, Fail>
     ensures { IfOk result IsServer }
 {
-    server_job_over(alloc, site, reconnects, window, false)
-}
-
-/// The same, and with or without going on over silence.
-pub(crate) fn server_job_over(
-    alloc: Global,
-    site: u16,
-    reconnects: u32,
-    window: u8,
-    reconnect_silent: bool,
-) -> Result<Job, Fail>
-    ensures { IfOk result IsServer }
-{
     Ok(Job::Server {
         site,
         encoder: 1,
@@ -121,10 +109,33 @@ pub(crate) fn server_job_over(
         turns: 16,
         reconnects,
         window,
-        join: false,
-        reconnect_silent,
-        verbose: false,
     })
+}
+
+/// The same, going on over silence.
+pub(crate) fn patient_job(
+    alloc: Global,
+    site: u16,
+    reconnects: u32,
+    window: u8,
+) -> Result<Job, Fail>
+    ensures { IfOk result IsServer }
+{
+    Ok(Job::ServerWith(ServerOptions {
+        site,
+        encoder: 1,
+        host: String::from_str(alloc, "127.0.0.1")?,
+        port: 4000,
+        tries: 3,
+        timeout: 1000,
+        turns: 16,
+        reconnects,
+        window,
+        join: false,
+        reconnect_silent: true,
+        verbose: false,
+        state: None,
+    }))
 }
 
 /// `encoder` with these services and so many connections.

@@ -1,14 +1,12 @@
-use Rattle.std.proofs.Common.{rules, refl, sym, inl, inr, subst}
+use Rattle.std.proofs.Common.{rules, refl, inl, inr}
 use Rattle.uecp_text.specs.declared.run_fault.RunFault.TheVariants.{Address}
-use Rattle.uecp_jobs.specs.Jobs.{RefusesJob}
 use Rattle.state_jobs.proofs.server_job.run_server_in.Goals as goal
 
-pub returns-in_default-address_of-clause-undescribed : goal.returns-in_default-address_of-clause-undescribed
-returns-in_default-address_of-clause-undescribed g c = λ is. (
+pub returns-in_default-clause-undescribed : goal.returns-in_default-clause-undescribed
+returns-in_default-clause-undescribed g c = λ is. (
   (
     Address,
-    subst (λ job. RefusesJob job Address) (sym c.in-Server.is)
-        (refl, c.in_default-address_of.ensures.none),
+    (refl, c.in_default.ensures.none),
     c.fail.ensures.said,
   ),
   refl,

@@ -1,10 +1,10 @@
 use Rattle.std.proofs.Common.{rules, ◌≡◌, Err, refl, sym, ap, subst, inl, inr}
-use Rattle.uecp_jobs.specs.Setups.{options_of}
-use Rattle.uecp_jobs.specs.Jobs.{options, Describes}
+use Rattle.uecp_jobs.specs.Setups.{RefusesSetup}
+use Rattle.uecp_jobs.specs.Jobs.{options, RefusesJob}
 use Rattle.uecp_text.specs.Faults.{Fails}
 use Rattle.uecp_jobs.specs.EncoderRun.{ServedAll, ServedFewer, ServedSome, Serves}
 use Rattle.uecp_jobs.proofs.EncoderRun.{served_none, ServedBy, FewerBy, SomeBy, served_by, fewer_by, some_by}
-use Rattle.uecp_jobs.proofs.Doing.{setup_refused, stopped}
+use Rattle.uecp_jobs.proofs.Doing.{stopped}
 use Rattle.uecp_jobs.proofs.encoder_run.serve_all.Goals as goal
 
 pub returns-in_err-encoder-in-Encoder : goal.returns-in_err-encoder-in-Encoder
@@ -29,7 +29,9 @@ returns-in_err-encoder-in-Encoder g c =
           inl (
             fault,
             same,
-            setup_refused c.args.job.now (options_of c.setup_of-setup.result) fault c.setup_of-setup.ensures refused,
+            subst (λ job. RefusesJob job fault) (sym c.in-Encoder.is)
+                (subst (λ services. RefusesSetup (options c.in-Encoder.site c.in-Encoder.encoder c.in-Encoder.sets
+                services) fault) c.as_slice.ensures.value refused),
             refl,
             refl,
           )
@@ -43,9 +45,9 @@ returns-in-Ok g c =
     let sent = g.C.Output.Write.contents in
     let held = g.W.Write.contents in
     let i = c.in-Encoder in
-    let setup = options_of c.setup_of-setup.result in
+    let setup = options i.site i.encoder i.sets c.as_slice.result.now in
     let is_setup : setup ≡ options i.site i.encoder i.sets i.services.items =
-    subst (λ job. Describes job setup) i.is c.setup_of-setup.ensures in
+    ap (options i.site i.encoder i.sets) c.as_slice.ensures.value in
     let e = c.in_ok-encoder-in-Encoder in
     let now = c.serve_connections.new in
     inr (subst (λ job. ServedAll opens closes left sent job c.args.connect.now now.connect (held c.args.writer.now)
@@ -64,9 +66,9 @@ returns-in-Encoder g c =
     let sent = g.C.Output.Write.contents in
     let held = g.W.Write.contents in
     let i = c.in-Encoder in
-    let setup = options_of c.setup_of-setup.result in
+    let setup = options i.site i.encoder i.sets c.as_slice.result.now in
     let is_setup : setup ≡ options i.site i.encoder i.sets i.services.items =
-    subst (λ job. Describes job setup) i.is c.setup_of-setup.ensures in
+    ap (options i.site i.encoder i.sets) c.as_slice.ensures.value in
     let e = c.in_ok-encoder-in-Encoder in
     let now = c.serve_connections.new in
     inr (elim c.in-Err.ensures.faults [

@@ -2,7 +2,7 @@
 ghost use Rattle.uecp_jobs.specs.ServerRun.{IsServer};
 
 use super::{
-    APPLIED_BOTH, EMPTY_BOTH, Given, Prepared, REPLY_SIZE, have_got, server_job, server_job_over,
+    APPLIED_BOTH, EMPTY_BOTH, Given, Prepared, REPLY_SIZE, have_got, patient_job, server_job,
 };
 use crate::tests::jobs::{Comes, Ends, came_to};
 use faulty_io::{APPLIED_1, APPLIED_2, EMPTY_1, Taken};
@@ -40,7 +40,7 @@ fn serves_past_silence(
     comes: Comes<'_>,
     got: &[&[u8]],
 ) -> Result<(), Fail> {
-    let job = server_job_over(alloc, 1, reconnects, 1, true)?;
+    let job = patient_job(alloc, 1, reconnects, 1)?;
     serves_so(rt, alloc, given, &job, "-\n", comes, got);
     Ok(())
 }

@@ -1,0 +1,83 @@
+//! What the matches of the command `send` ask for (profile).
+ghost use Rattle.std.specs.Prelude.{◌≡◌, codes, IfOk, IfErr, option_map};
+ghost use Rattle.std.specs.String.{string_bytes};
+ghost use Rattle.clap.specs.Walk.{first_of};
+ghost use Rattle.clap.specs.Words.{found_of, rows_of};
+ghost use Rattle.command_line.specs.CommandLine.{IsFullOf, IsRegion, IsToldIn};
+ghost use Rattle.command_line.specs.declared.usage.Usage.TheVariants.{OutOfMemory};
+
+use crate::forms::flag_of;
+use crate::matched::{host_of, number_of, short_of, small_of};
+use crate::numbers::{
+    ENCODER, GIVE_UP, PORT, RETRY_EVERY, SILENT, SITE, TIMEOUT, TRIES, TRY_TURNS, WINDOW,
+};
+use crate::usage::Usage;
+use clap::ArgMatches;
+use commands::{Job, SendOptions};
+use rds_text::Region;
+use std::alloc::{AllocError, Global};
+use uecp_jobs::Form;
+
+/// What the command `send` asks for.
+pub fn send_of(alloc: Global, found: &ArgMatches<'_>) -> Result<Job, Usage>
+    ensures job { IfOk result (IsFullOf (codes "send") (rows_of (found_of found.now))) }
+    ensures refused { IfErr result (λ why. why ≡ OutOfMemory) }
+{
+    let station = word_of(alloc, found, "station")?;
+    Ok(Job::Send(SendOptions {
+        site: short_of(found, &SITE),
+        encoder: small_of(found, &ENCODER),
+        host: host_of(alloc, found)?,
+        port: short_of(found, &PORT),
+        tries: number_of(found, &TRIES),
+        timeout: number_of(found, &TIMEOUT),
+        turns: number_of(found, &TRY_TURNS),
+        window: small_of(found, &WINDOW),
+        region: region_of(found),
+        form: told_in(found),
+        strict: flag_of(found, "strict"),
+        join: flag_of(found, "join"),
+        rejoin: flag_of(found, "rejoin") || station.is_some(),
+        retry_every: number_of(found, &RETRY_EVERY),
+        give_up: number_of(found, &GIVE_UP),
+        silent: number_of(found, &SILENT),
+        state: word_of(alloc, found, "state")?,
+        station,
+    }))
+}
+
+/// Of which region the names of programme types are.
+pub(crate) fn region_of(found: &ArgMatches<'_>) -> Region
+    ensures { IsRegion (rows_of (found_of found.now)) result }
+{
+    if flag_of(found, "rbds") {
+        Region::NorthAmerica
+    } else {
+        Region::Europe
+    }
+}
+
+/// In which form is told what comes of the messages.
+fn told_in(found: &ArgMatches<'_>) -> Form
+    ensures { IsToldIn (rows_of (found_of found.now)) result }
+{
+    if flag_of(found, "json") {
+        Form::Json
+    } else {
+        Form::Lines
+    }
+}
+
+/// The text of an option, if it is given.
+pub(crate) fn word_of(
+    alloc: Global,
+    found: &ArgMatches<'_>,
+    name: &str,
+) -> Result<Option<String>, AllocError>
+    ensures { IfOk result (λ word. option_map string_bytes word ≡ first_of name.now (rows_of (found_of found.now))) }
+{
+    match found.get_str(name) {
+        Some(word) => Ok(Some(String::from_str(alloc, word)?)),
+        None => Ok(None),
+    }
+}

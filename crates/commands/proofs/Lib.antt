@@ -1,0 +1,2 @@
+-- The proofs of jobs.
+pub mod Same

@@ -1,0 +1,2 @@
+-- The definitions that contracts on jobs cite.
+pub mod Jobs
