@@ -13,11 +13,9 @@ use Rattle.uecp_encoder.specs.ServingWith.{Ended}
 use Rattle.kept_jobs.specs.declared.stop.KeptStop.{KeptStop}
 use Rattle.kept_jobs.specs.declared.stop.KeptStop.TheVariants.{Run, StateFailed}
 use Rattle.kept_jobs.specs.Stops.{Went, stop_status}
-use Rattle.kept_jobs.specs.EncoderRun.{ended_so}
-use Rattle.device_serving.specs.declared.log_lines.LogFault.{LogFault}
-use Rattle.device_serving.specs.declared.log_lines.LogFault.TheVariants.{OutOfMemory, Writing}
+use Rattle.kept_jobs.proofs.Public.{goes, goes_not_stopped, same_status, same_stop, stopped}
 use Rattle.device_serving.specs.Logging.{Log, LogsEvent}
-use Rattle.device_serving.specs.DeviceRun.{TellsStore, went, went_after, stop_of}
+use Rattle.device_serving.proofs.Public.{after_status, store_status, state_stops}
 use Rattle.air_serving.specs.declared.line.Sent.{Sent}
 use Rattle.air_serving.specs.declared.line.OpenLine.{OpenLine}
 use Rattle.air_serving.specs.declared.moments.Moment.{Moment}
@@ -26,50 +24,6 @@ use Rattle.air_serving.specs.Lines.{ReadsOnce, is_over}
 use Rattle.air_serving.specs.AirRun.{OnAir, Connects, GoesOnOrEnds, KeepsOn, ReadsLine, ReadsOpen, KeepsIf}
 use Rattle.air_serving.specs.AirRun.{HangsUp, Does, DoesNext, GoesOnFor, Ends, DoesAll, Serves}
 use Rattle.air_serving.specs.AirRun.{RunsOnAir, OutlivesRun}
-
--- a run that goes on, and one that stops
-abbrev pub on : Went
-on = Ok tt
-
-abbrev pub stopped : KeptStop → Went
-stopped stop = Err stop
-
-on_not_stopped : (stop : KeptStop) → on ≡ stopped stop → ⊥
-on_not_stopped stop is = cc
-
-same_stop : (a b : KeptStop) → stopped a ≡ stopped b → a ≡ b
-same_stop a b e = let same : Err a ≡ Err b = e in cc
-
-same_status : (a b : KeptStop) → stop_status b ≡ 3 → stopped a ≡ stopped b → stop_status a ≡ 3
-same_status a b three is = ap stop_status (same_stop a b is) ∙ three
-
-log_status : (fault : LogFault) → stop_status (stop_of fault) ≡ 3
-log_status OutOfMemory = refl
-log_status Writing = refl
-
-ended_status : (ended : Ended) (stop : KeptStop) → stopped stop ≡ ended_so ended → stop_status stop ≡ 3
-ended_status (Ok served) stop is = absurd (on_not_stopped stop (sym is))
-ended_status (Err (kept.Serve fault)) stop is = absurd (on_not_stopped stop (sym is))
-ended_status (Err kept.StateFailed) stop is = same_status stop StateFailed refl is
-
-after_status : (fault : Option LogFault) (ended : Ended) (stop : KeptStop) → stopped stop ≡ went_after fault ended
-    → stop_status stop ≡ 3
-after_status None ended stop is = ended_status ended stop is
-after_status (Some fault) ended stop is = same_status stop (stop_of fault) (log_status fault) is
-
-went_status : (fault : Option LogFault) (stop : KeptStop) → stopped stop ≡ went fault → stop_status stop ≡ 3
-went_status None stop is = absurd (on_not_stopped stop (sym is))
-went_status (Some fault) stop is = same_status stop (stop_of fault) (log_status fault) is
-
-store_status : (asked : Bool) (store : Store) (l l' : Log) (stop : KeptStop)
-    → TellsStore asked store l l' (stopped stop) → stop_status stop ≡ 3
-store_status true store l l' stop (written, is) = went_status l'.fault stop is
-store_status false store l l' stop (same, is) = went_status l'.fault stop is
-
--- a run does not go on after a save that failed
-state_stops : (fault : Option LogFault) → on ≡ went_after fault (Err kept.StateFailed) → ⊥
-state_stops None is = on_not_stopped StateFailed is
-state_stops (Some fault) is = on_not_stopped (stop_of fault) is
 
 module _ {K M I O : Type 0} (most room : ℕ) (leaves : K → Kept Store → Type 0) (is_clean : K → Type 0)
     (saves fails : K → Kept Store → K → Type 0) (waits : M → Bool → Moment I O → M → Type 0)
@@ -81,7 +35,7 @@ module _ {K M I O : Type 0} (most room : ℕ) (leaves : K → Kept Store → Typ
   -- what a crash leaves after what went so
   pub record After (x x' : OnAir K M I O) (end : Went) : Type 0 where
     pub clean : is_clean x'.keeper → is_clean x.keeper
-    pub settled : on ≡ end → Settled (leaves x.keeper) x.encoder → is_clean x'.keeper
+    pub settled : goes ≡ end → Settled (leaves x.keeper) x.encoder → is_clean x'.keeper
         → Settled (leaves x'.keeper) x'.encoder
     pub outlives : Settled (leaves x.keeper) x.encoder → is_clean x'.keeper → (left : Kept Store)
         → leaves x'.keeper left → Outlives x' left
@@ -107,7 +61,7 @@ module _ {K M I O : Type 0} (most room : ℕ) (leaves : K → Kept Store → Typ
   -- a run does not go on after a read at which a save failed
   broken : (over : Bool) (left : ℕ) (sent : Sent) (line' : OpenLine I O) (told : Log) (x x' : OnAir K M I O)
       → is_over left (Err kept.StateFailed) ≡ over
-      → GoesOnOrEnds closes over sent line' (Err kept.StateFailed) told x x' on → ⊥
+      → GoesOnOrEnds closes over sent line' (Err kept.StateFailed) told x x' goes → ⊥
   broken true left sent line' told x x' is (closed, tells, same, goes) = state_stops x'.log.fault goes
   broken false left sent line' told x x' is (same, goes) = let no : true ≡ false = is in cc
 
@@ -161,7 +115,7 @@ module _ {K M I O : Type 0} (most room : ℕ) (leaves : K → Kept Store → Typ
   sent_on x x' end true queued keeps taken =
       let failed : (stop : KeptStop) → end ≡ stopped stop → fails x.keeper (kept_of x'.encoder) x'.keeper =
       λ stop is. elim keeps.saved [
-        | inl saved ↦ absurd (on_not_stopped stop (sym saved.1 ∙ is))
+        | inl saved ↦ absurd (goes_not_stopped stop (sym saved.1 ∙ is))
         | inr failed ↦ failed.0
       ] in
       record {
@@ -204,7 +158,7 @@ module _ {K M I O : Type 0} (most room : ℕ) (leaves : K → Kept Store → Typ
       let after = does moment (record x { moments = between }) x' end done in
       record { clean = after.clean; settled = after.settled; outlives = after.outlives }
 
-  both : (x y z : OnAir K M I O) (end : Went) → After x y on → After y z end → After x z end
+  both : (x y z : OnAir K M I O) (end : Went) → After x y goes → After y z end → After x z end
   both x y z end one others = record {
     clean = λ clean. one.clean (others.clean clean);
     settled = λ is settled clean. others.settled is (one.settled refl settled (others.clean clean)) clean;
@@ -215,16 +169,16 @@ module _ {K M I O : Type 0} (most room : ℕ) (leaves : K → Kept Store → Typ
       → After x x' end
   ended_at x x' end stop is one = record {
     clean = one.clean;
-    settled = λ done. absurd (on_not_stopped stop (done ∙ is));
+    settled = λ done. absurd (goes_not_stopped stop (done ∙ is));
     outlives = one.outlives;
   }
 
   many_on : (many : ℕ) (x x' : OnAir K M I O)
       → GoesOnFor most room leaves is_clean saves fails waits closes sends remaining contents turns many x x' → After x
-      x' on
+      x' goes
   many_on zero x x' is =
-      stays x x' on (ap (λ (y : OnAir K M I O). y.keeper) is) (ap (λ (y : OnAir K M I O). kept_of y.encoder) is)
-  many_on (suc n) x x' (y, before, some, last) = both x y x' on (many_on n x y before) (next y x' on last)
+      stays x x' goes (ap (λ (y : OnAir K M I O). y.keeper) is) (ap (λ (y : OnAir K M I O). kept_of y.encoder) is)
+  many_on (suc n) x x' (y, before, some, last) = both x y x' goes (many_on n x y before) (next y x' goes last)
 
   ends : (many : ℕ) (x x' : OnAir K M I O) (end : Went)
       → Ends most room leaves is_clean saves fails waits closes sends remaining contents turns many x x' end → After x
@@ -284,7 +238,7 @@ module _ {K M I O : Type 0} (most room : ℕ) (leaves : K → Kept Store → Typ
 
   pub after_run : (store : Bool) (x x' : OnAir K M I O) (end : Went) → Runs store x x' end → After x x' end
   after_run store x x' end (inl (y, served, (told, is))) =
-      both x y x' end (serves x y on served)
+      both x y x' end (serves x y goes served)
       (stays y x' end (ap (λ (z : OnAir K M I O). z.keeper) is) (ap (λ (z : OnAir K M I O). kept_of z.encoder) is))
   after_run store x x' end (inr (stop, served, is)) = ended_at x x' end stop is (serves x x' (stopped stop) served)
 
@@ -292,29 +246,29 @@ module _ {K M I O : Type 0} (most room : ℕ) (leaves : K → Kept Store → Typ
 
   connects_on : (x x' : OnAir K M I O) (stop : KeptStop) (line : Option (OpenLine I O)) (input : I) (output : O)
       → Connects closes turns line input output x x' (stopped stop) → ⊥
-  connects_on x x' stop None input output (told, same, goes) = on_not_stopped stop (sym goes)
-  connects_on x x' stop (Some line) input output (closed, same, goes) = on_not_stopped stop (sym goes)
+  connects_on x x' stop None input output (told, same, goes) = goes_not_stopped stop (sym goes)
+  connects_on x x' stop (Some line) input output (closed, same, goes) = goes_not_stopped stop (sym goes)
 
   over_status : (over : Bool) (sent : Sent) (line' : OpenLine I O) (ended : Ended) (told : Log) (x x' : OnAir K M I O)
       (stop : KeptStop) → GoesOnOrEnds closes over sent line' ended told x x' (stopped stop) → stop_status stop ≡ 3
-  over_status false sent line' ended told x x' stop (same, goes) = absurd (on_not_stopped stop (sym goes))
+  over_status false sent line' ended told x x' stop (same, goes) = absurd (goes_not_stopped stop (sym goes))
   over_status true sent line' ended told x x' stop (closed, tells, same, goes) =
       after_status x'.log.fault ended stop goes
 
   read_status : (x x' : OnAir K M I O) (stop : KeptStop) (line : Option (OpenLine I O))
       → ReadsOpen most room leaves is_clean saves fails closes remaining contents line x x' (stopped stop)
       → stop_status stop ≡ 3
-  read_status x x' stop None (same, goes) = absurd (on_not_stopped stop (sym goes))
+  read_status x x' stop None (same, goes) = absurd (goes_not_stopped stop (sym goes))
   read_status x x' stop (Some line) r =
       over_status (is_over r.line'.left r.ended) line.sent r.line' r.ended r.told x x' stop r.goes
 
   keeps_status : (queued : Bool) (x x' : OnAir K M I O) (stop : KeptStop)
       → KeepsIf most room leaves is_clean saves fails sends queued x x' (stopped stop) → stop_status stop ≡ 3
   keeps_status true x x' stop keeps = elim keeps.saved [
-    | inl saved ↦ absurd (on_not_stopped stop (sym saved.1))
+    | inl saved ↦ absurd (goes_not_stopped stop (sym saved.1))
     | inr failed ↦ same_status stop StateFailed refl failed.1
   ]
-  keeps_status false x x' stop (same, goes) = absurd (on_not_stopped stop (sym goes))
+  keeps_status false x x' stop (same, goes) = absurd (goes_not_stopped stop (sym goes))
 
   does_status : (moment : Moment I O) (x x' : OnAir K M I O) (stop : KeptStop)
       → Does most room leaves is_clean saves fails waits closes sends remaining contents turns moment x x' (stopped
@@ -327,7 +281,7 @@ module _ {K M I O : Type 0} (most room : ℕ) (leaves : K → Kept Store → Typ
   ends_status : (many : ℕ) (x x' : OnAir K M I O) (stop : KeptStop)
       → Ends most room leaves is_clean saves fails waits closes sends remaining contents turns many x x' (stopped stop)
       → stop_status stop ≡ 3
-  ends_status many x x' stop (inl (none, same, goes)) = absurd (on_not_stopped stop (sym goes))
+  ends_status many x x' stop (inl (none, same, goes)) = absurd (goes_not_stopped stop (sym goes))
   ends_status many x x' stop (inr (inl (why, some, (moment, between, waited, done), is))) =
       ap stop_status (same_stop stop why is) ∙ does_status moment (record x { moments = between }) x' why done
   ends_status many x x' stop (inr (inr (all, same, goes))) = same_status stop (Run run.Listening) refl goes

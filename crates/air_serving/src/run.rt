@@ -5,11 +5,10 @@ ghost use Rattle.rds_store.specs.Value.{Store};
 ghost use Rattle.uecp_encoder.specs.Keeping.{Kept, Settled};
 ghost use Rattle.kept_jobs.specs.declared.stop.KeptStop.{KeptStop};
 ghost use Rattle.kept_jobs.specs.Stops.{stop_lines};
-ghost use Rattle.kept_jobs.specs.EncoderRun.{ended_so};
 ghost use Rattle.carousel.specs.Carousel.{Carousel as CarouselValue};
 ghost use Rattle.device_serving.specs.ConnectionLines.{ended_lines};
 ghost use Rattle.device_serving.specs.Logging.{Logs};
-ghost use Rattle.device_serving.specs.DeviceRun.{TellsStore, went, went_after};
+ghost use Rattle.device_serving.specs.DeviceRun.{went_after};
 ghost use Rattle.air_serving.specs.AirRun.{ReadsOpen, DoesNext, DoesAll, Serves, RunsOnAir, OutlivesRun};
 ghost use Rattle.air_serving.specs.Lines.{ended_over};
 ghost use Rattle.air_serving.specs.Parts.{Comes};
@@ -19,12 +18,12 @@ use crate::line::{OpenLine, Sent, ended_over, is_over};
 use crate::moments::{Moment, Moments};
 use crate::tally::{Turn, read_once};
 use carousel::Carousel;
-use device_serving::{LogFault, LogLines};
+use device_serving::{LogLines, tell_last, went_after};
 use kept_jobs::{KeptStop, fail_run};
 use rds_store::RdsStore;
 use std::io::Write;
 use std::time::Clock;
-use uecp_encoder::{Encoder, KeepEncoder, KeptFault, Listener, Served};
+use uecp_encoder::{Encoder, KeepEncoder, Listener};
 use uecp_text::RunFault;
 
 /// How many moments a run waits for at most.
@@ -170,31 +169,6 @@ fn serve_and_store<K: KeepEncoder<RdsStore>, W: Write, Clk: Clock, M: Moments>(
 {
     serve_all(connections, turns, encoder, keeper, log, carousel, moments)?;
     tell_last(store, encoder, log)
-}
-
-/// Tells the lines of the store where that is asked for.
-fn tell_last<W: Write, Clk: Clock>(
-    store: bool,
-    encoder: &Encoder<RdsStore>,
-    log: &mut LogLines<'_, W, Clk>,
-) -> Result<(), KeptStop>
-    ensures tells { TellsStore store encoder.now.value log.old log.new result }
-{
-    if store {
-        log.tell_store(encoder.target());
-    }
-    went(log)
-}
-
-/// How a run goes on: it stops where the log has ended.
-fn went<W: Write, Clk: Clock>(log: &LogLines<'_, W, Clk>) -> Result<(), KeptStop>
-    ensures { result ≡ went log.now.fault }
-{
-    match log.fault() {
-        None => Ok(()),
-        Some(LogFault::OutOfMemory) => Err(KeptStop::Run(RunFault::OutOfMemory)),
-        Some(LogFault::Writing) => Err(KeptStop::Run(RunFault::Writing)),
-    }
 }
 
 /// Serves and sends up to the end, and then gives back the connection that is open, if one is.
@@ -420,16 +394,5 @@ fn end_line<W: Write, Clk: Clock, M: Moments>(
     let ended = turn.ended;
     moments.close(turn.line.input, turn.line.output);
     log.tell_ended(ended_over(sent, ended));
-    went(log)?;
-    ended_so(ended)
-}
-
-/// How a run goes on after a connection that ended so: it stops where a save failed.
-fn ended_so(ended: Result<Served, KeptFault>) -> Result<(), KeptStop>
-    ensures { result ≡ ended_so ended }
-{
-    match ended {
-        Ok(_) | Err(KeptFault::Serve(_)) => Ok(()),
-        Err(KeptFault::StateFailed) => Err(KeptStop::StateFailed),
-    }
+    went_after(log, ended)
 }

@@ -12,6 +12,7 @@ use Rattle.carousel.specs.Carousel.{Carousel}
 use Rattle.carousel.specs.Texts.{line_up, chosen}
 use Rattle.carousel.specs.Service.{main_service}
 
+-- What each group tells of a service: its PI, TP and PTY (IEC 62106, groups).
 abbrev pub head_of : ServiceData → Head
 head_of s = record { pi = s.pi; tp = s.tp; pty = s.pty }
 
@@ -24,6 +25,7 @@ turn count next = if nat_lt next count then next else 0
 abbrev pub name_next : ServiceData → Carousel → ℕ
 name_next s c = if bytes_eq c.name s.ps then turn 4 c.name_segment else 0
 
+-- A segment of the name: its two characters, with TA and MS (IEC 62106, type 0 groups).
 abbrev pub segment_of : ServiceData → (segment : ℕ) → Segment
 segment_of s segment = record {
   ta = s.ta;
@@ -37,6 +39,7 @@ segment_of s segment = record {
 abbrev pub name_group : ServiceData → (segment : ℕ) → Group
 name_group s segment = name_a (head_of s) (segment_of s segment) 0xE0E0
 
+-- The name's next segment goes out, and the turn behind it is not the name's (profile).
 abbrev pub send_name : ServiceData → Carousel → Group × Carousel
 send_name s c =
     let segment = name_next s c in
@@ -47,6 +50,7 @@ send_name s c =
 abbrev pub sent : List ℕ → (place : ℕ) → ℕ
 sent bytes place = slice_index_or (bytes ++ 0x0D ∷ []) place 0x20
 
+-- The four characters of a segment of the text (IEC 62106, RadioText).
 abbrev pub four_of : List ℕ → (segment : ℕ) → List ℕ
 four_of bytes segment =
     sent bytes (4 * segment + 0) ∷ sent bytes (4 * segment + 1) ∷ sent bytes (4 * segment + 2)
@@ -56,9 +60,11 @@ four_of bytes segment =
 abbrev pub text_group : ServiceData → Carousel → Group
 text_group s c = text_a (head_of s) c.flag c.text_segment (four_of c.text c.text_segment)
 
+-- The next segment of the text goes out, and the name has the next turn (profile).
 abbrev pub text_sent : ServiceData → Carousel → Group × Carousel
 text_sent s c = (text_group s c, record c { text_segment = c.text_segment + 1; is_other = false })
 
+-- Of the text that is chosen among those of the service.
 abbrev pub send_text : ServiceData → Carousel → Group × Carousel
 send_text s c = text_sent s (chosen (line_up s.texts) c)
 
@@ -67,6 +73,7 @@ send_text s c = text_sent s (chosen (line_up s.texts) c)
 abbrev pub free_group : ServiceData → StoredGroup → Group
 free_group s g = group g.kind (head_of s) g.bits g.block3 g.block4
 
+-- The first group that waits goes out in the text's turn; where none waits, the text (profile).
 abbrev pub send_other : ServiceData → (waiting : List StoredGroup) → Carousel → Group × Carousel
 send_other s [] c = send_text s c
 send_other s (g ∷ gs) c = (free_group s g, record c { is_other = false })
@@ -76,11 +83,12 @@ send_other s (g ∷ gs) c = (free_group s g, record c { is_other = false })
 abbrev pub next_group : Store → Carousel → Group × Carousel
 next_group v c = if c.is_other then send_other (main_service v) v.groups c else send_name (main_service v) c
 
--- It is the first group that waits.
+-- Whether a group waits.
 abbrev pub is_waiting : List StoredGroup → Bool
 is_waiting [] = false
 is_waiting (g ∷ gs) = true
 
+-- Whether the group that goes out next is one that waited.
 abbrev pub is_queued : Store → Carousel → Bool
 is_queued v c = if c.is_other then is_waiting v.groups else false
 

@@ -10,6 +10,7 @@ use Rattle.carousel.specs.Carousel.{Carousel}
 abbrev pub no_text : StoredText
 no_text = record { toggle = true; transmissions = 0; bytes = [] }
 
+-- The texts that go out: those of the service, or an empty one where it has none (profile).
 abbrev pub line_up : List StoredText → List StoredText
 line_up [] = no_text ∷ []
 line_up (text ∷ texts) = text ∷ texts
@@ -30,6 +31,7 @@ begun place t c = record c {
   text_segment = 0;
 }
 
+-- The text at this place begins.
 abbrev pub begun_at : List StoredText → (place : ℕ) → Carousel → Carousel
 begun_at texts place c = begun place (unwrap_or (slice_get texts place) no_text) c
 

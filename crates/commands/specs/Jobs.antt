@@ -76,6 +76,7 @@ in_full (Server site encoder host port tries timeout turns reconnects window) = 
 in_full job = job
 
 -- ---- in few words
+-- Whether the form is lines.
 abbrev pub is_lines : Form → Bool
 is_lines Lines = true
 is_lines (Words region) = false
@@ -87,26 +88,32 @@ is_device o = (is_some o.listen || (is_some o.faults || is_some o.air))
     || ((o.air_bits || (o.forever || (o.log || o.store)))
     || (not (o.idle == 0) || (not (o.seed == 0) || (not o.time || not (is_lines o.form)))))
 
+-- `answer` with the options that it had first, where no later one is given.
 abbrev pub short_answer : Form → (air : Option ℕ) → AnswerOptions → Job
 short_answer Lines None o = Answer o.site o.encoder o.sets o.services o.store
 short_answer form air o = AnswerWith o
 
+-- So `show`.
 abbrev pub short_show : Form → ShowOptions → Job
 short_show Lines o = Show
 short_show form o = ShowWith o
 
+-- So `make`.
 abbrev pub short_make : (words : Option Region) → MakeOptions → Job
 short_make None o = Make
 short_make words o = MakeWith o
 
+-- So `line`.
 abbrev pub short_line : Form → (ladder : Option LadderForm) → LineOptions → Job
 short_line Lines None o = Line o.site o.encoder o.sets o.services o.store
 short_line form ladder o = LineWith o
 
+-- So `encoder`, which then has a port.
 abbrev pub short_encoder : (later : Bool) → (port : Option ℕ) → EncoderOptions → Job
 short_encoder false (Some port) o = Encoder o.site o.encoder o.sets o.services port o.connections o.turns
 short_encoder later port o = EncoderWith o
 
+-- So `server`.
 abbrev pub short_server : (later : Bool) → ServerOptions → Job
 short_server false o =
     Server o.site o.encoder o.host o.port o.tries o.timeout o.turns o.reconnects o.window

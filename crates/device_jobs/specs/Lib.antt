@@ -1,3 +1,4 @@
 -- The definitions that the contracts of the command `encoder` as a device cite.
 pub mod Limits
 pub mod Serving
+pub mod Kept

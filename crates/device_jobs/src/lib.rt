@@ -1,7 +1,8 @@
-//! The command `encoder` as a device that runs for long.
+//! The command `encoder`: as a device that runs for long, and as an encoder whose state is kept.
 //!
 //! - [`run_device_from`]: the device over connections that come from anywhere; [`run_device_over_tcp`] over TCP, where
 //!   the job has it listen, and with what a bad line does to them where the job has rules for that.
+//! - [`run_encoder_in`]: the encoder with its state in a file where nothing is asked for that only a device does.
 //! - [`address_of`], [`fail_address`], [`fail_bind`]: where a job listens, and what is said where it can't.
 //! - [`limits_of`]: the [`Limits`] of a job.
 #![tactic(auto)]
@@ -10,9 +11,11 @@ mod connections;
 mod faults;
 mod limits;
 mod over_tcp;
+mod plain;
 mod serving;
 mod telling;
 
 pub use limits::{Limits, limits_of};
 pub use over_tcp::{address_of, fail_address, fail_bind, run_device_over_tcp};
+pub use plain::run_encoder_in;
 pub use serving::run_device_from;

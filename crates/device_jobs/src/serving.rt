@@ -58,7 +58,7 @@ pub fn run_device_from<S: OpenStates, W: Write, T: Clock, E: Write, C: Connectio
 }
 
 /// Opens the state, serves, and closes it.
-fn serve_in<S: OpenStates, W: Write, T: Clock, E: Write, C: Connections>(
+pub(crate) fn serve_in<S: OpenStates, W: Write, T: Clock, E: Write, C: Connections>(
     setup: &Setup<'_>,
     address: Address,
     limits: Limits,
@@ -69,13 +69,16 @@ fn serve_in<S: OpenStates, W: Write, T: Clock, E: Write, C: Connections>(
     connect: &mut C,
 ) -> u8
     requires { IsTrue (is_exact address) }
-    ensures { ServesIn S.EncoderKeeper.TOGETHER_MAX S.EncoderKeeper.READ_MAX S.EncoderKeeper.leaves
+    ensures serves { ServesIn S.EncoderKeeper.TOGETHER_MAX S.EncoderKeeper.READ_MAX S.EncoderKeeper.leaves
         S.EncoderKeeper.is_clean S.EncoderKeeper.saves S.EncoderKeeper.fails C.opens C.closes C.Input.remaining
         C.Output.contents limits.turns limits.connections limits.store (S.gives_encoder states.now) (S.closes_encoder
         states.now) path.now address setup.now.sets setup.now.services.now connect.old connect.new log.old log.new
         (E.contents errors.old) (E.contents errors.new) result
         ⊎ (HasNoState (S.refuses_encoder states.now) path.now (E.contents errors.old) (E.contents errors.new) result
         × (connect.new ≡ connect.old) × (log.new ≡ log.old)) }
+    ensures status { (result ≡ 0) ⊎ (result ≡ 3) }
+    ensures same { result ≡ 0 → errors.new ≡ errors.old }
+    ensures loan { log.new.loan ≡ log.old.loan }
 {
     match states.open_encoder(path, address, setup.sets, setup.services) {
         Err(fault) => fail_state(state_text(fault), errors),

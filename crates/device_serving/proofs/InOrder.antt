@@ -6,12 +6,10 @@ use Rattle.std.proofs.KnownBytes.{Appends-nil, Appends-trans}
 use Rattle.uecp_frame.specs.Findings.{Finding}
 use Rattle.uecp_encoder.specs.Target.{Step}
 use Rattle.uecp_encoder.specs.State.{EncoderState, after_finding}
-use Rattle.uecp_encoder.specs.declared.listener.Event.{Event}
-use Rattle.uecp_encoder.specs.Telling.{Tells, HearsEach}
-use Rattle.output_forms.specs.declared.form.Form.{Form}
+use Rattle.uecp_encoder.specs.Telling.{HearsEach}
 use Rattle.device_serving.specs.declared.log_lines.LogFault.{LogFault}
 use Rattle.device_serving.specs.EventLines.{event_lines}
-use Rattle.device_serving.specs.Logging.{Log, IsTimeOf, WritesOn, LogsWhere, LogsEvent}
+use Rattle.device_serving.specs.Logging.{Log, WritesOn, LogsWhere, LogsEvent}
 use Rattle.device_serving.specs.Laws.{AreEventLines, TellsInOrder}
 
 -- once a log has ended it stays so
@@ -34,11 +32,11 @@ stays_ended step e (x ∷ xs) l l' fault is (between, (event, tells, heard), res
     (ended_where l.told (λ stamp. event_lines l.form stamp event true) l between fault is heard) rest
 
 -- what one event wrote where the log goes on
-record Wrote (lines : List ℕ) (l l' : Log) : Type 0 where
+pub record Wrote (lines : List ℕ) (l l' : Log) : Type 0 where
   pub held : Appends l.held l'.held lines
   pub same : l' ≡ record l { held = l'.held }
 
-wrote_on : (old : Option LogFault) (lines : List ℕ) (l l' : Log) → l.fault ≡ old
+pub wrote_on : (old : Option LogFault) (lines : List ℕ) (l l' : Log) → l.fault ≡ old
     → ((fault : LogFault) → l'.fault ≡ Some fault → ⊥) → WritesOn old lines l l' → Wrote lines l l'
 wrote_on None lines l l' is goes_on (inl (held, same)) = record { held = held; same = same }
 wrote_on None lines l l' is goes_on (inr (fault, broken, same)) =

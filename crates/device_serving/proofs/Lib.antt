@@ -1,3 +1,5 @@
 pub mod Serving
 pub mod Outliving
 pub mod InOrder
+pub mod Endings
+pub mod Public

@@ -11,22 +11,13 @@ use Rattle.uecp_encoder.specs.ServingWith.{Ended}
 use Rattle.kept_jobs.specs.declared.stop.KeptStop.{KeptStop}
 use Rattle.kept_jobs.specs.declared.stop.KeptStop.TheVariants.{Run, StateFailed}
 use Rattle.kept_jobs.specs.Stops.{Went, stop_status}
-use Rattle.kept_jobs.specs.EncoderRun.{ended_so}
+use Rattle.device_serving.specs.DeviceRun.{ended_so}
 use Rattle.device_serving.specs.declared.log_lines.LogFault.{LogFault}
 use Rattle.device_serving.specs.declared.log_lines.LogFault.TheVariants.{OutOfMemory, Writing}
 use Rattle.device_serving.specs.DeviceRun.{Standing, ServesOne, KeepsOn, ServesAndTells, ServesNext, ServesFrom}
-use Rattle.device_serving.specs.DeviceRun.{OutlivesRun, TellsStore, TellsLast, RunsDevice, went, went_after, stop_of}
+use Rattle.device_serving.specs.DeviceRun.{OutlivesRun, TellsStore, RunsDevice, went, went_after, stop_of}
 use Rattle.device_serving.specs.Logging.{Log}
-use Rattle.device_serving.proofs.Serving.{goes, stopped}
-
-goes_not_stopped : (stop : KeptStop) → goes ≡ stopped stop → ⊥
-goes_not_stopped stop is = cc
-
-same_stop : (a b : KeptStop) → stopped a ≡ stopped b → a ≡ b
-same_stop a b e = let same : Err a ≡ Err b = e in cc
-
-same_status : (a b : KeptStop) → stop_status b ≡ 3 → stopped a ≡ stopped b → stop_status a ≡ 3
-same_status a b three is = ap stop_status (same_stop a b is) ∙ three
+use Rattle.kept_jobs.proofs.Public.{goes, goes_not_stopped, same_status, same_stop, stopped}
 
 log_status : (fault : LogFault) → stop_status (stop_of fault) ≡ 3
 log_status OutOfMemory = refl
@@ -37,7 +28,7 @@ ended_status (Ok served) stop is = absurd (goes_not_stopped stop (sym is))
 ended_status (Err (kept.Serve fault)) stop is = absurd (goes_not_stopped stop (sym is))
 ended_status (Err kept.StateFailed) stop is = same_status stop StateFailed refl is
 
-after_status : (fault : Option LogFault) (ended : Ended) (stop : KeptStop) → stopped stop ≡ went_after fault ended
+pub after_status : (fault : Option LogFault) (ended : Ended) (stop : KeptStop) → stopped stop ≡ went_after fault ended
     → stop_status stop ≡ 3
 after_status None ended stop is = ended_status ended stop is
 after_status (Some fault) ended stop is = same_status stop (stop_of fault) (log_status fault) is
@@ -47,7 +38,7 @@ went_status None stop is = absurd (goes_not_stopped stop (sym is))
 went_status (Some fault) stop is = same_status stop (stop_of fault) (log_status fault) is
 
 -- a run does not go on after a save that failed
-state_stops : (fault : Option LogFault) → goes ≡ went_after fault (Err kept.StateFailed) → ⊥
+pub state_stops : (fault : Option LogFault) → goes ≡ went_after fault (Err kept.StateFailed) → ⊥
 state_stops None is = goes_not_stopped StateFailed is
 state_stops (Some fault) is = goes_not_stopped (stop_of fault) is
 
@@ -157,7 +148,7 @@ module _ {V K C I O : Type 0} (most room : ℕ) (step : Step V) (leaves : K → 
   from_status (suc many) x x' stop (inr (why, first, is)) =
       ap stop_status (same_stop stop why is) ∙ next_status x x' why first
 
-store_status : (asked : Bool) (store : Store) (l l' : Log) (stop : KeptStop)
+pub store_status : (asked : Bool) (store : Store) (l l' : Log) (stop : KeptStop)
     → TellsStore asked store l l' (stopped stop)
     → stop_status stop ≡ 3
 store_status true store l l' stop (written, is) = went_status l'.fault stop is

@@ -6,16 +6,10 @@ use Rattle.uecp_encoder.specs.Keeping.{Kept}
 use Rattle.uecp_encoder.specs.ServingWith.{Ended}
 use Rattle.kept_jobs.specs.declared.stop.KeptStop.{KeptStop}
 use Rattle.kept_jobs.specs.Stops.{Went}
-use Rattle.kept_jobs.specs.EncoderRun.{ended_so}
+use Rattle.kept_jobs.proofs.Public.{goes, stopped}
+use Rattle.device_serving.specs.DeviceRun.{ended_so}
 use Rattle.device_serving.specs.declared.log_lines.LogFault.{LogFault}
 use Rattle.device_serving.specs.DeviceRun.{Standing, ServesNext, ServesFrom, went, went_after}
-
--- a run that goes on
-abbrev pub goes : Went
-goes = Ok tt
-
-abbrev pub stopped : KeptStop → Went
-stopped stop = Err stop
 
 pub stops_after : (fault : Option LogFault) (ended : Ended) (stop : KeptStop) → stopped stop ≡ went fault
     → stopped stop ≡ went_after fault ended

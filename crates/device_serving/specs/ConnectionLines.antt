@@ -1,12 +1,12 @@
 -- The lines of connections, as a device tells them (profile).
-use Rattle.std.specs.Prelude.{ℕ, List, [], ◌∷◌, ◌++◌, codes, Ok, Err}
+use Rattle.std.specs.Prelude.{ℕ, ◌+◌, List, [], ◌∷◌, ◌++◌, codes, Ok, Err}
 use Rattle.serde_json.specs.Data.{string}
 use Rattle.uecp_encoder.specs.declared.serving.ServeFault.TheVariants.{ReadFailed, WriteFailed, TurnsSpent}
 use Rattle.uecp_encoder.specs.declared.serving.KeptFault.TheVariants.{Serve, StateFailed}
 use Rattle.uecp_encoder.specs.ServingWith.{Ended}
 use Rattle.uecp_text.specs.Digits.{decimal_word}
 use Rattle.json_lines.specs.Objects.{Field, in_decimal, line_of}
-use Rattle.kept_jobs.specs.EncoderRun.{ended_words}
+use Rattle.uecp_jobs.specs.EncoderRun.{ending_words}
 use Rattle.output_forms.specs.declared.form.Form.{Form}
 use Rattle.output_forms.specs.declared.form.Form.TheVariants.{Lines, Words, Json}
 use Rattle.device_serving.specs.EventLines.{time_words, time_fields}
@@ -30,6 +30,12 @@ opened_lines (Words region) stamp number = opened_text stamp number
 opened_lines Json stamp number = opened_object stamp number
 
 -- ---- A connection ended.
+
+-- How it ended, in words: as without a state; or a save failed.
+abbrev pub ended_words : Ended → List ℕ
+ended_words (Ok served) = ending_words (Ok served)
+ended_words (Err (Serve fault)) = ending_words (Err fault)
+ended_words (Err StateFailed) = codes " state failed"
 
 -- The line that `encoder` writes without a log, behind this time.
 abbrev pub ended_text : (stamp : List ℕ) → (number : ℕ) → Ended → List ℕ
@@ -55,3 +61,8 @@ abbrev pub ended_lines : Form → (stamp : List ℕ) → (number : ℕ) → Ende
 ended_lines Lines stamp number ended = ended_text stamp number ended
 ended_lines (Words region) stamp number ended = ended_text stamp number ended
 ended_lines Json stamp number ended = ended_object stamp number ended
+
+-- The lines of connections that ended so, one after another, the first of which has this number; no time is told.
+abbrev pub endings_lines : Form → ℕ → List Ended → List ℕ
+endings_lines form number [] = []
+endings_lines form number (ended ∷ rest) = ended_lines form [] number ended ++ endings_lines form (number + 1) rest

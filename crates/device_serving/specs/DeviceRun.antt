@@ -1,5 +1,5 @@
 -- What an encoder does as a device, and how it ends; a reader has to believe it (profile).
-use Rattle.std.specs.Prelude.{◌≡◌, ◌⊎◌, ℕ, zero, suc, Bool, true, false, List, Option, Some, None, Result, Ok, Err}
+use Rattle.std.specs.Prelude.{◌≡◌, ◌⊎◌, ℕ, zero, suc, Bool, true, false, List, Option, Some, None, Ok, Err}
 use Rattle.uecp_frame.specs.Findings.{Closed}
 use Rattle.uecp_encoder.specs.Target.{Step}
 use Rattle.uecp_encoder.specs.State.{EncoderState}
@@ -8,9 +8,8 @@ use Rattle.uecp_encoder.specs.declared.serving.KeptFault.TheVariants as kept
 use Rattle.uecp_encoder.specs.Keeping.{Kept, kept_of, Settled, Outlives}
 use Rattle.uecp_encoder.specs.ServingWith.{Ended, StaysSettled}
 use Rattle.kept_jobs.specs.declared.stop.KeptStop.{KeptStop}
-use Rattle.kept_jobs.specs.declared.stop.KeptStop.TheVariants.{Run}
+use Rattle.kept_jobs.specs.declared.stop.KeptStop.TheVariants.{Run, StateFailed}
 use Rattle.kept_jobs.specs.Stops.{Went, Then}
-use Rattle.kept_jobs.specs.EncoderRun.{ended_so}
 use Rattle.rds_store.specs.Value.{Store}
 use Rattle.rds_store.specs.Step.{step as store_step}
 use Rattle.output_forms.specs.Forms.{store_lines}
@@ -37,7 +36,13 @@ abbrev pub went : Option LogFault → Went
 went None = Ok tt
 went (Some fault) = Err (stop_of fault)
 
--- how a run goes on after a connection that ended so: it stops where the log has ended, or a save failed
+-- how a run goes on after a connection that ended so: it stops where a save failed
+abbrev pub ended_so : Ended → Went
+ended_so (Ok served) = Ok tt
+ended_so (Err (kept.Serve fault)) = Ok tt
+ended_so (Err kept.StateFailed) = Err StateFailed
+
+-- so by its log too: it stops where that has ended
 abbrev pub went_after : Option LogFault → Ended → Went
 went_after None ended = ended_so ended
 went_after (Some fault) ended = Err (stop_of fault)

@@ -11,13 +11,14 @@ use Rattle.device_serving.specs.declared.log_lines.LogFault.TheVariants.{OutOfMe
 use Rattle.device_serving.specs.EventLines.{event_lines}
 use Rattle.device_serving.specs.ConnectionLines.{opened_lines}
 
--- A log: its form, whether it has a clock, whether it tells each event, how many connections were opened, what its
--- writer holds, as far as that tells, and why it ended, if it did.
+-- A log: its form, whether it has a clock, whether it tells each event, how many connections were opened, the name of
+-- the loan under which it has its writer, what that holds, as far as it tells, and why the log ended, if it did.
 pub record Log : Type 0 where
   pub form : Form
   pub timed : Bool
   pub told : Bool
   pub number : ℕ
+  pub loan : ℕ
   pub held : Option (List ℕ)
   pub fault : Option LogFault
 

@@ -4,8 +4,7 @@ ghost use Rattle.std.specs.List.{list_all};
 ghost use Rattle.json_lines.specs.Stamps.{is_plain};
 ghost use Rattle.json_lines.specs.Texts.{fields_text};
 ghost use Rattle.uecp_text.specs.Written.{Adds};
-ghost use Rattle.kept_jobs.specs.EncoderRun.{ended_words};
-ghost use Rattle.device_serving.specs.ConnectionLines.{opened_lines, opened_text, opened_object};
+ghost use Rattle.device_serving.specs.ConnectionLines.{opened_lines, opened_text, opened_object, ended_words};
 ghost use Rattle.device_serving.specs.ConnectionLines.{ended_lines, ended_text, ended_object, ended_fields};
 ghost use Rattle.device_serving.specs.ConnectionLines.{number_fields};
 
@@ -13,6 +12,7 @@ use crate::event_lines::{put_time, put_time_field};
 use json_lines::{close_line, number_field, open_line, word_field};
 use output_forms::Form;
 use uecp_encoder::{KeptFault, ServeFault, Served};
+use uecp_jobs::put_ending;
 use uecp_text::Output;
 
 /// Puts down that the connection of this number was opened.
@@ -90,16 +90,8 @@ fn put_words(ended: Result<Served, KeptFault>, output: &mut Output)
     ensures { Adds output.old output.new (ended_words ended) }
 {
     match ended {
-        Ok(served) => {
-            output.text(" replies");
-            output.decimal(served.replies as usize);
-        }
-        Err(KeptFault::Serve(ServeFault::ReadFailed)) => output.text(" read failed"),
-        Err(KeptFault::Serve(ServeFault::WriteFailed { written })) => {
-            output.text(" write failed");
-            output.decimal(written as usize);
-        }
-        Err(KeptFault::Serve(ServeFault::TurnsSpent)) => output.text(" turns spent"),
+        Ok(served) => put_ending(Ok(served), output),
+        Err(KeptFault::Serve(fault)) => put_ending(Err(fault), output),
         Err(KeptFault::StateFailed) => output.text(" state failed"),
     }
 }

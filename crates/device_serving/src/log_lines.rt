@@ -39,7 +39,7 @@ pub struct LogLines<'a, W: Write, C: Clock> {
     events: bool,
     number: u64,
     fault: Option<LogFault>,
-    writer: W,
+    writer: &'a mut W,
 }
 
 impl<'a, W: Write, C: Clock> Model for LogLines<'a, W, C> {
@@ -53,7 +53,8 @@ impl<'a, W: Write, C: Clock> Model for LogLines<'a, W, C> {
       timed = is_some l.clock;
       told = l.events;
       number = l.number;
-      held = W.contents l.writer;
+      loan = l.writer.ghost_name;
+      held = W.contents l.writer.now;
       fault = l.fault;
     } };
 }
@@ -66,14 +67,15 @@ impl<'a, W: Write, C: Clock> LogLines<'a, W, C> {
         form: Form,
         clock: Option<&'a C>,
         events: bool,
-        writer: W,
+        writer: &'a mut W,
     ) -> LogLines<'a, W, C>
         ensures { result ≡ record {
           form = form;
           timed = is_some clock.entry;
           told = events;
           number = 0;
-          held = W.contents writer;
+          loan = writer.entry.ghost_name;
+          held = W.contents writer.old;
           fault = None;
         } }
     {
@@ -96,8 +98,9 @@ impl<'a, W: Write, C: Clock> LogLines<'a, W, C> {
     }
 
     /// The writer back.
-    pub fn into_inner(self) -> W
-        ensures { W.contents result ≡ self.entry.held }
+    pub fn finish(self) -> &'a mut W
+        ensures same { result.ghost_name ≡ self.entry.loan }
+        ensures held { W.contents result.now ≡ self.entry.held }
     {
         let LogLines {
             alloc: _,
@@ -134,7 +137,7 @@ impl<'a, W: Write, C: Clock> LogLines<'a, W, C> {
             self.fault = Some(LogFault::OutOfMemory);
             return;
         }
-        if output.write_out(&mut self.writer).is_err() {
+        if output.write_out(&mut *self.writer).is_err() {
             self.fault = Some(LogFault::Writing);
         }
     }

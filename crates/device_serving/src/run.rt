@@ -6,9 +6,8 @@ ghost use Rattle.rds_store.specs.Step.{step};
 ghost use Rattle.uecp_encoder.specs.Keeping.{Kept, Settled};
 ghost use Rattle.kept_jobs.specs.declared.stop.KeptStop.{KeptStop};
 ghost use Rattle.kept_jobs.specs.Stops.{stop_lines};
-ghost use Rattle.kept_jobs.specs.EncoderRun.{ended_so};
 ghost use Rattle.device_serving.specs.DeviceRun.{ServesNext, ServesFrom, RunsDevice, OutlivesRun};
-ghost use Rattle.device_serving.specs.DeviceRun.{TellsStore, went};
+ghost use Rattle.device_serving.specs.DeviceRun.{TellsStore, went, went_after, ended_so};
 
 use crate::log_lines::{LogFault, LogLines};
 use kept_jobs::{KeptStop, fail_run};
@@ -27,7 +26,7 @@ use uecp_text::RunFault;
 /// What is kept at the start is to be this encoder: a new one is saved first.
 ///
 /// ```
-/// let mut log = LogLines::new(alloc, Form::Words(Region::Europe), Some(&rt), true, output);
+/// let mut log = LogLines::new(alloc, Form::Words(Region::Europe), Some(&rt), true, &mut output);
 /// let status = run_device(
 ///     u64::MAX, 100_000, true, &mut encoder, &mut NotSaved, &mut log, &mut errors, &mut listening,
 /// );
@@ -82,6 +81,7 @@ pub fn run_device<K: KeepEncoder<RdsStore>, W: Write, Clk: Clock, E: Write, C: C
           log = log.new;
         }) left }
     ensures clean { K.is_clean keeper.new → K.is_clean keeper.old }
+    ensures loan { log.new.loan ≡ log.old.loan }
 {
     match serve_and_store(connections, turns, store, encoder, keeper, log, connect) {
         Ok(()) => 0,
@@ -116,8 +116,8 @@ fn serve_and_store<K: KeepEncoder<RdsStore>, W: Write, Clk: Clock, C: Connection
     tell_last(store, encoder, log)
 }
 
-/// Tells the lines of the store where that is asked for.
-fn tell_last<W: Write, Clk: Clock>(
+/// Tells the lines of the store where that is asked for, and says whether the run goes on.
+pub fn tell_last<W: Write, Clk: Clock>(
     store: bool,
     encoder: &Encoder<RdsStore>,
     log: &mut LogLines<'_, W, Clk>,
@@ -194,10 +194,20 @@ fn serve_next<T: Target, K: KeepEncoder<T>, W: Write, Clk: Clock, C: Connections
         None => Err(KeptStop::Run(RunFault::Listening)),
         Some(ended) => {
             log.tell_ended(ended);
-            went(log)?;
-            ended_so(ended)
+            went_after(log, ended)
         }
     }
+}
+
+/// How a run goes on after a connection that ended so: it stops where the log has ended, or a save failed.
+pub fn went_after<W: Write, Clk: Clock>(
+    log: &LogLines<'_, W, Clk>,
+    ended: Result<Served, KeptFault>,
+) -> Result<(), KeptStop>
+    ensures { result ≡ went_after log.now.fault ended }
+{
+    went(log)?;
+    ended_so(ended)
 }
 
 /// How a run goes on after a connection that ended so: it stops where a save failed.

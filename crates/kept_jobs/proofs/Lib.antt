@@ -1,4 +1,3 @@
-pub mod Serving
 pub mod Outliving
 pub mod Lines
 pub mod Sending

@@ -1,5 +1,4 @@
 -- The definitions that the contracts of jobs with kept state cite.
 pub mod Stops
-pub mod EncoderRun
 pub mod ServerRun
 pub mod ServerKept

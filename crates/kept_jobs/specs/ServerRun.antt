@@ -75,6 +75,7 @@ pub record Standing (S K : Type 0) : Type 0 where
 abbrev pub anew : ServerState → ServerState
 anew s = idle_at s.address
 
+-- Its progress then: the encoder is to be joined.
 abbrev pub not_joined : Progress → Progress
 not_joined progress = record progress { joined = false }
 

@@ -67,6 +67,7 @@ abbrev pub SaysOf : Given → (number : ℕ) → (said said' : Option (List ℕ)
 SaysOf (Refused fault) number said said' = Begins said said' (error_lines (fault_at number fault))
 SaysOf given number said said' = said' ≡ said
 
+-- Whether the line was refused.
 abbrev pub is_refusal : Given → Bool
 is_refusal (Refused fault) = true
 is_refusal given = false

@@ -11,7 +11,7 @@ use Rattle.uecp_encoder.specs.Keeping.{Kept, Settled}
 use Rattle.kept_jobs.specs.declared.stop.KeptStop.{KeptStop}
 use Rattle.kept_jobs.specs.Stops.{stop_lines}
 use Rattle.state_files.specs.declared.fault.StateFault.{StateFault}
-use Rattle.state_jobs.specs.EncoderJob.{IsOpened}
+use Rattle.state_jobs.specs.Opened.{IsOpened}
 use Rattle.state_jobs.specs.Texts.{IsClosed}
 use Rattle.device_serving.specs.Logging.{Log}
 use Rattle.uecp_encoder.specs.declared.keep.NotSaved.{NotSaved}

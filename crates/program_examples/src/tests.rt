@@ -3,3 +3,4 @@ mod asserting;
 mod faults;
 mod jobs;
 mod phrases;
+mod words;

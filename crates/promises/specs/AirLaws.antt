@@ -18,7 +18,7 @@ up_to_return [] = []
 up_to_return (byte ∷ bytes) = if byte == 0x0D then [] else byte ∷ up_to_return bytes
 
 -- ---- A service that stays is shown.
--- All but the text.
+-- The receiver shows all of the service but its text.
 pub record Shows (s : ServiceData) (r : Receiver) : Type 0 where
   pub pi : r.pi ≡ Some s.pi
   pub tp : r.tp ≡ Some s.tp
@@ -91,7 +91,7 @@ NoTextIsMixed =
     → IfSome (text_shown (after vs c r)) (λ shown. shown ≡ up_to_return (carousel_after vs c).text)
 
 -- ---- Nothing false is shown.
--- What it shows of each thing is the service's, or nothing.
+-- What a receiver shows of each thing is the service's, or nothing.
 pub record ShowsNothingFalse (s : ServiceData) (t : StoredText) (r : Receiver) : Type 0 where
   pub pi : IfSome r.pi (λ pi. pi ≡ s.pi)
   pub tp : IfSome r.tp (λ tp. tp ≡ s.tp)

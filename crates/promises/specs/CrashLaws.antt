@@ -140,7 +140,7 @@ pub record LeavesACut {V : Type 0} (step : Step V) (taken : Taken V) (address : 
       → (saved : Bool)
       × ((run_on_disks step taken address s (CutOff Take 0 saved ∷ [])).encoder_file ≡ left)
 
--- From every station.
+-- So it is from every station whose file holds its encoder.
 abbrev pub WhatIsLeftIsACut : {V : Type 0} → Step V → Taken V → Type 0
 WhatIsLeftIsACut {V} step taken = (address : ℕ) (s : Station V) → s.encoder_file ≡ encoder_kept s.world.encoder
     → LeavesACut step taken address s
@@ -169,7 +169,7 @@ pub record LeavesAFile {V C I O : Type 0} (step : Step V) (taken : Taken V) (add
       → OutlivesSettling progress old.sender.server new.sender.server left
       → (left ≡ s.server_file) ⊎ (left ≡ (server_saves after).server_file)
 
--- From whatever events and crashes have led to.
+-- So it is from whatever events and crashes have led to.
 abbrev pub WhatIsLeftIsAFile : {V : Type 0} → (C I O : Type 0) → Step V → Taken V → Type 0
 WhatIsLeftIsAFile {V} C I O step taken =
     (e : EncoderState V) → IsReady e.ring → e.part ≡ Closed → (events : List DiskEvent)

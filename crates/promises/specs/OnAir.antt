@@ -11,10 +11,12 @@ use Rattle.carousel.specs.Next.{next_group}
 use Rattle.carousel.specs.Service.{main_service}
 
 -- ---- What a store has.
+-- A text as each store has it: at most 64 bytes (SPB 490, RadioText).
 pub record IsText (t : StoredText) : Type 0 where
   pub short : length t.bytes ≤ 64
   pub are_bytes : All (λ byte. byte < 256) t.bytes
 
+-- A service as each store has it: PI below 2^16, a name of eight bytes, PTY at most 1F, such texts.
 pub record IsService (s : ServiceData) : Type 0 where
   pub pi : s.pi < 2 ^ 16
   pub eight : length s.ps ≡ 8
@@ -47,7 +49,7 @@ abbrev pub after : List Store → Carousel → Receiver → Receiver
 after [] c r = r
 after (v ∷ vs) c r = after vs (next_group v c).1 (hears (came (blocks (next_group v c).0)) r)
 
--- Where the carousel stands then.
+-- Where the carousel stands after a group for each of these stores.
 abbrev pub carousel_after : List Store → Carousel → Carousel
 carousel_after [] c = c
 carousel_after (v ∷ vs) c = carousel_after vs (next_group v c).1

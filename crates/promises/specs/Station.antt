@@ -71,7 +71,7 @@ world_after step taken address w event = record {
   once = after step taken w.once event;
 }
 
--- The same with the files.
+-- The station after an event of the line that is not refused: the ends as above, and their files.
 abbrev pub station_after : {V : Type 0} → Step V → Taken V → ℕ → Station V → Event → Station V
 station_after step taken address s event = record {
   world = world_after step taken address s.world event;
@@ -142,7 +142,7 @@ happens_on_disks step taken address s event = if is_none (refusal_of s.world.onc
     then station_after step taken address s event
     else s
 
--- What an event leads to.
+-- The station after an event, a crash or a save.
 abbrev pub after_disk_event : {V : Type 0} → Step V → Taken V → ℕ → Station V → DiskEvent → Station V
 after_disk_event step taken address s (Happens event) = happens_on_disks step taken address s event
 after_disk_event step taken address s (CutOff event came saved) = if is_none (refusal_of s.world.once event)

@@ -8,6 +8,7 @@ pub data Damage : Type 0 where
   TwoBits : (i j : ℕ) → Damage
   Burst : (burst i : ℕ) → Damage
 
+-- Damage within the 26 bits of a block: a bit below 26; two, in order; a burst within ten bits in a row.
 abbrev pub IsDamage : Damage → Type 0
 IsDamage NoBit = ⊤
 IsDamage (OneBit i) = i < 26
@@ -28,6 +29,7 @@ pub record GroupDamage : Type 0 where
   pub block3 : Damage
   pub block4 : Damage
 
+-- So it is of each block.
 pub record IsGroupDamage (d : GroupDamage) : Type 0 where
   pub block1 : IsDamage d.block1
   pub block2 : IsDamage d.block2

@@ -9,6 +9,7 @@ use Rattle.rds_groups.specs.declared.heard.HeardGroup.{HeardGroup}
 abbrev pub Heard : Type 0
 Heard = ℕ → Option ℕ
 
+-- No character was heard.
 abbrev pub nothing : Heard
 nothing place = None
 
@@ -74,6 +75,7 @@ abbrev pub text_placed : (is_short : Bool) → (segment : ℕ) → (block3 block
 text_placed true segment block3 block4 heard = placed segment block4 heard
 text_placed false segment block3 block4 heard = placed (2 * segment + 1) block4 (placed (2 * segment) block3 heard)
 
+-- The two flags are the same.
 abbrev pub is_same : Bool → Bool → Bool
 is_same true b = b
 is_same false b = not b
@@ -121,10 +123,12 @@ abbrev pub hears : HeardGroup → Receiver → Receiver
 hears g r = told g.block2 g (identified g.block1 r)
 
 -- ---- What is shown of a text.
+-- A character before others; none where it, or one of them, was not heard.
 abbrev pub before : Option ℕ → Option (List ℕ) → Option (List ℕ)
 before None shown = None
 before (Some character) shown = option_map (λ others. character ∷ others) shown
 
+-- The character was heard, and is 0D.
 abbrev pub is_return : Option ℕ → Bool
 is_return None = false
 is_return (Some character) = character == 0x0D

@@ -62,7 +62,7 @@ abbrev pub progress_fields : (taken outstanding : ℕ) → List Field
 progress_fields taken outstanding =
     (codes "taken", in_decimal taken) ∷ (codes "outstanding", in_decimal outstanding) ∷ []
 
--- Their line.
+-- The line of how many messages were taken and how many wait.
 abbrev pub progress_line : (taken outstanding : ℕ) → List ℕ
 progress_line taken outstanding = line_of (codes "progress") (progress_fields taken outstanding)
 

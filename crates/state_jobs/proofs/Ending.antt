@@ -4,7 +4,6 @@ use Rattle.std.specs.Prelude.{Option, Ok, Err}
 use Rattle.uecp_text.specs.Written.{Begins}
 use Rattle.kept_jobs.specs.Stops.{Went, state_line}
 use Rattle.kept_jobs.specs.ServerRun.{IsTold}
-use Rattle.state_files.specs.declared.fault.StateFault.{StateFault}
 use Rattle.state_jobs.specs.Texts.{state_text, Closed, IsClosed, unclosed_line}
 use Rattle.state_jobs.specs.Kept.{SaysMore, SaysWhy}
 use Rattle.state_jobs.specs.ServerJob.{status_so}
@@ -23,16 +22,6 @@ pub closed_well : (path : List ℕ) (status : ℕ) (closed : Closed) (status' : 
     → (closed ≡ Ok tt) × (status ≡ status') × (told' ≡ told)
 closed_well path status (Ok done) status' told told' never is = (refl, sym is.0, is.1)
 closed_well path status (Err fault) status' told told' never is = absurd (never is.0)
-
--- where it is 3, the run stopped, or it was done and the close gave a fault
-pub closed_badly : (path : List ℕ) (status : ℕ) (closed : Closed) (told told' : Option (List ℕ))
-    → (status ≡ 0) ⊎ (status ≡ 3) → IsClosed path status closed 3 told told'
-    → (status ≡ 3) ⊎ ((fault : StateFault) × (status ≡ 0) × (closed ≡ Err fault)
-    × Begins told told' (state_line (state_text fault)))
-closed_badly path status closed told told' (inr was) is = inl was
-closed_badly path status (Ok done) told told' (inl was) is = absurd (let three : 3 ≡ 0 = is.0 ∙ was in cc)
-closed_badly path status (Err fault) told told' (inl was) is =
-    inr (fault, was, refl, subst (λ s. Begins told told' (unclosed_line path s fault)) was is.1)
 
 pub says_more : (path : List ℕ) (status : ℕ) (closed : Closed) (status' : ℕ) (told told' : Option (List ℕ))
     → IsClosed path status closed status' told told' → SaysMore path told told'

@@ -2,4 +2,4 @@
 pub mod Stopping
 pub mod Ending
 pub mod Walks
-pub mod Kept
+pub mod Public

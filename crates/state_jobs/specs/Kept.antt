@@ -1,29 +1,16 @@
 -- What comes of a job with its state in a file, whatever its connections are (profile).
-use Rattle.std.specs.Prelude.{◌≡◌, ◌⊎◌, ℕ, ◌+◌, List, [], ◌∷◌, ◌++◌, length, Option}
-use Rattle.std.specs.Io.KnownBytes.{Appends}
-use Rattle.rds_store.specs.Value.{Store}
-use Rattle.uecp_encoder.specs.State.{EncoderState}
+use Rattle.std.specs.Prelude.{◌≡◌, ◌⊎◌, ℕ, List, Option}
 use Rattle.uecp_link.specs.Server.{ServerState}
 use Rattle.uecp_text.specs.Written.{Begins}
-use Rattle.commands.specs.declared.encoder_options.EncoderOptions.{EncoderOptions}
 use Rattle.commands.specs.declared.server_options.ServerOptions.{ServerOptions}
 use Rattle.uecp_jobs.specs.Setups.{address_of}
-use Rattle.uecp_encoder.specs.ServingWith.{Ended}
-use Rattle.uecp_encoder.specs.Keeping as serving
 use Rattle.uecp_net.specs.declared.saved.keep.Progress.{Progress}
 use Rattle.uecp_net.specs.Keeping as sending
 use Rattle.kept_jobs.specs.declared.stop.KeptStop.{KeptStop}
 use Rattle.kept_jobs.specs.Stops.{stop_lines, state_line}
-use Rattle.kept_jobs.specs.EncoderRun.{ended_line}
 use Rattle.kept_jobs.specs.ServerKept.{HasTakenInput}
 use Rattle.state_files.specs.declared.fault.StateFault.{StateFault}
 use Rattle.state_jobs.specs.Texts.{state_text, unclosed_line}
-use Rattle.state_jobs.specs.EncoderJob.{IsOpened}
-
--- the lines of connections, the first of which has this number
-abbrev pub ended_lines : ℕ → List Ended → List ℕ
-ended_lines number [] = []
-ended_lines number (ended ∷ rest) = ended_line number ended ++ ended_lines (number + 1) rest
 
 -- Nothing more was said; or what became of the file at this path, or that was begun to be said.
 abbrev pub SaysMore : (path : List ℕ) → (told told' : Option (List ℕ)) → Type 0
@@ -36,29 +23,6 @@ abbrev pub SaysWhy : (path : List ℕ) → (told told' : Option (List ℕ)) → 
 SaysWhy path told told' = ((fault : StateFault) × Begins told told' (state_line (state_text fault)))
     ⊎ ((stop : KeptStop) × (between : Option (List ℕ)) × Begins told between (stop_lines stop)
     × SaysMore path between told')
-
--- The encoder in the state at the path, which is the one that is asked for, served so many connections, each has its
--- line, and whatever a crash leaves then is the encoder as the last one left it.
-pub record ServedKept {K : Type 0} (gives : (path : List ℕ) → EncoderState Store → K → Type 0)
-    (leaves : K → serving.Kept Store → Type 0) (is_clean : K → Type 0) (path : List ℕ) (address sets : ℕ)
-    (services : List ℕ) (connections : ℕ) (held held' : Option (List ℕ)) : Type 0 where
-  pub encoder : EncoderState Store
-  pub keeper : K
-  pub after : EncoderState Store
-  pub keeper_after : K
-  pub endings : List Ended
-  pub is_opened : IsOpened (gives path) leaves is_clean address sets services encoder keeper
-  pub count : length endings ≡ connections
-  pub told : Appends held held' (ended_lines 1 endings)
-  pub settled : is_clean keeper_after → serving.Settled (leaves keeper_after) after
-  pub clean : is_clean keeper_after → is_clean keeper
-
--- so, for these options
-abbrev pub HasServedKept : {K : Type 0} → (gives : (path : List ℕ) → EncoderState Store → K → Type 0)
-    → (leaves : K → serving.Kept Store → Type 0) → (is_clean : K → Type 0) → (path : List ℕ)
-    → EncoderOptions → (held held' : Option (List ℕ)) → Type 0
-HasServedKept gives leaves is_clean path o held held' =
-    ServedKept gives leaves is_clean path (address_of o.site o.encoder) o.sets o.services.items o.connections held held'
 
 -- The messages of the input were sent from where the server in the state at the path had come: whatever a crash leaves
 -- then has taken them, or those before the line that is refused, none of them waits, nor any that waited before.
@@ -76,7 +40,7 @@ pub record SentKept {K : Type 0} (gives : (path : List ℕ) → ServerState → 
       → HasTakenInput unread unread' progress left
   pub clean : is_clean keeper_after → is_clean keeper
 
--- so, for these options
+-- The messages of the input were sent so, with these options of the server.
 abbrev pub HasSentKept : {K : Type 0} → (gives : (path : List ℕ) → ServerState → Progress → K → Type 0)
     → (leaves : K → sending.KeptServer → Type 0) → (is_clean : K → Type 0) → (path : List ℕ)
     → ServerOptions → (unread unread' : Option (List ℕ)) → Type 0

@@ -1,6 +1,6 @@
 -- The definitions that the contracts of jobs with their state in a file cite.
 pub mod Texts
 pub mod StateLines
-pub mod EncoderJob
+pub mod Opened
 pub mod ServerJob
 pub mod Kept

@@ -64,7 +64,7 @@ unfoldable pub server_lines : ServerState → Progress → List ℕ
 server_lines s progress = server_line s.address progress.joined ++ taken_line progress.taken (length (waiting s))
     ++ last_line (Some s.last) ++ flat_map held_line s.held
 
--- what was found
+-- The lines of the end that was found; `empty` where none was.
 abbrev pub found_lines : Found → List ℕ
 found_lines (found.Encoder e) = encoder_lines e
 found_lines (found.Server s progress) = server_lines s progress

@@ -6,7 +6,7 @@ use Rattle.kept_jobs.specs.Stops.{state_line}
 use Rattle.state_files.specs.declared.fault.StateFault.{StateFault}
 use Rattle.state_files.specs.declared.fault.StateFault.TheVariants as state
 
--- the words of it
+-- What is said of a state that can't be had.
 abbrev pub state_text : StateFault → List ℕ
 state_text state.InUse = codes "state in use"
 state_text state.NotOurs = codes "state is not ours"

@@ -1,14 +1,12 @@
-//! The jobs `encoder` and `server` with their state in a file, and what is in such a file: from the options to the exit
-//! status, for every reader, writer, source of connections and place where states are kept.
+//! The job `server` with its state in a file, and what is in such a file: from the options to the exit status, for
+//! every reader, writer, source of connections and place where states are kept.
 //!
-//! [`run_encoder_in`] and [`run_server_in`] open the state, go on from it, and close it; [`tell_state`] tells what is
-//! in one. The services and the address are judged before a file is opened, and a state that is refused is not
-//! overwritten.
+//! [`run_server_in`] opens the state, goes on from it, and closes it; [`tell_state`] tells what is in one. The address
+//! is judged before a file is opened, and a state that is refused is not overwritten.
 //!
 //! Where states are kept is the matter of an [`OpenStates`]: files, each at its path, for [`StatesInFiles`].
 #![tactic(auto)]
 
-mod encoder_job;
 mod files;
 mod open_states;
 mod server_job;
@@ -16,7 +14,6 @@ mod state_lines;
 mod telling;
 mod texts;
 
-pub use encoder_job::run_encoder_in;
 pub use files::{StatesInFiles, StoredEncoder, StoredServer};
 pub use open_states::OpenStates;
 pub use server_job::run_server_in;

@@ -45,7 +45,7 @@ pub record IsWaiting (g : Group) : Type 0 where
 abbrev pub is_place : Store → (place : ℕ × ℕ) → Bool
 is_place v place = list_any (λ number. place.1 == number) v.services && (nat_le 1 place.0 && nat_le place.0 v.sets)
 
--- A store that can be. (profile)
+-- A store that an encoder can have: its sets, services, texts and groups within their limits (profile).
 pub record IsStation (v : Store) : Type 0 where
   -- it has at most eight sets
   pub few_sets : v.sets ≤ 8

@@ -17,7 +17,10 @@ use Rattle.state_files.specs.declared.fault.StateFault.{StateFault}
 use Rattle.state_files.specs.declared.reading.Found.{Found}
 use Rattle.state_jobs.specs.Texts.{state_text}
 use Rattle.state_jobs.specs.StateLines.{found_lines}
-use Rattle.state_jobs.specs.Kept.{HasServedKept, HasSentKept, SaysWhy, ended_lines}
+use Rattle.state_jobs.specs.Kept.{HasSentKept, SaysWhy}
+use Rattle.device_serving.specs.ConnectionLines.{endings_lines}
+use Rattle.device_jobs.specs.Kept.{HasServedKept}
+use Rattle.output_forms.specs.declared.form.Form.TheVariants.{Lines}
 use Rattle.uecp_encoder.specs.ServingWith.{Ended}
 use Rattle.uecp_jobs.specs.ServerRun.{AreAcknowledged, AreAcknowledgedBefore, AreNotAcknowledged}
 use Rattle.uecp_net.specs.declared.tcp.DialFault.{DialFault}
@@ -30,7 +33,7 @@ use Rattle.uecp_cli.specs.Unreached.{SaysUnreached}
 -- Its connections were served, and each has its line.
 abbrev pub HasServedLines : EncoderOptions → (held held' : Option (List ℕ)) → Type 0
 HasServedLines o held held' =
-    (endings : List Ended) × (length endings ≡ o.connections) × Appends held held' (ended_lines 1 endings)
+    (endings : List Ended) × (length endings ≡ o.connections) × Appends held held' (endings_lines Lines 1 endings)
 
 -- Why its run stopped was said, or begun to be said, with what became of the file of its state, if it has one.
 abbrev pub SaysWhyOf : EncoderOptions → (told told' : Option (List ℕ)) → Type 0

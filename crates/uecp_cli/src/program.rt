@@ -27,7 +27,7 @@ use commands::{
     ServerOptions, is_device,
 };
 use conformance_command::run_conformance_over_tcp;
-use device_jobs::run_device_over_tcp;
+use device_jobs::{run_device_over_tcp, run_encoder_in};
 use ladders::{LadderJob, run_ladder};
 use line_feed::{Arrival, LineFeed};
 use live_edges::{Polled, Watch};
@@ -35,7 +35,7 @@ use on_air_jobs::run_on_air_over_tcp;
 use page_server::run_page_over_tcp;
 use receive_command::{run_receive, run_receive_bits};
 use send_commands::run_send_over_tcp;
-use state_jobs::{OpenStates, run_encoder_in, run_server_in, tell_state};
+use state_jobs::{OpenStates, run_server_in, tell_state};
 use std::alloc::Global;
 use std::fs::Files;
 use std::io::{Read, Write};

@@ -61,6 +61,7 @@ ByFull (LineWith job) tells =
     (closing_lines job.form job.store)
 ByFull job tells = ⊥
 
+-- Told of a job by its command, whether it is short or in full.
 abbrev pub ByCommand : Job → ((V : Type 0) → Meaning V → (start : V) → (closing : V → List ℕ) → Type 0) → Type 0
 ByCommand job tells = ByFull (in_full job) tells
 
@@ -84,6 +85,7 @@ IsDescribedFull (EncoderWith job) = IsSetup (options job.site job.encoder job.se
 IsDescribedFull (ServerWith job) = IsOneEncoder job.site job.encoder
 IsDescribedFull job = Unit {0}
 
+-- So of any job, short or in full.
 abbrev pub IsDescribed : Job → Type 0
 IsDescribed job = IsDescribedFull (in_full job)
 
@@ -95,6 +97,7 @@ RefusesFull (EncoderWith job) fault = RefusesSetup (options job.site job.encoder
 RefusesFull (ServerWith job) fault = RefusesAddress job.site job.encoder fault
 RefusesFull job fault = ⊥
 
+-- So of any job, short or in full, that describes none.
 abbrev pub RefusesJob : Job → RunFault → Type 0
 RefusesJob job fault = RefusesFull (in_full job) fault
 

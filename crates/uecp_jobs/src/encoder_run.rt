@@ -8,7 +8,7 @@ ghost use Rattle.uecp_text.specs.Written.{Adds, Begins};
 ghost use Rattle.uecp_net.specs.Sessions.{Outcome, Sessions};
 ghost use Rattle.uecp_jobs.specs.Jobs.{RefusesJob, IsUndescribed};
 ghost use Rattle.uecp_jobs.specs.EncoderRun.{IsEncoder, ServedAll, Serves, HasNotServedAll, connection_line};
-ghost use Rattle.uecp_jobs.specs.EncoderRun.{connection_lines};
+ghost use Rattle.uecp_jobs.specs.EncoderRun.{connection_lines, ending_words};
 
 use crate::run::fail;
 use crate::setup::{Setup, new_encoder};
@@ -137,6 +137,18 @@ fn put_connection(number: u32, outcome: Result<Served, ServeFault>, output: &mut
 {
     output.text("connection");
     output.decimal(number as usize);
+    put_ending(outcome, output);
+    output.end();
+}
+
+/// Puts down how a connection ended, in words.
+///
+/// ```
+/// put_ending(Err(ServeFault::TurnsSpent), &mut output); // " turns spent"
+/// ```
+pub fn put_ending(outcome: Result<Served, ServeFault>, output: &mut Output)
+    ensures { Adds output.old output.new (ending_words outcome) }
+{
     match outcome {
         Ok(served) => {
             output.text(" replies");
@@ -149,5 +161,4 @@ fn put_connection(number: u32, outcome: Result<Served, ServeFault>, output: &mut
         }
         Err(ServeFault::TurnsSpent) => output.text(" turns spent"),
     }
-    output.end();
 }

@@ -24,7 +24,7 @@ mod showing;
 
 pub use batches::{fault_of, put_settled};
 pub use commands::Job;
-pub use encoder_run::run_encoder_over;
+pub use encoder_run::{put_ending, run_encoder_over};
 pub use event_script::{line_event, named_message};
 pub use messages::{Messages, messages_of};
 pub use opened::{run_encoder, run_server};

@@ -1,5 +1,5 @@
 -- What tokens are not.
-use Rattle.std.proofs.Common.{◌≡◌, ◌≢◌, ℕ, ◌-◌, ◌≤◌, ◌↔◌, Bool, IsTrue, List, [], ◌∷◌, ◌++◌, length, replicate, get_or}
+use Rattle.std.proofs.Common.{◌≡◌, ◌≢◌, ℕ, ◌-◌, ◌≤◌, List, [], ◌∷◌, ◌++◌, length, replicate, get_or}
 use Rattle.std.proofs.Common.{codes, arith, Some, None, Option, IfNone, IfSome, inl, inr, refl, sym, ◌∙◌, ap, subst}
 use Rattle.rds_text.specs.declared.programme_type.Region.{Region}
 use Rattle.rds_text.specs.ProgrammeTypes.{HasName}
@@ -10,7 +10,7 @@ use Rattle.uecp_phrases.specs.Phrases.{Choices, Make, no_choice}
 use Rattle.uecp_elements.specs.Grammar.{Part, NoText, Text}
 use Rattle.phrase_tokens.specs.View.{token_of, tokens_of}
 use Rattle.phrase_tokens.specs.declared.token.Token.{Token as Held}
-use Rattle.uecp_phrases.specs.Reading.{BeginWith, IsNoneBefore, IsTextOfBits, IsChosenText, traffic_word}
+use Rattle.uecp_phrases.specs.Reading.{IsTextOfBits, IsChosenText, traffic_word}
 use Rattle.uecp_phrases.specs.declared.traffic_name.TrafficName.{TrafficName}
 use Rattle.uecp_phrases.specs.declared.traffic_name.TrafficName.TheVariants as traffic
 
@@ -55,19 +55,6 @@ selected_alone tokens word is none dsn (other, same, named) =
     let one : other ≡ word = cc in
     none dsn (subst (λ w. IsSet w dsn) one named)
 
--- No number is said behind a word where the second word names none.
-pub none_behind : (word : List ℕ) (Named : List ℕ → ℕ → Type 0) (tokens rest : List Token) (first : Token)
-    (name : List ℕ)
-    → BeginWith word tokens → tokens ≡ first ∷ Word name ∷ rest → ((number : ℕ) → Named name number → ⊥)
-    → IsNoneBefore word Named tokens
-none_behind word Named tokens rest first name begins is none = (
-  begins,
-  λ other number more same named.
-      let e : first ∷ Word name ∷ rest ≡ Word word ∷ Word other ∷ more = sym is ∙ same in
-      let one : other ≡ name = cc in
-      none number (subst (λ w. Named w number) one named),
-)
-
 -- A lone word is a traffic word or no traffic flags.
 pub traffic_alone : (tokens : List Token) (word : List ℕ) → tokens ≡ Word word ∷ []
     → ((raw : ℕ) → IsTrafficWord word raw → ⊥) → (raw : ℕ) → IsTraffic tokens raw → ⊥
@@ -87,17 +74,6 @@ traffic_by_bits tokens word bits raw (inr b) = bits raw b
 pub none_is : {A : Type 0} (o : Option A) (P : Type 0) → o ≡ None → P → IfNone o P
 none_is None P is p = p
 none_is (Some a) P is p = let e : Some a ≡ None = is in cc e
-
--- The tokens begin with a word where the first is that word.
-pub begins_where : (tokens rest : List Token) (first : Token) (word : List ℕ) (found : Bool) → tokens ≡ first ∷ rest
-    → IsTrue found ↔ (first ≡ Word word) → IsTrue found ↔ BeginWith word tokens
-begins_where tokens rest first word found is (there, back) = (
-  λ h. (rest, is ∙ ap (λ t. t ∷ rest) (there h)),
-  λ (more, same).
-      let e : first ∷ rest ≡ Word word ∷ more = sym is ∙ same in
-      let one : first ≡ Word word = cc in
-      back one,
-)
 
 -- At most eight bytes, filled with spaces.
 pub filled : (t : List ℕ) → length t ≤ 8

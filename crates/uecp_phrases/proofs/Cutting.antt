@@ -88,7 +88,7 @@ within_here all rest place before =
 
 -- ---- Phrases one after another.
 
-empty_no_phrase : (region : Region) (bytes : List ℕ) → IsPhrase region [] bytes → ⊥
+pub empty_no_phrase : (region : Region) (bytes : List ℕ) → IsPhrase region [] bytes → ⊥
 empty_no_phrase region bytes p = by_place p.set p.service p.whole
   where
     by_place : (set service : Option (List ℕ))

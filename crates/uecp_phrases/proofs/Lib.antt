@@ -10,9 +10,15 @@ pub mod Phrasing
 pub mod CalledGroups
 pub mod OneMeaning
 pub mod Cutting
-pub mod Faulting
 pub mod SaidMessages
 pub mod LineTokens
 pub mod WritingLines
 pub mod Turning
+pub mod Stopping
+pub mod Behind
+pub mod Fitting
+pub mod Choosing
+pub mod Placing
+pub mod Faulting
+pub mod LineStops
 pub mod Public

@@ -186,7 +186,7 @@ group_type_one v w a b s (d, n, x, inr (p, ka)) (d', n', y, inr (q, kb)) =
     let n_is = same_decimal 15 d d' n n' both.0 x y in omega (arith, ka, kb, n_is)
 
 -- the word bits is no type
-bits_no_type : (word : List ℕ) (kind : ℕ) → word ≡ codes "bits" → IsGroupType word kind → ⊥
+pub bits_no_type : (word : List ℕ) (kind : ℕ) → word ≡ codes "bits" → IsGroupType word kind → ⊥
 bits_no_type word kind s (d, n, x, inl (p, _)) =
     let both = last_one d (codes "bit") 0x41 0x73 (sym p ∙ s) in let letter = both.1 in omega (arith, letter)
 bits_no_type word kind s (d, n, x, inr (p, _)) =
@@ -301,18 +301,18 @@ told_one region head.Ack placed dsn psn tokens a b (_, (m, k, p, x)) (_, (n, l, 
 told_one region head.Raw placed dsn psn tokens a b (_, p, _) (_, q, _) = raw_one tokens a b p q
 
 -- The set of a phrase, as it is read.
-abbrev number_said : Option (List ℕ) → ℕ → Option ℕ
+abbrev pub number_said : Option (List ℕ) → ℕ → Option ℕ
 number_said None n = None
 number_said (Some w) n = Some n
 
-set_front : (tokens : List Token) (word service : Option (List ℕ)) (dsn : ℕ) (h : Head) (rest : List Token)
+pub set_front : (tokens : List Token) (word service : Option (List ℕ)) (dsn : ℕ) (h : Head) (rest : List Token)
     → tokens ≡ set_said word ++ behind_set service h rest → IsInSet word dsn
     → IsBefore (codes "in") IsSet tokens (number_said word dsn) (behind_set service h rest)
 set_front tokens None service dsn h rest whole zero =
     (sym whole, λ begins. no_set_behind service h rest (begins.0, sym whole ∙ begins.1))
 set_front tokens (Some w) service dsn h rest whole named = (w, whole, named)
 
-service_front : (word : Option (List ℕ)) (psn : ℕ) (h : Head) (rest : List Token) → IsForService word psn
+pub service_front : (word : Option (List ℕ)) (psn : ℕ) (h : Head) (rest : List Token) → IsForService word psn
     → IsBefore (codes "for") IsByte (behind_set word h rest) (number_said word psn) (Word (head_word h) ∷ rest)
 service_front None psn h rest zero = (refl, λ begins. no_service_behind h rest begins)
 service_front (Some w) psn h rest named = (w, refl, named)

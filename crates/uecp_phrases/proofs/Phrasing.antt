@@ -9,7 +9,7 @@ use Rattle.phrase_tokens.specs.Tokens.{Token, Word}
 use Rattle.uecp_phrases.specs.declared.head.Head.{Head}
 use Rattle.uecp_phrases.specs.declared.head.Head.TheVariants as head
 use Rattle.uecp_phrases.specs.Phrases.{IsSet, set_said, service_said, IsInSet, IsForService, head_word, Tells, IsPhrase}
-use Rattle.uecp_phrases.specs.Reading.{BeginWith, IsBefore, IsNoneBefore, or_zero}
+use Rattle.uecp_phrases.specs.Reading.{BeginWith, IsBefore, or_zero}
 use Rattle.uecp_phrases.proofs.RawWords.{same_byte}
 
 -- ---- Heads are told apart by the sum of their letters.
@@ -212,18 +212,6 @@ phrase_read region tokens mid left rest (Some n) (Some m) h bytes (name, p, name
     }
 
 -- ---- No phrase.
-
-pub no_set_read : (region : Region) (tokens : List Token) → IsNoneBefore (codes "in") IsSet tokens → (bytes : List ℕ)
-    → IsPhrase region tokens bytes → ⊥
-no_set_read region tokens (begins, none) bytes phrase =
-    by_set phrase.set phrase.whole phrase.in_set
-  where
-    by_set : (word : Option (List ℕ)) → tokens ≡ set_said word ++ behind_set phrase.service phrase.head phrase.rest
-        → IsInSet word phrase.dsn → ⊥
-    by_set None whole zero =
-        no_set_behind phrase.service phrase.head phrase.rest (begins.0, sym whole ∙ begins.1)
-    by_set (Some w) whole named =
-        none w phrase.dsn (behind_set phrase.service phrase.head phrase.rest) whole named
 
 -- What is left behind the place is the phrase's head and what stands behind it.
 pub left_is : (region : Region) (tokens mid left : List Token) (set service : Option ℕ) (bytes : List ℕ)

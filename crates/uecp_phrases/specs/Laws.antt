@@ -1,5 +1,5 @@
 -- Laws of phrases (profile).
-use Rattle.std.specs.Prelude.{◌≡◌, ◌≢◌, ◌≤◌, ◌%◌, ℕ, List, length, codes, flat_map}
+use Rattle.std.specs.Prelude.{◌≡◌, ◌≢◌, ◌≤◌, ◌%◌, ℕ, List, ◌∷◌, ◌++◌, length, codes, flat_map}
 use Rattle.std.specs.List.{AllByRecursion}
 use Rattle.uecp_elements.specs.Grammar.{Element, Rt, Text, IsElement, AreBytes, spelling}
 use Rattle.rds_text.specs.declared.programme_type.Region.{Region}
@@ -7,6 +7,9 @@ use Rattle.phrase_tokens.specs.Tokens.{Token, Word, IsToken}
 use Rattle.uecp_phrases.specs.Phrases.{IsPhrase}
 use Rattle.uecp_phrases.specs.Written.{phrase_of, raw_phrase, line_of}
 use Rattle.uecp_phrases.specs.Lines.{Say}
+use Rattle.uecp_phrases.specs.declared.expectation.Expectation.{Expectation}
+use Rattle.uecp_phrases.specs.declared.expectation.Expectation.TheVariants as what
+use Rattle.uecp_phrases.specs.Faults.{IsToldAt}
 
 -- Law: what is written of an element of bytes is a phrase, and adds that element's spelling.
 abbrev pub IsSaidAsWritten : Type 0
@@ -64,3 +67,11 @@ abbrev pub TextsTurn : Type 0
 TextsTurn =
     (region : Region) (tokens : List Token) (message : List ℕ) → AllByRecursion IsPlain tokens
     → Say region tokens message → AreTurning message
+
+-- Law: where it is told of a token that something else may stand there, for another reason than the message's length,
+-- no line that begins with the same tokens up to that one, and with it, says a message, whatever stands behind.
+abbrev pub IsFirstStop : Type 0
+IsFirstStop =
+    (region : Region) (tokens front rest more : List Token) (t : Token) (expected : Expectation) (message : List ℕ)
+    → IsToldAt region tokens expected (length front) → (expected ≡ what.ShortMessage → ⊥) → tokens ≡ front ++ t ∷ rest
+    → Say region (front ++ t ∷ more) message → ⊥

@@ -5,3 +5,5 @@ pub mod Faults
 pub mod Reading
 pub mod Written
 pub mod Laws
+pub mod Expecting
+pub mod Walking

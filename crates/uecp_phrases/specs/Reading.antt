@@ -1,6 +1,9 @@
 -- What the code's values hold, and what parts of a phrase say. No public clause cites this.
 use Rattle.std.specs.Prelude.{◌≡◌, ◌⊎◌, ◌≤◌, ◌+◌, if◌then◌else◌, ℕ, Bool, List, [], ◌∷◌, ◌++◌, codes, Option, Some}
-use Rattle.std.specs.Prelude.{None}
+use Rattle.std.specs.Prelude.{None, false, not, is_none}
+use Rattle.uecp_text.specs.Words.{decimal_in}
+use Rattle.uecp_phrases.specs.declared.expectation.Expectation.{Expectation}
+use Rattle.uecp_phrases.specs.declared.expectation.Expectation.TheVariants as what
 use Rattle.phrase_tokens.specs.Tokens.{Token, Word, Quoted}
 use Rattle.uecp_text.specs.Words.{IsByte, IsNumber}
 use Rattle.uecp_phrases.specs.declared.choices.Made.{Made}
@@ -27,6 +30,25 @@ pub record IsStep (before : Choices) (tokens : List Token) (made : Choices) (res
   pub choice : Choice
   pub whole : tokens ≡ choice_tokens choice ++ rest
   pub one : AreMade before (choice ∷ []) made
+
+-- The choice may be made behind those that were made before.
+abbrev pub IsFree : (before : Choices) → ChoiceName → Type 0
+IsFree before name.Add = before.adds ≡ false
+IsFree before name.Toggle = before.turns ≡ None
+IsFree before name.Same = before.turns ≡ None
+IsFree before name.Times = before.times ≡ None
+
+-- What may stand behind them.
+abbrev pub choices_left : (before : Choices) → Expectation
+choices_left before = what.Choice (not before.adds) (is_none before.turns) (is_none before.times)
+
+-- How often a text is sent by the token.
+abbrev pub IsCount : Token → ℕ → Type 0
+IsCount t number = (w : List ℕ) × (t ≡ Word w) × (decimal_in 15 w ≡ Some number)
+
+-- That is said by the first of the tokens, and the others are left.
+abbrev pub IsTimes : List Token → ℕ → (rest : List Token) → Type 0
+IsTimes tokens number rest = (t : Token) × (tokens ≡ t ∷ rest) × IsCount t number
 
 -- A text and its choices.
 abbrev pub IsChosenText : List Token → (head : ℕ) → (text : List ℕ) → Type 0
@@ -57,11 +79,13 @@ IsBefore word Named tokens None rest = (rest ≡ tokens) × (BeginWith word toke
 IsBefore word Named tokens (Some number) rest =
     (name : List ℕ) × (tokens ≡ Word word ∷ Word name ∷ rest) × Named name number
 
--- They begin with it and say none behind it.
-abbrev pub IsNoneBefore : (word : List ℕ) → (Named : List ℕ → ℕ → Type 0) → (tokens : List Token) → Type 0
-IsNoneBefore word Named tokens =
-    BeginWith word tokens
-    × ((name : List ℕ) (number : ℕ) (rest : List Token) → tokens ≡ Word word ∷ Word name ∷ rest → Named name number → ⊥)
+-- The token is a word that names the number.
+abbrev pub IsNamed : (Named : List ℕ → ℕ → Type 0) → Token → ℕ → Type 0
+IsNamed Named t number = (name : List ℕ) × (t ≡ Word name) × Named name number
+
+-- That is said by the first of the tokens, and the others are left.
+abbrev pub IsFirstNamed : (Named : List ℕ → ℕ → Type 0) → List Token → ℕ → (rest : List Token) → Type 0
+IsFirstNamed Named tokens number rest = (name : List ℕ) × (tokens ≡ Word name ∷ rest) × Named name number
 
 -- A group by the name of its type.
 abbrev pub IsCalledGroup : List Token → (kind mode block3 block4 : ℕ) → Type 0

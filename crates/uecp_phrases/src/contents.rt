@@ -120,7 +120,7 @@ pub fn traffic_in(tokens: &[Token]) -> Option<u8>
 }
 
 /// Traffic flags by name.
-fn traffic_named(word: &[u8]) -> Option<u8>
+pub fn traffic_named(word: &[u8]) -> Option<u8>
     ensures some { IfSome result (λ raw. IsTrafficWord word.now raw) }
     ensures none { IfNone result ((raw : ℕ) → IsTrafficWord word.now raw → ⊥) }
 {
@@ -194,7 +194,10 @@ fn chosen_text(tokens: &[Token]) -> Option<(u8, &[u8])>
 {
     let (first, rest) = tokens.split_first()?;
     let text = first.quoted()?;
-    Some((head_in(rest)?, text))
+    let Ok(head) = head_in(rest) else {
+        return None;
+    };
+    Some((head, text))
 }
 
 /// The data set that is selected.

@@ -1,7 +1,15 @@
 //! The words with which phrases begin (profile).
-ghost use Rattle.std.specs.Prelude.{◌≡◌, ◌≢◌, IfSome, IfNone};
+ghost use Rattle.std.specs.Prelude.{◌≡◌, ◌≢◌, ◌∷◌, ◌||◌, true, length, IfSome, IfNone, IfOk, IfErr};
+ghost use Rattle.phrase_tokens.specs.Tokens.{Word};
+ghost use Rattle.phrase_tokens.specs.View.{token_of, tokens_of};
 ghost use Rattle.uecp_phrases.specs.declared.head.Head.{Head};
 ghost use Rattle.uecp_phrases.specs.Phrases.{head_word};
+ghost use Rattle.uecp_phrases.specs.Expecting.{acts_somewhere};
+ghost use Rattle.uecp_phrases.specs.Walking.{word_wanted, IsNoHead};
+
+use crate::expectation::Expectation;
+use crate::stop::{Stop, stop_at};
+use phrase_tokens::Token;
 
 /// The word with which a phrase begins, behind where it acts.
 #[derive(Clone, Copy, Debug)]
@@ -18,6 +26,52 @@ pub enum Head {
     Group,
     Ack,
     Raw,
+}
+
+impl Head {
+    /// Whether a phrase of this first word may say where it acts.
+    pub fn acts_somewhere(self) -> bool
+        ensures { result ≡ acts_somewhere self }
+    {
+        !matches!(self, Head::Set | Head::Group | Head::Ack | Head::Raw)
+    }
+}
+
+/// The first word of a phrase behind where it acts, if that is said by a set or for a service, and the tokens behind
+/// it; or that it can't stand in front.
+pub fn head_first(set: bool, service: bool, tokens: &[Token]) -> Result<(Head, &[Token]), Stop>
+    ensures ok { IfOk result (λ r. tokens_of tokens.now ≡ Word (head_word r.0) ∷ tokens_of r.1.now) }
+    ensures acts { IfOk result (λ r. (set || service) ≡ true → acts_somewhere r.0 ≡ true) }
+    ensures err { IfErr result (λ stop. (stop.what ≡ word_wanted set service) × (stop.left ≡ length tokens.now)
+        × IsNoHead (set || service) (tokens_of tokens.now)) }
+{
+    let stop = stop_at(word_wanted(set, service), tokens);
+    let Some((first, rest)) = tokens.split_first() else {
+        return Err(stop);
+    };
+    match head_in(first) {
+        Some(head) if head.acts_somewhere() || !(set || service) => Ok((head, rest)),
+        _ => Err(stop),
+    }
+}
+
+/// What is wanted first of a phrase behind where it acts.
+fn word_wanted(set: bool, service: bool) -> Expectation
+    ensures { result ≡ word_wanted set service }
+{
+    match (set, service) {
+        (_, true) => Expectation::WordForService,
+        (true, false) => Expectation::WordInSet,
+        (false, false) => Expectation::FirstWord,
+    }
+}
+
+/// The first word of a phrase that this token is, if any.
+fn head_in(token: &Token) -> Option<Head>
+    ensures known { IfSome result (λ head. token_of token.now ≡ Word (head_word head)) }
+    ensures unknown { IfNone result ((head : Head) → token_of token.now ≢ Word (head_word head)) }
+{
+    head_of(token.word()?)
 }
 
 /// The first word of a phrase that this word is, if any.

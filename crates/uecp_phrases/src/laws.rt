@@ -1,6 +1,6 @@
 //! The laws of phrases, each as the contract of a function that does nothing (profile).
 ghost use Rattle.uecp_phrases.specs.Laws.{IsSaidAsWritten, IsWritable, IsOneMeaning, IsRawSaid, IsMessageSaid};
-ghost use Rattle.uecp_phrases.specs.Laws.{IsLineWritable, TextsTurn};
+ghost use Rattle.uecp_phrases.specs.Laws.{IsLineWritable, TextsTurn, IsFirstStop};
 
 /// What is written of an element is a phrase, and adds that element's spelling.
 #[tactic(auto, using(crate::proofs::Said::said_as_written))]
@@ -38,4 +38,9 @@ pub fn line_writable()
 /// Of a line with none of the words `same`, `bits` and `raw` the A/B flag turns with each text.
 pub fn texts_turn()
     ensures { TextsTurn }
+{}
+
+/// No line goes on to say a message behind a token of which it is told that something else may stand there.
+pub fn first_stop()
+    ensures { IsFirstStop }
 {}

@@ -22,6 +22,7 @@ mod nearest;
 mod phrase;
 mod phrase_text;
 mod place;
+mod stop;
 mod told;
 mod traffic_name;
 mod walk;

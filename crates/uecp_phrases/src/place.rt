@@ -1,11 +1,16 @@
 //! Where a phrase acts: in which data set, and for which programme service (SPB 490, data sets and programme services;
 //! words: profile).
-ghost use Rattle.std.specs.Prelude.{◌≡◌, ◌↔◌, ℕ, List, codes, IfSome, IfNone, IsTrue};
-ghost use Rattle.phrase_tokens.specs.View.{tokens_of};
+ghost use Rattle.std.specs.Prelude.{ℕ, codes, IfSome, IfNone, IfOk, IfErr};
+ghost use Rattle.rds_text.specs.declared.programme_type.Region.{Region};
+ghost use Rattle.phrase_tokens.specs.View.{token_of, tokens_of};
 ghost use Rattle.uecp_text.specs.Words.{IsByte};
 ghost use Rattle.uecp_phrases.specs.Phrases.{IsSet};
-ghost use Rattle.uecp_phrases.specs.Reading.{IsBefore, IsNoneBefore, BeginWith};
+ghost use Rattle.uecp_phrases.specs.declared.expectation.Expectation.TheVariants as what;
+ghost use Rattle.uecp_phrases.specs.Reading.{IsBefore, IsNamed, IsFirstNamed};
+ghost use Rattle.uecp_phrases.specs.Walking.{IsStuck, IsStopBefore};
 
+use crate::expectation::Expectation;
+use crate::stop::{Stop, stop_at};
 use phrase_tokens::Token;
 use uecp_text::{byte_of, decimal_of};
 
@@ -39,39 +44,79 @@ pub fn set_of(word: &[u8]) -> Option<u8>
     }
 }
 
-/// The data set behind `in`, if the tokens begin so, and the tokens behind it. None where no set stands behind `in`.
-pub fn set_before(tokens: &[Token]) -> Option<(Option<u8>, &[Token])>
-    ensures some { IfSome result (λ r. IsBefore (codes "in") IsSet (tokens_of tokens.now) r.0 (tokens_of r.1.now)) }
-    ensures none { IfNone result (IsNoneBefore (codes "in") IsSet (tokens_of tokens.now)) }
-{
-    if !begins_with(tokens, b"in") {
-        return Some((None, tokens));
-    }
-    let (_, behind) = tokens.split_first()?;
-    let (name, rest) = behind.split_first()?;
-    Some((Some(set_of(name.word()?)?), rest))
-}
-
-/// The programme service behind `for`, if the tokens begin so, and the tokens behind it. None where no service stands
-/// behind `for`.
-pub fn service_before(tokens: &[Token]) -> Option<(Option<u8>, &[Token])>
-    ensures some { IfSome result (λ r. IsBefore (codes "for") IsByte (tokens_of tokens.now) r.0 (tokens_of r.1.now)) }
-    ensures none { IfNone result (IsNoneBefore (codes "for") IsByte (tokens_of tokens.now)) }
-{
-    if !begins_with(tokens, b"for") {
-        return Some((None, tokens));
-    }
-    let (_, behind) = tokens.split_first()?;
-    let (name, rest) = behind.split_first()?;
-    Some((Some(byte_of(name.word()?)?), rest))
-}
-
-/// Whether the tokens begin with this word.
-pub fn begins_with(tokens: &[Token], word: &[u8]) -> bool
-    ensures { IsTrue result ↔ BeginWith word.now (tokens_of tokens.now) }
+/// The data set behind `in`, if the tokens begin so, and the tokens behind it; or where they stop, behind `in`.
+pub fn set_before(tokens: &[Token]) -> Result<(Option<u8>, &[Token]), Stop>
+    ensures ok { IfOk result (λ r. IsBefore (codes "in") IsSet (tokens_of tokens.now) r.0 (tokens_of r.1.now)) }
+    ensures err { IfErr result (λ stop. IsStopBefore (codes "in") what.DataSet (tokens_of tokens.now) stop.what
+        stop.left) }
 {
     match tokens.split_first() {
-        Some((first, _)) => first.is_word(word),
-        None => false,
+        Some((first, behind)) if first.is_word(b"in") => {
+            let (set, rest) = set_first(behind)?;
+            Ok((Some(set), rest))
+        }
+        _ => Ok((None, tokens)),
     }
+}
+
+/// The data set that the first token names, and the tokens behind it.
+fn set_first(tokens: &[Token]) -> Result<(u8, &[Token]), Stop>
+    ensures ok { IfOk result (λ r. IsFirstNamed IsSet (tokens_of tokens.now) r.0 (tokens_of r.1.now)) }
+    ensures err { IfErr result (λ stop. (region : Region) → IsStuck region what.DataSet (tokens_of tokens.now) stop.what
+        stop.left) }
+{
+    match tokens.split_first() {
+        Some((first, rest)) => match set_in(first) {
+            Some(set) => Ok((set, rest)),
+            None => Err(stop_at(Expectation::DataSet, tokens)),
+        },
+        None => Err(stop_at(Expectation::DataSet, tokens)),
+    }
+}
+
+/// The data set that a token names.
+fn set_in(token: &Token) -> Option<u8>
+    ensures some { IfSome result (λ dsn. IsNamed IsSet (token_of token.now) dsn) }
+    ensures none { IfNone result ((dsn : ℕ) → IsNamed IsSet (token_of token.now) dsn → ⊥) }
+{
+    set_of(token.word()?)
+}
+
+/// The programme service behind `for`, if the tokens begin so, and the tokens behind it; or where they stop, behind
+/// `for`.
+pub fn service_before(tokens: &[Token]) -> Result<(Option<u8>, &[Token]), Stop>
+    ensures ok { IfOk result (λ r. IsBefore (codes "for") IsByte (tokens_of tokens.now) r.0 (tokens_of r.1.now)) }
+    ensures err { IfErr result (λ stop. IsStopBefore (codes "for") what.Service (tokens_of tokens.now) stop.what
+        stop.left) }
+{
+    match tokens.split_first() {
+        Some((first, behind)) if first.is_word(b"for") => {
+            let (service, rest) = service_first(behind)?;
+            Ok((Some(service), rest))
+        }
+        _ => Ok((None, tokens)),
+    }
+}
+
+/// The programme service that the first token names, and the tokens behind it.
+fn service_first(tokens: &[Token]) -> Result<(u8, &[Token]), Stop>
+    ensures ok { IfOk result (λ r. IsFirstNamed IsByte (tokens_of tokens.now) r.0 (tokens_of r.1.now)) }
+    ensures err { IfErr result (λ stop. (region : Region) → IsStuck region what.Service (tokens_of tokens.now) stop.what
+        stop.left) }
+{
+    match tokens.split_first() {
+        Some((first, rest)) => match service_in(first) {
+            Some(service) => Ok((service, rest)),
+            None => Err(stop_at(Expectation::Service, tokens)),
+        },
+        None => Err(stop_at(Expectation::Service, tokens)),
+    }
+}
+
+/// The programme service that a token names.
+fn service_in(token: &Token) -> Option<u8>
+    ensures some { IfSome result (λ psn. IsNamed IsByte (token_of token.now) psn) }
+    ensures none { IfNone result ((psn : ℕ) → IsNamed IsByte (token_of token.now) psn → ⊥) }
+{
+    byte_of(token.word()?)
 }

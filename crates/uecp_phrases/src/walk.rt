@@ -1,130 +1,127 @@
-//! A walk through the tokens of a phrase, up to the first that can't stand where it does (profile).
-ghost use Rattle.std.specs.Prelude.{◌≡◌, ◌≤◌, length, IfOk, IfErr};
+//! A walk through the tokens behind a phrase's first word, up to the first that can't stand where it does (profile).
+ghost use Rattle.std.specs.Prelude.{◌≡◌, ◌∷◌, IfOk, IfErr};
+ghost use Rattle.phrase_tokens.specs.View.{token_of, tokens_of};
+ghost use Rattle.uecp_phrases.specs.Expecting.{MayStand, IsStop, IsStopAlways};
+ghost use Rattle.uecp_phrases.specs.Walking.{IsStuck, IsFirst, FitEach, StopEach, Told, Each, IsTail, AreMoreRaw};
+ghost use Rattle.uecp_phrases.specs.Walking.{first_wanted, others_wanted, AreChosen, IsAddOrEnd, IsEnd};
+ghost use Rattle.uecp_phrases.specs.Phrases.{no_choice};
 
+use crate::choices::head_in;
 use crate::expectation::Expectation;
 use crate::fits::fits;
-use crate::head::{Head, head_of};
-use crate::place::begins_with;
+use crate::head::Head;
+use crate::stop::{Stop, stop_at};
 use phrase_tokens::Token;
 use rds_text::Region;
 
-/// Where a walk stops.
-#[derive(Clone, Copy, Debug)]
-pub struct Stop {
-    /// How many tokens are left there, with the one that can't stand there; none where the tokens are cut short.
-    pub left: usize,
-    /// What may stand there.
-    pub what: Expectation,
+/// Walks through what stands behind a phrase's first word.
+pub fn walk_contents(region: Region, head: Head, tokens: &[Token]) -> Result<(), Stop>
+    ensures ok { IfOk result (λ _. Told region head (tokens_of tokens.now)) }
+    ensures err { IfErr result (λ stop. IsStop region (Told region head) (tokens_of tokens.now) stop.what stop.left) }
+{
+    let Some(what) = first_wanted(head) else {
+        return walk_end(tokens);
+    };
+    let (first, more) = walk_first(region, what, tokens)?;
+    walk_behind(region, head, first, more)
 }
 
-/// The stop in front of these tokens, where this may stand.
-fn stop_at(what: Expectation, tokens: &[Token]) -> Stop
-    ensures { result.left ≡ length tokens.now }
+/// What is wanted first behind a phrase's first word, if anything is.
+fn first_wanted(head: Head) -> Option<Expectation>
+    ensures { result ≡ first_wanted head }
 {
-    Stop {
-        left: tokens.len(),
-        what,
+    match head {
+        Head::Pi => Some(Expectation::FourDigits),
+        Head::Ps => Some(Expectation::Name),
+        Head::Rt => Some(Expectation::RadioText),
+        Head::Traffic => Some(Expectation::Traffic),
+        Head::Music | Head::Speech => None,
+        Head::Ms => Some(Expectation::Bits),
+        Head::Pty => Some(Expectation::ProgrammeType),
+        Head::Set => Some(Expectation::DataSet),
+        Head::Group => Some(Expectation::GroupType),
+        Head::Ack | Head::Raw => Some(Expectation::TwoDigits),
     }
 }
 
-/// Walks through the tokens of a phrase, and stops at the first that can't stand where it does, or behind the last
-/// where more are wanted.
-pub fn walk(region: Region, tokens: &[Token]) -> Result<(), Stop>
-    ensures { IfErr result (λ stop. stop.left ≤ length tokens.now) }
-{
-    let behind_set = walk_place(region, b"in", Expectation::DataSet, tokens)?;
-    let behind = walk_place(region, b"for", Expectation::Service, behind_set)?;
-    if behind.len() < behind_set.len() {
-        walk_placed(region, Expectation::WordForService, behind)
-    } else if behind_set.len() < tokens.len() {
-        walk_placed(region, Expectation::WordInSet, behind_set)
-    } else {
-        let (head, rest) = walk_head(Expectation::FirstWord, tokens)?;
-        walk_contents(region, head, rest)
-    }
-}
-
-/// The tokens behind this word and what is wanted behind it, or all, where they don't begin with it.
-fn walk_place<'a>(
+/// The token in front, where it may stand there, and the tokens behind it.
+fn walk_first(
     region: Region,
-    word: &[u8],
-    wanted: Expectation,
-    tokens: &'a [Token],
-) -> Result<&'a [Token], Stop>
-    ensures ok { IfOk result (λ rest. length rest.now ≤ length tokens.now) }
-    ensures err { IfErr result (λ stop. stop.left ≤ length tokens.now) }
+    what: Expectation,
+    tokens: &[Token],
+) -> Result<(&Token, &[Token]), Stop>
+    ensures first { IfOk result (λ r. tokens_of tokens.now ≡ token_of r.0.now ∷ tokens_of r.1.now) }
+    ensures fits { IfOk result (λ r. MayStand region what (token_of r.0.now)) }
+    ensures err { IfErr result (λ stop. IsStuck region what (tokens_of tokens.now) stop.what stop.left) }
 {
     match tokens.split_first() {
-        Some((first, more)) if first.is_word(word) => walk_each(region, &[wanted], more),
-        _ => Ok(tokens),
+        Some((first, more)) if fits(region, what, first) => Ok((first, more)),
+        _ => Err(stop_at(what, tokens)),
     }
 }
 
-/// Walks through a phrase behind where it acts: its first word is one of those that act somewhere.
-fn walk_placed(region: Region, what: Expectation, tokens: &[Token]) -> Result<(), Stop>
-    ensures { IfErr result (λ stop. stop.left ≤ length tokens.now) }
+/// Walks through what stands behind the first token behind a phrase's first word.
+fn walk_behind(region: Region, head: Head, first: &Token, tokens: &[Token]) -> Result<(), Stop>
+    requires { IsFirst region (first_wanted head) (token_of first.now) }
+    ensures ok { IfOk result (λ _. Told region head (token_of first.now ∷ tokens_of tokens.now)) }
+    ensures err { IfErr result (λ stop. IsStop region (λ l. Told region head (token_of first.now ∷ l))
+        (tokens_of tokens.now) stop.what stop.left) }
 {
-    let (head, rest) = walk_head(what, tokens)?;
-    if matches!(head, Head::Set | Head::Group | Head::Ack | Head::Raw) {
-        return Err(stop_at(what, tokens));
-    }
-    walk_contents(region, head, rest)
-}
-
-/// The first word of a phrase, and the tokens behind it.
-fn walk_head(what: Expectation, tokens: &[Token]) -> Result<(Head, &[Token]), Stop>
-    ensures ok { IfOk result (λ r. length r.1.now ≤ length tokens.now) }
-    ensures err { IfErr result (λ stop. stop.left ≤ length tokens.now) }
-{
-    let stop = stop_at(what, tokens);
-    let (first, rest) = tokens.split_first().ok_or(stop)?;
-    let word = first.word().ok_or(stop)?;
-    Ok((head_of(word).ok_or(stop)?, rest))
-}
-
-/// Walks through what stands behind a phrase's first word.
-fn walk_contents(region: Region, head: Head, tokens: &[Token]) -> Result<(), Stop>
-    ensures { IfErr result (λ stop. stop.left ≤ length tokens.now) }
-{
-    let by_bits = begins_with(tokens, b"bits");
-    let rest = walk_each(region, wanted(head, by_bits), tokens)?;
     match head {
-        Head::Rt if is_text_first(tokens) => walk_choices(region, rest),
-        Head::Group if !by_bits => walk_added(rest),
-        Head::Raw => walk_bytes(region, rest),
-        _ => walk_end(Expectation::End, rest),
+        Head::Raw => walk_bytes(region, tokens),
+        Head::Rt => match first.quoted() {
+            Some(_) => walk_choices(tokens),
+            None => walk_others(region, head, first.is_word(b"bits"), tokens),
+        },
+        _ => walk_others(region, head, first.is_word(b"bits"), tokens),
     }
 }
 
-/// What is wanted behind a phrase's first word, one after another: where `bits` stands there, and else.
-fn wanted(head: Head, by_bits: bool) -> &'static [Expectation] {
+/// Walks through what else is wanted one after another, and what stands last.
+fn walk_others(region: Region, head: Head, by_bits: bool, tokens: &[Token]) -> Result<(), Stop>
+    ensures ok { IfOk result (λ _. Each region (others_wanted head by_bits) (IsTail head by_bits)
+        (tokens_of tokens.now)) }
+    ensures err { IfErr result (λ stop. IsStop region (Each region (others_wanted head by_bits) (IsTail head by_bits))
+        (tokens_of tokens.now) stop.what stop.left) }
+{
+    let rest = walk_each(region, others_wanted(head, by_bits), tokens)?;
+    walk_last(head, by_bits, rest)
+}
+
+/// Walks through what stands last.
+fn walk_last(head: Head, by_bits: bool, tokens: &[Token]) -> Result<(), Stop>
+    ensures ok { IfOk result (λ _. IsTail head by_bits (tokens_of tokens.now)) }
+    ensures err { IfErr result (λ stop. IsStopAlways (IsTail head by_bits) (tokens_of tokens.now) stop.what
+        stop.left) }
+{
+    if by_bits {
+        return walk_end(tokens);
+    }
+    match head {
+        Head::Group => walk_added(tokens),
+        _ => walk_end(tokens),
+    }
+}
+
+/// What is wanted behind the first, one after another: where that is `bits`, and else.
+fn others_wanted(head: Head, by_bits: bool) -> &'static [Expectation]
+    ensures { result.now ≡ others_wanted head by_bits }
+{
     match (head, by_bits) {
-        (Head::Music | Head::Speech, _) => &[],
-        (Head::Pi, _) => &[Expectation::FourDigits],
-        (Head::Ps, _) => &[Expectation::Name],
-        (Head::Set, _) => &[Expectation::DataSet],
-        (Head::Raw, _) => &[Expectation::TwoDigits],
-        (Head::Ack, _) => &[Expectation::TwoDigits, Expectation::TwoDigits],
-        (Head::Rt, false) => &[Expectation::RadioText],
-        (Head::Traffic, false) => &[Expectation::Traffic],
-        (Head::Pty, false) => &[Expectation::ProgrammeType],
-        (Head::Ms, _) | (Head::Traffic | Head::Pty, true) => {
-            &[Expectation::Bits, Expectation::TwoDigits]
-        }
-        (Head::Rt, true) => &[Expectation::Bits, Expectation::TwoDigits, Expectation::Text],
+        (Head::Rt, true) => &[Expectation::TwoDigits, Expectation::Text],
+        (Head::Traffic | Head::Pty, true) | (Head::Ms | Head::Ack, _) => &[Expectation::TwoDigits],
+        (Head::Group, true) => &[
+            Expectation::TwoDigits,
+            Expectation::TwoDigits,
+            Expectation::FourDigits,
+            Expectation::FourDigits,
+        ],
         (Head::Group, false) => &[
-            Expectation::GroupType,
             Expectation::FiveBits,
             Expectation::FourDigits,
             Expectation::FourDigits,
         ],
-        (Head::Group, true) => &[
-            Expectation::Bits,
-            Expectation::TwoDigits,
-            Expectation::TwoDigits,
-            Expectation::FourDigits,
-            Expectation::FourDigits,
-        ],
+        _ => &[],
     }
 }
 
@@ -134,68 +131,46 @@ fn walk_each<'a>(
     wanted: &[Expectation],
     tokens: &'a [Token],
 ) -> Result<&'a [Token], Stop>
-    ensures ok { IfOk result (λ rest. length rest.now ≤ length tokens.now) }
-    ensures err { IfErr result (λ stop. stop.left ≤ length tokens.now) }
+    ensures ok { IfOk result (λ rest. FitEach region wanted.now (tokens_of tokens.now) (tokens_of rest.now)) }
+    ensures err { IfErr result (λ stop. StopEach region wanted.now (tokens_of tokens.now) stop.what stop.left) }
 {
-    let mut rest = tokens;
-    for what in wanted {
-        match rest.split_first() {
-            Some((first, more)) if fits(region, *what, first) => rest = more,
-            _ => return Err(stop_at(*what, rest)),
-        }
-    }
-    Ok(rest)
-}
-
-/// Whether a text between quotes stands in front.
-fn is_text_first(tokens: &[Token]) -> bool {
-    match tokens.first() {
-        Some(first) => first.quoted().is_some(),
-        None => false,
-    }
+    let Some((what, others)) = wanted.split_first() else {
+        return Ok(tokens);
+    };
+    let (_, more) = walk_first(region, *what, tokens)?;
+    walk_each(region, others, more)
 }
 
 /// Walks through the choices behind a RadioText.
-fn walk_choices(region: Region, tokens: &[Token]) -> Result<(), Stop>
-    ensures { IfErr result (λ stop. stop.left ≤ length tokens.now) }
+fn walk_choices(tokens: &[Token]) -> Result<(), Stop>
+    ensures ok { IfOk result (λ _. AreChosen no_choice (tokens_of tokens.now)) }
+    ensures err { IfErr result (λ stop. IsStopAlways (AreChosen no_choice) (tokens_of tokens.now) stop.what
+        stop.left) }
 {
-    let (mut add, mut same, mut times) = (true, true, true);
-    let mut rest = tokens;
-    while let Some((first, more)) = rest.split_first() {
-        if add && first.is_word(b"add") {
-            add = false;
-            rest = more;
-        } else if same && (first.is_word(b"same") || first.is_word(b"toggle")) {
-            same = false;
-            rest = more;
-        } else if times && first.is_word(b"times") {
-            times = false;
-            rest = walk_each(region, &[Expectation::Times], more)?;
-        } else {
-            let what = Expectation::Choice { add, same, times };
-            return Err(stop_at(what, rest));
-        }
-    }
+    head_in(tokens)?;
     Ok(())
 }
 
 /// Walks through `add` behind a group, or the end.
 fn walk_added(tokens: &[Token]) -> Result<(), Stop>
-    ensures { IfErr result (λ stop. stop.left ≤ length tokens.now) }
+    ensures ok { IfOk result (λ _. IsAddOrEnd (tokens_of tokens.now)) }
+    ensures err { IfErr result (λ stop. IsStopAlways IsAddOrEnd (tokens_of tokens.now) stop.what stop.left) }
 {
     match tokens.split_first() {
-        Some((first, more)) if first.is_word(b"add") => walk_end(Expectation::End, more),
-        _ => walk_end(Expectation::Added, tokens),
+        None => Ok(()),
+        Some((first, more)) if first.is_word(b"add") => walk_end(more),
+        Some(_) => Err(stop_at(Expectation::Added, tokens)),
     }
 }
 
 /// Walks through further bytes behind `raw`.
 fn walk_bytes(region: Region, tokens: &[Token]) -> Result<(), Stop>
-    ensures { IfErr result (λ stop. stop.left ≤ length tokens.now) }
+    ensures ok { IfOk result (λ _. AreMoreRaw (tokens_of tokens.now)) }
+    ensures err { IfErr result (λ stop. IsStop region AreMoreRaw (tokens_of tokens.now) stop.what stop.left) }
 {
     let mut rest = tokens;
     while let Some((first, more)) = rest.split_first() {
-        if !fits(region, Expectation::TwoDigits, first) {
+        if !fits(region, Expectation::AnotherByte, first) {
             return Err(stop_at(Expectation::AnotherByte, rest));
         }
         rest = more;
@@ -204,12 +179,13 @@ fn walk_bytes(region: Region, tokens: &[Token]) -> Result<(), Stop>
 }
 
 /// Walks through nothing: stops where a token is left.
-fn walk_end(what: Expectation, tokens: &[Token]) -> Result<(), Stop>
-    ensures { IfErr result (λ stop. stop.left ≤ length tokens.now) }
+fn walk_end(tokens: &[Token]) -> Result<(), Stop>
+    ensures ok { IfOk result (λ _. IsEnd (tokens_of tokens.now)) }
+    ensures err { IfErr result (λ stop. IsStopAlways IsEnd (tokens_of tokens.now) stop.what stop.left) }
 {
     if tokens.is_empty() {
         Ok(())
     } else {
-        Err(stop_at(what, tokens))
+        Err(stop_at(Expectation::End, tokens))
     }
 }

@@ -1,11 +1,13 @@
-use Rattle.std.proofs.Common.{inl}
+use Rattle.std.proofs.Common.{◌≡◌, ◌∙◌, inl, subst}
+use Rattle.std.specs.Prelude.{IfOk}
 use Rattle.kept_jobs.specs.Stops.{Went}
 use Rattle.device_serving.specs.DeviceRun.{RunsDevice}
-use Rattle.device_jobs.proofs.Ending.{ends}
+use Rattle.state_jobs.proofs.Public.{closed_well}
+use Rattle.device_jobs.proofs.Ending.{ends, status_after, not_three}
 use Rattle.device_jobs.proofs.serving.serve_in.Goals as goal
 
-pub returns-in-Ok : goal.returns-in-Ok
-returns-in-Ok g c =
+pub returns-in-Ok-clause-serves : goal.returns-in-Ok-clause-serves
+returns-in-Ok-clause-serves g c =
     let run = c.run_device-status in
     let k = g.S.EncoderKeeper.KeepEncoder in
     let ended = ends (λ (went : Went). RunsDevice k.TOGETHER_MAX k.READ_MAX k.leaves k.is_clean k.saves k.fails
@@ -42,3 +44,15 @@ returns-in-Ok g c =
       closes_so = c.close_encoder.ensures;
       is_closed = c.closed_so.ensures.closed;
     })
+
+pub returns-in-Ok-clause-status : goal.returns-in-Ok-clause-status
+returns-in-Ok-clause-status g c =
+    status_after _ _ _ _ _ _ c.run_device-status.ensures.status c.closed_so.ensures.closed
+
+pub returns-in-Ok-clause-same : goal.returns-in-Ok-clause-same
+returns-in-Ok-clause-same g c = λ zero.
+    let run = c.run_device-status in
+    let well = closed_well _ _ _ _ _ _ (not_three _ zero) c.closed_so.ensures.closed in
+    let same : c.closed_so.new.errors ≡ run.new.errors =
+    subst (λ x. IfOk x (λ done. c.closed_so.new.errors ≡ run.new.errors)) well.0 c.closed_so.ensures.same in
+    same ∙ (run.ensures.done (well.1 ∙ zero)).1

@@ -1,5 +1,6 @@
 use Rattle.std.proofs.Common.{refl, inr, ◌∙◌}
 use Rattle.device_serving.proofs.Outliving.{after_run, run_status}
+use Rattle.device_serving.proofs.Endings.{run_loan}
 use Rattle.device_serving.proofs.run.run_device.Goals as goal
 
 pub returns-in-Ok-clause-settled : goal.returns-in-Ok-clause-settled
@@ -44,3 +45,17 @@ returns-in-Err-clause-clean g c =
     (after_run k.TOGETHER_MAX k.READ_MAX k.leaves k.is_clean k.saves k.fails g.C.Connections.opens
     g.C.Connections.closes g.C.Input.Read.remaining g.C.Output.Write.contents c.args.turns c.args.connections
     c.args.store _ _ _ c.in-Err.ensures.runs).clean
+
+pub returns-in-Ok-clause-loan : goal.returns-in-Ok-clause-loan
+returns-in-Ok-clause-loan g c =
+    let k = g.K.KeepEncoder in
+    run_loan k.TOGETHER_MAX k.READ_MAX k.leaves k.is_clean k.saves k.fails g.C.Connections.opens
+    g.C.Connections.closes g.C.Input.Read.remaining g.C.Output.Write.contents c.args.turns c.args.connections
+    c.args.store _ _ _ c.in-Ok.ensures.runs
+
+pub returns-in-Err-clause-loan : goal.returns-in-Err-clause-loan
+returns-in-Err-clause-loan g c =
+    let k = g.K.KeepEncoder in
+    run_loan k.TOGETHER_MAX k.READ_MAX k.leaves k.is_clean k.saves k.fails g.C.Connections.opens
+    g.C.Connections.closes g.C.Input.Read.remaining g.C.Output.Write.contents c.args.turns c.args.connections
+    c.args.store _ _ _ c.in-Err.ensures.runs
