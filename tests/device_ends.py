@@ -8,7 +8,8 @@ import tempfile
 import time
 
 import model
-from live_ends import MEMORY, SECONDS, free_port
+from live_ends import MEMORY, SECONDS
+from ports import free_port
 
 ADDRESS = 0x0041
 

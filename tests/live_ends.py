@@ -13,24 +13,14 @@ import time
 
 import model
 from bad_line import Connection
+from ports import free_port
 
 MEMORY = "/dev/shm" if os.access("/dev/shm", os.W_OK) else None  # where files stand: a busy disk has no part in this
 SECONDS = 120  # of one wait, however busy the machine is
-PORTS = range(20000, 32000)  # below those that the system gives to a connection of its own, so that none is its own peer
 NOTICE = re.compile(r"uecp: \d{4}-\d\d-\d\dT\d\d:\d\d:\d\d\.\d{3}Z (.*)\n")
 ENDS = (4000, 12000)  # bytes after which a connection over a bad line ends at the latest; a pass has 2600
 TRAFFIC = ("none", "eon", "programme", "announcement")
 MEANINGS = {0x03: "unknown element", 0x0B: "the buffer is full"}
-
-
-def free_port():
-    """A port on which nobody listens."""
-    chance = random.SystemRandom()
-    while True:
-        with contextlib.closing(socket.socket()) as kept, contextlib.suppress(OSError):
-            kept.setsockopt(socket.SOL_SOCKET, socket.SO_REUSEADDR, 1)
-            kept.bind(("127.0.0.1", chance.choice(PORTS)))
-            return kept.getsockname()[1]
 
 
 def is_listening(port):

@@ -2,7 +2,6 @@
 
 import contextlib
 import os
-import random
 import re
 import socket
 import subprocess
@@ -10,6 +9,7 @@ import threading
 import time
 
 import model
+from ports import free_port
 
 ADDRESS = 0x0041
 SECONDS = 120  # of one run
@@ -74,18 +74,6 @@ def put(folder, files):
     for name, data in files.items():
         with open(os.path.join(folder, name), "wb") as file:
             file.write(data)
-
-
-def free_port():
-    """A port on which nobody listens, below those that the system gives the near end of a connection: one that is dialled before anybody
-    listens there could be connected to itself. It is bound and not listened on: a child that another thread starts meanwhile has it open
-    too until it is the program, so a listener would hold the port and take a connection for so long."""
-    while True:
-        port = random.randrange(10000, 32000)
-        with contextlib.suppress(OSError), socket.socket() as tried:
-            tried.setsockopt(socket.SOL_SOCKET, socket.SO_REUSEADDR, 1)
-            tried.bind(("127.0.0.1", port))
-            return port
 
 
 @contextlib.contextmanager
