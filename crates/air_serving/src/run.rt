@@ -18,7 +18,7 @@ use crate::line::{OpenLine, Sent, ended_over, is_over};
 use crate::moments::{Moment, Moments};
 use crate::tally::{Turn, read_once};
 use carousel::Carousel;
-use device_serving::{LogLines, tell_last, went_after};
+use device_serving::{Limits, LogLines, tell_last, went_after};
 use kept_jobs::{KeptStop, fail_run};
 use rds_store::RdsStore;
 use std::io::Write;
@@ -44,14 +44,13 @@ const MOMENTS_MAX: u64 = 1 << 63;
 /// What is kept at the start is to be this encoder: a new one is saved first.
 ///
 /// ```
+/// let limits = Limits { connections: u64::MAX, turns: 100_000, store: true };
 /// let status = run_on_air(
-///     u64::MAX, 100_000, true, &mut encoder, &mut NotSaved, &mut log, &mut errors, &mut carousel, &mut edge,
+///     limits, &mut encoder, &mut NotSaved, &mut log, &mut errors, &mut carousel, &mut edge,
 /// );
 /// ```
 pub fn run_on_air<K: KeepEncoder<RdsStore>, W: Write, Clk: Clock, E: Write, M: Moments>(
-    connections: u64,
-    turns: u32,
-    store: bool,
+    limits: Limits,
     encoder: &mut Encoder<RdsStore>,
     keeper: &mut K,
     log: &mut LogLines<'_, W, Clk>,
@@ -62,7 +61,7 @@ pub fn run_on_air<K: KeepEncoder<RdsStore>, W: Write, Clk: Clock, E: Write, M: M
     ensures status { (result ≡ 0) ⊎ (result ≡ 3) }
     // 0: all connections were served, and all was told. Nothing was said on `errors`.
     ensures done { result ≡ 0 → (left : ℕ) × RunsOnAir K.TOGETHER_MAX K.READ_MAX K.leaves K.is_clean K.saves K.fails
-        M.waits M.closes M.sends M.Input.remaining M.Output.contents turns store
+        M.waits M.closes M.sends M.Input.remaining M.Output.contents limits.turns limits.store
         (record {
           encoder = encoder.old;
           keeper = keeper.old;
@@ -70,7 +69,7 @@ pub fn run_on_air<K: KeepEncoder<RdsStore>, W: Write, Clk: Clock, E: Write, M: M
           moments = moments.old;
           carousel = carousel.old;
           line = None;
-          left = connections;
+          left = limits.connections;
         }) (record {
           encoder = encoder.new;
           keeper = keeper.new;
@@ -84,7 +83,7 @@ pub fn run_on_air<K: KeepEncoder<RdsStore>, W: Write, Clk: Clock, E: Write, M: M
     // 3: moments went by up to one at which the run stopped, and why was said, or begun to be said.
     ensures failed { result ≡ 3 → (stop : KeptStop) × (left : ℕ)
         × RunsOnAir K.TOGETHER_MAX K.READ_MAX K.leaves K.is_clean K.saves K.fails M.waits M.closes M.sends
-        M.Input.remaining M.Output.contents turns store
+        M.Input.remaining M.Output.contents limits.turns limits.store
         (record {
           encoder = encoder.old;
           keeper = keeper.old;
@@ -92,7 +91,7 @@ pub fn run_on_air<K: KeepEncoder<RdsStore>, W: Write, Clk: Clock, E: Write, M: M
           moments = moments.old;
           carousel = carousel.old;
           line = None;
-          left = connections;
+          left = limits.connections;
         }) (record {
           encoder = encoder.new;
           keeper = keeper.new;
@@ -109,7 +108,7 @@ pub fn run_on_air<K: KeepEncoder<RdsStore>, W: Write, Clk: Clock, E: Write, M: M
     // 3: it is the encoder too, unless a save failed.
     ensures outlives { Settled (K.leaves keeper.old) encoder.old → K.is_clean keeper.new → (kept : Kept Store)
         → K.leaves keeper.new kept → (left : ℕ) × OutlivesRun K.TOGETHER_MAX K.READ_MAX K.leaves K.is_clean K.saves
-        K.fails M.waits M.closes M.sends M.Input.remaining M.Output.contents turns
+        K.fails M.waits M.closes M.sends M.Input.remaining M.Output.contents limits.turns
         (record {
           encoder = encoder.new;
           keeper = keeper.new;
@@ -121,16 +120,7 @@ pub fn run_on_air<K: KeepEncoder<RdsStore>, W: Write, Clk: Clock, E: Write, M: M
         }) kept }
     ensures clean { K.is_clean keeper.new → K.is_clean keeper.old }
 {
-    match serve_and_store(
-        connections,
-        turns,
-        store,
-        encoder,
-        keeper,
-        log,
-        carousel,
-        moments,
-    ) {
+    match serve_and_store(limits, encoder, keeper, log, carousel, moments) {
         Ok(()) => 0,
         Err(stop) => fail_run(&stop, errors),
     }
@@ -138,9 +128,7 @@ pub fn run_on_air<K: KeepEncoder<RdsStore>, W: Write, Clk: Clock, E: Write, M: M
 
 /// Serves and sends, and then tells the lines of the store where that is asked for.
 fn serve_and_store<K: KeepEncoder<RdsStore>, W: Write, Clk: Clock, M: Moments>(
-    connections: u64,
-    turns: u32,
-    store: bool,
+    limits: Limits,
     encoder: &mut Encoder<RdsStore>,
     keeper: &mut K,
     log: &mut LogLines<'_, W, Clk>,
@@ -148,7 +136,7 @@ fn serve_and_store<K: KeepEncoder<RdsStore>, W: Write, Clk: Clock, M: Moments>(
     moments: &mut M,
 ) -> Result<(), KeptStop>
     ensures runs { (left : ℕ) × RunsOnAir K.TOGETHER_MAX K.READ_MAX K.leaves K.is_clean K.saves K.fails M.waits M.closes
-        M.sends M.Input.remaining M.Output.contents turns store
+        M.sends M.Input.remaining M.Output.contents limits.turns limits.store
         (record {
           encoder = encoder.old;
           keeper = keeper.old;
@@ -156,7 +144,7 @@ fn serve_and_store<K: KeepEncoder<RdsStore>, W: Write, Clk: Clock, M: Moments>(
           moments = moments.old;
           carousel = carousel.old;
           line = None;
-          left = connections;
+          left = limits.connections;
         }) (record {
           encoder = encoder.new;
           keeper = keeper.new;
@@ -167,8 +155,16 @@ fn serve_and_store<K: KeepEncoder<RdsStore>, W: Write, Clk: Clock, M: Moments>(
           left = left;
         }) result }
 {
-    serve_all(connections, turns, encoder, keeper, log, carousel, moments)?;
-    tell_last(store, encoder, log)
+    serve_all(
+        limits.connections,
+        limits.turns,
+        encoder,
+        keeper,
+        log,
+        carousel,
+        moments,
+    )?;
+    tell_last(limits.store, encoder, log)
 }
 
 /// Serves and sends up to the end, and then gives back the connection that is open, if one is.

@@ -76,19 +76,33 @@ pub fn run_case<C: Connections>(
     let mut server = Server::new(own);
     let pass = join(&mut server, &mut waiting, &mut output, READS_MAX);
     let mut input = Meter::new(waiting.into_inner().into_inner());
+    let exchange = Exchange {
+        bytes: bytes.as_slice(),
+        pieces: case.pieces,
+        replies: replies.as_slice(),
+    };
     let went = go_on(
         alloc,
         own,
         patience,
-        case.pieces,
         pass,
-        bytes.as_slice(),
-        replies.as_slice(),
+        exchange,
         &mut input,
         &mut output,
     );
     connect.close(input.into_inner(), output.into_inner());
     Ok(went)
+}
+
+/// What is sent over a connection, and what is wanted for it.
+#[derive(Clone, Copy)]
+struct Exchange<'a> {
+    /// What is sent.
+    bytes: &'a [u8],
+    /// How many bytes a piece of it has; none where all goes at once.
+    pieces: Option<u32>,
+    /// The replies that are wanted, in order.
+    replies: &'a [Expected],
 }
 
 #[tactic(auto, using(crate::proofs::Heard::heard_on))]
@@ -97,27 +111,26 @@ fn go_on<R: Read, W: Write>(
     alloc: Global,
     own: Address,
     patience: u32,
-    pieces: Option<u32>,
     pass: Result<Joining, DriveFault>,
-    bytes: &[u8],
-    replies: &[Expected],
+    exchange: Exchange<'_>,
     input: &mut Meter<R>,
     output: &mut Meter<W>,
 ) -> Went
     requires { 0 < patience }
-    ensures { WentOn R.remaining W.contents own patience bytes.now replies.now pass input.old input.new output.old
-        output.new result }
+    ensures { WentOn R.remaining W.contents own patience exchange.bytes.now exchange.replies.now pass input.old
+        input.new output.old output.new result }
 {
     if pass != Ok(Joining::Joined) {
         return Went::NotJoined;
     }
-    let size = match pieces {
+    let bytes = exchange.bytes;
+    let size = match exchange.pieces {
         Some(size) => size as usize,
         None => bytes.len(),
     };
     match send(bytes, size, output) {
         Err(written) => Went::NotSent(written),
-        Ok(()) => hear(alloc, own, patience, replies, input),
+        Ok(()) => hear(alloc, own, patience, exchange.replies, input),
     }
 }
 

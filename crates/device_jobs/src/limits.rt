@@ -3,17 +3,7 @@ ghost use Rattle.std.specs.Prelude.{◌≡◌};
 ghost use Rattle.device_jobs.specs.Limits.{connections_of, turns_of};
 
 use commands::EncoderOptions;
-
-/// The limits of a device.
-#[derive(Clone, Copy, Debug)]
-pub struct Limits {
-    /// How many connections are served.
-    pub connections: u64,
-    /// How many reads one may take.
-    pub turns: u32,
-    /// Whether the store is told at the end.
-    pub store: bool,
-}
+use device_serving::Limits;
 
 /// Those of a job: without end as many as can be counted.
 ///

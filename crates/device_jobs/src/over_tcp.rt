@@ -42,17 +42,22 @@ pub fn run_device_over_tcp<
 ) -> u8 {
     match begin(alloc, job, net, errors) {
         Err(status) => status,
-        Ok((rules, accepting)) => serve_with(
-            alloc,
-            job,
-            rules.as_slice(),
-            accepting,
-            writer,
-            errors,
-            effects,
-            net,
-            states,
-        ),
+        Ok((rules, accepting)) => {
+            let writers = Writers {
+                served: writer,
+                errors,
+                effects,
+            };
+            serve_with(
+                alloc,
+                job,
+                rules.as_slice(),
+                accepting,
+                writers,
+                net,
+                states,
+            )
+        }
     }
 }
 
@@ -128,6 +133,14 @@ pub fn fail_bind<E: Write>(fault: BindFault, errors: &mut E) -> u8
     status
 }
 
+/// Where a device tells what it serves, what failed, and what a bad line does.
+#[derive(Drop)]
+struct Writers<'a, W: Write, E: Write, M: Write> {
+    served: &'a mut W,
+    errors: &'a mut E,
+    effects: &'a mut M,
+}
+
 /// Serves over these connections, with what a bad line does to them where there are rules for it.
 fn serve_with<
     W: Write,
@@ -140,15 +153,18 @@ fn serve_with<
     job: &EncoderOptions,
     rules: &[Rule],
     accepting: Accepting<'_, N>,
-    writer: &mut W,
-    errors: &mut E,
-    effects: &mut M,
+    writers: Writers<'_, W, E, M>,
     net: &N,
     states: &S,
 ) -> u8 {
+    let Writers {
+        served,
+        errors,
+        effects,
+    } = writers;
     let clock = if job.log && job.time { Some(net) } else { None };
     let told = Told::new(job.log, job.form, clock, effects);
-    let mut log = LogLines::new(alloc, job.form, clock, job.log, writer);
+    let mut log = LogLines::new(alloc, job.form, clock, job.log, served);
     let mut attended = Attended::new(accepting, job.idle, &told);
     if rules.is_empty() {
         return run_device_from(alloc, job, states, &mut log, errors, &mut attended);

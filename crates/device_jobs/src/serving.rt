@@ -4,9 +4,9 @@ ghost use Rattle.uecp_frame.specs.Address.{is_exact};
 ghost use Rattle.uecp_jobs.specs.Setups.{IsSetup, options_of as options_in, encoder_at_first};
 ghost use Rattle.device_jobs.specs.Serving.{HasServedDevice, HasNoState, ServesIn, ServesUnkept};
 
-use crate::limits::{Limits, limits_of};
+use crate::limits::limits_of;
 use commands::EncoderOptions;
-use device_serving::{LogLines, run_device};
+use device_serving::{Limits, LogLines, run_device};
 use kept_jobs::fail_state;
 use rds_store::RdsStore;
 use state_jobs::{OpenStates, closed_so, state_text};
@@ -83,16 +83,7 @@ pub(crate) fn serve_in<S: OpenStates, W: Write, T: Clock, E: Write, C: Connectio
     match states.open_encoder(path, address, setup.sets, setup.services) {
         Err(fault) => fail_state(state_text(fault), errors),
         Ok((mut encoder, mut keeper)) => {
-            let status = run_device(
-                limits.connections,
-                limits.turns,
-                limits.store,
-                &mut encoder,
-                &mut keeper,
-                log,
-                errors,
-                connect,
-            );
+            let status = run_device(limits, &mut encoder, &mut keeper, log, errors, connect);
             closed_so(path, status, states.close_encoder(keeper), errors)
         }
     }
@@ -112,14 +103,5 @@ fn serve_unkept<W: Write, T: Clock, E: Write, C: Connections>(
         limits.connections limits.store connect.old connect.new log.old log.new (E.contents errors.old)
         (E.contents errors.new) result }
 {
-    run_device(
-        limits.connections,
-        limits.turns,
-        limits.store,
-        encoder,
-        &mut NotSaved,
-        log,
-        errors,
-        connect,
-    )
+    run_device(limits, encoder, &mut NotSaved, log, errors, connect)
 }

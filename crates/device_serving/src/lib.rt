@@ -10,8 +10,10 @@
 mod connection_lines;
 mod event_lines;
 pub mod laws;
+mod limits;
 mod log_lines;
 mod run;
 
+pub use limits::Limits;
 pub use log_lines::{LogFault, LogLines};
 pub use run::{run_device, tell_last, went_after};

@@ -9,6 +9,7 @@ ghost use Rattle.kept_jobs.specs.Stops.{stop_lines};
 ghost use Rattle.device_serving.specs.DeviceRun.{ServesNext, ServesFrom, RunsDevice, OutlivesRun};
 ghost use Rattle.device_serving.specs.DeviceRun.{TellsStore, went, went_after, ended_so};
 
+use crate::limits::Limits;
 use crate::log_lines::{LogFault, LogLines};
 use kept_jobs::{KeptStop, fail_run};
 use rds_store::RdsStore;
@@ -27,14 +28,11 @@ use uecp_text::RunFault;
 ///
 /// ```
 /// let mut log = LogLines::new(alloc, Form::Words(Region::Europe), Some(&rt), true, &mut output);
-/// let status = run_device(
-///     u64::MAX, 100_000, true, &mut encoder, &mut NotSaved, &mut log, &mut errors, &mut listening,
-/// );
+/// let limits = Limits { connections: u64::MAX, turns: 100_000, store: true };
+/// let status = run_device(limits, &mut encoder, &mut NotSaved, &mut log, &mut errors, &mut listening);
 /// ```
 pub fn run_device<K: KeepEncoder<RdsStore>, W: Write, Clk: Clock, E: Write, C: Connections>(
-    connections: u64,
-    turns: u32,
-    store: bool,
+    limits: Limits,
     encoder: &mut Encoder<RdsStore>,
     keeper: &mut K,
     log: &mut LogLines<'_, W, Clk>,
@@ -44,7 +42,7 @@ pub fn run_device<K: KeepEncoder<RdsStore>, W: Write, Clk: Clock, E: Write, C: C
     ensures status { (result ≡ 0) ⊎ (result ≡ 3) }
     // 0: all connections were served, and all was told. Nothing was said on `errors`.
     ensures done { result ≡ 0 → RunsDevice K.TOGETHER_MAX K.READ_MAX K.leaves K.is_clean K.saves K.fails C.opens
-        C.closes C.Input.remaining C.Output.contents turns connections store (record {
+        C.closes C.Input.remaining C.Output.contents limits.turns limits.connections limits.store (record {
           encoder = encoder.old;
           keeper = keeper.old;
           connect = connect.old;
@@ -57,7 +55,8 @@ pub fn run_device<K: KeepEncoder<RdsStore>, W: Write, Clk: Clock, E: Write, C: C
         }) (Ok tt) × (errors.new ≡ errors.old) }
     // 3: some were served up to one at which the run stopped, and why was said, or begun to be said.
     ensures failed { result ≡ 3 → (stop : KeptStop) × RunsDevice K.TOGETHER_MAX K.READ_MAX K.leaves K.is_clean K.saves
-        K.fails C.opens C.closes C.Input.remaining C.Output.contents turns connections store (record {
+        K.fails C.opens C.closes C.Input.remaining C.Output.contents limits.turns limits.connections limits.store
+        (record {
           encoder = encoder.old;
           keeper = keeper.old;
           connect = connect.old;
@@ -74,7 +73,7 @@ pub fn run_device<K: KeepEncoder<RdsStore>, W: Write, Clk: Clock, E: Write, C: C
     // 3: it is the encoder too, unless a save failed.
     ensures outlives { Settled (K.leaves keeper.old) encoder.old → K.is_clean keeper.new → (left : Kept Store)
         → K.leaves keeper.new left → OutlivesRun K.TOGETHER_MAX K.READ_MAX step K.leaves K.is_clean K.saves K.fails
-        C.opens C.closes C.Input.remaining C.Output.contents turns (record {
+        C.opens C.closes C.Input.remaining C.Output.contents limits.turns (record {
           encoder = encoder.new;
           keeper = keeper.new;
           connect = connect.new;
@@ -83,7 +82,7 @@ pub fn run_device<K: KeepEncoder<RdsStore>, W: Write, Clk: Clock, E: Write, C: C
     ensures clean { K.is_clean keeper.new → K.is_clean keeper.old }
     ensures loan { log.new.loan ≡ log.old.loan }
 {
-    match serve_and_store(connections, turns, store, encoder, keeper, log, connect) {
+    match serve_and_store(limits, encoder, keeper, log, connect) {
         Ok(()) => 0,
         Err(stop) => fail_run(&stop, errors),
     }
@@ -91,16 +90,14 @@ pub fn run_device<K: KeepEncoder<RdsStore>, W: Write, Clk: Clock, E: Write, C: C
 
 /// Serves the connections, and then tells the lines of the store where that is asked for.
 fn serve_and_store<K: KeepEncoder<RdsStore>, W: Write, Clk: Clock, C: Connections>(
-    connections: u64,
-    turns: u32,
-    store: bool,
+    limits: Limits,
     encoder: &mut Encoder<RdsStore>,
     keeper: &mut K,
     log: &mut LogLines<'_, W, Clk>,
     connect: &mut C,
 ) -> Result<(), KeptStop>
     ensures runs { RunsDevice K.TOGETHER_MAX K.READ_MAX K.leaves K.is_clean K.saves K.fails C.opens C.closes
-        C.Input.remaining C.Output.contents turns connections store (record {
+        C.Input.remaining C.Output.contents limits.turns limits.connections limits.store (record {
           encoder = encoder.old;
           keeper = keeper.old;
           connect = connect.old;
@@ -112,8 +109,15 @@ fn serve_and_store<K: KeepEncoder<RdsStore>, W: Write, Clk: Clock, C: Connection
           log = log.new;
         }) result }
 {
-    serve_connections(connections, turns, encoder, keeper, log, connect)?;
-    tell_last(store, encoder, log)
+    serve_connections(
+        limits.connections,
+        limits.turns,
+        encoder,
+        keeper,
+        log,
+        connect,
+    )?;
+    tell_last(limits.store, encoder, log)
 }
 
 /// Tells the lines of the store where that is asked for, and says whether the run goes on.

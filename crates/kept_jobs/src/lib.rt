@@ -16,6 +16,6 @@ mod telling;
 
 pub use batches::{join_if, stop_for};
 pub use beginning::begin;
-pub use server_run::run_server_kept;
+pub use server_run::{Start, run_server_kept};
 pub use stop::{KeptStop, fail_run, fail_state};
 pub use telling::write_told;

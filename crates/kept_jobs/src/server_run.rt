@@ -25,6 +25,15 @@ use uecp_link::Server;
 use uecp_net::{Connections, KeepServer, Progress, Sender};
 use uecp_text::read_all;
 
+/// What a run starts from.
+#[derive(Drop)]
+pub struct Start {
+    /// The server.
+    pub server: Server,
+    /// How far it has come.
+    pub progress: Progress,
+}
+
 /// Sends the messages of the input to this server's encoder, with the server's state kept, and answers the exit
 /// status: 0 done, 1 a line was refused, 3 a batch of messages is outstanding, the server could not be saved, or
 /// memory, reading or writing failed. The input is read to its end first. Then it is told how many messages were taken
@@ -39,28 +48,27 @@ use uecp_text::read_all;
 ///
 /// ```
 /// let status = run_server_kept(
-///     alloc, &options, server, progress, &mut keeper, &mut input, &mut output, &mut errors, &mut connecting,
+///     alloc, &options, Start { server, progress }, &mut keeper, &mut input, &mut output, &mut errors, &mut connecting,
 /// );
 /// ```
 pub fn run_server_kept<K: KeepServer, R: Read, W: Write, E: Write, C: Connections>(
     alloc: Global,
     options: &ServerSetup,
-    server: Server,
-    progress: Progress,
+    start: Start,
     keeper: &mut K,
     reader: &mut R,
     writer: &mut W,
     errors: &mut E,
     connect: &mut C,
 ) -> u8
-    requires exact { IsTrue (is_exact server.address) }
-    requires countable { progress.taken < 2 ^ 63 }
+    requires exact { IsTrue (is_exact start.server.address) }
+    requires countable { start.progress.taken < 2 ^ 63 }
     ensures runs { (went : Went) × RunsServer C.opens C.closes C.Input.remaining C.Output.contents K.leaves K.is_clean
         K.saves K.fails options.now.window options.now.join options.now.limits (R.remaining reader.old)
         (R.remaining reader.new) connect.old connect.new (record {
-          runs = server;
+          runs = start.server;
           keeper = keeper.old;
-          progress = progress;
+          progress = start.progress;
           held = W.contents writer.old;
         }) keeper.new (W.contents writer.new) went
         × IsTold went result (E.contents errors.old) (E.contents errors.new) }
@@ -76,19 +84,18 @@ pub fn run_server_kept<K: KeepServer, R: Read, W: Write, E: Write, C: Connection
         × Begins (E.contents errors.old) (E.contents errors.new) (stop_lines stop) }
     // 0 or 1: whatever a crash leaves has taken all messages of the input, or all before the line that is refused, and
     // none of them waits, nor any that waited before.
-    ensures kept { (result ≡ 0) ⊎ (result ≡ 1) → IsKept (K.leaves keeper.old) progress server → K.is_clean keeper.new
-        → (left : KeptServer) → K.leaves keeper.new left
-        → HasTakenInput (R.remaining reader.old) (R.remaining reader.new) progress left }
+    ensures kept { (result ≡ 0) ⊎ (result ≡ 1) → IsKept (K.leaves keeper.old) start.progress start.server
+        → K.is_clean keeper.new → (left : KeptServer) → K.leaves keeper.new left
+        → HasTakenInput (R.remaining reader.old) (R.remaining reader.new) start.progress left }
     // Whatever the status: a crash leaves the server as it was; or, where its encoder is to be joined, a new one; or
     // what calls of `settle_kept` and `send_kept` leave, one after another, of which the laws of those hold.
-    ensures outlives { IsKept (K.leaves keeper.old) progress server → K.is_clean keeper.new → (left : KeptServer)
-        → K.leaves keeper.new left → OutlivesRun C.opens C.closes C.Input.remaining C.Output.contents K.saves K.fails
-        options.now.join (R.remaining reader.old) (R.remaining reader.new) progress server left }
+    ensures outlives { IsKept (K.leaves keeper.old) start.progress start.server → K.is_clean keeper.new
+        → (left : KeptServer) → K.leaves keeper.new left
+        → OutlivesRun C.opens C.closes C.Input.remaining C.Output.contents K.saves K.fails
+        options.now.join (R.remaining reader.old) (R.remaining reader.new) start.progress start.server left }
     ensures clean { K.is_clean keeper.new → K.is_clean keeper.old }
 {
-    match send_all(
-        alloc, options, server, progress, keeper, reader, writer, connect,
-    ) {
+    match send_all(alloc, options, start, keeper, reader, writer, connect) {
         Ok(()) => 0,
         Err(stop) => fail_run(&stop, errors),
     }
@@ -98,30 +105,27 @@ pub fn run_server_kept<K: KeepServer, R: Read, W: Write, E: Write, C: Connection
 fn send_all<K: KeepServer, R: Read, W: Write, C: Connections>(
     alloc: Global,
     options: &ServerSetup,
-    server: Server,
-    progress: Progress,
+    start: Start,
     keeper: &mut K,
     reader: &mut R,
     writer: &mut W,
     connect: &mut C,
 ) -> Result<(), KeptStop>
-    requires exact { IsTrue (is_exact server.address) }
-    requires countable { progress.taken < 2 ^ 63 }
+    requires exact { IsTrue (is_exact start.server.address) }
+    requires countable { start.progress.taken < 2 ^ 63 }
     ensures runs { RunsServer C.opens C.closes C.Input.remaining C.Output.contents K.leaves K.is_clean K.saves K.fails
         options.now.window options.now.join options.now.limits (R.remaining reader.old) (R.remaining reader.new)
         connect.old connect.new (record {
-          runs = server;
+          runs = start.server;
           keeper = keeper.old;
-          progress = progress;
+          progress = start.progress;
           held = W.contents writer.old;
         }) keeper.new (W.contents writer.new) result }
 {
     let input = read_all(alloc, reader)?;
     let messages = messages_of(alloc, input.as_slice())?;
     let list = messages.list.as_slice();
-    let sent = send_messages(
-        alloc, options, list, server, progress, keeper, writer, connect,
-    );
+    let sent = send_messages(alloc, options, list, start, keeper, writer, connect);
     after_refusal(messages, sent)
 }
 
@@ -141,21 +145,20 @@ fn send_messages<K: KeepServer, W: Write, C: Connections>(
     alloc: Global,
     options: &ServerSetup,
     messages: &[Message],
-    server: Server,
-    progress: Progress,
+    start: Start,
     keeper: &mut K,
     writer: &mut W,
     connect: &mut C,
 ) -> Result<(), KeptStop>
-    requires exact { IsTrue (is_exact server.address) }
-    requires countable { progress.taken + length messages.now < 2 ^ 64 }
+    requires exact { IsTrue (is_exact start.server.address) }
+    requires countable { start.progress.taken + length messages.now < 2 ^ 64 }
     ensures sends { SendsMessages C.opens C.closes C.Input.remaining C.Output.contents K.leaves K.is_clean K.saves
         K.fails options.now.join (batch_size options.now.window) options.now.limits messages.now connect.old connect.new
-        (record { runs = server; keeper = keeper.old; progress = progress; held = W.contents writer.old }) keeper.new
-        (W.contents writer.new) result }
+        (record { runs = start.server; keeper = keeper.old; progress = start.progress; held = W.contents writer.old })
+        keeper.new (W.contents writer.new) result }
 {
-    let mut server = server;
-    let mut progress = progress;
+    let mut server = start.server;
+    let mut progress = start.progress;
     let due = is_due(options.join, progress);
     begin(alloc, due, &mut server, &mut progress, keeper, writer)?;
     let mut sender = Sender::new(connect, server, options.limits);

@@ -84,9 +84,7 @@ fn air_in<S: OpenStates, W: Write, T: Clock, E: Write, M: Moments>(
         Ok((mut encoder, mut keeper)) => {
             let mut carousel = Carousel::new();
             let status = run_on_air(
-                limits.connections,
-                limits.turns,
-                limits.store,
+                limits,
                 &mut encoder,
                 &mut keeper,
                 log,
@@ -115,9 +113,7 @@ fn air_unkept<W: Write, T: Clock, E: Write, M: Moments>(
 {
     let mut carousel = Carousel::new();
     run_on_air(
-        limits.connections,
-        limits.turns,
-        limits.store,
+        limits,
         encoder,
         &mut NotSaved,
         log,

@@ -49,6 +49,15 @@ impl Hearing {
     }
 }
 
+/// What is used again for each line.
+#[derive(Drop)]
+pub(crate) struct Buffers {
+    /// The line that is heard.
+    pub(crate) line: Vec<u8>,
+    /// What is told of it.
+    pub(crate) output: Output,
+}
+
 /// Takes the next line, has the receiver hear it, and tells what changed. Whether there was one.
 ///
 /// Errors: `Reading`, `Writing`; `OutOfMemory`, and then the line may be lost.
@@ -57,14 +66,13 @@ pub(crate) fn hear_next<F: Feed, W: Write, E: Write, C: Clock>(
     form: ShownForm,
     clock: Option<&C>,
     feed: &mut F,
-    line: &mut Vec<u8>,
     hearing: &mut Hearing,
-    output: &mut Output,
+    buffers: &mut Buffers,
     writer: &mut W,
     errors: &mut E,
 ) -> Result<bool, RunFault>
-    requires empty { output.old.bytes ≡ [] }
-    requires whole { IsTrue output.old.is_whole }
+    requires empty { buffers.old.output.bytes ≡ [] }
+    requires whole { IsTrue buffers.old.output.is_whole }
     ensures heard { result ≡ Ok true → (is : GroupLine) × Hears form (is_some clock.entry) is
         (standing_of hearing.old (F.remaining feed.old) (W.contents writer.old) (E.contents errors.old))
         (standing_of hearing.new (F.remaining feed.new) (W.contents writer.new) (E.contents errors.new)) }
@@ -74,12 +82,13 @@ pub(crate) fn hear_next<F: Feed, W: Write, E: Write, C: Clock>(
     ensures failed { IfErr result (λ fault. FailsFor fault form (is_some clock.entry)
         (standing_of hearing.old (F.remaining feed.old) (W.contents writer.old) (E.contents errors.old))
         (F.remaining feed.new) (W.contents writer.new) × (E.contents errors.new ≡ E.contents errors.old)) }
-    ensures empty { OnOk result (output.new.bytes ≡ []) }
-    ensures whole { OnOk result (IsTrue output.new.is_whole) }
+    ensures empty { OnOk result (buffers.new.output.bytes ≡ []) }
+    ensures whole { OnOk result (IsTrue buffers.new.output.is_whole) }
 {
-    let Some(group) = next_group(alloc, feed, line)? else {
+    let Some(group) = next_group(alloc, feed, &mut buffers.line)? else {
         return Ok(false);
     };
+    let output = &mut buffers.output;
     hear_group(form, clock, &group, &mut hearing.receiver, output, writer)?;
     count(&group, hearing, errors);
     Ok(true)

@@ -4,7 +4,7 @@ ghost use Rattle.uecp_text.specs.Faults.{status_of, error_lines};
 ghost use Rattle.uecp_text.specs.Written.{Begins};
 ghost use Rattle.receive_command.specs.Receiving.{Receives, at_first};
 
-use crate::line_input::{Hearing, hear_next};
+use crate::line_input::{Buffers, Hearing, hear_next};
 use commands::{ReceiveOptions, ShownForm};
 use line_feed::Feed;
 use rds_groups::Receiver;
@@ -46,8 +46,10 @@ fn receive<F: Feed, W: Write, E: Write, C: Clock>(
         (at_first (F.remaining feed.old) (W.contents writer.old) (E.contents errors.old))
         (F.remaining feed.new) (W.contents writer.new) (E.contents errors.new) }
 {
-    let mut line = Vec::new(alloc);
-    let mut output = Output::new(alloc);
+    let mut buffers = Buffers {
+        line: Vec::new(alloc),
+        output: Output::new(alloc),
+    };
     let mut hearing = Hearing::new();
     for _turn in 0..u64::MAX {
         let next = hear_next(
@@ -55,9 +57,8 @@ fn receive<F: Feed, W: Write, E: Write, C: Clock>(
             form,
             clock,
             feed,
-            &mut line,
             &mut hearing,
-            &mut output,
+            &mut buffers,
             writer,
             errors,
         );

@@ -11,5 +11,6 @@ mod run;
 mod station;
 
 pub use live_in::run_live_in;
-pub use over_tcp::run_send_over_tcp;
+pub use over_tcp::{Dialling, run_send_over_tcp};
 pub use run::run_send;
+pub use sending::Teller;

@@ -3,12 +3,11 @@ ghost use Rattle.std.specs.Prelude.{◌≡◌, ◌⊎◌, ◌≤◌, IsTrue};
 ghost use Rattle.uecp_frame.specs.Address.{is_exact};
 ghost use Rattle.send_commands.specs.LiveIn.{LivesIn, HasNoState};
 
-use kept_jobs::fail_state;
+use kept_jobs::{Start, fail_state};
 use line_feed::Feed;
-use sending::{LiveOptions, run_live};
+use sending::{LiveOptions, Teller, run_live};
 use state_files::StateFault;
 use state_jobs::{OpenStates, closed_so, state_text};
-use std::alloc::Global;
 use std::io::Write;
 use std::time::Clock;
 use uecp_frame::Address;
@@ -22,30 +21,29 @@ const TAKEN_MAX: u64 = 1 << 63;
 /// saved or closed, 4 the encoder refused a message. The state is opened before a line is taken and before any
 /// connection is, and closed at the end.
 pub fn run_live_in<S: OpenStates, F: Feed, W: Write, E: Write, C: Connections, T: Clock>(
-    alloc: Global,
     options: &LiveOptions<'_>,
     address: Address,
     path: &str,
     states: &S,
     feed: &mut F,
-    writer: &mut W,
+    teller: &mut Teller<'_, W, T>,
     errors: &mut E,
     connect: &mut C,
-    clock: &T,
 ) -> u8
     requires exact { IsTrue (is_exact address) }
     requires some { 1 ≤ options.now.reading.size }
     requires most { options.now.reading.size ≤ 8 }
     // The state was opened, the run was made from there, and the state closed; or it could not be opened, and nothing
     // was taken, opened or written.
-    ensures { LivesIn (S.gives_server states.now) (S.closes_server states.now) S.ServerKeeper.leaves
+    ensures lives { LivesIn (S.gives_server states.now) (S.closes_server states.now) S.ServerKeeper.leaves
         S.ServerKeeper.is_clean S.ServerKeeper.saves S.ServerKeeper.fails C.opens C.closes C.Input.remaining
         C.Output.contents path.now address options.now connect.old connect.new (F.remaining feed.old)
-        (F.remaining feed.new) (W.contents writer.old) (W.contents writer.new) (E.contents errors.old)
+        (F.remaining feed.new) teller.old.held teller.new.held (E.contents errors.old)
         (E.contents errors.new) result
         ⊎ (HasNoState (S.gives_server states.now) (S.refuses_server states.now) path.now (E.contents errors.old)
-        (E.contents errors.new) result × (feed.new ≡ feed.old) × (writer.new ≡ writer.old)
+        (E.contents errors.new) result × (feed.new ≡ feed.old) × (teller.new.held ≡ teller.old.held)
         × (connect.new ≡ connect.old)) }
+    ensures writer { teller.new.writer ≡ teller.old.writer }
 {
     match states.open_server(path, address) {
         Err(fault) => fail_state(state_text(fault), errors),
@@ -53,18 +51,8 @@ pub fn run_live_in<S: OpenStates, F: Feed, W: Write, E: Write, C: Connections, T
             if progress.taken >= TAKEN_MAX {
                 return fail_state(state_text(StateFault::Damaged), errors);
             }
-            let status = run_live(
-                alloc,
-                options,
-                server,
-                progress,
-                &mut keeper,
-                feed,
-                writer,
-                errors,
-                connect,
-                clock,
-            );
+            let start = Start { server, progress };
+            let status = run_live(options, start, &mut keeper, feed, teller, errors, connect);
             closed_so(path, status, states.close_server(keeper), errors)
         }
     }

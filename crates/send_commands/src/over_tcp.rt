@@ -9,6 +9,7 @@ use commands::SendOptions;
 use kept_jobs::fail_state;
 use line_feed::{Arrival, LineFeed};
 use live_edges::{Patience, Patient, ReadMeter, Watch};
+use sending::Teller;
 use state_jobs::OpenStates;
 use std::alloc::Global;
 use std::fs::Files;
@@ -20,9 +21,17 @@ use uecp_jobs::fail;
 use uecp_net::Connections;
 use uecp_text::RunFault;
 
+/// What the connections of `send` are dialled with.
+pub struct Dialling<'a, N> {
+    /// The network, the clock and the files.
+    pub net: &'a N,
+    /// What has the connection that is there, so that an arrival can look after it.
+    pub watch: &'a Watch,
+}
+
 /// Does the job over TCP with the lines of a reader, and answers the exit status: that of [`run_send`], or 2 where a
 /// line of the station's file is refused, and 3 where that can't be read. What is said of the connection goes to
-/// `notices`, and the watch has the connection that is there, so that the arrival can look after it.
+/// `notices`.
 pub fn run_send_over_tcp<
     'a,
     R: Read,
@@ -32,16 +41,15 @@ pub fn run_send_over_tcp<
     M: Write,
     N: Net<Stream = TcpStream> + Clock + Files,
     S: OpenStates,
+    T: Clock,
 >(
-    alloc: Global,
     job: &'a SendOptions,
     reader: &mut R,
     arrival: A,
-    writer: &mut W,
+    teller: &mut Teller<'_, W, T>,
     errors: &mut E,
-    watch: &'a Watch,
+    dialling: Dialling<'a, N>,
     notices: &'a mut M,
-    net: &'a N,
     states: &S,
 ) -> u8
     requires { IsSendable job.now }
@@ -49,9 +57,11 @@ pub fn run_send_over_tcp<
         ⟦<ReadMeter<TcpStream> as Read>⟧.remaining ⟦<TcpStream as Write>⟧.contents
         (S.gives_server states.now) (S.refuses_server states.now) (S.closes_server states.now)
         S.ServerKeeper.leaves S.ServerKeeper.is_clean S.ServerKeeper.saves S.ServerKeeper.fails job.now
-        (M.contents notices.old) (R.remaining reader.old) (W.contents writer.old) (W.contents writer.new)
-        (E.contents errors.old) (E.contents errors.new) result }
+        (M.contents notices.old) (R.remaining reader.old) teller.old.held teller.new.held (E.contents errors.old)
+        (E.contents errors.new) result }
 {
+    let Dialling { net, watch } = dialling;
+    let alloc = teller.alloc();
     match station_of(alloc, job, net, errors) {
         Err(fault) => fail_station(&fault, errors),
         Ok(station) => {
@@ -61,15 +71,13 @@ pub fn run_send_over_tcp<
             let mut patient = patient_of(net, job, watch, notices);
             let station = station.as_slice();
             run_send(
-                alloc,
                 job,
                 station,
                 states,
                 &mut feed,
-                writer,
+                teller,
                 errors,
                 &mut patient,
-                net,
             )
         }
     }

@@ -1,15 +1,15 @@
 //! The job `send`. Source: profile.
-ghost use Rattle.std.specs.Prelude.{◌≤◌, IsTrue};
+ghost use Rattle.std.specs.Prelude.{◌≡◌, ◌≤◌, IsTrue};
 ghost use Rattle.uecp_frame.specs.Address.{is_exact};
 ghost use Rattle.send_commands.specs.Job.{IsSendable, IsFor, HasSentLive, SendsTo};
 
 use crate::live_in::run_live_in;
 use commands::SendOptions;
+use kept_jobs::Start;
 use line_batches::Reading;
 use line_feed::Feed;
-use sending::{LiveOptions, run_live};
+use sending::{LiveOptions, Teller, run_live};
 use state_jobs::OpenStates;
-use std::alloc::Global;
 use std::io::Write;
 use std::time::Clock;
 use uecp_encoder::NotSaved;
@@ -24,22 +24,20 @@ use uecp_text::RunFault;
 /// memory, reading or writing failed, 4 the encoder refused a message. With a state in a file the run goes on from it;
 /// else it begins with a new server, which joins its encoder. The messages of the station are sent behind each join.
 pub fn run_send<S: OpenStates, F: Feed, W: Write, E: Write, C: Connections, T: Clock>(
-    alloc: Global,
     job: &SendOptions,
     station: &[Message],
     states: &S,
     feed: &mut F,
-    writer: &mut W,
+    teller: &mut Teller<'_, W, T>,
     errors: &mut E,
     connect: &mut C,
-    clock: &T,
 ) -> u8
     requires { IsSendable job.now }
-    ensures { HasSentLive C.opens C.closes C.Input.remaining C.Output.contents (S.gives_server states.now)
+    ensures sent { HasSentLive C.opens C.closes C.Input.remaining C.Output.contents (S.gives_server states.now)
         (S.refuses_server states.now) (S.closes_server states.now) S.ServerKeeper.leaves S.ServerKeeper.is_clean
         S.ServerKeeper.saves S.ServerKeeper.fails job.now station.now connect.old connect.new (F.remaining feed.old)
-        (F.remaining feed.new) (W.contents writer.old) (W.contents writer.new) (E.contents errors.old)
-        (E.contents errors.new) result }
+        (F.remaining feed.new) teller.old.held teller.new.held (E.contents errors.old) (E.contents errors.new) result }
+    ensures writer { teller.new.writer ≡ teller.old.writer }
 {
     let Some(address) = address_of(job.site, job.encoder) else {
         return fail(&RunFault::Address, errors);
@@ -49,12 +47,10 @@ pub fn run_send<S: OpenStates, F: Feed, W: Write, E: Write, C: Connections, T: C
         Some(path) => {
             let path = path.as_str();
             run_live_in(
-                alloc, &options, address, path, states, feed, writer, errors, connect, clock,
+                &options, address, path, states, feed, teller, errors, connect,
             )
         }
-        None => run_unkept(
-            alloc, &options, address, feed, writer, errors, connect, clock,
-        ),
+        None => run_unkept(&options, address, feed, teller, errors, connect),
     }
 }
 
@@ -83,36 +79,27 @@ fn options_of<'a>(job: &SendOptions, station: &'a [Message]) -> LiveOptions<'a>
 
 /// Sends with no state, from a new server on.
 fn run_unkept<F: Feed, W: Write, E: Write, C: Connections, T: Clock>(
-    alloc: Global,
     options: &LiveOptions<'_>,
     address: Address,
     feed: &mut F,
-    writer: &mut W,
+    teller: &mut Teller<'_, W, T>,
     errors: &mut E,
     connect: &mut C,
-    clock: &T,
 ) -> u8
     requires exact { IsTrue (is_exact address) }
     requires some { 1 ≤ options.now.reading.size }
     requires most { options.now.reading.size ≤ 8 }
-    ensures { SendsTo C.opens C.closes C.Input.remaining C.Output.contents address options.now connect.old connect.new
-        (F.remaining feed.old) (F.remaining feed.new) (W.contents writer.old) (W.contents writer.new)
+    ensures sends { SendsTo C.opens C.closes C.Input.remaining C.Output.contents address options.now connect.old
+        connect.new (F.remaining feed.old) (F.remaining feed.new) teller.old.held teller.new.held
         (E.contents errors.old) (E.contents errors.new) result }
+    ensures writer { teller.new.writer ≡ teller.old.writer }
 {
-    let progress = Progress {
-        taken: 0,
-        joined: false,
+    let start = Start {
+        server: Server::new(address),
+        progress: Progress {
+            taken: 0,
+            joined: false,
+        },
     };
-    run_live(
-        alloc,
-        options,
-        Server::new(address),
-        progress,
-        &mut NotSaved,
-        feed,
-        writer,
-        errors,
-        connect,
-        clock,
-    )
+    run_live(options, start, &mut NotSaved, feed, teller, errors, connect)
 }

@@ -5,4 +5,5 @@ pub mod Forms
 pub mod Counters
 pub mod Beginning
 pub mod Station
+pub mod Hands
 pub mod Run

@@ -23,7 +23,9 @@ use Rattle.kept_jobs.specs.Stops.{Went, TellsKept, Then, stop_for, stop_status, 
 use Rattle.kept_jobs.specs.ServerRun.{Standing, SettlesOne, SendsOne, sending, is_due}
 use Rattle.kept_jobs.specs.ServerRun.{not_joined}
 use Rattle.output_forms.specs.declared.form.Form.{Form}
+use Rattle.sending.specs.declared.course.Course.{Course}
 use Rattle.sending.specs.declared.options.LiveOptions.{LiveOptions}
+use Rattle.sending.specs.Hands.{Taking, Telling}
 use Rattle.sending.specs.Lines.{is_applied}
 use Rattle.sending.specs.Forms.{AreReplies, AreHeld, unknown_in}
 use Rattle.sending.specs.Beginning.{TellsTaken, BeginsAnewIf}
@@ -42,6 +44,24 @@ pub record Live (S K : Type 0) : Type 0 where
   pub applied : Bool
   pub unknown : ℕ
   pub behind : After
+
+-- Where it stands that has come so far: with what runs and what keeps it, what was taken, and what was told.
+abbrev pub stands : {S K : Type 0} → S → K → Course → Telling → Standing S K
+stands runs keeper course telling = record {
+  runs = runs;
+  keeper = keeper;
+  progress = course.progress;
+  held = telling.held;
+}
+
+abbrev pub live : {S K : Type 0} → S → K → Taking → Telling → Course → Live S K
+live runs keeper taking telling course = record {
+  sends = stands runs keeper course telling;
+  takes = taking.at;
+  applied = course.applied;
+  unknown = course.unknown;
+  behind = course.behind;
+}
 
 -- how a run went that ends so
 abbrev pub ended_as : Result (Unit {0}) RunFault → Went

@@ -4,16 +4,20 @@
 
 mod beginning;
 mod counters;
+mod course;
 mod forms;
+mod intake;
 mod lines;
 mod lives;
 mod objects;
 mod options;
 mod run;
 mod station;
+mod teller;
 mod timing;
 mod turn;
 
 pub use options::LiveOptions;
 pub use output_forms::Form;
 pub use run::run_live;
+pub use teller::Teller;

@@ -1,27 +1,26 @@
 //! A server whose lines come as they like, with its state kept. Source: profile.
-ghost use Rattle.std.specs.Prelude.{◌≡◌, ◌⊎◌, ◌≤◌, ◌<◌, ◌+◌, ◌-◌, ◌^◌, [], ℕ, false, length, IsTrue, IfOk, IfErr, Ok};
-ghost use Rattle.std.specs.Prelude.{Err};
+ghost use Rattle.std.specs.Prelude.{◌≡◌, ◌≤◌, ◌<◌, ◌+◌, ◌-◌, ◌^◌, [], false, IsTrue, IfOk, IfErr, Ok, Err};
 ghost use Rattle.uecp_frame.specs.Address.{is_exact};
 ghost use Rattle.kept_jobs.specs.Stops.{Went};
 ghost use Rattle.kept_jobs.specs.ServerRun.{is_due};
 ghost use Rattle.line_batches.specs.declared.taking.After.{After as Next};
 ghost use Rattle.line_batches.specs.declared.taking.After.TheVariants.{GoesOn};
-ghost use Rattle.sending.specs.Run.{Turn, ended_as, RunsTurns, RunsOn, RunsLive, LivesFrom, Lives, tally_status};
+ghost use Rattle.sending.specs.Run.{live, Turn, ended_as, RunsTurns, RunsOn, RunsLive, LivesFrom, Lives, tally_status};
 
 use crate::beginning::begin;
+use crate::course::Course;
+use crate::intake::Intake;
 use crate::lives::run_all;
 use crate::options::LiveOptions;
 use crate::station::make_if;
+use crate::teller::Teller;
 use crate::turn::{send_some, settle_first};
-use kept_jobs::{KeptStop, fail_run};
-use line_batches::{After, Reading, Tally, take_batch};
+use kept_jobs::{KeptStop, Start};
+use line_batches::After;
 use line_feed::Feed;
-use output_forms::Form;
-use std::alloc::Global;
 use std::io::Write;
 use std::mem::replace;
 use std::time::Clock;
-use uecp_link::Server;
 use uecp_net::{Connections, KeepServer, Progress, Sender};
 use uecp_text::RunFault;
 
@@ -45,53 +44,45 @@ const TURNS_MAX: u64 = 1 << 59;
 /// are told as unknown and not sent again, and it goes on with that as with one that is not joined. Where the end of
 /// the run was found behind them it joins the encoder and makes the station, and then ends so.
 pub fn run_live<K: KeepServer, F: Feed, W: Write, E: Write, C: Connections, T: Clock>(
-    alloc: Global,
     options: &LiveOptions<'_>,
-    server: Server,
-    progress: Progress,
+    start: Start,
     keeper: &mut K,
     feed: &mut F,
-    writer: &mut W,
+    teller: &mut Teller<'_, W, T>,
     errors: &mut E,
     connect: &mut C,
-    clock: &T,
 ) -> u8
-    requires exact { IsTrue (is_exact server.address) }
-    requires countable { progress.taken < 2 ^ 63 }
+    requires exact { IsTrue (is_exact start.server.address) }
+    requires countable { start.progress.taken < 2 ^ 63 }
     requires some { 1 ≤ options.now.reading.size }
     requires most { options.now.reading.size ≤ 8 }
     ensures runs { Lives C.opens C.closes C.Input.remaining C.Output.contents K.leaves K.is_clean K.saves K.fails
         options.now connect.old connect.new (record {
-          runs = server;
+          runs = start.server;
           keeper = keeper.old;
-          progress = progress;
-          held = W.contents writer.old;
-        }) keeper.new (W.contents writer.new) (F.remaining feed.old) (F.remaining feed.new)
-        (E.contents errors.old) (E.contents errors.new) result }
+          progress = start.progress;
+          held = teller.old.held;
+        }) keeper.new teller.new.held (F.remaining feed.old) (F.remaining feed.new) (E.contents errors.old)
+        (E.contents errors.new) result }
+    ensures writer { teller.new.writer ≡ teller.old.writer }
 {
-    let mut tally = Tally {
-        lines: 0,
-        refused: false,
-    };
+    let mut intake = Intake::new(teller.alloc(), feed, errors);
     let mut applied = true;
-    let ran = live(
-        alloc,
+    let ran = run_from(
         options,
-        server,
-        progress,
+        start,
         keeper,
-        feed,
-        writer,
-        errors,
+        &mut intake,
+        teller,
         connect,
-        clock,
-        &mut tally,
         &mut applied,
     );
-    match ran {
-        Ok(()) => status_of(tally.refused, applied),
-        Err(stop) => fail_run(&stop, errors),
-    }
+    let status = match ran {
+        Ok(()) => status_of(intake.has_refused(), applied),
+        Err(stop) => intake.fail(&stop),
+    };
+    let (_feed, _errors) = intake.finish();
+    status
 }
 
 /// Whether the encoder is to be joined: where that is asked for, or it was not yet.
@@ -116,306 +107,150 @@ fn status_of(refused: bool, applied: bool) -> u8
 
 /// Tells how far the server has come, begins anew where its encoder is to be joined, and sends by one
 /// sender after another.
-fn live<K: KeepServer, F: Feed, W: Write, E: Write, C: Connections, T: Clock>(
-    alloc: Global,
+fn run_from<K: KeepServer, F: Feed, W: Write, E: Write, C: Connections, T: Clock>(
     options: &LiveOptions<'_>,
-    server: Server,
-    progress: Progress,
+    start: Start,
     keeper: &mut K,
-    feed: &mut F,
-    writer: &mut W,
-    errors: &mut E,
+    intake: &mut Intake<'_, F, E>,
+    teller: &mut Teller<'_, W, T>,
     connect: &mut C,
-    clock: &T,
-    tally: &mut Tally,
     applied: &mut bool,
 ) -> Result<(), KeptStop>
-    requires exact { IsTrue (is_exact server.address) }
-    requires countable { progress.taken < 2 ^ 63 }
+    requires exact { IsTrue (is_exact start.server.address) }
+    requires countable { start.progress.taken < 2 ^ 63 }
     requires some { 1 ≤ options.now.reading.size }
     requires most { options.now.reading.size ≤ 8 }
     ensures lives { LivesFrom C.opens C.closes C.Input.remaining C.Output.contents K.leaves K.is_clean K.saves K.fails
         options.now connect.old connect.new (record {
           sends = record {
-            runs = server;
+            runs = start.server;
             keeper = keeper.old;
-            progress = progress;
-            held = W.contents writer.old;
+            progress = start.progress;
+            held = teller.old.held;
           };
-          takes = record {
-            unread = F.remaining feed.old;
-            lines = tally.old.lines;
-            refused = tally.old.refused;
-            said = E.contents errors.old;
-          };
+          takes = intake.old.at;
           applied = applied.old;
           unknown = 0;
           behind = GoesOn;
-        }) keeper.new (W.contents writer.new) (record {
-          unread = F.remaining feed.new;
-          lines = tally.new.lines;
-          refused = tally.new.refused;
-          said = E.contents errors.new;
-        }) applied.new result }
+        }) keeper.new teller.new.held intake.new.at applied.new result }
+    ensures feed { intake.new.feed ≡ intake.old.feed }
+    ensures errors { intake.new.errors ≡ intake.old.errors }
+    ensures writer { teller.new.writer ≡ teller.old.writer }
 {
-    let mut server = server;
-    let mut progress = progress;
+    let mut server = start.server;
+    let mut progress = start.progress;
     let due = is_due(options.join, progress);
     match begin(
-        alloc,
         options.form,
         due,
         &mut server,
         &mut progress,
         keeper,
-        writer,
+        teller,
     ) {
         Err(stop) => Err(stop),
-        Ok(()) => run_all(
-            alloc,
-            due,
-            options,
-            server,
-            keeper,
-            &mut progress,
-            feed,
-            writer,
-            errors,
-            connect,
-            clock,
-            tally,
-            applied,
-        ),
+        Ok(()) => {
+            let mut course = Course {
+                progress,
+                applied: *applied,
+                unknown: 0,
+                behind: After::GoesOn,
+            };
+            let ran = run_all(
+                due,
+                options,
+                server,
+                keeper,
+                intake,
+                teller,
+                connect,
+                &mut course,
+            );
+            *applied = course.applied;
+            ran
+        }
     }
 }
 
 /// Joins the encoder and makes the station where that is due, and then goes on by what comes behind what was
 /// outstanding.
 pub(crate) fn run_sender<K: KeepServer, F: Feed, W: Write, E: Write, C: Connections, T: Clock>(
-    alloc: Global,
     due: bool,
     options: &LiveOptions<'_>,
     sender: &mut Sender<'_, C>,
     keeper: &mut K,
-    progress: &mut Progress,
-    feed: &mut F,
-    writer: &mut W,
-    errors: &mut E,
-    clock: &T,
-    tally: &mut Tally,
-    applied: &mut bool,
-    unknown: &mut usize,
-    behind: &mut After,
+    intake: &mut Intake<'_, F, E>,
+    teller: &mut Teller<'_, W, T>,
+    course: &mut Course,
 ) -> Result<(), KeptStop>
     requires some { 1 ≤ options.now.reading.size }
     requires most { options.now.reading.size ≤ 8 }
     requires idle { IsTrue due → sender.old.sender.server.held ≡ [] }
-    requires not_joined { IsTrue due → progress.old.joined ≡ false }
-    requires countable { progress.old.taken < 2 ^ 63 }
+    requires not_joined { IsTrue due → course.old.progress.joined ≡ false }
+    requires countable { course.old.progress.taken < 2 ^ 63 }
     ensures runs { RunsLive C.opens C.closes C.Input.remaining C.Output.contents K.leaves K.is_clean K.saves K.fails
-        options.now due (record {
-          sends = record {
-            runs = sender.old;
-            keeper = keeper.old;
-            progress = progress.old;
-            held = W.contents writer.old;
-          };
-          takes = record {
-            unread = F.remaining feed.old;
-            lines = tally.old.lines;
-            refused = tally.old.refused;
-            said = E.contents errors.old;
-          };
-          applied = applied.old;
-          unknown = unknown.old;
-          behind = behind.old;
-        }) (record {
-          sends = record {
-            runs = sender.new;
-            keeper = keeper.new;
-            progress = progress.new;
-            held = W.contents writer.new;
-          };
-          takes = record {
-            unread = F.remaining feed.new;
-            lines = tally.new.lines;
-            refused = tally.new.refused;
-            said = E.contents errors.new;
-          };
-          applied = applied.new;
-          unknown = unknown.new;
-          behind = behind.new;
-        }) result }
+        options.now due (live sender.old keeper.old intake.old teller.old course.old)
+        (live sender.new keeper.new intake.new teller.new course.new) result }
     ensures loan { sender.new.loan ≡ sender.old.loan }
+    ensures feed { intake.new.feed ≡ intake.old.feed }
+    ensures errors { intake.new.errors ≡ intake.old.errors }
+    ensures writer { teller.new.writer ≡ teller.old.writer }
 {
-    make_if(
-        alloc,
-        options.form,
-        due,
-        options.reading.size,
-        options.station,
-        sender,
-        keeper,
-        progress,
-        writer,
-        applied,
-    )?;
-    match replace(behind, After::GoesOn) {
+    make_if(options, due, sender, keeper, teller, course)?;
+    match replace(&mut course.behind, After::GoesOn) {
         After::Ends(ended) => ended_as(ended),
-        After::GoesOn => go_on(
-            alloc, options, sender, keeper, progress, feed, writer, errors, clock, tally, applied,
-            unknown, behind,
-        ),
+        After::GoesOn => go_on(options, sender, keeper, intake, teller, course),
     }
 }
 
 /// Settles what waits, and then takes and sends batch after batch.
 fn go_on<K: KeepServer, F: Feed, W: Write, E: Write, C: Connections, T: Clock>(
-    alloc: Global,
     options: &LiveOptions<'_>,
     sender: &mut Sender<'_, C>,
     keeper: &mut K,
-    progress: &mut Progress,
-    feed: &mut F,
-    writer: &mut W,
-    errors: &mut E,
-    clock: &T,
-    tally: &mut Tally,
-    applied: &mut bool,
-    unknown: &mut usize,
-    behind: &mut After,
+    intake: &mut Intake<'_, F, E>,
+    teller: &mut Teller<'_, W, T>,
+    course: &mut Course,
 ) -> Result<(), KeptStop>
     requires some { 1 ≤ options.now.reading.size }
     requires most { options.now.reading.size ≤ 8 }
-    requires countable { progress.old.taken < 2 ^ 63 }
+    requires countable { course.old.progress.taken < 2 ^ 63 }
     ensures runs { RunsOn C.opens C.closes C.Input.remaining C.Output.contents K.leaves K.is_clean K.saves K.fails
-        options.now GoesOn (record {
-          sends = record {
-            runs = sender.old;
-            keeper = keeper.old;
-            progress = progress.old;
-            held = W.contents writer.old;
-          };
-          takes = record {
-            unread = F.remaining feed.old;
-            lines = tally.old.lines;
-            refused = tally.old.refused;
-            said = E.contents errors.old;
-          };
-          applied = applied.old;
-          unknown = unknown.old;
-          behind = behind.old;
-        }) (record {
-          sends = record {
-            runs = sender.new;
-            keeper = keeper.new;
-            progress = progress.new;
-            held = W.contents writer.new;
-          };
-          takes = record {
-            unread = F.remaining feed.new;
-            lines = tally.new.lines;
-            refused = tally.new.refused;
-            said = E.contents errors.new;
-          };
-          applied = applied.new;
-          unknown = unknown.new;
-          behind = behind.new;
-        }) result }
+        options.now GoesOn (live sender.old keeper.old intake.old teller.old course.old)
+        (live sender.new keeper.new intake.new teller.new course.new) result }
     ensures loan { sender.new.loan ≡ sender.old.loan }
+    ensures feed { intake.new.feed ≡ intake.old.feed }
+    ensures errors { intake.new.errors ≡ intake.old.errors }
+    ensures writer { teller.new.writer ≡ teller.old.writer }
 {
-    settle_first(
-        alloc,
-        options.form,
-        clock,
-        sender,
-        keeper,
-        *progress,
-        writer,
-        applied,
-        unknown,
-    )?;
-    run_turns(
-        alloc,
-        options.form,
-        &options.reading,
-        sender,
-        keeper,
-        progress,
-        feed,
-        writer,
-        errors,
-        clock,
-        tally,
-        applied,
-        unknown,
-        behind,
-    )
+    settle_first(options.form, sender, keeper, teller, course)?;
+    run_turns(options, sender, keeper, intake, teller, course)
 }
 
 /// Takes and sends one batch after another.
 fn run_turns<K: KeepServer, F: Feed, W: Write, E: Write, C: Connections, T: Clock>(
-    alloc: Global,
-    form: Form,
-    reading: &Reading,
+    options: &LiveOptions<'_>,
     sender: &mut Sender<'_, C>,
     keeper: &mut K,
-    progress: &mut Progress,
-    feed: &mut F,
-    writer: &mut W,
-    errors: &mut E,
-    clock: &T,
-    tally: &mut Tally,
-    applied: &mut bool,
-    unknown: &mut usize,
-    behind: &mut After,
+    intake: &mut Intake<'_, F, E>,
+    teller: &mut Teller<'_, W, T>,
+    course: &mut Course,
 ) -> Result<(), KeptStop>
-    requires some { 1 ≤ reading.now.size }
-    requires most { reading.now.size ≤ 8 }
+    requires some { 1 ≤ options.now.reading.size }
+    requires most { options.now.reading.size ≤ 8 }
     requires idle { sender.old.sender.server.held ≡ [] }
-    requires countable { progress.old.taken < 2 ^ 63 }
+    requires countable { course.old.progress.taken < 2 ^ 63 }
     ensures runs { RunsTurns C.opens C.closes C.Input.remaining C.Output.contents K.leaves K.is_clean K.saves K.fails
-        form reading.now.region reading.now.size reading.now.strict (record {
-          sends = record {
-            runs = sender.old;
-            keeper = keeper.old;
-            progress = progress.old;
-            held = W.contents writer.old;
-          };
-          takes = record {
-            unread = F.remaining feed.old;
-            lines = tally.old.lines;
-            refused = tally.old.refused;
-            said = E.contents errors.old;
-          };
-          applied = applied.old;
-          unknown = unknown.old;
-          behind = behind.old;
-        }) (record {
-          sends = record {
-            runs = sender.new;
-            keeper = keeper.new;
-            progress = progress.new;
-            held = W.contents writer.new;
-          };
-          takes = record {
-            unread = F.remaining feed.new;
-            lines = tally.new.lines;
-            refused = tally.new.refused;
-            said = E.contents errors.new;
-          };
-          applied = applied.new;
-          unknown = unknown.new;
-          behind = behind.new;
-        }) result }
+        options.now.form options.now.reading.region options.now.reading.size options.now.reading.strict
+        (live sender.old keeper.old intake.old teller.old course.old)
+        (live sender.new keeper.new intake.new teller.new course.new) result }
     ensures loan { sender.new.loan ≡ sender.old.loan }
+    ensures feed { intake.new.feed ≡ intake.old.feed }
+    ensures errors { intake.new.errors ≡ intake.old.errors }
+    ensures writer { teller.new.writer ≡ teller.old.writer }
 {
-    let mut line = Vec::new(alloc);
     for _turn in 0..TURNS_MAX {
-        match make_turn(
-            alloc, form, reading, sender, keeper, progress, feed, writer, errors, clock, tally,
-            applied, unknown, behind, &mut line,
-        ) {
+        match make_turn(options, sender, keeper, intake, teller, course) {
             Err(stop) => return Err(stop),
             Ok(After::Ends(ended)) => return ended_as(ended),
             Ok(After::GoesOn) => {}
@@ -437,115 +272,45 @@ fn ended_as(ended: Result<(), RunFault>) -> Result<(), KeptStop>
 /// Takes one batch and sends it, and tells what comes after it; where it could not be sent, that is put down as what
 /// comes behind it.
 fn make_turn<K: KeepServer, F: Feed, W: Write, E: Write, C: Connections, T: Clock>(
-    alloc: Global,
-    form: Form,
-    reading: &Reading,
+    options: &LiveOptions<'_>,
     sender: &mut Sender<'_, C>,
     keeper: &mut K,
-    progress: &mut Progress,
-    feed: &mut F,
-    writer: &mut W,
-    errors: &mut E,
-    clock: &T,
-    tally: &mut Tally,
-    applied: &mut bool,
-    unknown: &mut usize,
-    behind: &mut After,
-    line: &mut Vec<u8>,
+    intake: &mut Intake<'_, F, E>,
+    teller: &mut Teller<'_, W, T>,
+    course: &mut Course,
 ) -> Result<After, KeptStop>
-    requires some { 1 ≤ reading.now.size }
-    requires most { reading.now.size ≤ 8 }
+    requires some { 1 ≤ options.now.reading.size }
+    requires most { options.now.reading.size ≤ 8 }
     requires idle { sender.old.sender.server.held ≡ [] }
-    requires countable { progress.old.taken + 8 < 2 ^ 64 - 1 }
+    requires countable { course.old.progress.taken + 8 < 2 ^ 64 - 1 }
     ensures made { IfOk result (λ after. Turn C.opens C.closes C.Input.remaining C.Output.contents K.leaves K.is_clean
-        K.saves K.fails form reading.now.region reading.now.size reading.now.strict (record {
-          sends = record {
-            runs = sender.old;
-            keeper = keeper.old;
-            progress = progress.old;
-            held = W.contents writer.old;
-          };
-          takes = record {
-            unread = F.remaining feed.old;
-            lines = tally.old.lines;
-            refused = tally.old.refused;
-            said = E.contents errors.old;
-          };
-          applied = applied.old;
-          unknown = unknown.old;
-          behind = behind.old;
-        }) (record {
-          sends = record {
-            runs = sender.new;
-            keeper = keeper.new;
-            progress = progress.new;
-            held = W.contents writer.new;
-          };
-          takes = record {
-            unread = F.remaining feed.new;
-            lines = tally.new.lines;
-            refused = tally.new.refused;
-            said = E.contents errors.new;
-          };
-          applied = applied.new;
-          unknown = unknown.new;
-          behind = behind.new;
-        }) after (Ok tt)) }
+        K.saves K.fails options.now.form options.now.reading.region options.now.reading.size options.now.reading.strict
+        (live sender.old keeper.old intake.old teller.old course.old)
+        (live sender.new keeper.new intake.new teller.new course.new) after (Ok tt)) }
     ensures stopped { IfErr result (λ stop. (after : Next)
         × Turn C.opens C.closes C.Input.remaining C.Output.contents K.leaves K.is_clean
-        K.saves K.fails form reading.now.region reading.now.size reading.now.strict (record {
-          sends = record {
-            runs = sender.old;
-            keeper = keeper.old;
-            progress = progress.old;
-            held = W.contents writer.old;
-          };
-          takes = record {
-            unread = F.remaining feed.old;
-            lines = tally.old.lines;
-            refused = tally.old.refused;
-            said = E.contents errors.old;
-          };
-          applied = applied.old;
-          unknown = unknown.old;
-          behind = behind.old;
-        }) (record {
-          sends = record {
-            runs = sender.new;
-            keeper = keeper.new;
-            progress = progress.new;
-            held = W.contents writer.new;
-          };
-          takes = record {
-            unread = F.remaining feed.new;
-            lines = tally.new.lines;
-            refused = tally.new.refused;
-            said = E.contents errors.new;
-          };
-          applied = applied.new;
-          unknown = unknown.new;
-          behind = behind.new;
-        }) after (Err stop)) }
-    ensures taken { progress.new.taken ≤ progress.old.taken + 8 }
+        K.saves K.fails options.now.form options.now.reading.region options.now.reading.size options.now.reading.strict
+        (live sender.old keeper.old intake.old teller.old course.old)
+        (live sender.new keeper.new intake.new teller.new course.new) after (Err stop)) }
+    ensures taken { course.new.progress.taken ≤ course.old.progress.taken + 8 }
     ensures idle { IfOk result (λ _. sender.new.sender.server.held ≡ []) }
     ensures loan { sender.new.loan ≡ sender.old.loan }
+    ensures feed { intake.new.feed ≡ intake.old.feed }
+    ensures errors { intake.new.errors ≡ intake.old.errors }
+    ensures writer { teller.new.writer ≡ teller.old.writer }
 {
-    let mut batch = Vec::new(alloc);
-    let after = take_batch(alloc, reading, feed, line, errors, tally, &mut batch);
+    let mut batch = Vec::new(teller.alloc());
+    let after = intake.take(&options.reading, &mut batch);
     match send_some(
-        alloc,
-        form,
-        clock,
+        options.form,
         batch.as_slice(),
         sender,
         keeper,
-        progress,
-        writer,
-        applied,
-        unknown,
+        teller,
+        course,
     ) {
         Err(stop) => {
-            *behind = after;
+            course.behind = after;
             Err(stop)
         }
         Ok(()) => Ok(after),

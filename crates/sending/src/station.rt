@@ -1,6 +1,6 @@
 //! An encoder is joined, and the station made there, before that is kept. Source: profile.
 ghost use Rattle.std.specs.Prelude.{◌≡◌, ◌≢◌, ◌≤◌, ◌<◌, ◌+◌, ◌&&◌, ◌^◌, [], length, true, false, List, ℕ, IsTrue, IfOk};
-ghost use Rattle.std.specs.Prelude.{IfErr, Err};
+ghost use Rattle.std.specs.Prelude.{IfErr};
 ghost use Rattle.std.specs.List.{list_all};
 ghost use Rattle.uecp_elements.specs.declared.code.Code.{Code as AnyCode};
 ghost use Rattle.uecp_text.specs.Written.{Adds};
@@ -8,100 +8,69 @@ ghost use Rattle.uecp_jobs.specs.Batches.{Acknowledges, GivesUp};
 ghost use Rattle.uecp_net.specs.Sending.{submitted_all};
 ghost use Rattle.uecp_net.specs.Keeping.{KeptServer, IsKept};
 ghost use Rattle.uecp_net.specs.SavedJoining.{OutlivesPass, StaysKeptJoining, joined_as};
-ghost use Rattle.uecp_jobs.specs.Batches.{fault_of};
-ghost use Rattle.kept_jobs.specs.declared.stop.KeptStop.TheVariants.{Run};
-ghost use Rattle.kept_jobs.specs.Stops.{TellsKept};
 ghost use Rattle.sending.specs.Lines.{is_applied};
-ghost use Rattle.sending.specs.Forms.{refused_in, not_joined_in};
-ghost use Rattle.sending.specs.Station.{JoinedTold, SettlesBatch, SendsStation, MakesStation, MakesKept, MakesIf};
+ghost use Rattle.sending.specs.Forms.{refused_in};
+ghost use Rattle.sending.specs.Run.{stands};
+ghost use Rattle.sending.specs.Station.{SettlesBatch, SendsStation, MakesStation, MakesKept, MakesIf};
 
-use crate::forms::{put_applied_in, put_joined_in, put_not_joined_in, put_refused_in};
+use crate::course::Course;
+use crate::forms::{put_applied_in, put_joined_in, put_refused_in};
 use crate::lines::all_applied;
-use kept_jobs::{KeptStop, write_told};
+use crate::options::LiveOptions;
+use crate::teller::Teller;
+use kept_jobs::KeptStop;
 use output_forms::Form;
-use std::alloc::Global;
 use std::io::Write;
+use std::time::Clock;
 use uecp_encoder::SaveFailed;
 use uecp_frame::Message;
-use uecp_jobs::fault_of;
 use uecp_net::{Connections, KeepServer, KeptOutstanding, Outstanding, Progress, Sender, Settled};
 use uecp_text::Output;
 
 /// Joins the encoder and makes the station where that is due, saves the server as joined then, and tells it once that
 /// is kept.
-pub(crate) fn make_if<K: KeepServer, W: Write, C: Connections>(
-    alloc: Global,
-    form: Form,
+pub(crate) fn make_if<K: KeepServer, W: Write, C: Connections, T: Clock>(
+    options: &LiveOptions<'_>,
     due: bool,
-    size: usize,
-    station: &[Message],
     sender: &mut Sender<'_, C>,
     keeper: &mut K,
-    progress: &mut Progress,
-    writer: &mut W,
-    applied: &mut bool,
+    teller: &mut Teller<'_, W, T>,
+    course: &mut Course,
 ) -> Result<(), KeptStop>
-    requires some { 1 ≤ size }
-    requires most { size ≤ 8 }
+    requires some { 1 ≤ options.now.reading.size }
+    requires most { options.now.reading.size ≤ 8 }
     requires idle { IsTrue due → sender.old.sender.server.held ≡ [] }
-    requires not_joined { IsTrue due → progress.old.joined ≡ false }
+    requires not_joined { IsTrue due → course.old.progress.joined ≡ false }
     ensures makes { MakesIf C.opens C.closes C.Input.remaining C.Output.contents K.leaves K.is_clean K.saves K.fails
-        form size station.now due
-        (record { runs = sender.old; keeper = keeper.old; progress = progress.old; held = W.contents writer.old })
-        (record { runs = sender.new; keeper = keeper.new; progress = progress.new; held = W.contents writer.new })
-        applied.old applied.new result }
-    ensures taken { progress.new.taken ≡ progress.old.taken }
+        options.now.form options.now.reading.size options.now.station.now due
+        (stands sender.old keeper.old course.old teller.old) (stands sender.new keeper.new course.new teller.new)
+        course.old.applied course.new.applied result }
+    ensures taken { course.new.progress.taken ≡ course.old.progress.taken }
+    ensures unknown { course.new.unknown ≡ course.old.unknown }
+    ensures behind { course.new.behind ≡ course.old.behind }
     ensures loan { sender.new.loan ≡ sender.old.loan }
+    ensures writer { teller.new.writer ≡ teller.old.writer }
 {
     if !due {
         return Ok(());
     }
-    let mut lines = Output::new(alloc);
+    let form = options.form;
+    let mut lines = Output::new(teller.alloc());
     put_joined_in(form, &mut lines);
     let mut all = true;
     let joined = make_kept(
-        form, size, station, sender, keeper, progress, &mut lines, &mut all,
+        form,
+        options.reading.size,
+        options.station,
+        sender,
+        keeper,
+        &mut course.progress,
+        &mut lines,
+        &mut all,
     );
-    *applied = *applied && all;
-    put_applied_in(form, station, all, &mut lines);
-    tell_joined(alloc, form, joined, &mut lines, writer)
-}
-
-/// Tells these lines of an encoder that was joined so, or that it could not be, and says how the run goes on. Nothing
-/// is told where the save failed.
-fn tell_joined<W: Write>(
-    alloc: Global,
-    form: Form,
-    joined: Result<(), KeptOutstanding>,
-    output: &mut Output,
-    writer: &mut W,
-) -> Result<(), KeptStop>
-    ensures tells { (lines : List ℕ) → (IsTrue output.old.is_whole → output.old.bytes ≡ lines)
-        → JoinedTold form lines joined (W.contents writer.old) (W.contents writer.new) result }
-{
-    match joined {
-        Ok(()) => write_told(output, writer),
-        Err(KeptOutstanding::Outstanding(reason)) => tell_not_joined(alloc, form, reason, writer),
-        Err(KeptOutstanding::StateFailed) => Err(KeptStop::StateFailed),
-    }
-}
-
-/// Tells that the encoder is not joined, and says that the run stops for this reason.
-fn tell_not_joined<W: Write>(
-    alloc: Global,
-    form: Form,
-    reason: Outstanding,
-    writer: &mut W,
-) -> Result<(), KeptStop>
-    ensures tells { TellsKept (not_joined_in form) (Err (Run (fault_of reason))) (W.contents writer.old)
-        (W.contents writer.new) result }
-{
-    let mut output = Output::new(alloc);
-    put_not_joined_in(form, &mut output);
-    match write_told(&mut output, writer) {
-        Err(stop) => Err(stop),
-        Ok(()) => Err(KeptStop::Run(fault_of(reason))),
-    }
+    course.applied = course.applied && all;
+    put_applied_in(form, options.station, all, &mut lines);
+    teller.tell_joined(form, joined, &mut lines)
 }
 
 /// Joins the encoder and makes the station, and saves the server as joined then. The lines of the messages that the

@@ -1,163 +1,125 @@
 //! A batch is sent, and the reply to each message told. Source: profile.
-ghost use Rattle.std.specs.Prelude.{◌≡◌, ◌≢◌, ◌≤◌, ◌<◌, ◌+◌, ◌-◌, ◌^◌, [], length, IfOk, Ok};
-ghost use Rattle.uecp_link.specs.Server.{counters_waiting};
-ghost use Rattle.uecp_net.specs.Sending.{submitted_all};
+ghost use Rattle.std.specs.Prelude.{◌≡◌, ◌≢◌, ◌≤◌, ◌<◌, ◌+◌, ◌-◌, ◌^◌, [], length, IfOk};
 ghost use Rattle.uecp_net.specs.Keeping.{taking};
-ghost use Rattle.sending.specs.Run.{SendsBatch, SendsSome, SettlesLive, AnswersTold, RepliesOf, are_applied};
-ghost use Rattle.sending.specs.Run.{unknown_of};
-ghost use Rattle.sending.specs.Run.{marks_in};
-ghost use Rattle.sending.specs.Forms.{AreHeld};
+ghost use Rattle.sending.specs.Run.{SendsBatch, SendsSome, SettlesLive, are_applied, unknown_of, marks_in, stands};
 
 use crate::counters::{counters_after, counters_of};
-use crate::forms::{put_held_in, put_replies_in};
+use crate::course::Course;
 use crate::lines::all_applied;
-use crate::timing::now;
+use crate::teller::{Teller, first_of};
 use arrayvec::ArrayVec;
-use kept_jobs::{KeptStop, stop_for, write_told};
+use kept_jobs::KeptStop;
 use output_forms::Form;
-use std::alloc::Global;
 use std::io::Write;
 use std::time::Clock;
 use uecp_frame::Message;
-use uecp_link::{Server, ServerCounts, WINDOW_MAX};
+use uecp_link::{Server, WINDOW_MAX};
 use uecp_net::{
-    Connections, KeepServer, KeptOutstanding, Outstanding, Progress, Sender, Settled, send_kept,
-    settle_kept,
+    Connections, KeepServer, KeptOutstanding, Outstanding, Sender, Settled, send_kept, settle_kept,
 };
-use uecp_text::Output;
 
 /// Sends these messages, and tells what the encoder answered to each once that is kept.
 pub(crate) fn send_batch<K: KeepServer, W: Write, C: Connections, T: Clock>(
-    alloc: Global,
     form: Form,
-    clock: &T,
     batch: &[Message],
     sender: &mut Sender<'_, C>,
     keeper: &mut K,
-    progress: &mut Progress,
-    writer: &mut W,
-    applied: &mut bool,
-    unknown: &mut usize,
+    teller: &mut Teller<'_, W, T>,
+    course: &mut Course,
 ) -> Result<(), KeptStop>
     requires some { batch.now ≢ [] }
     requires most { length batch.now ≤ 8 }
     requires idle { sender.old.sender.server.held ≡ [] }
-    requires countable { progress.old.taken + length batch.now < 2 ^ 64 - 1 }
+    requires countable { course.old.progress.taken + length batch.now < 2 ^ 64 - 1 }
     ensures sends { SendsBatch C.opens C.closes C.Input.remaining C.Output.contents K.leaves K.is_clean K.saves K.fails
-        form batch.now (record {
-          runs = sender.old;
-          keeper = keeper.old;
-          progress = progress.old;
-          held = W.contents writer.old;
-        }) (record {
-          runs = sender.new;
-          keeper = keeper.new;
-          progress = progress.new;
-          held = W.contents writer.new;
-        }) applied.old applied.new unknown.new result }
-    ensures progress { progress.new ≡ taking progress.old (length batch.now) }
+        form batch.now (stands sender.old keeper.old course.old teller.old)
+        (stands sender.new keeper.new course.new teller.new) course.old.applied course.new.applied course.new.unknown
+        result }
+    ensures progress { course.new.progress ≡ taking course.old.progress (length batch.now) }
+    ensures behind { course.new.behind ≡ course.old.behind }
     ensures idle { IfOk result (λ _. sender.new.sender.server.held ≡ []) }
     ensures loan { sender.new.loan ≡ sender.old.loan }
+    ensures writer { teller.new.writer ≡ teller.old.writer }
 {
     let counters = counters_after(sender.server().last(), batch.len());
-    let since = now(clock);
-    let ended = send_kept(sender, keeper, progress, batch);
-    *applied = *applied && are_applied(&ended);
-    *unknown = unknown_of(batch.len(), &ended);
-    tell_replies(
-        alloc,
+    let since = teller.now();
+    let ended = send_kept(sender, keeper, &mut course.progress, batch);
+    course.applied = course.applied && are_applied(&ended);
+    course.unknown = unknown_of(batch.len(), &ended);
+    teller.tell_replies(
         form,
-        clock,
         since,
-        progress.taken,
+        course.progress.taken,
         counters.as_slice(),
         &ended,
         sender.server().counts(),
-        writer,
     )
 }
 
 /// Sends these messages so, where there are some.
 pub(crate) fn send_some<K: KeepServer, W: Write, C: Connections, T: Clock>(
-    alloc: Global,
     form: Form,
-    clock: &T,
     batch: &[Message],
     sender: &mut Sender<'_, C>,
     keeper: &mut K,
-    progress: &mut Progress,
-    writer: &mut W,
-    applied: &mut bool,
-    unknown: &mut usize,
+    teller: &mut Teller<'_, W, T>,
+    course: &mut Course,
 ) -> Result<(), KeptStop>
     requires most { length batch.now ≤ 8 }
     requires idle { sender.old.sender.server.held ≡ [] }
-    requires countable { progress.old.taken + length batch.now < 2 ^ 64 - 1 }
+    requires countable { course.old.progress.taken + length batch.now < 2 ^ 64 - 1 }
     ensures sends { SendsSome C.opens C.closes C.Input.remaining C.Output.contents K.leaves K.is_clean K.saves K.fails
-        form batch.now (record {
-          runs = sender.old;
-          keeper = keeper.old;
-          progress = progress.old;
-          held = W.contents writer.old;
-        }) (record {
-          runs = sender.new;
-          keeper = keeper.new;
-          progress = progress.new;
-          held = W.contents writer.new;
-        }) applied.old applied.new unknown.old unknown.new result }
-    ensures progress { progress.new.taken ≤ progress.old.taken + 8 }
+        form batch.now (stands sender.old keeper.old course.old teller.old)
+        (stands sender.new keeper.new course.new teller.new) course.old.applied course.new.applied course.old.unknown
+        course.new.unknown result }
+    ensures progress { course.new.progress.taken ≤ course.old.progress.taken + 8 }
+    ensures behind { course.new.behind ≡ course.old.behind }
     ensures idle { IfOk result (λ _. sender.new.sender.server.held ≡ []) }
     ensures loan { sender.new.loan ≡ sender.old.loan }
+    ensures writer { teller.new.writer ≡ teller.old.writer }
 {
     if batch.is_empty() {
         return Ok(());
     }
-    send_batch(
-        alloc, form, clock, batch, sender, keeper, progress, writer, applied, unknown,
-    )
+    send_batch(form, batch, sender, keeper, teller, course)
 }
 
 /// Settles what waits, where messages wait, and tells what the encoder answered to each once that is kept.
 pub(crate) fn settle_first<K: KeepServer, W: Write, C: Connections, T: Clock>(
-    alloc: Global,
     form: Form,
-    clock: &T,
     sender: &mut Sender<'_, C>,
     keeper: &mut K,
-    progress: Progress,
-    writer: &mut W,
-    applied: &mut bool,
-    unknown: &mut usize,
+    teller: &mut Teller<'_, W, T>,
+    course: &mut Course,
 ) -> Result<(), KeptStop>
-    requires countable { progress.taken < 2 ^ 64 - 1 }
+    requires countable { course.old.progress.taken < 2 ^ 64 - 1 }
     ensures settles { SettlesLive C.opens C.closes C.Input.remaining C.Output.contents K.leaves K.is_clean K.saves
-        K.fails form
-        (record { runs = sender.old; keeper = keeper.old; progress = progress; held = W.contents writer.old })
-        (record { runs = sender.new; keeper = keeper.new; progress = progress; held = W.contents writer.new })
-        applied.old applied.new unknown.old unknown.new result }
+        K.fails form (stands sender.old keeper.old course.old teller.old)
+        (stands sender.new keeper.new course.new teller.new) course.old.applied course.new.applied course.old.unknown
+        course.new.unknown result }
+    ensures progress { course.new.progress ≡ course.old.progress }
+    ensures behind { course.new.behind ≡ course.old.behind }
     ensures idle { IfOk result (λ _. sender.new.sender.server.held ≡ []) }
     ensures loan { sender.new.loan ≡ sender.old.loan }
+    ensures writer { teller.new.writer ≡ teller.old.writer }
 {
     if sender.server().is_idle() {
         return Ok(());
     }
     let marks = marks_of(sender.server());
     let counters = counters_of(sender.server());
-    let since = now(clock);
-    let ended = settle_kept(sender, keeper, progress);
-    *applied = *applied && are_applied(&ended);
-    *unknown = unknown_of(marks.len(), &ended);
-    tell_held(
-        alloc,
+    let since = teller.now();
+    let ended = settle_kept(sender, keeper, course.progress);
+    course.applied = course.applied && are_applied(&ended);
+    course.unknown = unknown_of(marks.len(), &ended);
+    teller.tell_held(
         form,
-        clock,
         since,
-        first_of(progress.taken, marks.len()),
+        first_of(course.progress.taken, marks.len()),
         marks.as_slice(),
         counters.as_slice(),
         &ended,
         sender.server().counts(),
-        writer,
     )
 }
 
@@ -173,82 +135,6 @@ fn marks_of(server: &Server) -> ArrayVec<bool, WINDOW_MAX>
         marks.push(held.marked);
     }
     marks
-}
-
-/// Tells what the encoder answered to messages that were held, of which the first has this number: those that are not
-/// marked waited under these counters, were sent since then and settled so. Says how the run goes on.
-fn tell_held<W: Write, T: Clock>(
-    alloc: Global,
-    form: Form,
-    clock: &T,
-    since: u64,
-    first: u64,
-    marks: &[bool],
-    counters: &[u8],
-    ended: &Result<Settled, KeptOutstanding>,
-    counts: ServerCounts,
-    writer: &mut W,
-) -> Result<(), KeptStop>
-    requires countable { first + length marks.now < 2 ^ 64 }
-    ensures tells { AnswersTold (AreHeld form first marks.now counters.now) counts ended.now (W.contents writer.old)
-        (W.contents writer.new) result }
-{
-    match ended {
-        Ok(settled) => {
-            let mut output = Output::new(alloc);
-            put_held_in(
-                form,
-                clock,
-                since,
-                first,
-                marks,
-                counters,
-                settled,
-                &mut output,
-            );
-            write_told(&mut output, writer)
-        }
-        Err(KeptOutstanding::Outstanding(why)) => Err(stop_for(*why, counts)),
-        Err(KeptOutstanding::StateFailed) => Err(KeptStop::StateFailed),
-    }
-}
-
-/// Tells what the encoder answered to messages that were sent under these counters since then and settled so, the last
-/// of which has this number, and says how the run goes on. Nothing is told of messages that are outstanding, or where a
-/// save failed.
-fn tell_replies<W: Write, T: Clock>(
-    alloc: Global,
-    form: Form,
-    clock: &T,
-    since: u64,
-    last: u64,
-    counters: &[u8],
-    ended: &Result<Settled, KeptOutstanding>,
-    counts: ServerCounts,
-    writer: &mut W,
-) -> Result<(), KeptStop>
-    requires countable { last < 2 ^ 64 - 1 }
-    ensures tells { AnswersTold (RepliesOf form last counters.now) counts ended.now (W.contents writer.old)
-        (W.contents writer.new) result }
-{
-    match ended {
-        Ok(settled) => {
-            let first = first_of(last, settled.codes.len());
-            let mut output = Output::new(alloc);
-            put_replies_in(form, clock, since, first, counters, settled, &mut output);
-            write_told(&mut output, writer)
-        }
-        Err(KeptOutstanding::Outstanding(reason)) => Err(stop_for(*reason, counts)),
-        Err(KeptOutstanding::StateFailed) => Err(KeptStop::StateFailed),
-    }
-}
-
-/// The number of the first of so many messages, the last of which has this number.
-pub(crate) fn first_of(last: u64, count: usize) -> u64
-    requires { last < 2 ^ 64 - 1 }
-    ensures { result ≡ last + 1 - count }
-{
-    (last + 1).saturating_sub(count as u64)
 }
 
 /// Whether all messages that were settled so were applied, as far as they were answered.

@@ -16,7 +16,7 @@ ghost use Rattle.state_jobs.specs.ServerJob.{Sends, HasLostState, HasSent};
 use crate::open_states::OpenStates;
 use crate::texts::{closed_so, state_text};
 use commands::ServerOptions;
-use kept_jobs::{fail_state, run_server_kept};
+use kept_jobs::{Start, fail_state, run_server_kept};
 use state_files::StateFault;
 use std::alloc::Global;
 use std::io::{Read, Write};
@@ -75,9 +75,16 @@ pub fn run_server_in<S: OpenStates, R: Read, W: Write, E: Write, C: Connections>
         return fail(&RunFault::Address, errors);
     };
     let setup = server_setup_of(options);
+    let place = Place { states, path };
     send_in(
-        alloc, &setup, address, path, states, reader, writer, errors, connect,
+        alloc, &setup, address, place, reader, writer, errors, connect,
     )
+}
+
+/// Where a state is: which states there are, and the path of this one.
+struct Place<'a, S: OpenStates> {
+    states: &'a S,
+    path: &'a str,
 }
 
 /// Opens the state, sends, and closes it.
@@ -85,8 +92,7 @@ fn send_in<S: OpenStates, R: Read, W: Write, E: Write, C: Connections>(
     alloc: Global,
     setup: &ServerSetup,
     address: Address,
-    path: &str,
-    states: &S,
+    place: Place<'_, S>,
     reader: &mut R,
     writer: &mut W,
     errors: &mut E,
@@ -95,41 +101,42 @@ fn send_in<S: OpenStates, R: Read, W: Write, E: Write, C: Connections>(
     requires { IsTrue (is_exact address) }
     ensures status { (result ≡ 0) ⊎ ((result ≡ 1) ⊎ (result ≡ 3)) }
     ensures sent { ((went : Went) × (closed : Closed) × (before : ℕ) × (between : Option (List ℕ))
-        × Sends (S.gives_server states.now)
-        (S.closes_server states.now) S.ServerKeeper.leaves S.ServerKeeper.is_clean
+        × Sends (S.gives_server place.states.now)
+        (S.closes_server place.states.now) S.ServerKeeper.leaves S.ServerKeeper.is_clean
         S.ServerKeeper.saves S.ServerKeeper.fails
         C.opens C.closes C.Input.remaining C.Output.contents
-        path.now address setup.now.limits setup.now.window setup.now.join (R.remaining reader.old)
+        place.path.now address setup.now.limits setup.now.window setup.now.join (R.remaining reader.old)
         (R.remaining reader.new) connect.old connect.new (W.contents writer.old) (W.contents writer.new) went closed
         × IsTold went before (E.contents errors.old) between
-        × IsClosed path.now before closed result between (E.contents errors.new))
-        ⊎ ((result ≡ 3) × HasLostState (S.gives_server states.now) (S.refuses_server states.now) path.now
-        (R.remaining reader.old) (R.remaining reader.new) connect.old connect.new (W.contents writer.old)
+        × IsClosed place.path.now before closed result between (E.contents errors.new))
+        ⊎ ((result ≡ 3) × HasLostState (S.gives_server place.states.now) (S.refuses_server place.states.now)
+        place.path.now (R.remaining reader.old) (R.remaining reader.new) connect.old connect.new (W.contents writer.old)
         (W.contents writer.new) (E.contents errors.old) (E.contents errors.new)) }
     // 0: whatever the connections are, a crash leaves a server that has taken the messages of the input, of which none
     // waits, and no line is refused. Nothing was said on `errors`.
-    ensures done { result ≡ 0 → SentKept (S.gives_server states.now) S.ServerKeeper.leaves S.ServerKeeper.is_clean
-        path.now address (R.remaining reader.old) (R.remaining reader.new)
+    ensures done { result ≡ 0 → SentKept (S.gives_server place.states.now) S.ServerKeeper.leaves S.ServerKeeper.is_clean
+        place.path.now address (R.remaining reader.old) (R.remaining reader.new)
         × IsReadWith None (R.remaining reader.old) (R.remaining reader.new) × (errors.new ≡ errors.old) }
     // 1: so with the messages before a line that is refused, and its number and fault were said, or begun to be said.
-    ensures refused { result ≡ 1 → SentKept (S.gives_server states.now) S.ServerKeeper.leaves S.ServerKeeper.is_clean
-        path.now address (R.remaining reader.old) (R.remaining reader.new)
+    ensures refused { result ≡ 1 → SentKept (S.gives_server place.states.now) S.ServerKeeper.leaves
+        S.ServerKeeper.is_clean place.path.now address (R.remaining reader.old) (R.remaining reader.new)
         × ((fault : RunFault) × IsReadWith (Some fault) (R.remaining reader.old) (R.remaining reader.new)
         × Begins (E.contents errors.old) (E.contents errors.new) (error_lines fault)) }
     // 3: why was said, or begun to be said.
-    ensures said { result ≡ 3 → SaysWhy path.now (E.contents errors.old) (E.contents errors.new) }
+    ensures said { result ≡ 3 → SaysWhy place.path.now (E.contents errors.old) (E.contents errors.new) }
 {
+    let Place { states, path } = place;
     match states.open_server(path, address) {
         Err(fault) => fail_state(state_text(fault), errors),
         Ok((server, progress, mut keeper)) => {
             if progress.taken >= TAKEN_MAX {
                 return fail_state(state_text(StateFault::Damaged), errors);
             }
+            let start = Start { server, progress };
             let status = run_server_kept(
                 alloc,
                 setup,
-                server,
-                progress,
+                start,
                 &mut keeper,
                 reader,
                 writer,

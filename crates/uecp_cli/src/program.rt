@@ -34,7 +34,7 @@ use live_edges::{Polled, Watch};
 use on_air_jobs::run_on_air_over_tcp;
 use page_server::run_page_over_tcp;
 use receive_command::{run_receive, run_receive_bits};
-use send_commands::run_send_over_tcp;
+use send_commands::{Dialling, Teller, run_send_over_tcp};
 use state_jobs::{OpenStates, run_server_in, tell_state};
 use std::alloc::Global;
 use std::fs::Files;
@@ -436,9 +436,19 @@ fn send<
     } = hands;
     let watch = Watch::new();
     let arrival = Polled::new(alloc, net, input, &watch, &mut *losses);
+    let mut teller = Teller::new(alloc, net, writer);
+    let dialling = Dialling { net, watch: &watch };
     let status = run_send_over_tcp(
-        alloc, options, reader, arrival, writer, errors, &watch, notices, net, states,
+        options,
+        reader,
+        arrival,
+        &mut teller,
+        errors,
+        dialling,
+        notices,
+        states,
     );
+    let _writer = teller.finish();
     watch.finish();
     status
 }

@@ -10,7 +10,8 @@ returns-in-Ok-clause-settled g c = λ is.
     let k = g.K.KeepEncoder in
     let m = g.M.Moments in
     (after_run k.TOGETHER_MAX k.READ_MAX k.leaves k.is_clean k.saves k.fails m.waits m.closes m.sends
-    g.M.Input.Read.remaining g.M.Output.Write.contents c.args.turns c.args.store _ _ _ c.in-Ok.ensures.runs.1).settled
+    g.M.Input.Read.remaining g.M.Output.Write.contents c.args.limits.turns c.args.limits.store _ _ _
+    c.in-Ok.ensures.runs.1).settled
     refl
 
 pub returns-in-Ok-clause-outlives : goal.returns-in-Ok-clause-outlives
@@ -19,7 +20,7 @@ returns-in-Ok-clause-outlives g c = λ settled clean kept leaves_it.
     let m = g.M.Moments in (
       c.in-Ok.ensures.runs.0,
       (after_run k.TOGETHER_MAX k.READ_MAX k.leaves k.is_clean k.saves k.fails m.waits m.closes m.sends
-          g.M.Input.Read.remaining g.M.Output.Write.contents c.args.turns c.args.store _ _ _
+          g.M.Input.Read.remaining g.M.Output.Write.contents c.args.limits.turns c.args.limits.store _ _ _
           c.in-Ok.ensures.runs.1).outlives settled clean kept leaves_it,
     )
 
@@ -28,14 +29,16 @@ returns-in-Ok-clause-clean g c =
     let k = g.K.KeepEncoder in
     let m = g.M.Moments in
     (after_run k.TOGETHER_MAX k.READ_MAX k.leaves k.is_clean k.saves k.fails m.waits m.closes m.sends
-    g.M.Input.Read.remaining g.M.Output.Write.contents c.args.turns c.args.store _ _ _ c.in-Ok.ensures.runs.1).clean
+    g.M.Input.Read.remaining g.M.Output.Write.contents c.args.limits.turns c.args.limits.store _ _ _
+    c.in-Ok.ensures.runs.1).clean
 
 pub returns-in-Err-clause-status : goal.returns-in-Err-clause-status
 returns-in-Err-clause-status g c =
     let k = g.K.KeepEncoder in
     let m = g.M.Moments in
     inr (c.fail_run.ensures.status ∙ run_status k.TOGETHER_MAX k.READ_MAX k.leaves k.is_clean k.saves k.fails m.waits
-    m.closes m.sends g.M.Input.Read.remaining g.M.Output.Write.contents c.args.turns c.args.store _ _ c.in-Err.stop
+    m.closes m.sends g.M.Input.Read.remaining g.M.Output.Write.contents c.args.limits.turns c.args.limits.store _ _
+    c.in-Err.stop
     c.in-Err.ensures.runs.1)
 
 pub returns-in-Err-clause-failed : goal.returns-in-Err-clause-failed
@@ -48,7 +51,7 @@ returns-in-Err-clause-outlives g c = λ settled clean kept leaves_it.
     let m = g.M.Moments in (
       c.in-Err.ensures.runs.0,
       (after_run k.TOGETHER_MAX k.READ_MAX k.leaves k.is_clean k.saves k.fails m.waits m.closes m.sends
-          g.M.Input.Read.remaining g.M.Output.Write.contents c.args.turns c.args.store _ _ _
+          g.M.Input.Read.remaining g.M.Output.Write.contents c.args.limits.turns c.args.limits.store _ _ _
           c.in-Err.ensures.runs.1).outlives settled clean kept leaves_it,
     )
 
@@ -57,4 +60,5 @@ returns-in-Err-clause-clean g c =
     let k = g.K.KeepEncoder in
     let m = g.M.Moments in
     (after_run k.TOGETHER_MAX k.READ_MAX k.leaves k.is_clean k.saves k.fails m.waits m.closes m.sends
-    g.M.Input.Read.remaining g.M.Output.Write.contents c.args.turns c.args.store _ _ _ c.in-Err.ensures.runs.1).clean
+    g.M.Input.Read.remaining g.M.Output.Write.contents c.args.limits.turns c.args.limits.store _ _ _
+    c.in-Err.ensures.runs.1).clean

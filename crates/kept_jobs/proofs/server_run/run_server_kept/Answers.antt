@@ -33,9 +33,9 @@ returns-in-Err g c =
     let ran = c.in-Err.ensures.runs in
     let told = c.fail_run.ensures in
     let start : Standing ServerState g.row.K.Denot = record {
-      runs = c.args.server;
+      runs = c.args.start.server;
       keeper = c.args.keeper.now;
-      progress = c.args.progress;
+      progress = c.args.start.progress;
       held = g.W.Write.contents c.args.writer.now;
     } in
     let why = run_stopped g.C.Connections.opens g.C.Connections.closes g.C.Input.Read.remaining

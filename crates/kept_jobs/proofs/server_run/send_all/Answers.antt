@@ -21,9 +21,9 @@ returns g c =
         subst (λ ms. SendsMessages g.C.Connections.opens g.C.Connections.closes g.C.Input.Read.remaining
             g.C.Output.Write.contents k.leaves k.is_clean k.saves k.fails c.args.options.now.join
             (batch_size c.args.options.now.window) c.args.options.now.limits ms c.args.connect.now now.connect (record {
-              runs = c.args.server;
+              runs = c.args.start.server;
               keeper = c.args.keeper.now;
-              progress = c.args.progress;
+              progress = c.args.start.progress;
               held = g.W.Write.contents c.args.writer.now;
             }) now.keeper (g.W.Write.contents now.writer) c.send_messages-sent.result) messages_are
             c.send_messages-sent.ensures.sends,

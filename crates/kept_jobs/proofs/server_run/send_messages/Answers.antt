@@ -18,9 +18,9 @@ returns-in_err-begin g c =
         record { runs = now.server; keeper = now.keeper; progress = now.progress; held = held now.writer },
         stop,
         subst (λ due. Then TellsTaken (BeginsAnewIf k.leaves k.is_clean k.saves k.fails due) (record {
-          runs = c.args.server;
+          runs = c.args.start.server;
           keeper = c.args.keeper.now;
-          progress = c.args.progress;
+          progress = c.args.start.progress;
           held = held c.args.writer.now;
         }) (record { runs = now.server; keeper = now.keeper; progress = now.progress; held = held now.writer })
             (Err stop))
@@ -61,9 +61,9 @@ returns g c =
           held = held sent.new.writer;
         },
         subst (λ due. Then TellsTaken (BeginsAnewIf k.leaves k.is_clean k.saves k.fails due) (record {
-          runs = c.args.server;
+          runs = c.args.start.server;
           keeper = c.args.keeper.now;
-          progress = c.args.progress;
+          progress = c.args.start.progress;
           held = held c.args.writer.now;
         }) (record { runs = now.server; keeper = now.keeper; progress = now.progress; held = held now.writer }) (Ok tt))
             c.is_due-due.ensures c.in_ok-begin.ensures.begins,

@@ -10,4 +10,4 @@ invariant-loop-turn g l =
     ((lines : List GroupLine) × HearsEach l.form (is_some l.clock) lines
     (at_first (g.F.Feed.remaining l.fn.feed) (g.W.Write.contents l.fn.writer) (g.E.Write.contents l.fn.errors))
     (standing_of l.hearing (g.F.Feed.remaining l.feed) (g.W.Write.contents l.writer) (g.E.Write.contents l.errors)))
-    × (l.output.bytes ≡ []) × IsTrue l.output.is_whole
+    × (l.buffers.output.bytes ≡ []) × IsTrue l.buffers.output.is_whole

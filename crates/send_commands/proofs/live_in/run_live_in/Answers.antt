@@ -4,8 +4,8 @@ use Rattle.kept_jobs.specs.Stops.{state_line}
 use Rattle.state_files.specs.declared.fault.StateFault.TheVariants as state
 use Rattle.send_commands.proofs.live_in.run_live_in.Goals as goal
 
-pub returns-then-progress-ge-TAKEN_MAX : goal.returns-then-progress-ge-TAKEN_MAX
-returns-then-progress-ge-TAKEN_MAX g c =
+pub returns-then-progress-ge-TAKEN_MAX-clause-lives : goal.returns-then-progress-ge-TAKEN_MAX-clause-lives
+returns-then-progress-ge-TAKEN_MAX-clause-lives g c =
     let said = c.fail_state-then-progress-ge-TAKEN_MAX in
     inr (
       (

@@ -5,8 +5,8 @@ use Rattle.uecp_jobs.specs.Setups.{address_of}
 use Rattle.send_commands.specs.Job.{SendsFrom}
 use Rattle.send_commands.proofs.run.run_send.Goals as goal
 
-pub returns-in-Some-state : goal.returns-in-Some-state
-returns-in-Some-state g c =
+pub returns-in-Some-state-clause-sent : goal.returns-in-Some-state-clause-sent
+returns-in-Some-state-clause-sent g c =
     let k = g.S.ServerKeeper.KeepServer in
     let run = c.run_live_in in
     let sent : SendsFrom g.C.Connections.opens g.C.Connections.closes g.C.Input.Read.remaining g.C.Output.Write.contents
@@ -14,11 +14,11 @@ returns-in-Some-state g c =
     (g.S.OpenStates.closes_server c.args.states.now) k.leaves k.is_clean k.saves k.fails
     (Some c.as_str-path.result.now) c.in-Some.address c.options_of-options.result c.args.connect.now
     run.new.connect (g.F.Feed.remaining c.args.feed.now) (g.F.Feed.remaining run.new.feed)
-    (g.W.Write.contents c.args.writer.now) (g.W.Write.contents run.new.writer)
-    (g.E.Write.contents c.args.errors.now) (g.E.Write.contents run.new.errors) run.result = elim run.ensures [
+    c.args.teller.now.held run.new.teller.held
+    (g.E.Write.contents c.args.errors.now) (g.E.Write.contents run.new.errors) run.result = elim run.ensures.lives [
       | inl lives ↦ inl lives
       | inr none ↦ inr
-          (none.0, ap g.F.Feed.remaining none.1, ap g.W.Write.contents none.2, none.3)
+          (none.0, ap g.F.Feed.remaining none.1, none.2, none.3)
     ] in
     let path : option_map string_bytes c.args.job.now.state ≡ Some c.as_str-path.result.now = search rules in
     inl (
@@ -31,21 +31,21 @@ returns-in-Some-state g c =
           (g.S.OpenStates.closes_server c.args.states.now) k.leaves k.is_clean k.saves k.fails state
           (address_of c.args.job.now.site c.args.job.now.encoder)
           c.options_of-options.result c.args.connect.now run.new.connect (g.F.Feed.remaining c.args.feed.now)
-          (g.F.Feed.remaining run.new.feed) (g.W.Write.contents c.args.writer.now)
-          (g.W.Write.contents run.new.writer) (g.E.Write.contents c.args.errors.now)
+          (g.F.Feed.remaining run.new.feed) c.args.teller.now.held
+          run.new.teller.held (g.E.Write.contents c.args.errors.now)
           (g.E.Write.contents run.new.errors) run.result) (sym path)
           (subst (λ address. SendsFrom g.C.Connections.opens g.C.Connections.closes g.C.Input.Read.remaining
           g.C.Output.Write.contents (g.S.OpenStates.gives_server c.args.states.now)
           (g.S.OpenStates.refuses_server c.args.states.now) (g.S.OpenStates.closes_server c.args.states.now) k.leaves
           k.is_clean k.saves k.fails (Some c.as_str-path.result.now) address c.options_of-options.result
           c.args.connect.now run.new.connect (g.F.Feed.remaining c.args.feed.now) (g.F.Feed.remaining run.new.feed)
-          (g.W.Write.contents c.args.writer.now) (g.W.Write.contents run.new.writer)
+          c.args.teller.now.held run.new.teller.held
           (g.E.Write.contents c.args.errors.now) (g.E.Write.contents run.new.errors) run.result)
           c.in-Some.ensures.value sent),
     )
 
-pub returns-in-None : goal.returns-in-None
-returns-in-None g c =
+pub returns-in-None-clause-sent : goal.returns-in-None-clause-sent
+returns-in-None-clause-sent g c =
     let k = g.S.ServerKeeper.KeepServer in
     let run = c.run_unkept in
     let none : option_map string_bytes c.args.job.now.state ≡ None = search rules in
@@ -59,15 +59,15 @@ returns-in-None g c =
           (g.S.OpenStates.closes_server c.args.states.now) k.leaves k.is_clean k.saves k.fails state
           (address_of c.args.job.now.site c.args.job.now.encoder)
           c.options_of-options.result c.args.connect.now run.new.connect (g.F.Feed.remaining c.args.feed.now)
-          (g.F.Feed.remaining run.new.feed) (g.W.Write.contents c.args.writer.now)
-          (g.W.Write.contents run.new.writer) (g.E.Write.contents c.args.errors.now)
+          (g.F.Feed.remaining run.new.feed) c.args.teller.now.held
+          run.new.teller.held (g.E.Write.contents c.args.errors.now)
           (g.E.Write.contents run.new.errors) run.result) (sym none)
           (subst (λ address. SendsFrom g.C.Connections.opens g.C.Connections.closes g.C.Input.Read.remaining
           g.C.Output.Write.contents (g.S.OpenStates.gives_server c.args.states.now)
           (g.S.OpenStates.refuses_server c.args.states.now) (g.S.OpenStates.closes_server c.args.states.now) k.leaves
           k.is_clean k.saves k.fails None address c.options_of-options.result
           c.args.connect.now run.new.connect (g.F.Feed.remaining c.args.feed.now) (g.F.Feed.remaining run.new.feed)
-          (g.W.Write.contents c.args.writer.now) (g.W.Write.contents run.new.writer)
+          c.args.teller.now.held run.new.teller.held
           (g.E.Write.contents c.args.errors.now) (g.E.Write.contents run.new.errors) run.result)
-          c.in-Some.ensures.value run.ensures),
+          c.in-Some.ensures.value run.ensures.sends),
     )

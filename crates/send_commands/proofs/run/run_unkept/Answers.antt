@@ -3,8 +3,8 @@ use Rattle.uecp_link.specs.Server.{ServerState}
 use Rattle.sending.specs.Run.{Lives}
 use Rattle.send_commands.proofs.run.run_unkept.Goals as goal
 
-pub returns : goal.returns
-returns g c =
+pub returns-clause-sends : goal.returns-clause-sends
+returns-clause-sends g c =
     let run = c.run_live in (
       _,
       run.new.keeper,
@@ -14,8 +14,8 @@ returns g c =
             runs = s;
             keeper = _;
             progress = record { taken = 0; joined = false };
-            held = g.W.Write.contents c.args.writer.now;
-          }) run.new.keeper (g.W.Write.contents run.new.writer) (g.F.Feed.remaining c.args.feed.now)
+            held = c.args.teller.now.held;
+          }) run.new.keeper run.new.teller.held (g.F.Feed.remaining c.args.feed.now)
           (g.F.Feed.remaining run.new.feed) (g.E.Write.contents c.args.errors.now)
           (g.E.Write.contents run.new.errors) run.result) c.new.ensures run.ensures.runs,
     )

@@ -16,4 +16,7 @@ loop-again-preserved g c =
             k.is_clean k.saves k.fails c.args.options.now c.loop-again._again c.args.due _ _ _ _ _ _ _ _ so go.0 go.1
             c.address-address.result c.address-address.ensures again,
       );
+      feed = search rules;
+      errors = search rules;
+      writer = search rules;
     }

@@ -1,13 +1,12 @@
 use Rattle.std.proofs.Common.{◌≡◌, refl, sym, ap, subst, ◌∙◌}
 use Rattle.uecp_net.specs.Sending.{SenderState}
 use Rattle.kept_jobs.proofs.Public.{starts_so}
-use Rattle.sending.specs.Run.{RunsLive}
+use Rattle.sending.specs.Run.{RunsLive, live}
 use Rattle.sending.proofs.lives.run_one.Goals as goal
 
-pub returns : goal.returns
-returns g c =
+pub returns-clause-runs : goal.returns-clause-runs
+returns-clause-runs g c =
     let k = g.K.KeepServer in
-    let held = g.W.Write.contents in
     let start = c.new-sender.result in
     let sent = c.run_sender-ran in
     let (end, hangs_up, end_is) = c.finish-connect.ensures.value in
@@ -20,67 +19,19 @@ returns g c =
       left = c.args.options.now.limits.reconnects;
       reconnect_silent = c.args.options.now.limits.reconnect_silent;
     } in
-    let start_is = starts_so start c.args.connect.now _ d c.new-sender.ensures in
-    record {
-      runs = (
-        sent.new.sender.sender.server,
-        (
-          start.loan,
-          record {
-            sends = record {
-              runs = sent.new.sender;
-              keeper = sent.new.keeper;
-              progress = sent.new.progress;
-              held = held sent.new.writer;
-            };
-            takes = record {
-              unread = g.F.Feed.remaining sent.new.feed;
-              lines = sent.new.tally.lines;
-              refused = sent.new.tally.refused;
-              said = g.E.Write.contents sent.new.errors;
-            };
-            applied = sent.new.applied;
-            unknown = sent.new.unknown;
-            behind = sent.new.behind;
-          },
-          subst (λ s. RunsLive g.C.Connections.opens g.C.Connections.closes g.C.Input.Read.remaining
-              g.C.Output.Write.contents
-              k.leaves k.is_clean k.saves
-              k.fails c.args.options.now c.args.due (record {
-                sends = record {
-                  runs = s;
-                  keeper = c.args.keeper.now;
-                  progress = c.args.progress.now;
-                  held = held c.args.writer.now;
-                };
-                takes = record {
-                  unread = g.F.Feed.remaining c.args.feed.now;
-                  lines = c.args.tally.now.lines;
-                  refused = c.args.tally.now.refused;
-                  said = g.E.Write.contents c.args.errors.now;
-                };
-                applied = c.args.applied.now;
-                unknown = c.args.unknown.now;
-                behind = c.args.behind.now;
-              }) (record {
-                sends = record {
-                  runs = sent.new.sender;
-                  keeper = sent.new.keeper;
-                  progress = sent.new.progress;
-                  held = held sent.new.writer;
-                };
-                takes = record {
-                  unread = g.F.Feed.remaining sent.new.feed;
-                  lines = sent.new.tally.lines;
-                  refused = sent.new.tally.refused;
-                  said = g.E.Write.contents sent.new.errors;
-                };
-                applied = sent.new.applied;
-                unknown = sent.new.unknown;
-                behind = sent.new.behind;
-              }) sent.result) start_is sent.ensures.runs,
-          (end, hangs_up, c.connect-1.given.1 (sym given ∙ sym sent.ensures.loan ∙ sym same) ∙ end_is),
-          refl,
-        ),
-      );
-    }
+    let start_is = starts_so start c.args.connect.now _ d c.new-sender.ensures in (
+      sent.new.sender.sender.server,
+      (
+        start.loan,
+        live sent.new.sender sent.new.keeper sent.new.intake sent.new.teller sent.new.course,
+        subst (λ s. RunsLive g.C.Connections.opens g.C.Connections.closes g.C.Input.Read.remaining
+            g.C.Output.Write.contents
+            k.leaves k.is_clean k.saves
+            k.fails c.args.options.now c.args.due
+            (live s c.args.keeper.now c.args.intake.now c.args.teller.now c.args.course.now)
+            (live sent.new.sender sent.new.keeper sent.new.intake sent.new.teller sent.new.course) sent.result)
+            start_is sent.ensures.runs,
+        (end, hangs_up, c.connect-1.given.1 (sym given ∙ sym sent.ensures.loan ∙ sym same) ∙ end_is),
+        refl,
+      ),
+    )

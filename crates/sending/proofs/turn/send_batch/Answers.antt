@@ -10,6 +10,8 @@ use Rattle.sending.proofs.turn.send_batch.Goals as goal
 pub returns-clause-sends : goal.returns-clause-sends
 returns-clause-sends g c =
     let sent = c.send_kept-ended in
+    let before = c.args.teller.now.held in
+    let after = c.tell_replies.new.self.held in
     let last : c.last.result ≡ c.args.sender.now.sender.server.last = search rules in
     let counts : c.counts.result ≡ sent.new.sender.sender.server.counts = search rules in
     let counters : c.as_slice.result.now ≡ counters_waiting (submitted_all c.args.sender.now
@@ -21,11 +23,9 @@ returns-clause-sends g c =
       search rules,
       subst (λ (cs : ServerCounts). AnswersTold (RepliesOf c.args.form sent.new.progress.taken
           (counters_waiting (submitted_all c.args.sender.now c.args.batch.now).sender.server)) cs sent.result
-          (g.W.Write.contents c.args.writer.now) (g.W.Write.contents c.tell_replies.new.writer) c.tell_replies.result)
-          counts
+          before after c.tell_replies.result) counts
           (subst (λ l. AnswersTold (RepliesOf c.args.form sent.new.progress.taken l) c.counts.result sent.result
-          (g.W.Write.contents c.args.writer.now) (g.W.Write.contents c.tell_replies.new.writer) c.tell_replies.result)
-          counters c.tell_replies.ensures.tells),
+          before after c.tell_replies.result) counters c.tell_replies.ensures.tells),
       search rules,
       c.unknown_of.ensures,
     )

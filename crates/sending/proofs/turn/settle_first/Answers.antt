@@ -9,30 +9,28 @@ pub returns-clause-settles : goal.returns-clause-settles
 returns-clause-settles g c =
     let sent = c.settle_kept-ended in
     let server = c.args.sender.now.sender.server in
+    let taken = c.args.course.now.progress.taken in
+    let before = c.args.teller.now.held in
+    let after = c.tell_held.new.self.held in
     let all : c.marks_of-marks.result.items ≡ marks_in server = search rules in
     let marks : c.as_slice.result.now ≡ marks_in server = c.as_slice.ensures.value ∙ all in
     let counters : c.as_slice-2.result.now ≡ counters_waiting server = search rules in
     let counts : c.counts.result ≡ sent.new.sender.sender.server.counts = search rules in
-    let first : c.first_of.result ≡ c.args.progress.taken + 1 - length (marks_in server) = search rules in
+    let first : c.first_of.result ≡ taken + 1 - length (marks_in server) = search rules in
     let unknown : c.unknown_of.result ≡ unknown_of (length (marks_in server)) sent.result = search rules in
     inr (
       search rules,
       (
         sent.result,
         search rules,
-        subst (λ (cs : ServerCounts). AnswersTold (AreHeld c.args.form (c.args.progress.taken + 1 - length (marks_in
-            server))
-            (marks_in server) (counters_waiting server)) cs sent.result (g.W.Write.contents c.args.writer.now)
-            (g.W.Write.contents c.tell_held.new.writer) c.tell_held.result) counts
+        subst (λ (cs : ServerCounts). AnswersTold (AreHeld c.args.form (taken + 1 - length (marks_in server))
+            (marks_in server) (counters_waiting server)) cs sent.result before after c.tell_held.result) counts
             (subst (λ n. AnswersTold (AreHeld c.args.form n (marks_in server) (counters_waiting server))
-            c.counts.result sent.result (g.W.Write.contents c.args.writer.now)
-            (g.W.Write.contents c.tell_held.new.writer) c.tell_held.result) first
+            c.counts.result sent.result before after c.tell_held.result) first
             (subst (λ l. AnswersTold (AreHeld c.args.form c.first_of.result l (counters_waiting server))
-            c.counts.result sent.result (g.W.Write.contents c.args.writer.now)
-            (g.W.Write.contents c.tell_held.new.writer) c.tell_held.result) marks
+            c.counts.result sent.result before after c.tell_held.result) marks
             (subst (λ l. AnswersTold (AreHeld c.args.form c.first_of.result c.as_slice.result.now l)
-            c.counts.result sent.result (g.W.Write.contents c.args.writer.now)
-            (g.W.Write.contents c.tell_held.new.writer) c.tell_held.result) counters c.tell_held.ensures.tells))),
+            c.counts.result sent.result before after c.tell_held.result) counters c.tell_held.ensures.tells))),
         search rules,
         unknown,
       ),

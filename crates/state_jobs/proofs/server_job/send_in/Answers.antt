@@ -67,7 +67,7 @@ returns-else-progress-ge-TAKEN_MAX-clause-done g c = λ is.
     let zero : run.result ≡ 0 = well.1 ∙ is in
     let same : c.closed_so.new.errors ≡ run.new.errors =
     subst (λ x. IfOk x (λ done. c.closed_so.new.errors ≡ run.new.errors)) well.0 c.closed_so.ensures.same in
-    let sent : SentKept (g.S.OpenStates.gives_server c.args.states.now) k.leaves k.is_clean c.args.path.now
+    let sent : SentKept (g.S.OpenStates.gives_server c.args.place.states.now) k.leaves k.is_clean c.args.place.path.now
     c.args.address
     (g.R.Read.remaining c.args.reader.now) (g.R.Read.remaining run.new.reader) = record {
       server = c.in-Ok.server;
@@ -90,7 +90,7 @@ returns-else-progress-ge-TAKEN_MAX-clause-refused g c = λ is.
     let told = g.E.Write.contents c.args.errors.now in
     let well = closed_well _ _ _ _ _ _ (λ three. not_refused _ three is) c.closed_so.ensures.closed in
     let one : run.result ≡ 1 = well.1 ∙ is in
-    let sent : SentKept (g.S.OpenStates.gives_server c.args.states.now) k.leaves k.is_clean c.args.path.now
+    let sent : SentKept (g.S.OpenStates.gives_server c.args.place.states.now) k.leaves k.is_clean c.args.place.path.now
     c.args.address
     (g.R.Read.remaining c.args.reader.now) (g.R.Read.remaining run.new.reader) = record {
       server = c.in-Ok.server;
@@ -111,8 +111,9 @@ returns-else-progress-ge-TAKEN_MAX-clause-said g c = λ is.
     let run = c.run_server_kept-status in
     let between = g.E.Write.contents run.new.errors in
     let told' = g.E.Write.contents c.closed_so.new.errors in
-    says_end c.args.path.now run.ensures.runs.0 run.result c.close_server.result _ between told' run.ensures.runs.2
-    (subst (λ r. IsClosed c.args.path.now run.result c.close_server.result r between told') is
+    says_end c.args.place.path.now run.ensures.runs.0 run.result c.close_server.result _ between told'
+    run.ensures.runs.2
+    (subst (λ r. IsClosed c.args.place.path.now run.result c.close_server.result r between told') is
     c.closed_so.ensures.closed)
 
 pub returns-then-progress-ge-TAKEN_MAX-clause-said : goal.returns-then-progress-ge-TAKEN_MAX-clause-said

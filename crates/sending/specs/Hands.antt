@@ -1,0 +1,15 @@
+-- What was lent to a run (profile).
+use Rattle.std.specs.Prelude.{ℕ, List, Option}
+use Rattle.line_batches.specs.Intake.{Intake}
+
+-- Lines as they come: where their taking stands, and the loans of what they come from and of where it is told of those
+-- that are refused.
+pub record Taking : Type 0 where
+  pub at : Intake
+  pub feed : ℕ
+  pub errors : ℕ
+
+-- Who is told what comes of messages: what the writer holds, and its loan.
+pub record Telling : Type 0 where
+  pub held : Option (List ℕ)
+  pub writer : ℕ

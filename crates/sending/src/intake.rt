@@ -1,0 +1,125 @@
+//! Lines as they come, and what was taken of them. Source: profile.
+ghost use Rattle.std.specs.Prelude.{◌≡◌, ◌≤◌, [], false};
+ghost use Rattle.uecp_text.specs.Written.{Begins};
+ghost use Rattle.kept_jobs.specs.Stops.{stop_status, stop_lines};
+ghost use Rattle.line_batches.specs.Batches.{TakesBatch};
+ghost use Rattle.sending.specs.Hands.{Taking};
+
+use kept_jobs::{KeptStop, fail_run};
+use line_batches::{After, Reading, Tally, take_batch};
+use line_feed::Feed;
+use std::alloc::Global;
+use std::io::Write;
+use std::marker::Model;
+use uecp_frame::Message;
+
+/// Lines as they come, what was taken of them so far, and where it is told of those that are refused. Contracts see it
+/// as one value, `Taking`.
+#[derive(Drop)]
+pub(crate) struct Intake<'a, F: Feed, E: Write> {
+    alloc: Global,
+    feed: &'a mut F,
+    errors: &'a mut E,
+    tally: Tally,
+    line: Vec<u8>,
+}
+
+impl<'a, F: Feed, E: Write> Model for Intake<'a, F, E> {
+    ghost use Rattle.sending.specs.Hands.{Taking};
+
+    ghost Value = { Taking };
+
+    ghost view = { λ i. record {
+      at = record {
+        unread = F.remaining i.feed.now;
+        lines = i.tally.lines;
+        refused = i.tally.refused;
+        said = E.contents i.errors.now;
+      };
+      feed = i.feed.ghost_name;
+      errors = i.errors.ghost_name;
+    } };
+}
+
+impl<'a, F: Feed, E: Write> Intake<'a, F, E> {
+    /// The lines of this feed, of which none was taken.
+    pub(crate) fn new(alloc: Global, feed: &'a mut F, errors: &'a mut E) -> Intake<'a, F, E>
+        ensures { result ≡ record {
+          at = record {
+            unread = F.remaining feed.old;
+            lines = 0;
+            refused = false;
+            said = E.contents errors.old;
+          };
+          feed = feed.entry.ghost_name;
+          errors = errors.entry.ghost_name;
+        } }
+    {
+        Intake {
+            alloc,
+            feed,
+            errors,
+            tally: Tally {
+                lines: 0,
+                refused: false,
+            },
+            line: Vec::new(alloc),
+        }
+    }
+
+    /// Takes lines up to as many messages as a batch may have, and tells what comes after it: it waits for the first,
+    /// and then takes those that are there. The batch is empty at the start.
+    pub(crate) fn take(&mut self, reading: &Reading, batch: &mut Vec<Message>) -> After
+        requires empty { batch.old.items ≡ [] }
+        requires some { 1 ≤ reading.now.size }
+        ensures takes { TakesBatch reading.now.region reading.now.size reading.now.strict batch.new.items result
+            self.old.at self.new.at }
+        ensures feed { self.new.feed ≡ self.old.feed }
+        ensures errors { self.new.errors ≡ self.old.errors }
+    {
+        take_batch(
+            self.alloc,
+            reading,
+            self.feed,
+            &mut self.line,
+            self.errors,
+            &mut self.tally,
+            batch,
+        )
+    }
+
+    /// Whether a line was refused.
+    pub(crate) fn has_refused(&self) -> bool
+        ensures { result ≡ self.now.at.refused }
+    {
+        self.tally.refused
+    }
+
+    /// Tells why a run stopped where refused lines are told, and answers the exit status of that.
+    pub(crate) fn fail(&mut self, stop: &KeptStop) -> u8
+        ensures status { result ≡ stop_status stop.now }
+        ensures said { Begins self.old.at.said self.new.at.said (stop_lines stop.now) }
+        ensures unread { self.new.at.unread ≡ self.old.at.unread }
+        ensures feed { self.new.feed ≡ self.old.feed }
+        ensures errors { self.new.errors ≡ self.old.errors }
+    {
+        fail_run(stop, self.errors)
+    }
+
+    /// The feed back, and where refused lines are told.
+    pub(crate) fn finish(self) -> (&'a mut F, &'a mut E)
+        ensures feed { result.0.ghost_name ≡ self.entry.feed }
+        ensures errors { result.1.ghost_name ≡ self.entry.errors }
+        ensures unread { F.remaining result.0.now ≡ self.entry.at.unread }
+        ensures said { E.contents result.1.now ≡ self.entry.at.said }
+    {
+        let Intake {
+            alloc: _,
+            feed,
+            errors,
+            tally: _,
+            line: _,
+        } = self;
+        (feed, errors)
+    }
+}
