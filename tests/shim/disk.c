@@ -1,4 +1,4 @@
-/* Makes a program's calls at its state files fail, or the program die at one of them. tests/state_faults loads it before the C library, by
+/* Makes a program's calls at its state files fail, or the program die at one of them. tests/run/state_faults loads it before the C library, by
    LD_PRELOAD.
 
    Those are the files that are opened by a path with `.db` in it, and only calls at these are counted, each kind for itself. Two settings

@@ -1,5 +1,5 @@
 /* Leaves a program's connections as little room for what it writes as the system allows, so that a peer that takes nothing soon makes its
-   writes wait. tests/connections loads it before the C library, by LD_PRELOAD. */
+   writes wait. tests/run/connections loads it before the C library, by LD_PRELOAD. */
 
 #define _GNU_SOURCE
 #include <sys/socket.h>

@@ -1,5 +1,5 @@
-/* Refuses a program's requests for memory, or makes its reads or writes fail or move little. tests/hostile loads it before the C library, by
-   LD_PRELOAD.
+/* Refuses a program's requests for memory, or makes its reads or writes fail or move little. tests/run/hostile loads it before the C library,
+   by LD_PRELOAD.
 
    Calls are counted from the start of `main` on, each kind for itself and the C library's own among them: what the loader and the
    C library ask for before `main` is not the program's. Two settings of the environment say what happens:

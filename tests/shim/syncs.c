@@ -1,5 +1,5 @@
-/* Counts a program's syncs of files, for tests/scale, which loads it before the C library, by LD_PRELOAD. The environment's SYNCS names a
-   file of eight bytes, which all processes that count together share: a number in the machine's order. */
+/* Counts a program's syncs of files, for tests/measure/scale, which loads it before the C library, by LD_PRELOAD. The environment's SYNCS names
+   a file of eight bytes, which all processes that count together share: a number in the machine's order. */
 
 #define _GNU_SOURCE
 #include <fcntl.h>
