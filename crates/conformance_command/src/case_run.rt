@@ -117,7 +117,8 @@ fn go_on<R: Read, W: Write>(
     output: &mut Meter<W>,
 ) -> Went
     requires { 0 < patience }
-    ensures { WentOn R.remaining W.contents own patience exchange.bytes.now exchange.replies.now pass input.old
+    ensures { WentOn R.remaining W.contents own patience exchange.entry.bytes.now exchange.entry.replies.now pass
+        input.old
         input.new output.old output.new result }
 {
     if pass != Ok(Joining::Joined) {

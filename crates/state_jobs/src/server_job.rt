@@ -101,29 +101,31 @@ fn send_in<S: OpenStates, R: Read, W: Write, E: Write, C: Connections>(
     requires { IsTrue (is_exact address) }
     ensures status { (result ≡ 0) ⊎ ((result ≡ 1) ⊎ (result ≡ 3)) }
     ensures sent { ((went : Went) × (closed : Closed) × (before : ℕ) × (between : Option (List ℕ))
-        × Sends (S.gives_server place.states.now)
-        (S.closes_server place.states.now) S.ServerKeeper.leaves S.ServerKeeper.is_clean
+        × Sends (S.gives_server place.entry.states.now)
+        (S.closes_server place.entry.states.now) S.ServerKeeper.leaves S.ServerKeeper.is_clean
         S.ServerKeeper.saves S.ServerKeeper.fails
         C.opens C.closes C.Input.remaining C.Output.contents
-        place.path.now address setup.now.limits setup.now.window setup.now.join (R.remaining reader.old)
+        place.entry.path.now address setup.now.limits setup.now.window setup.now.join (R.remaining reader.old)
         (R.remaining reader.new) connect.old connect.new (W.contents writer.old) (W.contents writer.new) went closed
         × IsTold went before (E.contents errors.old) between
-        × IsClosed place.path.now before closed result between (E.contents errors.new))
-        ⊎ ((result ≡ 3) × HasLostState (S.gives_server place.states.now) (S.refuses_server place.states.now)
-        place.path.now (R.remaining reader.old) (R.remaining reader.new) connect.old connect.new (W.contents writer.old)
+        × IsClosed place.entry.path.now before closed result between (E.contents errors.new))
+        ⊎ ((result ≡ 3) × HasLostState (S.gives_server place.entry.states.now) (S.refuses_server place.entry.states.now)
+        place.entry.path.now (R.remaining reader.old) (R.remaining reader.new) connect.old connect.new
+        (W.contents writer.old)
         (W.contents writer.new) (E.contents errors.old) (E.contents errors.new)) }
     // 0: whatever the connections are, a crash leaves a server that has taken the messages of the input, of which none
     // waits, and no line is refused. Nothing was said on `errors`.
-    ensures done { result ≡ 0 → SentKept (S.gives_server place.states.now) S.ServerKeeper.leaves S.ServerKeeper.is_clean
-        place.path.now address (R.remaining reader.old) (R.remaining reader.new)
+    ensures done { result ≡ 0 → SentKept (S.gives_server place.entry.states.now) S.ServerKeeper.leaves
+        S.ServerKeeper.is_clean
+        place.entry.path.now address (R.remaining reader.old) (R.remaining reader.new)
         × IsReadWith None (R.remaining reader.old) (R.remaining reader.new) × (errors.new ≡ errors.old) }
     // 1: so with the messages before a line that is refused, and its number and fault were said, or begun to be said.
-    ensures refused { result ≡ 1 → SentKept (S.gives_server place.states.now) S.ServerKeeper.leaves
-        S.ServerKeeper.is_clean place.path.now address (R.remaining reader.old) (R.remaining reader.new)
+    ensures refused { result ≡ 1 → SentKept (S.gives_server place.entry.states.now) S.ServerKeeper.leaves
+        S.ServerKeeper.is_clean place.entry.path.now address (R.remaining reader.old) (R.remaining reader.new)
         × ((fault : RunFault) × IsReadWith (Some fault) (R.remaining reader.old) (R.remaining reader.new)
         × Begins (E.contents errors.old) (E.contents errors.new) (error_lines fault)) }
     // 3: why was said, or begun to be said.
-    ensures said { result ≡ 3 → SaysWhy place.path.now (E.contents errors.old) (E.contents errors.new) }
+    ensures said { result ≡ 3 → SaysWhy place.entry.path.now (E.contents errors.old) (E.contents errors.new) }
 {
     let Place { states, path } = place;
     match states.open_server(path, address) {
