@@ -113,6 +113,14 @@ unknown_of count (Err kept.StateFailed) = 0
 abbrev pub tally_status : (refused applied : Bool) → ℕ
 tally_status refused applied = if refused then 1 else if applied then 0 else 4
 
+-- So a run is ended that went so, where this was taken: where it came to its end the status tells whether a line was
+-- refused, or else a message by the encoder, and nothing is said; where it stopped, why was said, or begun to be said.
+abbrev pub EndsAs : Went → (applied : Bool) → (taken : Intake) → (said' : Option (List ℕ)) → (status : ℕ) → Type 0
+EndsAs went applied taken said' status =
+    ((went ≡ Ok tt) × (status ≡ tally_status taken.refused applied) × (said' ≡ taken.said))
+    ⊎ ((stop : KeptStop) × (went ≡ Err stop) × (status ≡ stop_status stop)
+    × Begins taken.said said' (stop_lines stop))
+
 -- ---- What is outstanding is given up.
 
 -- A new server is saved, not joined, in place of one of which so many messages are outstanding; and then each of
@@ -318,8 +326,7 @@ module _ {C I O K : Type 0} (opens : C → Option (I × O) → C → Type 0) (cl
       × (went ≡ Err stop) × (c' ≡ c) × (k' ≡ y.keeper) × (held' ≡ y.held) × (taken ≡ x.takes)
       × (applied ≡ x.applied))
 
-  -- It ran so from a server of which no line was taken. Where it came to its end the status tells whether a line was
-  -- refused, or else a message by the encoder; where it stopped, why was said, or begun to be said.
+  -- It ran so from a server of which no line was taken, and was ended so.
   abbrev pub Lives : LiveOptions → (c c' : C)
       → (x : Standing ServerState K) → (k' : K) → (held' unread unread' said said' : Option (List ℕ)) → (status : ℕ)
       → Type 0
@@ -333,6 +340,4 @@ module _ {C I O K : Type 0} (opens : C → Option (I × O) → C → Type 0) (cl
         behind = GoesOn;
       }) k' held' taken applied went
       × (unread' ≡ taken.unread)
-      × (((went ≡ Ok tt) × (status ≡ tally_status taken.refused applied) × (said' ≡ taken.said))
-      ⊎ ((stop : KeptStop) × (went ≡ Err stop) × (status ≡ stop_status stop)
-      × Begins taken.said said' (stop_lines stop)))
+      × EndsAs went applied taken said' status

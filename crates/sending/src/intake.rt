@@ -1,9 +1,8 @@
 //! Lines as they come, and what was taken of them. Source: profile.
 ghost use Rattle.std.specs.Prelude.{◌≡◌, ◌≤◌, [], false};
-ghost use Rattle.uecp_text.specs.Written.{Begins};
-ghost use Rattle.kept_jobs.specs.Stops.{stop_status, stop_lines};
 ghost use Rattle.line_batches.specs.Batches.{TakesBatch};
 ghost use Rattle.sending.specs.Hands.{Taking};
+ghost use Rattle.sending.specs.Run.{EndsAs, tally_status};
 
 use kept_jobs::{KeptStop, fail_run};
 use line_batches::{After, Reading, Tally, take_batch};
@@ -26,6 +25,7 @@ pub(crate) struct Intake<'a, F: Feed, E: Write> {
 
 impl<'a, F: Feed, E: Write> Model for Intake<'a, F, E> {
     ghost use Rattle.sending.specs.Hands.{Taking};
+    ghost use Rattle.sending.specs.Run.{EndsAs, tally_status};
 
     ghost Value = { Taking };
 
@@ -88,22 +88,18 @@ impl<'a, F: Feed, E: Write> Intake<'a, F, E> {
         )
     }
 
-    /// Whether a line was refused.
-    pub(crate) fn has_refused(&self) -> bool
-        ensures { result ≡ self.now.at.refused }
-    {
-        self.tally.refused
-    }
-
-    /// Tells why a run stopped where refused lines are told, and answers the exit status of that.
-    pub(crate) fn fail(&mut self, stop: &KeptStop) -> u8
-        ensures status { result ≡ stop_status stop.now }
-        ensures said { Begins self.old.at.said self.new.at.said (stop_lines stop.now) }
+    /// Answers the exit status of a run that went so, of whose messages all that were told were applied or not: 0 they
+    /// were, 1 a line was refused, 4 they were not; or 3 or 2 where it stopped, and why is told.
+    pub(crate) fn end(&mut self, ran: Result<(), KeptStop>, applied: bool) -> u8
+        ensures ends { EndsAs ran applied self.old.at self.new.at.said result }
         ensures unread { self.new.at.unread ≡ self.old.at.unread }
         ensures feed { self.new.feed ≡ self.old.feed }
         ensures errors { self.new.errors ≡ self.old.errors }
     {
-        fail_run(stop, self.errors)
+        match ran {
+            Ok(()) => status_of(self.tally.refused, applied),
+            Err(stop) => fail_run(&stop, self.errors),
+        }
     }
 
     /// The feed back, and where refused lines are told.
@@ -121,5 +117,18 @@ impl<'a, F: Feed, E: Write> Intake<'a, F, E> {
             line: _,
         } = self;
         (feed, errors)
+    }
+}
+
+/// The exit status of a run that came to the end of its input.
+fn status_of(refused: bool, applied: bool) -> u8
+    ensures { result ≡ tally_status refused applied }
+{
+    if refused {
+        1
+    } else if applied {
+        0
+    } else {
+        4
     }
 }

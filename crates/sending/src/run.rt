@@ -5,7 +5,7 @@ ghost use Rattle.kept_jobs.specs.Stops.{Went};
 ghost use Rattle.kept_jobs.specs.ServerRun.{is_due};
 ghost use Rattle.line_batches.specs.declared.taking.After.{After as Next};
 ghost use Rattle.line_batches.specs.declared.taking.After.TheVariants.{GoesOn};
-ghost use Rattle.sending.specs.Run.{live, Turn, ended_as, RunsTurns, RunsOn, RunsLive, LivesFrom, Lives, tally_status};
+ghost use Rattle.sending.specs.Run.{live, Turn, ended_as, RunsTurns, RunsOn, RunsLive, LivesFrom, Lives};
 
 use crate::beginning::begin;
 use crate::course::Course;
@@ -77,10 +77,7 @@ pub fn run_live<K: KeepServer, F: Feed, W: Write, E: Write, C: Connections, T: C
         connect,
         &mut applied,
     );
-    let status = match ran {
-        Ok(()) => status_of(intake.has_refused(), applied),
-        Err(stop) => intake.fail(&stop),
-    };
+    let status = intake.end(ran, applied);
     let (_feed, _errors) = intake.finish();
     status
 }
@@ -90,19 +87,6 @@ fn is_due(join: bool, progress: Progress) -> bool
     ensures { result ≡ is_due join progress }
 {
     join || !progress.joined
-}
-
-/// The exit status of a run that came to the end of its input.
-fn status_of(refused: bool, applied: bool) -> u8
-    ensures { result ≡ tally_status refused applied }
-{
-    if refused {
-        1
-    } else if applied {
-        0
-    } else {
-        4
-    }
 }
 
 /// Tells how far the server has come, begins anew where its encoder is to be joined, and sends by one

@@ -27,5 +27,5 @@ returns-clause-sends g c =
           (subst (λ l. AnswersTold (RepliesOf c.args.form sent.new.progress.taken l) c.counts.result sent.result
           before after c.tell_replies.result) counters c.tell_replies.ensures.tells),
       search rules,
-      c.unknown_of.ensures,
+      c.unknown_of-course.ensures,
     )

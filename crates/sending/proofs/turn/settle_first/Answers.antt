@@ -17,7 +17,7 @@ returns-clause-settles g c =
     let counters : c.as_slice-2.result.now ≡ counters_waiting server = search rules in
     let counts : c.counts.result ≡ sent.new.sender.sender.server.counts = search rules in
     let first : c.first_of.result ≡ taken + 1 - length (marks_in server) = search rules in
-    let unknown : c.unknown_of.result ≡ unknown_of (length (marks_in server)) sent.result = search rules in
+    let unknown : c.unknown_of-course.result ≡ unknown_of (length (marks_in server)) sent.result = search rules in
     inr (
       search rules,
       (
