@@ -13,8 +13,8 @@ loop-turn-init g c = (
     stands_first c.new-hearing.result _ _ _ c.new-hearing.ensures.receiver c.new-hearing.ensures.lines
         c.new-hearing.ensures.refused,
   ),
-  c.new-output.ensures.empty,
-  c.new-output.ensures.whole,
+  c.new-2.ensures.empty,
+  c.new-2.ensures.whole,
 )
 
 pub loop-turn-preserved : goal.loop-turn-preserved
