@@ -21,8 +21,8 @@ use uecp_text::RunFault;
 
 /// Sends the messages of the lines that come, and answers the exit status: 0 all were applied, 1 a line was refused, 2
 /// the address is not that of one encoder, 3 the state can't be opened, saved or closed, a message is outstanding, or
-/// memory, reading or writing failed, 4 the encoder refused a message, or one is unknown. With a state in a file the run
-/// goes on from it; else it begins with a new server, which joins its encoder. The messages of the station are sent
+/// memory, reading or writing failed, 4 the encoder refused a message, or one is unknown. With a state in a file the
+/// run goes on from it; else it begins with a new server, which joins its encoder. The messages of the station are sent
 /// behind each join.
 pub fn run_send<S: OpenStates, F: Feed, W: Write, E: Write, C: Connections, T: Clock>(
     job: &SendOptions,
