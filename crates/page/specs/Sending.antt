@@ -41,8 +41,8 @@ abbrev pub SaysAlive : (x x' : Standing) → Type 0
 SaysAlive x x' =
     (x' ≡ x) ⊎ (IsLive x × (x.output ≡ []) × (x' ≡ record x { output = data_text x.writing (part_text alive) }))
 
--- No more events come, and it is closed once what waits is sent: what waited, and behind it, where it got events, the end
--- of their stream, so that a browser knows that it is whole; without memory that is not said.
+-- No more events come, and it is closed once what waits is sent: what waited, and behind it, where it got events, the
+-- end of their stream, so that a browser knows that it is whole; without memory that is not said.
 pub record Ends (x x' : Standing) : Type 0 where
   pub phase : x'.phase ≡ Closing
   pub due : x'.due ≡ x.due
