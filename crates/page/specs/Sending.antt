@@ -1,11 +1,11 @@
 -- The stream of events of one connection, and where it stands (profile).
-use Rattle.std.specs.Prelude.{◌≡◌, ℕ, ◌+◌, List, ◌++◌, length, flat_map}
+use Rattle.std.specs.Prelude.{◌≡◌, ℕ, ◌+◌, ◌⊎◌, List, [], ◌++◌, length, flat_map}
 use Rattle.http1.specs.declared.conn.Writing.{Writing}
-use Rattle.http1.specs.Conn.{data_text}
+use Rattle.http1.specs.Conn.{data_text, finish_text}
 use Rattle.page.specs.declared.clients.client.Phase.{Phase}
-use Rattle.page.specs.declared.clients.client.Phase.TheVariants.{Live}
+use Rattle.page.specs.declared.clients.client.Phase.TheVariants.{Live, Closing}
 use Rattle.page.specs.Events.{Event, Past, kept, from}
-use Rattle.page.specs.Stream.{part_text, carries}
+use Rattle.page.specs.Stream.{part_text, carries, alive}
 
 -- An event as it goes out on a connection.
 abbrev pub event_bytes : Writing → Event → List ℕ
@@ -34,3 +34,16 @@ pub record Delivers (past : Past) (events : List Event) (written : List ℕ) (x 
 -- It gets events.
 abbrev pub IsLive : Standing → Type 0
 IsLive x = x.phase ≡ Live
+
+-- A browser may have been told that all is well: where it gets events and nothing waits a comment waits then, which no
+-- page sees, or nothing changed, as without memory. It is owed the same events.
+abbrev pub SaysAlive : (x x' : Standing) → Type 0
+SaysAlive x x' =
+    (x' ≡ x) ⊎ (IsLive x × (x.output ≡ []) × (x' ≡ record x { output = data_text x.writing (part_text alive) }))
+
+-- No more events come, and it is closed once what waits is sent: what waited, and behind it, where it got events, the
+-- end of their stream, so that a browser knows that it is whole; without memory that is not said.
+pub record Ends (x x' : Standing) : Type 0 where
+  pub phase : x'.phase ≡ Closing
+  pub due : x'.due ≡ x.due
+  pub output : (x'.output ≡ x.output) ⊎ (IsLive x × (x'.output ≡ x.output ++ finish_text x.writing []))

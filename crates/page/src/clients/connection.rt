@@ -62,7 +62,9 @@ impl Client {
     }
 
     /// Takes what came of its request, and answers it once its head is whole. What comes behind that is passed over.
-    pub fn receive(&mut self, alloc: Global, came: &[u8], site: &Site<'_>) {
+    pub fn receive(&mut self, alloc: Global, came: &[u8], site: &Site<'_>)
+        ensures kept { ((standing_of self.old).phase ≡ Phase.Asking → ⊥) → standing_of self.new ≡ standing_of self.old }
+    {
         if self.phase != Phase::Asking {
             return;
         }

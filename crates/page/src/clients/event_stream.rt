@@ -6,7 +6,7 @@ ghost use Rattle.http1.specs.Server.{writing};
 ghost use Rattle.page.specs.Events.{Event};
 ghost use Rattle.page.specs.Stream.{part_text, carries};
 ghost use Rattle.page.specs.declared.clients.event_stream.EndOfEvents.TheVariants.{Lost};
-ghost use Rattle.page.specs.Sending.{Delivers, IsLive, owed};
+ghost use Rattle.page.specs.Sending.{Delivers, IsLive, SaysAlive, Ends, owed};
 ghost use Rattle.page.specs.ClientView.{standing_of};
 
 use crate::clients::client::{Client, Phase};
@@ -43,6 +43,7 @@ impl Client {
         ensures lost { result ≡ Err Lost → (standing_of self.new).due < history.now.first }
         ensures all { OnOk result (IsLive (standing_of self.new)
             → (owed history.now (standing_of self.new) ≡ []) ⊎ (1048576 ≤ length (standing_of self.new).output)) }
+        ensures idle { (IsLive (standing_of self.old) → ⊥) → standing_of self.new ≡ standing_of self.old }
     {
         if self.phase != Phase::Live {
             return Ok(());
@@ -127,14 +128,18 @@ impl Client {
     }
 
     /// Says that all is well, where nothing waits.
-    pub fn say_alive(&mut self) {
+    pub fn say_alive(&mut self)
+        ensures { SaysAlive (standing_of self.old) (standing_of self.new) }
+    {
         if self.phase == Phase::Live && self.output.is_empty() {
             let _ = self.server.write_data(&mut self.output, ALIVE.as_bytes());
         }
     }
 
     /// Ends the stream of events: what waits is sent, and then it is closed.
-    pub fn end(&mut self) {
+    pub fn end(&mut self)
+        ensures { Ends (standing_of self.old) (standing_of self.new) }
+    {
         let was_live = self.phase == Phase::Live;
         self.phase = Phase::Closing;
         if was_live {
