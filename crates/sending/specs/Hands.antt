@@ -13,3 +13,13 @@ pub record Taking : Type 0 where
 pub record Telling : Type 0 where
   pub held : Option (List ℕ)
   pub writer : ℕ
+
+-- A feed that was lent: what of it is not taken, and its loan.
+pub record Fed : Type 0 where
+  pub unread : Option (List ℕ)
+  pub loan : ℕ
+
+-- Where refusals are told, which was lent: what was said there, and its loan.
+pub record Said : Type 0 where
+  pub said : Option (List ℕ)
+  pub loan : ℕ

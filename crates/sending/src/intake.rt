@@ -15,15 +15,15 @@ use uecp_frame::Message;
 /// Lines as they come, what was taken of them so far, and where it is told of those that are refused. Contracts see it
 /// as one value, `Taking`.
 #[derive(Drop)]
-pub(crate) struct Intake<'a, F: Feed, E: Write> {
+pub(crate) struct Intake<'f, 'e, F: Feed, E: Write> {
     alloc: Global,
-    feed: &'a mut F,
-    errors: &'a mut E,
+    feed: &'f mut F,
+    errors: &'e mut E,
     tally: Tally,
     line: Vec<u8>,
 }
 
-impl<'a, F: Feed, E: Write> Model for Intake<'a, F, E> {
+impl<'f, 'e, F: Feed, E: Write> Model for Intake<'f, 'e, F, E> {
     ghost use Rattle.sending.specs.Hands.{Taking};
     ghost use Rattle.sending.specs.Run.{EndsAs, tally_status};
 
@@ -41,9 +41,9 @@ impl<'a, F: Feed, E: Write> Model for Intake<'a, F, E> {
     } };
 }
 
-impl<'a, F: Feed, E: Write> Intake<'a, F, E> {
+impl<'f, 'e, F: Feed, E: Write> Intake<'f, 'e, F, E> {
     /// The lines of this feed, of which none was taken.
-    pub(crate) fn new(alloc: Global, feed: &'a mut F, errors: &'a mut E) -> Intake<'a, F, E>
+    pub(crate) fn new(alloc: Global, feed: &'f mut F, errors: &'e mut E) -> Intake<'f, 'e, F, E>
         ensures { result ≡ record {
           at = record {
             unread = F.remaining feed.old;
@@ -102,12 +102,10 @@ impl<'a, F: Feed, E: Write> Intake<'a, F, E> {
         }
     }
 
-    /// The feed back, and where refused lines are told.
-    pub(crate) fn finish(self) -> (&'a mut F, &'a mut E)
-        ensures feed { result.0.ghost_name ≡ self.entry.feed }
-        ensures errors { result.1.ghost_name ≡ self.entry.errors }
-        ensures unread { F.remaining result.0.now ≡ self.entry.at.unread }
-        ensures said { E.contents result.1.now ≡ self.entry.at.said }
+    /// What was lent, apart: the feed, and where refused lines are told.
+    pub(crate) fn finish(self) -> (LentFeed<'f, F>, LentErrors<'e, E>)
+        ensures feed { result.0 ≡ record { unread = self.entry.at.unread; loan = self.entry.feed } }
+        ensures errors { result.1 ≡ record { said = self.entry.at.said; loan = self.entry.errors } }
     {
         let Intake {
             alloc: _,
@@ -116,7 +114,57 @@ impl<'a, F: Feed, E: Write> Intake<'a, F, E> {
             tally: _,
             line: _,
         } = self;
-        (feed, errors)
+        (LentFeed { feed }, LentErrors { errors })
+    }
+}
+
+/// A feed that was lent. Contracts see it as one value, `Fed`.
+#[derive(Drop)]
+pub(crate) struct LentFeed<'a, F: Feed> {
+    feed: &'a mut F,
+}
+
+impl<'a, F: Feed> Model for LentFeed<'a, F> {
+    ghost use Rattle.sending.specs.Hands.{Fed};
+
+    ghost Value = { Fed };
+
+    ghost view = { λ f. record { unread = F.remaining f.feed.now; loan = f.feed.ghost_name } };
+}
+
+impl<'a, F: Feed> LentFeed<'a, F> {
+    /// It itself.
+    pub(crate) fn finish(self) -> &'a mut F
+        ensures same { result.ghost_name ≡ self.entry.loan }
+        ensures unread { F.remaining result.now ≡ self.entry.unread }
+    {
+        let LentFeed { feed } = self;
+        feed
+    }
+}
+
+/// A writer of errors that was lent. Contracts see it as one value, `Said`.
+#[derive(Drop)]
+pub(crate) struct LentErrors<'a, E: Write> {
+    errors: &'a mut E,
+}
+
+impl<'a, E: Write> Model for LentErrors<'a, E> {
+    ghost use Rattle.sending.specs.Hands.{Said};
+
+    ghost Value = { Said };
+
+    ghost view = { λ e. record { said = E.contents e.errors.now; loan = e.errors.ghost_name } };
+}
+
+impl<'a, E: Write> LentErrors<'a, E> {
+    /// It itself.
+    pub(crate) fn finish(self) -> &'a mut E
+        ensures same { result.ghost_name ≡ self.entry.loan }
+        ensures said { E.contents result.now ≡ self.entry.said }
+    {
+        let LentErrors { errors } = self;
+        errors
     }
 }
 

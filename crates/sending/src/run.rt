@@ -78,7 +78,9 @@ pub fn run_live<K: KeepServer, F: Feed, W: Write, E: Write, C: Connections, T: C
         &mut applied,
     );
     let status = intake.end(ran, applied);
-    let (_feed, _errors) = intake.finish();
+    let (fed, told) = intake.finish();
+    let _errors = told.finish();
+    let _feed = fed.finish();
     status
 }
 
@@ -95,7 +97,7 @@ fn run_from<K: KeepServer, F: Feed, W: Write, E: Write, C: Connections, T: Clock
     options: &LiveOptions<'_>,
     start: Start,
     keeper: &mut K,
-    intake: &mut Intake<'_, F, E>,
+    intake: &mut Intake<'_, '_, F, E>,
     teller: &mut Teller<'_, W, T>,
     connect: &mut C,
     applied: &mut bool,
@@ -163,7 +165,7 @@ pub(crate) fn run_sender<K: KeepServer, F: Feed, W: Write, E: Write, C: Connecti
     options: &LiveOptions<'_>,
     sender: &mut Sender<'_, C>,
     keeper: &mut K,
-    intake: &mut Intake<'_, F, E>,
+    intake: &mut Intake<'_, '_, F, E>,
     teller: &mut Teller<'_, W, T>,
     course: &mut Course,
 ) -> Result<(), KeptStop>
@@ -192,7 +194,7 @@ fn go_on<K: KeepServer, F: Feed, W: Write, E: Write, C: Connections, T: Clock>(
     options: &LiveOptions<'_>,
     sender: &mut Sender<'_, C>,
     keeper: &mut K,
-    intake: &mut Intake<'_, F, E>,
+    intake: &mut Intake<'_, '_, F, E>,
     teller: &mut Teller<'_, W, T>,
     course: &mut Course,
 ) -> Result<(), KeptStop>
@@ -216,7 +218,7 @@ fn run_turns<K: KeepServer, F: Feed, W: Write, E: Write, C: Connections, T: Cloc
     options: &LiveOptions<'_>,
     sender: &mut Sender<'_, C>,
     keeper: &mut K,
-    intake: &mut Intake<'_, F, E>,
+    intake: &mut Intake<'_, '_, F, E>,
     teller: &mut Teller<'_, W, T>,
     course: &mut Course,
 ) -> Result<(), KeptStop>
@@ -259,7 +261,7 @@ fn make_turn<K: KeepServer, F: Feed, W: Write, E: Write, C: Connections, T: Cloc
     options: &LiveOptions<'_>,
     sender: &mut Sender<'_, C>,
     keeper: &mut K,
-    intake: &mut Intake<'_, F, E>,
+    intake: &mut Intake<'_, '_, F, E>,
     teller: &mut Teller<'_, W, T>,
     course: &mut Course,
 ) -> Result<After, KeptStop>

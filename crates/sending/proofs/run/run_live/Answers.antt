@@ -9,12 +9,14 @@ returns-clause-runs g c =
     let k = g.K.KeepServer in
     let run = c.run_from-ran in
     let end = c.end-status in
-    let back = c.finish-feed.ensures in
+    let back = c.finish-fed.ensures in
     let new = c.new-intake.ensures in
     let feed = c.feed-1.given.1
-    (sym (ap (λ t. t.feed) new) ∙ sym run.ensures.feed ∙ sym end.ensures.feed ∙ sym back.feed) in
+    (sym (ap (λ t. t.feed) new) ∙ sym run.ensures.feed ∙ sym end.ensures.feed ∙ sym (ap (λ f. f.loan) back.feed)
+    ∙ sym c.finish-feed.ensures.same) in
     let errors = c.errors-1.given.1
-    (sym (ap (λ t. t.errors) new) ∙ sym run.ensures.errors ∙ sym end.ensures.errors ∙ sym back.errors) in (
+    (sym (ap (λ t. t.errors) new) ∙ sym run.ensures.errors ∙ sym end.ensures.errors ∙ sym (ap (λ e. e.loan) back.errors)
+    ∙ sym c.finish-errors.ensures.same) in (
       run.result,
       run.new.intake.at,
       run.new.applied,
@@ -33,7 +35,8 @@ returns-clause-runs g c =
             behind = GoesOn;
           }) run.new.keeper run.new.teller.held run.new.intake.at run.new.applied run.result) (ap (λ t. t.at) new)
           run.ensures.lives,
-      ap g.F.Feed.remaining feed ∙ back.unread ∙ end.ensures.unread,
+      ap g.F.Feed.remaining feed ∙ c.finish-feed.ensures.unread ∙ ap (λ f. f.unread) back.feed ∙ end.ensures.unread,
       subst (λ said. EndsAs run.result run.new.applied run.new.intake.at said end.result)
-          (sym (ap g.E.Write.contents errors ∙ back.said)) end.ensures.ends,
+          (sym (ap g.E.Write.contents errors ∙ c.finish-errors.ensures.said ∙ ap (λ e. e.said) back.errors))
+          end.ensures.ends,
     )
