@@ -10,7 +10,7 @@ use Rattle.uecp_phrases.specs.declared.expectation.Expectation.TheVariants as wh
 use Rattle.uecp_phrases.specs.Phrases.{Choice, Adds, Toggles, Stays, Times, Choices, choice_tokens, AreMade}
 use Rattle.uecp_phrases.specs.Reading.{choice_word, IsStep, IsFree, choices_left, IsTimes}
 use Rattle.uecp_phrases.specs.Expecting.{MayStand, IsNext, IsStop, IsStopAlways}
-use Rattle.uecp_phrases.specs.Walking.{AreChosen, IsStuck}
+use Rattle.uecp_phrases.specs.Stops.{AreChosen, IsStuck}
 use Rattle.uecp_phrases.specs.declared.expectation.Expectation.{Expectation}
 use Rattle.std.proofs.Common.{eqb, ◌+◌, if◌then◌else◌}
 use Rattle.uecp_phrases.proofs.Stopping.{Same, stuck_stop, stop_behind, same_stop}

@@ -15,8 +15,9 @@ pub mod LineTokens
 pub mod WritingLines
 pub mod Turning
 pub mod Stopping
+pub mod Slots
 pub mod Behind
-pub mod Fitting
+pub mod FirstWanted
 pub mod Choosing
 pub mod Placing
 pub mod Faulting

@@ -1,5 +1,5 @@
 -- A phrase from its parts, and no phrase from none of them.
-use Rattle.std.proofs.Common.{◌≡◌, ◌≢◌, ℕ, ◌+◌, ◌||◌, Bool, false, is_some, List, [], ◌∷◌, ◌++◌, codes, Some, None}
+use Rattle.std.proofs.Common.{◌≡◌, ℕ, ◌+◌, ◌||◌, false, is_some, List, [], ◌∷◌, ◌++◌, codes, Some, None}
 use Rattle.std.proofs.Common.{Option}
 use Rattle.std.proofs.Common.{refl, sym, ◌∙◌, ap, subst, inl, inr, eqb, if◌then◌else◌}
 use Rattle.std.proofs.lemmas.Bool.{false≢true}
@@ -210,75 +210,3 @@ phrase_read region tokens mid left rest (Some n) (Some m) h bytes (name, p, name
       for_service = numbered;
       told = told;
     }
-
--- ---- No phrase.
-
--- What is left behind the place is the phrase's head and what stands behind it.
-pub left_is : (region : Region) (tokens mid left : List Token) (set service : Option ℕ) (bytes : List ℕ)
-    → IsBefore (codes "in") IsSet tokens set mid → IsBefore (codes "for") IsByte mid service left
-    → (phrase : IsPhrase region tokens bytes) → left ≡ Word (head_word phrase.head) ∷ phrase.rest
-left_is region tokens mid left set service bytes set_is service_is phrase =
-    let one = set_read tokens mid set phrase.set phrase.service phrase.dsn phrase.head phrase.rest set_is phrase.whole
-    phrase.in_set in
-    (service_read mid left service phrase.service phrase.psn phrase.head phrase.rest service_is one.left_is
-    phrase.for_service).left_is
-
-pub no_head_read : (region : Region) (tokens mid left rest : List Token) (set service : Option ℕ) (first : Token)
-    → IsBefore (codes "in") IsSet tokens set mid → IsBefore (codes "for") IsByte mid service left
-    → left ≡ first ∷ rest → ((h : Head) → first ≡ Word (head_word h) → ⊥) → (bytes : List ℕ)
-    → IsPhrase region tokens bytes → ⊥
-no_head_read region tokens mid left rest set service first set_is service_is is none bytes phrase =
-    let own = left_is region tokens mid left set service bytes set_is service_is phrase in
-    let e : first ∷ rest ≡ Word (head_word phrase.head) ∷ phrase.rest = sym is ∙ own in
-    let f : first ≡ Word (head_word phrase.head) = cc in none phrase.head f
-
-pub not_told_read : (region : Region) (tokens mid left rest : List Token) (set service : Option ℕ) (h : Head)
-    → IsBefore (codes "in") IsSet tokens set mid → IsBefore (codes "for") IsByte mid service left
-    → left ≡ Word (head_word h) ∷ rest → (bytes : List ℕ)
-    → (Tells region h (is_some set || is_some service) (or_zero set) (or_zero service) rest bytes → ⊥)
-    → IsPhrase region tokens bytes → ⊥
-not_told_read region tokens mid left rest set service h set_is service_is is bytes none phrase =
-    let one = set_read tokens mid set phrase.set phrase.service phrase.dsn phrase.head phrase.rest set_is phrase.whole
-    phrase.in_set in
-    let two = service_read mid left service phrase.service phrase.psn phrase.head phrase.rest service_is one.left_is
-    phrase.for_service in
-    let e : Word (head_word h) ∷ rest ≡ Word (head_word phrase.head) ∷ phrase.rest = sym is ∙ two.left_is in
-    let words : head_word phrase.head ≡ head_word h = cc in
-    let heads = one_head phrase.head h words in
-    let rests : phrase.rest ≡ rest = cc in
-    let told : Tells region h (is_some phrase.set || is_some phrase.service) phrase.dsn phrase.psn rest bytes =
-    subst (λ l. Tells region h (is_some phrase.set || is_some phrase.service) phrase.dsn phrase.psn l bytes) rests
-    (subst (λ k. Tells region k (is_some phrase.set || is_some phrase.service) phrase.dsn phrase.psn phrase.rest bytes)
-    heads phrase.told) in
-    let placed : Tells region h (is_some set || is_some service) phrase.dsn phrase.psn rest bytes =
-    subst (λ b. Tells region h b phrase.dsn phrase.psn rest bytes)
-    (ap (λ b. b || is_some phrase.service) one.said ∙ ap (λ b. is_some set || b) two.said) told in
-    none (subst (λ n. Tells region h (is_some set || is_some service) (or_zero set) n rest bytes) two.number
-    (subst (λ n. Tells region h (is_some set || is_some service) n phrase.psn rest bytes) one.number placed))
-
--- What is told at a place, by the parts of the place.
-pub told_at : (region : Region) (h : Head) (placed : Bool) (dsn psn : ℕ) (set service : Option ℕ) (rest : List Token)
-    (bytes : List ℕ) → dsn ≡ or_zero set → psn ≡ or_zero service → placed ≡ (is_some set || is_some service)
-    → Tells region h placed dsn psn rest bytes
-    → Tells region h (is_some set || is_some service) (or_zero set) (or_zero service) rest bytes
-told_at region h placed dsn psn set service rest bytes d p s told =
-    subst (λ b. Tells region h b (or_zero set) (or_zero service) rest bytes) s
-    (subst (λ n. Tells region h placed n (or_zero service) rest bytes) d
-    (subst (λ n. Tells region h placed dsn n rest bytes) p told))
-
--- A word that is no head.
-pub no_head_word : (first : Token) (own : List ℕ) → first ≡ Word own → ((h : Head) → own ≢ head_word h) → (h : Head)
-    → first ≡ Word (head_word h) → ⊥
-no_head_word first own is none h same =
-    let e : Word own ≡ Word (head_word h) = sym is ∙ same in
-    let one : own ≡ head_word h = cc in none h one
-
--- And back.
-pub told_from : (region : Region) (h : Head) (placed : Bool) (dsn psn : ℕ) (set service : Option ℕ) (rest : List Token)
-    (bytes : List ℕ) → dsn ≡ or_zero set → psn ≡ or_zero service → placed ≡ (is_some set || is_some service)
-    → Tells region h (is_some set || is_some service) (or_zero set) (or_zero service) rest bytes
-    → Tells region h placed dsn psn rest bytes
-told_from region h placed dsn psn set service rest bytes d p s told =
-    subst (λ n. Tells region h placed dsn n rest bytes) (sym p)
-    (subst (λ n. Tells region h placed n (or_zero service) rest bytes) (sym d)
-    (subst (λ b. Tells region h b (or_zero set) (or_zero service) rest bytes) (sym s) told))

@@ -13,13 +13,15 @@ use Rattle.uecp_phrases.specs.declared.expectation.Expectation.TheVariants as wh
 use Rattle.uecp_phrases.specs.Phrases.{IsSet, set_said, service_said, IsInSet, IsForService, head_word, Tells, IsPhrase}
 use Rattle.uecp_phrases.specs.Reading.{IsBefore, BeginWith, or_zero}
 use Rattle.uecp_phrases.specs.Expecting.{acts_somewhere, MayStand, IsNext, IsStop, IsRead, IsLong, IsUnread}
-use Rattle.uecp_phrases.specs.Walking.{Told, IsNotFirst, IsStopBefore, IsNoHead, word_wanted}
+use Rattle.uecp_phrases.specs.Stops.{Told, IsNotFirst, IsStopBefore, IsNoHead, word_wanted}
 use Rattle.uecp_phrases.proofs.Phrasing.{behind_set, no_set_behind, no_in, no_for, one_head, phrase_read}
-use Rattle.std.proofs.Common.{arith, ◌⊎◌}
+use Rattle.std.proofs.Common.{◌<◌, arith}
 use Rattle.uecp_phrases.proofs.OneMeaning.{one_meaning}
 use Rattle.uecp_phrases.proofs.Cutting.{empty_no_phrase}
-use Rattle.uecp_phrases.proofs.Behind.{some_told, zero_byte}
+use Rattle.uecp_phrases.proofs.Slots.{zero_byte}
+use Rattle.uecp_phrases.proofs.FirstWanted.{some_told}
 use Rattle.uecp_phrases.proofs.Stopping.{Same, same_stop, stop_behind, stuck_stop, stops_none}
+use Rattle.uecp_phrases.proofs.Telling.{unplaced}
 
 -- ---- What is told, wherever it acts.
 
@@ -53,10 +55,6 @@ acts region head.Set placed dsn psn l bytes (none, _) is = absurd (false≢true 
 acts region head.Group placed dsn psn l bytes (none, _) is = absurd (false≢true (sym none ∙ is))
 acts region head.Ack placed dsn psn l bytes (none, _) is = absurd (false≢true (sym none ∙ is))
 acts region head.Raw placed dsn psn l bytes (none, _, _) is = absurd (false≢true (sym none ∙ is))
-
-unplaced : (placed : Bool) → (placed ≡ true → false ≡ true) → placed ≡ false
-unplaced true may = absurd (false≢true (may refl))
-unplaced false may = refl
 
 told_there : (region : Region) (h : Head) (placed : Bool) (dsn psn : ℕ) (l : List Token)
     → (placed ≡ true → acts_somewhere h ≡ true) → Told region h l
@@ -602,7 +600,7 @@ pub may_act : (set service : Option ℕ) (b d : Bool) (h : Head) → b ≡ is_so
 may_act set service b d h b_is d_is may said =
     may (ap (λ x. x || d) b_is ∙ ap (λ x. is_some set || x) d_is ∙ said)
 
-told_stop : (region : Region) (tokens behind left_over rest : List Token) (set service : Option ℕ) (h : Head)
+pub told_stop : (region : Region) (tokens behind left_over rest : List Token) (set service : Option ℕ) (h : Head)
     (w : Expectation) (left : ℕ) → IsBefore (codes "in") IsSet tokens set behind
     → IsBefore (codes "for") IsByte behind service left_over → left_over ≡ Word (head_word h) ∷ rest
     → ((is_some set || is_some service) ≡ true → acts_somewhere h ≡ true) → IsStop region (Told region h) rest w left
@@ -619,34 +617,17 @@ told_stop region tokens behind left_over rest set (Some m) h w left before (name
     (same_stop region (λ l. IsInPlace region (is_some set) (Word (codes "for") ∷ Word name ∷ Word (head_word h) ∷ l))
     (Told region h) rest w left (place_service region (is_some set) h name m byte (may (or_true (is_some set)))) stop))
 
-told_long : (region : Region) (tokens behind left_over rest : List Token) (set service : Option ℕ) (h : Head)
-    → IsBefore (codes "in") IsSet tokens set behind → IsBefore (codes "for") IsByte behind service left_over
-    → left_over ≡ Word (head_word h) ∷ rest
-    → ((is_some set || is_some service) ≡ true → acts_somewhere h ≡ true)
-    → ((bytes : List ℕ) → Tells region h (is_some set || is_some service) (or_zero set) (or_zero service) rest bytes
-    → length bytes ≤ 255 → ⊥) → Told region h rest → IsLong region tokens
-told_long region tokens behind left_over rest set service h before for_it is may none told =
-    let there = told_there region h (is_some set || is_some service) (or_zero set) (or_zero service) rest may told in
-    let many : length there.0 ≤ 255 → ⊥ = none there.0 there.1 in
-    record {
-      bytes = there.0;
-      phrase = phrase_read region tokens behind left_over rest set service h there.0 before for_it is there.1;
-      many = omega (arith, many);
-    }
-
-pub told_unread : (region : Region) (tokens behind left_over rest : List Token) (set service : Option ℕ) (h : Head)
-    (w : Expectation) (left : ℕ) → IsBefore (codes "in") IsSet tokens set behind
+-- What is told and is too long makes the phrase one that is.
+pub told_long : (region : Region) (tokens behind left_over rest : List Token) (set service : Option ℕ) (h : Head)
+    (bytes : List ℕ) → IsBefore (codes "in") IsSet tokens set behind
     → IsBefore (codes "for") IsByte behind service left_over → left_over ≡ Word (head_word h) ∷ rest
-    → ((is_some set || is_some service) ≡ true → acts_somewhere h ≡ true)
-    → ((bytes : List ℕ) → Tells region h (is_some set || is_some service) (or_zero set) (or_zero service) rest bytes
-    → length bytes ≤ 255 → ⊥)
-    → IsStop region (Told region h) rest w left
-    ⊎ (Told region h rest × (w ≡ what.ShortMessage) × (left ≡ length tokens)) → IsUnread region tokens w left
-told_unread region tokens behind left_over rest set service h w left before for_it is may none (inl stop) =
-    inl (told_stop region tokens behind left_over rest set service h w left before for_it is may stop)
-told_unread region tokens behind left_over rest set service h w left before for_it is may none
-    (inr (told, w_is, left_is)) =
-    inr (told_long region tokens behind left_over rest set service h before for_it is may none told, w_is, left_is)
+    → Tells region h (is_some set || is_some service) (or_zero set) (or_zero service) rest bytes → 255 < length bytes
+    → IsLong region tokens
+told_long region tokens behind left_over rest set service h bytes before for_it is told many = record {
+  bytes = bytes;
+  phrase = phrase_read region tokens behind left_over rest set service h bytes before for_it is told;
+  many = many;
+}
 
 -- ---- What stops is none.
 

@@ -1,90 +1,151 @@
 -- Words that are bytes, one by one.
-use Rattle.std.proofs.Common.{◌≡◌, ℕ, ◌≤◌, List, [], ◌∷◌, ◌++◌, length, Ok, IsErr, refl, sym, ◌∙◌, ap, subst, arith}
-use Rattle.std.proofs.Common.{rules, append_assoc}
+use Rattle.std.proofs.Common.{◌≡◌, ℕ, ◌≤◌, ◌<◌, List, [], ◌∷◌, ◌++◌, length, Option, Some, None, Ok, IfSome, IfNone}
+use Rattle.std.proofs.Common.{refl, sym, ◌∙◌, ap, subst, append_assoc, arith, false}
 use Rattle.std.proofs.lemmas.List.{length-append, append-nil}
 use Rattle.hex.specs.Hex.{decode_sized}
 use Rattle.uecp_text.specs.Words.{IsByte}
+use Rattle.rds_text.specs.declared.programme_type.Region.{Region}
+use Rattle.rds_text.specs.declared.programme_type.Region.TheVariants.{Europe}
 use Rattle.phrase_tokens.specs.Tokens.{Token, Word}
-use Rattle.uecp_phrases.specs.Phrases.{AreRaw}
-
--- The bytes so far and those of the other tokens are those of all, and there are no others.
-pub record RawSoFar (tokens : List Token) (message : List ℕ) (rest : List Token) : Type 0 where
-  pub front : (bytes : List ℕ) → AreRaw rest bytes → AreRaw tokens (message ++ bytes)
-  pub back : (bytes : List ℕ) → AreRaw tokens bytes
-      → (others : List ℕ) × (bytes ≡ message ++ others) × AreRaw rest others
+use Rattle.uecp_phrases.specs.declared.head.Head.TheVariants as head
+use Rattle.uecp_phrases.specs.declared.expectation.Expectation.{Expectation}
+use Rattle.uecp_phrases.specs.declared.expectation.Expectation.TheVariants as what
+use Rattle.uecp_phrases.specs.Phrases.{AreRaw, Tells}
+use Rattle.uecp_phrases.specs.Expecting.{MayStand, IsNext, IsStop}
+use Rattle.uecp_phrases.specs.Reading.{IsFirstNamed, IsHeld}
+use Rattle.uecp_phrases.specs.Stops.{Told, IsUntold, IsStuck}
+use Rattle.uecp_phrases.proofs.Stopping.{Same, same_stop, stop_behind}
 
 -- One word is one byte.
 pub same_byte : (v w : List ℕ) (a b : ℕ) → v ≡ w → IsByte v a → IsByte w b → a ≡ b
 same_byte v w a b same p q = let e : Ok (a ∷ []) ≡ Ok (b ∷ []) = sym p ∙ ap (λ x. decode_sized x 1) same ∙ q in cc
 
--- One more.
-pub raw_more : (tokens rest others : List Token) (message : List ℕ) (first : Token) (word : List ℕ) (byte : ℕ)
-    → RawSoFar tokens message rest → rest ≡ first ∷ others → first ≡ Word word → IsByte word byte
-    → RawSoFar tokens (message ++ (byte ∷ [])) others
-raw_more tokens rest others message first word byte so is first_is byte_is = record { front = front; back = back }
+-- ---- Bytes behind bytes.
+
+-- The tokens are bytes as they are, if any.
+abbrev AreMoreRaw : List Token → Type 0
+AreMoreRaw tokens = (bytes : List ℕ) × AreRaw tokens bytes
+
+joined : (front l : List Token) (said bytes : List ℕ) → AreRaw front said → AreRaw l bytes
+    → AreRaw (front ++ l) (said ++ bytes)
+joined front l [] bytes is are = subst (λ f. AreRaw (f ++ l) bytes) (sym is) are
+joined front l (b ∷ said) bytes (w, others, is, byte, more) are =
+    (w, others ++ l, ap (λ f. f ++ l) is, byte, joined others l said bytes more are)
+
+behind : (front l : List Token) (said all : List ℕ) → AreRaw front said → AreRaw (front ++ l) all → AreMoreRaw l
+behind front l [] all is are = (all, subst (λ f. AreRaw (f ++ l) all) is are)
+behind front l (b ∷ said) [] (w, others, is, _, _) none =
+    let e : Word w ∷ (others ++ l) ≡ [] = sym (ap (λ f. f ++ l) is) ∙ none in absurd (cc e)
+behind front l (b ∷ said) (a ∷ all) (w, others, is, _, more) (v, left, same, _, are) =
+    let e : Word w ∷ (others ++ l) ≡ Word v ∷ left = sym (ap (λ f. f ++ l) is) ∙ same in
+    let rest : left ≡ others ++ l = cc in
+    behind others l said all more (subst (λ x. AreRaw x all) rest are)
+
+-- ---- The bytes so far.
+
+-- The tokens in front are these bytes, one or more.
+pub record RawSoFar (tokens : List Token) (said : List ℕ) (rest : List Token) : Type 0 where
+  pub front : List Token
+  pub whole : tokens ≡ front ++ rest
+  pub are : AreRaw front said
+  pub some : 1 ≤ length said
+
+-- And so many of them are held.
+pub record RawHeld (tokens : List Token) (message : Option (List ℕ)) (rest : List Token) : Type 0 where
+  pub said : List ℕ
+  pub so : RawSoFar tokens said rest
+  pub held : IsHeld said message
+
+pub raw_begins : (tokens rest : List Token) (byte : ℕ) (message : Option (List ℕ))
+    → IsFirstNamed IsByte tokens byte rest → IsHeld (byte ∷ []) message → RawHeld tokens message rest
+raw_begins tokens rest byte message (w, is, byte_is) held = record {
+  said = byte ∷ [];
+  so = record { front = Word w ∷ []; whole = is; are = (w, [], refl, byte_is, refl); some = omega arith };
+  held = held;
+}
+
+pub raw_more : (tokens rest others : List Token) (byte : ℕ) (message longer : Option (List ℕ))
+    → RawHeld tokens message rest → IsFirstNamed IsByte rest byte others
+    → ((said : List ℕ) → IsHeld said message → IsHeld (said ++ byte ∷ []) longer) → RawHeld tokens longer others
+raw_more tokens rest others byte message longer is (w, first, byte_is) more = record {
+  said = is.said ++ byte ∷ [];
+  so = record {
+    front = is.so.front ++ Word w ∷ [];
+    whole = is.so.whole ∙ ap (λ l. is.so.front ++ l) first ∙ sym (append_assoc is.so.front (Word w ∷ []) others);
+    are = joined is.so.front (Word w ∷ []) is.said (byte ∷ []) is.so.are (w, [], refl, byte_is, refl);
+    some = let sum = length-append is.said (byte ∷ []) in
+        let one = is.so.some in omega (arith, sum, one);
+  };
+  held = more is.said is.held;
+}
+
+-- ---- All of them.
+
+all_raw : (tokens rest : List Token) (said : List ℕ) → RawSoFar tokens said rest → rest ≡ [] → AreRaw tokens said
+all_raw tokens rest said so none =
+    let whole : so.front ≡ tokens =
+    sym (append-nil so.front) ∙ ap (λ l. so.front ++ l) (sym none) ∙ sym so.whole in
+    subst (λ l. AreRaw l said) whole so.are
+
+pub raw_some : (tokens rest : List Token) (message : Option (List ℕ)) → RawHeld tokens message rest → rest ≡ []
+    → IfSome message (λ m. Tells Europe head.Raw false 0 0 tokens m)
+raw_some tokens rest None is none = tt
+raw_some tokens rest (Some m) is none = (
+  refl,
+  subst (λ l. AreRaw tokens l) (sym is.held) (all_raw tokens rest is.said is.so none),
+  subst (λ l. 1 ≤ length l) (sym is.held) is.so.some,
+)
+
+pub raw_long : (tokens rest : List Token) (message : Option (List ℕ)) → RawHeld tokens message rest → rest ≡ []
+    → IfNone message ((bytes : List ℕ) × Tells Europe head.Raw false 0 0 tokens bytes × (255 < length bytes))
+raw_long tokens rest None is none =
+    (is.said, (refl, all_raw tokens rest is.said is.so none, is.so.some), is.held)
+raw_long tokens rest (Some m) is none = tt
+
+-- ---- Where they stop.
+
+raw_same : (region : Region) (front : List Token) (said : List ℕ) → AreRaw front said → 1 ≤ length said
+    → Same (λ l. Told region head.Raw (front ++ l)) AreMoreRaw
+raw_same region front said are some = record {
+  to = λ l (bytes, (_, all, _)). behind front l said bytes are all;
+  from = λ l (bytes, more).
+      let sum = length-append said bytes in
+      (said ++ bytes, (refl, joined front l said bytes are more, omega (arith, sum, some)));
+}
+
+more_next : (region : Region) → IsNext region AreMoreRaw [] what.AnotherByte
+more_next region = record {
+  only = only;
+  may = may;
+  ends = λ r. tt;
+  may_end = λ m. ([], refl);
+}
   where
-    whole : rest ≡ Word word ∷ others
-    whole = is ∙ ap (λ t. t ∷ others) first_is
+    only : (t : Token) (more : List Token) → AreMoreRaw (t ∷ more) → MayStand region what.AnotherByte t
+    only t more ([], none) = absurd (cc none)
+    only t more (b ∷ bytes, (w, others, e, byte, are)) = (w, b, cc, byte)
 
-    front : (bytes : List ℕ) → AreRaw others bytes → AreRaw tokens ((message ++ (byte ∷ [])) ++ bytes)
-    front bytes are =
-        subst (λ m. AreRaw tokens m) (sym (append_assoc message (byte ∷ []) bytes))
-        (so.front (byte ∷ bytes) (word, others, whole, byte_is, are))
+    may : (t : Token) → MayStand region what.AnotherByte t → (more : List Token) × AreMoreRaw (t ∷ more)
+    may t (w, byte, is, byte_is) = ([], (byte ∷ [], (w, [], ap (λ x. x ∷ []) is, byte_is, refl)))
 
-    behind : (bytes left : List ℕ) → bytes ≡ message ++ left → AreRaw rest left
-        → (more : List ℕ) × (bytes ≡ (message ++ (byte ∷ [])) ++ more) × AreRaw others more
-    behind bytes [] p none = let e : Word word ∷ others ≡ [] = sym whole ∙ none in cc e
-    behind bytes (b ∷ left) p (w, ts, same, b_is, are) =
-        let e : Word word ∷ others ≡ Word w ∷ ts = sym whole ∙ same in
-        let words : w ≡ word = cc in
-        let rests : ts ≡ others = cc in
-        let one : b ≡ byte = same_byte w word b byte words b_is byte_is in (
-          left,
-          p ∙ ap (λ x. message ++ (x ∷ left)) one ∙ sym (append_assoc message (byte ∷ []) left),
-          subst (λ l. AreRaw l left) rests are,
-        )
+more_stop : (region : Region) (rest : List Token) (w : Expectation) (left : ℕ) → (rest ≡ [] → ⊥)
+    → IsStuck region what.AnotherByte rest w left → IsStop region AreMoreRaw rest w left
+more_stop region [] w left some stuck = absurd (some refl)
+more_stop region (t ∷ rest) w left some stuck =
+    subst (λ x. IsStop region AreMoreRaw (t ∷ rest) x left) (sym stuck.what_is)
+    (record {
+      before = [];
+      rest = t ∷ rest;
+      whole = refl;
+      counted = stuck.counted;
+      next = more_next region;
+      none = stuck.none;
+    })
 
-    back : (bytes : List ℕ) → AreRaw tokens bytes
-        → (more : List ℕ) × (bytes ≡ (message ++ (byte ∷ [])) ++ more) × AreRaw others more
-    back bytes are = let found = so.back bytes are in behind bytes found.0 found.1 found.2
-
--- The first is no byte.
-no_raw : (rest others : List Token) (first : Token) (left : List ℕ) → rest ≡ first ∷ others
-    → ((word : List ℕ) (byte : ℕ) → first ≡ Word word → IsByte word byte → ⊥) → AreRaw rest left → ⊥
-no_raw rest others first [] is none empty = let e : first ∷ others ≡ [] = sym is ∙ empty in cc e
-no_raw rest others first (b ∷ left) is none (w, ts, same, b_is, are) =
-    let e : first ∷ others ≡ Word w ∷ ts = sym is ∙ same in
-    let f : first ≡ Word w = cc in none w b f b_is
-
-pub raw_ends : (tokens rest others : List Token) (message : List ℕ) (first : Token) → RawSoFar tokens message rest
-    → rest ≡ first ∷ others → ((word : List ℕ) (byte : ℕ) → first ≡ Word word → IsByte word byte → ⊥)
-    → (bytes : List ℕ) → AreRaw tokens bytes → 1 ≤ length bytes → length bytes ≤ 255 → ⊥
-raw_ends tokens rest others message first so is none bytes are some few =
-    let found = so.back bytes are in no_raw rest others first found.0 is none found.2
-
--- All of them, and none.
-pub raw_all : (tokens rest : List Token) (message : List ℕ) → RawSoFar tokens message rest → rest ≡ []
-    → AreRaw tokens message
-raw_all tokens rest message so is = subst (λ m. AreRaw tokens m) (append-nil message) (so.front [] is)
-
-no_others : (rest : List Token) (left : List ℕ) → rest ≡ [] → AreRaw rest left → left ≡ []
-no_others rest [] is are = refl
-no_others rest (b ∷ left) is (w, ts, same, _, _) =
-    let e : [] ≡ Word w ∷ ts = sym is ∙ same in absurd (cc e)
-
-pub raw_none : (tokens rest : List Token) (message : List ℕ) → RawSoFar tokens message rest → rest ≡ []
-    → length message ≡ 0 → (bytes : List ℕ) → AreRaw tokens bytes → 1 ≤ length bytes → length bytes ≤ 255 → ⊥
-raw_none tokens rest message so is empty bytes are some few =
-    let found = so.back bytes are in
-    let left = ap length (no_others rest found.0 is found.2) in
-    let long = ap length found.1 ∙ length-append message found.0 in
-    omega (arith, some, empty, left, long)
-
--- A word that is no byte.
-pub no_byte_word : (first : Token) (own : List ℕ) → first ≡ Word own → IsErr (decode_sized own 1) → (word : List ℕ)
-    (byte : ℕ) → first ≡ Word word → IsByte word byte → ⊥
-no_byte_word first own is none word byte same byte_is =
-    let e : Word own ≡ Word word = sym is ∙ same in
-    let one : own ≡ word = cc in
-    let own_is : decode_sized own 1 ≡ Ok (byte ∷ []) = ap (λ w. decode_sized w 1) one ∙ byte_is in
-    search rules
+pub raw_stop : (tokens rest : List Token) (message : Option (List ℕ)) (w : Expectation) (left : ℕ)
+    → RawHeld tokens message rest → (rest ≡ [] → ⊥)
+    → ((region : Region) → IsStuck region what.AnotherByte rest w left) → IsUntold head.Raw tokens w left
+raw_stop tokens rest message w left is some stuck region =
+    stop_behind region (Told region head.Raw) is.so.front tokens rest w left is.so.whole
+    (same_stop region (λ l. Told region head.Raw (is.so.front ++ l)) AreMoreRaw rest w left
+    (raw_same region is.so.front is.said is.so.are is.so.some) (more_stop region rest w left some (stuck region)))

@@ -10,11 +10,8 @@ use Rattle.rds_text.specs.declared.programme_type.Region.{Region}
 use Rattle.phrase_tokens.specs.Tokens.{Token, Word}
 use Rattle.uecp_phrases.specs.declared.expectation.Expectation.{Expectation}
 use Rattle.uecp_phrases.specs.declared.expectation.Expectation.TheVariants as what
-use Rattle.uecp_phrases.specs.Expecting.{MayStand, MayEnd, MayNotStand, IsNext, IsStop, IsStopAlways}
-use Rattle.uecp_phrases.specs.declared.stop.Stop.{Stop}
-use Rattle.uecp_phrases.specs.declared.head.Head.{Head}
-use Rattle.std.proofs.Common.{◌⊎◌}
-use Rattle.uecp_phrases.specs.Walking.{Told, IsNotFirst, IsStuck, FitEach, StopEach, Each, IsAddOrEnd, IsEnd}
+use Rattle.uecp_phrases.specs.Expecting.{MayStand, MayEnd, MayNotStand, IsNext, IsStop}
+use Rattle.uecp_phrases.specs.Stops.{IsNotFirst, IsStuck, IsAddOrEnd, IsEnd}
 
 -- Two ways to say what is read.
 pub record Same (P Q : List Token → Type 0) : Type 0 where
@@ -55,6 +52,14 @@ stop_behind region P front tokens rest w left is s = record {
   };
   none = s.none;
 }
+
+-- What stops behind the first token, said another way.
+pub behind_stop : (region : Region) (P Q : List Token → Type 0) (t : Token) (tokens rest : List Token) (w : Expectation)
+    (left : ℕ) → tokens ≡ t ∷ rest → Same (λ l. P (t ∷ l)) Q → IsStop region Q rest w left
+    → IsStop region P tokens w left
+behind_stop region P Q t tokens rest w left is same stop =
+    stop_behind region P (t ∷ []) tokens rest w left is
+    (same_stop region (λ l. P (t ∷ l)) Q rest w left same stop)
 
 not_first : (region : Region) (wanted : Expectation) (tokens : List Token) → (MayEnd wanted → ⊥)
     → IsNotFirst region wanted tokens → MayNotStand region wanted tokens
@@ -104,21 +109,23 @@ stop_here region P tokens rest first wanted w left is what_is counted next none 
 pub counted : (tokens : List Held) (left : ℕ) → left ≡ length tokens → left ≡ length (tokens_of tokens)
 counted tokens left is = is ∙ sym (length-map tokens token_of)
 
-pub counted_or : (region : Region) (h : Head) (w : Expectation) (left : ℕ) (tokens : List Held) (rest : List Token)
-    → IsStop region (Told region h) rest w left
-    ⊎ (Told region h rest × (w ≡ what.ShortMessage) × (left ≡ length tokens))
-    → IsStop region (Told region h) rest w left
-    ⊎ (Told region h rest × (w ≡ what.ShortMessage) × (left ≡ length (tokens_of tokens)))
-counted_or region h w left tokens rest (inl stop) = inl stop
-counted_or region h w left tokens rest (inr (told, is, all)) = inr (told, is, counted tokens left all)
+-- Nothing stands in front, or another token.
+pub stuck_at_end : (region : Region) (wanted : Expectation) (tokens : List Held) (w : Expectation) (left : ℕ)
+    → w ≡ wanted → left ≡ length tokens → length tokens ≡ 0 → IsStuck region wanted (tokens_of tokens) w left
+stuck_at_end region wanted tokens w left what_is left_is none = record {
+  what_is = what_is;
+  counted = counted tokens left left_is;
+  none = subst (λ l. IsNotFirst region wanted l) (sym (no_items tokens none)) tt;
+}
 
-pub stuck_first : (region : Region) (wanted : Expectation) (tokens rest : List Token) (first : Token)
-    → tokens ≡ first ∷ rest → (MayStand region wanted first → ⊥) → IsNotFirst region wanted tokens
-stuck_first region wanted tokens rest first is none = subst (λ l. IsNotFirst region wanted l) (sym is) none
-
-pub stuck_none : (region : Region) (wanted : Expectation) (tokens : List Held) → length tokens ≡ 0
-    → IsNotFirst region wanted (tokens_of tokens)
-stuck_none region wanted tokens is = subst (λ l. IsNotFirst region wanted l) (sym (no_items tokens is)) tt
+pub stuck_at : (region : Region) (wanted : Expectation) (tokens : List Held) (rest : List Token) (first : Token)
+    (w : Expectation) (left : ℕ) → tokens_of tokens ≡ first ∷ rest → w ≡ wanted → left ≡ length tokens
+    → (MayStand region wanted first → ⊥) → IsStuck region wanted (tokens_of tokens) w left
+stuck_at region wanted tokens rest first w left is what_is left_is none = record {
+  what_is = what_is;
+  counted = counted tokens left left_is;
+  none = subst (λ l. IsNotFirst region wanted l) (sym is) none;
+}
 
 -- What follows of an answer.
 pub if_ok : {A B : Type 0} (r : Result A B) (P Q : A → Type 0) → ((a : A) → P a → Q a) → IfOk r P → IfOk r Q
@@ -129,90 +136,10 @@ pub if_err : {A B : Type 0} (r : Result A B) (P Q : B → Type 0) → ((b : B) �
 if_err (Ok a) P Q f p = p
 if_err (Err b) P Q f p = f b p
 
--- What another way to say what is read makes of an answer.
-pub ok_same : {A B : Type 0} (r : Result A B) (P Q : List Token → Type 0) (l : List Token) → Same P Q
-    → IfOk r (λ _. Q l) → IfOk r (λ _. P l)
-ok_same r P Q l same = if_ok r (λ _. Q l) (λ _. P l) (λ _ q. same.from l q)
-
-pub err_same : {A : Type 0} (r : Result A Stop) (region : Region) (P Q : List Token → Type 0) (l : List Token)
-    → Same P Q → IfErr r (λ s. IsStop region Q l s.what s.left) → IfErr r (λ s. IsStop region P l s.what s.left)
-err_same r region P Q l same =
-    if_err r (λ s. IsStop region Q l s.what s.left) (λ s. IsStop region P l s.what s.left)
-    (λ s stop. same_stop region P Q l s.what s.left same stop)
-
-pub err_always : {A : Type 0} (r : Result A Stop) (region : Region) (P Q : List Token → Type 0) (l : List Token)
-    → Same P Q → IfErr r (λ s. IsStopAlways Q l s.what s.left) → IfErr r (λ s. IsStop region P l s.what s.left)
-err_always r region P Q l same =
-    if_err r (λ s. IsStopAlways Q l s.what s.left) (λ s. IsStop region P l s.what s.left)
-    (λ s stops. same_stop region P Q l s.what s.left same (stops region))
-
 -- An answer that is passed on.
 pub err_is : {A B : Type 0} (r : Result A B) (b : B) (P : B → Type 0) → r ≡ Err b → P b → IfErr r P
 err_is (Ok a) b P is p = let e : Ok a ≡ Err b = is in absurd (cc e)
 err_is (Err own) b P is p = let e : own ≡ b = cc is in subst P (sym e) p
-
--- ---- Tokens that are wanted one after another.
-
--- Each can be met, and at none may the phrase end.
-abbrev pub AreSlots : Region → List Expectation → Type 0
-AreSlots region [] = Unit {0}
-AreSlots region (w ∷ ws) = ((t : Token) × MayStand region w t) × (MayEnd w → ⊥) × AreSlots region ws
-
--- Tokens that fit each of them.
-pub some_each : (region : Region) (ws : List Expectation) (P : List Token → Type 0) (l : List Token) → P l
-    → AreSlots region ws → (tokens : List Token) × Each region ws P tokens
-some_each region [] P l p slots = (l, p)
-some_each region (w ∷ ws) P l p (one, _, others) =
-    let more = some_each region ws P l p others in (one.0 ∷ more.0, (one.0, more.0, refl, one.1, more.1))
-
-each_next : (region : Region) (w : Expectation) (ws : List Expectation) (P : List Token → Type 0) (l : List Token)
-    → P l → AreSlots region (w ∷ ws) → IsNext region (Each region (w ∷ ws) P) [] w
-each_next region w ws P l p (one, closed, others) = record {
-  only = λ t more r.
-      let e : t ∷ more ≡ r.0 ∷ r.1 = r.2 in
-      let same : r.0 ≡ t = cc in subst (λ x. MayStand region w x) same r.3;
-  may = λ t m. let more = some_each region ws P l p others in (more.0, (t, more.0, refl, m, more.1));
-  ends = λ r. let e : [] ≡ r.0 ∷ r.1 = r.2 in absurd (cc e);
-  may_end = λ m. absurd (closed m);
-}
-
--- behind the first
-each_behind : (region : Region) (w : Expectation) (ws : List Expectation) (P : List Token → Type 0) (t : Token)
-    → MayStand region w t → Same (λ l. Each region (w ∷ ws) P (t ∷ l)) (Each region ws P)
-each_behind region w ws P t m = record {
-  to = λ l r.
-      let e : t ∷ l ≡ r.0 ∷ r.1 = r.2 in
-      let same : r.1 ≡ l = cc in subst (λ x. Each region ws P x) same r.4;
-  from = λ l r. (t, l, refl, m, r);
-}
-
-pub each_stop : (region : Region) (ws : List Expectation) (P : List Token → Type 0) (l tokens : List Token)
-    (w : Expectation) (left : ℕ) → P l → AreSlots region ws → StopEach region ws tokens w left
-    → IsStop region (Each region ws P) tokens w left
-each_stop region [] P l tokens w left p slots stop = absurd stop
-each_stop region (v ∷ ws) P l tokens w left p slots (inl stuck) =
-    stuck_stop region (Each region (v ∷ ws) P) v tokens w left slots.1 (each_next region v ws P l p slots) stuck
-each_stop region (v ∷ ws) P l tokens w left p slots (inr (t, more, is, m, stop)) =
-    stop_behind region (Each region (v ∷ ws) P) (t ∷ []) tokens more w left is
-    (same_stop region (λ x. Each region (v ∷ ws) P (t ∷ x)) (Each region ws P) more w left
-    (each_behind region v ws P t m) (each_stop region ws P l more w left p slots.2 stop))
-
--- They fit, and what is left stops.
-pub fit_stop : (region : Region) (ws : List Expectation) (P : List Token → Type 0) (tokens rest : List Token)
-    (w : Expectation) (left : ℕ) → FitEach region ws tokens rest → IsStop region P rest w left
-    → IsStop region (Each region ws P) tokens w left
-fit_stop region [] P tokens rest w left is stop = subst (λ l. IsStop region P l w left) is stop
-fit_stop region (v ∷ ws) P tokens rest w left (t, more, is, m, fits) stop =
-    stop_behind region (Each region (v ∷ ws) P) (t ∷ []) tokens more w left is
-    (same_stop region (λ x. Each region (v ∷ ws) P (t ∷ x)) (Each region ws P) more w left
-    (each_behind region v ws P t m) (fit_stop region ws P more rest w left fits stop))
-
--- They fit, and what is left is what is read.
-pub fit_each : (region : Region) (ws : List Expectation) (P : List Token → Type 0) (tokens rest : List Token)
-    → FitEach region ws tokens rest → P rest → Each region ws P tokens
-fit_each region [] P tokens rest is p = subst P is p
-fit_each region (v ∷ ws) P tokens rest (t, more, is, m, fits) p =
-    (t, more, is, m, fit_each region ws P more rest fits p)
 
 -- ---- The end.
 

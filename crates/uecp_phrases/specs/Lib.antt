@@ -6,4 +6,4 @@ pub mod Reading
 pub mod Written
 pub mod Laws
 pub mod Expecting
-pub mod Walking
+pub mod Stops

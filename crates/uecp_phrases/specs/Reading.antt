@@ -1,18 +1,18 @@
 -- What the code's values hold, and what parts of a phrase say. No public clause cites this.
 use Rattle.std.specs.Prelude.{◌≡◌, ◌⊎◌, ◌≤◌, ◌+◌, if◌then◌else◌, ℕ, Bool, List, [], ◌∷◌, ◌++◌, codes, Option, Some}
-use Rattle.std.specs.Prelude.{None, false, not, is_none}
-use Rattle.uecp_text.specs.Words.{decimal_in}
+use Rattle.std.specs.Prelude.{None, false, not, is_none, ◌<◌, length}
+use Rattle.uecp_text.specs.Words.{IsByte, IsNumber, decimal_in}
+use Rattle.rds_text.specs.declared.programme_type.Region.{Region}
+use Rattle.rds_text.specs.ProgrammeTypes.{HasName}
 use Rattle.uecp_phrases.specs.declared.expectation.Expectation.{Expectation}
 use Rattle.uecp_phrases.specs.declared.expectation.Expectation.TheVariants as what
 use Rattle.phrase_tokens.specs.Tokens.{Token, Word, Quoted}
-use Rattle.uecp_text.specs.Words.{IsByte, IsNumber}
 use Rattle.uecp_phrases.specs.declared.choices.Made.{Made}
 use Rattle.uecp_phrases.specs.declared.choices.ChoiceName.{ChoiceName}
 use Rattle.uecp_phrases.specs.declared.choices.ChoiceName.TheVariants as name
 use Rattle.uecp_phrases.specs.declared.traffic_name.TrafficName.{TrafficName}
 use Rattle.uecp_phrases.specs.declared.traffic_name.TrafficName.TheVariants as traffic
-use Rattle.uecp_phrases.specs.Phrases.{Make, no_choice, head_of, added_tokens, IsGroupType}
-use Rattle.uecp_phrases.specs.Phrases.{Choice, Choices, choice_tokens, AreMade}
+use Rattle.uecp_phrases.specs.Phrases.{added_tokens, Choice, Choices, choice_tokens, AreMade}
 
 -- The choices that were made.
 abbrev pub choices_of : Made → Choices
@@ -50,16 +50,9 @@ IsCount t number = (w : List ℕ) × (t ≡ Word w) × (decimal_in 15 w ≡ Some
 abbrev pub IsTimes : List Token → ℕ → (rest : List Token) → Type 0
 IsTimes tokens number rest = (t : Token) × (tokens ≡ t ∷ rest) × IsCount t number
 
--- A text and its choices.
-abbrev pub IsChosenText : List Token → (head : ℕ) → (text : List ℕ) → Type 0
-IsChosenText tokens head text =
-    (choices : List Token) × (made : Choices) × (tokens ≡ Quoted text ∷ choices) × Make no_choice choices made
-    × (head ≡ head_of made)
-
--- A text and the byte of its head.
+-- What stands behind `bits` where the head of a RadioText is told as a byte: that, and the text.
 abbrev pub IsTextOfBits : List Token → (head : ℕ) → (text : List ℕ) → Type 0
-IsTextOfBits tokens head text =
-    (word : List ℕ) × (tokens ≡ Word (codes "bits") ∷ Word word ∷ Quoted text ∷ []) × IsByte word head
+IsTextOfBits tokens head text = (word : List ℕ) × (tokens ≡ Word word ∷ Quoted text ∷ []) × IsByte word head
 
 -- The name of traffic flags.
 abbrev pub traffic_word : TrafficName → List ℕ
@@ -87,18 +80,40 @@ IsNamed Named t number = (name : List ℕ) × (t ≡ Word name) × Named name nu
 abbrev pub IsFirstNamed : (Named : List ℕ → ℕ → Type 0) → List Token → ℕ → (rest : List Token) → Type 0
 IsFirstNamed Named tokens number rest = (name : List ℕ) × (tokens ≡ Word name ∷ rest) × Named name number
 
--- A group by the name of its type.
-abbrev pub IsCalledGroup : List Token → (kind mode block3 block4 : ℕ) → Type 0
-IsCalledGroup tokens kind mode block3 block4 =
-    (t m b c : List ℕ) × (bits : ℕ) × (adds : Bool)
-    × (tokens ≡ Word t ∷ Word m ∷ Word b ∷ Word c ∷ added_tokens adds) × IsGroupType t kind × IsByte m bits
-    × (bits ≤ 0x1F) × (mode ≡ bits + (if adds then 0x40 else 0x00)) × IsNumber b block3 × IsNumber c block4
+-- Two hexadecimal digits spell five bits.
+abbrev pub IsFiveBits : (word : List ℕ) → (bits : ℕ) → Type 0
+IsFiveBits word bits = IsByte word bits × (bits ≤ 0x1F)
 
--- A group by its bytes.
+-- The token is a programme type by its name in the region, or by its number.
+abbrev pub IsTypeNamed : Region → Token → (raw : ℕ) → Type 0
+IsTypeNamed region t raw =
+    ((name : List ℕ) × (t ≡ Quoted name) × HasName region raw name)
+    ⊎ ((word : List ℕ) × (t ≡ Word word) × (decimal_in 31 word ≡ Some raw))
+
+-- The only token is such a word.
+abbrev pub IsOnly : (Named : List ℕ → ℕ → Type 0) → List Token → ℕ → Type 0
+IsOnly Named tokens number = (name : List ℕ) × (tokens ≡ Word name ∷ []) × Named name number
+
+-- A text between quotes is the first of the tokens, and the others are left.
+abbrev pub IsFirstText : List Token → (text : List ℕ) → (rest : List Token) → Type 0
+IsFirstText tokens text rest = tokens ≡ Quoted text ∷ rest
+
+-- What stands behind the type of a group.
+abbrev pub IsBehindType : List Token → (mode block3 block4 : ℕ) → Type 0
+IsBehindType tokens mode block3 block4 =
+    (m b c : List ℕ) × (bits : ℕ) × (adds : Bool) × (tokens ≡ Word m ∷ Word b ∷ Word c ∷ added_tokens adds)
+    × IsFiveBits m bits × (mode ≡ bits + (if adds then 0x40 else 0x00)) × IsNumber b block3 × IsNumber c block4
+
+-- What stands behind `bits` where a group is told by its bytes.
 abbrev pub IsGroupOfBits : List Token → (kind mode block3 block4 : ℕ) → Type 0
 IsGroupOfBits tokens kind mode block3 block4 =
-    (t m b c : List ℕ) × (tokens ≡ Word (codes "bits") ∷ Word t ∷ Word m ∷ Word b ∷ Word c ∷ []) × IsByte t kind
-    × IsByte m mode × IsNumber b block3 × IsNumber c block4
+    (t m b c : List ℕ) × (tokens ≡ Word t ∷ Word m ∷ Word b ∷ Word c ∷ []) × IsByte t kind × IsByte m mode
+    × IsNumber b block3 × IsNumber c block4
+
+-- The message of these bytes, or none where they are more than 255.
+abbrev pub IsHeld : (said : List ℕ) → (message : Option (List ℕ)) → Type 0
+IsHeld said None = 255 < length said
+IsHeld said (Some message) = message ≡ said
 
 -- A number, or 00 where none is said.
 abbrev pub or_zero : Option ℕ → ℕ

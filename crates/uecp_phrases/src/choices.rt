@@ -8,7 +8,7 @@ ghost use Rattle.uecp_phrases.specs.declared.expectation.Expectation.TheVariants
 ghost use Rattle.uecp_phrases.specs.Phrases.{Choices, Make, no_choice, head_of, times_of};
 ghost use Rattle.uecp_phrases.specs.Reading.{choices_of, choice_word, IsStep, IsFree, choices_left, IsCount, IsTimes};
 ghost use Rattle.uecp_phrases.specs.Expecting.{IsStopAlways};
-ghost use Rattle.uecp_phrases.specs.Walking.{IsStuck, AreChosen};
+ghost use Rattle.uecp_phrases.specs.Stops.{IsStuck, AreChosen};
 
 use crate::expectation::Expectation;
 use crate::stop::{Stop, stop_at};
@@ -16,7 +16,7 @@ use phrase_tokens::Token;
 use uecp_text::decimal_of;
 
 /// The most transmissions that a RadioText's head can ask for.
-pub const TIMES_MAX: u32 = 15;
+const TIMES_MAX: u32 = 15;
 
 /// Which choices were made: whether the A/B flag turns, and how often the text is sent, each if it is said.
 #[derive(Clone, Copy, Debug)]

@@ -1,83 +1,70 @@
 //! What stands behind the first word of a phrase (profile).
-ghost use Rattle.std.specs.Prelude.{◌≡◌, ◌-◌, ◌≤◌, ℕ, List, [], ◌∷◌, ◌++◌, length, replicate, get_or, codes, ◌↔◌};
-ghost use Rattle.std.specs.Prelude.{IsTrue, IfSome, IfNone};
-ghost use Rattle.uecp_elements.specs.Grammar.{Part, Rt, IsElement};
+ghost use Rattle.std.specs.Prelude.{◌≡◌, ◌-◌, ◌≤◌, ℕ, [], ◌∷◌, ◌++◌, length, replicate, get_or};
+ghost use Rattle.std.specs.Prelude.{IfSome, IfNone, IfOk, IfErr};
+ghost use Rattle.rds_text.specs.declared.programme_type.Region.{Region as Where};
+ghost use Rattle.uecp_elements.specs.Grammar.{Rt, IsElement};
 ghost use Rattle.uecp_elements.specs.View.{part_of};
-ghost use Rattle.phrase_tokens.specs.Tokens.{Word, Quoted};
-ghost use Rattle.phrase_tokens.specs.View.{tokens_of};
+ghost use Rattle.phrase_tokens.specs.View.{token_of, tokens_of};
+ghost use Rattle.uecp_phrases.specs.declared.head.Head.TheVariants as head;
+ghost use Rattle.uecp_phrases.specs.declared.expectation.Expectation.TheVariants as what;
 ghost use Rattle.uecp_phrases.specs.Phrases.{AreBits, IsPi, IsName, IsTraffic, IsTrafficWord, IsProgrammeType};
-ghost use Rattle.uecp_phrases.specs.Phrases.{IsRadioText};
-ghost use Rattle.uecp_phrases.specs.Phrases.{IsSelected, IsAck};
-ghost use Rattle.uecp_phrases.specs.Reading.{IsTextOfBits, IsChosenText};
+ghost use Rattle.uecp_phrases.specs.Phrases.{IsRadioText, IsSelected, IsAck};
+ghost use Rattle.uecp_phrases.specs.Reading.{IsNamed, IsTypeNamed, IsFirstText, IsTextOfBits};
+ghost use Rattle.uecp_phrases.specs.Expecting.{IsStop};
+ghost use Rattle.uecp_phrases.specs.Stops.{IsStuck, IsUntold, IsUnmet, IsEnd, Told};
 
 use crate::choices::head_in;
-use crate::place::set_of;
+use crate::expectation::Expectation;
+use crate::front::{byte_first, byte_last, end_in, number_first};
+use crate::place::set_first;
+use crate::stop::{Stop, stop_at};
 use crate::traffic_name::{TrafficName, traffic_name_of};
 use phrase_tokens::Token;
 use rds_text::{Region, number_of as programme_type};
 use uecp_elements::RtPart;
-use uecp_text::{byte_of, decimal_of, number_of};
+use uecp_text::decimal_of;
 
 /// The bytes of a programme service name.
-pub const NAME_LENGTH: usize = 8;
+const NAME_LENGTH: usize = 8;
 
 /// The last programme type.
-pub const PROGRAMME_TYPE_MAX: u32 = 31;
+const PROGRAMME_TYPE_MAX: u32 = 31;
 
-/// The only token, where it is a word.
-fn only_word(tokens: &[Token]) -> Option<&[u8]>
-    ensures some { IfSome result (λ w. tokens_of tokens.now ≡ Word w.now ∷ []) }
-    ensures none { IfNone result ((w : List ℕ) → tokens_of tokens.now ≡ Word w ∷ [] → ⊥) }
+/// A programme identification, and the end of the phrase.
+pub fn pi_in(tokens: &[Token]) -> Result<u16, Stop>
+    ensures ok { IfOk result (λ pi. IsPi (tokens_of tokens.now) pi) }
+    ensures err { IfErr result (λ stop. IsUntold head.Pi (tokens_of tokens.now) stop.what stop.left) }
 {
-    let [token] = tokens else {
-        return None;
-    };
-    token.word()
+    let (pi, rest) = number_first(tokens)?;
+    end_in(rest)?;
+    Ok(pi)
 }
 
-/// The only token, where it is a text between quotes.
-fn only_text(tokens: &[Token]) -> Option<&[u8]>
-    ensures some { IfSome result (λ b. tokens_of tokens.now ≡ Quoted b.now ∷ []) }
-    ensures none { IfNone result ((b : List ℕ) → tokens_of tokens.now ≡ Quoted b ∷ [] → ⊥) }
+/// A programme service name, filled with spaces, and the end of the phrase.
+pub fn name_in(tokens: &[Token]) -> Result<[u8; NAME_LENGTH], Stop>
+    ensures ok { IfOk result (λ name. IsName (tokens_of tokens.now) name) }
+    ensures err { IfErr result (λ stop. IsUntold head.Ps (tokens_of tokens.now) stop.what stop.left) }
 {
-    let [token] = tokens else {
-        return None;
-    };
-    token.quoted()
+    let (text, rest) = name_first(tokens)?;
+    end_in(rest)?;
+    Ok(filled(text))
 }
 
-/// A byte whose bits have no name.
-pub fn bits_in(tokens: &[Token]) -> Option<u8>
-    ensures some { IfSome result (λ raw. AreBits (tokens_of tokens.now) raw) }
-    ensures none { IfNone result ((raw : ℕ) → AreBits (tokens_of tokens.now) raw → ⊥) }
+/// The text in front, where it is short enough for a name, and the tokens behind it.
+fn name_first(tokens: &[Token]) -> Result<(&[u8], &[Token]), Stop>
+    ensures ok { IfOk result (λ r. IsFirstText (tokens_of tokens.now) r.0.now (tokens_of r.1.now)) }
+    ensures short { IfOk result (λ r. length r.0.now ≤ 8) }
+    ensures err { IfErr result (λ stop. (region : Where) → IsStuck region what.Name (tokens_of tokens.now) stop.what
+        stop.left) }
 {
-    let [bits, raw] = tokens else {
-        return None;
+    let stop = stop_at(Expectation::Name, tokens);
+    let Some((first, rest)) = tokens.split_first() else {
+        return Err(stop);
     };
-    if !bits.is_word(b"bits") {
-        return None;
+    match first.quoted() {
+        Some(text) if text.len() <= NAME_LENGTH => Ok((text, rest)),
+        _ => Err(stop),
     }
-    byte_of(raw.word()?)
-}
-
-/// A programme identification.
-pub fn pi_in(tokens: &[Token]) -> Option<u16>
-    ensures some { IfSome result (λ pi. IsPi (tokens_of tokens.now) pi) }
-    ensures none { IfNone result ((pi : ℕ) → IsPi (tokens_of tokens.now) pi → ⊥) }
-{
-    number_of(only_word(tokens)?)
-}
-
-/// A programme service name, filled with spaces.
-pub fn name_in(tokens: &[Token]) -> Option<[u8; NAME_LENGTH]>
-    ensures some { IfSome result (λ name. IsName (tokens_of tokens.now) name) }
-    ensures none { IfNone result ((name : List ℕ) → IsName (tokens_of tokens.now) name → ⊥) }
-{
-    let text = only_text(tokens)?;
-    if text.len() > NAME_LENGTH {
-        return None;
-    }
-    Some(filled(text))
 }
 
 /// The bytes of a name, filled with spaces.
@@ -108,19 +95,46 @@ fn letter(text: &[u8], place: usize) -> u8
     }
 }
 
-/// Traffic flags.
-pub fn traffic_in(tokens: &[Token]) -> Option<u8>
-    ensures some { IfSome result (λ raw. IsTraffic (tokens_of tokens.now) raw) }
-    ensures none { IfNone result ((raw : ℕ) → IsTraffic (tokens_of tokens.now) raw → ⊥) }
+/// Music or speech by a byte whose bits have no name.
+pub fn bits_in(tokens: &[Token]) -> Result<u8, Stop>
+    ensures ok { IfOk result (λ raw. AreBits (tokens_of tokens.now) raw) }
+    ensures err { IfErr result (λ stop. IsUntold head.Ms (tokens_of tokens.now) stop.what stop.left) }
 {
-    match only_word(tokens) {
-        Some(word) => traffic_named(word),
-        None => bits_in(tokens),
+    match tokens.split_first() {
+        Some((first, rest)) if first.is_word(b"bits") => byte_last(rest),
+        _ => Err(stop_at(Expectation::Bits, tokens)),
     }
 }
 
+/// Traffic flags.
+pub fn traffic_in(tokens: &[Token]) -> Result<u8, Stop>
+    ensures ok { IfOk result (λ raw. IsTraffic (tokens_of tokens.now) raw) }
+    ensures err { IfErr result (λ stop. IsUntold head.Traffic (tokens_of tokens.now) stop.what stop.left) }
+{
+    let stop = stop_at(Expectation::Traffic, tokens);
+    let Some((first, rest)) = tokens.split_first() else {
+        return Err(stop);
+    };
+    if first.is_word(b"bits") {
+        return byte_last(rest);
+    }
+    let Some(raw) = flags_in(first) else {
+        return Err(stop);
+    };
+    end_in(rest)?;
+    Ok(raw)
+}
+
+/// The traffic flags that a token names.
+fn flags_in(token: &Token) -> Option<u8>
+    ensures some { IfSome result (λ raw. IsNamed IsTrafficWord (token_of token.now) raw) }
+    ensures none { IfNone result ((raw : ℕ) → IsNamed IsTrafficWord (token_of token.now) raw → ⊥) }
+{
+    traffic_named(token.word()?)
+}
+
 /// Traffic flags by name.
-pub fn traffic_named(word: &[u8]) -> Option<u8>
+fn traffic_named(word: &[u8]) -> Option<u8>
     ensures some { IfSome result (λ raw. IsTrafficWord word.now raw) }
     ensures none { IfNone result ((raw : ℕ) → IsTrafficWord word.now raw → ⊥) }
 {
@@ -134,87 +148,107 @@ pub fn traffic_named(word: &[u8]) -> Option<u8>
 }
 
 /// A programme type.
-pub fn programme_type_in(region: Region, tokens: &[Token]) -> Option<u8>
-    ensures some { IfSome result (λ raw. IsProgrammeType region (tokens_of tokens.now) raw) }
-    ensures none { IfNone result ((raw : ℕ) → IsProgrammeType region (tokens_of tokens.now) raw → ⊥) }
+pub fn programme_type_in(region: Region, tokens: &[Token]) -> Result<u8, Stop>
+    ensures ok { IfOk result (λ raw. IsProgrammeType region (tokens_of tokens.now) raw) }
+    ensures err { IfErr result (λ stop. IsStop region (Told region head.Pty) (tokens_of tokens.now) stop.what
+        stop.left) }
 {
-    match (only_text(tokens), only_word(tokens)) {
-        (Some(name), _) => programme_type(region, name),
-        (None, Some(word)) => Some(decimal_of(word, PROGRAMME_TYPE_MAX)? as u8),
-        (None, None) => bits_in(tokens),
+    let stop = stop_at(Expectation::ProgrammeType, tokens);
+    let Some((first, rest)) = tokens.split_first() else {
+        return Err(stop);
+    };
+    if first.is_word(b"bits") {
+        return byte_last(rest);
+    }
+    let Some(raw) = type_named(region, first) else {
+        return Err(stop);
+    };
+    end_in(rest)?;
+    Ok(raw)
+}
+
+/// The programme type that a token names: by its name in the region, or its number.
+fn type_named(region: Region, token: &Token) -> Option<u8>
+    ensures some { IfSome result (λ raw. IsTypeNamed region (token_of token.now) raw) }
+    ensures none { IfNone result ((raw : ℕ) → IsTypeNamed region (token_of token.now) raw → ⊥) }
+{
+    match token.quoted() {
+        Some(name) => programme_type(region, name),
+        None => Some(decimal_of(token.word()?, PROGRAMME_TYPE_MAX)? as u8),
     }
 }
 
 /// A RadioText.
-pub fn radio_text_in(tokens: &[Token]) -> Option<RtPart<'_>>
-    ensures some { IfSome result (λ part. IsRadioText (tokens_of tokens.now) (part_of part)) }
-    ensures none { IfNone result ((part : Part) → IsRadioText (tokens_of tokens.now) part → ⊥) }
-    ensures fits { IfSome result (λ part. IsElement (Rt 0 0 (part_of part))) }
+pub fn radio_text_in(tokens: &[Token]) -> Result<RtPart<'_>, Stop>
+    ensures ok { IfOk result (λ part. IsRadioText (tokens_of tokens.now) (part_of part)) }
+    ensures err { IfErr result (λ stop. IsUntold head.Rt (tokens_of tokens.now) stop.what stop.left) }
+    ensures fits { IfOk result (λ part. IsElement (Rt 0 0 (part_of part))) }
 {
-    if is_clear(tokens) {
-        return Some(RtPart::Empty);
-    }
-    match (text_of_bits(tokens), chosen_text(tokens)) {
-        (Some((head, text)), _) => Some(RtPart::Text { head, text }),
-        (None, Some((head, text))) => Some(RtPart::Text { head, text }),
-        (None, None) => None,
-    }
-}
-
-/// Whether the tokens empty the buffer of RadioTexts.
-fn is_clear(tokens: &[Token]) -> bool
-    ensures { IsTrue result ↔ (tokens_of tokens.now ≡ Word (codes "clear") ∷ []) }
-{
-    match only_word(tokens) {
-        Some(word) => word == b"clear".as_slice(),
-        None => false,
-    }
-}
-
-/// The head and the bytes of a RadioText whose head is told as a byte.
-fn text_of_bits(tokens: &[Token]) -> Option<(u8, &[u8])>
-    ensures some { IfSome result (λ r. IsTextOfBits (tokens_of tokens.now) r.0 r.1.now) }
-    ensures none { IfNone result ((head : ℕ) (text : List ℕ) → IsTextOfBits (tokens_of tokens.now) head text → ⊥) }
-    ensures fits { IfSome result (λ r. length r.1.now ≤ 64) }
-{
-    let [bits, head, text] = tokens else {
-        return None;
+    let stop = stop_at(Expectation::RadioText, tokens);
+    let Some((first, rest)) = tokens.split_first() else {
+        return Err(stop);
     };
-    if !bits.is_word(b"bits") {
-        return None;
+    if let Some(text) = first.quoted() {
+        let head = head_in(rest)?;
+        return Ok(RtPart::Text { head, text });
     }
-    Some((byte_of(head.word()?)?, text.quoted()?))
+    if first.is_word(b"bits") {
+        let (head, text) = text_of_bits(rest)?;
+        return Ok(RtPart::Text { head, text });
+    }
+    if !first.is_word(b"clear") {
+        return Err(stop);
+    }
+    end_in(rest)?;
+    Ok(RtPart::Empty)
 }
 
-/// The head and the bytes of a RadioText with its choices.
-fn chosen_text(tokens: &[Token]) -> Option<(u8, &[u8])>
-    ensures some { IfSome result (λ r. IsChosenText (tokens_of tokens.now) r.0 r.1.now) }
-    ensures none { IfNone result ((head : ℕ) (text : List ℕ) → IsChosenText (tokens_of tokens.now) head text → ⊥) }
-    ensures fits { IfSome result (λ r. length r.1.now ≤ 64) }
+/// The byte of a RadioText's head, and its text, and the end of the phrase.
+fn text_of_bits(tokens: &[Token]) -> Result<(u8, &[u8]), Stop>
+    ensures ok { IfOk result (λ r. IsTextOfBits (tokens_of tokens.now) r.0 r.1.now) }
+    ensures err { IfErr result (λ stop. IsUnmet (what.TwoDigits ∷ what.Text ∷ []) IsEnd (tokens_of tokens.now)
+        stop.what stop.left) }
+    ensures fits { IfOk result (λ r. length r.1.now ≤ 64) }
 {
-    let (first, rest) = tokens.split_first()?;
-    let text = first.quoted()?;
-    let Ok(head) = head_in(rest) else {
-        return None;
+    let (head, rest) = byte_first(Expectation::TwoDigits, tokens)?;
+    let (text, rest) = text_first(rest)?;
+    end_in(rest)?;
+    Ok((head, text))
+}
+
+/// The text in front, and the tokens behind it.
+fn text_first(tokens: &[Token]) -> Result<(&[u8], &[Token]), Stop>
+    ensures ok { IfOk result (λ r. IsFirstText (tokens_of tokens.now) r.0.now (tokens_of r.1.now)) }
+    ensures err { IfErr result (λ stop. (region : Where) → IsStuck region what.Text (tokens_of tokens.now) stop.what
+        stop.left) }
+    ensures fits { IfOk result (λ r. length r.0.now ≤ 64) }
+{
+    let stop = stop_at(Expectation::Text, tokens);
+    let Some((first, rest)) = tokens.split_first() else {
+        return Err(stop);
     };
-    Some((head, text))
+    match first.quoted() {
+        Some(text) => Ok((text, rest)),
+        None => Err(stop),
+    }
 }
 
-/// The data set that is selected.
-pub fn selected_in(tokens: &[Token]) -> Option<u8>
-    ensures some { IfSome result (λ dsn. IsSelected (tokens_of tokens.now) dsn) }
-    ensures none { IfNone result ((dsn : ℕ) → IsSelected (tokens_of tokens.now) dsn → ⊥) }
+/// The data set that is selected, and the end of the phrase.
+pub fn selected_in(tokens: &[Token]) -> Result<u8, Stop>
+    ensures ok { IfOk result (λ dsn. IsSelected (tokens_of tokens.now) dsn) }
+    ensures err { IfErr result (λ stop. IsUntold head.Set (tokens_of tokens.now) stop.what stop.left) }
 {
-    set_of(only_word(tokens)?)
+    let (dsn, rest) = set_first(tokens)?;
+    end_in(rest)?;
+    Ok(dsn)
 }
 
-/// The code's byte and the counter of an acknowledgement.
-pub fn ack_in(tokens: &[Token]) -> Option<(u8, u8)>
-    ensures some { IfSome result (λ a. IsAck (tokens_of tokens.now) a.0 a.1) }
-    ensures none { IfNone result ((code counter : ℕ) → IsAck (tokens_of tokens.now) code counter → ⊥) }
+/// The code's byte and the counter of an acknowledgement, and the end of the phrase.
+pub fn ack_in(tokens: &[Token]) -> Result<(u8, u8), Stop>
+    ensures ok { IfOk result (λ a. IsAck (tokens_of tokens.now) a.0 a.1) }
+    ensures err { IfErr result (λ stop. IsUntold head.Ack (tokens_of tokens.now) stop.what stop.left) }
 {
-    let [code, counter] = tokens else {
-        return None;
-    };
-    Some((byte_of(code.word()?)?, byte_of(counter.word()?)?))
+    let (code, rest) = byte_first(Expectation::TwoDigits, tokens)?;
+    let counter = byte_last(rest)?;
+    Ok((code, counter))
 }

@@ -1,13 +1,19 @@
 //! Free-format groups: by the type as broadcast engineers write it, 0A to 15B, or by their bytes (profile).
-ghost use Rattle.std.specs.Prelude.{◌≡◌, ◌≤◌, ℕ, Bool, List, ◌∷◌, IfSome, IfNone};
-ghost use Rattle.phrase_tokens.specs.Tokens.{Token as Seen, Word};
-ghost use Rattle.phrase_tokens.specs.View.{tokens_of};
+ghost use Rattle.std.specs.Prelude.{◌≡◌, ◌≤◌, ◌+◌, ℕ, [], ◌∷◌, if◌then◌else◌, IfSome, IfNone, IfOk, IfErr};
+ghost use Rattle.rds_text.specs.declared.programme_type.Region.{Region};
+ghost use Rattle.phrase_tokens.specs.View.{token_of, tokens_of};
+ghost use Rattle.uecp_phrases.specs.declared.head.Head.TheVariants as head;
+ghost use Rattle.uecp_phrases.specs.declared.expectation.Expectation.TheVariants as what;
 ghost use Rattle.uecp_phrases.specs.Phrases.{IsGroup, IsGroupType, added_tokens};
-ghost use Rattle.uecp_phrases.specs.Reading.{IsCalledGroup, IsGroupOfBits, IsVersion};
-ghost use Rattle.uecp_text.specs.Words.{IsByte};
+ghost use Rattle.uecp_phrases.specs.Reading.{IsNamed, IsFirstNamed, IsFiveBits, IsBehindType, IsGroupOfBits, IsVersion};
+ghost use Rattle.uecp_phrases.specs.Expecting.{IsStopAlways};
+ghost use Rattle.uecp_phrases.specs.Stops.{IsStuck, IsUntold, IsUnmet, IsEnd, IsAddOrEnd};
 
+use crate::expectation::Expectation;
+use crate::front::{byte_first, end_in, number_first};
+use crate::stop::{Stop, stop_at};
 use phrase_tokens::Token;
-use uecp_text::{byte_of, decimal_of, number_of};
+use uecp_text::{byte_of, decimal_of};
 
 /// The last number of a type.
 const TYPE_MAX: u32 = 15;
@@ -27,42 +33,64 @@ pub struct GroupNumbers {
     pub block4: u16,
 }
 
-/// Four words, and the tokens behind them.
-#[derive(Clone, Copy)]
-struct FourWords<'a> {
-    first: &'a [u8],
-    second: &'a [u8],
-    third: &'a [u8],
-    fourth: &'a [u8],
-    rest: &'a [Token],
-}
-
 /// A free-format group.
-pub fn group_in(tokens: &[Token]) -> Option<GroupNumbers>
-    ensures some { IfSome result (λ g. IsGroup (tokens_of tokens.now) g.kind g.mode g.block3 g.block4) }
-    ensures none { IfNone result ((kind mode block3 block4 : ℕ)
-        → IsGroup (tokens_of tokens.now) kind mode block3 block4 → ⊥) }
+pub fn group_in(tokens: &[Token]) -> Result<GroupNumbers, Stop>
+    ensures ok { IfOk result (λ g. IsGroup (tokens_of tokens.now) g.kind g.mode g.block3 g.block4) }
+    ensures err { IfErr result (λ stop. IsUntold head.Group (tokens_of tokens.now) stop.what stop.left) }
 {
-    match (called_group(tokens), group_of_bits(tokens)) {
-        (Some(group), _) => Some(group),
-        (None, Some(group)) => Some(group),
-        (None, None) => None,
+    let stop = stop_at(Expectation::GroupType, tokens);
+    let Some((first, rest)) = tokens.split_first() else {
+        return Err(stop);
+    };
+    if first.is_word(b"bits") {
+        return group_of_bits(rest);
     }
+    let Some(kind) = type_in(first) else {
+        return Err(stop);
+    };
+    called_group(kind, rest)
 }
 
-/// A group by the name of its type.
-fn called_group(tokens: &[Token]) -> Option<GroupNumbers>
-    ensures some { IfSome result (λ g. IsCalledGroup (tokens_of tokens.now) g.kind g.mode g.block3 g.block4) }
-    ensures none { IfNone result ((kind mode block3 block4 : ℕ)
-        → IsCalledGroup (tokens_of tokens.now) kind mode block3 block4 → ⊥) }
+/// A group of this type, by what stands behind it.
+fn called_group(kind: u8, tokens: &[Token]) -> Result<GroupNumbers, Stop>
+    ensures kind { IfOk result (λ g. g.kind ≡ kind) }
+    ensures ok { IfOk result (λ g. IsBehindType (tokens_of tokens.now) g.mode g.block3 g.block4) }
+    ensures err { IfErr result (λ stop. IsUnmet (what.FiveBits ∷ what.FourDigits ∷ what.FourDigits ∷ []) IsAddOrEnd
+        (tokens_of tokens.now) stop.what stop.left) }
 {
-    let words = four_words(tokens)?;
-    let adds = is_added(words.rest)?;
-    let kind = type_of(words.first)?;
-    let bits = five_bits(words.second)?;
-    let (block3, block4) = (number_of(words.third)?, number_of(words.fourth)?);
-    let mode = if adds { bits + ADDED } else { bits };
-    Some(GroupNumbers {
+    let (bits, rest) = five_bits_first(tokens)?;
+    let (block3, rest) = number_first(rest)?;
+    let (block4, rest) = number_first(rest)?;
+    let adds = added_in(rest)?;
+    Ok(GroupNumbers {
+        kind,
+        mode: mode_of(bits, adds),
+        block3,
+        block4,
+    })
+}
+
+/// The second byte of a group: its last five bits of block 2, and the buffer rule.
+fn mode_of(bits: u8, adds: bool) -> u8
+    requires { bits ≤ 0x1F }
+    ensures { result ≡ bits + (if adds then 0x40 else 0x00) }
+{
+    if adds { bits + ADDED } else { bits }
+}
+
+/// A group by its bytes, and the end of the phrase.
+fn group_of_bits(tokens: &[Token]) -> Result<GroupNumbers, Stop>
+    ensures ok { IfOk result (λ g. IsGroupOfBits (tokens_of tokens.now) g.kind g.mode g.block3 g.block4) }
+    ensures err { IfErr result (λ stop. IsUnmet
+        (what.TwoDigits ∷ what.TwoDigits ∷ what.FourDigits ∷ what.FourDigits ∷ []) IsEnd (tokens_of tokens.now)
+        stop.what stop.left) }
+{
+    let (kind, rest) = byte_first(Expectation::TwoDigits, tokens)?;
+    let (mode, rest) = byte_first(Expectation::TwoDigits, rest)?;
+    let (block3, rest) = number_first(rest)?;
+    let (block4, rest) = number_first(rest)?;
+    end_in(rest)?;
+    Ok(GroupNumbers {
         kind,
         mode,
         block3,
@@ -70,85 +98,59 @@ fn called_group(tokens: &[Token]) -> Option<GroupNumbers>
     })
 }
 
-/// A group by its bytes.
-fn group_of_bits(tokens: &[Token]) -> Option<GroupNumbers>
-    ensures some { IfSome result (λ g. IsGroupOfBits (tokens_of tokens.now) g.kind g.mode g.block3 g.block4) }
-    ensures none { IfNone result ((kind mode block3 block4 : ℕ)
-        → IsGroupOfBits (tokens_of tokens.now) kind mode block3 block4 → ⊥) }
+/// Whether `add` stands there, and then nothing; or nothing at all.
+fn added_in(tokens: &[Token]) -> Result<bool, Stop>
+    ensures ok { IfOk result (λ adds. tokens_of tokens.now ≡ added_tokens adds) }
+    ensures err { IfErr result (λ stop. IsStopAlways IsAddOrEnd (tokens_of tokens.now) stop.what stop.left) }
 {
-    let (bits, behind) = word_first(tokens)?;
-    if bits != b"bits".as_slice() {
-        return None;
-    }
-    let words = four_words(behind)?;
-    if !words.rest.is_empty() {
-        return None;
-    }
-    let (kind, mode) = (byte_of(words.first)?, byte_of(words.second)?);
-    let (block3, block4) = (number_of(words.third)?, number_of(words.fourth)?);
-    Some(GroupNumbers {
-        kind,
-        mode,
-        block3,
-        block4,
-    })
-}
-
-/// The word in front, and the tokens behind it.
-fn word_first(tokens: &[Token]) -> Option<(&[u8], &[Token])>
-    ensures some { IfSome result (λ r. tokens_of tokens.now ≡ Word r.0.now ∷ tokens_of r.1.now) }
-    ensures none { IfNone result ((w : List ℕ) (rest : List Seen) → tokens_of tokens.now ≡ Word w ∷ rest → ⊥) }
-{
-    let (first, rest) = tokens.split_first()?;
-    let word = first.word()?;
-    Some((word, rest))
-}
-
-/// The four words in front, and the tokens behind them.
-fn four_words(tokens: &[Token]) -> Option<FourWords<'_>>
-    ensures some { IfSome result (λ r. tokens_of tokens.now ≡ Word r.first.now ∷ Word r.second.now ∷ Word r.third.now
-        ∷ Word r.fourth.now ∷ tokens_of r.rest.now) }
-    ensures none { IfNone result ((a b c d : List ℕ) (rest : List Seen)
-        → tokens_of tokens.now ≡ Word a ∷ Word b ∷ Word c ∷ Word d ∷ rest → ⊥) }
-{
-    let (first, rest) = word_first(tokens)?;
-    let (second, rest) = word_first(rest)?;
-    let (third, rest) = word_first(rest)?;
-    let (fourth, rest) = word_first(rest)?;
-    Some(FourWords {
-        first,
-        second,
-        third,
-        fourth,
-        rest,
-    })
-}
-
-/// Whether `add` stands alone, or nothing; None where anything else stands.
-fn is_added(tokens: &[Token]) -> Option<bool>
-    ensures some { IfSome result (λ adds. tokens_of tokens.now ≡ added_tokens adds) }
-    ensures none { IfNone result ((adds : Bool) → tokens_of tokens.now ≡ added_tokens adds → ⊥) }
-{
-    match tokens {
-        [] => Some(false),
-        [add] if add.is_word(b"add") => Some(true),
-        _ => None,
+    match tokens.split_first() {
+        None => Ok(false),
+        Some((first, rest)) if first.is_word(b"add") => {
+            end_in(rest)?;
+            Ok(true)
+        }
+        Some(_) => Err(stop_at(Expectation::Added, tokens)),
     }
 }
 
-/// The byte of two digits that is at most 1F.
-pub fn five_bits(word: &[u8]) -> Option<u8>
-    ensures some { IfSome result (λ bits. IsByte word.now bits × (bits ≤ 0x1F)) }
-    ensures none { IfNone result ((bits : ℕ) → IsByte word.now bits → bits ≤ 0x1F → ⊥) }
+/// The byte of at most 1F in front, and the tokens behind it.
+fn five_bits_first(tokens: &[Token]) -> Result<(u8, &[Token]), Stop>
+    ensures ok { IfOk result (λ r. IsFirstNamed IsFiveBits (tokens_of tokens.now) r.0 (tokens_of r.1.now)) }
+    ensures range { IfOk result (λ r. r.0 ≤ 0x1F) }
+    ensures err { IfErr result (λ stop. (region : Region) → IsStuck region what.FiveBits (tokens_of tokens.now)
+        stop.what stop.left) }
 {
-    match byte_of(word) {
+    match tokens.split_first() {
+        Some((first, rest)) => match five_bits_in(first) {
+            Some(bits) => Ok((bits, rest)),
+            None => Err(stop_at(Expectation::FiveBits, tokens)),
+        },
+        None => Err(stop_at(Expectation::FiveBits, tokens)),
+    }
+}
+
+/// The five bits that a token spells: a byte of two digits that is at most 1F.
+fn five_bits_in(token: &Token) -> Option<u8>
+    ensures some { IfSome result (λ bits. IsNamed IsFiveBits (token_of token.now) bits) }
+    ensures none { IfNone result ((bits : ℕ) → IsNamed IsFiveBits (token_of token.now) bits → ⊥) }
+    ensures range { IfSome result (λ bits. bits ≤ 0x1F) }
+{
+    match byte_of(token.word()?) {
         Some(bits) if bits <= BITS_MAX => Some(bits),
         _ => None,
     }
 }
 
+/// The number of the type that a token names.
+fn type_in(token: &Token) -> Option<u8>
+    ensures some { IfSome result (λ kind. IsNamed IsGroupType (token_of token.now) kind) }
+    ensures none { IfNone result ((kind : ℕ) → IsNamed IsGroupType (token_of token.now) kind → ⊥) }
+{
+    type_of(token.word()?)
+}
+
 /// The number of a type by its name.
-pub fn type_of(word: &[u8]) -> Option<u8>
+fn type_of(word: &[u8]) -> Option<u8>
     ensures some { IfSome result (λ kind. IsGroupType word.now kind) }
     ensures none { IfNone result ((kind : ℕ) → IsGroupType word.now kind → ⊥) }
 {

@@ -5,7 +5,7 @@ ghost use Rattle.phrase_tokens.specs.View.{token_of, tokens_of};
 ghost use Rattle.uecp_phrases.specs.declared.head.Head.{Head};
 ghost use Rattle.uecp_phrases.specs.Phrases.{head_word};
 ghost use Rattle.uecp_phrases.specs.Expecting.{acts_somewhere};
-ghost use Rattle.uecp_phrases.specs.Walking.{word_wanted, IsNoHead};
+ghost use Rattle.uecp_phrases.specs.Stops.{word_wanted, IsNoHead};
 
 use crate::expectation::Expectation;
 use crate::stop::{Stop, stop_at};

@@ -12,7 +12,7 @@ mod choices;
 mod contents;
 mod expectation;
 mod expected;
-mod fits;
+mod front;
 mod groups;
 mod head;
 pub mod laws;
@@ -25,7 +25,6 @@ mod place;
 mod stop;
 mod told;
 mod traffic_name;
-mod walk;
 
 pub use expectation::Expectation;
 pub use expected::{Expected, expected_in};

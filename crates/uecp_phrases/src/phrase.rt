@@ -1,18 +1,15 @@
 //! A phrase: one element in words, or bytes as they are (profile).
-ghost use Rattle.std.specs.Prelude.{◌≡◌, ◌≤◌, ◌||◌, ◌⊎◌, ℕ, List, is_some, length, IfSome, IfNone, IfOk, IfErr};
+ghost use Rattle.std.specs.Prelude.{◌≡◌, ◌≤◌, ℕ, List, length, IfSome, IfNone, IfOk, IfErr};
 ghost use Rattle.phrase_tokens.specs.View.{tokens_of};
-ghost use Rattle.uecp_phrases.specs.declared.expectation.Expectation.TheVariants as what;
 ghost use Rattle.uecp_phrases.specs.Phrases.{IsPhrase};
 ghost use Rattle.uecp_phrases.specs.Reading.{or_zero};
-ghost use Rattle.uecp_phrases.specs.Expecting.{IsStop, IsUnread};
-ghost use Rattle.uecp_phrases.specs.Walking.{Told};
+ghost use Rattle.uecp_phrases.specs.Expecting.{IsUnread};
 
 use crate::expectation::Expectation;
-use crate::head::{Head, head_first};
+use crate::head::head_first;
 use crate::place::{Place, service_before, set_before};
 use crate::stop::{Stop, stop_at};
 use crate::told::told;
-use crate::walk::walk_contents;
 use phrase_tokens::Token;
 use rds_text::Region;
 use uecp_frame::Message;
@@ -38,21 +35,9 @@ pub(crate) fn phrase_read(region: Region, tokens: &[Token]) -> Result<Message, S
     let (set, behind) = set_before(tokens)?;
     let (service, behind) = service_before(behind)?;
     let (head, rest) = head_first(set.is_some(), service.is_some(), behind)?;
-    match told(region, head, place_of(set, service), rest) {
+    match told(region, head, place_of(set, service), rest)? {
         Some(message) => Ok(message),
-        None => Err(untold(region, head, rest, tokens)),
-    }
-}
-
-/// Where a phrase of these tokens stops to be one, whose contents tell none that fits: in front, where they tell one.
-fn untold(region: Region, head: Head, contents: &[Token], tokens: &[Token]) -> Stop
-    ensures { IsStop region (Told region head) (tokens_of contents.now) result.what result.left
-        ⊎ (Told region head (tokens_of contents.now) × (result.what ≡ what.ShortMessage)
-        × (result.left ≡ length tokens.now)) }
-{
-    match walk_contents(region, head, contents) {
-        Ok(()) => stop_at(Expectation::ShortMessage, tokens),
-        Err(stop) => stop,
+        None => Err(stop_at(Expectation::ShortMessage, tokens)),
     }
 }
 
@@ -60,11 +45,9 @@ fn untold(region: Region, head: Head, contents: &[Token], tokens: &[Token]) -> S
 fn place_of(set: Option<u8>, service: Option<u8>) -> Place
     ensures set { result.dsn ≡ or_zero set }
     ensures service { result.psn ≡ or_zero service }
-    ensures said { result.is_said ≡ (is_some set || is_some service) }
 {
     Place {
         dsn: set.unwrap_or(0),
         psn: service.unwrap_or(0),
-        is_said: set.is_some() || service.is_some(),
     }
 }

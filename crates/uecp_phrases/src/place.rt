@@ -7,12 +7,13 @@ ghost use Rattle.uecp_text.specs.Words.{IsByte};
 ghost use Rattle.uecp_phrases.specs.Phrases.{IsSet};
 ghost use Rattle.uecp_phrases.specs.declared.expectation.Expectation.TheVariants as what;
 ghost use Rattle.uecp_phrases.specs.Reading.{IsBefore, IsNamed, IsFirstNamed};
-ghost use Rattle.uecp_phrases.specs.Walking.{IsStuck, IsStopBefore};
+ghost use Rattle.uecp_phrases.specs.Stops.{IsStuck, IsStopBefore};
 
 use crate::expectation::Expectation;
+use crate::front::byte_first;
 use crate::stop::{Stop, stop_at};
 use phrase_tokens::Token;
-use uecp_text::{byte_of, decimal_of};
+use uecp_text::decimal_of;
 
 /// The number of the data sets that are not current.
 const OTHERS: u8 = 0xfe;
@@ -25,8 +26,6 @@ const ALL: u8 = 0xff;
 pub struct Place {
     pub dsn: u8,
     pub psn: u8,
-    /// Whether the phrase names a set or a service.
-    pub is_said: bool,
 }
 
 /// The number of the data set that a word names: `all`, `others`, or its number in decimal.
@@ -60,7 +59,7 @@ pub fn set_before(tokens: &[Token]) -> Result<(Option<u8>, &[Token]), Stop>
 }
 
 /// The data set that the first token names, and the tokens behind it.
-fn set_first(tokens: &[Token]) -> Result<(u8, &[Token]), Stop>
+pub fn set_first(tokens: &[Token]) -> Result<(u8, &[Token]), Stop>
     ensures ok { IfOk result (λ r. IsFirstNamed IsSet (tokens_of tokens.now) r.0 (tokens_of r.1.now)) }
     ensures err { IfErr result (λ stop. (region : Region) → IsStuck region what.DataSet (tokens_of tokens.now) stop.what
         stop.left) }
@@ -91,32 +90,9 @@ pub fn service_before(tokens: &[Token]) -> Result<(Option<u8>, &[Token]), Stop>
 {
     match tokens.split_first() {
         Some((first, behind)) if first.is_word(b"for") => {
-            let (service, rest) = service_first(behind)?;
+            let (service, rest) = byte_first(Expectation::Service, behind)?;
             Ok((Some(service), rest))
         }
         _ => Ok((None, tokens)),
     }
-}
-
-/// The programme service that the first token names, and the tokens behind it.
-fn service_first(tokens: &[Token]) -> Result<(u8, &[Token]), Stop>
-    ensures ok { IfOk result (λ r. IsFirstNamed IsByte (tokens_of tokens.now) r.0 (tokens_of r.1.now)) }
-    ensures err { IfErr result (λ stop. (region : Region) → IsStuck region what.Service (tokens_of tokens.now) stop.what
-        stop.left) }
-{
-    match tokens.split_first() {
-        Some((first, rest)) => match service_in(first) {
-            Some(service) => Ok((service, rest)),
-            None => Err(stop_at(Expectation::Service, tokens)),
-        },
-        None => Err(stop_at(Expectation::Service, tokens)),
-    }
-}
-
-/// The programme service that a token names.
-fn service_in(token: &Token) -> Option<u8>
-    ensures some { IfSome result (λ psn. IsNamed IsByte (token_of token.now) psn) }
-    ensures none { IfNone result ((psn : ℕ) → IsNamed IsByte (token_of token.now) psn → ⊥) }
-{
-    byte_of(token.word()?)
 }

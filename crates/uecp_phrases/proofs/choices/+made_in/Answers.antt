@@ -4,7 +4,7 @@ use Rattle.phrase_tokens.specs.View.{token_of, tokens_of}
 use Rattle.uecp_phrases.specs.Phrases.{Make}
 use Rattle.uecp_phrases.specs.Reading.{choices_of, choice_word, choices_left, IsStep}
 use Rattle.uecp_phrases.specs.Expecting.{IsStopAlways}
-use Rattle.uecp_phrases.specs.Walking.{AreChosen}
+use Rattle.uecp_phrases.specs.Stops.{AreChosen}
 use Rattle.uecp_phrases.proofs.Stepping.{step_then}
 use Rattle.uecp_phrases.proofs.Choosing.{choice_next, no_choice_here, step_stop}
 use Rattle.uecp_phrases.proofs.Stopping.{stop_here, stop_behind, counted, err_is, if_err, if_ok}

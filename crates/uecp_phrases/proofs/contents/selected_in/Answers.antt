@@ -1,8 +1,24 @@
+use Rattle.std.proofs.Common.{refl, rules}
+use Rattle.phrase_tokens.specs.Tokens.{Word}
 use Rattle.phrase_tokens.specs.View.{tokens_of}
-use Rattle.uecp_phrases.proofs.Alone.{if_none, selected_alone}
+use Rattle.uecp_phrases.specs.declared.head.Head.TheVariants as head
+use Rattle.uecp_phrases.specs.Stops.{IsEnd}
+use Rattle.uecp_phrases.proofs.Behind.{set_behind}
+use Rattle.uecp_phrases.proofs.FirstWanted.{no_set, behind_told}
+use Rattle.uecp_phrases.proofs.Stopping.{err_is}
 use Rattle.uecp_phrases.proofs.contents.selected_in.Goals as goal
 
-pub returns-clause-none : goal.returns-clause-none
-returns-clause-none c =
-    if_none c.set_of.result _ _ (selected_alone (tokens_of c.args.tokens.now) c.in_ok-only_word.field-0.now
-    c.in_ok-only_word.ensures.some) c.set_of.ensures.none
+pub returns-in_err-dsn-clause-err : goal.returns-in_err-dsn-clause-err
+returns-in_err-dsn-clause-err c =
+    let stop = c.in_err-dsn.field-0.0 in
+    err_is c.from_residual.result stop _ (search rules)
+    (no_set (tokens_of c.args.tokens.now) stop.what stop.left c.in_err-dsn.ensures.err)
+
+pub returns-in_err-end_in-clause-err : goal.returns-in_err-end_in-clause-err
+returns-in_err-end_in-clause-err c =
+    let stop = c.in_err-end_in.field-0.0 in
+    let first = c.in_ok-dsn.ensures.ok in
+    err_is c.from_residual-in_err-end_in.result stop _ (search rules)
+    (behind_told head.Set (Word first.0) (λ _. IsEnd) (tokens_of c.args.tokens.now) (tokens_of c.in_ok-dsn.rest.now)
+    stop.what stop.left first.1
+    (λ region. set_behind region (Word first.0) (first.0, c.in_ok-dsn.dsn, refl, first.2)) c.in_err-end_in.ensures.err)

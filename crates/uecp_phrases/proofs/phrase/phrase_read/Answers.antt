@@ -1,10 +1,11 @@
-use Rattle.std.proofs.Common.{◌≡◌, ◌||◌, ℕ, ◌≤◌, List, is_some, length, Err, inl, rules}
+use Rattle.std.proofs.Common.{◌≡◌, ℕ, ◌<◌, List, false, length, Err, inl, inr, rules}
 use Rattle.phrase_tokens.specs.View.{tokens_of}
 use Rattle.uecp_phrases.specs.Phrases.{Tells}
-use Rattle.uecp_phrases.specs.Reading.{or_zero}
-use Rattle.uecp_phrases.proofs.Phrasing.{phrase_read, told_at, told_from}
-use Rattle.uecp_phrases.proofs.Placing.{set_stop, service_stop, head_stop, may_act, told_unread}
-use Rattle.uecp_phrases.proofs.Stopping.{err_is, counted, counted_or}
+use Rattle.uecp_phrases.proofs.Alone.{some_at, none_at}
+use Rattle.uecp_phrases.proofs.Phrasing.{phrase_read}
+use Rattle.uecp_phrases.proofs.Placing.{set_stop, service_stop, head_stop, may_act, told_stop, told_long}
+use Rattle.uecp_phrases.proofs.Stopping.{err_is, counted}
+use Rattle.uecp_phrases.proofs.Telling.{told_at}
 use Rattle.uecp_phrases.proofs.phrase.phrase_read.Goals as goal
 
 pub returns-in_err-set-clause-err : goal.returns-in_err-set-clause-err
@@ -33,29 +34,46 @@ returns-in_err-head-clause-err c =
     stop.what stop.left c.in_ok-set.ensures.ok c.in_ok-service.ensures.ok c.is_some.ensures c.is_some-2.ensures err.0
     (counted c.in_ok-service.behind.now stop.left err.1) err.2))
 
+pub returns-in_err-message-clause-err : goal.returns-in_err-message-clause-err
+returns-in_err-message-clause-err c =
+    let stop = c.in_err-message.field-0.0 in
+    err_is c.from_residual-in_err-message.result stop _ (search rules)
+    (inl (told_stop c.args.region (tokens_of c.args.tokens.now) (tokens_of c.in_ok-set.behind.now)
+    (tokens_of c.in_ok-service.behind.now) (tokens_of c.in_ok-head.rest.now) c.in_ok-set.set c.in_ok-service.service
+    c.in_ok-head.head stop.what stop.left c.in_ok-set.ensures.ok c.in_ok-service.ensures.ok c.in_ok-head.ensures.ok
+    (may_act c.in_ok-set.set c.in_ok-service.service c.is_some.result c.is_some-2.result c.in_ok-head.head
+    c.is_some.ensures c.is_some-2.ensures c.in_ok-head.ensures.acts) c.in_err-message.ensures.err))
+
 pub returns-in-Some-clause-ok : goal.returns-in-Some-clause-ok
 returns-in-Some-clause-ok c =
+    let h = c.in_ok-head.head in
+    let rest = tokens_of c.in_ok-head.rest.now in
+    let told = some_at c.in_ok-message.field-0 c.in-Some.message
+    (λ m. Tells c.args.region h false c.place_of.result.dsn c.place_of.result.psn rest m) c.in-Some.is
+    c.in_ok-message.ensures.some in
     phrase_read c.args.region (tokens_of c.args.tokens.now) (tokens_of c.in_ok-set.behind.now)
-    (tokens_of c.in_ok-service.behind.now) (tokens_of c.in_ok-head.rest.now) c.in_ok-set.set c.in_ok-service.service
-    c.in_ok-head.head c.in-Some.message c.in_ok-set.ensures.ok c.in_ok-service.ensures.ok c.in_ok-head.ensures.ok
-    (told_at c.args.region c.in_ok-head.head c.place_of.result.is_said c.place_of.result.dsn c.place_of.result.psn
-    c.in_ok-set.set c.in_ok-service.service (tokens_of c.in_ok-head.rest.now) c.in-Some.message c.place_of.ensures.set
-    c.place_of.ensures.service c.place_of.ensures.said c.in-Some.ensures.some)
+    (tokens_of c.in_ok-service.behind.now) rest c.in_ok-set.set c.in_ok-service.service h c.in-Some.message
+    c.in_ok-set.ensures.ok c.in_ok-service.ensures.ok c.in_ok-head.ensures.ok
+    (told_at c.args.region h c.place_of.result.dsn c.place_of.result.psn c.in_ok-set.set c.in_ok-service.service rest
+    c.in-Some.message c.place_of.ensures.set c.place_of.ensures.service
+    (may_act c.in_ok-set.set c.in_ok-service.service c.is_some.result c.is_some-2.result h c.is_some.ensures
+    c.is_some-2.ensures c.in_ok-head.ensures.acts) told)
 
 pub returns-in-None-clause-err : goal.returns-in-None-clause-err
 returns-in-None-clause-err c =
-    let none : (bytes : List ℕ) → Tells c.args.region c.in_ok-head.head
-    (is_some c.in_ok-set.set || is_some c.in_ok-service.service) (or_zero c.in_ok-set.set)
-    (or_zero c.in_ok-service.service) (tokens_of c.in_ok-head.rest.now) bytes → length bytes ≤ 255 → ⊥ =
-    λ bytes told few. c.in-None.ensures.none bytes
-    (told_from c.args.region c.in_ok-head.head c.place_of.result.is_said c.place_of.result.dsn c.place_of.result.psn
-    c.in_ok-set.set c.in_ok-service.service (tokens_of c.in_ok-head.rest.now) bytes c.place_of.ensures.set
-    c.place_of.ensures.service c.place_of.ensures.said told) few in
-    told_unread c.args.region (tokens_of c.args.tokens.now) (tokens_of c.in_ok-set.behind.now)
-    (tokens_of c.in_ok-service.behind.now) (tokens_of c.in_ok-head.rest.now) c.in_ok-set.set c.in_ok-service.service
-    c.in_ok-head.head c.untold.result.what c.untold.result.left c.in_ok-set.ensures.ok c.in_ok-service.ensures.ok
-    c.in_ok-head.ensures.ok
-    (may_act c.in_ok-set.set c.in_ok-service.service c.is_some.result c.is_some-2.result c.in_ok-head.head
-    c.is_some.ensures c.is_some-2.ensures c.in_ok-head.ensures.acts) none
-    (counted_or c.args.region c.in_ok-head.head c.untold.result.what c.untold.result.left c.args.tokens.now
-    (tokens_of c.in_ok-head.rest.now) c.untold.ensures)
+    let h = c.in_ok-head.head in
+    let rest = tokens_of c.in_ok-head.rest.now in
+    let long = none_at c.in_ok-message.field-0
+    ((bytes : List ℕ) × Tells c.args.region h false c.place_of.result.dsn c.place_of.result.psn rest bytes
+    × (255 < length bytes)) c.in-None.is c.in_ok-message.ensures.long in
+    let there = told_at c.args.region h c.place_of.result.dsn c.place_of.result.psn c.in_ok-set.set
+    c.in_ok-service.service rest long.0 c.place_of.ensures.set c.place_of.ensures.service
+    (may_act c.in_ok-set.set c.in_ok-service.service c.is_some.result c.is_some-2.result h c.is_some.ensures
+    c.is_some-2.ensures c.in_ok-head.ensures.acts) long.1 in
+    inr (
+      told_long c.args.region (tokens_of c.args.tokens.now) (tokens_of c.in_ok-set.behind.now)
+          (tokens_of c.in_ok-service.behind.now) rest c.in_ok-set.set c.in_ok-service.service h long.0
+          c.in_ok-set.ensures.ok c.in_ok-service.ensures.ok c.in_ok-head.ensures.ok there long.2,
+      c.stop_at.ensures.what,
+      counted c.args.tokens.now c.stop_at.result.left c.stop_at.ensures.left,
+    )
