@@ -1,6 +1,6 @@
 //! The cases, as tests/conformance/cases.txt has them (profile).
 
-/// The cases of this project, as a file of cases; `tests/conformance_cases` holds it against the file.
+/// The cases of this project, as a file of cases; `tests/run/conformance_cases` holds it against the file.
 pub const CASES: &[u8] = b"# Rules of the protocol that an encoder keeps or doesn't.
 #
 # README.md, beside this file, tells its form. What must come was worked out by hand from docs/PROTOCOL.md. Each case

@@ -2,7 +2,8 @@
 use crate::code::Code;
 use thiserror::Error;
 
-/// Where no element could be read.
+/// Why the bytes of a message are no element: the place at which one was to begin, and the code of the reply to that
+/// message.
 #[derive(Clone, Copy, Debug, PartialEq, Eq, Error)]
 #[error("no element can be read at byte {place}: {code:?}")]
 pub struct ElementFault {

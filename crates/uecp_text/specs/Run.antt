@@ -11,7 +11,8 @@ use Rattle.uecp_text.specs.declared.interpreter.Taken.TheVariants as taken
 use Rattle.uecp_text.specs.Input.{texts_of}
 use Rattle.uecp_text.specs.Written.{Kept, Writes, Begins}
 
--- What a text comes to.
+-- What a line of input comes to, once the spaces at its ends and comments are left out: lines of output, with more
+-- input to come or as the last; or a refusal.
 pub data Outcome : Type 0 where
   -- it brings these lines of output, and the next text comes
   Brings : (lines : List ℕ) → Outcome
