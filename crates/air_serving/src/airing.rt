@@ -8,11 +8,11 @@ use crate::moments::Moments;
 use carousel::Carousel;
 use kept_jobs::KeptStop;
 use rds_store::RdsStore;
-use uecp_encoder::{Encoder, KeepEncoder, SaveFailed, take_kept};
+use uecp_encoder::{BatchLimits, Encoder, Keep, SaveFailed, SavedEncoder, take_kept};
 
 /// Sends the next group of the store. Where it is one that waited there, it is taken, and it goes out once that is
 /// saved.
-pub(crate) fn send_next<K: KeepEncoder<RdsStore>, M: Moments>(
+pub(crate) fn send_next<K: Keep<SavedEncoder<RdsStore>> + BatchLimits, M: Moments>(
     encoder: &mut Encoder<RdsStore>,
     keeper: &mut K,
     moments: &mut M,

@@ -23,7 +23,7 @@ use kept_jobs::{KeptStop, fail_run};
 use rds_store::RdsStore;
 use std::io::Write;
 use std::time::Clock;
-use uecp_encoder::{Encoder, KeepEncoder, Listener};
+use uecp_encoder::{BatchLimits, Encoder, Keep, Listener, SavedEncoder};
 use uecp_text::RunFault;
 
 /// How many moments a run waits for at most.
@@ -49,7 +49,13 @@ const MOMENTS_MAX: u64 = 1 << 63;
 ///     limits, &mut encoder, &mut NotSaved, &mut log, &mut errors, &mut carousel, &mut edge,
 /// );
 /// ```
-pub fn run_on_air<K: KeepEncoder<RdsStore>, W: Write, Clk: Clock, E: Write, M: Moments>(
+pub fn run_on_air<
+    K: Keep<SavedEncoder<RdsStore>> + BatchLimits,
+    W: Write,
+    Clk: Clock,
+    E: Write,
+    M: Moments,
+>(
     limits: Limits,
     encoder: &mut Encoder<RdsStore>,
     keeper: &mut K,
@@ -127,7 +133,7 @@ pub fn run_on_air<K: KeepEncoder<RdsStore>, W: Write, Clk: Clock, E: Write, M: M
 }
 
 /// Serves and sends, and then tells the lines of the store where that is asked for.
-fn serve_and_store<K: KeepEncoder<RdsStore>, W: Write, Clk: Clock, M: Moments>(
+fn serve_and_store<K: Keep<SavedEncoder<RdsStore>> + BatchLimits, W: Write, Clk: Clock, M: Moments>(
     limits: Limits,
     encoder: &mut Encoder<RdsStore>,
     keeper: &mut K,
@@ -168,7 +174,7 @@ fn serve_and_store<K: KeepEncoder<RdsStore>, W: Write, Clk: Clock, M: Moments>(
 }
 
 /// Serves and sends up to the end, and then gives back the connection that is open, if one is.
-fn serve_all<K: KeepEncoder<RdsStore>, W: Write, Clk: Clock, M: Moments>(
+fn serve_all<K: Keep<SavedEncoder<RdsStore>> + BatchLimits, W: Write, Clk: Clock, M: Moments>(
     connections: u64,
     turns: u32,
     encoder: &mut Encoder<RdsStore>,
@@ -212,7 +218,7 @@ fn serve_all<K: KeepEncoder<RdsStore>, W: Write, Clk: Clock, M: Moments>(
 }
 
 /// Does what is asked for, moment after moment, up to the end.
-fn do_all<K: KeepEncoder<RdsStore>, W: Write, Clk: Clock, M: Moments>(
+fn do_all<K: Keep<SavedEncoder<RdsStore>> + BatchLimits, W: Write, Clk: Clock, M: Moments>(
     turns: u32,
     encoder: &mut Encoder<RdsStore>,
     keeper: &mut K,
@@ -252,7 +258,7 @@ fn do_all<K: KeepEncoder<RdsStore>, W: Write, Clk: Clock, M: Moments>(
 }
 
 /// Waits once, and does what the moment that came asks for.
-fn do_next<K: KeepEncoder<RdsStore>, W: Write, Clk: Clock, M: Moments>(
+fn do_next<K: Keep<SavedEncoder<RdsStore>> + BatchLimits, W: Write, Clk: Clock, M: Moments>(
     turns: u32,
     encoder: &mut Encoder<RdsStore>,
     keeper: &mut K,
@@ -329,7 +335,7 @@ fn connect<W: Write, Clk: Clock, M: Moments>(
 }
 
 /// Makes one read of the connection that is open, if one is, and goes on with it or ends it.
-fn read_open<K: KeepEncoder<RdsStore>, W: Write, Clk: Clock, M: Moments>(
+fn read_open<K: Keep<SavedEncoder<RdsStore>> + BatchLimits, W: Write, Clk: Clock, M: Moments>(
     encoder: &mut Encoder<RdsStore>,
     keeper: &mut K,
     log: &mut LogLines<'_, W, Clk>,

@@ -8,7 +8,8 @@ ghost use Rattle.air_serving.specs.Parts.{sent_with, counts_with};
 use crate::line::{OpenLine, Sent, together};
 use std::io::{Read, Write};
 use uecp_encoder::{
-    Answered, Encoder, Event, KeepEncoder, KeptFault, Listener, Meter, Served, Target, serve_with,
+    Answered, BatchLimits, Encoder, Event, Keep, KeptFault, Listener, Meter, SavedEncoder, Served,
+    Target, serve_with,
 };
 
 /// Tells a listener, and counts the replies that were written whole.
@@ -72,12 +73,13 @@ pub(crate) struct Turn<I, O> {
 
 /// Makes one read of a connection and serves what it brings: one call of [`serve_with`] of one turn. What is sent is
 /// counted.
-pub(crate) fn read_once<T: Target, K: KeepEncoder<T>, L: Listener, I: Read + Drop, O: Write + Drop>(
-    encoder: &mut Encoder<T>,
-    keeper: &mut K,
-    listener: &mut L,
-    line: OpenLine<I, O>,
-) -> Turn<I, O>
+pub(crate) fn read_once<
+    T: Target,
+    K: Keep<SavedEncoder<T>> + BatchLimits,
+    L: Listener,
+    I: Read + Drop,
+    O: Write + Drop,
+>(encoder: &mut Encoder<T>, keeper: &mut K, listener: &mut L, line: OpenLine<I, O>) -> Turn<I, O>
     ensures reads { ReadsOnce K.TOGETHER_MAX K.READ_MAX T.step K.leaves K.is_clean K.saves K.fails L.hears I.remaining
         O.contents encoder.old encoder.new keeper.old keeper.new listener.old listener.new line result.line
         result.ended }

@@ -15,7 +15,7 @@ use kept_jobs::{KeptStop, fail_run};
 use rds_store::RdsStore;
 use std::io::Write;
 use std::time::Clock;
-use uecp_encoder::{Encoder, KeepEncoder, KeptFault, Served, Target};
+use uecp_encoder::{BatchLimits, Encoder, Keep, KeptFault, SavedEncoder, Served, Target};
 use uecp_net::{Connections, serve_connection_with};
 use uecp_text::RunFault;
 
@@ -31,7 +31,13 @@ use uecp_text::RunFault;
 /// let limits = Limits { connections: u64::MAX, turns: 100_000, store: true };
 /// let status = run_device(limits, &mut encoder, &mut NotSaved, &mut log, &mut errors, &mut listening);
 /// ```
-pub fn run_device<K: KeepEncoder<RdsStore>, W: Write, Clk: Clock, E: Write, C: Connections>(
+pub fn run_device<
+    K: Keep<SavedEncoder<RdsStore>> + BatchLimits,
+    W: Write,
+    Clk: Clock,
+    E: Write,
+    C: Connections,
+>(
     limits: Limits,
     encoder: &mut Encoder<RdsStore>,
     keeper: &mut K,
@@ -89,7 +95,12 @@ pub fn run_device<K: KeepEncoder<RdsStore>, W: Write, Clk: Clock, E: Write, C: C
 }
 
 /// Serves the connections, and then tells the lines of the store where that is asked for.
-fn serve_and_store<K: KeepEncoder<RdsStore>, W: Write, Clk: Clock, C: Connections>(
+fn serve_and_store<
+    K: Keep<SavedEncoder<RdsStore>> + BatchLimits,
+    W: Write,
+    Clk: Clock,
+    C: Connections,
+>(
     limits: Limits,
     encoder: &mut Encoder<RdsStore>,
     keeper: &mut K,
@@ -146,7 +157,13 @@ fn went<W: Write, Clk: Clock>(log: &LogLines<'_, W, Clk>) -> Result<(), KeptStop
 }
 
 /// Serves so many connections, one after another, and tells how each ended before the next is opened.
-fn serve_connections<T: Target, K: KeepEncoder<T>, W: Write, Clk: Clock, C: Connections>(
+fn serve_connections<
+    T: Target,
+    K: Keep<SavedEncoder<T>> + BatchLimits,
+    W: Write,
+    Clk: Clock,
+    C: Connections,
+>(
     connections: u64,
     turns: u32,
     encoder: &mut Encoder<T>,
@@ -174,7 +191,13 @@ fn serve_connections<T: Target, K: KeepEncoder<T>, W: Write, Clk: Clock, C: Conn
 }
 
 /// Serves the next connection, and tells how it ended.
-fn serve_next<T: Target, K: KeepEncoder<T>, W: Write, Clk: Clock, C: Connections>(
+fn serve_next<
+    T: Target,
+    K: Keep<SavedEncoder<T>> + BatchLimits,
+    W: Write,
+    Clk: Clock,
+    C: Connections,
+>(
     turns: u32,
     encoder: &mut Encoder<T>,
     keeper: &mut K,

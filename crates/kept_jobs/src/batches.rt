@@ -11,17 +11,18 @@ use crate::stop::KeptStop;
 use crate::telling::write_told;
 use std::alloc::Global;
 use std::io::Write;
+use uecp_encoder::Keep;
 use uecp_frame::Message;
 use uecp_jobs::{fault_of, put_settled};
 use uecp_link::ServerCounts;
 use uecp_net::{
-    Connections, KeepServer, KeptOutstanding, Outstanding, Progress, Sender, Settled, join_kept,
+    Connections, KeptOutstanding, Outstanding, Progress, SavedServer, Sender, Settled, join_kept,
     send_kept, settle_kept,
 };
 use uecp_text::{Output, RunFault};
 
 /// Joins the encoder where that is due, and tells it once it is kept.
-pub fn join_if<K: KeepServer, W: Write, C: Connections>(
+pub fn join_if<K: Keep<SavedServer>, W: Write, C: Connections>(
     alloc: Global,
     due: bool,
     sender: &mut Sender<'_, C>,
@@ -65,7 +66,7 @@ fn tell_joined<W: Write>(
 }
 
 /// Settles what waits, where messages wait, and tells how that went once it is kept.
-pub(crate) fn settle_first<K: KeepServer, W: Write, C: Connections>(
+pub(crate) fn settle_first<K: Keep<SavedServer>, W: Write, C: Connections>(
     alloc: Global,
     sender: &mut Sender<'_, C>,
     keeper: &mut K,
@@ -86,7 +87,7 @@ pub(crate) fn settle_first<K: KeepServer, W: Write, C: Connections>(
 }
 
 /// Sends these messages, batch by batch. What is said of each is written out before the next one is submitted.
-pub(crate) fn send_batches<K: KeepServer, W: Write, C: Connections>(
+pub(crate) fn send_batches<K: Keep<SavedServer>, W: Write, C: Connections>(
     alloc: Global,
     messages: &[Message],
     size: usize,
@@ -123,7 +124,7 @@ pub(crate) fn send_batches<K: KeepServer, W: Write, C: Connections>(
 }
 
 /// Sends these messages, and tells how that went once it is kept.
-fn send_batch<K: KeepServer, W: Write, C: Connections>(
+fn send_batch<K: Keep<SavedServer>, W: Write, C: Connections>(
     alloc: Global,
     batch: &[Message],
     sender: &mut Sender<'_, C>,

@@ -9,13 +9,13 @@ use crate::stop::KeptStop;
 use crate::telling::write_told;
 use std::alloc::Global;
 use std::io::Write;
-use uecp_encoder::SaveFailed;
+use uecp_encoder::{Keep, SaveFailed};
 use uecp_link::Server;
-use uecp_net::{KeepServer, Progress};
+use uecp_net::{Progress, SavedServer};
 use uecp_text::Output;
 
 /// Tells how far the server has come, and begins anew where its encoder is to be joined.
-pub fn begin<K: KeepServer, W: Write>(
+pub fn begin<K: Keep<SavedServer>, W: Write>(
     alloc: Global,
     due: bool,
     server: &mut Server,
@@ -74,7 +74,7 @@ fn put_taken(taken: u64, outstanding: usize, output: &mut Output)
 
 /// Saves a new server to the same encoder, not joined, in place of this one, and tells how many messages are given up
 /// by that.
-pub(crate) fn begin_anew<K: KeepServer, W: Write>(
+pub(crate) fn begin_anew<K: Keep<SavedServer>, W: Write>(
     alloc: Global,
     server: &mut Server,
     progress: &mut Progress,

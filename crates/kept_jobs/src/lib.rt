@@ -3,7 +3,7 @@
 //!
 //! [`run_server_kept`] settles what is outstanding, and then sends the messages of its input, batch by batch, and stops
 //! where the server could not be saved. The crate opens no file: where state is kept is the matter of a
-//! [`KeepServer`](uecp_net::KeepServer).
+//! [`Keep`](uecp_encoder::Keep).
 //!
 //! [`KeptStop`] is why a run stopped, and [`fail_state`] says why a state can't be kept.
 #![tactic(auto)]

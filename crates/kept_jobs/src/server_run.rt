@@ -19,10 +19,11 @@ use crate::beginning::begin;
 use crate::stop::{KeptStop, fail_run};
 use std::alloc::Global;
 use std::io::{Read, Write};
+use uecp_encoder::Keep;
 use uecp_frame::Message;
 use uecp_jobs::{Messages, ServerSetup, batch_size, messages_of};
 use uecp_link::Server;
-use uecp_net::{Connections, KeepServer, Progress, Sender};
+use uecp_net::{Connections, Progress, SavedServer, Sender};
 use uecp_text::read_all;
 
 /// What a run starts from.
@@ -51,7 +52,7 @@ pub struct Start {
 ///     alloc, &options, Start { server, progress }, &mut keeper, &mut input, &mut output, &mut errors, &mut connecting,
 /// );
 /// ```
-pub fn run_server_kept<K: KeepServer, R: Read, W: Write, E: Write, C: Connections>(
+pub fn run_server_kept<K: Keep<SavedServer>, R: Read, W: Write, E: Write, C: Connections>(
     alloc: Global,
     options: &ServerSetup,
     start: Start,
@@ -102,7 +103,7 @@ pub fn run_server_kept<K: KeepServer, R: Read, W: Write, E: Write, C: Connection
 }
 
 /// Sends the messages of the input.
-fn send_all<K: KeepServer, R: Read, W: Write, C: Connections>(
+fn send_all<K: Keep<SavedServer>, R: Read, W: Write, C: Connections>(
     alloc: Global,
     options: &ServerSetup,
     start: Start,
@@ -141,7 +142,7 @@ fn after_refusal(messages: Messages, sent: Result<(), KeptStop>) -> Result<(), K
 }
 
 /// Tells how far the server has come, and sends these messages by one sender, after what waits.
-fn send_messages<K: KeepServer, W: Write, C: Connections>(
+fn send_messages<K: Keep<SavedServer>, W: Write, C: Connections>(
     alloc: Global,
     options: &ServerSetup,
     messages: &[Message],
@@ -185,7 +186,7 @@ fn is_due(join: bool, progress: Progress) -> bool
 }
 
 /// Joins the encoder where that is due, settles what waits, and then sends these messages, in batches of this size.
-fn run_sender<K: KeepServer, W: Write, C: Connections>(
+fn run_sender<K: Keep<SavedServer>, W: Write, C: Connections>(
     alloc: Global,
     messages: &[Message],
     size: usize,

@@ -2,14 +2,15 @@
 //! what a crash leaves of the server.
 ghost use Rattle.promises.specs.LiveLaws.{DoneIsKept, WhatACrashLeaves, ToldIsTaken};
 
-use uecp_net::{Connections, KeepServer};
+use uecp_encoder::Keep;
+use uecp_net::{Connections, SavedServer};
 
 /// A run that ended with status 0, 1 or 4 took all lines of its input, or with `strict` all up to one that was refused,
 /// and all that they gave is kept: whatever a crash leaves of the server is joined, counts as taken each message of
 /// these lines and those that were taken before, and no other, and none waits.
 ///
 /// Its premises: what was kept at the start is the server, and that of the keeper holds up to the end.
-pub fn done_is_kept<K: KeepServer, C: Connections>()
+pub fn done_is_kept<K: Keep<SavedServer>, C: Connections>()
     ensures { DoneIsKept C.opens C.closes C.Input.remaining C.Output.contents K.leaves K.is_clean K.saves K.fails }
 {}
 
@@ -19,7 +20,7 @@ pub fn done_is_kept<K: KeepServer, C: Connections>()
 /// messages of the lines that were taken, besides those that were taken before.
 ///
 /// Its premises: what was kept at the start is the server, and that of the keeper holds up to the end.
-pub fn what_a_crash_leaves<K: KeepServer, C: Connections>()
+pub fn what_a_crash_leaves<K: Keep<SavedServer>, C: Connections>()
     ensures { WhatACrashLeaves C.opens C.closes C.Input.remaining C.Output.contents K.leaves K.is_clean K.saves
         K.fails }
 {}
@@ -32,6 +33,6 @@ pub fn what_a_crash_leaves<K: KeepServer, C: Connections>()
 /// or 4.
 ///
 /// It has no premise of the keeper.
-pub fn told_is_taken<K: KeepServer, C: Connections>()
+pub fn told_is_taken<K: Keep<SavedServer>, C: Connections>()
     ensures { ToldIsTaken C.opens C.closes C.Input.remaining C.Output.contents K.leaves K.is_clean K.saves K.fails }
 {}

@@ -9,12 +9,12 @@ use kept_jobs::KeptStop;
 use output_forms::Form;
 use std::io::Write;
 use std::time::Clock;
-use uecp_encoder::SaveFailed;
+use uecp_encoder::{Keep, SaveFailed};
 use uecp_link::Server;
-use uecp_net::{KeepServer, Progress};
+use uecp_net::{Progress, SavedServer};
 
 /// Tells how far the server has come, and begins anew where its encoder is to be joined.
-pub(crate) fn begin<K: KeepServer, W: Write, T: Clock>(
+pub(crate) fn begin<K: Keep<SavedServer>, W: Write, T: Clock>(
     form: Form,
     due: bool,
     server: &mut Server,
@@ -48,7 +48,7 @@ pub(crate) fn begin<K: KeepServer, W: Write, T: Clock>(
 
 /// Saves a new server to the same encoder, not joined, in place of this one, and tells how many messages are given up
 /// by that.
-fn begin_anew<K: KeepServer, W: Write, T: Clock>(
+fn begin_anew<K: Keep<SavedServer>, W: Write, T: Clock>(
     form: Form,
     server: &mut Server,
     progress: &mut Progress,

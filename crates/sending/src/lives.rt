@@ -14,10 +14,10 @@ use line_feed::Feed;
 use output_forms::Form;
 use std::io::Write;
 use std::time::Clock;
-use uecp_encoder::SaveFailed;
+use uecp_encoder::{Keep, SaveFailed};
 use uecp_frame::Address;
 use uecp_link::Server;
-use uecp_net::{Connections, KeepServer, Progress, Sender};
+use uecp_net::{Connections, Progress, SavedServer, Sender};
 
 /// How often another sender runs at most.
 const AGAIN_MAX: u64 = 1 << 59;
@@ -27,7 +27,7 @@ const TAKEN_MAX: u64 = 1 << 63;
 
 /// Sends by one sender, and by another one as long as messages are outstanding and their encoder is taken for a new
 /// one.
-pub(crate) fn run_all<K: KeepServer, F: Feed, W: Write, E: Write, C: Connections, T: Clock>(
+pub(crate) fn run_all<K: Keep<SavedServer>, F: Feed, W: Write, E: Write, C: Connections, T: Clock>(
     due: bool,
     options: &LiveOptions<'_>,
     server: Server,
@@ -76,7 +76,7 @@ fn goes_on(rejoin: bool, unknown: usize, taken: u64) -> bool
 
 /// Begins anew with a server to the encoder at this address, tells what is outstanding as unknown, and sends by another
 /// sender.
-fn run_again<K: KeepServer, F: Feed, W: Write, E: Write, C: Connections, T: Clock>(
+fn run_again<K: Keep<SavedServer>, F: Feed, W: Write, E: Write, C: Connections, T: Clock>(
     address: Address,
     options: &LiveOptions<'_>,
     keeper: &mut K,
@@ -117,7 +117,7 @@ fn run_again<K: KeepServer, F: Feed, W: Write, E: Write, C: Connections, T: Cloc
 }
 
 /// Saves this server, not joined, and tells that so many messages, the last that were taken, are unknown.
-fn renew<K: KeepServer, W: Write, T: Clock>(
+fn renew<K: Keep<SavedServer>, W: Write, T: Clock>(
     form: Form,
     count: usize,
     server: &Server,
@@ -143,7 +143,7 @@ fn renew<K: KeepServer, W: Write, T: Clock>(
 }
 
 /// Sends by one sender.
-fn run_one<K: KeepServer, F: Feed, W: Write, E: Write, C: Connections, T: Clock>(
+fn run_one<K: Keep<SavedServer>, F: Feed, W: Write, E: Write, C: Connections, T: Clock>(
     due: bool,
     options: &LiveOptions<'_>,
     server: Server,

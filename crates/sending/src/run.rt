@@ -21,7 +21,8 @@ use line_feed::Feed;
 use std::io::Write;
 use std::mem::replace;
 use std::time::Clock;
-use uecp_net::{Connections, KeepServer, Progress, Sender};
+use uecp_encoder::Keep;
+use uecp_net::{Connections, Progress, SavedServer, Sender};
 use uecp_text::RunFault;
 
 /// How many batches are taken at most.
@@ -43,7 +44,7 @@ const TURNS_MAX: u64 = 1 << 59;
 /// Where messages are outstanding the run stops; or, with `rejoin`, a new server is saved in place of this one, they
 /// are told as unknown and not sent again, and it goes on with that as with one that is not joined. Where the end of
 /// the run was found behind them it joins the encoder and makes the station, and then ends so.
-pub fn run_live<K: KeepServer, F: Feed, W: Write, E: Write, C: Connections, T: Clock>(
+pub fn run_live<K: Keep<SavedServer>, F: Feed, W: Write, E: Write, C: Connections, T: Clock>(
     options: &LiveOptions<'_>,
     start: Start,
     keeper: &mut K,
@@ -93,7 +94,7 @@ fn is_due(join: bool, progress: Progress) -> bool
 
 /// Tells how far the server has come, begins anew where its encoder is to be joined, and sends by one
 /// sender after another.
-fn run_from<K: KeepServer, F: Feed, W: Write, E: Write, C: Connections, T: Clock>(
+fn run_from<K: Keep<SavedServer>, F: Feed, W: Write, E: Write, C: Connections, T: Clock>(
     options: &LiveOptions<'_>,
     start: Start,
     keeper: &mut K,
@@ -160,7 +161,14 @@ fn run_from<K: KeepServer, F: Feed, W: Write, E: Write, C: Connections, T: Clock
 
 /// Joins the encoder and makes the station where that is due, and then goes on by what comes behind what was
 /// outstanding.
-pub(crate) fn run_sender<K: KeepServer, F: Feed, W: Write, E: Write, C: Connections, T: Clock>(
+pub(crate) fn run_sender<
+    K: Keep<SavedServer>,
+    F: Feed,
+    W: Write,
+    E: Write,
+    C: Connections,
+    T: Clock,
+>(
     due: bool,
     options: &LiveOptions<'_>,
     sender: &mut Sender<'_, C>,
@@ -190,7 +198,7 @@ pub(crate) fn run_sender<K: KeepServer, F: Feed, W: Write, E: Write, C: Connecti
 }
 
 /// Settles what waits, and then takes and sends batch after batch.
-fn go_on<K: KeepServer, F: Feed, W: Write, E: Write, C: Connections, T: Clock>(
+fn go_on<K: Keep<SavedServer>, F: Feed, W: Write, E: Write, C: Connections, T: Clock>(
     options: &LiveOptions<'_>,
     sender: &mut Sender<'_, C>,
     keeper: &mut K,
@@ -214,7 +222,7 @@ fn go_on<K: KeepServer, F: Feed, W: Write, E: Write, C: Connections, T: Clock>(
 }
 
 /// Takes and sends one batch after another.
-fn run_turns<K: KeepServer, F: Feed, W: Write, E: Write, C: Connections, T: Clock>(
+fn run_turns<K: Keep<SavedServer>, F: Feed, W: Write, E: Write, C: Connections, T: Clock>(
     options: &LiveOptions<'_>,
     sender: &mut Sender<'_, C>,
     keeper: &mut K,
@@ -257,7 +265,7 @@ fn ended_as(ended: Result<(), RunFault>) -> Result<(), KeptStop>
 
 /// Takes one batch and sends it, and tells what comes after it; where it could not be sent, that is put down as what
 /// comes behind it.
-fn make_turn<K: KeepServer, F: Feed, W: Write, E: Write, C: Connections, T: Clock>(
+fn make_turn<K: Keep<SavedServer>, F: Feed, W: Write, E: Write, C: Connections, T: Clock>(
     options: &LiveOptions<'_>,
     sender: &mut Sender<'_, C>,
     keeper: &mut K,

@@ -22,14 +22,14 @@ use kept_jobs::KeptStop;
 use output_forms::Form;
 use std::io::Write;
 use std::time::Clock;
-use uecp_encoder::SaveFailed;
+use uecp_encoder::{Keep, SaveFailed};
 use uecp_frame::Message;
-use uecp_net::{Connections, KeepServer, KeptOutstanding, Outstanding, Progress, Sender, Settled};
+use uecp_net::{Connections, KeptOutstanding, Outstanding, Progress, SavedServer, Sender, Settled};
 use uecp_text::Output;
 
 /// Joins the encoder and makes the station where that is due, saves the server as joined then, and tells it once that
 /// is kept.
-pub(crate) fn make_if<K: KeepServer, W: Write, C: Connections, T: Clock>(
+pub(crate) fn make_if<K: Keep<SavedServer>, W: Write, C: Connections, T: Clock>(
     options: &LiveOptions<'_>,
     due: bool,
     sender: &mut Sender<'_, C>,
@@ -75,7 +75,7 @@ pub(crate) fn make_if<K: KeepServer, W: Write, C: Connections, T: Clock>(
 
 /// Joins the encoder and makes the station, and saves the server as joined then. The lines of the messages that the
 /// encoder refused are put down.
-fn make_kept<K: KeepServer, C: Connections>(
+fn make_kept<K: Keep<SavedServer>, C: Connections>(
     form: Form,
     size: usize,
     station: &[Message],

@@ -12,14 +12,15 @@ use kept_jobs::KeptStop;
 use output_forms::Form;
 use std::io::Write;
 use std::time::Clock;
+use uecp_encoder::Keep;
 use uecp_frame::Message;
 use uecp_link::{Server, WINDOW_MAX};
 use uecp_net::{
-    Connections, KeepServer, KeptOutstanding, Outstanding, Sender, Settled, send_kept, settle_kept,
+    Connections, KeptOutstanding, Outstanding, SavedServer, Sender, Settled, send_kept, settle_kept,
 };
 
 /// Sends these messages, and tells what the encoder answered to each once that is kept.
-pub(crate) fn send_batch<K: KeepServer, W: Write, C: Connections, T: Clock>(
+pub(crate) fn send_batch<K: Keep<SavedServer>, W: Write, C: Connections, T: Clock>(
     form: Form,
     batch: &[Message],
     sender: &mut Sender<'_, C>,
@@ -57,7 +58,7 @@ pub(crate) fn send_batch<K: KeepServer, W: Write, C: Connections, T: Clock>(
 }
 
 /// Sends these messages so, where there are some.
-pub(crate) fn send_some<K: KeepServer, W: Write, C: Connections, T: Clock>(
+pub(crate) fn send_some<K: Keep<SavedServer>, W: Write, C: Connections, T: Clock>(
     form: Form,
     batch: &[Message],
     sender: &mut Sender<'_, C>,
@@ -85,7 +86,7 @@ pub(crate) fn send_some<K: KeepServer, W: Write, C: Connections, T: Clock>(
 }
 
 /// Settles what waits, where messages wait, and tells what the encoder answered to each once that is kept.
-pub(crate) fn settle_first<K: KeepServer, W: Write, C: Connections, T: Clock>(
+pub(crate) fn settle_first<K: Keep<SavedServer>, W: Write, C: Connections, T: Clock>(
     form: Form,
     sender: &mut Sender<'_, C>,
     keeper: &mut K,

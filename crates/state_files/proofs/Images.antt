@@ -5,22 +5,19 @@ use Rattle.sqlite.specs.Order.{column}
 use Rattle.sqlite.specs.declared.types.Value.TheVariants.{Blob}
 use Rattle.sqlite.specs.Tree.{Trees}
 use Rattle.sqlite.specs.Store.{Ghosts}
-use Rattle.rds_store.specs.Value.{Store}
 use Rattle.uecp_frame.specs.Frame.{high_first}
-use Rattle.uecp_encoder.specs.State.{EncoderState}
 use Rattle.uecp_link.specs.Server.{ServerState}
 use Rattle.uecp_link.specs.Resuming.{IsServer}
-use Rattle.uecp_encoder.specs.Keeping as serving
 use Rattle.uecp_net.specs.declared.saved.keep.Progress.{Progress}
 use Rattle.uecp_net.specs.Keeping as sending
 use Rattle.sqlite_image.specs.Kept.{Holds}
 use Rattle.sqlite_image.specs.Keeper.{Keeper, MayLeave, Keeps}
 use Rattle.end_images.specs.declared.server_parts.KeptServer.{KeptServer}
-use Rattle.end_images.specs.Images.{sealed, encoder_image, server_content, server_image}
+use Rattle.end_images.specs.Images.{sealed, server_content, server_image}
 use Rattle.end_images.specs.Laws.{SaysServer}
 use Rattle.end_images.specs.Reading.{IsKeptServer}
-use Rattle.state_files.specs.Encoders.{IsPlaced, TellsWhatIsKept, LeavesEncoder}
-use Rattle.state_files.specs.Servers.{LeavesServer, image_of}
+use Rattle.state_files.specs.Saving.{Leaves, ImagesTell}
+use Rattle.state_files.specs.Servers.{IsServerSoFar, image_of}
 use Rattle.state_files.proofs.Sealed.{sealed_same}
 
 -- rows hold at most one image
@@ -67,61 +64,36 @@ module _ (law : SaysServer) where
         joined = k.joined;
       }) (law (at p s) (at q t) first second moved)
 
-  module _ {S : Type 0} (g : Ghosts S) (k : Keeper S) (p : Progress) (s : ServerState) (is : IsServer s)
-      (fits : p.taken < 2 ^ 64) where
-    pub server_saved : Keeps g k (Some (image_of p s)) → (left : sending.KeptServer) → LeavesServer g k left
-        → left ≡ sending.kept_of p s
-    server_saved keeps left l =
-        l.is_kept ∙ told l.progress p l.server s l.is_server is l.taken fits
-        (one_image k.version (image_of l.progress l.server) (image_of p s) l.rows l.holds (keeps.every l.rows l.may))
+  pub servers_told : ImagesTell image_of IsServerSoFar sending.kept_of
+  servers_told p q s t is_s is_t same = told p q s t is_s.0 is_t.0 is_s.1 is_t.1 same
 
-    pub server_either : (old : Keeper S) → k.version ≡ old.version
-        → ((rows : Trees) → MayLeave g k rows → MayLeave g old rows ⊎ Holds old.version (Some (image_of p s)) rows)
-        → (left : sending.KeptServer) → LeavesServer g k left
-        → LeavesServer g old left ⊎ (left ≡ sending.kept_of p s)
-    server_either old same either left l =
-        let holds : Holds old.version (Some (image_of l.progress l.server)) l.rows =
-        subst (λ v. Holds v (Some (image_of l.progress l.server)) l.rows) same l.holds in
-        elim (either l.rows l.may) [
-          | inl before ↦ inl (record {
-            rows = l.rows;
-            may = before;
-            server = l.server;
-            progress = l.progress;
-            is_server = l.is_server;
-            taken = l.taken;
-            holds = holds;
-            is_kept = l.is_kept;
-          })
-          | inr made ↦ inr (l.is_kept ∙ told l.progress p l.server s l.is_server is l.taken fits
-              (one_image old.version (image_of l.progress l.server) (image_of p s) l.rows holds made))
-        ]
+-- ---- Any end.
 
--- ---- Encoders.
+module _ {S P E V : Type 0} (g : Ghosts S) (image : P → E → List ℕ) (is_end : P → E → Type 0) (kept_of : P → E → V)
+    (law : ImagesTell image is_end kept_of) (k : Keeper S) (p : P) (e : E) (is : is_end p e) where
+  pub end_saved : Keeps g k (Some (image p e)) → (left : V) → Leaves g image is_end kept_of k left
+      → left ≡ kept_of p e
+  end_saved keeps left l =
+      l.is_kept ∙ law l.progress p l.end e l.is is
+      (one_image k.version (image l.progress l.end) (image p e) l.rows l.holds (keeps.every l.rows l.may))
 
-module _ (law : TellsWhatIsKept) {S : Type 0} (g : Ghosts S) (k : Keeper S) (e : EncoderState Store)
-    (placed : IsPlaced e.value) where
-  pub encoder_saved : Keeps g k (Some (encoder_image e)) → (left : serving.Kept Store) → LeavesEncoder g k left
-      → left ≡ serving.kept_of e
-  encoder_saved keeps left l =
-      l.is_kept ∙ law l.encoder e l.placed placed
-      (one_image k.version (encoder_image l.encoder) (encoder_image e) l.rows l.holds (keeps.every l.rows l.may))
-
-  pub encoder_either : (old : Keeper S) → k.version ≡ old.version
-      → ((rows : Trees) → MayLeave g k rows → MayLeave g old rows ⊎ Holds old.version (Some (encoder_image e)) rows)
-      → (left : serving.Kept Store) → LeavesEncoder g k left → LeavesEncoder g old left ⊎ (left ≡ serving.kept_of e)
-  encoder_either old same either left l =
-      let holds : Holds old.version (Some (encoder_image l.encoder)) l.rows =
-      subst (λ v. Holds v (Some (encoder_image l.encoder)) l.rows) same l.holds in
+  pub end_either : (old : Keeper S) → k.version ≡ old.version
+      → ((rows : Trees) → MayLeave g k rows → MayLeave g old rows ⊎ Holds old.version (Some (image p e)) rows)
+      → (left : V) → Leaves g image is_end kept_of k left
+      → Leaves g image is_end kept_of old left ⊎ (left ≡ kept_of p e)
+  end_either old same either left l =
+      let holds : Holds old.version (Some (image l.progress l.end)) l.rows =
+      subst (λ v. Holds v (Some (image l.progress l.end)) l.rows) same l.holds in
       elim (either l.rows l.may) [
         | inl before ↦ inl (record {
           rows = l.rows;
           may = before;
-          encoder = l.encoder;
-          placed = l.placed;
+          progress = l.progress;
+          end = l.end;
+          is = l.is;
           holds = holds;
           is_kept = l.is_kept;
         })
-        | inr made ↦ inr (l.is_kept ∙ law l.encoder e l.placed placed
-            (one_image old.version (encoder_image l.encoder) (encoder_image e) l.rows holds made))
+        | inr made ↦ inr (l.is_kept ∙ law l.progress p l.end e l.is is
+            (one_image old.version (image l.progress l.end) (image p e) l.rows holds made))
       ]

@@ -2,19 +2,18 @@
 use Rattle.std.specs.Prelude.{◌≡◌, ◌≢◌, ◌⊎◌, ◌&&◌, ◌==◌, nat_le, ℕ, List, Option, Some, None, is_some, Ok}
 use Rattle.std.specs.List.{list_any}
 use Rattle.std.specs.FinMap.{get}
-use Rattle.sqlite.specs.Tree.{Trees}
 use Rattle.sqlite.specs.Store.{Ghosts}
 use Rattle.rds_store.specs.Value.{Store}
 use Rattle.rds_store.specs.declared.fault.StoreFault.{StoreFault}
 use Rattle.rds_store.specs.Opening.{fault_of}
 use Rattle.uecp_encoder.specs.State.{EncoderState}
 use Rattle.uecp_encoder.specs.Keeping.{Kept, kept_of}
-use Rattle.sqlite_image.specs.Kept.{Holds}
-use Rattle.sqlite_image.specs.Keeper.{Keeper, IsClean, MayLeave, Keeps, HasEnded}
+use Rattle.sqlite_image.specs.Keeper.{Keeper}
 use Rattle.end_images.specs.Images.{encoder_image, encoder_kind, server_kind}
 use Rattle.end_images.specs.Reading.{IsFaultOf, EncoderRead}
 use Rattle.end_images.specs.declared.fault.ImageFault.{ImageFault}
 use Rattle.state_files.specs.Faults.{IsOfFile, image_fault}
+use Rattle.state_files.specs.Saving.{Leaves}
 use Rattle.state_files.specs.declared.fault.StateFault.{StateFault}
 use Rattle.state_files.specs.declared.fault.StateFault.TheVariants as state
 
@@ -32,24 +31,12 @@ TellsWhatIsKept =
     (d e : EncoderState Store) → IsPlaced d.value → IsPlaced e.value → encoder_image d ≡ encoder_image e
     → kept_of d ≡ kept_of e
 
-module _ {S : Type 0} (g : Ghosts S) where
-  -- a crash at this moment may leave rows that hold the image of an encoder of which this is kept
-  pub record LeavesEncoder (k : Keeper S) (left : Kept Store) : Type 0 where
-    pub rows : Trees
-    pub may : MayLeave g k rows
-    pub encoder : EncoderState Store
-    pub placed : IsPlaced encoder.value
-    pub holds : Holds k.version (Some (encoder_image encoder)) rows
-    pub is_kept : left ≡ kept_of encoder
-
-  -- a save of what is kept of an encoder succeeded: whatever a crash leaves holds the image of one
-  abbrev pub SavesEncoder : Keeper S → Kept Store → Keeper S → Type 0
-  SavesEncoder k saved after =
-      IsClean g after → (e : EncoderState Store) × (saved ≡ kept_of e) × Keeps g after (Some (encoder_image e))
-
-  -- a save failed: it did nothing for want of memory, or no further save will do anything
-  abbrev pub FailsTo : {V : Type 0} → Keeper S → V → Keeper S → Type 0
-  FailsTo k saved after = HasEnded g after ⊎ (after ≡ k)
+-- a crash at this moment may leave rows that hold the image of an encoder of which this is kept
+abbrev pub LeavesEncoder : {S : Type 0} → Ghosts S → Keeper S → Kept Store → Type 0
+LeavesEncoder g =
+    Leaves g (λ (progress : Unit {0}) (e : EncoderState Store). encoder_image e)
+    (λ (progress : Unit {0}) (e : EncoderState Store). IsPlaced e.value)
+    (λ (progress : Unit {0}) (e : EncoderState Store). kept_of e)
 
 -- ---- What is asked for.
 

@@ -1,5 +1,6 @@
 -- The definitions that the contracts of state files cite.
 pub mod Faults
+pub mod Saving
 pub mod Encoders
 pub mod Servers
 pub mod Reading

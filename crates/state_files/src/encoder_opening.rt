@@ -15,9 +15,9 @@ ghost use Rattle.state_files.specs.Encoders.{LeavesEncoder, IsOther, IsOtherEnco
 ghost use Rattle.state_files.specs.Encoders.{IsUnbegun, IsRefused};
 ghost use Rattle.state_files.specs.Opening.{GivesEncoder};
 
-use crate::encoder_file::{EncoderFile, settled};
+use crate::encoder_file::EncoderFile;
 use crate::fault::{StateFault, image_fault, keep_fault};
-use crate::saved::{Saved, let_go};
+use crate::saved::{Saved, let_go, settled};
 use arrayvec::ArrayVec;
 use end_images::read_encoder;
 use rds_store::{RdsStore, StoreFault};
@@ -105,7 +105,7 @@ pub fn encoder_over<S: Alter + Drop>(
     match encoder_of(opened, alloc, address, sets, services) {
         Err(refused) => Err(refused),
         Ok((encoder, file)) => {
-            settled(&encoder, &file);
+            settled(&encoder, (), &file);
             Ok((encoder, file))
         }
     }
@@ -183,7 +183,7 @@ fn first_saved<S: Alter + Drop>(
     ensures either { IfErr result (λ e. IsClean S.Store e.1 → (rows : Trees) → MayLeave S.Store e.1 rows
         → MayLeave S.Store file rows ⊎ Holds file.version (Some (encoder_image encoder)) rows) }
 {
-    match file.put(&encoder) {
+    match file.put(&encoder, ()) {
         Ok(()) => Ok((encoder, file)),
         Err(fault) => Err((keep_fault(fault), file.into_kept())),
     }

@@ -1,7 +1,7 @@
 //! The state of each end of the line in a file: what `uecp encoder --state FILE` and `uecp server --state FILE` keep
 //! (profile). A file keeps one image, and each save puts another in its place.
 //!
-//! - [`Saved`]: a keeper, as [`EncoderFile`] for `uecp_encoder` and as [`ServerFile`] for `uecp_net`.
+//! - [`Saved`]: keeps an end in a file, over its [`Image`]: as [`EncoderFile`] an encoder, as [`ServerFile`] a server.
 //! - [`open_encoder`], [`open_server`]: an end that goes on from its file, or a new one in a new file.
 //! - [`read_state`]: what a file has, for looking at it.
 //! - [`StateFault`]: why there is no such end; nothing is overwritten by a refusal.
@@ -10,6 +10,7 @@
 mod encoder_file;
 mod encoder_opening;
 mod fault;
+mod image;
 pub mod laws;
 mod reading;
 mod saved;
@@ -19,6 +20,7 @@ mod server_opening;
 pub use encoder_file::{EncoderFile, READ_MAX, TOGETHER_MAX};
 pub use encoder_opening::{encoder_over, open_encoder};
 pub use fault::StateFault;
+pub use image::Image;
 pub use reading::{Found, read_state};
 pub use saved::Saved;
 pub use server_file::ServerFile;

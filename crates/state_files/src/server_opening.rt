@@ -15,8 +15,8 @@ ghost use Rattle.state_files.specs.Opening.{GivesServer};
 
 use crate::encoder_opening::VERSION;
 use crate::fault::{StateFault, image_fault, keep_fault};
-use crate::saved::{Saved, let_go};
-use crate::server_file::{ServerFile, settled};
+use crate::saved::{Saved, let_go, settled};
+use crate::server_file::ServerFile;
 use end_images::{KeptServer, read_server};
 use sqlite::{Alter, FileStore};
 use sqlite_disk::Disk;

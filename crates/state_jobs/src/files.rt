@@ -10,10 +10,10 @@ use state_files::{
     read_state,
 };
 use std::marker::PhantomData;
-use uecp_encoder::{Encoder, KeepEncoder, SaveFailed};
+use uecp_encoder::{BatchLimits, Encoder, Keep, SaveFailed, SavedEncoder};
 use uecp_frame::Address;
 use uecp_link::Server;
-use uecp_net::{KeepServer, Progress};
+use uecp_net::{Progress, SavedServer};
 
 /// Keeps the state of an encoder in a file.
 #[derive(Drop)]
@@ -21,33 +21,35 @@ pub struct StoredEncoder<D: Disk> {
     file: EncoderFile<FileStore<D>>,
 }
 
-impl<D: Disk> KeepEncoder<RdsStore> for StoredEncoder<D> {
+impl<D: Disk> BatchLimits for StoredEncoder<D> {
     const READ_MAX: usize = READ_MAX;
 
     const TOGETHER_MAX: usize = TOGETHER_MAX;
 
-    ghost READ_MAX = { ⟦<EncoderFile<FileStore<D>> as KeepEncoder<RdsStore>>⟧.READ_MAX };
+    ghost READ_MAX = { ⟦<EncoderFile<FileStore<D>> as BatchLimits>⟧.READ_MAX };
 
-    ghost TOGETHER_MAX = { ⟦<EncoderFile<FileStore<D>> as KeepEncoder<RdsStore>>⟧.TOGETHER_MAX };
+    ghost TOGETHER_MAX = { ⟦<EncoderFile<FileStore<D>> as BatchLimits>⟧.TOGETHER_MAX };
 
-    ghost reads_some = { ⟦<EncoderFile<FileStore<D>> as KeepEncoder<RdsStore>>⟧.reads_some };
+    ghost reads_some = { ⟦<EncoderFile<FileStore<D>> as BatchLimits>⟧.reads_some };
 
-    ghost reads_few = { ⟦<EncoderFile<FileStore<D>> as KeepEncoder<RdsStore>>⟧.reads_few };
+    ghost reads_few = { ⟦<EncoderFile<FileStore<D>> as BatchLimits>⟧.reads_few };
 
-    ghost answers_some = { ⟦<EncoderFile<FileStore<D>> as KeepEncoder<RdsStore>>⟧.answers_some };
+    ghost answers_some = { ⟦<EncoderFile<FileStore<D>> as BatchLimits>⟧.answers_some };
 
-    ghost answers_few = { ⟦<EncoderFile<FileStore<D>> as KeepEncoder<RdsStore>>⟧.answers_few };
+    ghost answers_few = { ⟦<EncoderFile<FileStore<D>> as BatchLimits>⟧.answers_few };
+}
 
-    ghost leaves = { λ m. ⟦<EncoderFile<FileStore<D>> as KeepEncoder<RdsStore>>⟧.leaves m.file };
+impl<D: Disk> Keep<SavedEncoder<RdsStore>> for StoredEncoder<D> {
+    ghost leaves = { λ m. ⟦<EncoderFile<FileStore<D>> as Keep<SavedEncoder<RdsStore>>>⟧.leaves m.file };
 
-    ghost is_clean = { λ m. ⟦<EncoderFile<FileStore<D>> as KeepEncoder<RdsStore>>⟧.is_clean m.file };
+    ghost is_clean = { λ m. ⟦<EncoderFile<FileStore<D>> as Keep<SavedEncoder<RdsStore>>>⟧.is_clean m.file };
 
-    ghost saves = { λ m left n. ⟦<EncoderFile<FileStore<D>> as KeepEncoder<RdsStore>>⟧.saves m.file left n.file };
+    ghost saves = { λ m v n. ⟦<EncoderFile<FileStore<D>> as Keep<SavedEncoder<RdsStore>>>⟧.saves m.file v n.file };
 
-    ghost fails = { λ m left n. ⟦<EncoderFile<FileStore<D>> as KeepEncoder<RdsStore>>⟧.fails m.file left n.file };
+    ghost fails = { λ m v n. ⟦<EncoderFile<FileStore<D>> as Keep<SavedEncoder<RdsStore>>>⟧.fails m.file v n.file };
 
-    fn save(&mut self, encoder: &Encoder<RdsStore>) -> Result<(), SaveFailed> {
-        self.file.save(encoder)
+    fn save(&mut self, encoder: &Encoder<RdsStore>, _progress: ()) -> Result<(), SaveFailed> {
+        self.file.save(encoder, ())
     }
 }
 
@@ -57,14 +59,14 @@ pub struct StoredServer<D: Disk> {
     file: ServerFile<FileStore<D>>,
 }
 
-impl<D: Disk> KeepServer for StoredServer<D> {
-    ghost leaves = { λ m. ⟦<ServerFile<FileStore<D>> as KeepServer>⟧.leaves m.file };
+impl<D: Disk> Keep<SavedServer> for StoredServer<D> {
+    ghost leaves = { λ m. ⟦<ServerFile<FileStore<D>> as Keep<SavedServer>>⟧.leaves m.file };
 
-    ghost is_clean = { λ m. ⟦<ServerFile<FileStore<D>> as KeepServer>⟧.is_clean m.file };
+    ghost is_clean = { λ m. ⟦<ServerFile<FileStore<D>> as Keep<SavedServer>>⟧.is_clean m.file };
 
-    ghost saves = { λ m left n. ⟦<ServerFile<FileStore<D>> as KeepServer>⟧.saves m.file left n.file };
+    ghost saves = { λ m v n. ⟦<ServerFile<FileStore<D>> as Keep<SavedServer>>⟧.saves m.file v n.file };
 
-    ghost fails = { λ m left n. ⟦<ServerFile<FileStore<D>> as KeepServer>⟧.fails m.file left n.file };
+    ghost fails = { λ m v n. ⟦<ServerFile<FileStore<D>> as Keep<SavedServer>>⟧.fails m.file v n.file };
 
     fn save(&mut self, server: &Server, progress: Progress) -> Result<(), SaveFailed> {
         self.file.save(server, progress)

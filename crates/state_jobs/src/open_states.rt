@@ -13,18 +13,18 @@ ghost use Rattle.state_files.specs.declared.reading.Found.{Found};
 
 use rds_store::RdsStore;
 use state_files::{Found, StateFault};
-use uecp_encoder::{Encoder, KeepEncoder};
+use uecp_encoder::{BatchLimits, Encoder, Keep, SavedEncoder};
 use uecp_frame::Address;
 use uecp_link::Server;
-use uecp_net::{KeepServer, Progress};
+use uecp_net::{Progress, SavedServer};
 
 /// Opens the states of ends by their paths. What is refused is not overwritten.
 pub trait OpenStates {
     /// Keeps the state of an encoder.
-    type EncoderKeeper: KeepEncoder<RdsStore> + Drop;
+    type EncoderKeeper: Keep<SavedEncoder<RdsStore>> + BatchLimits + Drop;
 
     /// Keeps the state of a server.
-    type ServerKeeper: KeepServer + Drop;
+    type ServerKeeper: Keep<SavedServer> + Drop;
 
     // Whether opening a path may give this encoder and its keeper.
     ghost gives_encoder: { Self → List ℕ → EncoderState Store → Self.EncoderKeeper → Type 0 };

@@ -56,7 +56,7 @@ bytes_sent Unnumbered = []
 bytes_sent NotNext = []
 bytes_sent (Dropped fault) = []
 
--- to what these bytes find
+-- The responses of an encoder to the frames that these bytes hold, behind what it has of one that is not finished.
 abbrev pub responses_to : {V : Type 0} → Step V → EncoderState V → List ℕ → List Response
 responses_to step e bytes = responses step e (found_beyond e.part bytes)
 

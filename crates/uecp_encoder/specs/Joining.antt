@@ -59,7 +59,7 @@ value_without v [] = v
 value_without v (Finds finding ∷ hs) = value_without v hs
 value_without v (Becomes value counts part ∷ hs) = value_without value hs
 
--- so many counters down from this one
+-- So many sequence counters downwards from this one, as the kept replies have them behind a pass: the newest first.
 abbrev pub falling : (first many : ℕ) → List ℕ
 falling first zero = []
 falling first (suc many) = first ∷ falling (first - 1) many
@@ -83,7 +83,7 @@ Joins {V} step =
     Contains (counters_replied step e pass) 0x81 → Contains (counters_replied step e pass) 0xFF →
     HasJoined step e pass
 
--- so many counters up from this one
+-- So many sequence counters upwards from this one, as the messages of a pass are numbered.
 abbrev pub rising : (first many : ℕ) → List ℕ
 rising first zero = []
 rising first (suc many) = first ∷ rising (first + 1) many

@@ -21,7 +21,7 @@ pub data Happening (V : Type 0) : Type 0 where
   Finds : (finding : Finding) → Happening V
   Becomes : (value : V) (counts : Counts) (part : OpenPart) → Happening V
 
--- the encoder after it
+-- The encoder after one of these: it took the finding, or its target, counts and open part became these.
 abbrev pub after_happening : {V : Type 0} → Step V → EncoderState V → Happening V → EncoderState V
 after_happening step e (Finds finding) = after_finding step e finding
 after_happening step e (Becomes value counts part) = record e { value = value; counts = counts; part = part }

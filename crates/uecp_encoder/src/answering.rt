@@ -8,7 +8,7 @@ ghost use Rattle.uecp_encoder.specs.Batches.{written_at, stopped_after, failures
 
 use crate::batch::{Batch, take_batch};
 use crate::encoder::Encoder;
-use crate::keep::{KeepEncoder, SaveFailed};
+use crate::keep::{BatchLimits, Keep, SaveFailed, SavedEncoder};
 use crate::listener::{Answered, Listener};
 use crate::meter::Meter;
 use crate::target::Target;
@@ -32,7 +32,7 @@ pub(crate) enum Stop {
 
 /// Takes one piece to its end, batch by batch: saves what is to be saved, writes the replies that are due, and tells of
 /// each thing that is found.
-pub(crate) fn take_piece<T: Target, K: KeepEncoder<T>, W: Write, L: Listener>(
+pub(crate) fn take_piece<T: Target, K: Keep<SavedEncoder<T>> + BatchLimits, W: Write, L: Listener>(
     encoder: &mut Encoder<T>,
     keeper: &mut K,
     writer: &mut Meter<W>,
@@ -105,7 +105,7 @@ fn after(bytes: u64, stop: Stop) -> Stop
 
 /// Answers what is in the batch: saves the encoder where a reply is fresh, writes the replies, and then tells of what
 /// was found.
-fn answer_batch<T: Target, K: KeepEncoder<T>, W: Write, L: Listener>(
+fn answer_batch<T: Target, K: Keep<SavedEncoder<T>>, W: Write, L: Listener>(
     encoder: &Encoder<T>,
     keeper: &mut K,
     writer: &mut Meter<W>,
@@ -139,7 +139,7 @@ fn answer_batch<T: Target, K: KeepEncoder<T>, W: Write, L: Listener>(
 }
 
 /// Saves the encoder where that is due.
-fn save_if<T: Target, K: KeepEncoder<T>>(
+fn save_if<T: Target, K: Keep<SavedEncoder<T>>>(
     due: bool,
     encoder: &Encoder<T>,
     keeper: &mut K,
@@ -148,7 +148,11 @@ fn save_if<T: Target, K: KeepEncoder<T>>(
     ensures ok { OnOk result (IsKeptIf K.leaves K.is_clean K.saves encoder.now due keeper.old keeper.new) }
     ensures err { IfErr result (λ _. IsNotKept K.leaves K.is_clean K.fails encoder.now due keeper.old keeper.new) }
 {
-    if due { keeper.save(encoder) } else { Ok(()) }
+    if due {
+        keeper.save(encoder, ())
+    } else {
+        Ok(())
+    }
 }
 
 /// Tells of what is in the batch, where this many bytes of its replies were written.

@@ -11,8 +11,9 @@
 //! - [`Counts`]: what came, by kind.
 //! - [`serve`]: the encoder over a reader and a writer, each in a [`Meter`]; [`serve_with`] does it with its state
 //!   kept, so that a crash at any moment loses nothing and doubles nothing, and with each thing that is found told.
-//! - [`KeepEncoder`]: saves the state of an encoder; [`NotSaved`] keeps none. [`take_kept`]: the group that goes out
-//!   next, once that is kept.
+//! - [`Keep`]: saves the state of an end, as its [`SavedState`] says it, of an encoder a [`SavedEncoder`]; [`NotSaved`]
+//!   keeps none. [`BatchLimits`]: how much is taken together, before it is saved. [`take_kept`]: the group that goes
+//!   out next, once that is kept.
 //! - [`Listener`]: is told of an [`Event`], with what was [`Answered`]; [`Unheard`] listens to nothing.
 //!
 //! The laws that users rely on: [`laws::applied_in_order`], messages are applied in the order of their counters, from
@@ -42,7 +43,7 @@ mod target;
 pub use answer::{Answer, ReplyBytes, What};
 pub use counts::Counts;
 pub use encoder::{Encoder, EncoderFault};
-pub use keep::{KeepEncoder, NotSaved, SaveFailed};
+pub use keep::{BatchLimits, Keep, NotSaved, SaveFailed, SavedEncoder, SavedState};
 pub use listener::{Answered, Event, Listener, Unheard};
 pub use meter::{Failed, Meter};
 pub use outcome::{Heard, Outcome};

@@ -12,7 +12,7 @@ ghost use Rattle.uecp_encoder.specs.Batches.{written_at, fault_after};
 use crate::answering::{Sent, Stop, both, take_piece};
 use crate::batch::Batch;
 use crate::encoder::Encoder;
-use crate::keep::{KeepEncoder, NotSaved};
+use crate::keep::{BatchLimits, Keep, NotSaved, SavedEncoder};
 use crate::listener::{Listener, Unheard};
 use crate::meter::{Failed, Meter};
 use crate::target::Target;
@@ -102,7 +102,13 @@ pub fn serve<T: Target, R: Read, W: Write>(
 ///     &mut encoder, &mut keeper, &mut Meter::new(input), &mut Meter::new(output), &mut listener, 16,
 /// )?;
 /// ```
-pub fn serve_with<T: Target, K: KeepEncoder<T>, R: Read, W: Write, L: Listener>(
+pub fn serve_with<
+    T: Target,
+    K: Keep<SavedEncoder<T>> + BatchLimits,
+    R: Read,
+    W: Write,
+    L: Listener,
+>(
     encoder: &mut Encoder<T>,
     keeper: &mut K,
     reader: &mut Meter<R>,

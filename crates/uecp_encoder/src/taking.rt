@@ -3,7 +3,7 @@ ghost use Rattle.std.specs.Prelude.{◌≡◌, ◌⊎◌, OnOk, IfOk, IfErr};
 ghost use Rattle.uecp_encoder.specs.Keeping.{Kept, kept_of, Settled};
 
 use crate::encoder::Encoder;
-use crate::keep::{KeepEncoder, SaveFailed};
+use crate::keep::{Keep, SaveFailed, SavedEncoder};
 use crate::target::Target;
 use rds_store::Group;
 
@@ -19,7 +19,7 @@ use rds_store::Group;
 /// ```
 /// let group = take_kept(&mut encoder, &mut keeper)?; // of a store: the first group that waits
 /// ```
-pub fn take_kept<T: Target, K: KeepEncoder<T>>(
+pub fn take_kept<T: Target, K: Keep<SavedEncoder<T>>>(
     encoder: &mut Encoder<T>,
     keeper: &mut K,
 ) -> Result<Option<Group>, SaveFailed>
@@ -33,6 +33,6 @@ pub fn take_kept<T: Target, K: KeepEncoder<T>>(
     ensures save_failed { IfErr result (λ _. K.fails keeper.old (kept_of encoder.new) keeper.new) }
 {
     let group = encoder.take_group();
-    keeper.save(encoder)?;
+    keeper.save(encoder, ())?;
     Ok(group)
 }

@@ -30,6 +30,6 @@ going_on address kept = record {
 abbrev pub IsKept : (leaves : KeptServer → Type 0) → Progress → ServerState → Type 0
 IsKept leaves progress s = (left : KeptServer) → leaves left → left ≡ kept_of progress s
 
--- so many messages more were taken
+-- The progress of a server that took so many messages more from its user.
 abbrev pub taking : Progress → ℕ → Progress
 taking progress messages = record progress { taken = progress.taken + messages }

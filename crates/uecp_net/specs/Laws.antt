@@ -130,7 +130,8 @@ pub record Sends {C I O K : Type 0} (opens : C → Option (I × O) → C → Typ
       (submitted_all old batch) new keeper keeper' ended
   pub outlives : OutlivesBatch before (taking before (length batch)) old (submitted_all old batch) new left
 
--- One call of `settle_kept`, likewise.
+-- One call of `settle_kept` by a server of which this was kept, and this is left of it, by a crash or at its end: no
+-- message is taken, and those that waited are sent.
 pub record SettlesOnce {C I O K : Type 0} (opens : C → Option (I × O) → C → Type 0) (closes : C → I → O → C → Type 0)
     (remaining : I → Option (List ℕ)) (contents : O → Option (List ℕ)) (saves fails : K → KeptServer → K → Type 0)
     (kept left : KeptServer) : Type 0 where

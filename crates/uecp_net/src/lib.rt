@@ -10,9 +10,10 @@
 //!   it finds told.
 //! - [`Sender`]: a server with the connection that it has, which sends its messages in batches, within its [`Limits`];
 //!   [`Settled`] is how a batch went, and [`Outstanding`] why its messages are not acknowledged.
-//! - [`KeepServer`]: saves the state of a server and its [`Progress`]. A crash at any moment loses no message and tells
-//!   no acknowledgement that it forgets: the state is saved before a message's frame is written the first time, and
-//!   after its acknowledgement before that is told; where a save fails, nothing is written or told from there on.
+//! - [`SavedServer`]: what a keeper saves of a server, with its [`Progress`]. A crash at any moment loses no message
+//!   and tells no acknowledgement that it forgets: the state is saved before a message's frame is written the first
+//!   time, and after its acknowledgement before that is told; where a save fails, nothing is written or told from there
+//!   on.
 //! - [`send_kept`]: a batch of messages with the state saved; [`settle_kept`]: those that are outstanding, as after a
 //!   start; [`join_kept`]: the encoder is joined; [`KeptOutstanding`] is why messages are not acknowledged, or may not
 //!   be.
@@ -31,7 +32,7 @@ mod tcp;
 
 pub use connect::{Connect, Connections};
 pub use opener::{Lent, Loan, Opening};
-pub use saved::{KeepServer, KeptOutstanding, Progress, join_kept, send_kept, settle_kept};
+pub use saved::{KeptOutstanding, Progress, SavedServer, join_kept, send_kept, settle_kept};
 pub use sender::{Limits, Outstanding, Sender, Settled};
 pub use sessions::{serve_connection, serve_connection_with};
 pub use tcp::{DialFault, Dialing, Listening, Local};

@@ -6,8 +6,8 @@ ghost use Rattle.uecp_net.specs.Sessions.{Serving, ServingTold};
 
 use crate::connect::Connections;
 use uecp_encoder::{
-    Encoder, KeepEncoder, KeptFault, Listener, Meter, NotSaved, ServeFault, Served, Target,
-    Unheard, serve_with,
+    BatchLimits, Encoder, Keep, KeptFault, Listener, Meter, NotSaved, SavedEncoder, ServeFault,
+    Served, Target, Unheard, serve_with,
 };
 
 /// Serves the next connection and says how it ended, or answers None where there is none to be had. The encoder forgets
@@ -47,7 +47,12 @@ pub fn serve_connection<T: Target, C: Connections>(
 ///     }
 /// }
 /// ```
-pub fn serve_connection_with<T: Target, K: KeepEncoder<T>, L: Listener, C: Connections>(
+pub fn serve_connection_with<
+    T: Target,
+    K: Keep<SavedEncoder<T>> + BatchLimits,
+    L: Listener,
+    C: Connections,
+>(
     encoder: &mut Encoder<T>,
     keeper: &mut K,
     listener: &mut L,

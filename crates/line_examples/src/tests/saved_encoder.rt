@@ -6,7 +6,8 @@ use rds_store::RdsStore;
 use std::process::Abort;
 use std::test::Fail;
 use uecp_encoder::{
-    Encoder, KeepEncoder, KeptFault, Meter, SaveFailed, Served, Unheard, serve_with, take_kept,
+    BatchLimits, Encoder, Keep, KeptFault, Meter, SaveFailed, SavedEncoder, Served, Unheard,
+    serve_with, take_kept,
 };
 use uecp_net::{Connections, serve_connection_with};
 
@@ -43,7 +44,7 @@ impl FaultyKeeper {
     }
 }
 
-impl KeepEncoder<RdsStore> for FaultyKeeper {
+impl BatchLimits for FaultyKeeper {
     ghost use Rattle.std.proofs.Common.{lit≤};
 
     const READ_MAX: usize = 512;
@@ -61,7 +62,9 @@ impl KeepEncoder<RdsStore> for FaultyKeeper {
     ghost answers_some = { lit≤ tt };
 
     ghost answers_few = { lit≤ tt };
+}
 
+impl Keep<SavedEncoder<RdsStore>> for FaultyKeeper {
     ghost leaves = { λ _ _. Unit {0} };
 
     ghost is_clean = { λ _. ⊥ };
@@ -70,7 +73,7 @@ impl KeepEncoder<RdsStore> for FaultyKeeper {
 
     ghost fails = { λ _ _ _. Unit {0} };
 
-    fn save(&mut self, encoder: &Encoder<RdsStore>) -> Result<(), SaveFailed> {
+    fn save(&mut self, encoder: &Encoder<RdsStore>, _progress: ()) -> Result<(), SaveFailed> {
         self.saves = self.saves.saturating_add(1);
         self.applied = encoder.counts().fresh;
         if self.failing == self.saves {
@@ -86,7 +89,7 @@ struct BatchKeeper {
     keeper: FaultyKeeper,
 }
 
-impl KeepEncoder<RdsStore> for BatchKeeper {
+impl BatchLimits for BatchKeeper {
     ghost use Rattle.std.proofs.Common.{lit≤};
 
     const READ_MAX: usize = 4192;
@@ -104,7 +107,9 @@ impl KeepEncoder<RdsStore> for BatchKeeper {
     ghost answers_some = { lit≤ tt };
 
     ghost answers_few = { lit≤ tt };
+}
 
+impl Keep<SavedEncoder<RdsStore>> for BatchKeeper {
     ghost leaves = { λ _ _. Unit {0} };
 
     ghost is_clean = { λ _. ⊥ };
@@ -113,8 +118,8 @@ impl KeepEncoder<RdsStore> for BatchKeeper {
 
     ghost fails = { λ _ _ _. Unit {0} };
 
-    fn save(&mut self, encoder: &Encoder<RdsStore>) -> Result<(), SaveFailed> {
-        self.keeper.save(encoder)
+    fn save(&mut self, encoder: &Encoder<RdsStore>, _progress: ()) -> Result<(), SaveFailed> {
+        self.keeper.save(encoder, ())
     }
 }
 
@@ -222,7 +227,7 @@ fn is_saved_before_it_goes_on(rt: &impl Abort, encoder: &mut Encoder<RdsStore>) 
     );
     same!(*rt; served, Err(KeptFault::StateFailed));
     same!(*rt; output.into_inner().taken(), &ALL_APPLIED[..22]);
-    same!(*rt; keeper.save(encoder), Ok(()));
+    same!(*rt; keeper.save(encoder, ()), Ok(()));
     let mut input = Meter::new(FaultyReader::new(&TWICE_AND_NEXT[16..]));
     let mut output = Meter::new(FaultyWriter::new());
     let served = serve_with(

@@ -6,11 +6,11 @@ use faulty_io::{APPLIED_1, FaultyReader, FaultyWriter, own_address, reply_made};
 use std::process::Abort;
 use std::test::Fail;
 use uecp_elements::Code;
-use uecp_encoder::SaveFailed;
+use uecp_encoder::{Keep, SaveFailed};
 use uecp_frame::Message;
 use uecp_link::Server;
 use uecp_net::{
-    Connections, KeepServer, KeptOutstanding, Limits, Outstanding, Progress, Sender, join_kept,
+    Connections, KeptOutstanding, Limits, Outstanding, Progress, SavedServer, Sender, join_kept,
     send_kept, settle_kept,
 };
 
@@ -51,7 +51,7 @@ impl<'a> FaultyKeeper<'a> {
     }
 }
 
-impl KeepServer for FaultyKeeper<'_> {
+impl Keep<SavedServer> for FaultyKeeper<'_> {
     ghost leaves = { λ _ _. Unit {0} };
 
     ghost is_clean = { λ _. ⊥ };
@@ -123,7 +123,7 @@ const TWO: Progress = Progress {
 };
 
 /// A new server sends two empty messages, and it ends so: None where both are acknowledged.
-fn sends_two<K: KeepServer, C: Connections>(
+fn sends_two<K: Keep<SavedServer>, C: Connections>(
     rt: &impl Abort,
     keeper: &mut K,
     connect: &mut C,
@@ -182,7 +182,11 @@ fn nothing_is_told_where_the_second_save_fails(rt: HostRuntime) {
 }
 
 /// A new server sends two empty messages, which are outstanding, and then acknowledged on the next connection.
-fn sends_again<K: KeepServer, C: Connections>(rt: &impl Abort, keeper: &mut K, connect: &mut C) {
+fn sends_again<K: Keep<SavedServer>, C: Connections>(
+    rt: &impl Abort,
+    keeper: &mut K,
+    connect: &mut C,
+) {
     let mut sender = Sender::new(connect, Server::new(own_address()), ONCE);
     let mut progress = NEW;
     let batch = [Message::new(), Message::new()];
@@ -210,7 +214,7 @@ fn what_is_outstanding_is_sent_again_and_saved(rt: HostRuntime) {
 }
 
 /// A new server joins, and it ends so, with this progress.
-fn joins<K: KeepServer, C: Connections>(
+fn joins<K: Keep<SavedServer>, C: Connections>(
     keeper: &mut K,
     connect: &mut C,
 ) -> (Result<(), KeptOutstanding>, Progress) {

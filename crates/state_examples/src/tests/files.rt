@@ -48,7 +48,7 @@ fn other_encoder<S: Alter + Drop>(
     requires { IsTrue (is_exact address) }
 {
     let mut image = Vec::new(alloc);
-    match (file.put(encoder), put_encoder(encoder, &mut image)) {
+    match (file.put(encoder, ()), put_encoder(encoder, &mut image)) {
         (Ok(()), Ok(())) => {
             let opened = Opened {
                 kept: file.into_kept(),

@@ -5,9 +5,9 @@ ghost use Rattle.uecp_net.specs.Keeping.{KeptServer, kept_of, taking, IsKept};
 ghost use Rattle.uecp_net.specs.SavedSending.{SendsKept, SettlesKept, StaysKept, Outlives, OutlivesBatch, told_as};
 
 use crate::connect::Connections;
-use crate::saved::keep::{KeepServer, Progress};
+use crate::saved::keep::{Progress, SavedServer};
 use crate::sender::{Outstanding, Sender, Settled};
-use uecp_encoder::SaveFailed;
+use uecp_encoder::{Keep, SaveFailed};
 use uecp_frame::Message;
 
 /// Why messages are outstanding, or may not be kept.
@@ -30,7 +30,7 @@ pub enum KeptOutstanding {
 /// ```
 /// let settled = send_kept(&mut sender, &mut keeper, &mut progress, &messages[..8])?;
 /// ```
-pub fn send_kept<K: KeepServer, C: Connections>(
+pub fn send_kept<K: Keep<SavedServer>, C: Connections>(
     sender: &mut Sender<'_, C>,
     keeper: &mut K,
     progress: &mut Progress,
@@ -63,7 +63,7 @@ pub fn send_kept<K: KeepServer, C: Connections>(
 }
 
 /// Saves a server with a batch submitted, and then sends what waits, and says how that went once that is kept.
-fn send_submitted<K: KeepServer, C: Connections>(
+fn send_submitted<K: Keep<SavedServer>, C: Connections>(
     sender: &mut Sender<'_, C>,
     keeper: &mut K,
     progress: Progress,
@@ -98,7 +98,7 @@ fn send_submitted<K: KeepServer, C: Connections>(
 ///     let settled = settle_kept(&mut sender, &mut keeper, progress)?;
 /// }
 /// ```
-pub fn settle_kept<K: KeepServer, C: Connections>(
+pub fn settle_kept<K: Keep<SavedServer>, C: Connections>(
     sender: &mut Sender<'_, C>,
     keeper: &mut K,
     progress: Progress,

@@ -5,9 +5,9 @@ ghost use Rattle.uecp_net.specs.SavedJoining.{JoinsKept, joined_as, OutlivesPass
 
 use crate::connect::Connections;
 use crate::saved::batch::KeptOutstanding;
-use crate::saved::keep::{KeepServer, Progress};
+use crate::saved::keep::{Progress, SavedServer};
 use crate::sender::Sender;
-use uecp_encoder::SaveFailed;
+use uecp_encoder::{Keep, SaveFailed};
 
 /// Joins the encoder as [`join`](Sender::join) does, and says so once it is kept that it is joined. Where no pass was
 /// complete nothing is saved: what is kept says still that the encoder is not joined, as it does all the time that a
@@ -20,7 +20,7 @@ use uecp_encoder::SaveFailed;
 ///     join_kept(&mut sender, &mut keeper, &mut progress)?;
 /// }
 /// ```
-pub fn join_kept<K: KeepServer, C: Connections>(
+pub fn join_kept<K: Keep<SavedServer>, C: Connections>(
     sender: &mut Sender<'_, C>,
     keeper: &mut K,
     progress: &mut Progress,

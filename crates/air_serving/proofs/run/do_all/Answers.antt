@@ -5,34 +5,37 @@ use Rattle.air_serving.proofs.run.do_all.Goals as goal
 
 pub loop-moment-preserved : goal.loop-moment-preserved
 loop-moment-preserved g c =
-    let k = g.K.KeepEncoder in
+    let k = g.K.Keep in
+    let b = g.K.BatchLimits in
     let m = g.M.Moments in
     let some : 0 < c.loop-moment.left = search rules in
-    one_more k.TOGETHER_MAX k.READ_MAX k.leaves k.is_clean k.saves k.fails m.waits m.closes m.sends
+    one_more b.TOGETHER_MAX b.READ_MAX k.leaves k.is_clean k.saves k.fails m.waits m.closes m.sends
     g.M.Input.Read.remaining g.M.Output.Write.contents c.args.turns _ c.loop-moment._moment _ c.loop-moment.invariant
     some _ c.in_ok-do_next.ensures.next
 
 pub returns-then-left-eq0 : goal.returns-then-left-eq0
 returns-then-left-eq0 g c =
-    let k = g.K.KeepEncoder in
+    let k = g.K.Keep in
+    let b = g.K.BatchLimits in
     let m = g.M.Moments in
     let none : c.loop-moment.left ≡ 0 = search rules in
     record {
-      all = done k.TOGETHER_MAX k.READ_MAX k.leaves k.is_clean k.saves k.fails m.waits m.closes m.sends
+      all = done b.TOGETHER_MAX b.READ_MAX k.leaves k.is_clean k.saves k.fails m.waits m.closes m.sends
           g.M.Input.Read.remaining g.M.Output.Write.contents c.args.turns _ c.loop-moment._moment _
           c.loop-moment.invariant none;
     }
 
 pub returns-in_err-do_next : goal.returns-in_err-do_next
 returns-in_err-do_next g c =
-    let k = g.K.KeepEncoder in
+    let k = g.K.Keep in
+    let b = g.K.BatchLimits in
     let m = g.M.Moments in
     let stop = c.in_err-do_next.field-0.0 in
     let now = c.do_next.new in
     let some : 0 < c.loop-moment.left = search rules in
     let same : c.from_residual.result ≡ Err stop = search rules in
     record {
-      all = subst (λ end. DoesAll k.TOGETHER_MAX k.READ_MAX k.leaves k.is_clean k.saves k.fails m.waits m.closes m.sends
+      all = subst (λ end. DoesAll b.TOGETHER_MAX b.READ_MAX k.leaves k.is_clean k.saves k.fails m.waits m.closes m.sends
           g.M.Input.Read.remaining g.M.Output.Write.contents c.args.turns (record {
             encoder = c.args.encoder.now;
             keeper = c.args.keeper.now;
@@ -50,17 +53,18 @@ returns-in_err-do_next g c =
             line = now.line;
             left = now.left;
           }) end) (sym same)
-          (stops k.TOGETHER_MAX k.READ_MAX k.leaves k.is_clean k.saves k.fails m.waits m.closes m.sends
+          (stops b.TOGETHER_MAX b.READ_MAX k.leaves k.is_clean k.saves k.fails m.waits m.closes m.sends
           g.M.Input.Read.remaining g.M.Output.Write.contents c.args.turns _ c.loop-moment._moment _
           c.loop-moment.invariant some _ stop c.in_err-do_next.ensures.next);
     }
 
 pub returns : goal.returns
 returns g c =
-    let k = g.K.KeepEncoder in
+    let k = g.K.Keep in
+    let b = g.K.BatchLimits in
     let m = g.M.Moments in
     record {
-      all = gives_up k.TOGETHER_MAX k.READ_MAX k.leaves k.is_clean k.saves k.fails m.waits m.closes m.sends
+      all = gives_up b.TOGETHER_MAX b.READ_MAX k.leaves k.is_clean k.saves k.fails m.waits m.closes m.sends
           g.M.Input.Read.remaining g.M.Output.Write.contents c.args.turns _ c.loop-moment._moment _
           c.loop-moment.invariant (omega (arith, c.loop-moment-test.false));
     }

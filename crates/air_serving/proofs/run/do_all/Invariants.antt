@@ -4,9 +4,10 @@ use Rattle.air_serving.proofs.run.do_all.Given as goal
 -- so many moments went by, and the run goes on
 abbrev pub invariant-loop-moment : goal.invariant-loop-moment
 invariant-loop-moment g l =
-    let k = g.K.KeepEncoder in
+    let k = g.K.Keep in
+    let b = g.K.BatchLimits in
     let m = g.M.Moments in
-    GoesOnFor k.TOGETHER_MAX k.READ_MAX k.leaves k.is_clean k.saves k.fails m.waits m.closes m.sends
+    GoesOnFor b.TOGETHER_MAX b.READ_MAX k.leaves k.is_clean k.saves k.fails m.waits m.closes m.sends
     g.M.Input.Read.remaining g.M.Output.Write.contents l.turns l._moment (record {
       encoder = l.fn.encoder;
       keeper = l.fn.keeper;

@@ -6,13 +6,14 @@ use Rattle.air_serving.proofs.run.read_open.Goals as goal
 
 pub returns-then-is_over : goal.returns-then-is_over
 returns-then-is_over g c =
-    let k = g.K.KeepEncoder in
+    let k = g.K.Keep in
+    let m = g.K.BatchLimits in
     let t = c.read_once-turn in
     let line = t.result.line in
     let ended = t.result.ended in
     let over : is_over line.left ended ≡ true = sym c.is_over.ensures ∙ c.if-is_over.true in
     record {
-      reads = λ carousel. subst (λ l. ReadsOpen k.TOGETHER_MAX k.READ_MAX k.leaves k.is_clean k.saves k.fails
+      reads = λ carousel. subst (λ l. ReadsOpen m.TOGETHER_MAX m.READ_MAX k.leaves k.is_clean k.saves k.fails
           g.M.Moments.closes g.M.Input.Read.remaining g.M.Output.Write.contents l (record {
             encoder = c.args.encoder.now;
             keeper = c.args.keeper.now;
@@ -71,13 +72,14 @@ returns-then-is_over g c =
 
 pub returns-else-is_over : goal.returns-else-is_over
 returns-else-is_over g c =
-    let k = g.K.KeepEncoder in
+    let k = g.K.Keep in
+    let m = g.K.BatchLimits in
     let t = c.read_once-turn in
     let line = t.result.line in
     let ended = t.result.ended in
     let over : is_over line.left ended ≡ false = sym c.is_over.ensures ∙ c.if-is_over.false in
     record {
-      reads = λ carousel. subst (λ l. ReadsOpen k.TOGETHER_MAX k.READ_MAX k.leaves k.is_clean k.saves k.fails
+      reads = λ carousel. subst (λ l. ReadsOpen m.TOGETHER_MAX m.READ_MAX k.leaves k.is_clean k.saves k.fails
           g.M.Moments.closes g.M.Input.Read.remaining g.M.Output.Write.contents l (record {
             encoder = c.args.encoder.now;
             keeper = c.args.keeper.now;

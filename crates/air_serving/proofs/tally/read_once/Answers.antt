@@ -12,13 +12,14 @@ use Rattle.air_serving.proofs.tally.read_once.Goals as goal
 pub returns-clause-reads : goal.returns-clause-reads
 returns-clause-reads g c =
     let step = g.T.Target.step in
-    let k = g.K.KeepEncoder in
+    let k = g.K.Keep in
+    let m = g.K.BatchLimits in
     let called = c.serve_with-ended in
     let (s, written, n, consumed, appended, serves, heard, made, calls, few) = called.ensures.bytes in
     let one : n ≡ 1 = one_read called.result n made in
     let replies : c.args.line.sent.replies ≤ 2 ^ 64 - 1 = search rules in
     let bytes : c.args.line.sent.bytes ≤ 2 ^ 64 - 1 = search rules in
-    let counted = has_counted k.TOGETHER_MAX g.L.Listener.hears (λ (t : Tally g.row.L.Denot). t.listener.now)
+    let counted = has_counted m.TOGETHER_MAX g.L.Listener.hears (λ (t : Tally g.row.L.Denot). t.listener.now)
     (λ (t : Tally g.row.L.Denot). t.sent) (λ (t : Tally g.row.L.Denot). t.listener.ghost_name) step
     c.args.encoder.now called.new.encoder _ called.new.listener s written called.result
     (record { replies = replies; bytes = bytes }) heard in
@@ -36,19 +37,19 @@ returns-clause-reads g c =
           (sym output)
           (subst (λ d. Appends (g.O.Write.contents d) (g.O.Write.contents called.new.writer.device) written)
           c.new-writer.ensures.device appended);
-      serves = subst (λ d. ServesKept k.TOGETHER_MAX k.READ_MAX step k.leaves k.is_clean k.saves k.fails
+      serves = subst (λ d. ServesKept m.TOGETHER_MAX m.READ_MAX step k.leaves k.is_clean k.saves k.fails
           c.args.encoder.now called.new.encoder c.args.keeper.now called.new.keeper s written
           (g.I.Read.remaining d) 1 1 called.result) (sym input)
-          (subst (λ reads. ServesKept k.TOGETHER_MAX k.READ_MAX step k.leaves k.is_clean k.saves k.fails
+          (subst (λ reads. ServesKept m.TOGETHER_MAX m.READ_MAX step k.leaves k.is_clean k.saves k.fails
           c.args.encoder.now called.new.encoder c.args.keeper.now called.new.keeper s written
           (g.I.Read.remaining called.new.reader.device) 1 reads called.result) one serves);
-      heard = subst (λ l. HasHeard k.TOGETHER_MAX g.L.Listener.hears step c.args.encoder.now called.new.encoder
+      heard = subst (λ l. HasHeard m.TOGETHER_MAX g.L.Listener.hears step c.args.encoder.now called.new.encoder
           c.args.listener.now l s written called.result) (sym last) counted.heard;
       few_bytes = omega (arith, few);
       left = c.saturating_sub.ensures;
       counted = λ is. counted.counted is
           ∙ ap (λ bytes. sent_too c.args.line.sent (replies_among (responses_to step c.args.encoder.now s))
           (length bytes))
-          (sym (all_written k.TOGETHER_MAX k.READ_MAX step c.args.encoder.now called.new.encoder s written _ 1
+          (sym (all_written m.TOGETHER_MAX m.READ_MAX step c.args.encoder.now called.new.encoder s written _ 1
           called.result is serves.serves));
     }

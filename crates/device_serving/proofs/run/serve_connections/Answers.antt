@@ -5,26 +5,29 @@ use Rattle.device_serving.proofs.run.serve_connections.Goals as goal
 
 pub loop-before-init : goal.loop-before-init
 loop-before-init g c =
-    let k = g.K.KeepEncoder in
-    begins k.TOGETHER_MAX k.READ_MAX g.T.Target.step k.leaves k.is_clean k.saves k.fails g.C.Connections.opens
+    let k = g.K.Keep in
+    let m = g.K.BatchLimits in
+    begins m.TOGETHER_MAX m.READ_MAX g.T.Target.step k.leaves k.is_clean k.saves k.fails g.C.Connections.opens
     g.C.Connections.closes g.C.Input.Read.remaining g.C.Output.Write.contents c.args.turns c.args.connections _
 
 pub loop-before-preserved : goal.loop-before-preserved
 loop-before-preserved g c =
-    let k = g.K.KeepEncoder in
-    one_more k.TOGETHER_MAX k.READ_MAX g.T.Target.step k.leaves k.is_clean k.saves k.fails g.C.Connections.opens
+    let k = g.K.Keep in
+    let m = g.K.BatchLimits in
+    one_more m.TOGETHER_MAX m.READ_MAX g.T.Target.step k.leaves k.is_clean k.saves k.fails g.C.Connections.opens
     g.C.Connections.closes g.C.Input.Read.remaining g.C.Output.Write.contents c.args.turns c.args.connections _
     c.loop-before._before _ (omega (arith, c.loop-before-test.true)) c.loop-before.invariant _
     c.in_ok-serve_next.ensures.serves
 
 pub returns-in_err-serve_next : goal.returns-in_err-serve_next
 returns-in_err-serve_next g c =
-    let k = g.K.KeepEncoder in
+    let k = g.K.Keep in
+    let m = g.K.BatchLimits in
     let stop = c.in_err-serve_next.field-0.0 in
     let now = c.serve_next.new in
     let same : c.from_residual.result ≡ Err stop = search rules in
     record {
-      serves = subst (λ end. ServesFrom k.TOGETHER_MAX k.READ_MAX g.T.Target.step k.leaves k.is_clean k.saves k.fails
+      serves = subst (λ end. ServesFrom m.TOGETHER_MAX m.READ_MAX g.T.Target.step k.leaves k.is_clean k.saves k.fails
           g.C.Connections.opens g.C.Connections.closes
           g.C.Input.Read.remaining g.C.Output.Write.contents c.args.turns c.args.connections (record {
             encoder = c.args.encoder.now;
@@ -37,7 +40,7 @@ returns-in_err-serve_next g c =
             connect = now.connect;
             log = now.log;
           }) end) (sym same)
-          (stops k.TOGETHER_MAX k.READ_MAX g.T.Target.step k.leaves k.is_clean k.saves k.fails g.C.Connections.opens
+          (stops m.TOGETHER_MAX m.READ_MAX g.T.Target.step k.leaves k.is_clean k.saves k.fails g.C.Connections.opens
           g.C.Connections.closes g.C.Input.Read.remaining g.C.Output.Write.contents c.args.turns c.args.connections _
           c.loop-before._before _ (omega (arith, c.loop-before-test.true)) c.loop-before.invariant _ stop
           c.in_err-serve_next.ensures.serves);
@@ -45,9 +48,10 @@ returns-in_err-serve_next g c =
 
 pub returns : goal.returns
 returns g c =
-    let k = g.K.KeepEncoder in
+    let k = g.K.Keep in
+    let m = g.K.BatchLimits in
     record {
-      serves = ends k.TOGETHER_MAX k.READ_MAX g.T.Target.step k.leaves k.is_clean k.saves k.fails g.C.Connections.opens
+      serves = ends m.TOGETHER_MAX m.READ_MAX g.T.Target.step k.leaves k.is_clean k.saves k.fails g.C.Connections.opens
           g.C.Connections.closes g.C.Input.Read.remaining g.C.Output.Write.contents c.args.turns c.args.connections _
           c.loop-before._before _ (omega (arith, c.loop-before-test.false)) c.loop-before.invariant;
     }

@@ -8,7 +8,7 @@ use Rattle.kept_jobs.proofs.batches.send_batches.Goals as goal
 
 pub returns-in_err-send_batch-clause-sends : goal.returns-in_err-send_batch-clause-sends
 returns-in_err-send_batch-clause-sends g c =
-    let k = g.K.KeepServer in
+    let k = g.K.Keep in
     let now = c.loop-rest in
     let rest = now.rest.now in
     let next = c.send_batch.new in
@@ -47,7 +47,7 @@ returns-in_err-send_batch-clause-sends g c =
 
 pub loop-rest-preserved : goal.loop-rest-preserved
 loop-rest-preserved g c =
-    let k = g.K.KeepServer in
+    let k = g.K.Keep in
     let now = c.loop-rest in
     let rest = now.rest.now in
     let next = c.send_batch.new in
@@ -92,7 +92,7 @@ loop-rest-preserved g c =
 
 pub returns-clause-sends : goal.returns-clause-sends
 returns-clause-sends g c =
-    let k = g.K.KeepServer in
+    let k = g.K.Keep in
     let now = c.loop-rest in
     ends g.C.Connections.opens g.C.Connections.closes g.C.Input.Read.remaining g.C.Output.Write.contents k.leaves
     k.is_clean

@@ -5,7 +5,7 @@ use Rattle.kept_jobs.proofs.batches.send_batches.Given as goal
 -- the server is idle, the rest can be counted, and however it goes on with that, so it went with all
 abbrev pub invariant-loop-rest : goal.invariant-loop-rest
 invariant-loop-rest g l =
-    let k = g.K.KeepServer in
+    let k = g.K.Keep in
     record {
       idle : l.sender.sender.server.held ≡ [];
       loan : l.sender.loan ≡ l.fn.sender.loan;

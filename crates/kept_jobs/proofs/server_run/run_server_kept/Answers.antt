@@ -7,7 +7,7 @@ use Rattle.kept_jobs.proofs.server_run.run_server_kept.Goals as goal
 
 pub returns-in-Ok : goal.returns-in-Ok
 returns-in-Ok g c =
-    let k = g.K.KeepServer in
+    let k = g.K.Keep in
     let ran = c.in-Ok.ensures.runs in
     let all = run_done g.C.Connections.opens g.C.Connections.closes g.C.Input.Read.remaining g.C.Output.Write.contents
     k.leaves
@@ -28,7 +28,7 @@ returns-in-Ok g c =
 
 pub returns-in-Err : goal.returns-in-Err
 returns-in-Err g c =
-    let k = g.K.KeepServer in
+    let k = g.K.Keep in
     let stop = c.in-Err.stop in
     let ran = c.in-Err.ensures.runs in
     let told = c.fail_run.ensures in

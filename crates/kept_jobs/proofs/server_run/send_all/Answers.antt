@@ -7,7 +7,7 @@ use Rattle.kept_jobs.proofs.server_run.send_all.Goals as goal
 
 pub returns : goal.returns
 returns g c =
-    let k = g.K.KeepServer in
+    let k = g.K.Keep in
     let now = c.send_messages-sent.new in
     let messages_are = c.as_slice-list.ensures.value ∙ c.in_ok-messages.ensures.messages
     ∙ ap (λ bytes. messages_first (texts_of bytes)) c.as_slice.ensures.value in

@@ -8,7 +8,7 @@ use Rattle.kept_jobs.proofs.server_run.send_messages.Goals as goal
 
 pub returns-in_err-begin : goal.returns-in_err-begin
 returns-in_err-begin g c =
-    let k = g.K.KeepServer in
+    let k = g.K.Keep in
     let held = g.W.Write.contents in
     let stop = c.in_err-begin.field-0.0 in
     let same : c.from_residual.result ≡ Err stop = search rules in
@@ -34,7 +34,7 @@ returns-in_err-begin g c =
 
 pub returns : goal.returns
 returns g c =
-    let k = g.K.KeepServer in
+    let k = g.K.Keep in
     let held = g.W.Write.contents in
     let now = c.begin.new in
     let start = c.new-sender.result in

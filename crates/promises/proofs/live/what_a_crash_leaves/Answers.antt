@@ -3,7 +3,7 @@ use Rattle.promises.proofs.live.what_a_crash_leaves.Goals as goal
 
 pub returns : goal.returns
 returns g c =
-    let k = g.K.KeepServer in
+    let k = g.K.Keep in
     what_a_crash_leaves_lem g.C.Connections.opens g.C.Connections.closes g.C.Input.Read.remaining
     g.C.Output.Write.contents
     k.leaves k.is_clean k.saves k.fails

@@ -6,7 +6,7 @@ use Rattle.sending.proofs.beginning.begin.Goals as goal
 
 pub returns-then-due-clause-begins : goal.returns-then-due-clause-begins
 returns-then-due-clause-begins g c =
-    let k = g.K.KeepServer in
+    let k = g.K.Keep in
     let due : c.args.due ≡ true = search rules in
     let now = c.begin_anew.new in
     let told = c.tell_taken.new.self.held in
@@ -32,7 +32,7 @@ returns-then-due-clause-begins g c =
 
 pub returns-clause-begins : goal.returns-clause-begins
 returns-clause-begins g c =
-    let k = g.K.KeepServer in
+    let k = g.K.Keep in
     let due : c.args.due ≡ false = search rules in
     let told = c.tell_taken.new.self.held in
     inl (

@@ -4,7 +4,7 @@ use Rattle.sending.proofs.lives.run_all.Goals as goal
 
 pub loop-again-preserved : goal.loop-again-preserved
 loop-again-preserved g c =
-    let k = g.K.KeepServer in
+    let k = g.K.Keep in
     let (last, so) = c.loop-again.invariant.so in
     let go = c.if-not-goes_on.ensures.so (search rules) in
     let (now, again) = c.run_again-ran.ensures.runs last in

@@ -6,7 +6,7 @@ use Rattle.sending.proofs.lives.run_all.Given as goal
 -- one sender ran, and so many more after it; and what is lent stays so
 abbrev pub invariant-loop-again : goal.invariant-loop-again
 invariant-loop-again g l =
-    let k = g.K.KeepServer in
+    let k = g.K.Keep in
     record {
       so : (last : ServerState) × RunsFor g.C.Connections.opens g.C.Connections.closes g.C.Input.Read.remaining
           g.C.Output.Write.contents k.leaves k.is_clean k.saves

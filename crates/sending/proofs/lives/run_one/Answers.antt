@@ -6,7 +6,7 @@ use Rattle.sending.proofs.lives.run_one.Goals as goal
 
 pub returns-clause-runs : goal.returns-clause-runs
 returns-clause-runs g c =
-    let k = g.K.KeepServer in
+    let k = g.K.Keep in
     let start = c.new-sender.result in
     let sent = c.run_sender-ran in
     let (end, hangs_up, end_is) = c.finish-connect.ensures.value in

@@ -7,7 +7,7 @@ use Rattle.sending.proofs.run.run_from.Goals as goal
 
 pub returns-in-Err-clause-lives : goal.returns-in-Err-clause-lives
 returns-in-Err-clause-lives g c =
-    let k = g.K.KeepServer in
+    let k = g.K.Keep in
     let now = c.begin.new in
     inr (
       record { runs = now.server; keeper = now.keeper; progress = now.progress; held = now.teller.held },
@@ -30,7 +30,7 @@ returns-in-Err-clause-lives g c =
 
 pub returns-in-Ok-clause-lives : goal.returns-in-Ok-clause-lives
 returns-in-Ok-clause-lives g c =
-    let k = g.K.KeepServer in
+    let k = g.K.Keep in
     let now = c.begin.new in
     let ran = c.run_all-ran in
     let (again, last, runs, is_last) = ran.ensures.runs in

@@ -6,7 +6,7 @@ use Rattle.sending.proofs.run.run_live.Goals as goal
 
 pub returns-clause-runs : goal.returns-clause-runs
 returns-clause-runs g c =
-    let k = g.K.KeepServer in
+    let k = g.K.Keep in
     let run = c.run_from-ran in
     let end = c.end-status in
     let back = c.finish-fed.ensures in

@@ -7,7 +7,7 @@ use Rattle.sending.proofs.run.run_sender.Goals as goal
 
 pub returns-in-GoesOn-clause-runs : goal.returns-in-GoesOn-clause-runs
 returns-in-GoesOn-clause-runs g c =
-    let k = g.K.KeepServer in
+    let k = g.K.Keep in
     let ran = c.go_on in
     let made = c.make_if.new in
     let course = made.course in
@@ -27,7 +27,7 @@ returns-in-GoesOn-clause-runs g c =
 
 pub returns-in-Ends-clause-runs : goal.returns-in-Ends-clause-runs
 returns-in-Ends-clause-runs g c =
-    let k = g.K.KeepServer in
+    let k = g.K.Keep in
     let made = c.make_if.new in
     let course = made.course in
     let at : After → Live (SenderOver g.row.C.Denot g.row.C-Input.Denot g.row.C-Output.Denot) g.row.K.Denot =

@@ -4,7 +4,7 @@ use Rattle.sending.proofs.run.run_turns.Goals as goal
 
 pub returns-in-Err-clause-runs : goal.returns-in-Err-clause-runs
 returns-in-Err-clause-runs g c =
-    let k = g.K.KeepServer in
+    let k = g.K.Keep in
     let o = c.args.options.now in
     let turn = c.in-Err.ensures.stopped in
     stops g.C.Connections.opens g.C.Connections.closes g.C.Input.Read.remaining g.C.Output.Write.contents k.leaves
@@ -15,7 +15,7 @@ returns-in-Err-clause-runs g c =
 
 pub returns-in-Ok-Ends-clause-runs : goal.returns-in-Ok-Ends-clause-runs
 returns-in-Ok-Ends-clause-runs g c =
-    let k = g.K.KeepServer in
+    let k = g.K.Keep in
     let o = c.args.options.now in
     ends g.C.Connections.opens g.C.Connections.closes g.C.Input.Read.remaining g.C.Output.Write.contents k.leaves
     k.is_clean
@@ -25,7 +25,7 @@ returns-in-Ok-Ends-clause-runs g c =
 
 pub loop-turn-preserved : goal.loop-turn-preserved
 loop-turn-preserved g c =
-    let k = g.K.KeepServer in
+    let k = g.K.Keep in
     let o = c.args.options.now in
     let before = c.loop-turn.invariant.countable in
     let taken = c.make_turn.ensures.taken in
@@ -44,7 +44,7 @@ loop-turn-preserved g c =
 
 pub returns-clause-runs : goal.returns-clause-runs
 returns-clause-runs g c =
-    let k = g.K.KeepServer in
+    let k = g.K.Keep in
     let o = c.args.options.now in
     let most = c.loop-turn.auto._turn-end in
     let least = c.loop-turn-test.false in

@@ -5,7 +5,7 @@ use Rattle.sending.proofs.run.run_turns.Given as goal
 -- so many turns were made and the run goes on; each took at most eight messages, none waits, and what is lent stays so
 abbrev pub invariant-loop-turn : goal.invariant-loop-turn
 invariant-loop-turn g l =
-    let k = g.K.KeepServer in
+    let k = g.K.Keep in
     record {
       idle : l.sender.sender.server.held ≡ [];
       loan : l.sender.loan ≡ l.fn.sender.loan;

@@ -62,7 +62,7 @@ returns-else-progress-ge-TAKEN_MAX-clause-sent g c =
 pub returns-else-progress-ge-TAKEN_MAX-clause-done : goal.returns-else-progress-ge-TAKEN_MAX-clause-done
 returns-else-progress-ge-TAKEN_MAX-clause-done g c = λ is.
     let run = c.run_server_kept-status in
-    let k = g.S.ServerKeeper.KeepServer in
+    let k = g.S.ServerKeeper.Keep in
     let well = closed_well _ _ _ _ _ _ (λ three. not_done _ three is) c.closed_so.ensures.closed in
     let zero : run.result ≡ 0 = well.1 ∙ is in
     let same : c.closed_so.new.errors ≡ run.new.errors =
@@ -86,7 +86,7 @@ returns-else-progress-ge-TAKEN_MAX-clause-done g c = λ is.
 pub returns-else-progress-ge-TAKEN_MAX-clause-refused : goal.returns-else-progress-ge-TAKEN_MAX-clause-refused
 returns-else-progress-ge-TAKEN_MAX-clause-refused g c = λ is.
     let run = c.run_server_kept-status in
-    let k = g.S.ServerKeeper.KeepServer in
+    let k = g.S.ServerKeeper.Keep in
     let told = g.E.Write.contents c.args.errors.now in
     let well = closed_well _ _ _ _ _ _ (λ three. not_refused _ three is) c.closed_so.ensures.closed in
     let one : run.result ≡ 1 = well.1 ∙ is in

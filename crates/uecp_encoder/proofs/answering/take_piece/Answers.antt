@@ -15,12 +15,13 @@ use Rattle.uecp_encoder.proofs.answering.take_piece.Goals as goal
 
 pub loop-at-init : goal.loop-at-init
 loop-at-init g c =
-    let k = g.K.KeepEncoder in (
+    let k = g.K.Keep in
+    let m = g.K.BatchLimits in (
       [],
       0,
       omega arith,
       Appends-nil _,
-      takes_nothing k.TOGETHER_MAX g.T.Target.step k.leaves k.is_clean k.saves k.fails c.args.encoder.now
+      takes_nothing m.TOGETHER_MAX g.T.Target.step k.leaves k.is_clean k.saves k.fails c.args.encoder.now
           c.args.keeper.now,
       refl,
       hears_nothing g.L.Listener.hears g.T.Target.step c.args.encoder.now c.args.listener.now,
@@ -31,8 +32,9 @@ loop-at-init g c =
 pub returns-in-Err-clause-err : goal.returns-in-Err-clause-err
 returns-in-Err-clause-err g c =
     let step = g.T.Target.step in
-    let k = g.K.KeepEncoder in
-    let most = k.TOGETHER_MAX in
+    let k = g.K.Keep in
+    let m = g.K.BatchLimits in
+    let most = m.TOGETHER_MAX in
     let hears = g.L.Listener.hears in
     let piece = c.args.piece.now in
     let at = c.loop-at.at in
@@ -90,8 +92,9 @@ returns-in-Err-clause-err g c =
 pub loop-at-preserved : goal.loop-at-preserved
 loop-at-preserved g c =
     let step = g.T.Target.step in
-    let k = g.K.KeepEncoder in
-    let most = k.TOGETHER_MAX in
+    let k = g.K.Keep in
+    let m = g.K.BatchLimits in
+    let most = m.TOGETHER_MAX in
     let hears = g.L.Listener.hears in
     let piece = c.args.piece.now in
     let at = c.loop-at.at in
@@ -151,7 +154,8 @@ loop-at-preserved g c =
 pub returns-clause-ok : goal.returns-clause-ok
 returns-clause-ok g c =
     let step = g.T.Target.step in
-    let k = g.K.KeepEncoder in
+    let k = g.K.Keep in
+    let m = g.K.BatchLimits in
     let piece = c.args.piece.now in
     let (written, reads, within, gave, taken, failures, heard, few, none) = c.loop-at.invariant in
     let all : take c.loop-at.at piece ≡ piece =
@@ -159,9 +163,9 @@ returns-clause-ok g c =
     ∙ take-length piece in (
       written,
       gave,
-      subst (λ s. Takes k.TOGETHER_MAX step k.leaves k.is_clean k.saves c.args.encoder.now c.loop-at.encoder
+      subst (λ s. Takes m.TOGETHER_MAX step k.leaves k.is_clean k.saves c.args.encoder.now c.loop-at.encoder
           c.args.keeper.now c.loop-at.keeper s written 1 c.loop-at.sent.replies c.loop-at.sent.bytes) all
-          (takes_most k.TOGETHER_MAX step k.leaves k.is_clean k.saves k.fails c.args.encoder.now c.loop-at.encoder
+          (takes_most m.TOGETHER_MAX step k.leaves k.is_clean k.saves k.fails c.args.encoder.now c.loop-at.encoder
           c.args.keeper.now c.loop-at.keeper (take c.loop-at.at piece) written reads _ _ few taken),
       subst (λ s. HearsFor g.L.Listener.hears step c.args.encoder.now s c.args.listener.now c.loop-at.listener) all
           heard,

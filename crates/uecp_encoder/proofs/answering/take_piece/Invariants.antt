@@ -10,8 +10,8 @@ abbrev pub invariant-loop-at : goal.invariant-loop-at
 invariant-loop-at g l = (written : List ℕ) × (reads : ℕ)
     × (l.at ≤ length l.piece)
     × Appends (g.W.Write.contents l.fn.writer.device) (g.W.Write.contents l.writer.device) written
-    × Takes g.K.KeepEncoder.TOGETHER_MAX g.T.Target.step g.K.KeepEncoder.leaves g.K.KeepEncoder.is_clean
-    g.K.KeepEncoder.saves l.fn.encoder l.encoder l.fn.keeper l.keeper (take l.at l.piece) written reads l.sent.replies
+    × Takes g.K.BatchLimits.TOGETHER_MAX g.T.Target.step g.K.Keep.leaves g.K.Keep.is_clean
+    g.K.Keep.saves l.fn.encoder l.encoder l.fn.keeper l.keeper (take l.at l.piece) written reads l.sent.replies
     l.sent.bytes
     × (l.writer.failures ≡ l.fn.writer.failures)
     × HearsFor g.L.Listener.hears g.T.Target.step l.fn.encoder (take l.at l.piece) l.fn.listener l.listener

@@ -14,12 +14,13 @@ use Rattle.uecp_encoder.proofs.serving.serve_with.Goals as goal
 
 pub loop-turn-init : goal.loop-turn-init
 loop-turn-init g c =
-    let k = g.K.KeepEncoder in (
+    let k = g.K.Keep in
+    let m = g.K.BatchLimits in (
       [],
       [],
       Consumes-nil _,
       Appends-nil _,
-      takes_nothing k.TOGETHER_MAX g.T.Target.step k.leaves k.is_clean k.saves k.fails c.args.encoder.now
+      takes_nothing m.TOGETHER_MAX g.T.Target.step k.leaves k.is_clean k.saves k.fails c.args.encoder.now
           c.args.keeper.now,
       refl,
       omega arith,
@@ -65,7 +66,8 @@ pub loop-turn-preserved : goal.loop-turn-preserved
 loop-turn-preserved g c =
     let step = g.T.Target.step in
     let hears = g.L.Listener.hears in
-    let k = g.K.KeepEncoder in
+    let k = g.K.Keep in
+    let m = g.K.BatchLimits in
     let (s, before, took, gave, taken, is, most, room, least, calls, read_failures, empty_reads, write_failures, heard)
     =
     c.loop-turn.invariant in
@@ -76,23 +78,23 @@ loop-turn-preserved g c =
     let k0 = c.args.keeper.now in
     let k' = c.take_piece.new.keeper in
     let long = length-append s more in
-    let fits : c.in-Ok.count ≤ k.READ_MAX = search rules in
-    let few : k.READ_MAX ≤ 4192 = k.reads_few in
+    let fits : c.in-Ok.count ≤ m.READ_MAX = search rules in
+    let few : m.READ_MAX ≤ 4192 = m.reads_few in
     let count : length more ≡ c.in-Ok.count = search rules in
     let some : 0 < c.in-Ok.count = search rules in (
       s ++ more,
       before ++ now,
       Consumes-trans _ _ _ _ _ took c.in-Ok.ensures.bytes.0,
       Appends-trans _ _ _ _ _ gave appended,
-      subst (λ r. Takes k.TOGETHER_MAX step k.leaves k.is_clean k.saves e e' k0 k' (s ++ more) (before ++ now)
+      subst (λ r. Takes m.TOGETHER_MAX step k.leaves k.is_clean k.saves e e' k0 k' (s ++ more) (before ++ now)
           (c.loop-turn._turn + 1) r c.both-sent.result.bytes) (sym c.both-sent.ensures.replies)
-          (subst (λ b. Takes k.TOGETHER_MAX step k.leaves k.is_clean k.saves e e' k0 k' (s ++ more) (before ++ now)
+          (subst (λ b. Takes m.TOGETHER_MAX step k.leaves k.is_clean k.saves e e' k0 k' (s ++ more) (before ++ now)
           (c.loop-turn._turn + 1) (c.loop-turn.sent.replies + c.in-Ok-take_piece.more.replies) b)
           (sym c.both-sent.ensures.bytes)
-          (takes_on k.TOGETHER_MAX step k.leaves k.is_clean k.saves k.fails e c.loop-turn.encoder e' k0
+          (takes_on m.TOGETHER_MAX step k.leaves k.is_clean k.saves k.fails e c.loop-turn.encoder e' k0
           c.loop-turn.keeper k' s before more now _ _ _ 1 _ _ taken takes_more)),
       omega (arith, is, long, count),
-      omega (arith, most, long, count, fits, mul-add k.READ_MAX c.loop-turn._turn 1),
+      omega (arith, most, long, count, fits, mul-add m.READ_MAX c.loop-turn._turn 1),
       omega (arith, room, long, count, fits, few),
       omega (arith, least, long, count, some),
       λ h. omega (arith, c.read_front.ensures.calls, calls (omega (arith, h)), h),
@@ -108,7 +110,8 @@ pub returns-in-Err-take_piece-clause-bytes : goal.returns-in-Err-take_piece-clau
 returns-in-Err-take_piece-clause-bytes g c =
     let step = g.T.Target.step in
     let hears = g.L.Listener.hears in
-    let k = g.K.KeepEncoder in
+    let k = g.K.Keep in
+    let m = g.K.BatchLimits in
     let (s, before, took, gave, taken, is, most, room, least, calls, read_failures, empty_reads, write_failures, heard)
     =
     c.loop-turn.invariant in
@@ -122,24 +125,25 @@ returns-in-Err-take_piece-clause-bytes g c =
     let k' = c.take_piece.new.keeper in
     let unread = g.R.Read.remaining c.read_front.new.reader.device in
     let long = length-append s more in
-    let fits : c.in-Ok.count ≤ k.READ_MAX = search rules in
+    let fits : c.in-Ok.count ≤ m.READ_MAX = search rules in
+    let few : m.READ_MAX ≤ 4192 = m.reads_few in
     let count : length more ≡ c.in-Ok.count = search rules in
     let turn : c.loop-turn._turn < c.args.turns = search rules in
-    let stopped = stops_at_on k.TOGETHER_MAX step k.leaves k.is_clean k.saves k.fails e c.loop-turn.encoder e' k0
+    let stopped = stops_at_on m.TOGETHER_MAX step k.leaves k.is_clean k.saves k.fails e c.loop-turn.encoder e' k0
     c.loop-turn.keeper k' s before more now c.loop-turn._turn _ _ 1 start place why taken stops in (
       s ++ more,
       before ++ now,
       c.loop-turn._turn + 1,
       Consumes-trans _ _ _ _ _ took c.in-Ok.ensures.bytes.0,
       Appends-trans _ _ _ _ _ gave appended,
-      subst (λ f. ServesKept k.TOGETHER_MAX k.READ_MAX step k.leaves k.is_clean k.saves k.fails e e' k0 k' (s ++ more)
+      subst (λ f. ServesKept m.TOGETHER_MAX m.READ_MAX step k.leaves k.is_clean k.saves k.fails e e' k0 k' (s ++ more)
           (before ++ now) unread c.args.turns (c.loop-turn._turn + 1) (Err f)) (sym c.fault.ensures)
-          (ends_stopped k.TOGETHER_MAX k.READ_MAX step k.leaves k.is_clean k.saves k.fails e e' k0 k' (s ++ more)
+          (ends_stopped m.TOGETHER_MAX m.READ_MAX step k.leaves k.is_clean k.saves k.fails e e' k0 k' (s ++ more)
           (before ++ now) (c.loop-turn._turn + 1) (length s + start) (length s + place) bytes why unread c.args.turns
           stopped (omega (arith, long, count, fits))),
-      subst (λ f. HasHeard k.TOGETHER_MAX hears step e e' c.args.listener.now c.take_piece.new.listener (s ++ more)
+      subst (λ f. HasHeard m.TOGETHER_MAX hears step e e' c.args.listener.now c.take_piece.new.listener (s ++ more)
           (before ++ now) (Err f)) (sym c.fault.ensures)
-          (heard_stopped k.TOGETHER_MAX k.READ_MAX step k.leaves k.is_clean k.saves k.fails hears e e' k0 k'
+          (heard_stopped m.TOGETHER_MAX m.READ_MAX step k.leaves k.is_clean k.saves k.fails hears e e' k0 k'
           c.args.listener.now c.take_piece.new.listener (s ++ more) (before ++ now) (c.loop-turn._turn + 1)
           (length s + start) (length s + place) bytes why stopped
           (until_on hears step e c.loop-turn.encoder s before more start place bytes c.args.listener.now
@@ -153,8 +157,8 @@ returns-in-Err-take_piece-clause-bytes g c =
         count,
         fits,
         most,
-        mul-add k.READ_MAX c.loop-turn._turn 1,
-        mul-le-mul_left k.READ_MAX (let q : c.loop-turn._turn + 1 ≤ c.args.turns = omega (arith, turn) in q),
+        mul-add m.READ_MAX c.loop-turn._turn 1,
+        mul-le-mul_left m.READ_MAX (let q : c.loop-turn._turn + 1 ≤ c.args.turns = omega (arith, turn) in q),
       ),
     )
 
@@ -162,7 +166,8 @@ pub returns-in-Err-take_piece-clause-settled : goal.returns-in-Err-take_piece-cl
 returns-in-Err-take_piece-clause-settled g c =
     let step = g.T.Target.step in
     let hears = g.L.Listener.hears in
-    let k = g.K.KeepEncoder in
+    let k = g.K.Keep in
+    let m = g.K.BatchLimits in
     let (s, before, took, gave, taken, is, most, room, least, calls, read_failures, empty_reads, write_failures, heard)
     =
     c.loop-turn.invariant in
@@ -175,9 +180,9 @@ returns-in-Err-take_piece-clause-settled g c =
     let k0 = c.args.keeper.now in
     let k' = c.take_piece.new.keeper in
     subst (λ f. Settled (k.leaves k0) e → k.is_clean k' → StaysSettled (k.leaves k') e' (Err f)) (sym c.fault.ensures)
-    (settled_stopped k.TOGETHER_MAX k.READ_MAX step k.leaves k.is_clean k.saves k.fails e e' k0 k' (s ++ more)
+    (settled_stopped m.TOGETHER_MAX m.READ_MAX step k.leaves k.is_clean k.saves k.fails e e' k0 k' (s ++ more)
     (before ++ now) (c.loop-turn._turn + 1) (length s + start) (length s + place) bytes why
-    (stops_at_on k.TOGETHER_MAX step k.leaves k.is_clean k.saves k.fails e c.loop-turn.encoder e' k0 c.loop-turn.keeper
+    (stops_at_on m.TOGETHER_MAX step k.leaves k.is_clean k.saves k.fails e c.loop-turn.encoder e' k0 c.loop-turn.keeper
     k' s before more now c.loop-turn._turn _ _ 1 start place why taken stops))
 
 -- ---- all that was read was taken
@@ -185,7 +190,8 @@ pub returns-in-Err-clause-bytes : goal.returns-in-Err-clause-bytes
 returns-in-Err-clause-bytes g c =
     let step = g.T.Target.step in
     let hears = g.L.Listener.hears in
-    let k = g.K.KeepEncoder in
+    let k = g.K.Keep in
+    let m = g.K.BatchLimits in
     let (s, before, took, gave, taken, is, most, room, least, calls, read_failures, empty_reads, write_failures, heard)
     =
     c.loop-turn.invariant in
@@ -195,16 +201,16 @@ returns-in-Err-clause-bytes g c =
       c.loop-turn._turn + 1,
       search rules,
       gave,
-      ends_whole k.TOGETHER_MAX k.READ_MAX step k.leaves k.is_clean k.saves k.fails c.args.encoder.now
+      ends_whole m.TOGETHER_MAX m.READ_MAX step k.leaves k.is_clean k.saves k.fails c.args.encoder.now
           c.loop-turn.encoder c.args.keeper.now c.loop-turn.keeper s before _ _ _ _ c.args.turns (c.loop-turn._turn + 1)
-          _ taken (search rules) (saves_more k.TOGETHER_MAX k.saves step _ s _ _ _ taken.saved),
+          _ taken (search rules) (saves_more m.TOGETHER_MAX k.saves step _ s _ _ _ taken.saved),
       heard,
       (omega arith, omega (arith, turn)),
       λ h. omega (arith, c.read_front.ensures.calls, calls (omega (arith, h)), h),
       omega (
         arith,
         most,
-        mul-le-mul_left k.READ_MAX (let q : c.loop-turn._turn ≤ c.args.turns = omega (arith, turn) in q),
+        mul-le-mul_left m.READ_MAX (let q : c.loop-turn._turn ≤ c.args.turns = omega (arith, turn) in q),
       ),
     )
 
@@ -212,7 +218,8 @@ pub returns-in-Ok-eq0-clause-bytes : goal.returns-in-Ok-eq0-clause-bytes
 returns-in-Ok-eq0-clause-bytes g c =
     let step = g.T.Target.step in
     let hears = g.L.Listener.hears in
-    let k = g.K.KeepEncoder in
+    let k = g.K.Keep in
+    let m = g.K.BatchLimits in
     let (s, before, took, gave, taken, is, most, room, least, calls, read_failures, empty_reads, write_failures, heard)
     =
     c.loop-turn.invariant in
@@ -222,16 +229,16 @@ returns-in-Ok-eq0-clause-bytes g c =
       c.loop-turn._turn + 1,
       search rules,
       gave,
-      ends_whole k.TOGETHER_MAX k.READ_MAX step k.leaves k.is_clean k.saves k.fails c.args.encoder.now
+      ends_whole m.TOGETHER_MAX m.READ_MAX step k.leaves k.is_clean k.saves k.fails c.args.encoder.now
           c.loop-turn.encoder c.args.keeper.now c.loop-turn.keeper s before _ _ _ _ c.args.turns (c.loop-turn._turn + 1)
-          _ taken (search rules) (saves_more k.TOGETHER_MAX k.saves step _ s _ _ _ taken.saved),
+          _ taken (search rules) (saves_more m.TOGETHER_MAX k.saves step _ s _ _ _ taken.saved),
       heard,
       (omega arith, omega (arith, turn)),
       λ h. omega (arith, c.read_front.ensures.calls, calls (omega (arith, h)), h),
       omega (
         arith,
         most,
-        mul-le-mul_left k.READ_MAX (let q : c.loop-turn._turn ≤ c.args.turns = omega (arith, turn) in q),
+        mul-le-mul_left m.READ_MAX (let q : c.loop-turn._turn ≤ c.args.turns = omega (arith, turn) in q),
       ),
     )
 
@@ -239,7 +246,8 @@ pub returns-clause-bytes : goal.returns-clause-bytes
 returns-clause-bytes g c =
     let step = g.T.Target.step in
     let hears = g.L.Listener.hears in
-    let k = g.K.KeepEncoder in
+    let k = g.K.Keep in
+    let m = g.K.BatchLimits in
     let (s, before, took, gave, taken, is, most, room, least, calls, read_failures, empty_reads, write_failures, heard)
     =
     c.loop-turn.invariant in
@@ -249,12 +257,12 @@ returns-clause-bytes g c =
       c.args.turns,
       search rules,
       gave,
-      ends_whole k.TOGETHER_MAX k.READ_MAX step k.leaves k.is_clean k.saves k.fails c.args.encoder.now
+      ends_whole m.TOGETHER_MAX m.READ_MAX step k.leaves k.is_clean k.saves k.fails c.args.encoder.now
           c.loop-turn.encoder c.args.keeper.now c.loop-turn.keeper s before _ _ _ _ c.args.turns c.args.turns _ taken
-          (search rules) (subst (λ n. SavesFor k.TOGETHER_MAX k.saves step c.args.encoder.now s n c.args.keeper.now
+          (search rules) (subst (λ n. SavesFor m.TOGETHER_MAX k.saves step c.args.encoder.now s n c.args.keeper.now
           c.loop-turn.keeper) turn taken.saved),
       heard,
       refl,
       λ h. omega (arith, calls (omega (arith, turn, h)), turn, h),
-      omega (arith, most, ap (λ n. k.READ_MAX * n) turn),
+      omega (arith, most, ap (λ n. m.READ_MAX * n) turn),
     )

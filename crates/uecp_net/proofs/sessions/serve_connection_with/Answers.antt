@@ -6,14 +6,15 @@ pub returns-clause-served : goal.returns-clause-served
 returns-clause-served g c =
     let i = c.in_ok-input in
     let s = c.serve_with-ended in
-    let k = g.K.KeepEncoder in (
+    let k = g.K.Keep in
+    let m = g.K.BatchLimits in (
       i.input,
       s.new.reader,
       i.output,
       s.new.writer,
       c.open.new.self,
       search rules,
-      session_told k.TOGETHER_MAX k.READ_MAX g.T.Target.step k.leaves k.is_clean k.saves k.fails g.L.Listener.begins
+      session_told m.TOGETHER_MAX m.READ_MAX g.T.Target.step k.leaves k.is_clean k.saves k.fails g.L.Listener.begins
           g.L.Listener.hears g.C.Input.Read.remaining g.C.Output.Write.contents
           c.args.turns
           c.args.encoder.now c.line_lost.new.self s.new.encoder c.args.keeper.now s.new.keeper c.args.listener.now
@@ -28,5 +29,5 @@ returns-clause-served g c =
 
 pub returns-clause-settled : goal.returns-clause-settled
 returns-clause-settled g c = λ start clean. c.serve_with-ended.ensures.settled
-    (settled_lost (g.K.KeepEncoder.leaves c.args.keeper.now) c.args.encoder.now c.line_lost.new.self (search rules)
+    (settled_lost (g.K.Keep.leaves c.args.keeper.now) c.args.encoder.now c.line_lost.new.self (search rules)
     start) clean

@@ -10,7 +10,7 @@ send_submitted-requires g c = some_held c.args.sender.now c.submit_all.new.sende
 
 pub returns-clause-sends : goal.returns-clause-sends
 returns-clause-sends g c =
-    let k = g.K.KeepServer in
+    let k = g.K.Keep in
     let s = c.send_submitted in
     subst (λ mid. SendsKept g.C.Connections.opens g.C.Connections.closes g.C.Input.Read.remaining
     g.C.Output.Write.contents

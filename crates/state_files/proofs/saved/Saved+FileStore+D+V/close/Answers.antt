@@ -2,7 +2,7 @@ use Rattle.std.proofs.Common.{Some, IfOk, subst}
 use Rattle.sqlite.specs.Files.{over_files}
 use Rattle.sqlite_image.specs.Keeper.{Keeps}
 use Rattle.sqlite_image.specs.Files.{AreClosed}
-use Rattle.state_files.proofs.saved.Saved+FileStore+D+T.close.Goals as goal
+use Rattle.state_files.proofs.saved.Saved+FileStore+D+V.close.Goals as goal
 
 pub returns : goal.returns
 returns g c image =
