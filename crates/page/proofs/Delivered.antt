@@ -5,7 +5,7 @@ use Rattle.std.specs.Io.KnownBytes.{Appends, Keeps}
 use Rattle.std.proofs.lemmas.List.{append-nil, append_assoc, take-append-drop, length-append, length_push}
 use Rattle.std.proofs.lemmas.Grind.{flat_map-append}
 use Rattle.page.specs.Events.{Event, Past, kept, from}
-use Rattle.page.specs.Sending.{Standing, Delivers, owed, event_bytes}
+use Rattle.page.specs.Sending.{Standing, IsLive, Delivers, Writes, owed, event_bytes}
 
 pub nothing_sent : (past : Past) (x : Standing) → Delivers past [] [] x x
 nothing_sent past x = record {
@@ -103,3 +103,64 @@ pub told_kept : (past : Past) (a b c : Option (List ℕ)) (x y z : Standing) →
 told_kept past a b c x y z h is k =
     let P : Standing → Type 0 = λ s. Told past a c x s in
     subst P (sym is) (h.0, h.1, appends_kept a b c h.1 h.2 k, h.3)
+
+-- the same of one that gets no events
+abbrev pub Wrote : (before now : Option (List ℕ)) → (x x' : Standing) → Type 0
+Wrote before now x x' = (written : List ℕ) × Appends before now written × Writes written x x'
+
+wrote_more : (a b c : Option (List ℕ)) (x y z : Standing) (n : ℕ) → Wrote a b x y
+    → z ≡ record y { output = drop n y.output } → Appends b c (take n y.output) → Wrote a c x z
+wrote_more a b c x y z n h is k = (
+  h.0 ++ take n y.output,
+  appends_more a b c h.0 (take n y.output) h.1 k,
+  record {
+    output = ap (λ (s : Standing). (h.0 ++ take n y.output) ++ s.output) is
+        ∙ append_assoc h.0 (take n y.output) (drop n y.output)
+        ∙ ap (λ o. h.0 ++ o) (take-append-drop n y.output) ∙ h.2.output;
+    same = is ∙ ap (λ (s : Standing). record s { output = drop n y.output }) h.2.same
+        ∙ sym (ap (λ (s : Standing). record x { output = s.output }) is);
+  },
+)
+
+-- what came of all turns so far
+pub record Since (past : Past) (before now : Option (List ℕ)) (x x' : Standing) : Type 0 where
+  pub sends : IsLive x → Told past before now x x'
+  pub phase : x'.phase ≡ x.phase
+  pub idle : (IsLive x → ⊥) → Wrote before now x x'
+
+pub since_begun : (past : Past) (a : Option (List ℕ)) (x : Standing) → Since past a a x x
+since_begun past a x = record {
+  sends = λ live. told_nothing past a x;
+  phase = refl;
+  idle = λ other. ([], appends_none a, record { output = refl; same = refl });
+}
+
+pub since_caught : (past : Past) (a b : Option (List ℕ)) (x y z : Standing) → Since past a b x y
+    → (IsLive y → (events : List Event) × Delivers past events [] y z) → z.phase ≡ y.phase
+    → ((IsLive y → ⊥) → z ≡ y) → Since past a b x z
+since_caught past a b x y z h caught phase idle = record {
+  sends = λ live. told_more past a b x y z (h.sends live) (caught (h.phase ∙ live));
+  phase = phase ∙ h.phase;
+  idle = λ other.
+      let P : Standing → Type 0 = λ s. Wrote a b x s in
+      subst P (sym (idle (λ live. other (sym h.phase ∙ live)))) (h.idle other);
+}
+
+pub since_written : (past : Past) (a b c : Option (List ℕ)) (x y z : Standing) (n : ℕ) → Since past a b x y
+    → z ≡ record y { output = drop n y.output } → Appends b c (take n y.output) → Since past a c x z
+since_written past a b c x y z n h is k = record {
+  sends = λ live. told_written past a b c x y z n (h.sends live) is k;
+  phase = ap (λ (s : Standing). s.phase) is ∙ h.phase;
+  idle = λ other. wrote_more a b c x y z n (h.idle other) is k;
+}
+
+pub since_kept : (past : Past) (a b c : Option (List ℕ)) (x y z : Standing) → Since past a b x y → z ≡ y → Keeps b c
+    → Since past a c x z
+since_kept past a b c x y z h is k = record {
+  sends = λ live. told_kept past a b c x y z (h.sends live) is k;
+  phase = ap (λ (s : Standing). s.phase) is ∙ h.phase;
+  idle = λ other.
+      let w = h.idle other in
+      let P : Standing → Type 0 = λ s. Wrote a c x s in
+      subst P (sym is) (w.0, appends_kept a b c w.0 w.1 k, w.2);
+}

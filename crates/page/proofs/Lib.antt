@@ -4,3 +4,9 @@ pub mod Digits
 pub mod Streams
 pub mod Schedules
 pub mod Delivered
+pub mod Told
+pub mod Fields
+pub mod Heard
+pub mod Lives
+pub mod Cutting
+pub mod Handing

@@ -14,7 +14,7 @@ use Rattle.page.specs.Laws.{begins, EachOnce, BeginningOnce, OwedNewer}
 event : ℕ → List ℕ → Event
 event n l = record { number = n; line = l }
 
-from_all : (d f : ℕ) (ls : List (List ℕ)) → d ≤ f → from d (numbered f ls) ≡ numbered f ls
+pub from_all : (d f : ℕ) (ls : List (List ℕ)) → d ≤ f → from d (numbered f ls) ≡ numbered f ls
 from_all d f [] h = refl
 from_all d f (l ∷ ls) h =
     let here : nat_le d f ≡ true = grind (arith, h) in
@@ -37,7 +37,7 @@ from_later (suc k) f (l ∷ ls) =
     ∙ ap (λ n. numbered n (drop k ls)) (sym same)
 
 -- the same for a number that is not less than the first
-from_drop : (d f : ℕ) (ls : List (List ℕ)) → f ≤ d → from d (numbered f ls) ≡ numbered d (drop (d - f) ls)
+pub from_drop : (d f : ℕ) (ls : List (List ℕ)) → f ≤ d → from d (numbered f ls) ≡ numbered d (drop (d - f) ls)
 from_drop d f ls h =
     let same : d ≡ f + (d - f) = omega (arith, h) in
     ap (λ n. from n (numbered f ls)) same ∙ from_later (d - f) f ls ∙ ap (λ n. numbered n (drop (d - f) ls)) (sym same)
@@ -52,7 +52,7 @@ numbered-append f (x ∷ xs) ys =
     ap (λ es. record { number = f; line = x } ∷ es) (numbered-append (f + 1) xs ys
     ∙ ap (λ n. numbered (f + 1) xs ++ numbered n ys) same)
 
-length-numbered : (f : ℕ) (ls : List (List ℕ)) → length (numbered f ls) ≡ length ls
+pub length-numbered : (f : ℕ) (ls : List (List ℕ)) → length (numbered f ls) ≡ length ls
 length-numbered f [] = refl
 length-numbered f (l ∷ ls) = ap suc (length-numbered (f + 1) ls)
 
@@ -132,13 +132,13 @@ sent_some n f d xs more h =
     ∙ ap (λ es. events ++ es) (sym (from_drop (d + length events) f (xs ++ more) later))
 
 -- ---- who is lost stays so, and is sent nothing
-not_sent : (w : World) (n : ℕ) → IsLost w → happens w (sends n) ≡ w
+pub not_sent : (w : World) (n : ℕ) → IsLost w → happens w (sends n) ≡ w
 not_sent w n h =
     let lost : nat_lt w.owed w.past.first ≡ true = grind (arith, h) in
     let events = take n (waiting w) in
     ap (λ t. cond t w (record w { owed = w.owed + length events; sent = w.sent ++ events })) lost
 
-is_sent : (w : World) (n : ℕ) → w.past.first ≤ w.owed → let events = take n (waiting w) in
+pub is_sent : (w : World) (n : ℕ) → w.past.first ≤ w.owed → let events = take n (waiting w) in
     happens w (sends n) ≡ record w { owed = w.owed + length events; sent = w.sent ++ events }
 is_sent w n h =
     let holds : nat_lt w.owed w.past.first ≡ false = grind (arith, h) in

@@ -14,8 +14,14 @@ pub mod Events
 pub mod Stream
 pub mod Laws
 pub mod Asking
+pub mod Fresh
 pub mod Streaming
 pub mod Sending
+pub mod Answers
 pub mod ClientView
+pub mod Hearing
+pub mod Life
+pub mod Lines
+pub mod Intake
 pub use Rattle.http1.specs.Conn
 pub use Rattle.http1.specs.Server

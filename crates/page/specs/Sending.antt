@@ -31,6 +31,11 @@ pub record Delivers (past : Past) (events : List Event) (written : List ℕ) (x 
   pub output : written ++ x'.output ≡ x.output ++ flat_map (event_bytes x.writing) events
   pub writing : x'.writing ≡ x.writing
 
+-- These bytes were written of what waited, and nothing else changed.
+pub record Writes (written : List ℕ) (x x' : Standing) : Type 0 where
+  pub output : written ++ x'.output ≡ x.output
+  pub same : x' ≡ record x { output = x'.output }
+
 -- It gets events.
 abbrev pub IsLive : Standing → Type 0
 IsLive x = x.phase ≡ Live

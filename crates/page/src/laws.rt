@@ -2,6 +2,8 @@
 ghost use Rattle.std.specs.Prelude.{◌≡◌};
 ghost use Rattle.page.specs.Stream.{part_text, gap, alive};
 ghost use Rattle.page.specs.Laws.{TakenAsSent, EachOnce, BeginningOnce, OwedNewer};
+ghost use Rattle.page.specs.Life.{WholeLife};
+ghost use Rattle.page.specs.Lines.{EachLineOnce, AllLinesAtEnd};
 
 use crate::events::{ALIVE, GAP};
 
@@ -24,6 +26,23 @@ pub fn beginning_once()
 /// A browser that names an event is owed exactly those of the kept ones that are newer.
 pub fn owed_newer()
     ensures { OwedNewer }
+{}
+
+/// Whatever happens to a connection, its browser was sent nothing, or what it was told on its one request, and where it
+/// gets events, behind that each event that it was owed, once and in order, comments, and nothing else.
+pub fn whole_life()
+    ensures { WholeLife }
+{}
+
+/// Whatever comes of an input and whenever a line is asked for, each line that has ended was handed out, once and in
+/// order, and what came behind them waits.
+pub fn each_line_once()
+    ensures { EachLineOnce }
+{}
+
+/// At the end of an input, with the last line, all its lines were handed out, each once and in order.
+pub fn all_lines_at_end()
+    ensures { AllLinesAtEnd }
 {}
 
 /// The other parts of a stream are sent as they are defined.

@@ -6,7 +6,6 @@
 
 mod door;
 mod input;
-mod lines;
 mod over_tcp;
 mod peer;
 mod peers;

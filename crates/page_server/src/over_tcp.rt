@@ -1,15 +1,17 @@
 //! The job `page` over TCP (profile).
-ghost use Rattle.std.specs.Prelude.{◌≤◌};
+ghost use Rattle.std.specs.Prelude.{◌≡◌, ◌≤◌, IfOk, OnErr};
+ghost use Rattle.page.specs.Intake.{status_of};
 
 use crate::place::place_of;
-use crate::server::{Serving, Stop};
+use crate::server::{Serving, Start, Stop};
 use commands::PageOptions;
 use device_edges::{AddressFault, BindFault, bind};
+use page::status_of;
 use std::alloc::Global;
 use std::io::{Read, Write};
 use std::net::{Net, SocketAddr, TcpListener, TcpStream};
 use std::os::fd::RawFd;
-use std::time::Clock;
+use std::time::{Clock, Duration, SystemTime};
 use uecp_text::{RunFault, report, write_parts};
 
 /// Serves the page of the lines that a reader gives, whose descriptor is told, until it is at its end and what waits is
@@ -29,34 +31,56 @@ pub fn run_page_over_tcp<
     };
     match listener_at(net, place) {
         Ok(listener) => {
-            let own_only = place.ip().is_loopback();
-            serve(alloc, reader, fd, listener, own_only, errors, net)
+            let since = since_1970(net);
+            let start = Start {
+                listener,
+                place,
+                since,
+            };
+            serve(alloc, reader, fd, start, errors, net)
         }
         Err(fault) => fail_bind(fault, errors),
     }
 }
 
-/// Serves at this listener, and answers the exit status.
+/// Serves at a listener, and answers the exit status.
 fn serve<R: Read, E: Write, N: Net<Listener = TcpListener, Stream = TcpStream> + Clock>(
     alloc: Global,
     reader: &mut R,
     fd: RawFd,
-    listener: TcpListener,
-    own_only: bool,
+    start: Start,
     errors: &mut E,
     net: &N,
 ) -> u8
     ensures { result ≤ 3 }
 {
-    let served = match Serving::new(alloc, net, reader, fd, listener, own_only, errors) {
+    let served = match Serving::new(alloc, net, reader, fd, start, errors) {
         Ok(mut serving) => serving.serve(),
         Err(stop) => Err(stop),
     };
+    end(served, errors)
+}
+
+/// The exit status of a run that ended so, which says why where it was stopped: at the end of its input 1 where a line
+/// was no object of ours, and else 0.
+fn end<E: Write>(served: Result<bool, Stop>, errors: &mut E) -> u8
+    ensures ok { IfOk served (λ refused. result ≡ status_of refused) }
+    ensures err { OnErr served (result ≡ 3) }
+    ensures most { result ≤ 3 }
+{
     match served {
-        Ok(refused) => u8::from(refused),
+        Ok(refused) => status_of(refused),
         Err(Stop::OutOfMemory) => fail(RunFault::OutOfMemory, errors),
         Err(Stop::Reading) => fail(RunFault::Reading, errors),
         Err(Stop::Listening) => fail(RunFault::Listening, errors),
+    }
+}
+
+/// How long ago 1970 began; None where the machine has no clock.
+fn since_1970<C: Clock>(clock: &C) -> Option<Duration> {
+    match SystemTime::now(clock) {
+        Ok(now) => now.duration_since(SystemTime::UNIX_EPOCH).ok(),
+        Err(_) => None,
     }
 }
 
@@ -74,7 +98,7 @@ fn listener_at<N: Net<Listener = TcpListener, Stream = TcpStream>>(
 
 /// Says why the run stopped, and answers its status.
 fn fail<E: Write>(fault: RunFault, errors: &mut E) -> u8
-    ensures { result ≤ 3 }
+    ensures { result ≡ 3 }
 {
     let _ = report(&fault, errors);
     3

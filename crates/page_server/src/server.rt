@@ -1,20 +1,21 @@
 //! A page is served for as long as lines come. Nothing is claimed of what a socket gives or takes (profile).
 
-ghost use Rattle.std.specs.Prelude.{◌<◌, ◌^◌};
+ghost use Rattle.std.specs.Prelude.{◌≡◌, ◌<◌, ◌^◌, false, IfOk, IsTrue, ◌↔◌, option_map};
+ghost use Rattle.std.specs.Duration.{as_nanos};
+ghost use Rattle.page.specs.Intake.{board_of, IsLoopback, first_number};
 
 use crate::door::{Door, INPUT, LISTENER};
 use crate::input::Input;
-use crate::lines::{Cut, Lines};
 use crate::peers::Peers;
 use itoa::Buffer;
 use line_feed::Arrival;
 use mio::Token;
-use page::{AddFault, History, Page, Site, Took};
+use page::{Cut, Intake, Lines, Taken, first_number, own_only};
 use std::alloc::Global;
 use std::io::{ErrorKind, Read, Write};
-use std::net::{Net, TcpListener, TcpStream};
+use std::net::{Net, SocketAddr, TcpListener, TcpStream};
 use std::os::fd::{AsRawFd, RawFd};
-use std::time::{Clock, Instant, SystemTime};
+use std::time::{Clock, Duration, Instant};
 use uecp_text::write_parts;
 
 /// How many lines are taken before those who ask are looked after again.
@@ -43,6 +44,17 @@ pub(crate) enum Stop {
     Listening,
 }
 
+/// What a run begins with.
+#[derive(Drop)]
+pub(crate) struct Start {
+    /// Who listens for those who ask.
+    pub(crate) listener: TcpListener,
+    /// Where that is.
+    pub(crate) place: SocketAddr,
+    /// How long ago 1970 began; None where the machine has no clock.
+    pub(crate) since: Option<Duration>,
+}
+
 /// What there is of a page: what is shown, the last events, all who ask, and the input.
 #[derive(Drop)]
 pub(crate) struct Serving<
@@ -57,16 +69,13 @@ pub(crate) struct Serving<
     door: Door,
     listener: TcpListener,
     peers: Peers,
-    page: Page,
-    history: History,
+    intake: Intake,
     reader: &'a mut R,
     input: Input<'a, N>,
     lines: Lines,
     fd: RawFd,
     is_polled: bool,
     is_ended: bool,
-    count: u64,
-    refused: bool,
     begun: Instant,
     ticked: u64,
     heard: Option<u64>,
@@ -86,10 +95,19 @@ impl<'a, R: Read, E: Write, N: Net<Listener = TcpListener, Stream = TcpStream> +
         net: &'a N,
         reader: &'a mut R,
         fd: RawFd,
-        listener: TcpListener,
-        own_only: bool,
+        start: Start,
         errors: &'a mut E,
-    ) -> Result<Serving<'a, R, E, N>, Stop> {
+    ) -> Result<Serving<'a, R, E, N>, Stop>
+        ensures own_only { IfOk result (λ serving. IsTrue serving.own_only ↔ IsLoopback start.place) }
+        ensures first { IfOk result (λ serving. (board_of serving.intake).past.first
+            ≡ first_number (option_map as_nanos start.since)) }
+        ensures refused { IfOk result (λ serving. (board_of serving.intake).refused ≡ false) }
+    {
+        let Start {
+            listener,
+            place,
+            since,
+        } = start;
         let input = Input::new(alloc, net, fd);
         let is_polled = input.is_polled();
         let Ok(lines) = Lines::new(alloc) else {
@@ -112,25 +130,24 @@ impl<'a, R: Read, E: Write, N: Net<Listener = TcpListener, Stream = TcpStream> +
             door,
             listener,
             peers: Peers::new(alloc),
-            page: Page::new(alloc),
-            history: History::new(alloc, first_number(net)),
+            intake: Intake::new(alloc, first_number(since)),
             reader,
             input,
             lines,
             fd,
             is_polled,
             is_ended: false,
-            count: 0,
-            refused: false,
             begun,
             ticked: 0,
             heard: None,
-            own_only,
+            own_only: own_only(&place),
         })
     }
 
     /// Serves until the input has ended and what waits is sent. Whether a line was no object of ours.
-    pub(crate) fn serve(&mut self) -> Result<bool, Stop> {
+    pub(crate) fn serve(&mut self) -> Result<bool, Stop>
+        ensures { IfOk result (λ refused. refused ≡ (board_of self.new.intake).refused) }
+    {
         let mut tokens = Vec::new(self.alloc);
         let mut ended = 0;
         let mut at_once = true;
@@ -144,14 +161,15 @@ impl<'a, R: Read, E: Write, N: Net<Listener = TcpListener, Stream = TcpStream> +
             }
             if self.is_ended {
                 if !self.peers.is_behind() || self.now() >= LAST.saturating_add(ended) {
-                    return Ok(self.refused);
+                    return Ok(self.intake.refused());
                 }
                 at_once = false;
             } else {
                 at_once = self.take_lines()?;
                 ended = self.now();
             }
-            self.peers.deliver(self.alloc, &self.history, &self.door);
+            self.peers
+                .deliver(self.alloc, self.intake.history(), &self.door);
             self.tick();
         }
         Err(Stop::Listening)
@@ -191,8 +209,7 @@ impl<'a, R: Read, E: Write, N: Net<Listener = TcpListener, Stream = TcpStream> +
                 token.0,
                 seconds,
                 self.own_only,
-                &self.page,
-                &self.history,
+                &self.intake,
                 &self.door,
                 &mut self.peers,
             );
@@ -233,13 +250,23 @@ impl<'a, R: Read, E: Write, N: Net<Listener = TcpListener, Stream = TcpStream> +
             }
         }
         for _line in 0..LINES_MAX {
-            match self.lines.cut() {
-                Ok(Cut::Nothing) => return Ok(true),
-                Ok(_) => self.take()?,
-                Err(_) => return Err(Stop::OutOfMemory),
+            if !self.take_next()? {
+                return Ok(true);
             }
         }
         Ok(true)
+    }
+
+    /// Takes the next line of what was read. Whether there was one.
+    fn take_next(&mut self) -> Result<bool, Stop> {
+        match self.lines.cut() {
+            Ok(Cut::Nothing) => Ok(false),
+            Ok(_) => {
+                self.take()?;
+                Ok(true)
+            }
+            Err(_) => Err(Stop::OutOfMemory),
+        }
     }
 
     /// The input has ended: a line that no line feed ends is taken, and no more events come.
@@ -252,25 +279,17 @@ impl<'a, R: Read, E: Write, N: Net<Listener = TcpListener, Stream = TcpStream> +
         Ok(false)
     }
 
-    /// Takes the line that was cut, which is an event where it is an object of ours; nothing is left of one that is too
-    /// long, which is none.
+    /// Takes the line that was cut, once, which is an event where it is an object of ours; nothing is left of one that
+    /// is too long, which is none.
     fn take(&mut self) -> Result<(), Stop> {
-        self.count = self.count.saturating_add(1);
-        let before = self.page.counts().messages;
-        match self.page.take(self.alloc, self.lines.line()) {
+        let before = self.intake.page().counts().messages;
+        match self.intake.take(self.alloc, self.lines.line()) {
             Err(_) => return Err(Stop::OutOfMemory),
-            Ok(Took::Other) => {
-                self.refused = true;
-                say_other(self.count, self.errors);
-            }
-            Ok(Took::Ours(text)) => match self.history.add(text.into_bytes()) {
-                Ok(()) => self.peers.catch_up(self.alloc, &self.history),
-                Err(AddFault::OutOfMemory) => return Err(Stop::OutOfMemory),
-                Err(AddFault::NotOneLine | AddFault::NoNumber) => {}
-            },
+            Ok(Taken::Other(number)) => say_other(number, self.errors),
+            Ok(Taken::Event) => self.peers.catch_up(self.alloc, self.intake.history()),
+            Ok(Taken::Unsent) => {}
         }
-        self.lines.clear();
-        if self.page.counts().messages != before {
+        if self.intake.page().counts().messages != before {
             self.heard = Some(self.now());
         }
         Ok(())
@@ -282,7 +301,8 @@ impl<'a, R: Read, E: Write, N: Net<Listener = TcpListener, Stream = TcpStream> +
         if now >= self.ticked.saturating_add(TICK) {
             self.ticked = now;
             self.peers.tick();
-            self.peers.deliver(self.alloc, &self.history, &self.door);
+            self.peers
+                .deliver(self.alloc, self.intake.history(), &self.door);
         }
     }
 }
@@ -293,31 +313,12 @@ fn turn_one(
     key: usize,
     seconds: Option<u64>,
     own_only: bool,
-    page: &Page,
-    history: &History,
+    intake: &Intake,
     door: &Door,
     peers: &mut Peers,
 ) {
-    let is_full = peers.is_full();
-    let site = Site {
-        page,
-        history,
-        seconds,
-        own_only,
-        is_full,
-    };
+    let site = intake.site(seconds, own_only, peers.is_full());
     peers.turn(alloc, key, &site, door);
-}
-
-/// The number of the first event: the time since 1970 in microseconds, or 1 where the machine has no clock.
-fn first_number<C: Clock>(clock: &C) -> u64 {
-    match SystemTime::now(clock) {
-        Ok(now) => match now.duration_since(SystemTime::UNIX_EPOCH) {
-            Ok(since) => u64::try_from(since.as_micros()).unwrap_or(1),
-            Err(_) => 1,
-        },
-        Err(_) => 1,
-    }
 }
 
 /// Says where the page is found.

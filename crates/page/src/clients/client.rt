@@ -1,7 +1,8 @@
 //! One connection: what it is for, and what it is answered from (profile).
 ghost use Rattle.std.specs.Prelude.{◌≡◌};
 ghost use Rattle.http1.specs.Server.{writing};
-ghost use Rattle.page.specs.declared.clients.client.Phase.TheVariants.{Live};
+ghost use Rattle.page.specs.declared.clients.client.Phase.TheVariants.{Asking, Live};
+ghost use Rattle.page.specs.Fresh.{fresh};
 ghost use Rattle.page.specs.Streaming.{IsStreaming};
 
 use crate::events::History;
@@ -43,5 +44,6 @@ pub struct Client {
     pub(crate) due: u64,
     pub(crate) input: Vec<u8>,
     pub(crate) output: Vec<u8>,
+    ghost asks: { phase ≡ Asking → server ≡ fresh },
     ghost streams: { phase ≡ Live → IsStreaming (writing server) },
 }

@@ -1,7 +1,8 @@
 //! What came of a connection's request, and what waits to be sent (profile; RFC 9112).
-ghost use Rattle.std.specs.Prelude.{◌≡◌, ◌≤◌, [], length, take, drop, IfOk, OnErr};
+ghost use Rattle.std.specs.Prelude.{◌≡◌, ◌≤◌, [], ◌++◌, length, take, drop, IfOk, OnErr};
 ghost use Rattle.std.specs.Io.KnownBytes.{Appends, Keeps};
-ghost use Rattle.page.specs.ClientView.{standing_of};
+ghost use Rattle.page.specs.ClientView.{standing_of, source_of, came_of};
+ghost use Rattle.page.specs.Hearing.{Hears};
 
 use crate::clients::asked::Asked;
 use crate::clients::client::{Client, Phase, Site};
@@ -19,6 +20,7 @@ impl Client {
     pub fn new(alloc: Global) -> Client
         ensures waiting { (standing_of result).output ≡ [] }
         ensures phase { (standing_of result).phase ≡ Phase.Asking }
+        ensures came { came_of result ≡ [] }
     {
         Client {
             server: Server::new(Limits::default()),
@@ -64,6 +66,9 @@ impl Client {
     /// Takes what came of its request, and answers it once its head is whole. What comes behind that is passed over.
     pub fn receive(&mut self, alloc: Global, came: &[u8], site: &Site<'_>)
         ensures kept { ((standing_of self.old).phase ≡ Phase.Asking → ⊥) → standing_of self.new ≡ standing_of self.old }
+        ensures hears { (standing_of self.old).phase ≡ Phase.Asking → Hears (source_of site.now) site.now.own_only
+            (came_of self.old ++ came.now) (standing_of self.old) (standing_of self.new) }
+        ensures came { (standing_of self.new).phase ≡ Phase.Asking → came_of self.new ≡ came_of self.old ++ came.now }
     {
         if self.phase != Phase::Asking {
             return;
@@ -72,15 +77,30 @@ impl Client {
             self.phase = Phase::Closing;
             return;
         }
+        self.hear(alloc, site);
+    }
+
+    /// Answers what came of its request, once its head is whole.
+    fn hear(&mut self, alloc: Global, site: &Site<'_>)
+        requires { self.old.phase ≡ Phase.Asking }
+        ensures hears { Hears (source_of site.now) site.now.own_only (came_of self.old)
+            (standing_of self.old) (standing_of self.new) }
+        ensures came { self.new.input.items ≡ self.old.input.items }
+    {
         let mut fields = [EMPTY_HEADER_SPAN; FIELDS_MAX];
-        match self.server.read(self.input.as_slice(), &mut fields) {
+        let input = self.input.as_slice();
+        match self.server.read(input, &mut fields) {
             Ok(progress) => {
                 if let Event::Head(head) = progress.event {
-                    let asked = Asked::of(self.input.as_slice(), &head, &fields, site.own_only);
-                    self.answer(alloc, &asked, site);
+                    let asked = Asked::of(input, &head, &fields[..head.headers], site.own_only);
+                    self.phase = Phase::Closing;
+                    let _ = self.answer(alloc, &asked, site);
                 }
             }
-            Err(error) => self.refuse(error.status()),
+            Err(error) => {
+                self.phase = Phase::Closing;
+                let _ = self.refuse(error.status());
+            }
         }
     }
 }

@@ -6,7 +6,7 @@ ghost use Rattle.http1.specs.Server.{writing};
 ghost use Rattle.page.specs.Events.{Event};
 ghost use Rattle.page.specs.Stream.{part_text, carries};
 ghost use Rattle.page.specs.declared.clients.event_stream.EndOfEvents.TheVariants.{Lost};
-ghost use Rattle.page.specs.Sending.{Delivers, IsLive, SaysAlive, Ends, owed};
+ghost use Rattle.page.specs.Sending.{Delivers, Writes, IsLive, SaysAlive, Ends, owed};
 ghost use Rattle.page.specs.ClientView.{standing_of};
 
 use crate::clients::client::{Client, Phase};
@@ -105,9 +105,13 @@ impl Client {
         history: &History,
         writer: &mut W,
     ) -> Result<(), EndOfEvents>
-        ensures { IsLive (standing_of self.old) → (events : List Event) × (written : List ℕ)
+        ensures sends { IsLive (standing_of self.old) → (events : List Event) × (written : List ℕ)
             × Appends (W.contents writer.old) (W.contents writer.new) written
             × Delivers history.now events written (standing_of self.old) (standing_of self.new) }
+        ensures phase { (standing_of self.new).phase ≡ (standing_of self.old).phase }
+        ensures idle { (IsLive (standing_of self.old) → ⊥) → (written : List ℕ)
+            × Appends (W.contents writer.old) (W.contents writer.new) written
+            × Writes written (standing_of self.old) (standing_of self.new) }
     {
         for _write in 0..WRITES_MAX {
             self.catch_up(alloc, history)?;

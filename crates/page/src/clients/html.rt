@@ -1,5 +1,5 @@
 //! The page itself: nothing of it comes from elsewhere. The policy names its script and its style by their SHA-256, so
-//! that a browser runs no other; tests/page compares them.
+//! that a browser runs no other; tests/run/page compares them.
 
 /// What a browser may load for it, and from where (Content Security Policy Level 3).
 pub(crate) const POLICY: &[u8] = b"default-src 'none'; \
