@@ -2,3 +2,4 @@ pub mod Chain
 pub mod Heard
 pub mod Parts
 pub mod Told
+pub mod BuiltIn

@@ -5,3 +5,4 @@ pub mod Dialling
 pub mod Running
 pub mod Place
 pub mod Telling
+pub mod OverTcp

@@ -41,6 +41,7 @@ impl<'a, N: Net<Stream = TcpStream> + Clock, W: Write> Model for Patient<'a, N, 
       host = p.dialing.host;
       port = p.dialing.port;
       timeout = p.dialing.timeout;
+      patience = p.patience;
       told = W.contents p.notices.now;
     } };
 }
@@ -57,7 +58,13 @@ impl<'a, N: Net<Stream = TcpStream> + Clock, W: Write> Patient<'a, N, W> {
         watch: &'a Watch,
         notices: &'a mut W,
     ) -> Patient<'a, N, W>
-        ensures { result ≡ record { host = host.now; port = port; timeout = timeout; told = W.contents notices.old } }
+        ensures { result ≡ record {
+          host = host.now;
+          port = port;
+          timeout = timeout;
+          patience = patience;
+          told = W.contents notices.old;
+        } }
     {
         Patient {
             dialing: Dialing::new(net, host, port, timeout),

@@ -1,5 +1,5 @@
 -- The job `send` over TCP (profile).
-use Rattle.std.specs.Prelude.{◌≡◌, ◌⊎◌, ℕ, ◌≤◌, List, [], Option, None, Result}
+use Rattle.std.specs.Prelude.{◌≡◌, ◌⊎◌, ℕ, ◌≤◌, ◌==◌, List, [], Option, Some, None, Result, if◌then◌else◌}
 use Rattle.std.specs.String.{string_bytes}
 use Rattle.uecp_text.specs.declared.run_fault.RunFault.TheVariants.{OutOfMemory}
 use Rattle.uecp_text.specs.Faults.{error_lines}
@@ -9,13 +9,35 @@ use Rattle.uecp_net.specs.declared.saved.keep.Progress.{Progress}
 use Rattle.uecp_net.specs.Keeping.{KeptServer}
 use Rattle.state_files.specs.declared.fault.StateFault.{StateFault}
 use Rattle.live_edges.specs.Patience.{Dialled}
+use Rattle.live_edges.specs.declared.patience.Patience.{Patience}
 use Rattle.commands.specs.declared.send_options.SendOptions.{SendOptions}
 use Rattle.send_commands.specs.Job.{HasSentLive}
 
--- The host and the port of the job are dialled, with its limit of time; so much was said before.
+-- A limit of so many seconds; none where that is 0.
+abbrev pub limit_of : (seconds : ℕ) → Option ℕ
+limit_of seconds = if seconds == 0 then None else Some seconds
+
+-- For how long the line is waited for: the longest pause between two tries, after how long it is given up, after how
+-- long the encoder is told to be silent, and whether it is joined anew then.
+abbrev pub patience_of : SendOptions → Patience
+patience_of job = record {
+  retry_every = job.retry_every;
+  give_up = limit_of job.give_up;
+  silent = job.silent;
+  stop_when_silent = job.rejoin;
+}
+
+-- The host and the port of the job are dialled, with its limit of time, for as long as it says; so much was said
+-- before.
 abbrev pub DialsLive : SendOptions → (told : Option (List ℕ)) → Dialled → Type 0
 DialsLive job told dialled =
-    dialled ≡ record { host = string_bytes job.host; port = job.port; timeout = job.timeout; told = told }
+    dialled ≡ record {
+      host = string_bytes job.host;
+      port = job.port;
+      timeout = job.timeout;
+      patience = patience_of job;
+      told = told;
+    }
 
 -- The messages of the job's station could not be had, or there was no memory for the feed of its lines: nothing was
 -- taken, opened or written. Where the job has no file for a station it is memory alone, and that was said, or begun to

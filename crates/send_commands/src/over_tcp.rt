@@ -1,7 +1,7 @@
 //! The job `send` over TCP, with lines from a reader. Source: profile.
 ghost use Rattle.std.specs.Prelude.{◌≡◌, ◌≤◌, [], None, IfOk, IfErr};
 ghost use Rattle.send_commands.specs.Job.{IsSendable};
-ghost use Rattle.send_commands.specs.OverTcp.{HasSentOver, DialsLive};
+ghost use Rattle.send_commands.specs.OverTcp.{HasSentOver, DialsLive, limit_of};
 
 use crate::run::run_send;
 use crate::station::{StationFault, read_station};
@@ -144,7 +144,9 @@ fn patient_of<'a, N: Net<Stream = TcpStream> + Clock, M: Write>(
 }
 
 /// A limit of so many seconds; none where it is 0.
-fn limit_of(seconds: u32) -> Option<u64> {
+fn limit_of(seconds: u32) -> Option<u64>
+    ensures { result ≡ limit_of seconds }
+{
     if seconds == 0 {
         None
     } else {

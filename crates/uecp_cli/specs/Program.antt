@@ -28,6 +28,7 @@ use Rattle.uecp_jobs.specs.EncoderRun.{HasServed, HasStopped}
 use Rattle.uecp_jobs.specs.ServerRun.{AreAcknowledged, AreAcknowledgedBefore, AreNotAcknowledged}
 use Rattle.uecp_cli.specs.Kept.{HasServedLines, SaysWhyOf, ServesKeptAs, SendsDone, SendsRefused, SendsStopped}
 use Rattle.uecp_cli.specs.Kept.{SendsKeptAs, HasTold, HasNotTold}
+use Rattle.uecp_cli.specs.Apart.{ComesOf}
 
 -- ---- where connections come from
 -- Connections are accepted on the port of the job.
@@ -156,6 +157,12 @@ HasKept gives_encoder encoder_leaves encoder_clean gives_server server_leaves se
     held' = (job : Job) × Asks words job
     × IsJobKept gives_encoder encoder_leaves encoder_clean gives_server server_leaves server_clean job unread unread'
     held held'
+
+-- The words ask for a job, and this comes of it.
+abbrev pub HasCome : {I O : Type 0} → (remaining : I → Option (List ℕ)) → (contents : O → Option (List ℕ))
+    → (words : List (List ℕ)) → (status : ℕ) → (unread unread' held held' told told' : Option (List ℕ)) → Type 0
+HasCome remaining contents words status unread unread' held held' told told' =
+    (job : Job) × Asks words job × ComesOf remaining contents job status unread unread' held held' told told'
 
 -- The words ask for nothing that can be done: they are mistaken, or give a list of services that is none or a form of a
 -- ladder that is none, or ask for a job whose options describe no encoder. The first and the third are said by clap,

@@ -15,9 +15,10 @@ ghost use Rattle.command_line.specs.Usages.{AskForText, SaysFailure};
 ghost use Rattle.receive_command.specs.Bits.{ReceivesBits};
 ghost use Rattle.uecp_cli.specs.Program.{AskApart, HasDone, HasRefused, HasKept, HasRefusedWords, HasBrokenOff};
 ghost use Rattle.uecp_cli.specs.Program.{IsApart, IsJobDone, IsJobRefused, IsJobStopped, IsJobKept, ListensFor};
-ghost use Rattle.uecp_cli.specs.Program.{DialsFor};
+ghost use Rattle.uecp_cli.specs.Program.{DialsFor, HasCome};
 ghost use Rattle.uecp_cli.specs.Kept.{HasServedLines, SaysWhyOf, ServesKeptAs, SendsDone, SendsRefused, SendsStopped};
 ghost use Rattle.uecp_cli.specs.Kept.{SendsKeptAs, SendsNotAll};
+ghost use Rattle.uecp_cli.specs.Apart.{ComesOf, AnswersOnAir, DrawsLadder};
 
 use crate::unreached::say_unreached;
 use air_jobs::{AirJob, run_answer_on_air};
@@ -109,6 +110,11 @@ pub fn run_words<
         S.EncoderKeeper.is_clean (S.gives_server states.now) S.ServerKeeper.leaves S.ServerKeeper.is_clean
         (map string_bytes words.now) (R.remaining reader.old) (R.remaining reader.new) (W.contents writer.old)
         (W.contents writer.new)) }
+    // 0 or 1: this comes of groups on the air, a ladder, a display of bits, and conformance cases.
+    ensures comes { (result ≡ 0) ⊎ (result ≡ 1) → AskForText (map string_bytes words.now)
+        ⊎ HasCome ⟦<TcpStream as Read>⟧.remaining ⟦<TcpStream as Write>⟧.contents (map string_bytes words.now) result
+        (R.remaining reader.old) (R.remaining reader.new) (W.contents writer.old) (W.contents writer.new)
+        (E.contents errors.old) (E.contents errors.new) }
 {
     match parse(alloc, words) {
         Ok(job) => run_asked(alloc, &job, reader, writer, errors, hands, net, states),
@@ -152,6 +158,10 @@ fn run_asked<
         S.EncoderKeeper.leaves S.EncoderKeeper.is_clean
         (S.gives_server states.now) S.ServerKeeper.leaves S.ServerKeeper.is_clean job.now (R.remaining reader.old)
         (R.remaining reader.new) (W.contents writer.old) (W.contents writer.new) }
+    // 0 or 1: this comes of what is made of the options of a command.
+    ensures comes { (result ≡ 0) ⊎ (result ≡ 1) → ComesOf ⟦<TcpStream as Read>⟧.remaining
+        ⟦<TcpStream as Write>⟧.contents job.now result (R.remaining reader.old) (R.remaining reader.new)
+        (W.contents writer.old) (W.contents writer.new) (E.contents errors.old) (E.contents errors.new) }
 {
     match job {
         Job::AnswerWith(options) => match options.air {
@@ -196,8 +206,7 @@ fn run_asked<
     }
 }
 
-/// Answers the input and has so many groups of the store on the air behind, and answers the exit status, as
-/// `run_answer_on_air` says.
+/// Answers the input and has so many groups of the store on the air behind, and answers the exit status.
 fn answer_on_air<R: Read, W: Write, E: Write>(
     alloc: Global,
     options: &AnswerOptions,
@@ -205,7 +214,10 @@ fn answer_on_air<R: Read, W: Write, E: Write>(
     reader: &mut R,
     writer: &mut W,
     errors: &mut E,
-) -> u8 {
+) -> u8
+    ensures { AnswersOnAir options.now result (R.remaining reader.old) (R.remaining reader.new) (W.contents writer.old)
+        (W.contents writer.new) (E.contents errors.old) (E.contents errors.new) groups }
+{
     let job = AirJob {
         setup: Setup {
             site: options.site,
@@ -220,7 +232,7 @@ fn answer_on_air<R: Read, W: Write, E: Write>(
     run_answer_on_air(alloc, &job, reader, writer, errors)
 }
 
-/// Draws the line of the input as a ladder, and answers the exit status, as `run_ladder` says.
+/// Draws the line of the input as a ladder, and answers the exit status.
 fn draw<R: Read, W: Write, E: Write>(
     alloc: Global,
     options: &LineOptions,
@@ -228,7 +240,10 @@ fn draw<R: Read, W: Write, E: Write>(
     reader: &mut R,
     writer: &mut W,
     errors: &mut E,
-) -> u8 {
+) -> u8
+    ensures { DrawsLadder options.now result (R.remaining reader.old) (R.remaining reader.new) (W.contents writer.old)
+        (W.contents writer.new) (E.contents errors.old) (E.contents errors.new) form }
+{
     let job = LadderJob {
         setup: Setup {
             site: options.site,

@@ -7,7 +7,7 @@ use Rattle.send_commands.proofs.run.run_send.Goals as goal
 
 pub returns-in-Some-state-clause-sent : goal.returns-in-Some-state-clause-sent
 returns-in-Some-state-clause-sent g c =
-    let k = g.S.ServerKeeper.KeepServer in
+    let k = g.S.ServerKeeper.Keep in
     let run = c.run_live_in in
     let sent : SendsFrom g.C.Connections.opens g.C.Connections.closes g.C.Input.Read.remaining g.C.Output.Write.contents
     (g.S.OpenStates.gives_server c.args.states.now) (g.S.OpenStates.refuses_server c.args.states.now)
@@ -46,7 +46,7 @@ returns-in-Some-state-clause-sent g c =
 
 pub returns-in-None-clause-sent : goal.returns-in-None-clause-sent
 returns-in-None-clause-sent g c =
-    let k = g.S.ServerKeeper.KeepServer in
+    let k = g.S.ServerKeeper.Keep in
     let run = c.run_unkept in
     let none : option_map string_bytes c.args.job.now.state ≡ None = search rules in
     inl (

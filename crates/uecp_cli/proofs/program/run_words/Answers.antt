@@ -69,3 +69,7 @@ returns-in-Ok-clause-kept g c = λ either.
     let job = c.in-Ok.job in
     let asks = c.in-Ok.ensures.asked in
     or_apart words job asks (λ kept. inr (job, asks, kept)) (c.run_asked.ensures.kept either)
+
+pub returns-in-Ok-clause-comes : goal.returns-in-Ok-clause-comes
+returns-in-Ok-clause-comes g c = λ either.
+    inr (c.in-Ok.job, c.in-Ok.ensures.asked, c.run_asked.ensures.comes either)
