@@ -34,6 +34,29 @@ def load():
 RT, LIBRARY = load()
 
 
+def share_work(is_shared):
+    """Whether what is proved is kept for other clones of this machine, where the kit can do that: not each letter of it does."""
+    if hasattr(RT, "share_work"):
+        RT.share_work(is_shared)
+
+
+def link_or_copy(of, to):
+    """One file more of the same bytes, by a link where the disk gives one."""
+    try:
+        os.link(of, to)
+    except OSError:
+        shutil.copy2(of, to)
+    return to
+
+
+def copy_crates(top, to):
+    """A copy of a repository's crates, without what was made of them."""
+    os.makedirs(to)
+    for name in ("crates.txt", "HANDLES"):
+        shutil.copy2(f"{top}/{name}", f"{to}/{name}")
+    shutil.copytree(f"{top}/crates", f"{to}/crates", ignore=shutil.ignore_patterns("out"))
+
+
 def processors():
     return len(os.sched_getaffinity(0))
 

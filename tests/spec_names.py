@@ -12,6 +12,7 @@ import re
 
 from edit_names import CLOSES, closing, read
 
+MEMBER = re.compile(r"⟦<[^⟧]*>⟧\.\w+")
 TOKEN = re.compile(
     r"""--[^\n]*|"(?:[^"\\]|\\.)*"|λ|[^\W\dλ][\w'×]*(?:\.[^\W\dλ][\w']*)*(?:\.\d+)?|\.?\d\w*|\.[^\W\dλ][\w']*|[()\[\]{},;]"""
     r"""|[^\s\w()\[\]{}",;]+"""
@@ -74,6 +75,8 @@ def led(path, name):
         return Kit(crate, name)
     parts = parts[1:]
     if parts[0] in ("declared", "contracts"):
+        if parts[-1] == "TheConstants":
+            return declared(crate, parts[1:-1], name)
         parts = [part for part in parts[1:] if part != "TheVariants"]
         return declared(crate, parts[:-1], parts[-1])
     file = f"crates/{crate}/specs/{'/'.join(parts)}.antt"
@@ -96,7 +99,7 @@ def led(path, name):
 
 
 def declared(crate, parts, name):
-    """The type or trait of this name in a file of src, or in the crate where that file has none."""
+    """The type, trait or constant of this name in a file of src, or in the crate where that file has none."""
     file = f"crates/{crate}/src/{'/'.join(parts)}.rt"
     places = declarations(crate).get(name, [])
     if file in places:
@@ -108,11 +111,11 @@ def declared(crate, parts, name):
 
 @functools.lru_cache(maxsize=None)
 def declarations(crate):
-    """The files of a crate that declare a type or a trait, by its name."""
+    """The files of a crate that declare a type, a trait or a constant, by its name."""
     found = {}
     for at, _, names in sorted(os.walk(f"crates/{crate}/src")):
         for file in sorted(f"{at}/{name}" for name in names if name.endswith(".rt")):
-            for name in re.findall(r"^(?:pub(?:\([a-z]+\))? )?(?:enum|struct|trait|type) (\w+)", read(file), re.M):
+            for name in re.findall(r"^(?:pub(?:\([a-z]+\))? )?(?:enum|struct|trait|type|const) (\w+)", read(file), re.M):
                 found.setdefault(name, []).append(file)
     return found
 
@@ -237,7 +240,9 @@ def bound_names(words, at):
 
 
 def words_of(text):
-    return [word for word in TOKEN.findall(text) if not word.startswith(("--", '"'))]
+    """The words of a text, but for its comments, its quotes, and the members of the machine's own types, as of a socket."""
+    named = MEMBER.sub("", text)
+    return [word for word in TOKEN.findall(named) if not word.startswith(("--", '"'))]
 
 
 # ---- Definitions.
@@ -448,9 +453,9 @@ def rust_place(file, path):
 
 @functools.lru_cache(maxsize=None)
 def rust_item(file, name):
-    """A type or a trait of src."""
+    """A type, a trait or a constant of src; of a constant the line that names it."""
     lines = read(file).split("\n")
-    mark = re.compile(rf" *(?:pub(?:\([a-z]+\))? )?(enum|struct|trait|type) {name}\b")
+    mark = re.compile(rf" *(?:pub(?:\([a-z]+\))? )?(enum|struct|trait|type|const) {name}\b")
     at = next(number for number, line in enumerate(lines) if mark.match(line))
     start = at
     while start and lines[start - 1].strip().startswith(("///", "#[", "//")):
@@ -458,6 +463,8 @@ def rust_item(file, name):
     comment = [line for line in lines[start:at] if line.strip().startswith("///")]
     indent = lines[at][: len(lines[at]) - len(lines[at].lstrip())]
     end = at
+    if mark.match(lines[at])[1] == "const":
+        return Item("type", file.split("/")[1], file, at + 1, name, said(comment), ("", ""), lines[at : at + 1], "")
     while not lines[end].rstrip().endswith((";", "{", "}")):
         end += 1
     while lines[end].rstrip().endswith("{") or (end > at and not lines[end].startswith((f"{indent}}}", f"{indent})"))):
