@@ -57,7 +57,8 @@ returns-in-Ok-clause-serves g c =
 pub returns-in-Ok-clause-kept : goal.returns-in-Ok-clause-kept
 returns-in-Ok-clause-kept g c = λ zero.
     let run = c.serve_in-status in
-    let k = g.S.EncoderKeeper.KeepEncoder in
+    let k = g.S.EncoderKeeper.Keep in
+    let m = g.S.EncoderKeeper.BatchLimits in
     let held = g.W.Write.contents c.args.writer.now in
     let given = ap (λ (l : Log). l.loan) c.new-log.ensures in
     let start : c.new-log.result ≡ plain_log c.new-log.result.loan held =
@@ -74,7 +75,7 @@ returns-in-Ok-clause-kept g c = λ zero.
     c.args.path.now c.args.options.now held after) now
     (has_served (g.S.OpenStates.gives_encoder c.args.states.now)
     (g.S.OpenStates.refuses_encoder c.args.states.now) (g.S.OpenStates.closes_encoder c.args.states.now)
-    k.TOGETHER_MAX k.READ_MAX k.leaves k.is_clean k.saves k.fails g.C.Connections.opens g.C.Connections.closes
+    m.TOGETHER_MAX m.READ_MAX k.leaves k.is_clean k.saves k.fails g.C.Connections.opens g.C.Connections.closes
     g.C.Input.Read.remaining g.C.Output.Write.contents _ c.args.options.now.connections c.args.path.now _ _ _ _ _
     c.new-log.result.loan held run.new.log _ _ run.result small zero
     (rw (c.as_slice.ensures.value, store, connections, start, address) at run.ensures.serves))
@@ -82,11 +83,12 @@ returns-in-Ok-clause-kept g c = λ zero.
 pub returns-in-Ok-clause-said : goal.returns-in-Ok-clause-said
 returns-in-Ok-clause-said g c = λ three.
     let run = c.serve_in-status in
-    let k = g.S.EncoderKeeper.KeepEncoder in
+    let k = g.S.EncoderKeeper.Keep in
+    let m = g.S.EncoderKeeper.BatchLimits in
     let plain = plain_limits c.args.options.now c.requires.plain in
     let limits = c.limits_of-limits.ensures in
     let store = limits.store ∙ plain.1 in
     says_why (g.S.OpenStates.gives_encoder c.args.states.now) (g.S.OpenStates.refuses_encoder c.args.states.now)
-    (g.S.OpenStates.closes_encoder c.args.states.now) k.TOGETHER_MAX k.READ_MAX k.leaves k.is_clean k.saves k.fails
+    (g.S.OpenStates.closes_encoder c.args.states.now) m.TOGETHER_MAX m.READ_MAX k.leaves k.is_clean k.saves k.fails
     g.C.Connections.opens g.C.Connections.closes g.C.Input.Read.remaining g.C.Output.Write.contents _ _
     c.args.path.now _ _ _ _ _ _ _ _ _ run.result three (rw store at run.ensures.serves)

@@ -9,8 +9,9 @@ use Rattle.device_jobs.proofs.serving.serve_in.Goals as goal
 pub returns-in-Ok-clause-serves : goal.returns-in-Ok-clause-serves
 returns-in-Ok-clause-serves g c =
     let run = c.run_device-status in
-    let k = g.S.EncoderKeeper.KeepEncoder in
-    let ended = ends (λ (went : Went). RunsDevice k.TOGETHER_MAX k.READ_MAX k.leaves k.is_clean k.saves k.fails
+    let k = g.S.EncoderKeeper.Keep in
+    let m = g.S.EncoderKeeper.BatchLimits in
+    let ended = ends (λ (went : Went). RunsDevice m.TOGETHER_MAX m.READ_MAX k.leaves k.is_clean k.saves k.fails
     g.C.Connections.opens g.C.Connections.closes g.C.Input.Read.remaining g.C.Output.Write.contents c.args.limits.turns
     c.args.limits.connections c.args.limits.store (record {
       encoder = c.in-Ok.encoder;

@@ -9,9 +9,10 @@ use Rattle.on_air_jobs.proofs.serving.air_in.Goals as goal
 pub returns-in-Ok : goal.returns-in-Ok
 returns-in-Ok g c =
     let run = c.run_on_air-status in
-    let k = g.S.EncoderKeeper.KeepEncoder in
+    let k = g.S.EncoderKeeper.Keep in
+    let b = g.S.EncoderKeeper.BatchLimits in
     let m = g.M.Moments in
-    let ended = ends (λ (start : Carousel) (left : ℕ) (went : Went). RunsOnAir k.TOGETHER_MAX k.READ_MAX k.leaves
+    let ended = ends (λ (start : Carousel) (left : ℕ) (went : Went). RunsOnAir b.TOGETHER_MAX b.READ_MAX k.leaves
     k.is_clean k.saves k.fails m.waits m.closes m.sends g.M.Input.Read.remaining g.M.Output.Write.contents
     c.args.limits.turns c.args.limits.store (standing c.in-Ok.encoder c.in-Ok.keeper c.args.log.now c.args.moments.now
     start c.args.limits.connections) (standing run.new.encoder run.new.keeper run.new.log run.new.moments
