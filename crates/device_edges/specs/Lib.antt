@@ -1,2 +1,3 @@
 -- The definitions that the contracts of the edges of a device cite.
 pub mod Place
+pub mod Screen

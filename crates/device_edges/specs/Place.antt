@@ -1,5 +1,5 @@
 -- Where a device listens (profile).
-use Rattle.std.specs.Prelude.{◌≡◌, ◌≢◌, ℕ, List, Bool, Option, Some, None}
+use Rattle.std.specs.Prelude.{◌≡◌, ◌≢◌, ℕ, List, Option, Some, None}
 use Rattle.std.specs.declared.net.ip_addr.IpAddr.{IpAddr}
 use Rattle.std.specs.declared.net.socket_addr.SocketAddr.{SocketAddr}
 use Rattle.std.specs.Net.Grammar.{IsIpText, IsSocketText}
@@ -7,12 +7,17 @@ use Rattle.std.specs.Net.Socket.{socket_ip, socket_port, IsPlainSocket}
 use Rattle.device_edges.specs.declared.address.AddressFault.{AddressFault}
 use Rattle.device_edges.specs.declared.address.AddressFault.TheVariants.{NoAddress, NoPort, TwoPorts, PortZero}
 
--- What is listened on, and the limit of a connection on which nothing comes, in seconds, if there is one; and whether
--- the last connection was given up at that limit.
+-- What is listened on, and the limit of a connection on which nothing comes, in seconds, if there is one.
 pub record Listens : Type 0 where
   pub place : SocketAddr
   pub idle : Option ℕ
-  pub was_idle : Bool
+
+-- Connections come and go, and that stays.
+abbrev pub ComesTo : {I O : Type 0} → Listens → Option (I × O) → Listens → Type 0
+ComesTo listens ends listens' = listens' ≡ listens
+
+abbrev pub GoesFrom : {I O : Type 0} → Listens → I → O → Listens → Type 0
+GoesFrom listens input output listens' = listens' ≡ listens
 
 -- The text writes an IP address with no port (RFC 4291, 2.2, for version 6).
 abbrev pub IsAddress : List ℕ → Type 0

@@ -1,5 +1,5 @@
 //! Connections that are accepted where a device listens. Nothing is claimed of what a socket gives or takes (profile).
-ghost use Rattle.std.specs.Prelude.{◌≡◌, false, IfOk};
+ghost use Rattle.std.specs.Prelude.{◌≡◌, IfOk};
 ghost use Rattle.device_edges.specs.Place.{Listens};
 
 use crate::idle::Idle;
@@ -34,13 +34,12 @@ pub struct Accepting<'a, N: Net<Listener = TcpListener, Stream = TcpStream> + Cl
     place: SocketAddr,
     idle: Option<u32>,
     listener: TcpListener,
-    was_idle: bool,
 }
 
 impl<'a, N: Net<Listener = TcpListener, Stream = TcpStream> + Clock> Model for Accepting<'a, N> {
     ghost Value = { Listens };
 
-    ghost view = { λ a. record { place = a.place; idle = a.idle; was_idle = a.was_idle } };
+    ghost view = { λ a. record { place = a.place; idle = a.idle } };
 }
 
 impl<'a, N: Net<Listener = TcpListener, Stream = TcpStream> + Clock> Accepting<'a, N> {
@@ -54,7 +53,7 @@ impl<'a, N: Net<Listener = TcpListener, Stream = TcpStream> + Clock> Accepting<'
         place: SocketAddr,
         idle: Option<u32>,
     ) -> Result<Accepting<'a, N>, BindFault>
-        ensures { IfOk result (λ accepting. accepting ≡ record { place = place; idle = idle; was_idle = false }) }
+        ensures { IfOk result (λ accepting. accepting ≡ record { place = place; idle = idle }) }
     {
         match bind(net, place) {
             Ok(listener) => Ok(Accepting {
@@ -62,17 +61,9 @@ impl<'a, N: Net<Listener = TcpListener, Stream = TcpStream> + Clock> Accepting<'
                 place,
                 idle,
                 listener,
-                was_idle: false,
             }),
             Err(fault) => Err(fault),
         }
-    }
-
-    /// Whether the connection that was given back last was given up since nothing came on it.
-    pub fn was_idle(&self) -> bool
-        ensures { result ≡ self.now.was_idle }
-    {
-        self.was_idle
     }
 
     /// Accepts a connection.
@@ -91,9 +82,11 @@ impl<'a, N: Net<Listener = TcpListener, Stream = TcpStream> + Clock> Connections
 
     type Output = TcpStream;
 
-    ghost opens = { λ listens _ listens'. listens' ≡ listens };
+    ghost use Rattle.device_edges.specs.Place.{ComesTo, GoesFrom};
 
-    ghost closes = { λ listens input _ listens'. listens' ≡ record listens { was_idle = input.1 } };
+    ghost opens = { λ listens ends listens'. ComesTo listens ends listens' };
+
+    ghost closes = { λ listens input output listens'. GoesFrom listens input output listens' };
 
     fn open(&mut self) -> Option<(Idle<TcpStream>, TcpStream)> {
         for _try in 0..TRIES_MAX {
@@ -106,9 +99,7 @@ impl<'a, N: Net<Listener = TcpListener, Stream = TcpStream> + Clock> Connections
         None
     }
 
-    fn close(&mut self, input: Idle<TcpStream>, _output: TcpStream) {
-        self.was_idle = input.is_idle();
-    }
+    fn close(&mut self, _input: Idle<TcpStream>, _output: TcpStream) {}
 }
 
 /// Listens at an address and a port from now on.

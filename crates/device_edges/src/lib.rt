@@ -5,13 +5,19 @@
 //! - [`Accepting`]: [`Connections`](uecp_net::Connections) that are accepted there one after another; [`BindFault`]
 //!   says why nobody can listen there. They are read through [`Idle`], which notes whether a read was given up since
 //!   nothing came.
+//! - [`Screening`]: connections over others, of which nothing is taken where they are another protocol's: each is read
+//!   through [`Screened`].
 //! - [`bind`], [`two_ends`]: the same in parts, for whoever waits for more than connections.
 #![tactic(auto)]
 
 mod accepting;
 mod address;
 mod idle;
+mod screen;
+mod screening;
 
 pub use accepting::{Accepting, BindFault, bind, two_ends};
 pub use address::{AddressFault, HERE, listen_address};
 pub use idle::Idle;
+pub use screen::Screened;
+pub use screening::Screening;

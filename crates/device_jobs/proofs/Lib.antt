@@ -1,3 +1,4 @@
 -- What is shared by the proofs of a device.
 mod Ending
 mod Kept
+mod Stretches

@@ -2,3 +2,5 @@
 pub mod Limits
 pub mod Serving
 pub mod Kept
+pub mod Connections
+pub mod OverTcp

@@ -1,5 +1,5 @@
 -- The limits of a device (profile).
-use Rattle.std.specs.Prelude.{ℕ, ◌^◌, ◌-◌, if◌then◌else◌}
+use Rattle.std.specs.Prelude.{ℕ, ◌^◌, ◌-◌, ◌==◌, Option, None, Some, if◌then◌else◌}
 use Rattle.commands.specs.declared.encoder_options.EncoderOptions.{EncoderOptions}
 use Rattle.uecp_jobs.specs.Setups.{Options}
 
@@ -15,3 +15,7 @@ turns_of job = if job.forever then 2 ^ 32 - 1 else job.turns
 abbrev pub options_of : EncoderOptions → Options
 options_of job =
     record { site = job.site; encoder = job.encoder; sets = job.sets; services = job.services.items }
+
+-- A limit of so many seconds; none where that is 0.
+abbrev pub limit_of : (seconds : ℕ) → Option ℕ
+limit_of seconds = if seconds == 0 then None else Some seconds

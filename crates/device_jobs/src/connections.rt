@@ -1,74 +1,65 @@
 //! The connections of a device, as its edge tells of them (profile).
+ghost use Rattle.std.specs.Prelude.{◌≡◌, false};
+ghost use Rattle.bad_line.specs.Connections.{Line};
 
 use crate::telling::Told;
 use bad_line::{Effects, Faulty};
-use device_edges::{Accepting, Idle};
-use std::io::Write;
-use std::net::{Net, TcpListener, TcpStream};
+use device_edges::Idle;
+use std::io::{Read, Write};
+use std::marker::Model;
 use std::time::Clock;
 use uecp_net::Connections;
 
-/// Connections that are accepted, and told of where they are closed since nothing came on them.
+/// Connections that are told of where they are closed since nothing came on them; what is told no contract says.
 #[derive(Drop)]
-pub(crate) struct Attended<
-    'a,
-    't,
-    'w,
-    N: Net<Listener = TcpListener, Stream = TcpStream> + Clock,
-    W: Write,
-    C: Clock,
-> {
-    accepting: Accepting<'a, N>,
+pub(crate) struct Attended<'t, 'w, C, W: Write, T: Clock> {
+    connect: C,
     /// After how many seconds they are.
     seconds: u32,
-    told: &'t Told<'w, W, C>,
+    told: &'t Told<'w, W, T>,
 }
 
-impl<
-    'a,
-    't,
-    'w,
-    N: Net<Listener = TcpListener, Stream = TcpStream> + Clock,
-    W: Write,
-    C: Clock,
-> Attended<'a, 't, 'w, N, W, C> {
-    /// The connections that are accepted here, with a limit of so many seconds.
+impl<'t, 'w, C, W: Write, T: Clock> Model for Attended<'t, 'w, C, W, T> {
+    ghost Value = { C };
+
+    ghost view = { λ a. a.connect };
+}
+
+impl<'t, 'w, C, W: Write, T: Clock> Attended<'t, 'w, C, W, T> {
+    /// These connections, which have a limit of so many seconds.
     pub(crate) fn new(
-        accepting: Accepting<'a, N>,
+        connect: C,
         seconds: u32,
-        told: &'t Told<'w, W, C>,
-    ) -> Attended<'a, 't, 'w, N, W, C> {
+        told: &'t Told<'w, W, T>,
+    ) -> Attended<'t, 'w, C, W, T>
+        ensures { result ≡ connect }
+    {
         Attended {
-            accepting,
+            connect,
             seconds,
             told,
         }
     }
 }
 
-impl<
-    'a,
-    't,
-    'w,
-    N: Net<Listener = TcpListener, Stream = TcpStream> + Clock,
-    W: Write,
-    C: Clock,
-> Connections for Attended<'a, 't, 'w, N, W, C> {
-    type Input = Idle<TcpStream>;
+impl<'t, 'w, R: Read + Drop, C: Connections<Input = Idle<R>>, W: Write, T: Clock> Connections
+    for Attended<'t, 'w, C, W, T> {
+    type Input = Idle<R>;
 
-    type Output = TcpStream;
+    type Output = C::Output;
 
-    ghost opens = { λ _ _ _. Unit {0} };
+    ghost opens = { λ connect ends connect'. C.opens connect ends connect' };
 
-    ghost closes = { λ _ _ _ _. Unit {0} };
+    ghost closes = { λ connect input output connect'. C.closes connect input output connect' };
 
-    fn open(&mut self) -> Option<(Idle<TcpStream>, TcpStream)> {
-        self.accepting.open()
+    fn open(&mut self) -> Option<(Idle<R>, Self::Output)> {
+        self.connect.open()
     }
 
-    fn close(&mut self, input: Idle<TcpStream>, output: TcpStream) {
-        self.accepting.close(input, output);
-        if self.accepting.was_idle() {
+    fn close(&mut self, input: Idle<R>, output: Self::Output) {
+        let is_idle = input.is_idle();
+        self.connect.close(input, output);
+        if is_idle {
             self.told.tell_idle(self.seconds);
         }
     }
@@ -81,9 +72,20 @@ pub(crate) struct Restarting<'a, 'f, K: Connections + Drop, T: Clock, E: Effects
     is_restart: bool,
 }
 
+impl<'a, 'f, K: Connections + Drop, T: Clock, E: Effects> Model for Restarting<'a, 'f, K, T, E> {
+    ghost use Rattle.device_jobs.specs.Connections.{Stretch};
+
+    ghost Value = { Stretch K };
+
+    ghost view = { λ r. record { line = r.faulty.now; is_over = r.is_restart } };
+}
+
 impl<'a, 'f, K: Connections + Drop, T: Clock, E: Effects> Restarting<'a, 'f, K, T, E> {
     /// The connections of this line.
-    pub(crate) fn new(faulty: &'a mut Faulty<'f, K, T, E>) -> Restarting<'a, 'f, K, T, E> {
+    pub(crate) fn new(faulty: &'a mut Faulty<'f, K, T, E>) -> Restarting<'a, 'f, K, T, E>
+        ensures line { result.line ≡ faulty.old }
+        ensures over { result.is_over ≡ false }
+    {
         Restarting {
             faulty,
             is_restart: false,
@@ -91,7 +93,9 @@ impl<'a, 'f, K: Connections + Drop, T: Clock, E: Effects> Restarting<'a, 'f, K, 
     }
 
     /// Whether there was none to be had since the encoder begins anew.
-    pub(crate) fn is_restart(&self) -> bool {
+    pub(crate) fn is_restart(&self) -> bool
+        ensures { result ≡ self.now.is_over }
+    {
         self.is_restart
     }
 }
@@ -102,9 +106,12 @@ impl<'a, 'f, K: Connections + Drop, T: Clock, E: Effects> Connections
 
     type Output = <Faulty<'f, K, T, E> as Connections>::Output;
 
-    ghost opens = { λ _ _ _. Unit {0} };
+    ghost use Rattle.device_jobs.specs.Connections.{OpensUpTo, ClosesOn};
 
-    ghost closes = { λ _ _ _ _. Unit {0} };
+    ghost opens = { λ s ends s'. OpensUpTo ⟦<Faulty<'f, K, T, E> as Connections>⟧.opens s ends s' };
+
+    ghost closes = { λ s input output s'.
+        ClosesOn ⟦<Faulty<'f, K, T, E> as Connections>⟧.closes s input output s' };
 
     fn open(&mut self) -> Option<(Self::Input, Self::Output)> {
         if self.faulty.takes_restart() {

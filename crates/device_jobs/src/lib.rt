@@ -17,6 +17,6 @@ mod telling;
 
 pub use device_serving::Limits;
 pub use limits::limits_of;
-pub use over_tcp::{address_of, fail_address, fail_bind, run_device_over_tcp};
+pub use over_tcp::{address_of, fail_address, fail_bind, limit_of, run_device_over_tcp};
 pub use plain::run_encoder_in;
 pub use serving::run_device_from;

@@ -1,5 +1,10 @@
 //! A device over TCP. Source: profile.
-ghost use Rattle.std.specs.Prelude.{◌≤◌};
+ghost use Rattle.std.specs.Prelude.{◌≡◌, ◌≢◌, ◌≤◌, ◌&&◌, [], None, is_some, IfOk, IfErr, MatchResult};
+ghost use Rattle.device_edges.specs.Place.{ComesTo, GoesFrom};
+ghost use Rattle.device_edges.specs.Screen.{OpensScreened, ClosesScreened};
+ghost use Rattle.device_jobs.specs.Limits.{limit_of};
+ghost use Rattle.device_jobs.specs.OverTcp.{IsPlaceOf, IsNoPlaceOf, HasServedTcp, ServesTold};
+ghost use Rattle.device_jobs.specs.Serving.{HasServedDevice};
 
 use crate::connections::{Attended, Restarting};
 use crate::faults::{fail_faults, rules_of};
@@ -8,14 +13,16 @@ use crate::telling::Told;
 use arrayvec::ArrayVec;
 use bad_line::{Faulty, Rule};
 use commands::EncoderOptions;
-use device_edges::{Accepting, AddressFault, BindFault, HERE, listen_address};
+use device_edges::{
+    Accepting, AddressFault, BindFault, HERE, Idle, Screened, Screening, listen_address,
+};
 use device_serving::LogLines;
 use kept_jobs::fail_state;
 use state_jobs::OpenStates;
 use std::alloc::Global;
 use std::fs::Files;
 use std::io;
-use std::io::Write;
+use std::io::{Read, Write};
 use std::net::{Net, SocketAddr, TcpListener, TcpStream};
 use std::time::Clock;
 use uecp_jobs::{Setup, fail, new_encoder};
@@ -24,11 +31,13 @@ use uecp_text::{RunFault, write_parts};
 
 /// Is the device that the job asks for, over TCP, and answers the exit status: that of
 /// [`run_device_from`](crate::run_device_from), or 2 where the address is none or a line of the file of faults is no
-/// rule, and 3 where that file can't be read, or nobody can listen there. What a bad line does goes to `effects`.
+/// rule, and 3 where that file can't be read, or nobody can listen there. What a bad line does goes to `effects`; that
+/// a connection is another protocol's, of which nothing is taken, to `notices`.
 pub fn run_device_over_tcp<
     W: Write,
     E: Write,
     M: Write,
+    Q: Write,
     N: Net<Listener = TcpListener, Stream = TcpStream> + Clock + Files,
     S: OpenStates,
 >(
@@ -37,28 +46,37 @@ pub fn run_device_over_tcp<
     writer: &mut W,
     errors: &mut E,
     effects: &mut M,
+    notices: &mut Q,
     net: &N,
     states: &S,
-) -> u8 {
+) -> u8
+    ensures status { (result ≤ 3) × (result ≢ 1) }
+    // With no faults it served over connections that came where the job has it listen, with its limit, and of those of
+    // another protocol it took nothing.
+    ensures serves { job.now.faults ≡ None → HasServedTcp (HasServedDevice
+        (OpensScreened ComesTo)
+        (ClosesScreened GoesFrom)
+        ⟦<Screened<Idle<TcpStream>> as Read>⟧.remaining ⟦<TcpStream as Write>⟧.contents (S.gives_encoder states.now)
+        (S.refuses_encoder states.now) (S.closes_encoder states.now) S.EncoderKeeper.TOGETHER_MAX
+        S.EncoderKeeper.READ_MAX S.EncoderKeeper.leaves S.EncoderKeeper.is_clean S.EncoderKeeper.saves
+        S.EncoderKeeper.fails job.now) job.now (W.contents writer.old) (W.contents writer.new)
+        (E.contents errors.old) (E.contents errors.new) result }
+{
     match begin(alloc, job, net, errors) {
         Err(status) => status,
-        Ok((rules, accepting)) => {
-            let writers = Writers {
-                served: writer,
-                errors,
-                effects,
-            };
-            serve_with(
-                alloc,
-                job,
-                rules.as_slice(),
-                accepting,
-                writers,
-                net,
-                states,
-            )
+        Ok(begun) => {
+            let told = Told::new(job.log, job.form, clock_of(job, net), effects);
+            serve_with(alloc, job, begun, writer, errors, notices, &told, states)
         }
     }
+}
+
+/// What a device begins with: its clock, the rules of its line, and where it listens.
+#[derive(Drop)]
+struct Begun<'a, N: Net<Listener = TcpListener, Stream = TcpStream> + Clock> {
+    net: &'a N,
+    rules: Vec<Rule>,
+    accepting: Accepting<'a, N>,
 }
 
 /// The rules of the job's line, and a listener at its address; or the exit status, and why was said.
@@ -67,7 +85,12 @@ fn begin<'a, E: Write, N: Net<Listener = TcpListener, Stream = TcpStream> + Cloc
     job: &EncoderOptions,
     net: &'a N,
     errors: &mut E,
-) -> Result<(Vec<Rule>, Accepting<'a, N>), u8> {
+) -> Result<Begun<'a, N>, u8>
+    ensures place { IfOk result (λ begun. IsPlaceOf job.now begun.accepting.place) }
+    ensures idle { IfOk result (λ begun. begun.accepting.idle ≡ limit_of job.now.idle) }
+    ensures rules { job.now.faults ≡ None → IfOk result (λ begun. begun.rules.items ≡ []) }
+    ensures status { IfErr result (λ status. (2 ≤ status) × (status ≤ 3)) }
+{
     let place = match address_of(job) {
         Ok(place) => place,
         Err(fault) => return Err(fail_address(fault, errors)),
@@ -86,13 +109,19 @@ fn begin<'a, E: Write, N: Net<Listener = TcpListener, Stream = TcpStream> + Cloc
         return Err(fail(&fault, errors));
     }
     match Accepting::new(net, place, limit_of(job.idle)) {
-        Ok(accepting) => Ok((rules, accepting)),
+        Ok(accepting) => Ok(Begun {
+            net,
+            rules,
+            accepting,
+        }),
         Err(fault) => Err(fail_bind(fault, errors)),
     }
 }
 
 /// The address and port at which the job listens.
-pub fn address_of(job: &EncoderOptions) -> Result<SocketAddr, AddressFault> {
+pub fn address_of(job: &EncoderOptions) -> Result<SocketAddr, AddressFault>
+    ensures { MatchResult result (IsPlaceOf job.now) (IsNoPlaceOf job.now) }
+{
     match &job.listen {
         Some(text) => listen_address(text.as_str(), job.port),
         None => listen_address(HERE, job.port),
@@ -100,7 +129,9 @@ pub fn address_of(job: &EncoderOptions) -> Result<SocketAddr, AddressFault> {
 }
 
 /// A limit of so many seconds; none where it is 0.
-fn limit_of(seconds: u32) -> Option<u32> {
+pub fn limit_of(seconds: u32) -> Option<u32>
+    ensures { result ≡ limit_of seconds }
+{
     if seconds == 0 { None } else { Some(seconds) }
 }
 
@@ -133,54 +164,83 @@ pub fn fail_bind<E: Write>(fault: BindFault, errors: &mut E) -> u8
     status
 }
 
-/// Where a device tells what it serves, what failed, and what a bad line does.
-#[derive(Drop)]
-struct Writers<'a, W: Write, E: Write, M: Write> {
-    served: &'a mut W,
-    errors: &'a mut E,
-    effects: &'a mut M,
-}
-
 /// Serves over these connections, with what a bad line does to them where there are rules for it.
 fn serve_with<
     W: Write,
     E: Write,
     M: Write,
+    Q: Write,
     N: Net<Listener = TcpListener, Stream = TcpStream> + Clock,
     S: OpenStates,
 >(
     alloc: Global,
     job: &EncoderOptions,
-    rules: &[Rule],
-    accepting: Accepting<'_, N>,
-    writers: Writers<'_, W, E, M>,
-    net: &N,
+    begun: Begun<'_, N>,
+    writer: &mut W,
+    errors: &mut E,
+    notices: &mut Q,
+    told: &Told<'_, M, N>,
     states: &S,
-) -> u8 {
-    let Writers {
-        served,
-        errors,
-        effects,
-    } = writers;
-    let clock = if job.log && job.time { Some(net) } else { None };
-    let told = Told::new(job.log, job.form, clock, effects);
-    let mut log = LogLines::new(alloc, job.form, clock, job.log, served);
-    let mut attended = Attended::new(accepting, job.idle, &told);
+) -> u8
+    requires place { IsPlaceOf job.now begun.accepting.place }
+    requires idle { begun.accepting.idle ≡ limit_of job.now.idle }
+    ensures status { (result ≤ 3) × (result ≢ 1) }
+    ensures serves { begun.entry.rules.items ≡ [] → HasServedTcp (HasServedDevice
+        (OpensScreened ComesTo)
+        (ClosesScreened GoesFrom)
+        ⟦<Screened<Idle<TcpStream>> as Read>⟧.remaining ⟦<TcpStream as Write>⟧.contents (S.gives_encoder states.now)
+        (S.refuses_encoder states.now) (S.closes_encoder states.now) S.EncoderKeeper.TOGETHER_MAX
+        S.EncoderKeeper.READ_MAX S.EncoderKeeper.leaves S.EncoderKeeper.is_clean S.EncoderKeeper.saves
+        S.EncoderKeeper.fails job.now) job.now (W.contents writer.old) (W.contents writer.new)
+        (E.contents errors.old) (E.contents errors.new) result }
+{
+    let Begun {
+        net,
+        rules,
+        accepting,
+    } = begun;
+    let clock = clock_of(job, net);
+    let mut screening = Screening::new(Attended::new(accepting, job.idle, told), &mut *notices);
     if rules.is_empty() {
-        return run_device_from(alloc, job, states, &mut log, errors, &mut attended);
+        return serve_told(alloc, job, clock, writer, errors, &mut screening, states);
     }
-    match Faulty::new(alloc, attended, rules, u64::from(job.seed), net, &told) {
+    let mut log = LogLines::new(alloc, job.form, clock, job.log, writer);
+    let seed = u64::from(job.seed);
+    match Faulty::new(alloc, screening, rules.as_slice(), seed, net, told) {
         Err(_) => fail(&RunFault::OutOfMemory, errors),
-        Ok(mut faulty) => serve_restarting(
-            alloc,
-            job,
-            states,
-            &mut log,
-            errors,
-            &mut faulty,
-            &told,
-        ),
+        Ok(mut faulty) => serve_restarting(alloc, job, states, &mut log, errors, &mut faulty, told),
     }
+}
+
+/// The clock of the log, where that is asked for with the time.
+fn clock_of<'a, N>(job: &EncoderOptions, net: &'a N) -> Option<&'a N>
+    ensures { is_some result ≡ (job.now.log && job.now.time) }
+{
+    if job.log && job.time { Some(net) } else { None }
+}
+
+/// Serves over these connections, and tells it in the log that the job asks for.
+fn serve_told<W: Write, E: Write, T: Clock, C: Connections, S: OpenStates>(
+    alloc: Global,
+    job: &EncoderOptions,
+    clock: Option<&T>,
+    writer: &mut W,
+    errors: &mut E,
+    connect: &mut C,
+    states: &S,
+) -> u8
+    requires { is_some clock ≡ (job.now.log && job.now.time) }
+    ensures status { (result ≤ 3) × (result ≢ 1) }
+    ensures serves { ServesTold (HasServedDevice C.opens C.closes C.Input.remaining C.Output.contents
+        (S.gives_encoder states.now) (S.refuses_encoder states.now) (S.closes_encoder states.now)
+        S.EncoderKeeper.TOGETHER_MAX S.EncoderKeeper.READ_MAX S.EncoderKeeper.leaves S.EncoderKeeper.is_clean
+        S.EncoderKeeper.saves S.EncoderKeeper.fails job.now) job.now connect.old connect.new (W.contents writer.old)
+        (W.contents writer.new) (E.contents errors.old) (E.contents errors.new) result }
+{
+    let mut log = LogLines::new(alloc, job.form, clock, job.log, writer);
+    let status = run_device_from(alloc, job, states, &mut log, errors, connect);
+    let _writer = log.finish();
+    status
 }
 
 /// Serves over a bad line, and again with an encoder that begins anew each time that the line asks for it: with a state
@@ -193,7 +253,9 @@ fn serve_restarting<S: OpenStates, W: Write, C: Clock, E: Write, M: Write, K: Co
     errors: &mut E,
     faulty: &mut Faulty<'_, K, C, Told<'_, M, C>>,
     told: &Told<'_, M, C>,
-) -> u8 {
+) -> u8
+    ensures { (result ≤ 3) × (result ≢ 1) }
+{
     for _restart in 0..u64::MAX {
         let mut said = Said::new();
         let mut line = Restarting::new(faulty);

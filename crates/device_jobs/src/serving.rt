@@ -1,5 +1,5 @@
 //! A device with its state in a file or with none. Source: profile.
-ghost use Rattle.std.specs.Prelude.{◌≡◌, ◌⊎◌, IsTrue, Result};
+ghost use Rattle.std.specs.Prelude.{◌≡◌, ◌≢◌, ◌≤◌, ◌⊎◌, IsTrue, Result};
 ghost use Rattle.uecp_frame.specs.Address.{is_exact};
 ghost use Rattle.uecp_jobs.specs.Setups.{IsSetup, options_of as options_in, encoder_at_first};
 ghost use Rattle.device_jobs.specs.Serving.{HasServedDevice, HasNoState, ServesIn, ServesUnkept};
@@ -31,11 +31,13 @@ pub fn run_device_from<S: OpenStates, W: Write, T: Clock, E: Write, C: Connectio
     errors: &mut E,
     connect: &mut C,
 ) -> u8
-    ensures { HasServedDevice C.opens C.closes C.Input.remaining C.Output.contents (S.gives_encoder states.now)
+    ensures status { (result ≤ 3) × (result ≢ 1) }
+    ensures serves { HasServedDevice C.opens C.closes C.Input.remaining C.Output.contents (S.gives_encoder states.now)
         (S.refuses_encoder states.now) (S.closes_encoder states.now) S.EncoderKeeper.TOGETHER_MAX
         S.EncoderKeeper.READ_MAX S.EncoderKeeper.leaves S.EncoderKeeper.is_clean S.EncoderKeeper.saves
         S.EncoderKeeper.fails job.now connect.old connect.new log.old log.new (E.contents errors.old) (E.contents
         errors.new) result }
+    ensures loan { log.new.loan ≡ log.old.loan }
 {
     let setup = Setup {
         site: job.site,
@@ -99,9 +101,11 @@ fn serve_unkept<W: Write, T: Clock, E: Write, C: Connections>(
     connect: &mut C,
 ) -> u8
     requires { encoder.old ≡ encoder_at_first (options_in setup.now) }
-    ensures { ServesUnkept C.opens C.closes C.Input.remaining C.Output.contents (options_in setup.now) limits.turns
+    ensures status { (result ≡ 0) ⊎ (result ≡ 3) }
+    ensures serves { ServesUnkept C.opens C.closes C.Input.remaining C.Output.contents (options_in setup.now) limits.turns
         limits.connections limits.store connect.old connect.new log.old log.new (E.contents errors.old)
         (E.contents errors.new) result }
+    ensures loan { log.new.loan ≡ log.old.loan }
 {
     run_device(limits, encoder, &mut NotSaved, log, errors, connect)
 }

@@ -28,6 +28,7 @@ use commands::{
     ServerOptions, is_device,
 };
 use conformance_command::run_conformance_over_tcp;
+use device_edges::Screening;
 use device_jobs::{run_device_over_tcp, run_encoder_in};
 use ladders::{LadderJob, run_ladder};
 use line_feed::{Arrival, LineFeed};
@@ -290,14 +291,14 @@ fn serve<
         return be_device(alloc, options, writer, errors, hands, net, states);
     }
     match (&options.state, local_with(net, options)) {
-        (Some(path), Some(mut local)) => run_encoder_in(
+        (Some(path), Some(local)) => run_encoder_in(
             alloc,
             options,
             path.as_str(),
             states,
             writer,
             errors,
-            &mut local,
+            &mut Screening::new(local, hands.notices),
         ),
         _ => be_device(alloc, options, writer, errors, hands, net, states),
     }
@@ -324,7 +325,10 @@ fn be_device<
     if options.air.is_some() || options.air_bits {
         return run_on_air_over_tcp(alloc, options, writer, errors, hands.notices, net, states);
     }
-    run_device_over_tcp(alloc, options, writer, errors, hands.effects, net, states)
+    let Hands {
+        notices, effects, ..
+    } = hands;
+    run_device_over_tcp(alloc, options, writer, errors, effects, notices, net, states)
 }
 
 /// Sends the messages of the input, with the server's state in a file where one is given, over TCP, and answers the

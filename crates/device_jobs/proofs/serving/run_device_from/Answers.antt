@@ -3,8 +3,8 @@ use Rattle.std.specs.Prelude.{None, option_map}
 use Rattle.std.specs.String.{string_bytes}
 use Rattle.device_jobs.proofs.serving.run_device_from.Goals as goal
 
-pub returns-in-Err : goal.returns-in-Err
-returns-in-Err g c =
+pub returns-in-Err-clause-serves : goal.returns-in-Err-clause-serves
+returns-in-Err-clause-serves g c =
     inr (
       (
         c.in-Err.fault,
@@ -16,11 +16,11 @@ returns-in-Err g c =
       refl,
     )
 
-pub returns : goal.returns
-returns g c =
+pub returns-clause-serves : goal.returns-clause-serves
+returns-clause-serves g c =
     let none : option_map string_bytes c.args.job.now.state ≡ None = search rules in
     let limits = c.limits_of-limits.ensures in
     inl (
       rw c.as_slice.ensures.value at c.in-Ok.ensures.described,
-      rw none (rw (c.as_slice.ensures.value, limits.turns, limits.connections, limits.store) at c.serve_unkept.ensures),
+      rw none (rw (c.as_slice.ensures.value, limits.turns, limits.connections, limits.store) at c.serve_unkept.ensures.serves),
     )

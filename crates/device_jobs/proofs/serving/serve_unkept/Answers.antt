@@ -7,8 +7,8 @@ use Rattle.device_jobs.specs.Serving.{EndsDevice}
 use Rattle.device_jobs.proofs.Ending.{ends}
 use Rattle.device_jobs.proofs.serving.serve_unkept.Goals as goal
 
-pub returns : goal.returns
-returns g c =
+pub returns-clause-serves : goal.returns-clause-serves
+returns-clause-serves g c =
     let run = c.run_device in
     let ended = ends (λ (went : Went). RunsDevice 1 512 (λ k left. Unit {0}) (λ k. ⊥) (λ k left k'. k' ≡ k) (λ k left
     k'. ⊥) g.C.Connections.opens g.C.Connections.closes g.C.Input.Read.remaining g.C.Output.Write.contents

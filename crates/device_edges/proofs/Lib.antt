@@ -1,0 +1,3 @@
+-- The lemmas of the edges of a device.
+pub mod Screens
+pub mod FirstBytes
