@@ -3,7 +3,10 @@ side by side in one clone, and a check of chosen functions of a changed copy.
 
 It goes through what `rt` itself is made of, in the folder where `rt` lies. What differs from the commands: `rt check` where a
 library below is not built begins with a pass over the sources of all libraries, eight minutes for the program; here each crate
-waits until those below it stand, so nothing is left for such a pass to find."""
+waits until those below it stand, so nothing is left for such a pass to find. And the sum of a crate's sources, by which `rt`
+knows what is built, reads each crate below once.
+
+    tests/prover.py ci           is `rt ci`, and any other command of `rt`, with these sums"""
 
 import copy
 import importlib.machinery
@@ -13,6 +16,7 @@ import shutil
 import signal
 import sys
 import tempfile
+import threading
 
 TOP = os.path.dirname(os.path.dirname(os.path.abspath(__file__)))
 EACH = 7 << 29  # bytes of memory for each check: one takes 1 to 4.5 GB, and one that is killed is made again
@@ -32,6 +36,33 @@ def load():
 
 
 RT, LIBRARY = load()
+
+
+class Sums(threading.local):
+    """The sums of crates that one call has found so far, by name."""
+
+    found = None
+
+
+def sum_once(whole, sums):
+    """The kit's sum of a crate's sources and of all below it, by which it knows what is built, with each crate below read once: the
+    kit's own reads one for each way that leads down to it, of the program 52,000, which takes two minutes, twice for each build."""
+
+    def stamp(self):
+        if sums.found is None:
+            sums.found = {}
+            try:
+                return stamp(self)
+            finally:
+                sums.found = None
+        if self.name not in sums.found:
+            sums.found[self.name] = whole(self)
+        return sums.found[self.name]
+
+    return stamp
+
+
+LIBRARY.Crate.stamp = sum_once(LIBRARY.Crate.stamp, Sums())
 
 
 def share_work(is_shared):
@@ -113,3 +144,7 @@ def run(main):
 
     signal.signal(signal.SIGINT, stop)
     sys.exit(main())
+
+
+if __name__ == "__main__":
+    sys.exit(RT.main(sys.argv[1:]))
