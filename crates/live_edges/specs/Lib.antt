@@ -1,2 +1,3 @@
 -- The definitions that the contracts of the edges of a run that goes on for days cite.
+pub mod Heard
 pub mod Patience

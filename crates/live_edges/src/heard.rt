@@ -1,8 +1,10 @@
 //! Whether anything was read, and whether the connection holds (profile).
-ghost use Rattle.std.specs.Prelude.{◌≡◌, false};
+ghost use Rattle.std.specs.Prelude.{◌≡◌};
+ghost use Rattle.live_edges.specs.Heard.{unheard};
 
 use std::io;
 use std::io::{ErrorKind, Read};
+use std::marker::Model;
 
 /// A reader, whether anything was read of it, and whether it ended or failed otherwise than by its limit of time.
 #[derive(Drop)]
@@ -12,12 +14,18 @@ pub struct ReadMeter<R> {
     broken: bool,
 }
 
+impl<R> Model for ReadMeter<R> {
+    ghost use Rattle.live_edges.specs.Heard.{Heard};
+
+    ghost Value = { Heard R };
+
+    ghost view = { λ m. record { reader = m.reader; heard = m.heard; broken = m.broken } };
+}
+
 impl<R> ReadMeter<R> {
     /// The reader, of which nothing was read yet.
     pub fn new(reader: R) -> ReadMeter<R>
-        ensures reader { result.reader ≡ reader }
-        ensures heard { result.heard ≡ false }
-        ensures broken { result.broken ≡ false }
+        ensures { result ≡ unheard reader }
     {
         ReadMeter {
             reader,
@@ -38,6 +46,18 @@ impl<R> ReadMeter<R> {
         ensures { result ≡ self.now.broken }
     {
         self.broken
+    }
+
+    /// The reader back, as it is.
+    pub fn into_inner(self) -> R
+        ensures { result ≡ self.reader }
+    {
+        let ReadMeter {
+            reader,
+            heard: _,
+            broken: _,
+        } = self;
+        reader
     }
 }
 

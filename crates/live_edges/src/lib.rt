@@ -3,13 +3,14 @@
 //!
 //! - [`Polled`]: an [`Arrival`](line_feed::Arrival) that asks the system by a poll, and looks meanwhile after the
 //!   connection that a [`Watch`] has.
-//! - [`Patient`]: [`Connections`](uecp_net::Connections) that are dialled again and again, with longer and longer
-//!   pauses; it says when the line is lost, there again, or silent, and [`Patience`] is for how long. They are read
-//!   through [`ReadMeter`], which notes whether anything came.
+//! - [`Patient`]: [`Connections`](uecp_net::Connections) over others, a [`Dialler`], which it asks for one again and
+//!   again, with longer and longer pauses; it says when the line is lost, there again, or silent, and [`Patience`] is
+//!   for how long. They are read through [`ReadMeter`], which notes whether anything came.
 //! - [`keep_alive`]: has the system ask whether somebody is at the other end of a connection.
 #![tactic(auto)]
 
 mod alive;
+mod dialler;
 mod heard;
 mod notices;
 mod patience;
@@ -18,6 +19,7 @@ mod polled;
 mod watch;
 
 pub use alive::keep_alive;
+pub use dialler::Dialler;
 pub use heard::ReadMeter;
 pub use patience::Patience;
 pub use patient::Patient;

@@ -1,5 +1,5 @@
 //! How long a line is waited for (profile).
-ghost use Rattle.std.specs.Prelude.{◌≡◌};
+ghost use Rattle.std.specs.Prelude.{◌≡◌, ◌≢◌, None, IfNone};
 ghost use Rattle.live_edges.specs.Patience.{next_pause};
 
 /// How long a line is waited for. Seconds all.
@@ -13,17 +13,6 @@ pub struct Patience {
     pub silent: u64,
     /// Whether no connection is given then, once, so that the encoder can be joined anew.
     pub stop_when_silent: bool,
-}
-
-/// What is to be done where a connection is wanted.
-#[derive(Clone, Copy, Debug, PartialEq, Eq)]
-pub(crate) enum Step {
-    /// Connect after a pause of so many seconds.
-    Try(u64),
-    /// Say that the encoder is silent.
-    Silent,
-    /// Give up.
-    GiveUp,
 }
 
 /// How a line stands that is waited for: since when, and after which pause the next try is made. Times are milliseconds
@@ -54,28 +43,30 @@ impl Wait {
         }
     }
 
-    /// What is to be done where a connection is wanted now.
-    pub(crate) fn next(&mut self, patience: &Patience, now: u64) -> Step {
+    /// The pause before the next try where a connection is wanted now, in seconds; None where the line is given up.
+    pub(crate) fn next(&mut self, patience: &Patience, now: u64) -> Option<u64>
+        ensures { IfNone result (patience.now.give_up ≢ None) }
+    {
         let since = self.since.unwrap_or(now);
         self.since = Some(since);
+        let Some(limit) = patience.give_up else {
+            return Some(self.pause);
+        };
         let waited = now.saturating_sub(since);
-        if patience
-            .give_up
-            .is_some_and(|limit| waited >= thousandfold(limit) && self.pause > 0)
-        {
-            return Step::GiveUp;
+        if self.pause > 0 && waited >= thousandfold(limit) {
+            return None;
         }
-        if self.is_silent(patience, now) {
-            self.is_told = true;
-            return Step::Silent;
-        }
-        Step::Try(match patience.give_up {
-            Some(limit) => self.pause.min(seconds_left(limit, waited)),
-            None => self.pause,
-        })
+        Some(self.pause.min(seconds_left(limit, waited)))
     }
 
-    /// Whether it is to be said now that the encoder is silent.
+    /// Whether it is to be said now that the encoder is silent; that is so once.
+    pub(crate) fn turns_silent(&mut self, patience: &Patience, now: u64) -> bool {
+        let is_silent = self.is_silent(patience, now);
+        self.is_told = self.is_told || is_silent;
+        is_silent
+    }
+
+    /// Whether the encoder is silent, and that was not said.
     fn is_silent(&self, patience: &Patience, now: u64) -> bool {
         match self.silent_since {
             Some(since) => !self.is_told

@@ -7,6 +7,7 @@ use Rattle.uecp_text.specs.Written.{Begins}
 use Rattle.uecp_link.specs.Server.{ServerState}
 use Rattle.uecp_net.specs.declared.saved.keep.Progress.{Progress}
 use Rattle.uecp_net.specs.Keeping.{KeptServer}
+use Rattle.uecp_net.specs.Tcp.{Dials}
 use Rattle.state_files.specs.declared.fault.StateFault.{StateFault}
 use Rattle.live_edges.specs.Patience.{Dialled}
 use Rattle.live_edges.specs.declared.patience.Patience.{Patience}
@@ -29,12 +30,15 @@ patience_of job = record {
 
 -- The host and the port of the job are dialled, with its limit of time, for as long as it says; so much was said
 -- before.
-abbrev pub DialsLive : SendOptions → (told : Option (List ℕ)) → Dialled → Type 0
+abbrev pub DialsLive : SendOptions → (told : Option (List ℕ)) → Dialled Dials → Type 0
 DialsLive job told dialled =
     dialled ≡ record {
-      host = string_bytes job.host;
-      port = job.port;
-      timeout = job.timeout;
+      connect = record {
+        host = string_bytes job.host;
+        port = job.port;
+        timeout = job.timeout;
+        failed = None;
+      };
       patience = patience_of job;
       told = told;
     }
@@ -52,8 +56,9 @@ pub record HasNotBegun (job : SendOptions) (held held' said said' : Option (List
 abbrev pub IsBegun : SendOptions → (station : List (List ℕ)) → (said begun : Option (List ℕ)) → Type 0
 IsBegun job station said begun = job.station ≡ None → (station ≡ []) × (begun ≡ said)
 
-module _ {I O K : Type 0} (opens : Dialled → Option (I × O) → Dialled → Type 0)
-    (closes : Dialled → I → O → Dialled → Type 0) (remaining : I → Option (List ℕ)) (contents : O → Option (List ℕ))
+module _ {I O K : Type 0} (opens : Dialled Dials → Option (I × O) → Dialled Dials → Type 0)
+    (closes : Dialled Dials → I → O → Dialled Dials → Type 0) (remaining : I → Option (List ℕ))
+    (contents : O → Option (List ℕ))
     (gives : (path : List ℕ) → ServerState → Progress → K → Type 0) (refuses : List ℕ → StateFault → Type 0)
     (ends : K → Result (Unit {0}) StateFault → Type 0) (leaves : K → KeptServer → Type 0) (is_clean : K → Type 0)
     (saves fails : K → KeptServer → K → Type 0) where
@@ -61,7 +66,7 @@ module _ {I O K : Type 0} (opens : Dialled → Option (I × O) → Dialled → T
   -- `run_send` says, over connections to the job's host and port, from where this had been said.
   abbrev pub HasSentOver : SendOptions → (told unread held held' said said' : Option (List ℕ)) → (status : ℕ) → Type 0
   HasSentOver job told unread held held' said said' status =
-      ((station : List (List ℕ)) × (dialled : Dialled) × (dialled' : Dialled) × (unread' : Option (List ℕ))
+      ((station : List (List ℕ)) × (dialled : Dialled Dials) × (dialled' : Dialled Dials) × (unread' : Option (List ℕ))
       × (begun : Option (List ℕ)) × DialsLive job told dialled × IsBegun job station said begun
       × HasSentLive opens closes remaining contents gives refuses ends leaves is_clean saves fails job station dialled
       dialled' unread unread' held held' begun said' status)

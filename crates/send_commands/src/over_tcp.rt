@@ -18,7 +18,7 @@ use std::net::{Net, TcpStream};
 use std::time::Clock;
 use uecp_frame::Message;
 use uecp_jobs::fail;
-use uecp_net::Connections;
+use uecp_net::{Connections, Dialing};
 use uecp_text::RunFault;
 
 /// What the connections of `send` are dialled with.
@@ -53,7 +53,8 @@ pub fn run_send_over_tcp<
     states: &S,
 ) -> u8
     requires { IsSendable job.now }
-    ensures { HasSentOver ⟦<Patient<'a, N, M> as Connections>⟧.opens ⟦<Patient<'a, N, M> as Connections>⟧.closes
+    ensures { HasSentOver ⟦<Patient<'a, Dialing<'a, N>, N, M> as Connections>⟧.opens
+        ⟦<Patient<'a, Dialing<'a, N>, N, M> as Connections>⟧.closes
         ⟦<ReadMeter<TcpStream> as Read>⟧.remaining ⟦<TcpStream as Write>⟧.contents
         (S.gives_server states.now) (S.refuses_server states.now) (S.closes_server states.now)
         S.ServerKeeper.leaves S.ServerKeeper.is_clean S.ServerKeeper.saves S.ServerKeeper.fails job.now
@@ -123,7 +124,7 @@ fn patient_of<'a, N: Net<Stream = TcpStream> + Clock, M: Write>(
     job: &'a SendOptions,
     watch: &'a Watch,
     notices: &'a mut M,
-) -> Patient<'a, N, M>
+) -> Patient<'a, Dialing<'a, N>, N, M>
     ensures { DialsLive job.now (M.contents notices.old) result }
 {
     let patience = Patience {
