@@ -32,8 +32,8 @@ longer_handed rest text =
     ]
 
 -- more bytes came, where all before was cut
-stands_bytes : (bytes more : List ℕ) (out : List (Option (List ℕ))) (x : Cutting) → Stands bytes out x → x.ahead ≡ []
-    → Stands (bytes ++ more) out (record x { ahead = more })
+pub stands_bytes : (bytes more : List ℕ) (out : List (Option (List ℕ))) (x : Cutting) → Stands bytes out x
+    → x.ahead ≡ [] → Stands (bytes ++ more) out (record x { ahead = more })
 stands_bytes bytes more out x so none = record {
   lines = so.lines;
   rest = so.rest;
@@ -75,7 +75,7 @@ stands_line bytes out x x' text told so no_end front made fresh =
     }
 
 -- the next line was asked for
-stands_cut : (bytes : List ℕ) (out : List (Option (List ℕ))) (x x' : Cutting) (cut : Cut) → Stands bytes out x
+pub stands_cut : (bytes : List ℕ) (out : List (Option (List ℕ))) (x x' : Cutting) (cut : Cut) → Stands bytes out x
     → Cuts x x' cut → Stands bytes (out ++ out_of cut x'.held.line) x'
 stands_cut bytes out x x' Line so cuts =
     stands_line bytes out x x' cuts.text (Some x'.held.line) so cuts.no_end cuts.parts cuts.handed.0 cuts.handed.1
@@ -108,7 +108,7 @@ stands_on bytes out (is_asked cut line ∷ turns) x x' so (next, (cuts, told), r
     subst (λ o. Stands (bytes ++ bytes_of turns) o x') (append_assoc out (out_of cut line) (handed_of turns))
     (stands_on bytes (out ++ out_of cut line) turns next x' step runs)
 
-stands_first : Stands [] [] nothing_read
+pub stands_first : Stands [] [] nothing_read
 stands_first = record {
   lines = [];
   rest = [];

@@ -10,3 +10,6 @@ pub mod Heard
 pub mod Lives
 pub mod Cutting
 pub mod Handing
+pub mod Inputs
+pub mod Refused
+pub mod Public

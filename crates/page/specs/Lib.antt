@@ -23,5 +23,6 @@ pub mod Hearing
 pub mod Life
 pub mod Lines
 pub mod Intake
+pub mod Input
 pub use Rattle.http1.specs.Conn
 pub use Rattle.http1.specs.Server

@@ -4,6 +4,7 @@ ghost use Rattle.page.specs.Stream.{part_text, gap, alive};
 ghost use Rattle.page.specs.Laws.{TakenAsSent, EachOnce, BeginningOnce, OwedNewer};
 ghost use Rattle.page.specs.Life.{WholeLife};
 ghost use Rattle.page.specs.Lines.{EachLineOnce, AllLinesAtEnd};
+ghost use Rattle.page.specs.Input.{RefusedExactly};
 
 use crate::events::{ALIVE, GAP};
 
@@ -43,6 +44,11 @@ pub fn each_line_once()
 /// At the end of an input, with the last line, all its lines were handed out, each once and in order.
 pub fn all_lines_at_end()
     ensures { AllLinesAtEnd }
+{}
+
+/// Of an input whose lines were all taken it is remembered that one was no object of ours exactly where one was none.
+pub fn refused_exactly()
+    ensures { RefusedExactly }
 {}
 
 /// The other parts of a stream are sent as they are defined.

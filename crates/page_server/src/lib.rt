@@ -5,11 +5,13 @@
 #![tactic(auto)]
 
 mod door;
+mod edge;
 mod input;
 mod over_tcp;
 mod peer;
 mod peers;
 mod place;
 mod server;
+mod stop;
 
 pub use over_tcp::run_page_over_tcp;

@@ -1,9 +1,11 @@
 //! The job `page` over TCP (profile).
-ghost use Rattle.std.specs.Prelude.{◌≡◌, ◌≤◌, IfOk, OnErr};
+ghost use Rattle.std.specs.Prelude.{◌≡◌, ◌≤◌, ◌⊎◌, IfOk, OnErr};
 ghost use Rattle.page.specs.Intake.{status_of};
+ghost use Rattle.page_server.specs.Serving.{EndsWith};
 
 use crate::place::place_of;
-use crate::server::{Serving, Start, Stop};
+use crate::server::{Serving, Start};
+use crate::stop::Stop;
 use commands::PageOptions;
 use device_edges::{AddressFault, BindFault, bind};
 use page::status_of;
@@ -23,7 +25,11 @@ pub fn run_page_over_tcp<
     E: Write,
     N: Net<Listener = TcpListener, Stream = TcpStream> + Clock,
 >(alloc: Global, options: &PageOptions, reader: &mut R, fd: RawFd, errors: &mut E, net: &N) -> u8
-    ensures { result ≤ 3 }
+    ensures most { result ≤ 3 }
+    // 0 or 1: the input was read to its end, and the status is that of its lines.
+    ensures ended { result ≤ 1 → EndsWith (R.remaining reader.old) (R.remaining reader.new) result }
+    // 2: nothing was read.
+    ensures unread { result ≡ 2 → reader.new ≡ reader.old }
 {
     let place = match place_of(options) {
         Ok(place) => place,
@@ -52,10 +58,11 @@ fn serve<R: Read, E: Write, N: Net<Listener = TcpListener, Stream = TcpStream> +
     errors: &mut E,
     net: &N,
 ) -> u8
-    ensures { result ≤ 3 }
+    ensures ended { result ≤ 1 → EndsWith (R.remaining reader.old) (R.remaining reader.new) result }
+    ensures most { (result ≤ 1) ⊎ (result ≡ 3) }
 {
-    let served = match Serving::new(alloc, net, reader, fd, start, errors) {
-        Ok(mut serving) => serving.serve(),
+    let served = match Serving::new(alloc, net, fd, start, errors) {
+        Ok(mut serving) => serving.serve(reader, errors),
         Err(stop) => Err(stop),
     };
     end(served, errors)
@@ -106,7 +113,7 @@ fn fail<E: Write>(fault: RunFault, errors: &mut E) -> u8
 
 /// Says why the job asks for no address and port, and answers the exit status.
 fn fail_place<E: Write>(fault: AddressFault, errors: &mut E) -> u8
-    ensures { result ≤ 3 }
+    ensures { result ≡ 2 }
 {
     let text: &[u8] = match fault {
         AddressFault::NoAddress => b"uecp: listen: no IP address\n",
@@ -120,7 +127,7 @@ fn fail_place<E: Write>(fault: AddressFault, errors: &mut E) -> u8
 
 /// Says why nobody can listen there, and answers the exit status.
 fn fail_bind<E: Write>(fault: BindFault, errors: &mut E) -> u8
-    ensures { result ≤ 3 }
+    ensures { result ≡ 3 }
 {
     let status = fail(RunFault::Listening, errors);
     let text: &[u8] = match fault {

@@ -1,15 +1,21 @@
-//! The taking of a line (profile).
-ghost use Rattle.std.specs.Prelude.{◌≡◌, true, false, [], string_bytes, IfOk, OnErr};
-ghost use Rattle.page.specs.State.{at_first};
+//! The taking of lines (profile).
+ghost use Rattle.std.specs.Prelude.{◌≡◌, ℕ, true, false, List, [], string_bytes, IfOk, OnErr, Ok, IsTrue, ◌↔◌};
+ghost use Rattle.std.specs.Io.KnownBytes.{Consumes, Keeps, IsAtEnd};
 ghost use Rattle.page.specs.StateView.{state_of};
 ghost use Rattle.page.specs.Counts.{one_more};
 ghost use Rattle.page.specs.ClientView.{source_of};
+ghost use Rattle.page.specs.Lines.{nothing_read};
 ghost use Rattle.page.specs.Intake.{board_of, Adds, TakesIn};
+ghost use Rattle.page.specs.Input.{at_start, cutting_of, IntakeOf, Brings, TakesNext, TakesLast, GoesOn, Ends};
 
 use crate::clients::Site;
 use crate::events::{AddFault, History};
+use crate::intake::lines::Lines;
+use crate::intake::open_line::Cut;
 use crate::state::{Page, Took};
 use std::alloc::{AllocError, Global};
+use std::io;
+use std::io::Read;
 
 /// What a line came to.
 #[derive(Clone, Copy, Debug, PartialEq, Eq)]
@@ -22,44 +28,101 @@ pub enum Taken {
     Other(u64),
 }
 
-/// What came of the lines: what is shown, the last events, how many lines came, and whether one was no object of ours.
-/// Contracts see it as [`board_of`](../specs/Intake.antt) has it.
+/// What was read of an input, and what came of its lines: what is shown, the last events, how many lines came, and
+/// whether one was no object of ours. Contracts see what came of the lines as [`board_of`](../specs/Intake.antt) has
+/// it, and what is not yet taken as [`cutting_of`](../specs/Input.antt).
 #[derive(Drop)]
 pub struct Intake {
     page: Page,
     history: History,
     count: u64,
     refused: bool,
+    lines: Lines,
 }
 
 impl Intake {
-    /// No line came yet; the first event gets this number.
-    pub fn new(alloc: Global, first: u64) -> Intake
-        ensures { board_of result ≡ record {
-          shown = at_first;
-          past = record { first = first; lines = [] };
-          count = 0;
-          refused = false;
-        } }
+    /// Nothing was read yet; the first event gets this number.
+    pub fn new(alloc: Global, first: u64) -> Result<Intake, AllocError>
+        ensures board { IfOk result (λ intake. board_of intake ≡ at_start first) }
+        ensures lines { IfOk result (λ intake. cutting_of intake ≡ nothing_read) }
+        ensures begins { IfOk result (IntakeOf first []) }
     {
-        Intake {
+        Ok(Intake {
             page: Page::new(alloc),
             history: History::new(alloc, first),
             count: 0,
             refused: false,
+            lines: Lines::new(alloc)?,
+        })
+    }
+
+    /// Whether no more is to be taken of what was read before more is.
+    pub fn is_cut(&self) -> bool
+        ensures { IsTrue result ↔ ((cutting_of self.now).ahead ≡ []) }
+    {
+        self.lines.is_cut()
+    }
+
+    /// Makes one read, where all that was read is cut. Whether the reader is not at its end. Where a read would wait or
+    /// was interrupted nothing came, and it is not at its end.
+    ///
+    /// Errors: those of the reader; nothing changes then.
+    pub fn read<R: Read>(&mut self, reader: &mut R) -> io::Result<bool>
+        requires { (cutting_of self.old).ahead ≡ [] }
+        ensures read { IfOk result (λ _. (bytes : List ℕ)
+            × Consumes (R.remaining reader.old) (R.remaining reader.new) bytes × Brings bytes self.old self.new
+                × GoesOn bytes self.old self.new) }
+        ensures ended { result ≡ Ok false → (self.new ≡ self.old) × IsAtEnd (R.remaining reader.new) }
+        ensures err { OnErr result ((self.new ≡ self.old) × Keeps (R.remaining reader.old) (R.remaining reader.new)) }
+    {
+        self.lines.read(reader)
+    }
+
+    /// Takes the next line of what was read, once, and answers what it was; None where no line has ended. Nothing is
+    /// left of a line that is too long, which is no object of ours.
+    ///
+    /// Errors: where memory is refused what is shown may have the line in part, and no event came of it.
+    pub fn take_next(&mut self, alloc: Global) -> Result<Option<Taken>, AllocError>
+        ensures takes { IfOk result (TakesNext self.old self.new) }
+        ensures goes_on { IfOk result (λ _. GoesOn [] self.old self.new) }
+        ensures err { OnErr result (((board_of self.new).past ≡ (board_of self.old).past)
+            × ((board_of self.new).refused ≡ (board_of self.old).refused)) }
+    {
+        match self.lines.cut()? {
+            Cut::Nothing => Ok(None),
+            Cut::Line | Cut::TooLong => Ok(Some(self.take(alloc)?)),
         }
     }
 
-    /// Takes a line, with or without its line feed, once.
+    /// At the end of the input: takes the line that no line feed ends, once, and answers what it was; None where there
+    /// is none.
+    ///
+    /// Errors: as those of `take_next`.
+    pub fn take_last(&mut self, alloc: Global) -> Result<Option<Taken>, AllocError>
+        requires { (cutting_of self.old).ahead ≡ [] }
+        ensures takes { IfOk result (TakesLast self.old self.new) }
+        ensures ends { IfOk result (λ _. Ends [] self.old self.new) }
+        ensures err { OnErr result (((board_of self.new).past ≡ (board_of self.old).past)
+            × ((board_of self.new).refused ≡ (board_of self.old).refused)) }
+    {
+        match self.lines.last() {
+            Cut::Nothing => Ok(None),
+            Cut::Line | Cut::TooLong => Ok(Some(self.take(alloc)?)),
+        }
+    }
+
+    /// Takes the line that was handed out last, once.
     ///
     /// Errors: where memory is refused what is shown may have the line in part; it is counted, and no event came of it.
-    pub fn take(&mut self, alloc: Global, line: &[u8]) -> Result<Taken, AllocError>
-        ensures takes { IfOk result (TakesIn line.now (board_of self.old) (board_of self.new)) }
+    fn take(&mut self, alloc: Global) -> Result<Taken, AllocError>
+        ensures takes { IfOk result (TakesIn (cutting_of self.old).held.line (board_of self.old) (board_of self.new)) }
+        ensures lines { cutting_of self.new ≡ cutting_of self.old }
         ensures count { (board_of self.new).count ≡ one_more true (board_of self.old).count }
         ensures err { OnErr result (((board_of self.new).past ≡ (board_of self.old).past)
             × ((board_of self.new).refused ≡ (board_of self.old).refused)) }
     {
         self.count = self.count.saturating_add(1);
+        let line = self.lines.line();
         match self.page.take(alloc, line)? {
             Took::Ours(text) => add(text, &mut self.history),
             Took::Other => {

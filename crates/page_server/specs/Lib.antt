@@ -1,0 +1,2 @@
+-- What a run of a page reads and answers.
+pub mod Serving
