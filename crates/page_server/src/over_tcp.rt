@@ -61,11 +61,13 @@ fn serve<R: Read, E: Write, N: Net<Listener = TcpListener, Stream = TcpStream> +
     ensures ended { result ≤ 1 → EndsWith (R.remaining reader.old) (R.remaining reader.new) result }
     ensures most { (result ≤ 1) ⊎ (result ≡ 3) }
 {
-    let served = match Serving::new(alloc, net, fd, start, errors) {
-        Ok(mut serving) => serving.serve(reader, errors),
-        Err(stop) => Err(stop),
-    };
-    end(served, errors)
+    match Serving::new(alloc, net, fd, start, errors) {
+        Ok(mut serving) => {
+            let served = serving.serve(reader, errors);
+            end(served, errors)
+        }
+        Err(stop) => end(Err(stop), errors),
+    }
 }
 
 /// The exit status of a run that ended so, which says why where it was stopped: at the end of its input 1 where a line
@@ -73,7 +75,7 @@ fn serve<R: Read, E: Write, N: Net<Listener = TcpListener, Stream = TcpStream> +
 fn end<E: Write>(served: Result<bool, Stop>, errors: &mut E) -> u8
     ensures ok { IfOk served (λ refused. result ≡ status_of refused) }
     ensures err { OnErr served (result ≡ 3) }
-    ensures most { result ≤ 3 }
+    ensures most { (result ≤ 1) ⊎ (result ≡ 3) }
 {
     match served {
         Ok(refused) => status_of(refused),

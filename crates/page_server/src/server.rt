@@ -131,17 +131,17 @@ impl<'a, N: Net<Listener = TcpListener, Stream = TcpStream> + Clock> Serving<'a,
         ensures { IfOk result (Moves (R.remaining reader.old) (R.remaining reader.new) self.old.intake
             self.new.intake) }
     {
-        if self.intake.is_cut() {
-            if !self.edge.has_input() {
-                return Ok(Progress::Waits);
-            }
-            match self.intake.read(reader) {
-                Ok(true) => {}
-                Ok(false) => return self.take_last(errors),
-                Err(_) => return Err(Stop::Reading),
-            }
+        if !self.intake.is_cut() {
+            return self.take_read(errors);
         }
-        self.take_read(errors)
+        if !self.edge.has_input() {
+            return Ok(Progress::Waits);
+        }
+        match self.intake.read(reader) {
+            Ok(true) => self.take_read(errors),
+            Ok(false) => self.take_last(errors),
+            Err(_) => Err(Stop::Reading),
+        }
     }
 
     /// Takes lines of what was read, so many at most.
