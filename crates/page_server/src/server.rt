@@ -157,9 +157,12 @@ impl<'a, N: Net<Listener = TcpListener, Stream = TcpStream> + Clock> Serving<'a,
         Ok(Progress::More)
     }
 
-    /// Takes the next line of what was read, once. Whether there was one.
+    /// Takes the next line of what was read, once. Whether there was one. That a message was heard is told by the time
+    /// only where one was counted.
     fn take_next<E: Write>(&mut self, errors: &mut E) -> Result<bool, Stop>
-        ensures { IfOk result (λ _. GoesOn [] self.old.intake self.new.intake) }
+        ensures goes_on { IfOk result (λ _. GoesOn [] self.old.intake self.new.intake) }
+        ensures heard { IfOk result (λ _. (board_of self.new.intake).shown.counts.messages
+            ≡ (board_of self.old.intake).shown.counts.messages → self.new.heard ≡ self.old.heard) }
     {
         let before = self.intake.page().counts().messages;
         match self.intake.take_next(self.alloc) {
@@ -177,6 +180,8 @@ impl<'a, N: Net<Listener = TcpListener, Stream = TcpStream> + Clock> Serving<'a,
         requires { (cutting_of self.old.intake).ahead ≡ [] }
         ensures ended { IfOk result (λ progress. progress ≡ Progress.Ended) }
         ensures ends { IfOk result (λ _. Ends [] self.old.intake self.new.intake) }
+        ensures heard { IfOk result (λ _. (board_of self.new.intake).shown.counts.messages
+            ≡ (board_of self.old.intake).shown.counts.messages → self.new.heard ≡ self.old.heard) }
     {
         let before = self.intake.page().counts().messages;
         match self.intake.take_last(self.alloc) {
@@ -190,7 +195,8 @@ impl<'a, N: Net<Listener = TcpListener, Stream = TcpStream> + Clock> Serving<'a,
     /// Tells what a line came to: an event goes to those who get them, another line is told on `errors`. So many
     /// messages were counted before it.
     fn tell<E: Write>(&mut self, before: u64, taken: Taken, errors: &mut E)
-        ensures { self.new.intake ≡ self.old.intake }
+        ensures same { self.new.intake ≡ self.old.intake }
+        ensures heard { (board_of self.old.intake).shown.counts.messages ≡ before → self.new.heard ≡ self.old.heard }
     {
         match taken {
             Taken::Other(number) => say_other(number, errors),
