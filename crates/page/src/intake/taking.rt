@@ -71,7 +71,7 @@ impl Intake {
         requires { (cutting_of self.old).ahead ≡ [] }
         ensures read { IfOk result (λ _. (bytes : List ℕ)
             × Consumes (R.remaining reader.old) (R.remaining reader.new) bytes × Brings bytes self.old self.new
-                × GoesOn bytes self.old self.new) }
+            × GoesOn bytes self.old self.new) }
         ensures ended { result ≡ Ok false → (self.new ≡ self.old) × IsAtEnd (R.remaining reader.new) }
         ensures err { OnErr result ((self.new ≡ self.old) × Keeps (R.remaining reader.old) (R.remaining reader.new)) }
     {
