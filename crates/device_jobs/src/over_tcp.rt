@@ -1,5 +1,5 @@
 //! A device over TCP. Source: profile.
-ghost use Rattle.std.specs.Prelude.{◌≡◌, ◌≢◌, ◌≤◌, ◌&&◌, [], None, is_some, IfOk, IfErr, MatchResult};
+ghost use Rattle.std.specs.Prelude.{◌≡◌, ◌≢◌, ◌≤◌, ◌&&◌, [], None, is_some, IfOk, IfErr, OnOk, MatchResult};
 ghost use Rattle.device_edges.specs.Place.{ComesTo, GoesFrom};
 ghost use Rattle.device_edges.specs.Screen.{OpensScreened, ClosesScreened};
 ghost use Rattle.device_jobs.specs.Limits.{limit_of};
@@ -89,6 +89,7 @@ fn begin<'a, E: Write, N: Net<Listener = TcpListener, Stream = TcpStream> + Cloc
     ensures place { IfOk result (λ begun. IsPlaceOf job.now begun.accepting.place) }
     ensures idle { IfOk result (λ begun. begun.accepting.idle ≡ limit_of job.now.idle) }
     ensures rules { job.now.faults ≡ None → IfOk result (λ begun. begun.rules.items ≡ []) }
+    ensures same { OnOk result (errors.new ≡ errors.old) }
     ensures status { IfErr result (λ status. (2 ≤ status) × (status ≤ 3)) }
 {
     let place = match address_of(job) {
