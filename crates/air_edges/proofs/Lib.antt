@@ -1,0 +1,2 @@
+-- What is shared by the proofs of the edge of the air.
+mod Getting

@@ -3,8 +3,8 @@ use Rattle.std.specs.Prelude.{ℕ, List, [], ◌∷◌, ◌++◌}
 use Rattle.rds_groups.specs.declared.group.Group.{Group}
 use Rattle.rds_groups.specs.Lines.{line}
 use Rattle.rds_groups.specs.Text.{bit_line}
-use Rattle.air_edges.specs.declared.hearers.AirForm.{AirForm}
-use Rattle.air_edges.specs.declared.hearers.AirForm.TheVariants.{Lines, Bits}
+use Rattle.air_edges.specs.declared.form.AirForm.{AirForm}
+use Rattle.air_edges.specs.declared.form.AirForm.TheVariants.{Lines, Bits}
 
 -- Its line of words, or that of its bits, and a line feed.
 abbrev pub air_bytes : AirForm → Group → List ℕ

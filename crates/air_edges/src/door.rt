@@ -1,5 +1,6 @@
 //! What is waited for, by one poll (profile).
 
+use crate::sockets::Came;
 use mio::unix::SourceFd;
 use mio::{Events, Interest, Poll, Token};
 use std::alloc::Global;
@@ -19,15 +20,6 @@ const AIR: Token = Token(1);
 pub(crate) struct Door {
     poll: Poll,
     events: Events<Global>,
-}
-
-/// What came.
-#[derive(Clone, Copy, Debug)]
-pub(crate) struct Came {
-    /// Something of the studio.
-    pub(crate) studio: bool,
-    /// One who wants to listen to the air.
-    pub(crate) air: bool,
 }
 
 impl Door {

@@ -1,13 +1,11 @@
-//! Who listens to the air. Nothing is claimed of what a socket takes (profile).
-ghost use Rattle.std.specs.Prelude.{◌≡◌, ◌<◌, ◌++◌, ◌∷◌, [], length};
-ghost use Rattle.air_edges.specs.AirBytes.{air_bytes};
+//! Who listens to the air (profile).
+ghost use Rattle.std.specs.Prelude.{◌≡◌, ◌<◌, ◌≤◌, ◌++◌, ◌∷◌, ℕ, [], length, IsTrue, IfOk, ◌↔◌, ltb};
+ghost use Rattle.air_edges.specs.Hearers.{GoesOut, GetsGroup, IsGone, IsSlow, HasFate, joined};
 
+use crate::hears::{Hears, Taken};
 use arrayvec::ArrayVec;
-use rds_groups::{Group, bit_line, line};
-use slab::Slab;
-use std::alloc::Global;
-use std::io::{ErrorKind, Write};
-use std::net::TcpStream;
+use std::alloc::{AllocError, Global};
+use std::marker::Model;
 
 /// How many may listen at a time.
 const HEARERS_MAX: usize = 64;
@@ -15,77 +13,37 @@ const HEARERS_MAX: usize = 64;
 /// How many bytes wait for one at most: 195 lines, which is 17 seconds, or 39 groups as bits, which is 3.4 seconds.
 const WAITING_MAX: usize = 4096;
 
-/// In which form groups go out.
-#[derive(Clone, Copy, Debug, PartialEq, Eq)]
-pub enum AirForm {
-    /// A line of four words a group.
-    Lines,
-    /// A line of 104 digits 0 and 1 a group, the first bit first.
-    Bits,
-}
-
 /// One who listens: its connection, and what it has not taken yet.
 #[derive(Drop)]
-struct Hearer {
-    stream: TcpStream,
+pub(crate) struct Hearer<H> {
+    output: H,
     waiting: ArrayVec<u8, WAITING_MAX>,
 }
 
-/// All who listen.
+impl<H> Model for Hearer<H> {
+    ghost use Rattle.air_edges.specs.Hearers.{Hearing};
+
+    ghost Value = { Hearing H };
+
+    ghost view = { λ h. record { output = h.output; waiting = h.waiting.items } };
+}
+
+/// All who listen, in the order in which they came. There is room for all who may.
 #[derive(Drop)]
-pub(crate) struct Hearers {
-    hearers: Slab<Hearer>,
+pub(crate) struct Hearers<H> {
+    hearers: Vec<Hearer<H>>,
 }
 
-/// How many were let go, and why.
-#[derive(Clone, Copy, Debug)]
-pub(crate) struct LetGo {
-    /// Their connection was closed or broke.
-    pub(crate) gone: u32,
-    /// They did not take what was sent in time.
-    pub(crate) slow: u32,
-}
+impl<H> Model for Hearers<H> {
+    ghost use Rattle.std.specs.Prelude.{◌≤◌, List};
+    ghost use Rattle.std.specs.Vec.{vec_len, vec_capacity};
+    ghost use Rattle.air_edges.specs.Hearers.{Hearing};
 
-impl Hearers {
-    /// Nobody listens.
-    pub(crate) fn new(alloc: Global) -> Hearers {
-        Hearers {
-            hearers: Slab::new(alloc),
-        }
-    }
+    ghost Value = { List (Hearing H) };
 
-    /// Whether one more may listen.
-    pub(crate) fn has_room(&self) -> bool {
-        self.hearers.len() < HEARERS_MAX
-    }
+    ghost view = { λ h. h.hearers.items };
 
-    /// One more listens, from the next group on, by this connection, whose calls do not wait. Without memory it is
-    /// closed.
-    pub(crate) fn add(&mut self, stream: TcpStream) {
-        let hearer = Hearer {
-            stream,
-            waiting: ArrayVec::new(),
-        };
-        let _ = self.hearers.insert(hearer);
-    }
-
-    /// The bytes go to all who listen. Who is gone, or has not taken what waits, is let go.
-    pub(crate) fn send(&mut self, bytes: &[u8]) -> LetGo {
-        let mut let_go = LetGo { gone: 0, slow: 0 };
-        for key in 0..HEARERS_MAX {
-            let fate = match self.hearers.get_mut(key) {
-                Some(hearer) => hearer.send(bytes),
-                None => Fate::Stays,
-            };
-            match fate {
-                Fate::Stays => continue,
-                Fate::Gone => let_go.gone = let_go.gone.saturating_add(1),
-                Fate::Slow => let_go.slow = let_go.slow.saturating_add(1),
-            }
-            let _ = self.hearers.try_remove(key);
-        }
-        let_go
-    }
+    ghost invariant = { λ h. (64 ≤ vec_capacity h.hearers) × (vec_len h.hearers ≤ 64) };
 }
 
 /// What becomes of one who listens.
@@ -96,47 +54,73 @@ enum Fate {
     Slow,
 }
 
-impl Hearer {
+impl<H> Hearers<H> {
+    /// Nobody listens.
+    pub(crate) fn new(alloc: Global) -> Result<Hearers<H>, AllocError>
+        ensures { IfOk result (λ hearers. hearers ≡ []) }
+    {
+        Ok(Hearers {
+            hearers: Vec::with_capacity(alloc, HEARERS_MAX)?,
+        })
+    }
+
+    /// Whether one more may listen.
+    pub(crate) fn has_room(&self) -> bool
+        ensures { result ≡ ltb (length self.now) 64 }
+    {
+        self.hearers.len() < HEARERS_MAX
+    }
+
+    /// One more listens, from the next group on, by this connection.
+    pub(crate) fn add(&mut self, output: H)
+        requires { length self.old < 64 }
+        ensures { self.new ≡ self.old ++ joined output ∷ [] }
+    {
+        self.hearers.push_reserved(Hearer {
+            output,
+            waiting: ArrayVec::new(),
+        });
+    }
+}
+
+impl<H: Hears> Hearers<H> {
+    /// The bytes go to all who listen. Who is gone, or has not taken what waits, is let go: how many of these.
+    pub(crate) fn send(&mut self, bytes: &[u8]) -> usize
+        ensures sends { GoesOut H.takes H.contents bytes.now result self.old self.new }
+        ensures few { result ≤ 64 }
+    {
+        let mut slow = 0;
+        let mut place = 0;
+        while place < self.hearers.len() {
+            match self.hearers[place].send(bytes) {
+                Fate::Stays => {
+                    place += 1;
+                    continue;
+                }
+                Fate::Gone => {}
+                Fate::Slow => slow += 1,
+            }
+            self.hearers.remove(place);
+        }
+        slow
+    }
+}
+
+impl<H: Hears> Hearer<H> {
     /// The bytes wait behind what waits, and as many are written as the connection takes.
-    fn send(&mut self, bytes: &[u8]) -> Fate {
+    fn send(&mut self, bytes: &[u8]) -> Fate
+        ensures { HasFate H.takes H.contents bytes.now self.old result self.new }
+    {
         if self.waiting.try_extend_from_slice(bytes).is_err() {
             return Fate::Slow;
         }
-        match self.stream.write(self.waiting.as_slice()) {
-            Ok(0) => Fate::Gone,
-            Ok(count) => {
-                let count = count.min(self.waiting.len());
+        match self.output.take(self.waiting.as_slice()) {
+            Taken::First(count) => {
                 self.waiting.drain(..count);
                 Fate::Stays
             }
-            Err(error) => match error.kind() {
-                ErrorKind::WouldBlock | ErrorKind::Interrupted => Fate::Stays,
-                _ => Fate::Gone,
-            },
+            Taken::NotNow => Fate::Stays,
+            Taken::Gone => Fate::Gone,
         }
     }
-}
-
-/// A group in this form, with its line feed.
-pub(crate) fn bytes_of(group: &Group, form: AirForm) -> ArrayVec<u8, 105>
-    ensures { result.items ≡ air_bytes form group.now }
-{
-    match form {
-        AirForm::Lines => ended(&line(group)),
-        AirForm::Bits => ended(&bit_line(group)),
-    }
-}
-
-/// These characters and a line feed.
-fn ended(characters: &[u8]) -> ArrayVec<u8, 105>
-    requires { length characters.now < 105 }
-    ensures { result.items ≡ characters.now ++ 10 ∷ [] }
-{
-    let mut bytes = ArrayVec::new();
-    match bytes.try_extend_from_slice(characters) {
-        Ok(()) => {}
-        Err(_) => unreachable!(),
-    }
-    bytes.push(b'\n');
-    bytes
 }

@@ -2,14 +2,25 @@
 //! and for the time of the next group.
 //!
 //! - [`Pace`]: when the next group is due.
-//! - [`OnAir`]: a [`Moments`](air_serving::Moments) over sockets; [`AirForm`] says in which form the groups go out.
+//! - [`OnAir`]: a [`Moments`](air_serving::Moments) over [`Sockets`]; [`AirForm`] says in which form the groups go out.
+//! - [`Sockets`]: what the machine gives: a clock, one wait, and connections; [`Came`] is what came. [`Hears`] is the
+//!   connection to one who listens, and [`Taken`] what it took.
+//! - [`TcpSockets`]: the same over TCP, at its [`Addresses`].
 #![tactic(auto)]
 
 mod door;
+mod form;
 mod hearers;
+mod hears;
 mod on_air;
 mod pace;
+mod silence;
+mod sockets;
+mod tcp;
 
-pub use hearers::AirForm;
-pub use on_air::{Addresses, OnAir};
+pub use form::AirForm;
+pub use hears::{Hears, Taken};
+pub use on_air::OnAir;
 pub use pace::Pace;
+pub use sockets::{Came, Sockets};
+pub use tcp::{Addresses, TcpSockets};

@@ -1,257 +1,208 @@
-//! An encoder's sockets, its own and those of the air, and the time (profile).
-ghost use Rattle.std.specs.Prelude.{◌<◌, ◌^◌};
+//! The edge of an encoder on the air, over the sockets that the machine gives it (profile).
+ghost use Rattle.std.specs.Prelude.{◌≡◌, ◌<◌, ◌≤◌, ◌^◌, ◌++◌, ◌∷◌, [], MatchOption, IfOk, length};
+ghost use Rattle.uecp_text.specs.Written.{Begins};
+ghost use Rattle.air_edges.specs.Edge.{edge_at_first, Accepts, Joins, TellsFull, TellsSlow, LookBrings, LookPasses, Brings,
+    Passes, IsEarly};
 
-use crate::door::{Came, Door};
-use crate::hearers::{AirForm, Hearers, bytes_of};
+use crate::form::{AirForm, bytes_of};
+use crate::hearers::Hearers;
+use crate::hears::Hears;
 use crate::pace::Pace;
+use crate::silence::{is_silent, wait_limit};
+use crate::sockets::Sockets;
 use air_serving::{Moment, Moments};
-use device_edges::{BindFault, Idle, bind, two_ends};
 use rds_groups::Group;
-use std::alloc::Global;
-use std::io::{Error, ErrorKind, Write};
-use std::net::{Net, SocketAddr, TcpListener, TcpStream};
-use std::os::fd::{AsRawFd, RawFd};
-use std::thread;
-use std::time::{Clock, Duration, Instant};
+use std::alloc::{AllocError, Global};
+use std::io::Write;
+use std::marker::Model;
+use uecp_text::write_parts;
 
-/// How long a read of a studio's connection waits at most, in milliseconds, where a poll said that something is there,
-/// or nothing came for too long.
-const READ_MAX: u64 = 20;
+/// What is said where one more than may listen wants to.
+const FULL: &[u8] = b"uecp: air: too many listen, and one more is not taken\n";
 
-/// How long a write to it waits at most, in milliseconds.
-const WRITE_MAX: u64 = 1000;
+/// What is said of one who is let go as slow.
+const SLOW: &[u8] = b"uecp: air: one who listens does not keep up, and is closed\n";
 
-/// The most milliseconds that are counted: some eight million years.
-const TIME_MAX: u64 = (1 << 58) - 1;
-
-/// Where an encoder on the air is found.
-#[derive(Clone, Copy, Debug)]
-pub struct Addresses {
-    /// Where the studio connects.
-    pub studio: SocketAddr,
-    /// Where those connect who listen to the air.
-    pub air: SocketAddr,
-}
-
-/// Listens at two places: at one connections of the studio are accepted, one at a time; at the other those who get the
-/// groups as they go out, from the next on, at most 64. Who does not take them in time is let go, which is said; and so
-/// it is said that there are 64 and more want to listen, once until one of them is let go.
+/// The edge of an encoder on the air: connections of the studio are accepted, one at a time, and those who listen get
+/// the groups as they go out, from the next on, at most 64. Who does not take them in time is let go, which is said; and
+/// so it is said that there are 64 and more want to listen, once until one of them is let go.
 #[derive(Drop)]
-pub struct OnAir<'a, N: Net<Listener = TcpListener, Stream = TcpStream> + Clock, W: Write> {
-    net: &'a N,
+pub struct OnAir<'a, S, H, W: Write> {
+    sockets: S,
     notices: &'a mut W,
-    studio: TcpListener,
-    air: TcpListener,
-    door: Door,
     form: AirForm,
     idle: Option<u32>,
-    begun: Instant,
     pace: Pace,
-    line: Option<RawFd>,
     heard: u64,
-    hearers: Hearers,
+    hearers: Hearers<H>,
     is_full_told: bool,
 }
 
-impl<'a, N: Net<Listener = TcpListener, Stream = TcpStream> + Clock, W: Write> OnAir<'a, N, W> {
-    /// Listens at these places from now on, and is on the air from the first wait. A connection of the studio on which
-    /// nothing comes for `idle` seconds is given up; with None there is no limit.
+impl<'a, S, H, W: Write> Model for OnAir<'a, S, H, W> {
+    ghost use Rattle.air_edges.specs.Edge.{Edge};
+
+    ghost Value = { Edge S H };
+
+    ghost view = { λ a. record {
+      sockets = a.sockets;
+      form = a.form;
+      idle = a.idle;
+      next = a.pace;
+      heard = a.heard;
+      hearers = a.hearers;
+      is_full_told = a.is_full_told;
+      told = W.contents a.notices.now;
+    } };
+}
+
+impl<'a, S: Drop, H: Drop, W: Write> OnAir<'a, S, H, W> {
+    /// Is on the air over these sockets from the first wait on. A connection of the studio on which nothing comes for
+    /// `idle` seconds is given up; with None there is no limit. What is said of those who listen goes to `notices`.
     ///
-    /// Errors: as [`BindFault`] has them.
+    /// Errors: no memory for those who listen.
     pub fn new(
         alloc: Global,
-        net: &'a N,
-        places: Addresses,
+        sockets: S,
         form: AirForm,
         idle: Option<u32>,
         notices: &'a mut W,
-    ) -> Result<OnAir<'a, N, W>, BindFault> {
-        let studio = listener_at(net, places.studio)?;
-        let air = listener_at(net, places.air)?;
-        match (Door::new(alloc, net), Instant::now(net)) {
-            (Ok(door), Ok(begun)) => Ok(OnAir {
-                net,
-                notices,
-                studio,
-                air,
-                door,
-                form,
-                idle,
-                begun,
-                pace: Pace::new(),
-                line: None,
-                heard: 0,
-                hearers: Hearers::new(alloc),
-                is_full_told: false,
-            }),
-            _ => Err(BindFault::Failed),
-        }
-    }
-
-    /// How many milliseconds have gone by.
-    fn now(&self) -> u64
-        ensures { result < 2 ^ 58 }
+    ) -> Result<OnAir<'a, S, H, W>, AllocError>
+        ensures { IfOk result (λ edge. edge ≡ edge_at_first sockets form idle (W.contents notices.old)) }
     {
-        match self.begun.elapsed(self.net) {
-            Ok(elapsed) => u64::try_from(elapsed.as_millis())
-                .unwrap_or(TIME_MAX)
-                .min(TIME_MAX),
-            Err(_) => 0,
-        }
+        let hearers = Hearers::new(alloc)?;
+        Ok(OnAir {
+            sockets,
+            notices,
+            form,
+            idle,
+            pace: Pace::new(),
+            heard: 0,
+            hearers,
+            is_full_told: false,
+        })
     }
+}
 
-    /// How many milliseconds a connection may be silent still; None where it may be for ever.
-    fn patience(&self, now: u64) -> Option<u64> {
-        let seconds = self.idle?;
-        let limit = self.heard.saturating_add(u64::from(seconds) * 1000);
-        Some(limit.saturating_sub(now))
-    }
-
-    /// Waits for what comes next, at most until the next group is due or the connection was silent for too long.
-    fn look(&mut self, is_open: bool, now: u64) -> Result<Came, Error>
-        requires { now < 2 ^ 58 }
+impl<'a, S: Sockets<Hearer = H>, H: Hears, W: Write> OnAir<'a, S, H, W> {
+    /// Reads the clock, and does what is to be done at its time; where nothing is, looks once. None: nothing came of
+    /// it.
+    fn turn(&mut self, is_open: bool) -> Option<Moment<S::Input, S::Output>>
+        ensures { MatchOption result (Passes S.reads S.waits S.opens S.joins is_open self.old self.new)
+            (λ moment. Brings S.reads S.waits S.opens S.joins is_open self.old moment self.new) }
     {
-        let mut limit = self.pace.wait(now);
-        let mut studio = self.studio.as_raw_fd();
+        let now = self.sockets.now();
+        if self.pace.is_due(now) {
+            self.pace.sent(now);
+            return Some(Moment::Due);
+        }
+        if is_open && is_silent(self.idle, self.heard, now) {
+            self.heard = now;
+            return Some(Moment::Readable);
+        }
+        self.look(is_open, now)
+    }
+
+    /// Waits once, at most until something is to be done, and accepts who came.
+    fn look(&mut self, is_open: bool, now: u64) -> Option<Moment<S::Input, S::Output>>
+        requires range { now < 2 ^ 58 }
+        requires early { IsEarly S.reads S.waits S.opens S.joins is_open self.old now }
+        ensures { MatchOption result (LookPasses S.reads S.waits S.opens S.joins is_open now self.old self.new)
+            (λ moment. LookBrings S.reads S.waits S.opens S.joins is_open now self.old moment self.new) }
+    {
+        let limit = wait_limit(is_open, self.idle, self.heard, &self.pace, now);
+        let Some(came) = self.sockets.wait(is_open, limit) else {
+            return Some(Moment::Over);
+        };
+        self.accept(came.air);
+        if !came.studio {
+            return None;
+        }
         if is_open {
-            if let Some(line) = self.line {
-                studio = line;
-            }
-            if let Some(patience) = self.patience(now) {
-                limit = limit.min(patience);
-            }
+            self.heard = now;
+            return Some(Moment::Readable);
         }
-        self.door.wait(studio, self.air.as_raw_fd(), limit)
+        let (input, output) = self.sockets.open()?;
+        self.heard = now;
+        Some(Moment::Connected(input, output))
     }
 
-    /// Accepts one connection of the studio.
-    fn accept_studio(&mut self) -> Option<(Idle<TcpStream>, TcpStream)> {
-        match self.studio.accept() {
-            Ok((stream, _)) => {
-                let fd = stream.as_raw_fd();
-                let read = Some(Duration::from_millis(READ_MAX));
-                let write = Some(Duration::from_millis(WRITE_MAX));
-                match two_ends(stream, read, write) {
-                    Ok(ends) => {
-                        self.line = Some(fd);
-                        Some(ends)
-                    }
-                    Err(_) => None,
-                }
-            }
-            Err(error) => {
-                self.rest(&error);
-                None
+    /// Accepts one who wants to listen, where one came.
+    fn accept(&mut self, came: bool)
+        ensures { Accepts S.reads S.waits S.opens S.joins came self.old self.new }
+    {
+        if came {
+            if let Some(output) = self.sockets.join() {
+                self.add(output);
             }
         }
     }
 
-    /// Accepts one who listens to the air, or closes the connection where there is no room.
-    fn accept_hearer(&mut self) {
-        match self.air.accept() {
-            Ok((stream, _)) => {
-                let _ = stream.set_nodelay(true);
-                if self.hearers.has_room() && stream.set_nonblocking(true).is_ok() {
-                    self.hearers.add(stream);
-                } else {
-                    self.tell_full();
-                }
-            }
-            Err(error) => self.rest(&error),
+    /// One more listens; or there is no room for it, which is said.
+    fn add(&mut self, output: H)
+        ensures { Joins output self.old self.new }
+    {
+        if self.hearers.has_room() {
+            self.hearers.add(output);
+        } else {
+            self.tell_full();
         }
     }
 
     /// Says that one more is not taken, once until one of those who listen is let go: who comes again and again would
     /// fill what takes the notices, and hold the encoder.
-    fn tell_full(&mut self) {
+    fn tell_full(&mut self)
+        ensures tells { TellsFull self.old.is_full_told self.old.told self.new.told }
+        ensures same { self.new ≡ record self.old { is_full_told = true; told = self.new.told } }
+    {
         if !self.is_full_told {
-            self.say(b"uecp: air: too many listen, and one more is not taken\n");
+            let _ = write_parts(&[FULL], self.notices);
             self.is_full_told = true;
         }
     }
 
-    /// Rests a moment where the system has no connection to give though it said so, as where no descriptor is left.
-    fn rest(&self, error: &Error) {
-        if error.kind() != ErrorKind::WouldBlock {
-            thread::sleep(self.net, Duration::from_millis(10));
+    /// Says of so many that they are let go.
+    fn tell_slow(&mut self, count: usize)
+        ensures tells { TellsSlow count self.old.told self.new.told }
+        ensures same { self.new ≡ record self.old { told = self.new.told } }
+    {
+        for _one in 0..count {
+            let _ = write_parts(&[SLOW], self.notices);
         }
     }
-
-    /// Says this on standard error, as far as it takes it.
-    fn say(&mut self, notice: &[u8]) {
-        let _ = self.notices.write_all(notice);
-    }
 }
 
-/// A listener whose calls don't wait.
-fn listener_at<N: Net<Listener = TcpListener, Stream = TcpStream>>(
-    net: &N,
-    place: SocketAddr,
-) -> Result<TcpListener, BindFault> {
-    let listener = bind(net, place)?;
-    match listener.set_nonblocking(true) {
-        Ok(()) => Ok(listener),
-        Err(_) => Err(BindFault::Failed),
-    }
-}
+impl<'a, S: Sockets<Hearer = H>, H: Hears, W: Write> Moments for OnAir<'a, S, H, W> {
+    type Input = S::Input;
 
-impl<'a, N: Net<Listener = TcpListener, Stream = TcpStream> + Clock, W: Write> Moments
-    for OnAir<'a, N, W> {
-    type Input = Idle<TcpStream>;
+    type Output = S::Output;
 
-    type Output = TcpStream;
+    ghost use Rattle.air_edges.specs.Edge.{Waits, ClosesEnds, SendsGroup};
 
-    ghost waits = { λ _ _ _ _. Unit {0} };
+    ghost waits = { λ e open moment e'. Waits S.reads S.waits S.opens S.joins e open moment e' };
 
-    ghost closes = { λ _ _ _ _. Unit {0} };
+    ghost closes = { λ e input output e'. ClosesEnds S.closes e input output e' };
 
-    ghost sends = { λ _ _ _. Unit {0} };
+    ghost sends = { λ e group e'. SendsGroup H.takes H.contents e group e' };
 
-    fn wait(&mut self, is_open: bool) -> Moment<Idle<TcpStream>, TcpStream> {
+    fn wait(&mut self, is_open: bool) -> Moment<S::Input, S::Output> {
         for _turn in 0..u64::MAX {
-            let now = self.now();
-            if self.pace.is_due(now) {
-                self.pace.sent(now);
-                return Moment::Due;
-            }
-            if is_open && self.patience(now) == Some(0) {
-                self.heard = now;
-                return Moment::Readable;
-            }
-            let came = match self.look(is_open, now) {
-                Ok(came) => came,
-                Err(error) if error.kind() == ErrorKind::Interrupted => continue,
-                Err(_) => return Moment::Over,
-            };
-            if came.air {
-                self.accept_hearer();
-            }
-            if came.studio && is_open {
-                self.heard = now;
-                return Moment::Readable;
-            }
-            if came.studio {
-                if let Some((input, output)) = self.accept_studio() {
-                    self.heard = now;
-                    return Moment::Connected(input, output);
-                }
+            if let Some(moment) = self.turn(is_open) {
+                return moment;
             }
         }
         Moment::Over
     }
 
-    fn close(&mut self, _input: Idle<TcpStream>, _output: TcpStream) {
-        self.line = None;
+    fn close(&mut self, input: S::Input, output: S::Output) {
+        self.sockets.close(input, output);
     }
 
     fn send(&mut self, group: &Group) {
         let bytes = bytes_of(group, self.form);
-        let let_go = self.hearers.send(bytes.as_slice());
+        let slow = self.hearers.send(bytes.as_slice());
         if self.hearers.has_room() {
             self.is_full_told = false;
         }
-        for _one in 0..let_go.slow {
-            self.say(b"uecp: air: one who listens does not keep up, and is closed\n");
-        }
+        self.tell_slow(slow);
     }
 }
