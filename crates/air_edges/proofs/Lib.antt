@@ -1,2 +1,3 @@
 -- What is shared by the proofs of the edge of the air.
 mod Getting
+mod Waiting

@@ -100,27 +100,28 @@ ClosesEnds closes e input output e' =
 
 -- ---- A wait.
 
+-- Nothing is to be done at this time: no group is due, and no connection is open that was silent for too long.
+abbrev pub IsEarly : {S H : Type 0} → (is_open : Bool) → Edge S H → (now : ℕ) → Type 0
+IsEarly is_open e now =
+    (pace.is_due e.next now ≡ false) × ((is_open && is_silent e.idle e.heard now) ≡ false)
+
+-- Where one came who wants to listen it is accepted, if it is there still.
+abbrev pub Accepts : {S H : Type 0} → (joins : S → Option H → S → Type 0) → (came : Bool) → (e e' : Edge S H)
+    → Type 0
+Accepts joins false e e' = e' ≡ e
+Accepts {S} {H} joins true e e' = (sockets : S)
+    × ((joins e.sockets None sockets × (e' ≡ record e { sockets = sockets }))
+    ⊎ ((output : H) × joins e.sockets (Some output) sockets × Joins output (record e { sockets = sockets }) e'))
+
 module _ {S H I O : Type 0} (reads : S → ℕ → S → Type 0) (waits : S → Bool → ℕ → Option Came → S → Type 0)
     (opens : S → Option (I × O) → S → Type 0) (joins : S → Option H → S → Type 0) where
-  -- Nothing is to be done at this time: no group is due, and no connection is open that was silent for too long.
-  abbrev pub IsEarly : (is_open : Bool) → Edge S H → (now : ℕ) → Type 0
-  IsEarly is_open e now =
-      (pace.is_due e.next now ≡ false) × ((is_open && is_silent e.idle e.heard now) ≡ false)
-
-  -- Where one came who wants to listen it is accepted, if it is there still.
-  abbrev pub Accepts : (came : Bool) → (e e' : Edge S H) → Type 0
-  Accepts false e e' = e' ≡ e
-  Accepts true e e' = (sockets : S)
-      × ((joins e.sockets None sockets × (e' ≡ record e { sockets = sockets }))
-      ⊎ ((output : H) × joins e.sockets (Some output) sockets × Joins output (record e { sockets = sockets }) e'))
-
   -- The sockets were waited for at a time at which nothing was to be done, and for no longer than until something is;
   -- this came, and one who wants to listen was accepted.
   pub record Looks (is_open : Bool) (e : Edge S H) (now : ℕ) (came : Came) (e' : Edge S H) : Type 0 where
     pub waited : S
     pub early : IsEarly is_open e now
     pub waits_so : waits e.sockets is_open (wait_limit is_open e.idle e.heard e.next now) (Some came) waited
-    pub accepts : Accepts came.air (record e { sockets = waited }) e'
+    pub accepts : Accepts joins came.air (record e { sockets = waited }) e'
 
   -- What a look at this time brings.
   --

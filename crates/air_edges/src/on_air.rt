@@ -1,5 +1,5 @@
 //! The edge of an encoder on the air, over the sockets that the machine gives it (profile).
-ghost use Rattle.std.specs.Prelude.{◌≡◌, ◌<◌, ◌≤◌, ◌^◌, ◌++◌, ◌∷◌, [], MatchOption, IfOk, length};
+ghost use Rattle.std.specs.Prelude.{◌≡◌, ◌<◌, ◌≤◌, ◌^◌, ◌++◌, ◌∷◌, [], MatchOption, IfOk, true};
 ghost use Rattle.uecp_text.specs.Written.{Begins};
 ghost use Rattle.air_edges.specs.Edge.{edge_at_first, Accepts, Joins, TellsFull, TellsSlow, LookBrings, LookPasses, Brings,
     Passes, IsEarly};
@@ -95,7 +95,7 @@ impl<'a, S: Sockets<Hearer = H>, H: Hears, W: Write> OnAir<'a, S, H, W> {
             self.pace.sent(now);
             return Some(Moment::Due);
         }
-        if is_open && is_silent(self.idle, self.heard, now) {
+        if is_silent(is_open, self.idle, self.heard, now) {
             self.heard = now;
             return Some(Moment::Readable);
         }
@@ -105,13 +105,14 @@ impl<'a, S: Sockets<Hearer = H>, H: Hears, W: Write> OnAir<'a, S, H, W> {
     /// Waits once, at most until something is to be done, and accepts who came.
     fn look(&mut self, is_open: bool, now: u64) -> Option<Moment<S::Input, S::Output>>
         requires range { now < 2 ^ 58 }
-        requires early { IsEarly S.reads S.waits S.opens S.joins is_open self.old now }
+        requires early { IsEarly is_open self.old now }
         ensures { MatchOption result (LookPasses S.reads S.waits S.opens S.joins is_open now self.old self.new)
             (λ moment. LookBrings S.reads S.waits S.opens S.joins is_open now self.old moment self.new) }
     {
         let limit = wait_limit(is_open, self.idle, self.heard, &self.pace, now);
-        let Some(came) = self.sockets.wait(is_open, limit) else {
-            return Some(Moment::Over);
+        let came = match self.sockets.wait(is_open, limit) {
+            Some(came) => came,
+            None => return Some(Moment::Over),
         };
         self.accept(came.air);
         if !came.studio {
@@ -121,19 +122,25 @@ impl<'a, S: Sockets<Hearer = H>, H: Hears, W: Write> OnAir<'a, S, H, W> {
             self.heard = now;
             return Some(Moment::Readable);
         }
-        let (input, output) = self.sockets.open()?;
-        self.heard = now;
-        Some(Moment::Connected(input, output))
+        match self.sockets.open() {
+            Some((input, output)) => {
+                self.heard = now;
+                Some(Moment::Connected(input, output))
+            }
+            None => None,
+        }
     }
 
     /// Accepts one who wants to listen, where one came.
     fn accept(&mut self, came: bool)
-        ensures { Accepts S.reads S.waits S.opens S.joins came self.old self.new }
+        ensures { Accepts S.joins came self.old self.new }
     {
-        if came {
-            if let Some(output) = self.sockets.join() {
-                self.add(output);
-            }
+        if !came {
+            return;
+        }
+        match self.sockets.join() {
+            Some(output) => self.add(output),
+            None => {}
         }
     }
 
@@ -178,7 +185,7 @@ impl<'a, S: Sockets<Hearer = H>, H: Hears, W: Write> Moments for OnAir<'a, S, H,
 
     ghost use Rattle.air_edges.specs.Edge.{Waits, ClosesEnds, SendsGroup};
 
-    ghost waits = { λ e open moment e'. Waits S.reads S.waits S.opens S.joins e open moment e' };
+    ghost waits = { λ e is_open moment e'. Waits S.reads S.waits S.opens S.joins e is_open moment e' };
 
     ghost closes = { λ e input output e'. ClosesEnds S.closes e input output e' };
 
@@ -186,8 +193,9 @@ impl<'a, S: Sockets<Hearer = H>, H: Hears, W: Write> Moments for OnAir<'a, S, H,
 
     fn wait(&mut self, is_open: bool) -> Moment<S::Input, S::Output> {
         for _turn in 0..u64::MAX {
-            if let Some(moment) = self.turn(is_open) {
-                return moment;
+            match self.turn(is_open) {
+                Some(moment) => return moment,
+                None => {}
             }
         }
         Moment::Over

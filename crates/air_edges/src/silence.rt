@@ -1,15 +1,15 @@
 //! How long is waited (profile).
-ghost use Rattle.std.specs.Prelude.{◌≡◌, ◌<◌, ◌^◌};
+ghost use Rattle.std.specs.Prelude.{◌≡◌, ◌<◌, ◌^◌, ◌&&◌};
 ghost use Rattle.air_edges.specs.Edge.{is_silent, wait_limit};
 
 use crate::pace::Pace;
 
-/// Whether a connection on which something came last at `heard` was silent for too long now.
-pub(crate) fn is_silent(idle: Option<u32>, heard: u64, now: u64) -> bool
-    ensures { result ≡ is_silent idle heard now }
+/// Whether a connection is open on which something came last at `heard`, and it was silent for too long now.
+pub(crate) fn is_silent(is_open: bool, idle: Option<u32>, heard: u64, now: u64) -> bool
+    ensures { result ≡ (is_open && is_silent idle heard now) }
 {
     match idle {
-        Some(seconds) => u64::from(seconds) * 1000 <= now.saturating_sub(heard),
+        Some(seconds) => is_open && u64::from(seconds) * 1000 <= now.saturating_sub(heard),
         None => false,
     }
 }
