@@ -1,5 +1,5 @@
 -- One who listens, and all.
-use Rattle.std.proofs.Common.{◌≡◌, ◌⊎◌, ◌<◌, ◌≤◌, ◌+◌, ℕ, zero, suc, List, [], ◌∷◌, ◌++◌, length, take, drop, Option}
+use Rattle.std.proofs.Common.{◌≡◌, ◌<◌, ◌≤◌, ◌+◌, ℕ, suc, List, [], ◌∷◌, ◌++◌, length, take, drop, Option}
 use Rattle.std.proofs.Common.{refl, sym, ap, subst, ◌∙◌, inl, inr, arith, length-append, append_assoc}
 use Rattle.std.proofs.Common.{get_or, set}
 use Rattle.std.proofs.Math.Numerals.{add-one}
@@ -50,16 +50,16 @@ module _ {H : Type 0} (takes : H → List ℕ → Taken → H → Type 0) (conte
       inl (h', [], gets, ap (λ ks. ks ++ h' ∷ []) goes.0, (refl, goes.1))
   stays_last slow (p ∷ ps) kept h h' goes gets = elim goes [
     | inl more ↦ inl (
-        more.0,
-        more.1 ++ h' ∷ [],
-        more.2,
-        ap (λ ks. ks ++ h' ∷ []) more.3,
-        stays_last slow ps more.1 h h' more.4 gets,
-      )
+      more.0,
+      more.1 ++ h' ∷ [],
+      more.2,
+      ap (λ ks. ks ++ h' ∷ []) more.3,
+      stays_last slow ps more.1 h h' more.4 gets,
+    )
     | inr out ↦ elim out [
-        | inl gone ↦ inr (inl (gone.0, stays_last slow ps kept h h' gone.1 gets))
-        | inr late ↦ inr (inr (late.0, late.1, late.2, stays_last late.0 ps kept h h' late.3 gets))
-      ]
+      | inl gone ↦ inr (inl (gone.0, stays_last slow ps kept h h' gone.1 gets))
+      | inr late ↦ inr (inr (late.0, late.1, late.2, stays_last late.0 ps kept h h' late.3 gets))
+    ]
   ]
 
   pub gone_last : (slow : ℕ) (passed kept : List (Hearing H)) (h : Hearing H)
@@ -69,9 +69,9 @@ module _ {H : Type 0} (takes : H → List ℕ → Taken → H → Type 0) (conte
   gone_last slow (p ∷ ps) kept h goes gone = elim goes [
     | inl more ↦ inl (more.0, more.1, more.2, more.3, gone_last slow ps more.1 h more.4 gone)
     | inr out ↦ elim out [
-        | inl away ↦ inr (inl (away.0, gone_last slow ps kept h away.1 gone))
-        | inr late ↦ inr (inr (late.0, late.1, late.2, gone_last late.0 ps kept h late.3 gone))
-      ]
+      | inl away ↦ inr (inl (away.0, gone_last slow ps kept h away.1 gone))
+      | inr late ↦ inr (inr (late.0, late.1, late.2, gone_last late.0 ps kept h late.3 gone))
+    ]
   ]
 
   pub slow_last : (slow : ℕ) (passed kept : List (Hearing H)) (h : Hearing H)
@@ -81,9 +81,9 @@ module _ {H : Type 0} (takes : H → List ℕ → Taken → H → Type 0) (conte
   slow_last slow (p ∷ ps) kept h goes is_slow = elim goes [
     | inl more ↦ inl (more.0, more.1, more.2, more.3, slow_last slow ps more.1 h more.4 is_slow)
     | inr out ↦ elim out [
-        | inl away ↦ inr (inl (away.0, slow_last slow ps kept h away.1 is_slow))
-        | inr late ↦ inr (inr (suc late.0, ap suc late.1, late.2, slow_last late.0 ps kept h late.3 is_slow))
-      ]
+      | inl away ↦ inr (inl (away.0, slow_last slow ps kept h away.1 is_slow))
+      | inr late ↦ inr (inr (suc late.0, ap suc late.1, late.2, slow_last late.0 ps kept h late.3 is_slow))
+    ]
   ]
 
   -- The bytes went out to all before this place.
@@ -112,8 +112,12 @@ module _ {H : Type 0} (takes : H → List ℕ → Taken → H → Type 0) (conte
   pub all_gone : (before now : List (Hearing H)) (place slow : ℕ) → HasGone before now place slow
       → length now ≤ place → GoesOut takes contents bytes slow before now
   all_gone before now place slow gone end =
-      let none : gone.left ≡ [] = nothing gone.left (omega (arith, gone.place_is, ap length gone.now_is,
-      length-append gone.kept gone.left)) in
+      let none : gone.left ≡ [] = nothing gone.left (omega (
+        arith,
+        gone.place_is,
+        ap length gone.now_is,
+        length-append gone.kept gone.left,
+      )) in
       subst (λ xs. GoesOut takes contents bytes slow xs now)
       (sym (gone.split ∙ ap (λ ys. gone.passed ++ ys) none ∙ append-nil gone.passed))
       (subst (λ xs. GoesOut takes contents bytes slow gone.passed xs)
@@ -133,13 +137,18 @@ module _ {H : Type 0} (takes : H → List ℕ → Taken → H → Type 0) (conte
   next_of : (before now : List (Hearing H)) (place slow : ℕ) (d : Hearing H) → HasGone before now place slow
       → place < length now → Next before now place slow (get_or now place d)
   next_of before now place slow d gone more =
-      let some : 0 < length gone.left = omega (arith, gone.place_is, ap length gone.now_is,
-      length-append gone.kept gone.left, more) in
+      let some : 0 < length gone.left = omega (
+        arith,
+        gone.place_is,
+        ap length gone.now_is,
+        length-append gone.kept gone.left,
+        more,
+      ) in
       let parts = first_rest gone.left some in
       let is : now ≡ gone.kept ++ parts.0 ∷ parts.1 = gone.now_is ∙ ap (λ ys. gone.kept ++ ys) parts.2 in
       let one : get_or now place d ≡ parts.0 = ap (λ xs. get_or xs place d) is
-          ∙ ap (λ n. get_or (gone.kept ++ parts.0 ∷ parts.1) n d) gone.place_is
-          ∙ get_or-append_seam gone.kept parts.0 parts.1 d in
+      ∙ ap (λ n. get_or (gone.kept ++ parts.0 ∷ parts.1) n d) gone.place_is
+      ∙ get_or-append_seam gone.kept parts.0 parts.1 d in
       record {
         passed = gone.passed;
         kept = gone.kept;
@@ -175,11 +184,11 @@ module _ {H : Type 0} (takes : H → List ℕ → Taken → H → Type 0) (conte
       → take place (set now place h') ++ drop (place + 1) (set now place h') ≡ n.kept ++ n.rest
   without before now place slow h h' n =
       let is : set now place h' ≡ n.kept ++ h' ∷ n.rest = ap (λ xs. set xs place h') n.now_is
-          ∙ ap (λ i. set (n.kept ++ h ∷ n.rest) i h') n.place_is ∙ set-append_seam n.kept h n.rest h' in
+      ∙ ap (λ i. set (n.kept ++ h ∷ n.rest) i h') n.place_is ∙ set-append_seam n.kept h n.rest h' in
       let front : take place (set now place h') ≡ n.kept = ap (λ xs. take place xs) is
-          ∙ ap (λ i. take i (n.kept ++ h' ∷ n.rest)) n.place_is ∙ take-append_seam n.kept (h' ∷ n.rest) in
+      ∙ ap (λ i. take i (n.kept ++ h' ∷ n.rest)) n.place_is ∙ take-append_seam n.kept (h' ∷ n.rest) in
       let back : drop (place + 1) (set now place h') ≡ n.rest = ap (λ xs. drop (place + 1) xs) is
-          ∙ ap (λ i. drop (i + 1) (n.kept ++ h' ∷ n.rest)) n.place_is ∙ drop-append-add n.kept (h' ∷ n.rest) 1 in
+      ∙ ap (λ i. drop (i + 1) (n.kept ++ h' ∷ n.rest)) n.place_is ∙ drop-append-add n.kept (h' ∷ n.rest) 1 in
       ap (λ xs. xs ++ drop (place + 1) (set now place h')) front ∙ ap (λ ys. n.kept ++ ys) back
 
   -- it is let go, since its connection is gone

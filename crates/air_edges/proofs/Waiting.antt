@@ -1,6 +1,5 @@
 -- One wait of the edge of the air.
-use Rattle.std.proofs.Common.{◌≡◌, ◌⊎◌, ◌+◌, ℕ, suc, Bool, true, false, Option, Some, None, MatchOption, refl, sym, ap,
-    subst, inl, inr}
+use Rattle.std.proofs.Common.{◌≡◌, ◌+◌, ℕ, Bool, true, false, Option, Some, None, MatchOption, refl, sym, ap, subst, inl, inr}
 use Rattle.std.proofs.Common.{◌&&◌}
 use Rattle.std.proofs.lemmas.Bool.{false≢true}
 use Rattle.std.proofs.Math.Numerals.{add-one}
@@ -9,7 +8,7 @@ use Rattle.air_edges.specs.Pace as pace
 use Rattle.air_edges.specs.Edge.{Edge, IsEarly, Accepts, Looks, LookBrings, LookPasses, Brings, Passes, PassesFor}
 use Rattle.air_edges.specs.Edge.{wait_limit, is_silent}
 use Rattle.air_serving.specs.declared.moments.Moment.{Moment}
-use Rattle.air_serving.specs.declared.moments.Moment.TheVariants.{Connected, Readable, Due, Over}
+use Rattle.air_serving.specs.declared.moments.Moment.TheVariants.{Readable, Due, Over}
 
 both : (a b : Bool) → (a && b) ≡ true → (a ≡ true) × (b ≡ true)
 both true b is = (refl, is)
@@ -45,9 +44,12 @@ module _ {S H I O : Type 0} (reads : S → ℕ → S → Type 0) (waits : S → 
       → LookBrings reads waits opens joins is_open now e Over (record e0 { sockets = waited })
   looks_over is_open now limit e0 e waited is early limit_is waited_so =
       let from : Edge S H → Type 0 = λ x. IsEarly is_open x now
-          → LookBrings reads waits opens joins is_open now x Over (record e0 { sockets = waited }) in
-      subst from is (λ early0. (early0,
-      subst (λ (n : ℕ). waits e0.sockets is_open n None waited) limit_is waited_so, refl)) early
+      → LookBrings reads waits opens joins is_open now x Over (record e0 { sockets = waited }) in
+      subst from is (λ early0. (
+        early0,
+        subst (λ (n : ℕ). waits e0.sockets is_open n None waited) limit_is waited_so,
+        refl,
+      )) early
 
   -- a group is due
   pub due_now : (is_open : Bool) (now next : ℕ) (e0 e : Edge S H) (read : S) → e0 ≡ e → reads e0.sockets now read
@@ -55,9 +57,16 @@ module _ {S H I O : Type 0} (reads : S → ℕ → S → Type 0) (waits : S → 
       → Brings reads waits opens joins is_open e Due (record e0 { sockets = read; next = next })
   due_now is_open now next e0 e read is reads_it due next_is =
       let e' : Edge S H = record e0 { sockets = read; next = next } in
-      subst (λ x. Brings reads waits opens joins is_open x Due e') is
-      (now, read, reads_it, inl (due, ap (λ (n : ℕ). let x : Edge S H = record e0 { sockets = read; next = n } in x)
-      next_is))
+      subst (λ x. Brings reads waits opens joins is_open x Due e') is (
+        now,
+        read,
+        reads_it,
+        inl (
+          due,
+          ap (λ (n : ℕ). let x : Edge S H = record e0 { sockets = read; next = n } in x)
+              next_is,
+        ),
+      )
 
   -- the connection was silent for too long
   pub silent_now : (is_open : Bool) (now : ℕ) (e0 e : Edge S H) (read : S) → e0 ≡ e → reads e0.sockets now read

@@ -1,5 +1,5 @@
 -- What the edge of an encoder on the air does; a reader has to believe it (profile).
-use Rattle.std.specs.Prelude.{◌≡◌, ◌⊎◌, ◌+◌, ◌-◌, ◌*◌, ◌^◌, ◌<◌, ◌≤◌, ℕ, zero, suc, min, leb, Bool, true, false, ◌&&◌}
+use Rattle.std.specs.Prelude.{◌≡◌, ◌⊎◌, ◌-◌, ◌*◌, ◌^◌, ◌<◌, ◌≤◌, ℕ, zero, suc, min, leb, Bool, true, false, ◌&&◌}
 use Rattle.std.specs.Prelude.{List, [], ◌∷◌, ◌++◌, length, codes, Option, Some, None}
 use Rattle.rds_groups.specs.declared.group.Group.{Group}
 use Rattle.uecp_text.specs.Written.{Begins}
@@ -125,8 +125,8 @@ module _ {S H I O : Type 0} (reads : S → ℕ → S → Type 0) (waits : S → 
 
   -- What a look at this time brings.
   --
-  -- Something came on the connection that is open. A connection of the studio came, where none is open: its two ends are
-  -- those that were accepted. Or nothing more can be waited for.
+  -- Something came on the connection that is open. A connection of the studio came, where none is open: its two ends
+  -- are those that were accepted. Or nothing more can be waited for.
   abbrev pub LookBrings : (is_open : Bool) → (now : ℕ) → Edge S H → Moment I O → Edge S H → Type 0
   LookBrings is_open now e (Connected input output) e' = (came : Came) × (y : Edge S H) × Looks is_open e now came y
       × (is_open ≡ false) × (came.studio ≡ true) × opens y.sockets (Some (input, output)) e'.sockets

@@ -1,5 +1,5 @@
 -- Who listens to the air, and what becomes of them as a group goes out (profile).
-use Rattle.std.specs.Prelude.{◌≡◌, ◌⊎◌, ◌+◌, ◌<◌, ◌≤◌, ℕ, zero, suc, List, [], ◌∷◌, ◌++◌, length, take, Option}
+use Rattle.std.specs.Prelude.{◌≡◌, ◌⊎◌, ◌+◌, ◌<◌, ◌≤◌, ℕ, suc, List, [], ◌∷◌, ◌++◌, length, take, Option}
 use Rattle.std.specs.Io.KnownBytes.{Appends, Keeps}
 use Rattle.air_edges.specs.declared.hears.Taken.{Taken}
 use Rattle.air_edges.specs.declared.hears.Taken.TheVariants.{First, NotNow, Gone}

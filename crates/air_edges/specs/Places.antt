@@ -1,5 +1,5 @@
 -- Where an encoder on the air is found (profile).
-use Rattle.std.specs.Prelude.{◌≡◌, Bool, true, false, Option, Some, None}
+use Rattle.std.specs.Prelude.{◌≡◌, Bool, true, Option, Some, None}
 use Rattle.air_edges.specs.declared.tcp.Addresses.{Addresses}
 
 -- Where is listened, and whether a connection of the studio is open.

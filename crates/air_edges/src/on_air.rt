@@ -1,8 +1,18 @@
 //! The edge of an encoder on the air, over the sockets that the machine gives it (profile).
 ghost use Rattle.std.specs.Prelude.{◌≡◌, ◌<◌, ◌≤◌, ◌^◌, ◌++◌, ◌∷◌, [], MatchOption, IfOk, true};
 ghost use Rattle.uecp_text.specs.Written.{Begins};
-ghost use Rattle.air_edges.specs.Edge.{edge_at_first, Accepts, Joins, TellsFull, TellsSlow, LookBrings, LookPasses, Brings,
-    Passes, IsEarly};
+ghost use Rattle.air_edges.specs.Edge.{
+  edge_at_first,
+  Accepts,
+  Joins,
+  TellsFull,
+  TellsSlow,
+  LookBrings,
+  LookPasses,
+  Brings,
+  Passes,
+  IsEarly,
+};
 
 use crate::form::{AirForm, bytes_of};
 use crate::hearers::Hearers;
@@ -24,8 +34,8 @@ const FULL: &[u8] = b"uecp: air: too many listen, and one more is not taken\n";
 const SLOW: &[u8] = b"uecp: air: one who listens does not keep up, and is closed\n";
 
 /// The edge of an encoder on the air: connections of the studio are accepted, one at a time, and those who listen get
-/// the groups as they go out, from the next on, at most 64. Who does not take them in time is let go, which is said; and
-/// so it is said that there are 64 and more want to listen, once until one of them is let go.
+/// the groups as they go out, from the next on, at most 64. Who does not take them in time is let go, which is said;
+/// and so it is said that there are 64 and more want to listen, once until one of them is let go.
 #[derive(Drop)]
 pub struct OnAir<'a, S, H, W: Write> {
     sockets: S,

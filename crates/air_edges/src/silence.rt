@@ -15,13 +15,7 @@ pub(crate) fn is_silent(is_open: bool, idle: Option<u32>, heard: u64, now: u64) 
 }
 
 /// How many milliseconds are waited at most.
-pub(crate) fn wait_limit(
-    is_open: bool,
-    idle: Option<u32>,
-    heard: u64,
-    pace: &Pace,
-    now: u64,
-) -> u64
+pub(crate) fn wait_limit(is_open: bool, idle: Option<u32>, heard: u64, pace: &Pace, now: u64) -> u64
     requires { now < 2 ^ 58 }
     ensures { result ≡ wait_limit is_open idle heard pace.now now }
 {

@@ -1,4 +1,4 @@
-use Rattle.std.proofs.Common.{rules, arith, ◌≡◌, ◌+◌, ◌≤◌, ◌++◌, length, drop, take, refl, subst}
+use Rattle.std.proofs.Common.{rules, arith, ◌≡◌, ◌+◌, ◌≤◌, ◌++◌, length, drop, subst}
 use Rattle.air_edges.specs.Hearers.{Hearing, GetsGroup, IsGone}
 use Rattle.air_edges.proofs.Getting.{gets_first, is_gone}
 use Rattle.air_edges.proofs.hearers.Hearer.send.Goals as goal
@@ -17,9 +17,9 @@ returns-in-First g c =
     let room : length before.waiting + length c.args.bytes.now ≤ 4096 = search rules in
     let rest : after.waiting ≡ drop c.in-First.count c.as_slice.result.now = grind (arith, rules) in
     let gets : GetsGroup g.H.Hears.takes g.H.Write.contents c.args.bytes.now before after =
-        gets_first g.H.Hears.takes g.H.Write.contents c.args.bytes.now c.as_slice.result.now before after
-        c.in-First.count offered room rest c.in-First.ensures.within c.in-First.ensures.takes
-        c.in-First.ensures.gets in
+    gets_first g.H.Hears.takes g.H.Write.contents c.args.bytes.now c.as_slice.result.now before after
+    c.in-First.count offered room rest c.in-First.ensures.within c.in-First.ensures.takes
+    c.in-First.ensures.gets in
     subst (λ (h : Hearing g.row.H.Denot). GetsGroup g.H.Hears.takes g.H.Write.contents c.args.bytes.now h after)
     c.self.view_is gets
 

@@ -34,22 +34,22 @@ loop-place-preserved g c =
     let more : place < length now = search rules in
     let left = sym c.remove.ensures.by_index.2 in
     let gone : HasGone takes contents c.args.bytes.now before c.remove.new.self.items place c.match-send.slow =
-        elim c.match-send.branch [
-        | in-Gone w ↦ subst (λ (n : ℕ). HasGone takes contents c.args.bytes.now before c.remove.new.self.items place n)
-            (sym w.slow-is)
-            (subst (λ (xs : List (Hearing g.row.H.Denot)). HasGone takes contents c.args.bytes.now before xs place
-            c.loop-place.slow) left
-            (one_gone takes contents c.args.bytes.now before now place c.loop-place.slow h h' i.gone more
-            (subst (λ (one : Hearing g.row.H.Denot). IsGone takes c.args.bytes.now one) c.index_mut.ensures.value
-            w.in-Gone.ensures)))
-        | in-Slow w ↦ subst (λ (n : ℕ). HasGone takes contents c.args.bytes.now before c.remove.new.self.items place n)
-            (sym w.slow-is)
-            (subst (λ (xs : List (Hearing g.row.H.Denot)). HasGone takes contents c.args.bytes.now before xs place
-            (c.loop-place.slow + 1)) left
-            (one_slow takes contents c.args.bytes.now before now place c.loop-place.slow h h' i.gone more
-            (subst (λ (one : Hearing g.row.H.Denot). IsSlow takes c.args.bytes.now one) c.index_mut.ensures.value
-            w.in-Slow.ensures)))
-        ] in
+    elim c.match-send.branch [
+      | in-Gone w ↦ subst (λ (n : ℕ). HasGone takes contents c.args.bytes.now before c.remove.new.self.items place n)
+          (sym w.slow-is)
+          (subst (λ (xs : List (Hearing g.row.H.Denot)). HasGone takes contents c.args.bytes.now before xs place
+          c.loop-place.slow) left
+          (one_gone takes contents c.args.bytes.now before now place c.loop-place.slow h h' i.gone more
+          (subst (λ (one : Hearing g.row.H.Denot). IsGone takes c.args.bytes.now one) c.index_mut.ensures.value
+          w.in-Gone.ensures)))
+      | in-Slow w ↦ subst (λ (n : ℕ). HasGone takes contents c.args.bytes.now before c.remove.new.self.items place n)
+          (sym w.slow-is)
+          (subst (λ (xs : List (Hearing g.row.H.Denot)). HasGone takes contents c.args.bytes.now before xs place
+          (c.loop-place.slow + 1)) left
+          (one_slow takes contents c.args.bytes.now before now place c.loop-place.slow h h' i.gone more
+          (subst (λ (one : Hearing g.row.H.Denot). IsSlow takes c.args.bytes.now one) c.index_mut.ensures.value
+          w.in-Slow.ensures)))
+    ] in
     record {
       gone = gone;
       room = omega (arith, i.room, c.remove.ensures.capacity);

@@ -1,4 +1,4 @@
-use Rattle.std.proofs.Common.{rules, ◌≡◌, Bool, true, false, refl, sym, subst, ap, inl, inr}
+use Rattle.std.proofs.Common.{rules, ◌≡◌, true, false, refl, subst, ap, inl, inr}
 use Rattle.std.specs.Prelude.{Some, None}
 use Rattle.air_edges.specs.Edge.{Edge}
 use Rattle.air_edges.proofs.Waiting.{looks, looks_over}
@@ -36,8 +36,10 @@ returns-in-Some-open g c =
     c.args.self.now c.accept.new.self _ c.wait.new.self c.self.view_is c.requires.early c.wait_limit-limit.ensures
     c.in-Some.ensures c.accept.ensures in
     let some : c.in-Some.came.studio ≡ true = search rules in
-    let opens = subst (λ (e : Edge g.row.S.Denot g.row.H.Denot). s.opens e.sockets (Some (c.in-Some-open.input,
-    c.in-Some-open.output)) c.open.new.self) c.self-2.view_is c.in-Some-open.ensures in
+    let opens = subst (λ (e : Edge g.row.S.Denot g.row.H.Denot). s.opens e.sockets (Some (
+      c.in-Some-open.input,
+      c.in-Some-open.output,
+    )) c.open.new.self) c.self-2.view_is c.in-Some-open.ensures in
     let after = ap {A = Edge g.row.S.Denot g.row.H.Denot} (λ e. record e {
       sockets = c.open.new.self;
       heard = c.args.now;
