@@ -1,2 +1,3 @@
 -- What is shared by the proofs of a device on the air.
 mod Ending
+mod Statuses

@@ -1,14 +1,23 @@
 //! A device on the air over TCP. Source: profile.
+ghost use Rattle.std.specs.Prelude.{◌≡◌, ◌≤◌, false, IfOk, MatchResult, option_map};
+ghost use Rattle.std.specs.String.{string_bytes};
+ghost use Rattle.uecp_jobs.specs.Setups.{IsSetup};
+ghost use Rattle.device_jobs.specs.Limits.{options_of};
+ghost use Rattle.device_edges.specs.Place.{IsPlace, IsNoPlace};
+ghost use Rattle.air_edges.specs.Edge.{edge_at_first};
+ghost use Rattle.on_air_jobs.specs.OverTcp.{HasAired, HasNotAired, IsFoundAt, IsLogOf, listen_text, form_of, idle_of};
 
 use crate::serving::run_on_air_from;
-use air_edges::{Addresses, AirForm, OnAir};
+use air_edges::{Addresses, AirForm, OnAir, TcpSockets};
+use air_serving::Moments;
 use commands::EncoderOptions;
-use device_jobs::{address_of, fail_address, fail_bind};
+use device_edges::{AddressFault, BindFault, HERE, Idle, listen_address};
+use device_jobs::{fail_address, fail_bind};
 use device_serving::LogLines;
 use kept_jobs::fail_state;
 use state_jobs::OpenStates;
 use std::alloc::Global;
-use std::io::Write;
+use std::io::{Read, Write};
 use std::net::{Net, SocketAddr, TcpListener, TcpStream};
 use std::time::Clock;
 use uecp_jobs::{Setup, fail, new_encoder};
@@ -18,6 +27,7 @@ use uecp_jobs::{Setup, fail, new_encoder};
 /// bad line is asked for too, and 3 where nobody can listen there. The groups go out at the same address as the job's,
 /// at the port of the air. What is wrong with those who listen to them is told on `notices`.
 pub fn run_on_air_over_tcp<
+    'a,
     W: Write,
     E: Write,
     M: Write,
@@ -28,14 +38,39 @@ pub fn run_on_air_over_tcp<
     job: &EncoderOptions,
     writer: &mut W,
     errors: &mut E,
-    notices: &mut M,
-    net: &N,
+    notices: &'a mut M,
+    net: &'a N,
     states: &S,
-) -> u8 {
-    let places = match addresses_of(job, errors) {
+) -> u8
+    ensures status { result ≤ 3 }
+    ensures airs { HasAired ⟦<OnAir<'a, TcpSockets<'a, N>, TcpStream, M> as Moments>⟧.waits
+        ⟦<OnAir<'a, TcpSockets<'a, N>, TcpStream, M> as Moments>⟧.closes
+        ⟦<OnAir<'a, TcpSockets<'a, N>, TcpStream, M> as Moments>⟧.sends ⟦<Idle<TcpStream> as Read>⟧.remaining
+        ⟦<TcpStream as Write>⟧.contents (S.gives_encoder states.now) (S.refuses_encoder states.now)
+        (S.closes_encoder states.now) S.EncoderKeeper.TOGETHER_MAX S.EncoderKeeper.READ_MAX S.EncoderKeeper.leaves
+        S.EncoderKeeper.is_clean S.EncoderKeeper.saves S.EncoderKeeper.fails job.now (M.contents notices.old)
+        (W.contents writer.old) (E.contents errors.old) (E.contents errors.new) result }
+{
+    let places = match begin(alloc, job, errors) {
         Ok(places) => places,
         Err(status) => return status,
     };
+    match edge_of(alloc, net, job, places, notices) {
+        Err(fault) => fail_bind(fault, errors),
+        Ok(mut edge) => {
+            let mut log = log_of(alloc, job, net, writer);
+            run_on_air_from(alloc, job, states, &mut log, errors, &mut edge)
+        }
+    }
+}
+
+/// Where the job has it listen, once its options are judged; or the exit status, and why was said.
+fn begin<E: Write>(alloc: Global, job: &EncoderOptions, errors: &mut E) -> Result<Addresses, u8>
+    ensures { MatchResult result
+        (λ places. IsFoundAt job.now places × IsSetup (options_of job.now) × (errors.new ≡ errors.old))
+        (λ status. HasNotAired job.now (E.contents errors.old) (E.contents errors.new) status) }
+{
+    let places = places_of(job, errors)?;
     let setup = Setup {
         site: job.site,
         encoder: job.encoder,
@@ -43,26 +78,75 @@ pub fn run_on_air_over_tcp<
         services: job.services.as_slice(),
     };
     if let Err(fault) = new_encoder(alloc, &setup) {
-        return fail(&fault, errors);
+        return Err(fail(&fault, errors));
     }
-    let form = if job.air_bits {
-        AirForm::Bits
-    } else {
-        AirForm::Lines
-    };
-    let idle = if job.idle == 0 { None } else { Some(job.idle) };
-    match OnAir::new(alloc, net, places, form, idle, notices) {
-        Err(fault) => fail_bind(fault, errors),
-        Ok(mut moments) => {
-            let clock = if job.log && job.time { Some(net) } else { None };
-            let mut log = LogLines::new(alloc, job.form, clock, job.log, writer);
-            run_on_air_from(alloc, job, states, &mut log, errors, &mut moments)
-        }
+    Ok(places)
+}
+
+/// The edge of the job, at these places.
+fn edge_of<'a, N: Net<Listener = TcpListener, Stream = TcpStream> + Clock, M: Write>(
+    alloc: Global,
+    net: &'a N,
+    job: &EncoderOptions,
+    places: Addresses,
+    notices: &'a mut M,
+) -> Result<OnAir<'a, TcpSockets<'a, N>, TcpStream, M>, BindFault>
+    ensures { IfOk result (λ edge. edge ≡ edge_at_first (record { places = places; is_open = false })
+        (form_of job.now.air_bits) (idle_of job.now.idle) (M.contents notices.old)) }
+{
+    let sockets = TcpSockets::new(alloc, net, places)?;
+    match OnAir::new(
+        alloc,
+        sockets,
+        form_of(job.air_bits),
+        idle_of(job.idle),
+        notices,
+    ) {
+        Ok(edge) => Ok(edge),
+        Err(_) => Err(BindFault::Failed),
     }
 }
 
+/// The form in which groups go out.
+fn form_of(air_bits: bool) -> AirForm
+    ensures { result ≡ form_of air_bits }
+{
+    if air_bits {
+        AirForm::Bits
+    } else {
+        AirForm::Lines
+    }
+}
+
+/// A limit of so many seconds; none where it is 0.
+fn idle_of(seconds: u32) -> Option<u32>
+    ensures { result ≡ idle_of seconds }
+{
+    if seconds == 0 { None } else { Some(seconds) }
+}
+
+/// The log of the job.
+fn log_of<'a, W: Write, T: Clock>(
+    alloc: Global,
+    job: &EncoderOptions,
+    clock: &'a T,
+    writer: &'a mut W,
+) -> LogLines<'a, W, T>
+    ensures { IsLogOf job.now (W.contents writer.old) result }
+{
+    let clock = if job.log && job.time {
+        Some(clock)
+    } else {
+        None
+    };
+    LogLines::new(alloc, job.form, clock, job.log, writer)
+}
+
 /// Where the job has it listen; or the exit status, and why was said.
-fn addresses_of<E: Write>(job: &EncoderOptions, errors: &mut E) -> Result<Addresses, u8> {
+fn places_of<E: Write>(job: &EncoderOptions, errors: &mut E) -> Result<Addresses, u8>
+    ensures { MatchResult result (λ places. IsFoundAt job.now places × (errors.new ≡ errors.old))
+        (λ status. HasNotAired job.now (E.contents errors.old) (E.contents errors.new) status) }
+{
     let Some(air) = job.air else {
         let _ = fail_state("air-bits: without --air", errors);
         return Err(2);
@@ -71,11 +155,22 @@ fn addresses_of<E: Write>(job: &EncoderOptions, errors: &mut E) -> Result<Addres
         let _ = fail_state("air: not with --faults", errors);
         return Err(2);
     }
-    match address_of(job) {
+    match studio_of(job) {
         Ok(studio) => Ok(Addresses {
             studio,
             air: SocketAddr::new(studio.ip(), air),
         }),
         Err(fault) => Err(fail_address(fault, errors)),
+    }
+}
+
+/// The address and port at which the studio connects.
+fn studio_of(job: &EncoderOptions) -> Result<SocketAddr, AddressFault>
+    ensures { MatchResult result (λ place. IsPlace (listen_text (option_map string_bytes job.now.listen)) job.now.port place)
+        (λ fault. IsNoPlace (listen_text (option_map string_bytes job.now.listen)) job.now.port fault) }
+{
+    match &job.listen {
+        Some(text) => listen_address(text.as_str(), job.port),
+        None => listen_address(HERE, job.port),
     }
 }

@@ -1,5 +1,5 @@
 //! A device on the air with its state in a file or with none. Source: profile.
-ghost use Rattle.std.specs.Prelude.{◌≡◌, ◌⊎◌, IsTrue};
+ghost use Rattle.std.specs.Prelude.{◌≡◌, ◌≤◌, ◌⊎◌, IsTrue};
 ghost use Rattle.uecp_frame.specs.Address.{is_exact};
 ghost use Rattle.uecp_jobs.specs.Setups.{options_of as options_in, encoder_at_first};
 ghost use Rattle.device_jobs.specs.Serving.{HasNoState};
@@ -33,7 +33,8 @@ pub fn run_on_air_from<S: OpenStates, W: Write, T: Clock, E: Write, M: Moments>(
     errors: &mut E,
     moments: &mut M,
 ) -> u8
-    ensures { HasBeenOnAir M.waits M.closes M.sends M.Input.remaining M.Output.contents (S.gives_encoder states.now)
+    ensures status { result ≤ 3 }
+    ensures airs { HasBeenOnAir M.waits M.closes M.sends M.Input.remaining M.Output.contents (S.gives_encoder states.now)
         (S.refuses_encoder states.now) (S.closes_encoder states.now) S.EncoderKeeper.TOGETHER_MAX
         S.EncoderKeeper.READ_MAX S.EncoderKeeper.leaves S.EncoderKeeper.is_clean S.EncoderKeeper.saves
         S.EncoderKeeper.fails job.now moments.old moments.new log.old log.new (E.contents errors.old) (E.contents

@@ -1,0 +1,61 @@
+-- Which exit statuses there are.
+use Rattle.std.proofs.Common.{◌≡◌, ◌≤◌, ℕ, Bool, List, Option, Some, None, Result, Ok, Err, inl, inr, arith}
+use Rattle.std.specs.Prelude.{option_map}
+use Rattle.std.specs.String.{string_bytes}
+use Rattle.rds_groups.specs.declared.group.Group.{Group}
+use Rattle.rds_store.specs.Value.{Store}
+use Rattle.uecp_text.specs.declared.run_fault.RunFault.{RunFault}
+use Rattle.uecp_text.specs.declared.run_fault.RunFault.TheVariants as run
+use Rattle.uecp_text.specs.Faults.{status_of}
+use Rattle.uecp_encoder.specs.State.{EncoderState}
+use Rattle.uecp_encoder.specs.Keeping.{Kept}
+use Rattle.uecp_jobs.specs.Setups.{Options}
+use Rattle.state_files.specs.declared.fault.StateFault.{StateFault}
+use Rattle.state_jobs.specs.Texts.{IsClosed}
+use Rattle.device_serving.specs.Logging.{Log}
+use Rattle.device_jobs.specs.Limits.{options_of, turns_of, connections_of}
+use Rattle.device_jobs.specs.Serving.{IsNoEncoder}
+use Rattle.air_serving.specs.declared.moments.Moment.{Moment}
+use Rattle.commands.specs.declared.encoder_options.EncoderOptions.{EncoderOptions}
+use Rattle.on_air_jobs.specs.Serving.{AirsFrom, HasBeenOnAir}
+use Rattle.on_air_jobs.specs.OverTcp.{HasNotAired}
+
+-- the status of a run that stopped
+pub few_of : (fault : RunFault) → status_of fault ≤ 3
+few_of (run.Text number refusal) = omega arith
+few_of (run.Services refusal) = omega arith
+few_of run.NotAList = omega arith
+few_of run.Address = omega arith
+few_of run.TooLong = omega arith
+few_of run.Reading = omega arith
+few_of run.Writing = omega arith
+few_of run.OutOfMemory = omega arith
+few_of run.Listening = omega arith
+few_of run.Connection = omega arith
+few_of run.Outstanding = omega arith
+
+no_encoder : (o : Options) (said said' : Option (List ℕ)) (status : ℕ) → IsNoEncoder o said said' status → status ≤ 3
+no_encoder o said said' status is = omega (arith, is.2, few_of is.0)
+
+-- where nothing was begun
+pub not_aired : (job : EncoderOptions) (said said' : Option (List ℕ)) (status : ℕ) → HasNotAired job said said' status
+    → status ≤ 3
+not_aired job said said' status not_begun = elim not_begun [
+  | inl no_air ↦ omega (arith, no_air.1)
+  | inr more ↦ elim more [
+    | inl faults ↦ omega (arith, faults.1)
+    | inr others ↦ elim others [
+      | inl no_place ↦ no_place.3
+      | inr rest ↦ elim rest [
+        | inl none ↦ no_encoder (options_of job) said said' status none
+        | inr nobody ↦ nobody.2
+      ]
+    ]
+  ]
+]
+
+-- where a state was closed behind a run
+pub closed : (path : List ℕ) (status : ℕ) (ended : Result (Unit {0}) StateFault) (status' : ℕ)
+    (said said' : Option (List ℕ)) → status ≤ 3 → IsClosed path status ended status' said said' → status' ≤ 3
+closed path status (Ok done) status' said said' few is = omega (arith, few, is.0)
+closed path status (Err fault) status' said said' few is = omega (arith, is.0)
