@@ -1,23 +1,14 @@
 -- Which exit statuses there are.
-use Rattle.std.proofs.Common.{◌≡◌, ◌≤◌, ℕ, Bool, List, Option, Some, None, Result, Ok, Err, inl, inr, arith}
-use Rattle.std.specs.Prelude.{option_map}
-use Rattle.std.specs.String.{string_bytes}
-use Rattle.rds_groups.specs.declared.group.Group.{Group}
-use Rattle.rds_store.specs.Value.{Store}
+use Rattle.std.proofs.Common.{◌≤◌, ℕ, List, Option, Result, Ok, Err, inl, inr, arith}
 use Rattle.uecp_text.specs.declared.run_fault.RunFault.{RunFault}
 use Rattle.uecp_text.specs.declared.run_fault.RunFault.TheVariants as run
 use Rattle.uecp_text.specs.Faults.{status_of}
-use Rattle.uecp_encoder.specs.State.{EncoderState}
-use Rattle.uecp_encoder.specs.Keeping.{Kept}
 use Rattle.uecp_jobs.specs.Setups.{Options}
 use Rattle.state_files.specs.declared.fault.StateFault.{StateFault}
 use Rattle.state_jobs.specs.Texts.{IsClosed}
-use Rattle.device_serving.specs.Logging.{Log}
-use Rattle.device_jobs.specs.Limits.{options_of, turns_of, connections_of}
+use Rattle.device_jobs.specs.Limits.{options_of}
 use Rattle.device_jobs.specs.Serving.{IsNoEncoder}
-use Rattle.air_serving.specs.declared.moments.Moment.{Moment}
 use Rattle.commands.specs.declared.encoder_options.EncoderOptions.{EncoderOptions}
-use Rattle.on_air_jobs.specs.Serving.{AirsFrom, HasBeenOnAir}
 use Rattle.on_air_jobs.specs.OverTcp.{HasNotAired}
 
 -- the status of a run that stopped

@@ -46,14 +46,15 @@ form_of false = Lines
 abbrev pub idle_of : (seconds : ℕ) → Option ℕ
 idle_of seconds = if seconds == 0 then None else Some seconds
 
--- The edge of the job: it listens at its places, sends groups in its form and gives a silent connection up at its limit;
--- nobody listens yet, no group went out, and this had been said before.
+-- The edge of the job: it listens at its places, sends groups in its form and gives a silent connection up at its
+-- limit; nobody listens yet, no group went out, and this had been said before.
 abbrev pub IsEdgeOf : {H : Type 0} → EncoderOptions → (told : Option (List ℕ)) → Edge Listening H → Type 0
 IsEdgeOf job told edge = (places : Addresses) × IsFoundAt job places
-    × (edge ≡ edge_at_first (record { places = places; is_open = false }) (form_of job.air_bits) (idle_of job.idle) told)
+    × (edge ≡ edge_at_first (record { places = places; is_open = false }) (form_of job.air_bits) (idle_of job.idle)
+    told)
 
--- The log of the job, in which nothing stands yet: its form, with the time if that is asked for too, and whether it tells
--- each event.
+-- The log of the job, in which nothing stands yet: its form, with the time if that is asked for too, and whether it
+-- tells each event.
 pub record IsLogOf (job : EncoderOptions) (held : Option (List ℕ)) (log : Log) : Type 0 where
   pub form : log.form ≡ job.form
   pub timed : log.timed ≡ (job.log && job.time)
@@ -68,7 +69,8 @@ abbrev pub HasNotAired : EncoderOptions → (said said' : Option (List ℕ)) →
 HasNotAired job said said' status =
     ((job.air ≡ None) × (status ≡ 2) × Begins said said' (state_line (codes "air-bits: without --air")))
     ⊎ ((is_some job.faults ≡ true) × (status ≡ 2) × Begins said said' (state_line (codes "air: not with --faults")))
-    ⊎ ((fault : AddressFault) × IsNoPlace (listen_text (option_map string_bytes job.listen)) job.port fault × (2 ≤ status) × (status ≤ 3))
+    ⊎ ((fault : AddressFault) × IsNoPlace (listen_text (option_map string_bytes job.listen)) job.port fault
+    × (2 ≤ status) × (status ≤ 3))
     ⊎ IsNoEncoder (options_of job) said said' status
     ⊎ (IsSetup (options_of job) × (2 ≤ status) × (status ≤ 3))
 

@@ -166,7 +166,8 @@ fn places_of<E: Write>(job: &EncoderOptions, errors: &mut E) -> Result<Addresses
 
 /// The address and port at which the studio connects.
 fn studio_of(job: &EncoderOptions) -> Result<SocketAddr, AddressFault>
-    ensures { MatchResult result (λ place. IsPlace (listen_text (option_map string_bytes job.now.listen)) job.now.port place)
+    ensures { MatchResult result (λ place. IsPlace (listen_text (option_map string_bytes job.now.listen)) job.now.port
+        place)
         (λ fault. IsNoPlace (listen_text (option_map string_bytes job.now.listen)) job.now.port fault) }
 {
     match &job.listen {

@@ -34,7 +34,8 @@ pub fn run_on_air_from<S: OpenStates, W: Write, T: Clock, E: Write, M: Moments>(
     moments: &mut M,
 ) -> u8
     ensures status { result ≤ 3 }
-    ensures airs { HasBeenOnAir M.waits M.closes M.sends M.Input.remaining M.Output.contents (S.gives_encoder states.now)
+    ensures airs { HasBeenOnAir M.waits M.closes M.sends M.Input.remaining M.Output.contents
+        (S.gives_encoder states.now)
         (S.refuses_encoder states.now) (S.closes_encoder states.now) S.EncoderKeeper.TOGETHER_MAX
         S.EncoderKeeper.READ_MAX S.EncoderKeeper.leaves S.EncoderKeeper.is_clean S.EncoderKeeper.saves
         S.EncoderKeeper.fails job.now moments.old moments.new log.old log.new (E.contents errors.old) (E.contents

@@ -1,4 +1,4 @@
-use Rattle.std.proofs.Common.{inl, inr}
+use Rattle.std.proofs.Common.{inl}
 use Rattle.on_air_jobs.proofs.Statuses.{not_aired}
 use Rattle.on_air_jobs.proofs.over_tcp.run_on_air_over_tcp.Goals as goal
 
