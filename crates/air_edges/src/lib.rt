@@ -5,7 +5,8 @@
 //! - [`OnAir`]: a [`Moments`](air_serving::Moments) over [`Sockets`]; [`AirForm`] says in which form the groups go out.
 //! - [`Sockets`]: what the machine gives: a clock, one wait, and connections; [`Came`] is what came. [`Hears`] is the
 //!   connection to one who listens, and [`Taken`] what it took.
-//! - [`TcpSockets`]: the same over TCP, at its [`Addresses`].
+//! - [`TcpSockets`]: the same over TCP, at its [`Addresses`]; [`ScreenedSockets`]: the same over others, with nothing taken
+//!   of what is another protocol's.
 #![tactic(auto)]
 
 mod door;
@@ -14,6 +15,7 @@ mod hearers;
 mod hears;
 mod on_air;
 mod pace;
+mod screened;
 mod silence;
 mod sockets;
 mod tcp;
@@ -22,5 +24,6 @@ pub use form::AirForm;
 pub use hears::{Hears, Taken};
 pub use on_air::OnAir;
 pub use pace::Pace;
+pub use screened::ScreenedSockets;
 pub use sockets::{Came, Sockets};
 pub use tcp::{Addresses, TcpSockets};

@@ -49,43 +49,61 @@ left remaining s = option_map (handed_on s.phase s.first) (remaining s.reader)
 abbrev pub unjudged : {R : Type 0} → R → Screen R
 unjudged reader = record { reader = reader; phase = Judging; first = [] }
 
--- ---- Connections that are screened.
+-- The first bytes told that it is foreign.
+abbrev pub was_foreign : Phase → Bool
+was_foreign Judging = false
+was_foreign Ours = false
+was_foreign Foreign = true
 
--- Where they come from; what was said of one that is foreign, how often a write of that failed, and whether it was said.
-pub record Screening (C : Type 0) : Type 0 where
-  pub connect : C
+-- ---- What is said of one that is foreign.
+
+-- What was said of it, how often a write of that failed, and whether it was said.
+pub record Notice : Type 0 where
   pub said : Option (List ℕ)
   pub failures : ℕ
   pub is_told : Bool
 
--- What is said of one that is foreign.
+-- Nothing was said yet, behind this.
+abbrev pub unsaid : (said : Option (List ℕ)) → Notice
+unsaid said = record { said = said; failures = 0; is_told = false }
+
 abbrev pub foreign_line : List ℕ
 foreign_line = codes "uecp: HTTP or TLS, not UECP: a connection is closed, and nothing of it is taken\n"
+
+-- It was said; or a write failed, and a beginning was said.
+abbrev pub SaysForeign : (n n' : Notice) → Type 0
+SaysForeign n n' =
+    (Appends n.said n'.said foreign_line × (n'.is_told ≡ true) × (n'.failures ≡ n.failures))
+    ⊎ ((written : ℕ) × (written < length foreign_line) × Appends n.said n'.said (take written foreign_line)
+    × (n'.is_told ≡ false) × (n'.failures ≡ counted n.failures))
+
+-- So where it was not said before; once it was nothing is.
+abbrev pub SaysFirst : (is_told : Bool) → (n n' : Notice) → Type 0
+SaysFirst true n n' = n' ≡ n
+SaysFirst false n n' = SaysForeign n n'
+
+-- So of a connection that was foreign, and of another nothing is said.
+abbrev pub SaysOnce : (foreign : Bool) → (n n' : Notice) → Type 0
+SaysOnce true n n' = SaysFirst n.is_told n n'
+SaysOnce false n n' = n' ≡ n
+
+-- ---- Connections that are screened.
+
+-- Where they come from, and what is said of those that are foreign.
+pub record Screening (C : Type 0) : Type 0 where
+  pub connect : C
+  pub notice : Notice
 
 -- One was opened, or none was to be had: its input is screened, and nothing of it was read.
 abbrev pub OpensScreened : {C I O : Type 0} → (opens : C → Option (I × O) → C → Type 0) → Screening C
     → Option (Screen I × O) → Screening C → Type 0
-OpensScreened opens s None s' = opens s.connect None s'.connect × (s' ≡ record s { connect = s'.connect })
+OpensScreened opens s None s' = opens s.connect None s'.connect × (s'.notice ≡ s.notice)
 OpensScreened {C} {I} opens s (Some (input, output)) s' =
     (reader : I) × (input ≡ unjudged reader) × opens s.connect (Some (reader, output)) s'.connect
-    × (s' ≡ record s { connect = s'.connect })
+    × (s'.notice ≡ s.notice)
 
--- It was said that one is foreign; or a write failed, and a beginning was said.
-abbrev pub SaysForeign : {C : Type 0} → (s s' : Screening C) → Type 0
-SaysForeign s s' =
-    (Appends s.said s'.said foreign_line × (s'.is_told ≡ true) × (s'.failures ≡ s.failures))
-    ⊎ ((written : ℕ) × (written < length foreign_line) × Appends s.said s'.said (take written foreign_line)
-    × (s'.is_told ≡ false) × (s'.failures ≡ counted s.failures))
-
--- So where one is foreign, and it was not said of one before; and else nothing is said.
-abbrev pub SaysOnce : {C : Type 0} → Phase → (is_told : Bool) → (s s' : Screening C) → Type 0
-SaysOnce Foreign false s s' = SaysForeign s s'
-SaysOnce Foreign true s s' = s' ≡ record s { connect = s'.connect }
-SaysOnce Judging is_told s s' = s' ≡ record s { connect = s'.connect }
-SaysOnce Ours is_told s s' = s' ≡ record s { connect = s'.connect }
-
--- One was given back, with what it is over, and it was said that it is foreign, once of all.
+-- One was given back, with what it is over, and that it was foreign is said once of all.
 abbrev pub ClosesScreened : {C I O : Type 0} → (closes : C → I → O → C → Type 0) → Screening C → Screen I → O
     → Screening C → Type 0
 ClosesScreened closes s input output s' =
-    closes s.connect input.reader output s'.connect × SaysOnce input.phase s.is_told s s'
+    closes s.connect input.reader output s'.connect × SaysOnce (was_foreign input.phase) s.notice s'.notice

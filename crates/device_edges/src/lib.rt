@@ -6,18 +6,20 @@
 //!   says why nobody can listen there. They are read through [`Idle`], which notes whether a read was given up since
 //!   nothing came.
 //! - [`Screening`]: connections over others, of which nothing is taken where they are another protocol's: each is read
-//!   through [`Screened`].
+//!   through [`Screened`], and [`ForeignNotice`] says it once.
 //! - [`bind`], [`two_ends`]: the same in parts, for whoever waits for more than connections.
 #![tactic(auto)]
 
 mod accepting;
 mod address;
 mod idle;
+mod notice;
 mod screen;
 mod screening;
 
 pub use accepting::{Accepting, BindFault, bind, two_ends};
 pub use address::{AddressFault, HERE, listen_address};
 pub use idle::Idle;
+pub use notice::ForeignNotice;
 pub use screen::Screened;
 pub use screening::Screening;

@@ -2,12 +2,11 @@
 //! a request of HTTP with frames in its body, as a web page can have a browser send one, would be a control line.
 ghost use Rattle.std.specs.Prelude.{◌≡◌, ◌≢◌, ◌<◌, ◌≤◌, ◌++◌, [], length, take, true, IfOk, if◌then◌else◌};
 ghost use Rattle.std.specs.Prelude.{nat_eq};
-ghost use Rattle.std.specs.Bool.{MatchBool};
 ghost use Rattle.std.specs.List.{list_any, starts_with};
 ghost use Rattle.std.specs.Io.{ReadsAtMost};
 ghost use Rattle.std.specs.Io.KnownBytes.{Keeps, ReadConsumes};
 ghost use Rattle.device_edges.specs.declared.screen.Phase.TheVariants.{Judging, Ours, Foreign};
-ghost use Rattle.device_edges.specs.Screen.{judged, left, unjudged, is_foreign, is_begun};
+ghost use Rattle.device_edges.specs.Screen.{judged, left, unjudged, is_foreign, is_begun, was_foreign};
 
 use arrayvec::ArrayVec;
 use std::io;
@@ -74,9 +73,12 @@ impl<R> Screened<R> {
 
     /// Whether its first bytes are those of another protocol.
     pub fn is_foreign(&self) -> bool
-        ensures { MatchBool result (self.now.phase ≡ Foreign) (self.now.phase ≢ Foreign) }
+        ensures { result ≡ was_foreign self.now.phase }
     {
-        self.phase == Phase::Foreign
+        match self.phase {
+            Phase::Foreign => true,
+            Phase::Judging | Phase::Ours => false,
+        }
     }
 
     /// The reader back. First bytes that are held are lost.

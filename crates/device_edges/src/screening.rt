@@ -1,25 +1,19 @@
 //! Connections of which those of another protocol are closed (profile).
-ghost use Rattle.std.specs.Prelude.{◌≡◌, false};
-ghost use Rattle.device_edges.specs.Screen.{SaysForeign};
+ghost use Rattle.std.specs.Prelude.{◌≡◌};
+ghost use Rattle.device_edges.specs.Screen.{unsaid};
 
+use crate::notice::ForeignNotice;
 use crate::screen::Screened;
 use std::io::Write;
 use std::marker::Model;
-use uecp_encoder::Meter;
 use uecp_net::Connections;
 
-/// What is said of a connection of another protocol.
-const FOREIGN: &[u8] =
-    b"uecp: HTTP or TLS, not UECP: a connection is closed, and nothing of it is taken\n";
-
 /// Connections over others, of which nothing is handed on where they begin as HTTP or TLS does: each is read through
-/// [`Screened`], which is at its end then. That one was such is said on `notices` once, whatever else comes: who comes
-/// again and again would fill what takes them.
+/// [`Screened`], which is at its end then. That one was such is said once.
 #[derive(Drop)]
 pub struct Screening<C, W: Write> {
     connect: C,
-    notices: Meter<W>,
-    is_told: bool,
+    notice: ForeignNotice<W>,
 }
 
 impl<C, W: Write> Model for Screening<C, W> {
@@ -27,38 +21,18 @@ impl<C, W: Write> Model for Screening<C, W> {
 
     ghost Value = { Screening C };
 
-    ghost view = { λ s. record {
-      connect = s.connect;
-      said = W.contents s.notices.device;
-      failures = s.notices.failures;
-      is_told = s.is_told;
-    } };
+    ghost view = { λ s. record { connect = s.connect; notice = s.notice } };
 }
 
 impl<C, W: Write> Screening<C, W> {
-    /// These connections are screened from now on, and nothing was said yet.
+    /// These connections are screened from now on, and what there is to say goes to `notices`.
     pub fn new(connect: C, notices: W) -> Screening<C, W>
-        ensures { result ≡ record {
-          connect = connect;
-          said = W.contents notices;
-          failures = 0;
-          is_told = false;
-        } }
+        ensures { result ≡ record { connect = connect; notice = unsaid (W.contents notices) } }
     {
         Screening {
             connect,
-            notices: Meter::new(notices),
-            is_told: false,
+            notice: ForeignNotice::new(notices),
         }
-    }
-
-    /// Says that a connection is another protocol's.
-    fn say_foreign(&mut self)
-        requires { self.old.is_told ≡ false }
-        ensures says { SaysForeign self.old self.new }
-        ensures connect { self.new.connect ≡ self.old.connect }
-    {
-        self.is_told = self.notices.write_whole(FOREIGN).is_ok();
     }
 }
 
@@ -83,8 +57,6 @@ impl<C: Connections, W: Write> Connections for Screening<C, W> {
     fn close(&mut self, input: Self::Input, output: Self::Output) {
         let is_foreign = input.is_foreign();
         self.connect.close(input.into_inner(), output);
-        if is_foreign && !self.is_told {
-            self.say_foreign();
-        }
+        self.notice.done(is_foreign);
     }
 }

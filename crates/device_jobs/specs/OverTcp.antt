@@ -25,7 +25,7 @@ IsNoPlaceOf job fault = IsNoPlace (listen_text (option_map string_bytes job.list
 -- Connections come where the job has it listen, with its limit; and that one is another protocol's was not said yet.
 abbrev pub ListensFor : EncoderOptions → Screening Listens → Type 0
 ListensFor job s =
-    IsPlaceOf job s.connect.place × (s.connect.idle ≡ limit_of job.idle) × (s.is_told ≡ false)
+    IsPlaceOf job s.connect.place × (s.connect.idle ≡ limit_of job.idle) × (s.notice.is_told ≡ false)
 
 -- The log that the job asks for, of which nothing was told yet.
 abbrev pub log_of : EncoderOptions → (loan : ℕ) → (held : Option (List ℕ)) → Log
