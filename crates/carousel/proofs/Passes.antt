@@ -7,8 +7,8 @@ use Rattle.std.proofs.Math.Nat.{mul-le-mul_left}
 use Rattle.std.proofs.lemmas.Bool.{cases_lt, cases_eq, eq-eqb, ne_eqb, lt-ltb, le-ltb}
 use Rattle.std.proofs.lemmas.Slice.Eq.{bytes_eq-Decides}
 use Rattle.rds_store.specs.Value.{StoredText}
-use Rattle.carousel.specs.Carousel.{Carousel}
-use Rattle.carousel.specs.Texts.{segment_count, begun_at, next_place, pass_over, gone_on, chosen}
+use Rattle.carousel.specs.Carousel.{Carousel, blanks_left}
+use Rattle.carousel.specs.Texts.{segment_count, begun_at, next_place, pass_over, gone_on, chosen, blanked, text_next}
 use Rattle.carousel.specs.Laws.{one_sent, after_turns, Begins, GoesOutInPasses, NextTextFollows}
 
 -- so far: whole passes, which the carousel counts where there is a limit, and some segments of one more
@@ -20,6 +20,7 @@ record IsKept (here : ℕ) (t : StoredText) (turns : ℕ) (c : Carousel) : Type 
   counted : 0 < t.transmissions → c.passes ≡ passes
   few : c.text_segment ≤ segment_count t.bytes
   some : 0 < turns → 0 < c.text_segment
+  started : blanks_left c ≡ 0
 
 some_segment : (t : StoredText) → 0 < segment_count t.bytes
 some_segment t = omega arith
@@ -34,6 +35,10 @@ goes_on texts place t c there text at =
     ap step (ap (slice_get texts) at ∙ there)
     ∙ ap (λ b. if b then gone_on texts t c else begun_at texts 0 c) ((bytes_eq-Decides c.text t.bytes).1 text)
 
+-- where nothing of a start is left
+is_chosen : (texts : List StoredText) (c : Carousel) → blanks_left c ≡ 0 → text_next texts c ≡ chosen texts c
+is_chosen texts c started = ap (λ n. if nat_lt 0 n then blanked c else chosen texts c) started
+
 -- what the choice leaves, and the count of passes in it
 record IsChosen (here : ℕ) (t : StoredText) (turns : ℕ) (c : Carousel) : Type 0 where
   text : c.text ≡ t.bytes
@@ -42,6 +47,7 @@ record IsChosen (here : ℕ) (t : StoredText) (turns : ℕ) (c : Carousel) : Typ
   whole : passes * segment_count t.bytes + c.text_segment ≡ turns
   counted : 0 < t.transmissions → c.passes ≡ passes
   within : c.text_segment < segment_count t.bytes
+  started : blanks_left c ≡ 0
 
 -- a pass is over, and another begins
 another : (texts : List StoredText) (place : ℕ) (t : StoredText) (turns : ℕ) (c : Carousel) → IsKept place t turns c
@@ -63,6 +69,7 @@ another texts place t turns c kept limit over =
             whole = omega arith;
             counted = λ more. absurd (omega arith);
             within = some;
+            started = kept.started;
           })
       | inr limited ↦
           let counted = kept.counted (omega arith) in
@@ -84,16 +91,18 @@ another texts place t turns c kept limit over =
             whole = omega arith;
             counted = λ _. omega arith;
             within = some;
+            started = kept.started;
           }))
     ]
 
 choose : (texts : List StoredText) (place : ℕ) (t : StoredText) (turns : ℕ) (c : Carousel)
     → slice_get texts place ≡ Some t
     → IsKept place t turns c → (0 < t.transmissions → turns < segment_count t.bytes * t.transmissions)
-    → IsChosen place t turns (chosen texts c)
+    → IsChosen place t turns (text_next texts c)
 choose texts place t turns c there kept limit =
     let n = segment_count t.bytes in
-    subst (IsChosen place t turns) (sym (goes_on texts place t c there kept.text kept.place))
+    subst (IsChosen place t turns) (sym (is_chosen texts c kept.started ∙ goes_on texts place t c there kept.text
+    kept.place))
     (elim (cases_lt c.text_segment n) [
       | inl within ↦ subst (λ b. IsChosen place t turns (if b then c else pass_over texts t c))
           (sym (lt-ltb c.text_segment n within))
@@ -104,6 +113,7 @@ choose texts place t turns c there kept limit =
             whole = kept.whole;
             counted = kept.counted;
             within = within;
+            started = kept.started;
           })
       | inr over ↦ subst (λ b. IsChosen place t turns (if b then c else pass_over texts t c))
           (sym (le-ltb c.text_segment n over))
@@ -123,6 +133,7 @@ one_more place t turns c is =
       counted = is.counted;
       few = omega arith;
       some = λ _. omega arith;
+      started = is.started;
     }
 
 kept_after : (texts : List StoredText) (place : ℕ) (t : StoredText) (turns now after : ℕ) (c : Carousel)
@@ -133,8 +144,8 @@ kept_after : (texts : List StoredText) (place : ℕ) (t : StoredText) (turns now
 kept_after texts place t zero now after c there kept e limit =
     let same : now ≡ after = omega arith in subst (λ (n : ℕ). IsKept place t n c) same kept
 kept_after texts place t (suc turns) now after c there kept e limit =
-    kept_after texts place t turns (now + 1) after (one_sent (chosen texts c)) there
-    (one_more place t now (chosen texts c) (choose texts place t now c there kept
+    kept_after texts place t turns (now + 1) after (one_sent (text_next texts c)) there
+    (one_more place t now (text_next texts c) (choose texts place t now c there kept
     (λ some. let h = limit some in omega arith)))
     (omega arith) limit
 
@@ -149,6 +160,7 @@ at_start texts place t c begins =
       counted = λ _. begins.passes;
       few = omega arith;
       some = λ more. absurd (omega arith);
+      started = begins.started;
     }
 
 pub goes_out_in_passes : GoesOutInPasses
@@ -189,7 +201,7 @@ next_text_follows texts place t c begins limited =
     (at_start texts place t c begins)
     (omega arith) (λ some. omega arith) in
     let last = last_over place t over limited kept in
-    goes_on texts place t over begins.there kept.text kept.place
+    is_chosen texts over kept.started ∙ goes_on texts place t over begins.there kept.text kept.place
     ∙ ap (λ b. if b then over else pass_over texts t over) (le-ltb over.text_segment n last.0)
     ∙ ap (λ b. if b then record over { passes = 0; text_segment = 0 }
     else if nat_lt (over.passes + 1) t.transmissions then record over { passes = over.passes + 1; text_segment = 0 }

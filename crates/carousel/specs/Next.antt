@@ -9,7 +9,7 @@ use Rattle.rds_store.specs.Value.{Store, ServiceData}
 use Rattle.rds_store.specs.Step.{group_taken}
 use Rattle.rds_store.specs.declared.group.Group.{Group as StoredGroup}
 use Rattle.carousel.specs.Carousel.{Carousel}
-use Rattle.carousel.specs.Texts.{line_up, chosen}
+use Rattle.carousel.specs.Texts.{line_up, text_next}
 use Rattle.carousel.specs.Service.{main_service}
 
 -- What each group tells of a service: its PI, TP and PTY (IEC 62106, groups).
@@ -64,9 +64,9 @@ text_group s c = text_a (head_of s) c.flag c.text_segment (four_of c.text c.text
 abbrev pub text_sent : ServiceData → Carousel → Group × Carousel
 text_sent s c = (text_group s c, record c { text_segment = c.text_segment + 1; is_other = false })
 
--- Of the text that is chosen among those of the service.
+-- Of the text that is next, of those of the service or of a start.
 abbrev pub send_text : ServiceData → Carousel → Group × Carousel
-send_text s c = text_sent s (chosen (line_up s.texts) c)
+send_text s c = text_sent s (text_next (line_up s.texts) c)
 
 -- ---- Free-format groups.
 -- A group of the store has the service's PI, TP and PTY. (SPB 490, free-format group)

@@ -1,10 +1,10 @@
 -- Which text goes out: the texts of the service in their order, each as often as its transmissions say, round and
 -- round.
-use Rattle.std.specs.Prelude.{ℕ, ◌+◌, ◌/◌, ◌==◌, min, true, not, ◌&&◌, List, [], ◌∷◌, length, nat_lt}
-use Rattle.std.specs.Prelude.{slice_get, unwrap_or, bytes_eq, if◌then◌else◌}
+use Rattle.std.specs.Prelude.{ℕ, ◌+◌, ◌/◌, ◌==◌, ◌-◌, min, true, false, not, ◌&&◌, ◌||◌, List, [], ◌∷◌, length, nat_lt}
+use Rattle.std.specs.Prelude.{Some, None, is_some, slice_get, unwrap_or, bytes_eq, if◌then◌else◌}
 use Rattle.std.specs.Option.{option_map_or}
 use Rattle.rds_store.specs.Value.{StoredText}
-use Rattle.carousel.specs.Carousel.{Carousel}
+use Rattle.carousel.specs.Carousel.{Carousel, blanks_left}
 
 -- Where the service has no text an empty one goes out, so that a receiver does not keep the old one. (profile)
 abbrev pub no_text : StoredText
@@ -20,15 +20,16 @@ line_up (text ∷ texts) = text ∷ texts
 abbrev pub segment_count : (bytes : List ℕ) → ℕ
 segment_count bytes = min 16 (length bytes / 4 + 1)
 
--- A text begins at a place. Where its toggle is set and it is another than the one that went out, the A/B flag turns.
--- (SPB 490, RadioText; another text: profile)
+-- A text begins at a place. Where its toggle is set, or it is the first text behind a start, and it is another than the
+-- one that went out, the A/B flag turns. (SPB 490, RadioText; another text, the first text: profile)
 abbrev pub begun : (place : ℕ) → StoredText → Carousel → Carousel
 begun place t c = record c {
   text = t.bytes;
-  flag = if t.toggle && not (bytes_eq c.text t.bytes) then not c.flag else c.flag;
+  flag = if (t.toggle || is_some c.blanks) && not (bytes_eq c.text t.bytes) then not c.flag else c.flag;
   place = place;
   passes = 0;
   text_segment = 0;
+  blanks = if bytes_eq c.text t.bytes then c.blanks else None;
 }
 
 -- The text at this place begins.
@@ -56,3 +57,20 @@ abbrev pub chosen : List StoredText → Carousel → Carousel
 chosen texts c =
     option_map_or (λ t. if bytes_eq c.text t.bytes then gone_on texts t c else begun_at texts 0 c)
     (slice_get texts c.place) (begun_at texts 0 c)
+
+-- ---- At a start.
+-- An empty text goes out under flag 0, whatever texts the service has: a receiver that holds a text of before has none
+-- then, and the first text is under the other flag. (profile)
+abbrev pub blanked : Carousel → Carousel
+blanked c = record c {
+  text = [];
+  flag = false;
+  place = 0;
+  passes = 0;
+  text_segment = 0;
+  blanks = Some (blanks_left c - 1);
+}
+
+-- The text of which a segment goes out next: an empty one while any is left of a start, and else the one that is chosen.
+abbrev pub text_next : List StoredText → Carousel → Carousel
+text_next texts c = if nat_lt 0 (blanks_left c) then blanked c else chosen texts c

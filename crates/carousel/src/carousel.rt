@@ -1,7 +1,7 @@
 //! What goes out, group by group. Source: IEC 62106, type 0 and type 2 groups; RDS Forum SPB 490, RadioText; profile
 //! for the order.
-ghost use Rattle.std.specs.Prelude.{◌≡◌, ◌<◌, ◌≤◌, length, drop, slice_get, IfSome};
-ghost use Rattle.carousel.specs.Carousel.{switched_on};
+ghost use Rattle.std.specs.Prelude.{◌≡◌, ◌<◌, ◌≤◌, ◌+◌, length, drop, slice_get, IfSome};
+ghost use Rattle.carousel.specs.Carousel.{switched_on, restarted, blanks_left};
 ghost use Rattle.carousel.specs.Texts as choice;
 ghost use Rattle.carousel.specs.Next as air;
 ghost use Rattle.carousel.specs.View.{service_of, text_of};
@@ -11,6 +11,9 @@ use arrayvec::ArrayVec;
 use rds_groups::{Group, Segment};
 use rds_store::{Group as StoredGroup, RadioText, RdsStore};
 use std::marker::Model;
+
+/// How many groups of an empty text a start sends before its first text.
+const BLANKS: u8 = 8;
 
 /// What a carousel sends next.
 #[derive(Clone, Copy, Debug, PartialEq, Eq)]
@@ -41,6 +44,8 @@ pub struct Carousel {
     passes: u8,
     /// Its segment that comes next.
     text_segment: u8,
+    /// Behind a start: that the first text is still to come, and how many groups of an empty one go out before it.
+    blanks: Option<u8>,
 }
 
 impl Model for Carousel {
@@ -60,6 +65,7 @@ impl Model for Carousel {
       place = c.place;
       passes = c.passes;
       text_segment = c.text_segment;
+      blanks = c.blanks;
     } };
 
     ghost invariant = { λ c. length c.text.items ≤ 64 };
@@ -79,7 +85,18 @@ impl Carousel {
             place: 0,
             passes: 0,
             text_segment: 0,
+            blanks: None,
         }
+    }
+
+    /// A carousel at the start of an encoder that may have been on the air before, with a text that receivers still
+    /// hold, under whichever flag: an empty text goes out first, and then the first one under the other flag.
+    pub fn restarted() -> Carousel
+        ensures { result ≡ restarted }
+    {
+        let mut carousel = Carousel::new();
+        carousel.blanks = Some(BLANKS);
+        carousel
     }
 
     /// The next group of a store's main service in its current data set. Where it is the first group that waits, the
@@ -154,12 +171,38 @@ impl Carousel {
         ensures group { result ≡ (air.send_text (service_of station.now) self.old).0 }
         ensures after { self.new ≡ (air.send_text (service_of station.now) self.old).1 }
     {
-        self.choose(station.texts);
+        self.turn_to_text(station.texts);
         let segment = self.text_segment;
         self.text_segment = segment + 1;
         self.is_other = false;
         let characters = four_of(self.text.as_slice(), segment);
         Group::text_a(station.head, self.flag, segment, characters)
+    }
+
+    /// Turns to the text of which a segment goes out next.
+    fn turn_to_text(&mut self, texts: &[RadioText])
+        requires { length texts.now ≤ 8 }
+        ensures after { self.new ≡ choice.text_next (choice.line_up texts.now) self.old }
+        ensures within { self.new.text_segment < choice.segment_count self.new.text }
+    {
+        match self.blanks {
+            Some(left) if left > 0 => self.blank(left - 1),
+            _ => self.choose(texts),
+        }
+    }
+
+    /// An empty text goes out, and so many more behind it.
+    fn blank(&mut self, left: u8)
+        requires { left + 1 ≡ blanks_left self.old }
+        ensures after { self.new ≡ choice.blanked self.old }
+        ensures within { self.new.text_segment < choice.segment_count self.new.text }
+    {
+        self.text = ArrayVec::new();
+        self.flag = false;
+        self.place = 0;
+        self.passes = 0;
+        self.text_segment = 0;
+        self.blanks = Some(left);
     }
 
     /// Goes on with the text that stands at its place, or begins with the first.
@@ -216,8 +259,11 @@ impl Carousel {
         ensures after { self.new ≡ choice.begun place (text_of text.entry) self.old }
         ensures within { self.new.text_segment < choice.segment_count self.new.text }
     {
-        if text.toggle && self.text.as_slice() != text.bytes {
-            self.flag = !self.flag;
+        if self.text.as_slice() != text.bytes {
+            if text.toggle || self.blanks.is_some() {
+                self.flag = !self.flag;
+            }
+            self.blanks = None;
         }
         self.text = text_in(text.bytes);
         self.place = place;

@@ -2,14 +2,14 @@
 use Rattle.std.proofs.Common.{◌≡◌, ◌≢◌, ◌⊎◌, ℕ, ◌+◌, ◌<◌, ◌≤◌, Bool, true, false, not, List, [], ◌∷◌, length, Option}
 use Rattle.std.proofs.Common.{Some, None, refl, ap, sym, ◌∙◌, subst, arith, ◌==◌, ◌&&◌, if◌then◌else◌, inl, inr, nat_lt}
 use Rattle.std.specs.List.{All}
-use Rattle.std.specs.Prelude.{slice_get, unwrap_or, bytes_eq}
+use Rattle.std.specs.Prelude.{slice_get, unwrap_or, bytes_eq, is_some, ◌||◌}
 use Rattle.std.specs.Option.{option_map_or}
 use Rattle.std.proofs.lemmas.Bool.{cases_lt, cases_eq, cases_Bool, lt-ltb, le-ltb}
 use Rattle.std.proofs.lemmas.Option.{slice_get_past, slice_get_within, get_or_from_slice_get}
 use Rattle.std.proofs.lemmas.Slice.Eq.{bytes_eq-Decides}
 use Rattle.rds_store.specs.Value.{StoredText}
-use Rattle.carousel.specs.Carousel.{Carousel}
-use Rattle.carousel.specs.Texts.{no_text, segment_count, begun, begun_at, next_place, pass_over, gone_on, chosen}
+use Rattle.carousel.specs.Carousel.{Carousel, blanks_left}
+use Rattle.carousel.specs.Texts.{no_text, segment_count, begun, begun_at, next_place, pass_over, gone_on, chosen, blanked, text_next}
 use Rattle.carousel.specs.Next.{turn}
 use Rattle.promises.specs.OnAir.{IsText}
 
@@ -54,16 +54,35 @@ any_choice P texts c begins goes_on again = by (slice_get texts c.place) refl
       | inr unlike ↦ subst (λ b. P (if b then gone_on texts t c else begun_at texts 0 c)) (sym unlike) (begins 0)
     ]
 
+-- ---- What is so of the text that is next: an empty one of a start, or the one that is chosen.
+pub is_blanked : (texts : List StoredText) (c : Carousel) → 0 < blanks_left c → text_next texts c ≡ blanked c
+is_blanked texts c some = ap (λ b. if b then blanked c else chosen texts c) (lt-ltb 0 (blanks_left c) some)
+
+pub is_chosen : (texts : List StoredText) (c : Carousel) → blanks_left c ≡ 0 → text_next texts c ≡ chosen texts c
+is_chosen texts c none = ap (λ n. if nat_lt 0 n then blanked c else chosen texts c) none
+
+pub any_next : (P : Carousel → Type 0) (texts : List StoredText) (c : Carousel) → (0 < blanks_left c → P (blanked c))
+    → (blanks_left c ≡ 0 → P (chosen texts c)) → P (text_next texts c)
+any_next P texts c blank choice = elim (cases_lt 0 (blanks_left c)) [
+  | inl some ↦ subst P (sym (is_blanked texts c some)) (blank some)
+  | inr none ↦ let zero : blanks_left c ≡ 0 = omega arith in subst P (sym (is_chosen texts c zero)) (choice zero)
+]
+
 -- the name is left alone
 pub record KeepsName (c d : Carousel) : Type 0 where
   pub name : d.name ≡ c.name
   pub name_segment : d.name_segment ≡ c.name_segment
 
-pub chosen_keeps_name : (texts : List StoredText) (c : Carousel) → KeepsName c (chosen texts c)
+chosen_keeps_name : (texts : List StoredText) (c : Carousel) → KeepsName c (chosen texts c)
 chosen_keeps_name texts c =
     any_choice (KeepsName c) texts c (λ place. record { name = refl; name_segment = refl })
     (λ t e is within. record { name = refl; name_segment = refl })
     (λ t e is passes. record { name = refl; name_segment = refl })
+
+pub next_keeps_name : (texts : List StoredText) (c : Carousel) → KeepsName c (text_next texts c)
+next_keeps_name texts c =
+    any_next (KeepsName c) texts c (λ some. record { name = refl; name_segment = refl })
+    (λ none. chosen_keeps_name texts c)
 
 -- the segment is one of the text, which is of bytes
 pub record IsFine (c : Carousel) : Type 0 where
@@ -86,7 +105,7 @@ text_fine texts place all = by (slice_get texts place) refl
     by (Some t) e = subst IsText (get_or_from_slice_get texts place t t e)
         (all place t (slice_get_within texts place t e))
 
-pub chosen_fine : (texts : List StoredText) (c : Carousel) → All IsText texts → IsFine (chosen texts c)
+chosen_fine : (texts : List StoredText) (c : Carousel) → All IsText texts → IsFine (chosen texts c)
 chosen_fine texts c all =
     any_choice IsFine texts c
     (λ place. begun_fine place (unwrap_or (slice_get texts place) no_text) c (text_fine texts place all))
@@ -104,6 +123,23 @@ chosen_fine texts c all =
       short = subst (λ (bytes : List ℕ). length bytes ≤ 64) (sym is) ok.short;
       are_bytes = subst (All (λ byte. byte < 256)) (sym is) ok.are_bytes;
     })
+
+pub next_fine : (texts : List StoredText) (c : Carousel) → All IsText texts → IsFine (text_next texts c)
+next_fine texts c all =
+    any_next IsFine texts c
+    (λ some. record { within = omega arith; short = omega arith; are_bytes = λ k d h. absurd (omega arith) })
+    (λ none. chosen_fine texts c all)
+
+-- nothing of a start is left then, where nothing was
+pub stays_started : (texts : List StoredText) (c : Carousel) → blanks_left c ≡ 0 → blanks_left (chosen texts c) ≡ 0
+stays_started texts c none =
+    any_choice (λ d. blanks_left d ≡ 0) texts c
+    (λ place. by (bytes_eq c.text (unwrap_or (slice_get texts place) no_text).bytes)) (λ t e is within. none)
+    (λ t e is passes. none)
+  where
+    by : (b : Bool) → unwrap_or (if b then c.blanks else None) 0 ≡ 0
+    by true = none
+    by false = refl
 
 -- ---- Where there is one text.
 pub record IsOn (t : StoredText) (c : Carousel) : Type 0 where
@@ -186,7 +222,7 @@ on_goes_on t c on =
           (record {
             text = refl;
             place = refl;
-            flag = flag_stays t.toggle (bytes_eq c.text t.bytes) c.flag equal;
+            flag = flag_stays (t.toggle || is_some c.blanks) (bytes_eq c.text t.bytes) c.flag equal;
             segment = none;
           }))))
     ])

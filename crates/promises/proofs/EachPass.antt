@@ -14,7 +14,7 @@ use Rattle.carousel.specs.Next.{sent, send_text, next_group}
 use Rattle.promises.specs.OnAir.{IsService, IsStore, after, carousel_after}
 use Rattle.promises.specs.AirLaws.{EachPassIsShown}
 use Rattle.promises.proofs.AirHearing.{texted_now, text_comes, text_stays, left_same}
-use Rattle.promises.proofs.Choice.{any_choice}
+use Rattle.promises.proofs.Choice.{any_choice, any_next}
 use Rattle.promises.proofs.Steps.{step_is, on_air, fine}
 use Rattle.promises.proofs.AirLines.{text_is_up_to_return}
 
@@ -28,8 +28,10 @@ record IsHeard (c : Carousel) (r : Receiver) : Type 0 where
 -- a pass begins, or goes on
 begins_or_goes_on : (s : ServiceData) (c : Carousel) → ((on_air s c).text_segment ≡ 0) ⊎ (on_air s c ≡ c)
 begins_or_goes_on s c =
-    any_choice (λ d. (d.text_segment ≡ 0) ⊎ (d ≡ c)) (line_up s.texts) c (λ place. inl refl) (λ t e is within. inr refl)
-    (λ t e is passes. inl refl)
+    let either = λ (d : Carousel). (d.text_segment ≡ 0) ⊎ (d ≡ c) in
+    any_next either (line_up s.texts) c (λ some. inl refl)
+    (λ none. any_choice either (line_up s.texts) c (λ place. inl refl) (λ t e is within. inr refl)
+    (λ t e is passes. inl refl))
 
 segment_heard : (s : ServiceData) (c : Carousel) (r : Receiver) → IsService s → IsHeard c r
     → IsHeard (send_text s c).1 (texted_now s (on_air s c) r)

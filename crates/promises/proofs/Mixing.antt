@@ -1,28 +1,34 @@
--- Where each text has its toggle set, no text is mixed.
-use Rattle.std.proofs.Common.{◌≡◌, ◌⊎◌, ℕ, zero, suc, ◌/◌, Bool, true, false, not, List, [], ◌∷◌, Option, Some, refl}
-use Rattle.std.proofs.Common.{ap, sym, ◌∙◌, subst, inl, inr, if◌then◌else◌, ◌&&◌}
-use Rattle.std.specs.Prelude.{slice_get, unwrap_or, bytes_eq}
+-- Where each text has its toggle set, no text is mixed, nor over a start.
+use Rattle.std.proofs.Common.{◌≡◌, ◌⊎◌, ℕ, zero, suc, ◌/◌, ◌<◌, ◌≤◌, Bool, true, false, not, List, [], ◌∷◌, length}
+use Rattle.std.proofs.Common.{Option, Some, None, refl, arith, ap, sym, ◌∙◌, subst, inl, inr, if◌then◌else◌, ◌&&◌}
+use Rattle.std.specs.Prelude.{slice_get, unwrap_or, bytes_eq, is_some, IfSome, ◌||◌}
 use Rattle.std.specs.List.{AllByRecursion}
-use Rattle.std.proofs.lemmas.Bool.{cases_eq, cases_Bool}
+use Rattle.std.proofs.lemmas.Bool.{cases_lt, cases_eq, cases_Bool}
 use Rattle.std.proofs.lemmas.Slice.Eq.{bytes_eq-Decides}
 use Rattle.rds_groups.specs.Groups.{blocks}
 use Rattle.rds_store.specs.Value.{Store, ServiceData, StoredText}
 use Rattle.rds_groups.specs.Heard.{came}
-use Rattle.rds_groups.specs.Shown.{Receiver, hears, left_of, is_same, nothing}
-use Rattle.carousel.specs.Carousel.{Carousel}
-use Rattle.carousel.specs.Texts.{no_text, line_up}
+use Rattle.rds_groups.specs.Shown.{Receiver, hears, left_of, is_same, nothing, text_shown}
+use Rattle.carousel.specs.Carousel.{Carousel, blanks_left}
+use Rattle.carousel.specs.Texts.{no_text, line_up, segment_count, begun, chosen}
 use Rattle.carousel.specs.Service.{main_service}
-use Rattle.carousel.specs.Next.{sent, send_text, next_group}
+use Rattle.carousel.specs.Next.{sent, send_text, text_sent, next_group}
 use Rattle.promises.specs.OnAir.{IsService, IsStore, after, carousel_after}
-use Rattle.promises.specs.AirLaws.{HasHeardOnly, Toggles, NoTextIsMixed}
+use Rattle.promises.specs.AirLaws.{HasHeardOnly, Toggles, NoTextIsMixed, TogglesBehind, NoTextIsMixedOverAStart}
+use Rattle.promises.specs.AirLaws.{up_to_return}
 use Rattle.promises.proofs.AirHearing.{texted_now, text_comes, text_stays, left_same, MayHold}
-use Rattle.promises.proofs.Choice.{any_choice}
+use Rattle.promises.proofs.Choice.{IsFine, any_choice, is_blanked, is_chosen}
 use Rattle.promises.proofs.Steps.{step_is, on_air, fine}
-use Rattle.promises.proofs.AirLines.{text_may_show}
+use Rattle.promises.proofs.AirLines.{text_may_show, text_is_up_to_return}
 
 -- ---- The text that goes out stays, or the flag turns.
+record Stays (c d : Carousel) : Type 0 where
+  text : d.text ≡ c.text
+  flag : d.flag ≡ c.flag
+  blanks : d.blanks ≡ c.blanks
+
 abbrev StaysOrTurns : Carousel → Carousel → Type 0
-StaysOrTurns c d = ((d.text ≡ c.text) × (d.flag ≡ c.flag)) ⊎ (d.flag ≡ not c.flag)
+StaysOrTurns c d = Stays c d ⊎ (d.flag ≡ not c.flag)
 
 toggled : (us : List StoredText) → AllByRecursion (λ (t : StoredText). t.toggle ≡ true) us → (place : ℕ)
     → (unwrap_or (slice_get us place) no_text).toggle ≡ true
@@ -35,81 +41,213 @@ line_toggled : (ts : List StoredText) → AllByRecursion (λ (t : StoredText). t
 line_toggled [] all = (refl, tt)
 line_toggled (t ∷ ts) all = all
 
--- a text whose toggle is set
-begun_turns : (t : StoredText) (c : Carousel) → t.toggle ≡ true
-    → ((t.bytes ≡ c.text) × ((if t.toggle && not (bytes_eq c.text t.bytes) then not c.flag else c.flag) ≡ c.flag))
-    ⊎ ((if t.toggle && not (bytes_eq c.text t.bytes) then not c.flag else c.flag) ≡ not c.flag)
-begun_turns t c set = elim (cases_Bool (bytes_eq c.text t.bytes)) [
-  | inl equal ↦ inl (
-    sym ((bytes_eq-Decides c.text t.bytes).0 equal),
-    ap (λ b. if b && not (bytes_eq c.text t.bytes) then not c.flag else c.flag) set
-        ∙ ap (λ b. if true && not b then not c.flag else c.flag) equal,
-  )
-  | inr unlike ↦ inr (
-      ap (λ b. if b && not (bytes_eq c.text t.bytes) then not c.flag else c.flag) set
-      ∙ ap (λ b. if true && not b then not c.flag else c.flag) unlike)
-]
+-- a text that turns the flag where it is another
+begun_turns : (t : StoredText) (place : ℕ) (c : Carousel) → (t.toggle || is_some c.blanks) ≡ true
+    → StaysOrTurns c (begun place t c)
+begun_turns t place c set =
+    let flag = λ (turns same : Bool). if turns && not same then not c.flag else c.flag in
+    elim (cases_Bool (bytes_eq c.text t.bytes)) [
+      | inl equal ↦ inl (record {
+        text = sym ((bytes_eq-Decides c.text t.bytes).0 equal);
+        flag = ap (flag (t.toggle || is_some c.blanks)) equal ∙ ap (λ turns. flag turns true) set;
+        blanks = ap (λ same. if same then c.blanks else None) equal;
+      })
+      | inr unlike ↦
+          inr (ap (flag (t.toggle || is_some c.blanks)) unlike ∙ ap (λ turns. flag turns false) set)
+    ]
 
-stays_or_turns : (s : ServiceData) (c : Carousel) → AllByRecursion (λ (t : StoredText). t.toggle ≡ true) s.texts
-    → StaysOrTurns c (on_air s c)
-stays_or_turns s c all =
+-- each text does, or the first of a start is still to come
+abbrev AreToTurn : ServiceData → Carousel → Type 0
+AreToTurn s c = AllByRecursion (λ (t : StoredText). t.toggle ≡ true) s.texts ⊎ (is_some c.blanks ≡ true)
+
+turns_it : (toggle first : Bool) → (toggle ≡ true) ⊎ (first ≡ true) → (toggle || first) ≡ true
+turns_it toggle first (inl set) = ap (λ b. b || first) set
+turns_it true first (inr set) = refl
+turns_it false first (inr set) = set
+
+stays_or_turns : (s : ServiceData) (c : Carousel) → AreToTurn s c → StaysOrTurns c (chosen (line_up s.texts) c)
+stays_or_turns s c due =
     let us = line_up s.texts in
     any_choice (StaysOrTurns c) us c
-    (λ place. begun_turns (unwrap_or (slice_get us place) no_text) c (toggled us (line_toggled s.texts all) place))
-    (λ t e is within. inl (refl, refl)) (λ t e is passes. inl (refl, refl))
+    (λ place.
+    let t = unwrap_or (slice_get us place) no_text in
+    begun_turns t place c (turns_it t.toggle (is_some c.blanks) (elim due [
+      | inl all ↦ inl (toggled us (line_toggled s.texts all) place)
+      | inr first ↦ inr first
+    ])))
+    (λ t e is within. inl (record { text = refl; flag = refl; blanks = refl }))
+    (λ t e is passes. inl (record { text = refl; flag = refl; blanks = refl }))
 
 -- ---- What was heard.
 apart : (a b : Bool) → a ≡ not b → is_same b a ≡ false
 apart a true h = h
 apart a false h = ap not h
 
+-- where the flag turned nothing is left
+none_left : (c d : Carousel) (r : Receiver) → r.flag ≡ c.flag → d.flag ≡ not c.flag → (p : ℕ)
+    → MayHold (left_of d.flag false r p) (sent d.text p)
+none_left c d r flag turned p =
+    let other : is_same r.flag d.flag ≡ false = ap (λ b. is_same b d.flag) flag ∙ apart d.flag c.flag turned in
+    inl (ap (λ b. (if b && is_same r.is_short false then r.text else nothing) p) other)
+
 -- what is left of the text that was heard, once the next text was chosen
 left_may : (c d : Carousel) (r : Receiver) → HasHeardOnly c r → StaysOrTurns c d → (p : ℕ)
     → MayHold (left_of d.flag false r p) (sent d.text p)
 left_may c d r only (inl same) p =
     subst (λ (o : Option ℕ). MayHold o (sent d.text p))
-    (sym (ap (λ (heard : ℕ → Option ℕ). heard p) (left_same d.flag r (only.flag ∙ sym same.1) only.long)))
-    (subst (λ (bytes : List ℕ). MayHold (r.text p) (sent bytes p)) (sym same.0) (only.at p))
-left_may c d r only (inr turned) p =
-    let other : is_same r.flag d.flag ≡ false = ap (λ b. is_same b d.flag) only.flag ∙ apart d.flag c.flag turned in
-    inl (ap (λ b. (if b && is_same r.is_short false then r.text else nothing) p) other)
+    (sym (ap (λ (heard : ℕ → Option ℕ). heard p) (left_same d.flag r (only.flag ∙ sym same.flag) only.long)))
+    (subst (λ (bytes : List ℕ). MayHold (r.text p) (sent bytes p)) (sym same.text) (only.at p))
+left_may c d r only (inr turned) p = none_left c d r only.flag turned p
 
-only_texted : (s : ServiceData) (c : Carousel) (r : Receiver) → IsService s
-    → AllByRecursion (λ (t : StoredText). t.toggle ≡ true) s.texts
-    → HasHeardOnly c r → HasHeardOnly (send_text s c).1 (texted_now s (on_air s c) r)
-only_texted s c r ok all only =
-    let d = on_air s c in
-    let f = fine s c ok in
+-- a segment of a text, where all that is left is of it
+only_now : (s : ServiceData) (d : Carousel) (r : Receiver) → IsFine d
+    → ((p : ℕ) → MayHold (left_of d.flag false r p) (sent d.text p))
+    → HasHeardOnly (text_sent s d).1 (texted_now s d r)
+only_now s d r f left = record {
+  flag = refl;
+  long = refl;
+  at = λ p. elim (cases_eq (p / 4) d.text_segment) [
+    | inl here ↦ inr (text_comes s d p r f.are_bytes here)
+    | inr there ↦
+        subst (λ (o : Option ℕ). MayHold o (sent d.text p)) (sym (text_stays s d (Some _) (Some _) p r there))
+        (left p)
+  ];
+  few = f.short;
+}
+
+-- ---- At a start.
+-- an empty text is on the air, and the receiver heard its end
+record IsEmptied (c : Carousel) (r : Receiver) : Type 0 where
+  first : is_some c.blanks ≡ true
+  empty : c.text ≡ []
+  flag : r.flag ≡ c.flag
+  long : r.is_short ≡ false
+  end : r.text 0 ≡ Some 0x0D
+
+emptied_now : (s : ServiceData) (d : Carousel) (r : Receiver) → IsFine d → is_some d.blanks ≡ true → d.text ≡ []
+    → IsEmptied (text_sent s d).1 (texted_now s d r)
+emptied_now s d r f first empty =
+    let within = f.within in
+    let one : segment_count d.text ≡ 1 = ap segment_count empty in
     record {
+      first = first;
+      empty = empty;
       flag = refl;
       long = refl;
-      at = λ p. elim (cases_eq (p / 4) d.text_segment) [
-        | inl here ↦ inr (text_comes s d p r f.are_bytes here)
-        | inr there ↦
-            subst (λ (o : Option ℕ). MayHold o (sent d.text p)) (sym (text_stays s d (Some _) (Some _) p r there))
-            (left_may c d r only (stays_or_turns s c all) p)
-      ];
-      few = f.short;
+      end = text_comes s d 0 r f.are_bytes (omega arith) ∙ ap (λ (bytes : List ℕ). Some (sent bytes 0)) empty;
     }
 
-only_step : (v : Store) (c : Carousel) (r : Receiver) → IsStore v → Toggles v → HasHeardOnly c r
-    → HasHeardOnly (next_group v c).1 (hears (came (blocks (next_group v c).0)) r)
-only_step v c r ok all only =
-    let s = main_service v in
-    step_is s v c r HasHeardOnly ok.service (record { same = refl; first = ok.first })
-    (λ h. record { flag = only.flag; long = only.long; at = only.at; few = only.few })
-    (λ h. only_texted s c r ok.service all only)
-    (λ h w. record { flag = only.flag; long = only.long; at = only.at; few = only.few })
+abbrev IsClear : Carousel → Receiver → Type 0
+IsClear c r = HasHeardOnly c r ⊎ IsEmptied c r
 
-only_after : (vs : List Store) (c : Carousel) (r : Receiver) → AllByRecursion IsStore vs → AllByRecursion Toggles vs
-    → HasHeardOnly c r
-    → HasHeardOnly (carousel_after vs c) (after vs c r)
-only_after [] c r ok all only = only
-only_after (v ∷ vs) c r ok all only =
-    only_after vs (next_group v c).1 (hears (came (blocks (next_group v c).0)) r) ok.1 all.1
-    (only_step v c r ok.0 all.0 only)
+-- whatever was heard before, once an empty text of a start came
+blank_clears : (s : ServiceData) (c : Carousel) (r : Receiver) → IsService s → 0 < blanks_left c
+    → IsClear (send_text s c).1 (texted_now s (on_air s c) r)
+blank_clears s c r ok some =
+    let is = is_blanked (line_up s.texts) c some in
+    inr (emptied_now s (on_air s c) r (fine s c ok) (ap (λ (x : Carousel). is_some x.blanks) is)
+    (ap (λ (x : Carousel). x.text) is))
+
+-- and where none of them is left
+stays_clear : (s : ServiceData) (c d : Carousel) (r : Receiver) → IsFine d → StaysOrTurns c d → IsClear c r
+    → IsClear (text_sent s d).1 (texted_now s d r)
+stays_clear s c d r f how (inl only) = inl (only_now s d r f (left_may c d r only how))
+stays_clear s c d r f (inl same) (inr emptied) =
+    inr (emptied_now s d r f (ap is_some same.blanks ∙ emptied.first) (same.text ∙ emptied.empty))
+stays_clear s c d r f (inr turned) (inr emptied) = inl (only_now s d r f (none_left c d r emptied.flag turned))
+
+clear_texted : (s : ServiceData) (c : Carousel) (r : Receiver) → IsService s → AreToTurn s c → IsClear c r
+    → IsClear (send_text s c).1 (texted_now s (on_air s c) r)
+clear_texted s c r ok due clear = elim (cases_lt 0 (blanks_left c)) [
+  | inl some ↦ blank_clears s c r ok some
+  | inr none ↦
+      let is = is_chosen (line_up s.texts) c (omega arith) in
+      stays_clear s c (on_air s c) r (fine s c ok) (subst (StaysOrTurns c) (sym is) (stays_or_turns s c due)) clear
+]
+
+due_of : (v : Store) (c : Carousel) → (c.blanks ≡ None → Toggles v) → AreToTurn (main_service v) c
+due_of v c toggles = by c.blanks refl
+  where
+    by : (o : Option ℕ) → c.blanks ≡ o → AreToTurn (main_service v) c
+    by None e = inl (toggles e)
+    by (Some left) e = inr (ap is_some e)
+
+-- ---- Groups.
+-- what a group of another kind leaves
+clear_kept : (c d : Carousel) (r q : Receiver) → Stays c d → r.flag ≡ q.flag → r.is_short ≡ q.is_short → r.text ≡ q.text
+    → IsClear c r → IsClear d q
+clear_kept c d r q same flag long text clear = elim clear [
+  | inl only ↦ inl (record {
+    flag = sym flag ∙ only.flag ∙ sym same.flag;
+    long = sym long ∙ only.long;
+    at = λ p. subst (λ (bytes : List ℕ). MayHold (q.text p) (sent bytes p)) (sym same.text)
+        (subst (λ (heard : ℕ → Option ℕ). MayHold (heard p) (sent c.text p)) text (only.at p));
+    few = subst (λ (bytes : List ℕ). length bytes ≤ 64) (sym same.text) only.few;
+  })
+  | inr emptied ↦ inr (record {
+    first = ap is_some same.blanks ∙ emptied.first;
+    empty = same.text ∙ emptied.empty;
+    flag = sym flag ∙ emptied.flag ∙ sym same.flag;
+    long = sym long ∙ emptied.long;
+    end = ap (λ (heard : ℕ → Option ℕ). heard 0) (sym text) ∙ emptied.end;
+  })
+]
+
+clear_step : (v : Store) (c : Carousel) (r : Receiver) → IsStore v → (c.blanks ≡ None → Toggles v) → IsClear c r
+    → IsClear (next_group v c).1 (hears (came (blocks (next_group v c).0)) r)
+clear_step v c r ok toggles clear =
+    let s = main_service v in
+    step_is s v c r IsClear ok.service (record { same = refl; first = ok.first })
+    (λ h. clear_kept c _ r _ (record { text = refl; flag = refl; blanks = refl }) refl refl refl clear)
+    (λ h. clear_texted s c r ok.service (due_of v c toggles) clear)
+    (λ h w. clear_kept c _ r _ (record { text = refl; flag = refl; blanks = refl }) refl refl refl clear)
+
+clear_after : (vs : List Store) (c : Carousel) (r : Receiver) → AllByRecursion IsStore vs → TogglesBehind vs c
+    → IsClear c r → IsClear (carousel_after vs c) (after vs c r)
+clear_after [] c r ok toggles clear = clear
+clear_after (v ∷ vs) c r ok toggles clear =
+    clear_after vs (next_group v c).1 (hears (came (blocks (next_group v c).0)) r) ok.1 toggles.1
+    (clear_step v c r ok.0 toggles.0 clear)
+
+-- a group of a start: an empty text, or as many of them are left
+blank_or_left : (v : Store) (c : Carousel) (r : Receiver) → IsStore v → 0 < blanks_left c
+    → IsClear (next_group v c).1 (hears (came (blocks (next_group v c).0)) r)
+    ⊎ (blanks_left (next_group v c).1 ≡ blanks_left c)
+blank_or_left v c r ok some =
+    step_is (main_service v) v c r (λ d q. IsClear d q ⊎ (blanks_left d ≡ blanks_left c)) ok.service
+    (record { same = refl; first = ok.first })
+    (λ h. inr refl) (λ h. inl (blank_clears (main_service v) c r ok.service some)) (λ h w. inr refl)
+
+cleared_after : (vs : List Store) (c : Carousel) (r : Receiver) → AllByRecursion IsStore vs → TogglesBehind vs c
+    → blanks_left (carousel_after vs c) < blanks_left c → IsClear (carousel_after vs c) (after vs c r)
+cleared_after [] c r ok toggles fewer = absurd (omega arith)
+cleared_after (v ∷ vs) c r ok toggles fewer =
+    let c' = (next_group v c).1 in
+    let r' = hears (came (blocks (next_group v c).0)) r in
+    elim (blank_or_left v c r ok.0 (omega arith)) [
+      | inl clear ↦ clear_after vs c' r' ok.1 toggles.1 clear
+      | inr same ↦ cleared_after vs c' r' ok.1 toggles.1 (omega arith)
+    ]
+
+-- ---- What is shown.
+shows_clear : (c : Carousel) (r : Receiver) → IsClear c r
+    → IfSome (text_shown r) (λ shown. shown ≡ up_to_return c.text)
+shows_clear c r (inl only) = text_may_show c.text r only.few only.long only.at
+shows_clear c r (inr emptied) =
+    let shown : text_shown r ≡ Some [] = text_is_up_to_return [] r (omega arith) emptied.long
+    (λ p within few. let first : p ≡ 0 = omega arith in
+    subst (λ (n : ℕ). r.text n ≡ Some (sent [] n)) (sym first) emptied.end) in
+    subst (λ (o : Option (List ℕ)). IfSome o (λ shown. shown ≡ up_to_return c.text)) (sym shown)
+    (ap up_to_return (sym emptied.empty))
+
+all_behind : (vs : List Store) (c : Carousel) → AllByRecursion Toggles vs → TogglesBehind vs c
+all_behind [] c all = tt
+all_behind (v ∷ vs) c all = (λ begun. all.0, all_behind vs (next_group v c).1 all.1)
 
 pub no_text_is_mixed : NoTextIsMixed
 no_text_is_mixed vs c r ok all only =
-    let last = only_after vs c r ok all only in
-    text_may_show (carousel_after vs c).text (after vs c r) last.few last.long last.at
+    shows_clear (carousel_after vs c) (after vs c r) (clear_after vs c r ok (all_behind vs c all) (inl only))
+
+pub no_text_is_mixed_over_a_start : NoTextIsMixedOverAStart
+no_text_is_mixed_over_a_start vs c r ok toggles fewer =
+    shows_clear (carousel_after vs c) (after vs c r) (cleared_after vs c r ok toggles fewer)

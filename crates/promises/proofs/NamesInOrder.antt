@@ -19,7 +19,7 @@ use Rattle.carousel.specs.Next.{name_next, name_group, send_name, next_group}
 use Rattle.promises.specs.OnAir.{IsService, IsStore, Has, Moment, after_damage}
 use Rattle.promises.specs.AirLaws.{NoNameIsMixed}
 use Rattle.promises.proofs.Words.{name_at, name_two, name_told, two_back, byte_at}
-use Rattle.promises.proofs.Choice.{chosen_keeps_name}
+use Rattle.promises.proofs.Choice.{next_keeps_name}
 use Rattle.promises.proofs.Steps.{part_step, name_below, on_air}
 use Rattle.promises.proofs.Service.{two_more, going_on}
 
@@ -113,7 +113,7 @@ names_by_name P s c ok held block4 (inl right) q good =
 pub kept_coming : (s : ServiceData) (c : Carousel) (coming : List ℕ) → IsComing c.name c.name_segment coming
     → IsComing (on_air s c).name (on_air s c).name_segment coming
 kept_coming s c coming before =
-    let keeps = chosen_keeps_name (line_up s.texts) c in
+    let keeps = next_keeps_name (line_up s.texts) c in
     subst (λ (xs : List ℕ). IsComing xs (on_air s c).name_segment coming) (sym keeps.name)
     (subst (λ (n : ℕ). IsComing c.name n coming) (sym keeps.name_segment) before)
 

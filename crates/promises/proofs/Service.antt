@@ -18,7 +18,7 @@ use Rattle.promises.specs.OnAir.{IsService, Has, after}
 use Rattle.promises.specs.AirLaws.{ServiceIsShown, TrafficIsTold}
 use Rattle.promises.proofs.Words.{bit_small, name_two}
 use Rattle.promises.proofs.AirHearing.{named_now, texted_now}
-use Rattle.promises.proofs.Choice.{chosen_keeps_name}
+use Rattle.promises.proofs.Choice.{next_keeps_name}
 use Rattle.promises.proofs.Places.{far, far_below, nearer, turn_in, turn_over}
 use Rattle.promises.proofs.Steps.{step_is, name_below, goes_on, comes, none, on_air}
 
@@ -151,7 +151,7 @@ pass_more s c r ok before =
 pass_kept : (s : ServiceData) (c : Carousel) (r : Receiver) → IsInPass s c r
     → IsInPass s (send_text s c).1 (texted_now s (on_air s c) r)
 pass_kept s c r pass =
-    let keeps = chosen_keeps_name (line_up s.texts) c in
+    let keeps = next_keeps_name (line_up s.texts) c in
     record { name = keeps.name ∙ pass.name; front = pass.front ∙ ap (λ n. take (2 * n) s.ps) (sym keeps.name_segment) }
 
 pass_stays : (s : ServiceData) → IsService s → (v : Store) → Has s v → (c : Carousel) (r : Receiver) → IsInPass s c r
@@ -181,7 +181,7 @@ text_nearer : (s : ServiceData) (i : ℕ) (c : Carousel) → c.is_other ≡ true
     → wait_for s i (send_text s c).1 < wait_for s i c
 unfolding wait_for
 text_nearer s i c h =
-    let keeps = chosen_keeps_name (line_up s.texts) c in
+    let keeps = next_keeps_name (line_up s.texts) c in
     let same : name_next s (send_text s c).1 ≡ name_next s c =
     ap (λ (xs : List ℕ). if bytes_eq xs s.ps then turn 4 (on_air s c).name_segment else 0) keeps.name
     ∙ ap (λ (n : ℕ). if bytes_eq c.name s.ps then turn 4 n else 0) keeps.name_segment in

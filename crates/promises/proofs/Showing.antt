@@ -1,5 +1,5 @@
 -- Nothing false is shown.
-use Rattle.std.proofs.Common.{◌≡◌, ℕ, ◌+◌, ◌*◌, ◌<◌, Bool, true, false, List, [], ◌∷◌, Option, Some, None, refl, sym}
+use Rattle.std.proofs.Common.{◌≡◌, ℕ, ◌+◌, ◌*◌, ◌<◌, Bool, true, false, List, [], ◌∷◌, Option, Some, None, refl, ap, sym, ◌∙◌}
 use Rattle.std.proofs.Common.{subst, arith, inl, if◌then◌else◌, ◌&&◌}
 use Rattle.std.specs.Prelude.{IfSome}
 use Rattle.std.specs.List.{All, AllByRecursion}
@@ -9,14 +9,16 @@ use Rattle.rds_groups.specs.Heard.{came}
 use Rattle.rds_groups.specs.Shown.{Receiver, hears, placed, left_of, is_same, nothing, switched_on}
 use Rattle.rds_groups.specs.Damage.{GroupDamage, IsGroupDamage, damaged}
 use Rattle.rds_groups.specs.ReceiverLaws.{IsRightOrMissing}
-use Rattle.carousel.specs.Carousel.{Carousel}
+use Rattle.carousel.specs.Carousel.{Carousel, blanks_left}
 use Rattle.carousel.specs.Texts.{line_up}
+use Rattle.carousel.specs.Service.{main_service}
 use Rattle.carousel.specs.Next.{sent, name_next, name_group, text_group, send_name, next_group}
 use Rattle.promises.specs.OnAir.{IsService, Has, Moment, after_damage}
 use Rattle.promises.specs.AirLaws.{NothingFalseIsShown}
 use Rattle.promises.proofs.Words.{name_told, text_told}
 use Rattle.promises.proofs.AirHearing.{MayHold, pair_may}
-use Rattle.promises.proofs.Steps.{part_step, on_air, fine}
+use Rattle.promises.proofs.Choice.{is_chosen, stays_started}
+use Rattle.promises.proofs.Steps.{next_is, part_step, on_air, fine}
 use Rattle.promises.proofs.TextRuns.{one_is_on, one_short}
 use Rattle.promises.proofs.AirLines.{text_may_show}
 use Rattle.promises.proofs.NamesInOrder.{HeardNames, names_by_name, kept_coming}
@@ -85,10 +87,10 @@ by_name s t c ok block4 h q good = by block4 (names_by_name (λ name. name ≡ s
     }
 
 step : (s : ServiceData) (t : StoredText) → IsService s → line_up s.texts ≡ t ∷ []
-    → (v : Store) (d : GroupDamage) (c : Carousel) (r : Receiver) → Has s v
+    → (v : Store) (d : GroupDamage) (c : Carousel) (r : Receiver) → blanks_left c ≡ 0 → Has s v
     → IsGroupDamage d → HeardOnly s t c r → HeardOnly s t (next_group v c).1
     (hears (came (damaged d (blocks (next_group v c).0))) r)
-step s t ok e v d c r has damage good =
+step s t ok e v d c r none has damage good =
     part_step s v d c r (HeardOnly s t c) (HeardOnly s t) ok has damage good
     (λ q g. record {
       pi = refl;
@@ -119,7 +121,7 @@ step s t ok e v d c r has damage good =
       music = g.music;
       long = refl;
       names = record { coming = kept_coming s c q.coming g.names.coming; shown = g.names.shown };
-      text = text_may s (on_air s c) t.bytes block3 block4 q (fine s c ok).are_bytes (one_is_on s t e c).text h3 h4
+      text = text_may s (on_air s c) t.bytes block3 block4 q (fine s c ok).are_bytes (one_is_on s t e c none).text h3 h4
           g.text;
     })
     (λ q g. record {
@@ -133,19 +135,25 @@ step s t ok e v d c r has damage good =
       names = record { coming = g.names.coming; shown = g.names.shown };
     })
 
+still_started : (v : Store) (c : Carousel) → blanks_left c ≡ 0 → blanks_left (next_group v c).1 ≡ 0
+still_started v c none =
+    next_is v c (λ sent. blanks_left sent.1 ≡ 0) (λ h. none)
+    (λ h. ap blanks_left (is_chosen (line_up (main_service v).texts) c none)
+    ∙ stays_started (line_up (main_service v).texts) c none) (λ h g gs e. none)
+
 all_steps : (s : ServiceData) (t : StoredText) → IsService s → line_up s.texts ≡ t ∷ []
-    → (ms : List Moment) (c : Carousel) (r : Receiver)
+    → (ms : List Moment) (c : Carousel) (r : Receiver) → blanks_left c ≡ 0
     → AllByRecursion (λ m. Has s m.store) ms → AllByRecursion (λ m. IsGroupDamage m.damage) ms → HeardOnly s t c r
     → (e : Carousel) × HeardOnly s t e (after_damage ms c r)
-all_steps s t ok e [] c r has damage good = (c, good)
-all_steps s t ok e (m ∷ ms) c r has damage good =
+all_steps s t ok e [] c r none has damage good = (c, good)
+all_steps s t ok e (m ∷ ms) c r none has damage good =
     all_steps s t ok e ms (next_group m.store c).1 (hears (came (damaged m.damage (blocks (next_group m.store c).0))) r)
-    has.1 damage.1
-    (step s t ok e m.store m.damage c r has.0 damage.0 good)
+    (still_started m.store c none) has.1 damage.1
+    (step s t ok e m.store m.damage c r none has.0 damage.0 good)
 
 pub nothing_false_is_shown : NothingFalseIsShown
-nothing_false_is_shown s t ms c ok e has damage =
-    let last = (all_steps s t ok e ms c switched_on has damage
+nothing_false_is_shown s t ms c ok e none has damage =
+    let last = (all_steps s t ok e ms c switched_on none has damage
     (record {
       pi = tt;
       tp = tt;

@@ -14,7 +14,7 @@ use Rattle.rds_groups.specs.Damage.{GroupDamage, IsGroupDamage, damaged}
 use Rattle.rds_groups.specs.ReceiverLaws.{IsRightOrMissing}
 use Rattle.rds_groups.proofs.Public.{no_word_is_wrong}
 use Rattle.carousel.specs.Carousel.{Carousel}
-use Rattle.carousel.specs.Texts.{line_up, no_text, chosen}
+use Rattle.carousel.specs.Texts.{line_up, no_text, text_next}
 use Rattle.carousel.specs.Service.{main_service}
 use Rattle.carousel.specs.Next.{turn, name_next, name_group, text_group, send_name, send_text, free_group, send_other}
 use Rattle.carousel.specs.Next.{next_group, is_waiting}
@@ -22,7 +22,7 @@ use Rattle.promises.specs.OnAir.{IsService, IsText, IsOther, Has, after, carouse
 use Rattle.promises.proofs.Words.{tuned_to, name_told, text_told, told_name, told_text, told_free, name_words}
 use Rattle.promises.proofs.Words.{text_words, free_words}
 use Rattle.promises.proofs.AirHearing.{known, named_now, texted_now, hears_name, hears_text, hears_free, hears_part}
-use Rattle.promises.proofs.Choice.{IsFine, chosen_fine, fine_small}
+use Rattle.promises.proofs.Choice.{IsFine, next_fine, fine_small}
 use Rattle.promises.proofs.Places.{turn_below}
 
 -- The next group is of the name, of the text, or one that waits.
@@ -68,12 +68,12 @@ texts_ok s ok = by s.texts ok.texts
         one (suc k) d h = absurd (omega arith)
     by (t ∷ ts) all = all
 
-pub fine : (s : ServiceData) (c : Carousel) → IsService s → IsFine (chosen (line_up s.texts) c)
-fine s c ok = chosen_fine (line_up s.texts) c (texts_ok s ok)
+pub fine : (s : ServiceData) (c : Carousel) → IsService s → IsFine (text_next (line_up s.texts) c)
+fine s c ok = next_fine (line_up s.texts) c (texts_ok s ok)
 
--- the text that is on the air once it was chosen
+-- the text that is on the air once its turn came
 abbrev pub on_air : ServiceData → Carousel → Carousel
-on_air s c = chosen (line_up s.texts) c
+on_air s c = text_next (line_up s.texts) c
 
 first_other : (v : Store) (g : StoredGroup) (gs : List StoredGroup) → IfSome (slice_get v.groups 0) IsOther
     → v.groups ≡ g ∷ gs → IsOther g

@@ -1,14 +1,14 @@
 -- What a receiver shows is what the store holds.
-use Rattle.std.specs.Prelude.{ℕ, ◌+◌, ◌*◌, ◌≤◌, ◌≡◌, ◌⊎◌, ◌==◌, true, false, List, [], ◌∷◌, length, Some, None}
+use Rattle.std.specs.Prelude.{ℕ, ◌+◌, ◌*◌, ◌<◌, ◌≤◌, ◌≡◌, ◌⊎◌, ◌==◌, true, false, List, [], ◌∷◌, length, Some, None}
 use Rattle.std.specs.Prelude.{IfSome, Contains, map, if◌then◌else◌}
 use Rattle.std.specs.List.{AllByRecursion}
 use Rattle.rds_groups.specs.Groups.{bit}
 use Rattle.rds_store.specs.Value.{Store, ServiceData, StoredText}
 use Rattle.rds_groups.specs.Shown.{Receiver, text_shown, switched_on}
 use Rattle.rds_groups.specs.Damage.{IsGroupDamage}
-use Rattle.carousel.specs.Carousel.{Carousel}
+use Rattle.carousel.specs.Carousel.{Carousel, blanks_left}
 use Rattle.carousel.specs.Texts.{line_up, segment_count}
-use Rattle.carousel.specs.Next.{sent, is_waiting}
+use Rattle.carousel.specs.Next.{sent, is_waiting, next_group}
 use Rattle.carousel.specs.Service.{main_service}
 use Rattle.promises.specs.OnAir.{IsService, IsStore, Has, after, carousel_after, Moment, after_damage}
 
@@ -40,12 +40,13 @@ waiting [] = 0
 waiting (v ∷ vs) = bit (is_waiting v.groups) + waiting vs
 
 -- And after two groups for each segment of its text, and two for each store where a free-format group waits, it shows
--- that text, where there is one, and an empty one where there is none: at most 32 groups where no group waits.
+-- that text, where there is one, and an empty one where there is none: at most 32 groups where no group waits. At a start
+-- two groups more for each empty one that is left of it.
 abbrev pub TextIsShown : Type 0
 TextIsShown =
     (s : ServiceData) (t : StoredText) (vs : List Store) (c : Carousel) (r : Receiver)
     → IsService s → line_up s.texts ≡ t ∷ [] → AllByRecursion (Has s) vs
-    → 2 * (segment_count t.bytes + waiting vs) ≤ length vs → text_shown (after vs c r) ≡ Some (up_to_return t.bytes)
+    → 2 * (blanks_left c + segment_count t.bytes + waiting vs) ≤ length vs → text_shown (after vs c r) ≡ Some (up_to_return t.bytes)
 
 -- Traffic announcements are told within two groups.
 abbrev pub TrafficIsTold : Type 0
@@ -90,6 +91,22 @@ NoTextIsMixed =
     → AllByRecursion IsStore vs → AllByRecursion Toggles vs → HasHeardOnly c r
     → IfSome (text_shown (after vs c r)) (λ shown. shown ≡ up_to_return (carousel_after vs c).text)
 
+-- ---- Over a start.
+-- The toggle of each text is set in each of these stores that the carousel finds behind the first text of a start.
+abbrev pub TogglesBehind : List Store → Carousel → Type 0
+TogglesBehind [] c = Unit {0}
+TogglesBehind (v ∷ vs) c = (c.blanks ≡ None → Toggles v) × TogglesBehind vs (next_group v c).1
+
+-- Whatever a receiver held before, under whichever flag, and whatever it missed: once it heard one of the empty texts that
+-- go out at a start, and misses no group behind it, it shows of a text the one that is on the air, or nothing, whatever
+-- changes in the store and when, and whether the toggle of the first text is set or not. While that is the empty one it
+-- shows an empty one.
+abbrev pub NoTextIsMixedOverAStart : Type 0
+NoTextIsMixedOverAStart =
+    (vs : List Store) (c : Carousel) (r : Receiver)
+    → AllByRecursion IsStore vs → TogglesBehind vs c → blanks_left (carousel_after vs c) < blanks_left c
+    → IfSome (text_shown (after vs c r)) (λ shown. shown ≡ up_to_return (carousel_after vs c).text)
+
 -- ---- Nothing false is shown.
 -- What a receiver shows of each thing is the service's, or nothing.
 pub record ShowsNothingFalse (s : ServiceData) (t : StoredText) (r : Receiver) : Type 0 where
@@ -102,9 +119,9 @@ pub record ShowsNothingFalse (s : ServiceData) (t : StoredText) (r : Receiver) :
   pub text : IfSome (text_shown r) (λ shown. shown ≡ up_to_return t.bytes)
 
 -- Whatever groups are damaged, if in each block no bit is wrong, one, two, or some of ten in a row, a receiver that was
--- switched on shows of a service that stays what it is, or nothing.
+-- switched on shows of a service that stays what it is, or nothing, where no empty text of a start is left.
 abbrev pub NothingFalseIsShown : Type 0
 NothingFalseIsShown =
     (s : ServiceData) (t : StoredText) (ms : List Moment) (c : Carousel)
-    → IsService s → line_up s.texts ≡ t ∷ [] → AllByRecursion (λ m. Has s m.store) ms
+    → IsService s → line_up s.texts ≡ t ∷ [] → blanks_left c ≡ 0 → AllByRecursion (λ m. Has s m.store) ms
     → AllByRecursion (λ m. IsGroupDamage m.damage) ms → ShowsNothingFalse s t (after_damage ms c switched_on)

@@ -1,6 +1,6 @@
 //! What a receiver shows is what the store holds: laws over the store, the carousel and the receiver. No code.
 ghost use Rattle.promises.specs.AirLaws.{ServiceIsShown, TextIsShown, TrafficIsTold, NoNameIsMixed};
-ghost use Rattle.promises.specs.AirLaws.{NoTextIsMixed, NothingFalseIsShown, EachPassIsShown};
+ghost use Rattle.promises.specs.AirLaws.{NoTextIsMixed, NoTextIsMixedOverAStart, NothingFalseIsShown, EachPassIsShown};
 ghost use Rattle.promises.specs.Said.{TogglesStaySet, NoSaidTextIsMixed};
 
 /// A service that stays is shown after 16 groups.
@@ -31,6 +31,11 @@ pub fn no_name_is_mixed()
 /// Where each text has its toggle set, no text is mixed.
 pub fn no_text_is_mixed()
     ensures { NoTextIsMixed }
+{}
+
+/// Nor over a start of the encoder, for a receiver that heard an empty text of it.
+pub fn no_text_is_mixed_over_a_start()
+    ensures { NoTextIsMixedOverAStart }
 {}
 
 /// What is said in words, none of them `same`, `bits` or `raw`, keeps the toggle of each text set.
