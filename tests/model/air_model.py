@@ -18,6 +18,7 @@ import model
 NO_FREQUENCIES = 0xE0E0
 RETURN = 0x0D
 PLACES = 64
+BLANKS = 8  # groups of an empty text at a start
 GROUP_LINE = re.compile(r"[0-9A-F]{4}( [0-9A-F]{4}){3}")
 
 
@@ -124,13 +125,15 @@ def pass_over_text(characters):
 
 
 class Carousel:
-    """Every other group is a segment of the name; between them a group of the queue, or else a segment of a text."""
+    """Every other group is a segment of the name; between them a group of the queue, or else a segment of a text. At a start of an encoder
+    that may have been on the air before, an empty text goes out first, whatever the store has."""
 
-    def __init__(self):
+    def __init__(self, is_start=False):
         self.is_name_next = True
         self.name, self.name_left = None, []
         self.text, self.text_left = b"", pass_over_text(b"")
         self.place, self.passes, self.flag = 0, 0, 0
+        self.empty_left, self.is_first = BLANKS if is_start else 0, is_start
 
     def send(self, store):
         """The next group; one of the queue is taken from there."""
@@ -155,7 +158,10 @@ class Carousel:
         return self.made(service, 0, last, NO_FREQUENCIES, int.from_bytes(two, "big"))
 
     def send_text(self, service):
-        self.choose(texts_of(service))
+        if self.empty_left:
+            self.empty_left, self.text_left = self.empty_left - 1, pass_over_text(b"")
+        else:
+            self.choose(texts_of(service))
         segment, four = self.text_left.pop(0)
         return self.made(service, 4, self.flag << 4 | segment, *(int.from_bytes(four[at : at + 2], "big") for at in (0, 2)))
 
@@ -173,8 +179,9 @@ class Carousel:
 
     def begin(self, texts, place):
         text = texts[place]
-        if text.is_new and text.characters != self.text:
-            self.flag ^= 1
+        if text.characters != self.text:
+            self.flag ^= text.is_new or self.is_first
+            self.is_first = False
         self.text, self.text_left = text.characters, pass_over_text(text.characters)
         self.place, self.passes = place, 0
 

@@ -4,8 +4,8 @@ use Rattle.std.specs.Coded.{Coded, code_by, coded×, coded_ℕ, coded_bool, code
 
 -- `name` and `text` are what goes out, and the segments those that come next of each; `is_other` says that the name's
 -- turn is over. The text is at this place of the service's texts, so many passes of it are over, and it goes out under
--- this A/B flag. `blanks` says, behind a start, that the first text is still to come, and how many groups of an empty one
--- go out before it. (profile)
+-- this A/B flag. `blanks` says, behind a start, that the first text is still to come, and how many groups of an empty
+-- one go out before it. (profile)
 pub record Carousel : Type 0 where
   pub name : List ℕ
   pub name_segment : ℕ
@@ -50,7 +50,13 @@ coded_carousel =
     code_by (List ℕ × (ℕ × (Bool × (List ℕ × (Bool × (ℕ × (ℕ × (ℕ × Option ℕ))))))))
     (coded× (coded_list coded_ℕ) (coded× coded_ℕ (coded× coded_bool (coded× (coded_list coded_ℕ)
     (coded× coded_bool (coded× coded_ℕ (coded× coded_ℕ (coded× coded_ℕ (coded_option coded_ℕ)))))))))
-    (λ c. (c.name, (c.name_segment, (c.is_other, (c.text, (c.flag, (c.place, (c.passes, (c.text_segment, c.blanks)))))))))
+    (λ c. (
+      c.name,
+      (
+        c.name_segment,
+        (c.is_other, (c.text, (c.flag, (c.place, (c.passes, (c.text_segment, c.blanks)))))),
+      ),
+    ))
     (λ p. record {
       name = p.0;
       name_segment = p.1.0;

@@ -71,6 +71,7 @@ blanked c = record c {
   blanks = Some (blanks_left c - 1);
 }
 
--- The text of which a segment goes out next: an empty one while any is left of a start, and else the one that is chosen.
+-- The text of which a segment goes out next: an empty one while any is left of a start, and else the one that is
+-- chosen.
 abbrev pub text_next : List StoredText → Carousel → Carousel
 text_next texts c = if nat_lt 0 (blanks_left c) then blanked c else chosen texts c

@@ -3,7 +3,7 @@ use Rattle.std.specs.Prelude.{◌≡◌, ◌⊎◌, ℕ, Bool, List, Option, Som
 use Rattle.std.specs.String.{string_bytes}
 use Rattle.rds_groups.specs.declared.group.Group.{Group}
 use Rattle.rds_store.specs.Value.{Store}
-use Rattle.carousel.specs.Carousel.{Carousel, switched_on}
+use Rattle.carousel.specs.Carousel.{Carousel, restarted}
 use Rattle.uecp_encoder.specs.State.{EncoderState}
 use Rattle.uecp_text.specs.Written.{Begins}
 use Rattle.uecp_jobs.specs.Setups.{Options, IsSetup, address_of, encoder_at_first}
@@ -37,7 +37,7 @@ module _ {K M I O : Type 0} (most room : ℕ) (leaves : K → Kept Store → Typ
     (saves fails : K → Kept Store → K → Type 0) (waits : M → Bool → Moment I O → M → Type 0)
     (closes : M → I → O → M → Type 0) (sends : M → Group → M → Type 0) (remaining : I → Option (List ℕ))
     (contents : O → Option (List ℕ)) (turns connections : ℕ) (store : Bool) where
-  -- A device was on the air from this encoder, from a carousel that had sent nothing, and this is left. It came to its
+  -- A device was on the air from this encoder, from a carousel at a start, and this is left. It came to its
   -- end, and nothing was said; or it stopped, and why was said, or begun to be said.
   abbrev pub EndsOnAir : (e e' : EncoderState Store) → (k k' : K) → (m m' : M) → (l l' : Log)
       → (said said' : Option (List ℕ)) → (status : ℕ) → Type 0
@@ -45,11 +45,11 @@ module _ {K M I O : Type 0} (most room : ℕ) (leaves : K → Kept Store → Typ
       (carousel : Carousel) × (left : ℕ)
       × (((status ≡ 0)
       × RunsOnAir most room leaves is_clean saves fails waits closes sends remaining contents turns store
-      (standing e k l m switched_on connections) (standing e' k' l' m' carousel left) (Ok tt)
+      (standing e k l m restarted connections) (standing e' k' l' m' carousel left) (Ok tt)
       × (said' ≡ said))
       ⊎ ((stop : KeptStop) × (status ≡ 3)
       × RunsOnAir most room leaves is_clean saves fails waits closes sends remaining contents turns store
-      (standing e k l m switched_on connections) (standing e' k' l' m' carousel left) (Err stop)
+      (standing e k l m restarted connections) (standing e' k' l' m' carousel left) (Err stop)
       × Begins said said' (stop_lines stop)))
 
   -- The state at the path was opened, and its encoder is the one that is asked for; a device was on the air from there;

@@ -84,7 +84,7 @@ fn air_in<S: OpenStates, W: Write, T: Clock, E: Write, M: Moments>(
     match states.open_encoder(path, address, setup.sets, setup.services) {
         Err(fault) => fail_state(state_text(fault), errors),
         Ok((mut encoder, mut keeper)) => {
-            let mut carousel = Carousel::new();
+            let mut carousel = Carousel::restarted();
             let status = run_on_air(
                 limits,
                 &mut encoder,
@@ -113,7 +113,7 @@ fn air_unkept<W: Write, T: Clock, E: Write, M: Moments>(
         limits.turns limits.connections limits.store moments.old moments.new log.old log.new (E.contents errors.old)
         (E.contents errors.new) result }
 {
-    let mut carousel = Carousel::new();
+    let mut carousel = Carousel::restarted();
     run_on_air(
         limits,
         encoder,

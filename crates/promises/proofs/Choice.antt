@@ -9,7 +9,8 @@ use Rattle.std.proofs.lemmas.Option.{slice_get_past, slice_get_within, get_or_fr
 use Rattle.std.proofs.lemmas.Slice.Eq.{bytes_eq-Decides}
 use Rattle.rds_store.specs.Value.{StoredText}
 use Rattle.carousel.specs.Carousel.{Carousel, blanks_left}
-use Rattle.carousel.specs.Texts.{no_text, segment_count, begun, begun_at, next_place, pass_over, gone_on, chosen, blanked, text_next}
+use Rattle.carousel.specs.Texts.{no_text, segment_count, begun, begun_at, next_place, pass_over, gone_on, chosen}
+use Rattle.carousel.specs.Texts.{blanked, text_next}
 use Rattle.carousel.specs.Next.{turn}
 use Rattle.promises.specs.OnAir.{IsText}
 

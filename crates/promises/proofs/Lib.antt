@@ -10,6 +10,7 @@ pub mod NamesInOrder
 pub mod Mixing
 pub mod Saying
 pub mod Showing
+pub mod Starting
 pub mod EachPass
 pub mod Fronts
 pub mod Reaching

@@ -3,7 +3,7 @@ use Rattle.std.proofs.Common.{◌≡◌, ◌⊎◌, ℕ, zero, suc, ◌/◌, ◌
 use Rattle.std.proofs.Common.{Option, Some, None, refl, arith, ap, sym, ◌∙◌, subst, inl, inr, if◌then◌else◌, ◌&&◌}
 use Rattle.std.specs.Prelude.{slice_get, unwrap_or, bytes_eq, is_some, IfSome, ◌||◌}
 use Rattle.std.specs.List.{AllByRecursion}
-use Rattle.std.proofs.lemmas.Bool.{cases_lt, cases_eq, cases_Bool}
+use Rattle.std.proofs.lemmas.Bool.{cases_lt, cases_eq, cases_Bool, false≢true}
 use Rattle.std.proofs.lemmas.Slice.Eq.{bytes_eq-Decides}
 use Rattle.rds_groups.specs.Groups.{blocks}
 use Rattle.rds_store.specs.Value.{Store, ServiceData, StoredText}
@@ -14,67 +14,80 @@ use Rattle.carousel.specs.Texts.{no_text, line_up, segment_count, begun, chosen}
 use Rattle.carousel.specs.Service.{main_service}
 use Rattle.carousel.specs.Next.{sent, send_text, text_sent, next_group}
 use Rattle.promises.specs.OnAir.{IsService, IsStore, after, carousel_after}
-use Rattle.promises.specs.AirLaws.{HasHeardOnly, Toggles, NoTextIsMixed, TogglesBehind, NoTextIsMixedOverAStart}
-use Rattle.promises.specs.AirLaws.{up_to_return}
+use Rattle.promises.specs.AirLaws.{HasHeardOnly, Toggles, NoTextIsMixed, OthersToggle, TogglesBehind}
+use Rattle.promises.specs.AirLaws.{StartIsHeard, NoTextIsMixedOverAStart, up_to_return}
 use Rattle.promises.proofs.AirHearing.{texted_now, text_comes, text_stays, left_same, MayHold}
 use Rattle.promises.proofs.Choice.{IsFine, any_choice, is_blanked, is_chosen}
 use Rattle.promises.proofs.Steps.{step_is, on_air, fine}
 use Rattle.promises.proofs.AirLines.{text_may_show, text_is_up_to_return}
 
 -- ---- The text that goes out stays, or the flag turns.
-record Stays (c d : Carousel) : Type 0 where
-  text : d.text ≡ c.text
-  flag : d.flag ≡ c.flag
-  blanks : d.blanks ≡ c.blanks
+pub record Stays (c d : Carousel) : Type 0 where
+  pub text : d.text ≡ c.text
+  pub flag : d.flag ≡ c.flag
+  pub blanks : d.blanks ≡ c.blanks
 
-abbrev StaysOrTurns : Carousel → Carousel → Type 0
+abbrev pub StaysOrTurns : Carousel → Carousel → Type 0
 StaysOrTurns c d = Stays c d ⊎ (d.flag ≡ not c.flag)
 
-toggled : (us : List StoredText) → AllByRecursion (λ (t : StoredText). t.toggle ≡ true) us → (place : ℕ)
-    → (unwrap_or (slice_get us place) no_text).toggle ≡ true
-toggled [] all place = refl
-toggled (u ∷ us) all zero = all.0
-toggled (u ∷ us) all (suc place) = toggled us all.1 place
+-- a text of these bytes, or one whose toggle is set
+abbrev IsSet : (bytes : List ℕ) → StoredText → Type 0
+IsSet bytes t = (t.bytes ≡ bytes) ⊎ (t.toggle ≡ true)
 
-line_toggled : (ts : List StoredText) → AllByRecursion (λ (t : StoredText). t.toggle ≡ true) ts
-    → AllByRecursion (λ (t : StoredText). t.toggle ≡ true) (line_up ts)
-line_toggled [] all = (refl, tt)
-line_toggled (t ∷ ts) all = all
+toggled : (bytes : List ℕ) (us : List StoredText) → AllByRecursion (IsSet bytes) us → (place : ℕ)
+    → IsSet bytes (unwrap_or (slice_get us place) no_text)
+toggled bytes [] all place = inr refl
+toggled bytes (u ∷ us) all zero = all.0
+toggled bytes (u ∷ us) all (suc place) = toggled bytes us all.1 place
 
--- a text that turns the flag where it is another
-begun_turns : (t : StoredText) (place : ℕ) (c : Carousel) → (t.toggle || is_some c.blanks) ≡ true
+line_toggled : (bytes : List ℕ) (ts : List StoredText) → AllByRecursion (IsSet bytes) ts
+    → AllByRecursion (IsSet bytes) (line_up ts)
+line_toggled bytes [] all = (inr refl, tt)
+line_toggled bytes (t ∷ ts) all = all
+
+no_turn : (turns flag : Bool) → (if turns && not true then not flag else flag) ≡ flag
+no_turn true flag = refl
+no_turn false flag = refl
+
+sets : (toggle first : Bool) → (toggle ≡ true) ⊎ (first ≡ true) → (toggle || first) ≡ true
+sets toggle first (inl set) = ap (λ b. b || first) set
+sets true first (inr set) = refl
+sets false first (inr set) = set
+
+-- a text that begins: it is the one on the air, or turns the flag
+begun_turns : (t : StoredText) (place : ℕ) (c : Carousel) → IsSet c.text t ⊎ (is_some c.blanks ≡ true)
     → StaysOrTurns c (begun place t c)
-begun_turns t place c set =
+begun_turns t place c due =
+    let turns = t.toggle || is_some c.blanks in
     let flag = λ (turns same : Bool). if turns && not same then not c.flag else c.flag in
     elim (cases_Bool (bytes_eq c.text t.bytes)) [
       | inl equal ↦ inl (record {
         text = sym ((bytes_eq-Decides c.text t.bytes).0 equal);
-        flag = ap (flag (t.toggle || is_some c.blanks)) equal ∙ ap (λ turns. flag turns true) set;
+        flag = ap (flag turns) equal ∙ no_turn turns c.flag;
         blanks = ap (λ same. if same then c.blanks else None) equal;
       })
       | inr unlike ↦
-          inr (ap (flag (t.toggle || is_some c.blanks)) unlike ∙ ap (λ turns. flag turns false) set)
+          let set : turns ≡ true = elim due [
+            | inl (inl same) ↦
+                absurd (false≢true (sym unlike ∙ (bytes_eq-Decides c.text t.bytes).1 (sym same)))
+            | inl (inr toggle) ↦ sets t.toggle (is_some c.blanks) (inl toggle)
+            | inr first ↦ sets t.toggle (is_some c.blanks) (inr first)
+          ] in
+          inr (ap (flag turns) unlike ∙ ap (λ b. flag b false) set)
     ]
 
--- each text does, or the first of a start is still to come
-abbrev AreToTurn : ServiceData → Carousel → Type 0
-AreToTurn s c = AllByRecursion (λ (t : StoredText). t.toggle ≡ true) s.texts ⊎ (is_some c.blanks ≡ true)
+-- so is each text, or the first of a start is still to come
+abbrev pub AreToTurn : ServiceData → Carousel → Type 0
+AreToTurn s c = AllByRecursion (IsSet c.text) s.texts ⊎ (is_some c.blanks ≡ true)
 
-turns_it : (toggle first : Bool) → (toggle ≡ true) ⊎ (first ≡ true) → (toggle || first) ≡ true
-turns_it toggle first (inl set) = ap (λ b. b || first) set
-turns_it true first (inr set) = refl
-turns_it false first (inr set) = set
-
-stays_or_turns : (s : ServiceData) (c : Carousel) → AreToTurn s c → StaysOrTurns c (chosen (line_up s.texts) c)
+pub stays_or_turns : (s : ServiceData) (c : Carousel) → AreToTurn s c → StaysOrTurns c (chosen (line_up s.texts) c)
 stays_or_turns s c due =
     let us = line_up s.texts in
     any_choice (StaysOrTurns c) us c
-    (λ place.
-    let t = unwrap_or (slice_get us place) no_text in
-    begun_turns t place c (turns_it t.toggle (is_some c.blanks) (elim due [
-      | inl all ↦ inl (toggled us (line_toggled s.texts all) place)
+    (λ place. begun_turns (unwrap_or (slice_get us place) no_text) place c (elim due [
+      | inl all ↦ inl (toggled c.text us (line_toggled c.text s.texts all) place)
       | inr first ↦ inr first
-    ])))
+    ]))
     (λ t e is within. inl (record { text = refl; flag = refl; blanks = refl }))
     (λ t e is passes. inl (record { text = refl; flag = refl; blanks = refl }))
 
@@ -165,7 +178,7 @@ clear_texted s c r ok due clear = elim (cases_lt 0 (blanks_left c)) [
       stays_clear s c (on_air s c) r (fine s c ok) (subst (StaysOrTurns c) (sym is) (stays_or_turns s c due)) clear
 ]
 
-due_of : (v : Store) (c : Carousel) → (c.blanks ≡ None → Toggles v) → AreToTurn (main_service v) c
+due_of : (v : Store) (c : Carousel) → (c.blanks ≡ None → OthersToggle c v) → AreToTurn (main_service v) c
 due_of v c toggles = by c.blanks refl
   where
     by : (o : Option ℕ) → c.blanks ≡ o → AreToTurn (main_service v) c
@@ -193,7 +206,7 @@ clear_kept c d r q same flag long text clear = elim clear [
   })
 ]
 
-clear_step : (v : Store) (c : Carousel) (r : Receiver) → IsStore v → (c.blanks ≡ None → Toggles v) → IsClear c r
+clear_step : (v : Store) (c : Carousel) (r : Receiver) → IsStore v → (c.blanks ≡ None → OthersToggle c v) → IsClear c r
     → IsClear (next_group v c).1 (hears (came (blocks (next_group v c).0)) r)
 clear_step v c r ok toggles clear =
     let s = main_service v in
@@ -219,7 +232,7 @@ blank_or_left v c r ok some =
     (λ h. inr refl) (λ h. inl (blank_clears (main_service v) c r ok.service some)) (λ h w. inr refl)
 
 cleared_after : (vs : List Store) (c : Carousel) (r : Receiver) → AllByRecursion IsStore vs → TogglesBehind vs c
-    → blanks_left (carousel_after vs c) < blanks_left c → IsClear (carousel_after vs c) (after vs c r)
+    → StartIsHeard vs c → IsClear (carousel_after vs c) (after vs c r)
 cleared_after [] c r ok toggles fewer = absurd (omega arith)
 cleared_after (v ∷ vs) c r ok toggles fewer =
     let c' = (next_group v c).1 in
@@ -240,9 +253,14 @@ shows_clear c r (inr emptied) =
     subst (λ (o : Option (List ℕ)). IfSome o (λ shown. shown ≡ up_to_return c.text)) (sym shown)
     (ap up_to_return (sym emptied.empty))
 
-all_behind : (vs : List Store) (c : Carousel) → AllByRecursion Toggles vs → TogglesBehind vs c
+pub all_behind : (vs : List Store) (c : Carousel) → AllByRecursion Toggles vs → TogglesBehind vs c
 all_behind [] c all = tt
-all_behind (v ∷ vs) c all = (λ begun. all.0, all_behind vs (next_group v c).1 all.1)
+all_behind (v ∷ vs) c all = (λ begun. each (main_service v).texts all.0, all_behind vs (next_group v c).1 all.1)
+  where
+    each : (ts : List StoredText) → AllByRecursion (λ (t : StoredText). t.toggle ≡ true) ts
+        → AllByRecursion (IsSet c.text) ts
+    each [] set = tt
+    each (t ∷ ts) set = (inr set.0, each ts set.1)
 
 pub no_text_is_mixed : NoTextIsMixed
 no_text_is_mixed vs c r ok all only =

@@ -1,6 +1,7 @@
 -- What is said in words without `same`, `bits` and `raw` keeps the toggle of each text set.
 use Rattle.std.proofs.Common.{◌≡◌, ℕ, zero, suc, ◌-◌, Bool, true, false, ◌&&◌, List, [], ◌∷◌, ◌++◌, map, replicate}
-use Rattle.std.proofs.Common.{flat_map, Ok, Option, Some, None, refl, sym, ap, subst, ◌∙◌, cond, append-nil, slice_get}
+use Rattle.std.proofs.Common.{flat_map, Ok, Option, Some, None, inl, inr, refl, sym, ap, subst, ◌∙◌, cond, append-nil}
+use Rattle.std.proofs.Common.{slice_get}
 use Rattle.std.proofs.Common.{if◌then◌else◌, eqb, nat_lt}
 use Rattle.std.specs.Prelude.{unwrap_or}
 use Rattle.std.specs.List.{AllByRecursion}
@@ -30,7 +31,7 @@ use Rattle.carousel.specs.Next.{aired, is_queued}
 use Rattle.promises.specs.AirLaws.{Toggles}
 use Rattle.promises.specs.Said.{Event, Comes, GoesOut, stores_of, IsPlainlySaid, IsSaid, EachToggles, TogglesStaySet}
 use Rattle.promises.specs.Said.{NoSaidTextIsMixed}
-use Rattle.promises.proofs.Mixing.{no_text_is_mixed}
+use Rattle.promises.proofs.Mixing.{all_behind, no_text_is_mixed, no_text_is_mixed_over_a_start}
 
 abbrev AreSet : List StoredText → Type 0
 AreSet texts = AllByRecursion (λ (t : StoredText). t.toggle ≡ true) texts
@@ -202,5 +203,8 @@ stores_set region (GoesOut ∷ events) v c said each =
     (main_set v each, stores_set region events (aired v c).1 (aired v c).2 said.1 (aired_set v c each))
 
 pub no_said_text_is_mixed : NoSaidTextIsMixed
-no_said_text_is_mixed region events v c r said each stores only =
+no_said_text_is_mixed region events v c r said each stores (inl only) =
     no_text_is_mixed (stores_of events v c) c r stores (stores_set region events v c said each) only
+no_said_text_is_mixed region events v c r said each stores (inr start) =
+    let vs = stores_of events v c in
+    no_text_is_mixed_over_a_start vs c r stores (all_behind vs c (stores_set region events v c said each)) start

@@ -1,8 +1,9 @@
--- Nothing false is shown.
-use Rattle.std.proofs.Common.{◌≡◌, ℕ, ◌+◌, ◌*◌, ◌<◌, Bool, true, false, List, [], ◌∷◌, Option, Some, None, refl, ap, sym, ◌∙◌}
+-- What is heard of a service that stays is the service's, whatever comes damaged.
+use Rattle.std.proofs.Common.{◌≡◌, ℕ, ◌+◌, ◌*◌, ◌<◌, ◌≤◌, Bool, true, false, List, [], ◌∷◌, length, Option, Some, None}
+use Rattle.std.proofs.Common.{refl, ap, sym, ◌∙◌}
 use Rattle.std.proofs.Common.{subst, arith, inl, if◌then◌else◌, ◌&&◌}
 use Rattle.std.specs.Prelude.{IfSome}
-use Rattle.std.specs.List.{All, AllByRecursion}
+use Rattle.std.specs.List.{All}
 use Rattle.rds_groups.specs.Groups.{pair, blocks}
 use Rattle.rds_store.specs.Value.{Store, ServiceData, StoredText}
 use Rattle.rds_groups.specs.Heard.{came}
@@ -13,38 +14,37 @@ use Rattle.carousel.specs.Carousel.{Carousel, blanks_left}
 use Rattle.carousel.specs.Texts.{line_up}
 use Rattle.carousel.specs.Service.{main_service}
 use Rattle.carousel.specs.Next.{sent, name_next, name_group, text_group, send_name, next_group}
-use Rattle.promises.specs.OnAir.{IsService, Has, Moment, after_damage}
-use Rattle.promises.specs.AirLaws.{NothingFalseIsShown}
+use Rattle.promises.specs.OnAir.{IsService, Has}
+use Rattle.promises.specs.AirLaws.{ShowsNothingFalse}
 use Rattle.promises.proofs.Words.{name_told, text_told}
 use Rattle.promises.proofs.AirHearing.{MayHold, pair_may}
 use Rattle.promises.proofs.Choice.{is_chosen, stays_started}
 use Rattle.promises.proofs.Steps.{next_is, part_step, on_air, fine}
-use Rattle.promises.proofs.TextRuns.{one_is_on, one_short}
+use Rattle.promises.proofs.TextRuns.{one_is_on}
 use Rattle.promises.proofs.AirLines.{text_may_show}
 use Rattle.promises.proofs.NamesInOrder.{HeardNames, names_by_name, kept_coming}
 
 -- what was heard is the service's
-record HeardOnly (s : ServiceData) (t : StoredText) (c : Carousel) (r : Receiver) : Type 0 where
-  pi : IfSome r.pi (λ pi. pi ≡ s.pi)
-  tp : IfSome r.tp (λ tp. tp ≡ s.tp)
-  pty : IfSome r.pty (λ pty. pty ≡ s.pty)
-  ta : IfSome r.ta (λ ta. ta ≡ s.ta)
-  music : IfSome r.music (λ music. music ≡ s.music)
-  names : HeardNames (λ name. name ≡ s.ps) c r
-  long : r.is_short ≡ false
-  text : (p : ℕ) → MayHold (r.text p) (sent t.bytes p)
+pub record HeardOnly (s : ServiceData) (t : StoredText) (c : Carousel) (r : Receiver) : Type 0 where
+  pub pi : IfSome r.pi (λ pi. pi ≡ s.pi)
+  pub tp : IfSome r.tp (λ tp. tp ≡ s.tp)
+  pub pty : IfSome r.pty (λ pty. pty ≡ s.pty)
+  pub ta : IfSome r.ta (λ ta. ta ≡ s.ta)
+  pub music : IfSome r.music (λ music. music ≡ s.music)
+  pub names : HeardNames (λ name. name ≡ s.ps) c r
+  pub long : r.is_short ≡ false
+  pub text : (p : ℕ) → MayHold (r.text p) (sent t.bytes p)
 
--- a segment of the text of which each block came or is missing
-text_may : (s : ServiceData) (c : Carousel) (bytes : List ℕ) (block3 block4 : Option ℕ) (q : Receiver)
+-- a segment of the text of which each block came or is missing, and what is left of before
+pub text_may : (s : ServiceData) (c : Carousel) (bytes : List ℕ) (block3 block4 : Option ℕ) (q : Receiver)
     → All (λ byte. byte < 256) c.text → c.text ≡ bytes
     → IsRightOrMissing (text_group s c).block3 block3 → IsRightOrMissing (text_group s c).block4 block4
-    → ((p : ℕ) → MayHold (q.text p) (sent bytes p)) → (p : ℕ)
+    → ((p : ℕ) → MayHold (left_of c.flag false q p) (sent bytes p)) → (p : ℕ)
     → MayHold ((text_told s c block3 block4 q).text p) (sent bytes p)
 text_may s c bytes block3 block4 q are_bytes same h3 h4 before p =
     let i = c.text_segment in
     let old = left_of c.flag false q in
-    let left : MayHold (old p) (sent bytes p) = kept (is_same q.flag c.flag && is_same q.is_short false) in
-    let left_now = subst (λ (xs : List ℕ). MayHold (old p) (sent xs p)) (sym same) left in
+    let left_now = subst (λ (xs : List ℕ). MayHold (old p) (sent xs p)) (sym same) (before p) in
     let first = pair_may c.text (2 * i) (4 * i) p block3 old are_bytes (omega arith) h3 left_now in
     let g2 : 4 * i + 2 ≡ 4 * i + 2 + 0 = omega arith in
     let g3 : 4 * i + 3 ≡ 4 * i + 2 + 1 = omega arith in
@@ -53,12 +53,17 @@ text_may s c bytes block3 block4 q are_bytes same h3 h4 before p =
     (subst (λ (n : ℕ). IsRightOrMissing (pair (sent c.text n) (sent c.text (4 * i + 3))) block4) g2 h4) in
     subst (λ (xs : List ℕ). MayHold ((text_told s c block3 block4 q).text p) (sent xs p)) same
     (pair_may c.text (2 * i + 1) (4 * i + 2) p block4 (placed (2 * i) block3 old) are_bytes (omega arith) h4_now first)
+
+-- all that was heard, or nothing
+pub left_or_nothing : (flag : Bool) (bytes : List ℕ) (q : Receiver) → ((p : ℕ) → MayHold (q.text p) (sent bytes p))
+    → (p : ℕ) → MayHold (left_of flag false q p) (sent bytes p)
+left_or_nothing flag bytes q before p = kept (is_same q.flag flag && is_same q.is_short false)
   where
     kept : (b : Bool) → MayHold ((if b then q.text else nothing) p) (sent bytes p)
     kept true = before p
     kept false = inl refl
 
-by_name : (s : ServiceData) (t : StoredText) (c : Carousel) → IsService s → (block4 : Option ℕ)
+pub by_name : (s : ServiceData) (t : StoredText) (c : Carousel) → IsService s → (block4 : Option ℕ)
     → IsRightOrMissing (name_group s (name_next s c)).block4 block4 → (q : Receiver) → HeardOnly s t c q
     → HeardOnly s t (send_name s c).1 (name_told s (name_next s c) block4 q)
 by_name s t c ok block4 h q good = by block4 (names_by_name (λ name. name ≡ s.ps) s c ok refl block4 h q good.names)
@@ -86,7 +91,7 @@ by_name s t c ok block4 h q good = by block4 (names_by_name (λ name. name ≡ s
       text = good.text;
     }
 
-step : (s : ServiceData) (t : StoredText) → IsService s → line_up s.texts ≡ t ∷ []
+pub step : (s : ServiceData) (t : StoredText) → IsService s → line_up s.texts ≡ t ∷ []
     → (v : Store) (d : GroupDamage) (c : Carousel) (r : Receiver) → blanks_left c ≡ 0 → Has s v
     → IsGroupDamage d → HeardOnly s t c r → HeardOnly s t (next_group v c).1
     (hears (came (damaged d (blocks (next_group v c).0))) r)
@@ -122,7 +127,7 @@ step s t ok e v d c r none has damage good =
       long = refl;
       names = record { coming = kept_coming s c q.coming g.names.coming; shown = g.names.shown };
       text = text_may s (on_air s c) t.bytes block3 block4 q (fine s c ok).are_bytes (one_is_on s t e c none).text h3 h4
-          g.text;
+          (left_or_nothing (on_air s c).flag t.bytes q g.text);
     })
     (λ q g. record {
       pi = g.pi;
@@ -135,41 +140,34 @@ step s t ok e v d c r none has damage good =
       names = record { coming = g.names.coming; shown = g.names.shown };
     })
 
-still_started : (v : Store) (c : Carousel) → blanks_left c ≡ 0 → blanks_left (next_group v c).1 ≡ 0
+pub still_started : (v : Store) (c : Carousel) → blanks_left c ≡ 0 → blanks_left (next_group v c).1 ≡ 0
 still_started v c none =
     next_is v c (λ sent. blanks_left sent.1 ≡ 0) (λ h. none)
     (λ h. ap blanks_left (is_chosen (line_up (main_service v).texts) c none)
     ∙ stays_started (line_up (main_service v).texts) c none) (λ h g gs e. none)
 
-all_steps : (s : ServiceData) (t : StoredText) → IsService s → line_up s.texts ≡ t ∷ []
-    → (ms : List Moment) (c : Carousel) (r : Receiver) → blanks_left c ≡ 0
-    → AllByRecursion (λ m. Has s m.store) ms → AllByRecursion (λ m. IsGroupDamage m.damage) ms → HeardOnly s t c r
-    → (e : Carousel) × HeardOnly s t e (after_damage ms c r)
-all_steps s t ok e [] c r none has damage good = (c, good)
-all_steps s t ok e (m ∷ ms) c r none has damage good =
-    all_steps s t ok e ms (next_group m.store c).1 (hears (came (damaged m.damage (blocks (next_group m.store c).0))) r)
-    (still_started m.store c none) has.1 damage.1
-    (step s t ok e m.store m.damage c r none has.0 damage.0 good)
+-- what is shown then
+pub shows_only : (s : ServiceData) (t : StoredText) (c : Carousel) (r : Receiver) → length t.bytes ≤ 64
+    → HeardOnly s t c r → ShowsNothingFalse s t r
+shows_only s t c r short heard = record {
+  pi = heard.pi;
+  tp = heard.tp;
+  pty = heard.pty;
+  ta = heard.ta;
+  music = heard.music;
+  name = heard.names.shown;
+  text = text_may_show t.bytes r short heard.long heard.text;
+}
 
-pub nothing_false_is_shown : NothingFalseIsShown
-nothing_false_is_shown s t ms c ok e none has damage =
-    let last = (all_steps s t ok e ms c switched_on none has damage
-    (record {
-      pi = tt;
-      tp = tt;
-      pty = tt;
-      ta = tt;
-      music = tt;
-      names = record { coming = inl refl; shown = tt };
-      long = refl;
-      text = λ p. inl refl;
-    })).1 in
-    record {
-      pi = last.pi;
-      tp = last.tp;
-      pty = last.pty;
-      ta = last.ta;
-      music = last.music;
-      name = last.names.shown;
-      text = text_may_show t.bytes (after_damage ms c switched_on) (one_short s t ok e).short last.long last.text;
-    }
+-- a receiver that was switched on has heard nothing
+pub nothing_heard : (s : ServiceData) (t : StoredText) (c : Carousel) → HeardOnly s t c switched_on
+nothing_heard s t c = record {
+  pi = tt;
+  tp = tt;
+  pty = tt;
+  ta = tt;
+  music = tt;
+  names = record { coming = inl refl; shown = tt };
+  long = refl;
+  text = λ p. inl refl;
+}

@@ -1,6 +1,6 @@
 -- The text of a service that stays is shown.
 use Rattle.std.proofs.Common.{◌≡◌, ◌≢◌, ◌⊎◌, ℕ, ◌+◌, ◌*◌, ◌/◌, ◌<◌, ◌≤◌, true, false, not, List, [], ◌∷◌, length}
-use Rattle.std.proofs.Common.{◌-◌, Option, Some, None, refl, ap, sym, ◌∙◌, subst, arith, inl, inr}
+use Rattle.std.proofs.Common.{◌-◌, Option, Some, refl, ap, sym, ◌∙◌, subst, arith, inl, inr}
 use Rattle.std.specs.List.{All, AllByRecursion}
 use Rattle.std.proofs.lemmas.Bool.{cases_lt, cases_eq}
 use Rattle.rds_groups.specs.Groups.{bit, blocks}
@@ -8,13 +8,14 @@ use Rattle.rds_store.specs.Value.{Store, ServiceData, StoredText}
 use Rattle.rds_groups.specs.Heard.{came}
 use Rattle.rds_groups.specs.Shown.{Receiver, hears}
 use Rattle.carousel.specs.Carousel.{Carousel, switched_on, blanks_left}
-use Rattle.carousel.specs.Texts.{line_up, segment_count, chosen, blanked, text_next}
+use Rattle.carousel.specs.Texts.{line_up, segment_count, chosen, text_next}
 use Rattle.carousel.specs.Next.{turn, sent, name_next, send_text, next_group, is_waiting}
 use Rattle.promises.specs.OnAir.{IsService, IsText, Has, after, carousel_after}
 use Rattle.promises.specs.AirLaws.{TextIsShown, waiting}
 use Rattle.promises.proofs.Words.{bit_small}
 use Rattle.promises.proofs.AirHearing.{texted_now, text_comes, text_stays, left_same}
-use Rattle.promises.proofs.Choice.{IsOn, on_or_off, off_begins, GoesOn, on_goes_on, is_blanked, is_chosen, stays_started}
+use Rattle.promises.proofs.Choice.{IsOn, on_or_off, off_begins, GoesOn, on_goes_on, is_blanked, is_chosen}
+use Rattle.promises.proofs.Choice.{stays_started}
 use Rattle.promises.proofs.Places.{far, far_below, nearer}
 use Rattle.promises.proofs.Steps.{step_is, comes, total, on_air, fine}
 use Rattle.promises.proofs.AirLines.{text_is_up_to_return}
@@ -36,11 +37,11 @@ one_is_on s t e c none = subst (IsOn t) (sym (one s t e c none)) (elim (on_or_of
   | inr off ↦ subst (IsOn t) (sym (off_begins t c off)) (record { text = refl; place = refl })
 ])
 
-one_goes_on : (s : ServiceData) (t : StoredText) → line_up s.texts ≡ t ∷ [] → (c : Carousel) → blanks_left c ≡ 0
+pub one_goes_on : (s : ServiceData) (t : StoredText) → line_up s.texts ≡ t ∷ [] → (c : Carousel) → blanks_left c ≡ 0
     → IsOn t c → GoesOn t c (on_air s c)
 one_goes_on s t e c none on = subst (GoesOn t c) (sym (one s t e c none)) (on_goes_on t c on)
 
-one_started : (s : ServiceData) (t : StoredText) → line_up s.texts ≡ t ∷ [] → (c : Carousel) → blanks_left c ≡ 0
+pub one_started : (s : ServiceData) (t : StoredText) → line_up s.texts ≡ t ∷ [] → (c : Carousel) → blanks_left c ≡ 0
     → blanks_left (on_air s c) ≡ 0
 one_started s t e c none = ap blanks_left (one s t e c none) ∙ stays_started (t ∷ []) c none
 

@@ -7,7 +7,7 @@ use Rattle.rds_store.specs.Value.{Store, ServiceData, StoredText}
 use Rattle.rds_groups.specs.Shown.{Receiver, text_shown, switched_on}
 use Rattle.rds_groups.specs.Damage.{IsGroupDamage}
 use Rattle.carousel.specs.Carousel.{Carousel, blanks_left}
-use Rattle.carousel.specs.Texts.{line_up, segment_count}
+use Rattle.carousel.specs.Texts.{no_text, line_up, segment_count}
 use Rattle.carousel.specs.Next.{sent, is_waiting, next_group}
 use Rattle.carousel.specs.Service.{main_service}
 use Rattle.promises.specs.OnAir.{IsService, IsStore, Has, after, carousel_after, Moment, after_damage}
@@ -40,13 +40,14 @@ waiting [] = 0
 waiting (v ∷ vs) = bit (is_waiting v.groups) + waiting vs
 
 -- And after two groups for each segment of its text, and two for each store where a free-format group waits, it shows
--- that text, where there is one, and an empty one where there is none: at most 32 groups where no group waits. At a start
--- two groups more for each empty one that is left of it.
+-- that text, where there is one, and an empty one where there is none: at most 32 groups where no group waits. At a
+-- start two groups more for each empty one that is left of it.
 abbrev pub TextIsShown : Type 0
 TextIsShown =
     (s : ServiceData) (t : StoredText) (vs : List Store) (c : Carousel) (r : Receiver)
     → IsService s → line_up s.texts ≡ t ∷ [] → AllByRecursion (Has s) vs
-    → 2 * (blanks_left c + segment_count t.bytes + waiting vs) ≤ length vs → text_shown (after vs c r) ≡ Some (up_to_return t.bytes)
+    → 2 * (blanks_left c + segment_count t.bytes + waiting vs) ≤ length vs
+    → text_shown (after vs c r) ≡ Some (up_to_return t.bytes)
 
 -- Traffic announcements are told within two groups.
 abbrev pub TrafficIsTold : Type 0
@@ -92,19 +93,27 @@ NoTextIsMixed =
     → IfSome (text_shown (after vs c r)) (λ shown. shown ≡ up_to_return (carousel_after vs c).text)
 
 -- ---- Over a start.
--- The toggle of each text is set in each of these stores that the carousel finds behind the first text of a start.
+-- The toggle of each text is set that is another than the one on the air.
+abbrev pub OthersToggle : Carousel → Store → Type 0
+OthersToggle c v =
+    AllByRecursion (λ (t : StoredText). (t.bytes ≡ c.text) ⊎ (t.toggle ≡ true)) (main_service v).texts
+
+-- So it is in each of these stores that the carousel finds once the first text of a start is on the air.
 abbrev pub TogglesBehind : List Store → Carousel → Type 0
 TogglesBehind [] c = Unit {0}
-TogglesBehind (v ∷ vs) c = (c.blanks ≡ None → Toggles v) × TogglesBehind vs (next_group v c).1
+TogglesBehind (v ∷ vs) c = (c.blanks ≡ None → OthersToggle c v) × TogglesBehind vs (next_group v c).1
 
--- Whatever a receiver held before, under whichever flag, and whatever it missed: once it heard one of the empty texts that
--- go out at a start, and misses no group behind it, it shows of a text the one that is on the air, or nothing, whatever
--- changes in the store and when, and whether the toggle of the first text is set or not. While that is the empty one it
--- shows an empty one.
+-- One of the groups of an empty text that a start sends is among the groups of these stores.
+abbrev pub StartIsHeard : List Store → Carousel → Type 0
+StartIsHeard vs c = blanks_left (carousel_after vs c) < blanks_left c
+
+-- Whatever a receiver held before, under whichever flag, and whatever it missed: once it heard one group of an empty
+-- text of a start, and misses no group behind that, it shows of a text the one that is on the air, which is the empty
+-- one at first, or nothing. The store may change at any time, and the first text of the start needs no toggle.
 abbrev pub NoTextIsMixedOverAStart : Type 0
 NoTextIsMixedOverAStart =
     (vs : List Store) (c : Carousel) (r : Receiver)
-    → AllByRecursion IsStore vs → TogglesBehind vs c → blanks_left (carousel_after vs c) < blanks_left c
+    → AllByRecursion IsStore vs → TogglesBehind vs c → StartIsHeard vs c
     → IfSome (text_shown (after vs c r)) (λ shown. shown ≡ up_to_return (carousel_after vs c).text)
 
 -- ---- Nothing false is shown.
@@ -119,9 +128,11 @@ pub record ShowsNothingFalse (s : ServiceData) (t : StoredText) (r : Receiver) :
   pub text : IfSome (text_shown r) (λ shown. shown ≡ up_to_return t.bytes)
 
 -- Whatever groups are damaged, if in each block no bit is wrong, one, two, or some of ten in a row, a receiver that was
--- switched on shows of a service that stays what it is, or nothing, where no empty text of a start is left.
+-- switched on shows of a service that stays what it is, or nothing; behind a start perhaps an empty text in its place.
 abbrev pub NothingFalseIsShown : Type 0
 NothingFalseIsShown =
     (s : ServiceData) (t : StoredText) (ms : List Moment) (c : Carousel)
-    → IsService s → line_up s.texts ≡ t ∷ [] → blanks_left c ≡ 0 → AllByRecursion (λ m. Has s m.store) ms
-    → AllByRecursion (λ m. IsGroupDamage m.damage) ms → ShowsNothingFalse s t (after_damage ms c switched_on)
+    → IsService s → line_up s.texts ≡ t ∷ [] → AllByRecursion (λ m. Has s m.store) ms
+    → AllByRecursion (λ m. IsGroupDamage m.damage) ms
+    → let r = after_damage ms c switched_on in
+    ShowsNothingFalse s t r ⊎ ((0 < blanks_left c) × ShowsNothingFalse s no_text r)

@@ -1,5 +1,5 @@
 -- What a station says in words, between the groups that go out.
-use Rattle.std.specs.Prelude.{ℕ, ◌≡◌, true, List, [], ◌∷◌, Some, IfSome}
+use Rattle.std.specs.Prelude.{ℕ, ◌≡◌, ◌⊎◌, true, List, [], ◌∷◌, Some, IfSome}
 use Rattle.std.specs.List.{AllByRecursion}
 use Rattle.std.specs.FinMap.{get}
 use Rattle.uecp_elements.specs.Grammar.{AreBytes}
@@ -14,7 +14,7 @@ use Rattle.rds_groups.specs.Shown.{Receiver, text_shown}
 use Rattle.carousel.specs.Carousel.{Carousel}
 use Rattle.carousel.specs.Next.{aired}
 use Rattle.promises.specs.OnAir.{IsStore, after, carousel_after}
-use Rattle.promises.specs.AirLaws.{HasHeardOnly, up_to_return}
+use Rattle.promises.specs.AirLaws.{HasHeardOnly, StartIsHeard, up_to_return}
 
 -- ---- What happens at an encoder that is on the air.
 -- A message comes, or the next group goes out.
@@ -55,11 +55,12 @@ pub record TogglesStaySet : Type 0 where
   pub take : (v : Store) → EachToggles v → EachToggles (group_taken v).0
 
 -- Law: where each message is said in such words, whatever it says and whenever it comes, a receiver that heard of a
--- text the one that is on the air, and misses no group, shows of a text the one that is on the air, or nothing: no mix.
+-- text the one that is on the air, or held anything and hears an empty text of a start, and misses no group, shows of a
+-- text the one that is on the air, or nothing: no mix.
 abbrev pub NoSaidTextIsMixed : Type 0
 NoSaidTextIsMixed =
     (region : Region) (events : List Event) (v : Store) (c : Carousel) (r : Receiver)
     → AllByRecursion (IsSaid region) events → EachToggles v → AllByRecursion IsStore (stores_of events v c)
-    → HasHeardOnly c r
+    → HasHeardOnly c r ⊎ StartIsHeard (stores_of events v c) c
     → IfSome (text_shown (after (stores_of events v c) c r))
     (λ shown. shown ≡ up_to_return (carousel_after (stores_of events v c) c).text)

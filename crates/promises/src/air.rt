@@ -33,7 +33,7 @@ pub fn no_text_is_mixed()
     ensures { NoTextIsMixed }
 {}
 
-/// Nor over a start of the encoder, for a receiver that heard an empty text of it.
+/// Nor over a start of the encoder, whatever a receiver held before that hears an empty text of it.
 pub fn no_text_is_mixed_over_a_start()
     ensures { NoTextIsMixedOverAStart }
 {}

@@ -16,8 +16,9 @@ returns-in-Ok g c =
     k.is_clean k.saves k.fails m.waits m.closes m.sends g.M.Input.Read.remaining g.M.Output.Write.contents
     c.args.limits.turns c.args.limits.store (standing c.in-Ok.encoder c.in-Ok.keeper c.args.log.now c.args.moments.now
     start c.args.limits.connections) (standing run.new.encoder run.new.keeper run.new.log run.new.moments
-    run.new.carousel left) went) g.E.Write.contents c.args.errors.now run.new.errors run.result c.new-carousel.result
-    c.new-carousel.ensures run.ensures.status run.ensures.done run.ensures.failed in
+    run.new.carousel left) went) g.E.Write.contents c.args.errors.now run.new.errors run.result
+    c.restarted-carousel.result
+    c.restarted-carousel.ensures run.ensures.status run.ensures.done run.ensures.failed in
     inl (record {
       encoder = c.in-Ok.encoder;
       keeper = c.in-Ok.keeper;

@@ -17,7 +17,7 @@ returns g c =
     g.M.Output.Write.contents c.args.limits.turns c.args.limits.store (standing c.args.encoder.now _ c.args.log.now
     c.args.moments.now start c.args.limits.connections) (standing run.new.encoder run.new.keeper run.new.log
     run.new.moments run.new.carousel left) went) g.E.Write.contents c.args.errors.now run.new.errors run.result
-    c.new-carousel.result c.new-carousel.ensures run.ensures.status run.ensures.done run.ensures.failed in (
+    c.restarted-carousel.result c.restarted-carousel.ensures run.ensures.status run.ensures.done run.ensures.failed in (
       _,
       run.new.keeper,
       run.new.encoder,

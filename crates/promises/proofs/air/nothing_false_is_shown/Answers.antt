@@ -1,4 +1,4 @@
-use Rattle.promises.proofs.Showing.{nothing_false_is_shown}
+use Rattle.promises.proofs.Starting.{nothing_false_is_shown}
 use Rattle.promises.proofs.air.nothing_false_is_shown.Goals as goal
 
 pub returns : goal.returns
