@@ -8,7 +8,7 @@ pub fn service_is_shown()
     ensures { ServiceIsShown }
 {}
 
-/// So is its text, after two groups for each segment.
+/// So is its text, after two groups for each segment, and for each empty text that a start has left.
 pub fn text_is_shown()
     ensures { TextIsShown }
 {}
