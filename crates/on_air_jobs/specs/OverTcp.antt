@@ -1,7 +1,6 @@
 -- A device on the air over TCP (profile).
-use Rattle.std.specs.Prelude.{◌≡◌, ◌⊎◌, ◌≤◌, ◌==◌, ◌&&◌, ℕ, Bool, true, false, List, codes, Option, Some, None, Result}
-use Rattle.std.specs.Prelude.{option_map, is_some, if◌then◌else◌}
-use Rattle.std.specs.String.{string_bytes}
+use Rattle.std.specs.Prelude.{◌≡◌, ◌⊎◌, ◌≤◌, ◌&&◌, ℕ, Bool, true, false, List, codes, Option, Some, None, Result}
+use Rattle.std.specs.Prelude.{is_some}
 use Rattle.std.specs.Net.Socket.{socket_ip, socket_port}
 use Rattle.rds_groups.specs.declared.group.Group.{Group}
 use Rattle.rds_store.specs.Value.{Store}
@@ -11,10 +10,11 @@ use Rattle.uecp_encoder.specs.Keeping.{Kept}
 use Rattle.uecp_jobs.specs.Setups.{IsSetup}
 use Rattle.kept_jobs.specs.Stops.{state_line}
 use Rattle.state_files.specs.declared.fault.StateFault.{StateFault}
-use Rattle.device_edges.specs.Place.{IsPlace, IsNoPlace}
+use Rattle.device_edges.specs.Screen.{Screening, Notice}
+use Rattle.device_jobs.specs.OverTcp.{IsPlaceOf, IsNoPlaceOf}
 use Rattle.device_edges.specs.declared.address.AddressFault.{AddressFault}
 use Rattle.device_serving.specs.Logging.{Log}
-use Rattle.device_jobs.specs.Limits.{options_of}
+use Rattle.device_jobs.specs.Limits.{options_of, limit_of}
 use Rattle.device_jobs.specs.Serving.{IsNoEncoder}
 use Rattle.air_serving.specs.declared.moments.Moment.{Moment}
 use Rattle.air_edges.specs.declared.form.AirForm.{AirForm}
@@ -25,15 +25,10 @@ use Rattle.air_edges.specs.Edge.{Edge, edge_at_first}
 use Rattle.commands.specs.declared.encoder_options.EncoderOptions.{EncoderOptions}
 use Rattle.on_air_jobs.specs.Serving.{HasBeenOnAir}
 
--- Where the job has it listen: 127.0.0.1 where that is left out.
-abbrev pub listen_text : (listen : Option (List ℕ)) → List ℕ
-listen_text None = codes "127.0.0.1"
-listen_text (Some text) = text
-
 -- The studio connects at the address and the port of the job; those who listen to the air, at the same address and the
 -- port of the air.
 pub record IsFoundAt (job : EncoderOptions) (places : Addresses) : Type 0 where
-  pub studio : IsPlace (listen_text (option_map string_bytes job.listen)) job.port places.studio
+  pub studio : IsPlaceOf job places.studio
   pub same_address : socket_ip places.air ≡ socket_ip places.studio
   pub air_port : job.air ≡ Some (socket_port places.air)
 
@@ -42,16 +37,13 @@ abbrev pub form_of : (air_bits : Bool) → AirForm
 form_of true = Bits
 form_of false = Lines
 
--- After how many seconds with nothing read a connection is given up; with 0 it is not.
-abbrev pub idle_of : (seconds : ℕ) → Option ℕ
-idle_of seconds = if seconds == 0 then None else Some seconds
-
--- The edge of the job: it listens at its places, sends groups in its form and gives a silent connection up at its
--- limit; nobody listens yet, no group went out, and this had been said before.
-abbrev pub IsEdgeOf : {H : Type 0} → EncoderOptions → (told : Option (List ℕ)) → Edge Listening H → Type 0
-IsEdgeOf job told edge = (places : Addresses) × IsFoundAt job places
-    × (edge ≡ edge_at_first (record { places = places; is_open = false }) (form_of job.air_bits) (idle_of job.idle)
-    told)
+-- The edge of the job: it listens at its places, sends groups in its form and gives a silent connection up at its limit;
+-- nobody listens yet, no group went out, and this had been said before, of those who listen and of foreign connections.
+abbrev pub IsEdgeOf : {H : Type 0} → EncoderOptions → (told : Option (List ℕ)) → Notice
+    → Edge (Screening Listening) H → Type 0
+IsEdgeOf job told notice edge = (places : Addresses) × IsFoundAt job places
+    × (edge ≡ edge_at_first (record { connect = record { places = places; is_open = false }; notice = notice })
+    (form_of job.air_bits) (limit_of job.idle) told)
 
 -- The log of the job, in which nothing stands yet: its form, with the time if that is asked for too, and whether it
 -- tells each event.
@@ -69,21 +61,22 @@ abbrev pub HasNotAired : EncoderOptions → (said said' : Option (List ℕ)) →
 HasNotAired job said said' status =
     ((job.air ≡ None) × (status ≡ 2) × Begins said said' (state_line (codes "air-bits: without --air")))
     ⊎ ((is_some job.faults ≡ true) × (status ≡ 2) × Begins said said' (state_line (codes "air: not with --faults")))
-    ⊎ ((fault : AddressFault) × IsNoPlace (listen_text (option_map string_bytes job.listen)) job.port fault
+    ⊎ ((fault : AddressFault) × IsNoPlaceOf job fault
     × (2 ≤ status) × (status ≤ 3))
     ⊎ IsNoEncoder (options_of job) said said' status
     ⊎ (IsSetup (options_of job) × (2 ≤ status) × (status ≤ 3))
 
-module _ {H I O K : Type 0} (waits : Edge Listening H → Bool → Moment I O → Edge Listening H → Type 0)
-    (closes : Edge Listening H → I → O → Edge Listening H → Type 0)
-    (sends : Edge Listening H → Group → Edge Listening H → Type 0) (remaining : I → Option (List ℕ))
+module _ {H I O K : Type 0} (waits : Edge (Screening Listening) H → Bool → Moment I O → Edge (Screening Listening) H → Type 0)
+    (closes : Edge (Screening Listening) H → I → O → Edge (Screening Listening) H → Type 0)
+    (sends : Edge (Screening Listening) H → Group → Edge (Screening Listening) H → Type 0) (remaining : I → Option (List ℕ))
     (contents : O → Option (List ℕ)) (gives : List ℕ → EncoderState Store → K → Type 0)
     (refuses : List ℕ → StateFault → Type 0) (ends : K → Result (Unit {0}) StateFault → Type 0) (most room : ℕ)
     (leaves : K → Kept Store → Type 0) (is_clean : K → Type 0) (saves fails : K → Kept Store → K → Type 0) where
   -- A device was on the air, as `run_on_air_from` says, over the job's edge and from its log; or it could not be begun.
-  abbrev pub HasAired : EncoderOptions → (told held said said' : Option (List ℕ)) → (status : ℕ) → Type 0
-  HasAired job told held said said' status =
-      ((edge : Edge Listening H) × (edge' : Edge Listening H) × (log : Log) × (log' : Log) × IsEdgeOf job told edge
+  abbrev pub HasAired : EncoderOptions → (told : Option (List ℕ)) → Notice → (held said said' : Option (List ℕ))
+      → (status : ℕ) → Type 0
+  HasAired job told notice held said said' status =
+      ((edge : Edge (Screening Listening) H) × (edge' : Edge (Screening Listening) H) × (log : Log) × (log' : Log) × IsEdgeOf job told notice edge
       × IsLogOf job held log
       × HasBeenOnAir waits closes sends remaining contents gives refuses ends most room leaves is_clean saves fails job
       edge edge' log log' said said' status)

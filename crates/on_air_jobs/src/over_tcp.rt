@@ -1,18 +1,17 @@
 //! A device on the air over TCP. Source: profile.
 ghost use Rattle.std.specs.Prelude.{◌≡◌, ◌≤◌, false, IfOk, MatchResult, option_map};
-ghost use Rattle.std.specs.String.{string_bytes};
 ghost use Rattle.uecp_jobs.specs.Setups.{IsSetup};
-ghost use Rattle.device_jobs.specs.Limits.{options_of};
-ghost use Rattle.device_edges.specs.Place.{IsPlace, IsNoPlace};
+ghost use Rattle.device_jobs.specs.Limits.{options_of, limit_of};
+ghost use Rattle.device_edges.specs.Screen.{unsaid};
 ghost use Rattle.air_edges.specs.Edge.{edge_at_first};
-ghost use Rattle.on_air_jobs.specs.OverTcp.{HasAired, HasNotAired, IsFoundAt, IsLogOf, listen_text, form_of, idle_of};
+ghost use Rattle.on_air_jobs.specs.OverTcp.{HasAired, HasNotAired, IsFoundAt, IsLogOf, form_of};
 
 use crate::serving::run_on_air_from;
-use air_edges::{Addresses, AirForm, OnAir, TcpSockets};
+use air_edges::{Addresses, AirForm, OnAir, ScreenedSockets, TcpSockets};
 use air_serving::Moments;
 use commands::EncoderOptions;
-use device_edges::{AddressFault, BindFault, HERE, Idle, listen_address};
-use device_jobs::{fail_address, fail_bind};
+use device_edges::{BindFault, Idle, Screened};
+use device_jobs::{address_of, fail_address, fail_bind, limit_of};
 use device_serving::LogLines;
 use kept_jobs::fail_state;
 use state_jobs::OpenStates;
@@ -25,7 +24,8 @@ use uecp_jobs::{Setup, fail, new_encoder};
 /// Is the device on the air that the job asks for, over TCP, and answers the exit status: that of
 /// [`run_on_air_from`](crate::run_on_air_from), or 2 where the address is none, the options describe no encoder, or a
 /// bad line is asked for too, and 3 where nobody can listen there. The groups go out at the same address as the job's,
-/// at the port of the air. What is wrong with those who listen to them is told on `notices`.
+/// at the port of the air. What is wrong with those who listen to them is told on `notices`, and on `foreign` that a
+/// connection was another protocol's, of which nothing is taken.
 pub fn run_on_air_over_tcp<
     'a,
     W: Write,
@@ -39,23 +39,24 @@ pub fn run_on_air_over_tcp<
     writer: &mut W,
     errors: &mut E,
     notices: &'a mut M,
+    foreign: &'a mut M,
     net: &'a N,
     states: &S,
 ) -> u8
     ensures status { result ≤ 3 }
-    ensures airs { HasAired ⟦<OnAir<'a, TcpSockets<'a, N>, TcpStream, M> as Moments>⟧.waits
-        ⟦<OnAir<'a, TcpSockets<'a, N>, TcpStream, M> as Moments>⟧.closes
-        ⟦<OnAir<'a, TcpSockets<'a, N>, TcpStream, M> as Moments>⟧.sends ⟦<Idle<TcpStream> as Read>⟧.remaining
+    ensures airs { HasAired ⟦<OnAir<'a, ScreenedSockets<TcpSockets<'a, N>, &'a mut M>, TcpStream, M> as Moments>⟧.waits
+        ⟦<OnAir<'a, ScreenedSockets<TcpSockets<'a, N>, &'a mut M>, TcpStream, M> as Moments>⟧.closes
+        ⟦<OnAir<'a, ScreenedSockets<TcpSockets<'a, N>, &'a mut M>, TcpStream, M> as Moments>⟧.sends ⟦<Screened<Idle<TcpStream>> as Read>⟧.remaining
         ⟦<TcpStream as Write>⟧.contents (S.gives_encoder states.now) (S.refuses_encoder states.now)
         (S.closes_encoder states.now) S.EncoderKeeper.TOGETHER_MAX S.EncoderKeeper.READ_MAX S.EncoderKeeper.leaves
         S.EncoderKeeper.is_clean S.EncoderKeeper.saves S.EncoderKeeper.fails job.now (M.contents notices.old)
-        (W.contents writer.old) (E.contents errors.old) (E.contents errors.new) result }
+        (unsaid (M.contents foreign.old)) (W.contents writer.old) (E.contents errors.old) (E.contents errors.new) result }
 {
     let places = match begin(alloc, job, errors) {
         Ok(places) => places,
         Err(status) => return status,
     };
-    match edge_of(alloc, net, job, places, notices) {
+    match edge_of(alloc, net, job, places, notices, foreign) {
         Err(fault) => fail_bind(fault, errors),
         Ok(mut edge) => {
             let mut log = log_of(alloc, job, net, writer);
@@ -90,16 +91,19 @@ fn edge_of<'a, N: Net<Listener = TcpListener, Stream = TcpStream> + Clock, M: Wr
     job: &EncoderOptions,
     places: Addresses,
     notices: &'a mut M,
-) -> Result<OnAir<'a, TcpSockets<'a, N>, TcpStream, M>, BindFault>
-    ensures { IfOk result (λ edge. edge ≡ edge_at_first (record { places = places; is_open = false })
-        (form_of job.now.air_bits) (idle_of job.now.idle) (M.contents notices.old)) }
+    foreign: &'a mut M,
+) -> Result<OnAir<'a, ScreenedSockets<TcpSockets<'a, N>, &'a mut M>, TcpStream, M>, BindFault>
+    ensures { IfOk result (λ edge. edge ≡ edge_at_first (record {
+      connect = record { places = places; is_open = false };
+      notice = unsaid (M.contents foreign.old);
+    }) (form_of job.now.air_bits) (limit_of job.now.idle) (M.contents notices.old)) }
 {
-    let sockets = TcpSockets::new(alloc, net, places)?;
+    let sockets = ScreenedSockets::new(TcpSockets::new(alloc, net, places)?, foreign);
     match OnAir::new(
         alloc,
         sockets,
         form_of(job.air_bits),
-        idle_of(job.idle),
+        limit_of(job.idle),
         notices,
     ) {
         Ok(edge) => Ok(edge),
@@ -116,13 +120,6 @@ fn form_of(air_bits: bool) -> AirForm
     } else {
         AirForm::Lines
     }
-}
-
-/// A limit of so many seconds; none where it is 0.
-fn idle_of(seconds: u32) -> Option<u32>
-    ensures { result ≡ idle_of seconds }
-{
-    if seconds == 0 { None } else { Some(seconds) }
 }
 
 /// The log of the job.
@@ -155,23 +152,11 @@ fn places_of<E: Write>(job: &EncoderOptions, errors: &mut E) -> Result<Addresses
         let _ = fail_state("air: not with --faults", errors);
         return Err(2);
     }
-    match studio_of(job) {
+    match address_of(job) {
         Ok(studio) => Ok(Addresses {
             studio,
             air: SocketAddr::new(studio.ip(), air),
         }),
         Err(fault) => Err(fail_address(fault, errors)),
-    }
-}
-
-/// The address and port at which the studio connects.
-fn studio_of(job: &EncoderOptions) -> Result<SocketAddr, AddressFault>
-    ensures { MatchResult result (λ place. IsPlace (listen_text (option_map string_bytes job.now.listen)) job.now.port
-        place)
-        (λ fault. IsNoPlace (listen_text (option_map string_bytes job.now.listen)) job.now.port fault) }
-{
-    match &job.listen {
-        Some(text) => listen_address(text.as_str(), job.port),
-        None => listen_address(HERE, job.port),
     }
 }

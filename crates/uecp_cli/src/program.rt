@@ -54,7 +54,7 @@ use uecp_watch::watch;
 pub struct Hands<'a, M: Write, F: Write> {
     /// The descriptor of standard input.
     pub input: RawFd,
-    /// Where it is said that a connection is lost while nothing is sent.
+    /// Where it is said that a connection is lost while nothing is sent, or was another protocol's.
     pub losses: &'a mut M,
     /// Where it is said what is waited for.
     pub notices: &'a mut M,
@@ -322,13 +322,18 @@ fn be_device<
     net: &N,
     states: &S,
 ) -> u8 {
-    if options.air.is_some() || options.air_bits {
-        return run_on_air_over_tcp(alloc, options, writer, errors, hands.notices, net, states);
-    }
     let Hands {
-        notices, effects, ..
+        input: _,
+        losses,
+        notices,
+        effects,
     } = hands;
-    run_device_over_tcp(alloc, options, writer, errors, effects, notices, net, states)
+    if options.air.is_some() || options.air_bits {
+        return run_on_air_over_tcp(alloc, options, writer, errors, notices, losses, net, states);
+    }
+    run_device_over_tcp(
+        alloc, options, writer, errors, effects, notices, net, states,
+    )
 }
 
 /// Sends the messages of the input, with the server's state in a file where one is given, over TCP, and answers the
