@@ -5,8 +5,8 @@
 //! - [`OnAir`]: a [`Moments`](air_serving::Moments) over [`Sockets`]; [`AirForm`] says in which form the groups go out.
 //! - [`Sockets`]: what the machine gives: a clock, one wait, and connections; [`Came`] is what came. [`Hears`] is the
 //!   connection to one who listens, and [`Taken`] what it took.
-//! - [`TcpSockets`]: the same over TCP, at its [`Addresses`]; [`ScreenedSockets`]: the same over others, with nothing taken
-//!   of what is another protocol's.
+//! - [`TcpSockets`]: the same over TCP, at its [`Addresses`]; [`ScreenedSockets`]: the same over others, with nothing
+//!   taken of what is another protocol's.
 #![tactic(auto)]
 
 mod door;

@@ -47,7 +47,8 @@ impl<S: Sockets, W: Write> Sockets for ScreenedSockets<S, W> {
 
     ghost reads = { λ s now s'. S.reads s.connect now s'.connect × (s'.notice ≡ s.notice) };
 
-    ghost waits = { λ s is_open limit came s'. S.waits s.connect is_open limit came s'.connect × (s'.notice ≡ s.notice) };
+    ghost waits = { λ s is_open limit came s'. S.waits s.connect is_open limit came s'.connect
+        × (s'.notice ≡ s.notice) };
 
     ghost opens = { λ s ends s'. OpensScreened S.opens s ends s' };
 

@@ -1,5 +1,6 @@
 -- What is handed on still, as first bytes are read, judged and handed on.
-use Rattle.std.proofs.Common.{◌≡◌, ℕ, Bool, true, false, List, [], ◌++◌, length, take, refl, sym, ap, ◌∙◌, subst, append-nil}
+use Rattle.std.proofs.Common.{◌≡◌, ℕ, Bool, true, false, List, [], ◌++◌, length, take, refl, sym, ap, ◌∙◌, subst}
+use Rattle.std.proofs.Common.{append-nil}
 use Rattle.std.proofs.Common.{append_assoc, arith, ◌≤◌, zero, suc, ◌∷◌}
 use lib.ListN.{get_or}
 use Rattle.std.specs.Bool.{⊤}

@@ -1,5 +1,6 @@
 -- What first bytes tell of a connection they tell whatever comes behind them.
-use Rattle.std.proofs.Common.{◌≡◌, ℕ, Bool, true, false, ◌&&◌, ◌||◌, List, [], ◌∷◌, ◌++◌, refl, sym, ap, ◌∙◌, nat_eq, arith, leb, length, ◌≤◌}
+use Rattle.std.proofs.Common.{◌≡◌, ℕ, Bool, true, false, ◌&&◌, ◌||◌, List, [], ◌∷◌, ◌++◌, refl, sym, ap, ◌∙◌, nat_eq}
+use Rattle.std.proofs.Common.{arith, leb, length, ◌≤◌}
 use Rattle.std.proofs.lemmas.Bool.{and_parts, eqb-true, leb-true, false≢true}
 use Rattle.std.specs.List.{list_any, list_all, starts_with}
 use lib.Pointwise.{pointwise}
@@ -25,8 +26,10 @@ eq_swap x y = go (nat_eq x y) (nat_eq y x) refl refl
     go : (s t : Bool) → nat_eq x y ≡ s → nat_eq y x ≡ t → s ≡ t
     go true true e d = refl
     go false false e d = refl
-    go true false e d = absurd (false≢true (sym d ∙ ap (λ z. nat_eq z x) (sym (eqb-true x y e)) ∙ ap (λ z. nat_eq x z) (eqb-true x y e) ∙ e))
-    go false true e d = absurd (false≢true (sym e ∙ ap (λ z. nat_eq z y) (sym (eqb-true y x d)) ∙ ap (λ z. nat_eq y z) (eqb-true y x d) ∙ d))
+    go true false e d = absurd (false≢true (sym d ∙ ap (λ z. nat_eq z x) (sym (eqb-true x y e))
+        ∙ ap (λ z. nat_eq x z) (eqb-true x y e) ∙ e))
+    go false true e d = absurd (false≢true (sym e ∙ ap (λ z. nat_eq z y) (sym (eqb-true y x d))
+        ∙ ap (λ z. nat_eq y z) (eqb-true y x d) ∙ d))
 
 never : (o a b : List ℕ) → starts_with nat_eq a o ≡ false → starts_with nat_eq o a ≡ false
     → starts_with nat_eq (a ++ b) o ≡ false

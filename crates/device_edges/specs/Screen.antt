@@ -1,5 +1,6 @@
 -- A connection whose first bytes are those of another protocol (profile).
-use Rattle.std.specs.Prelude.{◌≡◌, ◌⊎◌, ◌<◌, ℕ, nat_eq, Bool, true, false, if◌then◌else◌, List, [], ◌∷◌, ◌++◌, codes, length, take}
+use Rattle.std.specs.Prelude.{◌≡◌, ◌⊎◌, ◌<◌, ℕ, nat_eq, Bool, true, false, if◌then◌else◌, List, [], ◌∷◌, ◌++◌, codes}
+use Rattle.std.specs.Prelude.{length, take}
 use Rattle.std.specs.Prelude.{Option, Some, None, option_map}
 use Rattle.std.specs.Io.KnownBytes.{Appends}
 use Rattle.std.specs.List.{list_any, starts_with}
@@ -7,8 +8,8 @@ use Rattle.uecp_encoder.specs.Metered.{counted}
 use Rattle.device_edges.specs.declared.screen.Phase.{Phase}
 use Rattle.device_edges.specs.declared.screen.Phase.TheVariants.{Judging, Ours, Foreign}
 
--- With what the connections of HTTP and TLS begin: a method and a space (RFC 9110, 9.1; RFC 5789; RFC 9113, 3.4), and the
--- record of a handshake (RFC 8446, 5.1).
+-- With what the connections of HTTP and TLS begin: a method and a space (RFC 9110, 9.1; RFC 5789; RFC 9113, 3.4), and
+-- the record of a handshake (RFC 8446, 5.1).
 abbrev pub openings : List (List ℕ)
 openings = codes "GET " ∷ codes "HEAD " ∷ codes "POST " ∷ codes "PUT " ∷ codes "DELETE " ∷ codes "CONNECT "
     ∷ codes "OPTIONS " ∷ codes "TRACE " ∷ codes "PATCH " ∷ codes "PRI " ∷ (22 ∷ 3 ∷ []) ∷ []

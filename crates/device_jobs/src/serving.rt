@@ -102,7 +102,8 @@ fn serve_unkept<W: Write, T: Clock, E: Write, C: Connections>(
 ) -> u8
     requires { encoder.old ≡ encoder_at_first (options_in setup.now) }
     ensures status { (result ≡ 0) ⊎ (result ≡ 3) }
-    ensures serves { ServesUnkept C.opens C.closes C.Input.remaining C.Output.contents (options_in setup.now) limits.turns
+    ensures serves { ServesUnkept C.opens C.closes C.Input.remaining C.Output.contents (options_in setup.now)
+        limits.turns
         limits.connections limits.store connect.old connect.new log.old log.new (E.contents errors.old)
         (E.contents errors.new) result }
     ensures loan { log.new.loan ≡ log.old.loan }

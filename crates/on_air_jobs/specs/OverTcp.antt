@@ -37,8 +37,9 @@ abbrev pub form_of : (air_bits : Bool) → AirForm
 form_of true = Bits
 form_of false = Lines
 
--- The edge of the job: it listens at its places, sends groups in its form and gives a silent connection up at its limit;
--- nobody listens yet, no group went out, and this had been said before, of those who listen and of foreign connections.
+-- The edge of the job: it listens at its places, sends groups in its form and gives a silent connection up at its
+-- limit; nobody listens yet, no group went out, and this had been said before, of those who listen and of foreign
+-- connections.
 abbrev pub IsEdgeOf : {H : Type 0} → EncoderOptions → (told : Option (List ℕ)) → Notice
     → Edge (Screening Listening) H → Type 0
 IsEdgeOf job told notice edge = (places : Addresses) × IsFoundAt job places
@@ -66,9 +67,11 @@ HasNotAired job said said' status =
     ⊎ IsNoEncoder (options_of job) said said' status
     ⊎ (IsSetup (options_of job) × (2 ≤ status) × (status ≤ 3))
 
-module _ {H I O K : Type 0} (waits : Edge (Screening Listening) H → Bool → Moment I O → Edge (Screening Listening) H → Type 0)
+module _ {H I O K : Type 0} (waits : Edge (Screening Listening) H → Bool → Moment I O → Edge (Screening Listening) H
+    → Type 0)
     (closes : Edge (Screening Listening) H → I → O → Edge (Screening Listening) H → Type 0)
-    (sends : Edge (Screening Listening) H → Group → Edge (Screening Listening) H → Type 0) (remaining : I → Option (List ℕ))
+    (sends : Edge (Screening Listening) H → Group → Edge (Screening Listening) H → Type 0)
+    (remaining : I → Option (List ℕ))
     (contents : O → Option (List ℕ)) (gives : List ℕ → EncoderState Store → K → Type 0)
     (refuses : List ℕ → StateFault → Type 0) (ends : K → Result (Unit {0}) StateFault → Type 0) (most room : ℕ)
     (leaves : K → Kept Store → Type 0) (is_clean : K → Type 0) (saves fails : K → Kept Store → K → Type 0) where
@@ -76,7 +79,8 @@ module _ {H I O K : Type 0} (waits : Edge (Screening Listening) H → Bool → M
   abbrev pub HasAired : EncoderOptions → (told : Option (List ℕ)) → Notice → (held said said' : Option (List ℕ))
       → (status : ℕ) → Type 0
   HasAired job told notice held said said' status =
-      ((edge : Edge (Screening Listening) H) × (edge' : Edge (Screening Listening) H) × (log : Log) × (log' : Log) × IsEdgeOf job told notice edge
+      ((edge : Edge (Screening Listening) H) × (edge' : Edge (Screening Listening) H) × (log : Log) × (log' : Log)
+      × IsEdgeOf job told notice edge
       × IsLogOf job held log
       × HasBeenOnAir waits closes sends remaining contents gives refuses ends most room leaves is_clean saves fails job
       edge edge' log log' said said' status)

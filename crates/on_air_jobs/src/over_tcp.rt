@@ -50,7 +50,8 @@ pub fn run_on_air_over_tcp<
         ⟦<TcpStream as Write>⟧.contents (S.gives_encoder states.now) (S.refuses_encoder states.now)
         (S.closes_encoder states.now) S.EncoderKeeper.TOGETHER_MAX S.EncoderKeeper.READ_MAX S.EncoderKeeper.leaves
         S.EncoderKeeper.is_clean S.EncoderKeeper.saves S.EncoderKeeper.fails job.now (M.contents notices.old)
-        (unsaid (M.contents foreign.old)) (W.contents writer.old) (E.contents errors.old) (E.contents errors.new) result }
+        (unsaid (M.contents foreign.old)) (W.contents writer.old) (E.contents errors.old) (E.contents errors.new)
+        result }
 {
     let places = match begin(alloc, job, errors) {
         Ok(places) => places,

@@ -1,11 +1,25 @@
--- What comes of the commands whose values are made of their options: groups on the air, a ladder, a display, and
--- conformance cases (profile).
-use Rattle.std.specs.Prelude.{◌≡◌, ℕ, IsTrue, List, Option, MatchOption}
+-- What comes of the commands whose values are made of their options: groups on the air, a ladder, an encoder that is a
+-- device, a display, conformance cases, and a page (profile).
+use Rattle.std.specs.Prelude.{◌≡◌, ◌||◌, ℕ, Bool, true, false, IsTrue, List, Option, None, is_some, MatchOption, Result}
+use Rattle.rds_store.specs.Value.{Store}
+use Rattle.uecp_encoder.specs.State.{EncoderState}
+use Rattle.uecp_encoder.specs.Keeping.{Kept}
+use Rattle.state_files.specs.declared.fault.StateFault.{StateFault}
+use Rattle.device_edges.specs.Place.{Listens, ComesTo, GoesFrom}
+use Rattle.device_edges.specs.Screen.{Screen, Screening, Notice, OpensScreened, ClosesScreened}
+use Rattle.device_jobs.specs.Serving.{HasServedDevice}
+use Rattle.device_jobs.specs.OverTcp.{HasServedTcp}
+use Rattle.air_edges.specs.Places.{Listening, OpensOne}
+use Rattle.air_edges.specs.Edge.{Waits, ClosesEnds, SendsGroup}
+use Rattle.on_air_jobs.specs.OverTcp.{HasAired}
+use Rattle.page_server.specs.Serving.{EndsWith}
+use Rattle.commands.specs.Jobs.{is_device}
+use Rattle.commands.specs.declared.encoder_options.EncoderOptions.{EncoderOptions}
 use Rattle.commands.specs.declared.answer_options.AnswerOptions.{AnswerOptions}
 use Rattle.commands.specs.declared.line_options.LadderForm.{LadderForm}
 use Rattle.commands.specs.declared.line_options.LineOptions.{LineOptions}
 use Rattle.commands.specs.declared.job.Job.{Job}
-use Rattle.commands.specs.declared.job.Job.TheVariants.{AnswerWith, LineWith, Receive, Conformance}
+use Rattle.commands.specs.declared.job.Job.TheVariants.{AnswerWith, LineWith, EncoderWith, Receive, Conformance, Page}
 use Rattle.uecp_jobs.specs.Setups.{Options}
 use Rattle.uecp_jobs.specs.Setups as setup
 use Rattle.air_jobs.specs.AirJobs as air
@@ -48,17 +62,54 @@ pub record DrawsLadder (o : LineOptions) (status : ℕ) (unread unread' held hel
   pub done : status ≡ 0 → ladder.IsDone job unread unread' held held'
   pub refused : status ≡ 1 → ladder.IsRefused job unread unread' held held' told told'
 
--- What comes of such a job that ended with status 0 or 1. Of a display of lines, of a device, of `send` and of the page
--- this says nothing.
-module _ {I O : Type 0} (remaining : I → Option (List ℕ)) (contents : O → Option (List ℕ)) where
+-- Of these options of the encoder it is one on the air.
+abbrev pub is_on_air : EncoderOptions → Bool
+is_on_air o = is_some o.air || o.air_bits
+
+-- What comes of such a job that ended with status 0 or 1, over the sockets of the machine, where states are kept so. Of
+-- a display of lines and of `send` this says nothing.
+module _ {I J O K : Type 0} (remaining : I → Option (List ℕ)) (screened : Screen J → Option (List ℕ))
+    (contents : O → Option (List ℕ)) (gives : List ℕ → EncoderState Store → K → Type 0)
+    (refuses : List ℕ → StateFault → Type 0) (ends : K → Result (Unit {0}) StateFault → Type 0) (most room : ℕ)
+    (leaves : K → Kept Store → Type 0) (is_clean : K → Type 0) (saves fails : K → Kept Store → K → Type 0) where
+  -- The encoder is a device with a good line: it served over connections that came where the options have it listen.
+  abbrev pub ServesDevice : EncoderOptions → (held held' told told' : Option (List ℕ)) → (status : ℕ) → Type 0
+  ServesDevice o held held' told told' status =
+      HasServedTcp (HasServedDevice {C = Screening Listens} {I = Screen J} {O = O} (OpensScreened ComesTo)
+      (ClosesScreened GoesFrom) screened contents gives refuses ends most room leaves is_clean saves fails o) o held
+      held' told told' status
+
+  -- It is on the air there, whatever had been said of those who listen, and of foreign connections, before.
+  abbrev pub IsOnAir : EncoderOptions → (held told told' : Option (List ℕ)) → (status : ℕ) → Type 0
+  IsOnAir o held told told' status =
+      (said : Option (List ℕ)) × (notice : Notice)
+      × HasAired {H = O} {I = Screen J} {O = O}
+      (λ e is_open moment e'. Waits {S = Screening Listening} (λ s now s'. (s'.connect ≡ s.connect)
+      × (s'.notice ≡ s.notice)) (λ s is_open limit came s'. (s'.connect ≡ s.connect) × (s'.notice ≡ s.notice))
+      (λ s ends s'. OpensScreened OpensOne s ends s')
+      (λ s hearer s'. (s'.connect ≡ s.connect) × (s'.notice ≡ s.notice)) e is_open moment e')
+      (λ e input output e'. ClosesEnds {S = Screening Listening} (λ s input output s'. ClosesScreened
+      (λ l _ _ l'. l' ≡ record l { is_open = false }) s input output s') e input output e')
+      (λ e group e'. SendsGroup (λ _ _ _ _. Unit {0}) contents e group e') screened contents gives refuses ends most
+      room leaves is_clean saves fails o said notice held told told' status
+
+  -- So of an encoder that is a device: on the air, or with a good line.
+  abbrev pub ComesOfDevice : EncoderOptions → (held held' told told' : Option (List ℕ)) → (status : ℕ) → Type 0
+  ComesOfDevice o held held' told told' status =
+      (IsTrue (is_on_air o) → IsOnAir o held told told' status)
+      × (is_on_air o ≡ false → o.faults ≡ None → ServesDevice o held held' told told' status)
+
   abbrev pub ComesOf : Job → (status : ℕ) → (unread unread' held held' told told' : Option (List ℕ)) → Type 0
   ComesOf (AnswerWith o) status unread unread' held held' told told' =
       MatchOption o.air (Unit {0}) (AnswersOnAir o status unread unread' held held' told told')
   ComesOf (LineWith o) status unread unread' held held' told told' =
       MatchOption o.ladder (Unit {0}) (DrawsLadder o status unread unread' held held' told told')
+  ComesOf (EncoderWith o) status unread unread' held held' told told' =
+      IsTrue (is_device o) → ComesOfDevice o held held' told told' status
   ComesOf (Receive o) status unread unread' held held' told told' =
       IsTrue o.bits → ReceivesBits o.form o.time status unread unread' held held' told told'
   ComesOf (Conformance o) status unread unread' held held' told told' =
       RunsBuiltIn DialsQuietlyAgain (λ (d : DialsQuietly) (input : I) (output : O) (d' : DialsQuietly). d' ≡ d)
       remaining contents o held held' status
+  ComesOf (Page o) status unread unread' held held' told told' = EndsWith unread unread' status
   ComesOf job status unread unread' held held' told told' = Unit {0}

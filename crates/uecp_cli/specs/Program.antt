@@ -159,10 +159,10 @@ HasKept gives_encoder encoder_leaves encoder_clean gives_server server_leaves se
     held held'
 
 -- The words ask for a job, and this comes of it.
-abbrev pub HasCome : {I O : Type 0} → (remaining : I → Option (List ℕ)) → (contents : O → Option (List ℕ))
+abbrev pub HasCome : (comes : Job → (status : ℕ) → (unread unread' held held' told told' : Option (List ℕ)) → Type 0)
     → (words : List (List ℕ)) → (status : ℕ) → (unread unread' held held' told told' : Option (List ℕ)) → Type 0
-HasCome remaining contents words status unread unread' held held' told told' =
-    (job : Job) × Asks words job × ComesOf remaining contents job status unread unread' held held' told told'
+HasCome comes words status unread unread' held held' told told' =
+    (job : Job) × Asks words job × comes job status unread unread' held held' told told'
 
 -- The words ask for nothing that can be done: they are mistaken, or give a list of services that is none or a form of a
 -- ladder that is none, or ask for a job whose options describe no encoder. The first and the third are said by clap,

@@ -7,6 +7,7 @@ ghost use Rattle.uecp_text.specs.Faults.{Fails, error_lines};
 ghost use Rattle.uecp_text.specs.Written.{Begins};
 ghost use Rattle.uecp_watch.specs.Watching.{Watches};
 ghost use Rattle.uecp_jobs.specs.EncoderRun.{IsEncoder};
+ghost use Rattle.commands.specs.Jobs.{is_device};
 ghost use Rattle.uecp_jobs.specs.Jobs.{IsUndescribed};
 ghost use Rattle.uecp_jobs.specs.ServerRun.{IsServer};
 ghost use Rattle.commands.specs.declared.job.Job.TheVariants.{EncoderWith, ServerWith};
@@ -18,7 +19,7 @@ ghost use Rattle.uecp_cli.specs.Program.{IsApart, IsJobDone, IsJobRefused, IsJob
 ghost use Rattle.uecp_cli.specs.Program.{DialsFor, HasCome};
 ghost use Rattle.uecp_cli.specs.Kept.{HasServedLines, SaysWhyOf, ServesKeptAs, SendsDone, SendsRefused, SendsStopped};
 ghost use Rattle.uecp_cli.specs.Kept.{SendsKeptAs, SendsNotAll};
-ghost use Rattle.uecp_cli.specs.Apart.{ComesOf, AnswersOnAir, DrawsLadder};
+ghost use Rattle.uecp_cli.specs.Apart.{ComesOf, ComesOfDevice, AnswersOnAir, DrawsLadder};
 
 use crate::unreached::say_unreached;
 use air_jobs::{AirJob, run_answer_on_air};
@@ -28,7 +29,7 @@ use commands::{
     ServerOptions, is_device,
 };
 use conformance_command::run_conformance_over_tcp;
-use device_edges::Screening;
+use device_edges::{Idle, Screened, Screening};
 use device_jobs::{run_device_over_tcp, run_encoder_in};
 use ladders::{LadderJob, run_ladder};
 use line_feed::{Arrival, LineFeed};
@@ -111,9 +112,13 @@ pub fn run_words<
         S.EncoderKeeper.is_clean (S.gives_server states.now) S.ServerKeeper.leaves S.ServerKeeper.is_clean
         (map string_bytes words.now) (R.remaining reader.old) (R.remaining reader.new) (W.contents writer.old)
         (W.contents writer.new)) }
-    // 0 or 1: this comes of groups on the air, a ladder, a display of bits, and conformance cases.
+    // 0 or 1: this comes of groups on the air, a ladder, an encoder that is a device, a display of bits, conformance
+    // cases, and a page.
     ensures comes { (result ≡ 0) ⊎ (result ≡ 1) → AskForText (map string_bytes words.now)
-        ⊎ HasCome ⟦<TcpStream as Read>⟧.remaining ⟦<TcpStream as Write>⟧.contents (map string_bytes words.now) result
+        ⊎ HasCome (ComesOf ⟦<TcpStream as Read>⟧.remaining ⟦<Screened<Idle<TcpStream>> as Read>⟧.remaining
+        ⟦<TcpStream as Write>⟧.contents (S.gives_encoder states.now) (S.refuses_encoder states.now)
+        (S.closes_encoder states.now) S.EncoderKeeper.TOGETHER_MAX S.EncoderKeeper.READ_MAX S.EncoderKeeper.leaves
+        S.EncoderKeeper.is_clean S.EncoderKeeper.saves S.EncoderKeeper.fails) (map string_bytes words.now) result
         (R.remaining reader.old) (R.remaining reader.new) (W.contents writer.old) (W.contents writer.new)
         (E.contents errors.old) (E.contents errors.new) }
 {
@@ -161,7 +166,11 @@ fn run_asked<
         (R.remaining reader.new) (W.contents writer.old) (W.contents writer.new) }
     // 0 or 1: this comes of what is made of the options of a command.
     ensures comes { (result ≡ 0) ⊎ (result ≡ 1) → ComesOf ⟦<TcpStream as Read>⟧.remaining
-        ⟦<TcpStream as Write>⟧.contents job.now result (R.remaining reader.old) (R.remaining reader.new)
+        ⟦<Screened<Idle<TcpStream>> as Read>⟧.remaining
+        ⟦<TcpStream as Write>⟧.contents (S.gives_encoder states.now) (S.refuses_encoder states.now)
+        (S.closes_encoder states.now) S.EncoderKeeper.TOGETHER_MAX S.EncoderKeeper.READ_MAX S.EncoderKeeper.leaves
+        S.EncoderKeeper.is_clean S.EncoderKeeper.saves S.EncoderKeeper.fails job.now result (R.remaining reader.old)
+        (R.remaining reader.new)
         (W.contents writer.old) (W.contents writer.new) (E.contents errors.old) (E.contents errors.new) }
 {
     match job {
@@ -286,6 +295,13 @@ fn serve<
     ensures kept { result ≡ 0 → IsApart (EncoderWith options.now)
         ⊎ ServesKeptAs (S.gives_encoder states.now) S.EncoderKeeper.leaves S.EncoderKeeper.is_clean options.now
         (W.contents writer.old) (W.contents writer.new) }
+    ensures comes { IsTrue (is_device options.now) → ComesOfDevice ⟦<TcpStream as Read>⟧.remaining
+        ⟦<Screened<Idle<TcpStream>> as Read>⟧.remaining
+        ⟦<TcpStream as Write>⟧.contents (S.gives_encoder states.now) (S.refuses_encoder states.now)
+        (S.closes_encoder states.now) S.EncoderKeeper.TOGETHER_MAX S.EncoderKeeper.READ_MAX S.EncoderKeeper.leaves
+        S.EncoderKeeper.is_clean S.EncoderKeeper.saves S.EncoderKeeper.fails options.now (W.contents writer.old)
+        (W.contents writer.new)
+        (E.contents errors.old) (E.contents errors.new) result }
 {
     if is_device(options) {
         return be_device(alloc, options, writer, errors, hands, net, states);
@@ -321,7 +337,14 @@ fn be_device<
     hands: Hands<'_, M, F>,
     net: &N,
     states: &S,
-) -> u8 {
+) -> u8
+    ensures { ComesOfDevice ⟦<TcpStream as Read>⟧.remaining ⟦<Screened<Idle<TcpStream>> as Read>⟧.remaining
+        ⟦<TcpStream as Write>⟧.contents (S.gives_encoder states.now) (S.refuses_encoder states.now)
+        (S.closes_encoder states.now) S.EncoderKeeper.TOGETHER_MAX S.EncoderKeeper.READ_MAX S.EncoderKeeper.leaves
+        S.EncoderKeeper.is_clean S.EncoderKeeper.saves S.EncoderKeeper.fails options.now (W.contents writer.old)
+        (W.contents writer.new)
+        (E.contents errors.old) (E.contents errors.new) result }
+{
     let Hands {
         input: _,
         losses,

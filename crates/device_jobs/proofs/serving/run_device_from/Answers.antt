@@ -22,5 +22,10 @@ returns-clause-serves g c =
     let limits = c.limits_of-limits.ensures in
     inl (
       rw c.as_slice.ensures.value at c.in-Ok.ensures.described,
-      rw none (rw (c.as_slice.ensures.value, limits.turns, limits.connections, limits.store) at c.serve_unkept.ensures.serves),
+      rw none (rw (
+        c.as_slice.ensures.value,
+        limits.turns,
+        limits.connections,
+        limits.store,
+      ) at c.serve_unkept.ensures.serves),
     )

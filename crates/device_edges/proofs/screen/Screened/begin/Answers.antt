@@ -3,7 +3,8 @@ use Rattle.std.proofs.KnownBytes.{Keeps-trans}
 use Rattle.std.specs.Io.KnownBytes.{Keeps, Consumes}
 use Rattle.device_edges.specs.declared.screen.Phase.TheVariants.{Judging, Ours, Foreign}
 use Rattle.device_edges.specs.Screen.{left}
-use Rattle.device_edges.proofs.FirstBytes.{of, begun, untold, read_after, consumes_after, first_ours, first_foreign, first_held, nothing_left}
+use Rattle.device_edges.proofs.FirstBytes.{of, begun, untold, read_after, consumes_after, first_ours, first_foreign}
+use Rattle.device_edges.proofs.FirstBytes.{first_held, nothing_left}
 use Rattle.device_edges.proofs.screen.Screened.begin.Goals as goal
 
 pub hold-requires-clause-begun : goal.hold-requires-clause-begun
@@ -14,7 +15,8 @@ pub returns-in-Ours-clause-bytes : goal.returns-in-Ours-clause-bytes
 returns-in-Ours-clause-bytes g c = (
   consumes_after _ _ _ (take c.in_ok-count.count c.read.new.buf)
       (begun g.R.Read.remaining _ c.args.self.now c.self.view_is c.requires.phase)
-      (first_ours (g.R.Read.remaining c.self.inside.reader) (g.R.Read.remaining c.read.new.self) c.self.inside.first.items
+      (first_ours (g.R.Read.remaining c.self.inside.reader) (g.R.Read.remaining c.read.new.self)
+      c.self.inside.first.items
       (take c.in_ok-count.count c.read.new.buf) (ap (λ s. s.first) c.self.view_is ∙ c.requires.first)
       c.in_ok-count.ensures.bytes.0 (sym c.phase_of.ensures ∙ c.in-Ours.is)),
   λ none. absurd (c.if-count-eq0.false none),
@@ -42,5 +44,6 @@ returns-in-Judging-clause-bytes g c =
     let judging : c.self.inside.phase ≡ Judging = ap (λ s. s.phase) c.self.view_is ∙ c.requires.phase in
     read_after _ _ _ c.go_on.result c.go_on.new.buf
     (Keeps-trans _ _ _ (begun g.R.Read.remaining _ c.args.self.now c.self.view_is c.requires.phase)
-    (subst (λ p. Keeps (of Judging c.self.inside.first.items rest) (of p c.hold.new.first.items rest')) (sym judging) held))
+    (subst (λ p. Keeps (of Judging c.self.inside.first.items rest) (of p c.hold.new.first.items rest')) (sym judging)
+    held))
     c.go_on.ensures.bytes
