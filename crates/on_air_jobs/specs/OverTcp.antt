@@ -10,7 +10,7 @@ use Rattle.uecp_encoder.specs.Keeping.{Kept}
 use Rattle.uecp_jobs.specs.Setups.{IsSetup}
 use Rattle.kept_jobs.specs.Stops.{state_line}
 use Rattle.state_files.specs.declared.fault.StateFault.{StateFault}
-use Rattle.device_edges.specs.Screen.{Screening, Notice}
+use Rattle.device_edges.specs.Screen.{Screen, Screening, Notice, OpensScreened, ClosesScreened}
 use Rattle.device_jobs.specs.OverTcp.{IsPlaceOf, IsNoPlaceOf}
 use Rattle.device_edges.specs.declared.address.AddressFault.{AddressFault}
 use Rattle.device_serving.specs.Logging.{Log}
@@ -20,8 +20,8 @@ use Rattle.air_serving.specs.declared.moments.Moment.{Moment}
 use Rattle.air_edges.specs.declared.form.AirForm.{AirForm}
 use Rattle.air_edges.specs.declared.form.AirForm.TheVariants.{Lines, Bits}
 use Rattle.air_edges.specs.declared.tcp.Addresses.{Addresses}
-use Rattle.air_edges.specs.Places.{Listening}
-use Rattle.air_edges.specs.Edge.{Edge, edge_at_first}
+use Rattle.air_edges.specs.Places.{Listening, OpensOne}
+use Rattle.air_edges.specs.Edge.{Edge, edge_at_first, Waits, ClosesEnds, SendsGroup}
 use Rattle.commands.specs.declared.encoder_options.EncoderOptions.{EncoderOptions}
 use Rattle.on_air_jobs.specs.Serving.{HasBeenOnAir}
 
@@ -85,3 +85,38 @@ module _ {H I O K : Type 0} (waits : Edge (Screening Listening) H → Bool → M
       × HasBeenOnAir waits closes sends remaining contents gives refuses ends most room leaves is_clean saves fails job
       edge edge' log log' said said' status)
       ⊎ HasNotAired job said said' status
+
+-- ---- Over the sockets of the machine, of which nothing more is known.
+
+-- They stay, and nothing is said of foreign connections.
+abbrev pub Stays : (s s' : Screening Listening) → Type 0
+Stays s s' = (s'.connect ≡ s.connect) × (s'.notice ≡ s.notice)
+
+abbrev pub WaitsTcp : {H J O : Type 0} → Edge (Screening Listening) H → Bool → Moment (Screen J) O
+    → Edge (Screening Listening) H → Type 0
+WaitsTcp {H} {J} {O} e is_open moment e' =
+    Waits {S = Screening Listening} {H = H} {I = Screen J} {O = O} (λ s now s'. Stays s s')
+    (λ s is_open limit came s'. Stays s s') (λ s ends s'. OpensScreened OpensOne s ends s')
+    (λ s hearer s'. Stays s s') e is_open moment e'
+
+abbrev pub ClosesTcp : {H J O : Type 0} → Edge (Screening Listening) H → Screen J → O → Edge (Screening Listening) H
+    → Type 0
+ClosesTcp {H} {J} {O} e input output e' =
+    ClosesEnds {S = Screening Listening} {H = H} {I = Screen J} {O = O} (λ s input output s'. ClosesScreened
+    (λ l _ _ l'. l' ≡ record l { is_open = false }) s input output s') e input output e'
+
+abbrev pub SendsTcp : {H : Type 0} → (contents : H → Option (List ℕ)) → Edge (Screening Listening) H → Group
+    → Edge (Screening Listening) H → Type 0
+SendsTcp contents e group e' = SendsGroup (λ _ _ _ _. Unit {0}) contents e group e'
+
+module _ {J O K : Type 0} (screened : Screen J → Option (List ℕ)) (contents : O → Option (List ℕ))
+    (gives : List ℕ → EncoderState Store → K → Type 0) (refuses : List ℕ → StateFault → Type 0)
+    (ends : K → Result (Unit {0}) StateFault → Type 0) (most room : ℕ) (leaves : K → Kept Store → Type 0)
+    (is_clean : K → Type 0) (saves fails : K → Kept Store → K → Type 0) where
+  -- A device was on the air so over them, or could not be begun.
+  abbrev pub HasAiredTcp : EncoderOptions → (told : Option (List ℕ)) → Notice → (held said said' : Option (List ℕ))
+      → (status : ℕ) → Type 0
+  HasAiredTcp =
+      HasAired {H = O} {I = Screen J} {O = O} (λ e is_open moment e'. WaitsTcp e is_open moment e')
+      (λ e input output e'. ClosesTcp e input output e') (λ e group e'. SendsTcp contents e group e') screened contents
+      gives refuses ends most room leaves is_clean saves fails

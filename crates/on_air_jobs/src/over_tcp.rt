@@ -4,11 +4,10 @@ ghost use Rattle.uecp_jobs.specs.Setups.{IsSetup};
 ghost use Rattle.device_jobs.specs.Limits.{options_of, limit_of};
 ghost use Rattle.device_edges.specs.Screen.{unsaid};
 ghost use Rattle.air_edges.specs.Edge.{edge_at_first};
-ghost use Rattle.on_air_jobs.specs.OverTcp.{HasAired, HasNotAired, IsFoundAt, IsLogOf, form_of};
+ghost use Rattle.on_air_jobs.specs.OverTcp.{HasAiredTcp, HasNotAired, IsFoundAt, IsLogOf, form_of};
 
 use crate::serving::run_on_air_from;
 use air_edges::{Addresses, AirForm, OnAir, ScreenedSockets, TcpSockets};
-use air_serving::Moments;
 use commands::EncoderOptions;
 use device_edges::{BindFault, Idle, Screened};
 use device_jobs::{address_of, fail_address, fail_bind, limit_of};
@@ -44,14 +43,11 @@ pub fn run_on_air_over_tcp<
     states: &S,
 ) -> u8
     ensures status { result ≤ 3 }
-    ensures airs { HasAired ⟦<OnAir<'a, ScreenedSockets<TcpSockets<'a, N>, &'a mut M>, TcpStream, M> as Moments>⟧.waits
-        ⟦<OnAir<'a, ScreenedSockets<TcpSockets<'a, N>, &'a mut M>, TcpStream, M> as Moments>⟧.closes
-        ⟦<OnAir<'a, ScreenedSockets<TcpSockets<'a, N>, &'a mut M>, TcpStream, M> as Moments>⟧.sends ⟦<Screened<Idle<TcpStream>> as Read>⟧.remaining
-        ⟦<TcpStream as Write>⟧.contents (S.gives_encoder states.now) (S.refuses_encoder states.now)
-        (S.closes_encoder states.now) S.EncoderKeeper.TOGETHER_MAX S.EncoderKeeper.READ_MAX S.EncoderKeeper.leaves
-        S.EncoderKeeper.is_clean S.EncoderKeeper.saves S.EncoderKeeper.fails job.now (M.contents notices.old)
-        (unsaid (M.contents foreign.old)) (W.contents writer.old) (E.contents errors.old) (E.contents errors.new)
-        result }
+    ensures airs { HasAiredTcp ⟦<Screened<Idle<TcpStream>> as Read>⟧.remaining ⟦<TcpStream as Write>⟧.contents
+        (S.gives_encoder states.now) (S.refuses_encoder states.now) (S.closes_encoder states.now)
+        S.EncoderKeeper.TOGETHER_MAX S.EncoderKeeper.READ_MAX S.EncoderKeeper.leaves S.EncoderKeeper.is_clean
+        S.EncoderKeeper.saves S.EncoderKeeper.fails job.now (M.contents notices.old) (unsaid (M.contents foreign.old))
+        (W.contents writer.old) (E.contents errors.old) (E.contents errors.new) result }
 {
     let places = match begin(alloc, job, errors) {
         Ok(places) => places,

@@ -9,9 +9,7 @@ use Rattle.device_edges.specs.Place.{Listens, ComesTo, GoesFrom}
 use Rattle.device_edges.specs.Screen.{Screen, Screening, Notice, OpensScreened, ClosesScreened}
 use Rattle.device_jobs.specs.Serving.{HasServedDevice}
 use Rattle.device_jobs.specs.OverTcp.{HasServedTcp}
-use Rattle.air_edges.specs.Places.{Listening, OpensOne}
-use Rattle.air_edges.specs.Edge.{Waits, ClosesEnds, SendsGroup}
-use Rattle.on_air_jobs.specs.OverTcp.{HasAired}
+use Rattle.on_air_jobs.specs.OverTcp.{HasAiredTcp}
 use Rattle.page_server.specs.Serving.{EndsWith}
 use Rattle.commands.specs.Jobs.{is_device}
 use Rattle.commands.specs.declared.encoder_options.EncoderOptions.{EncoderOptions}
@@ -82,16 +80,8 @@ module _ {I J O K : Type 0} (remaining : I → Option (List ℕ)) (screened : Sc
   -- It is on the air there, whatever had been said of those who listen, and of foreign connections, before.
   abbrev pub IsOnAir : EncoderOptions → (held told told' : Option (List ℕ)) → (status : ℕ) → Type 0
   IsOnAir o held told told' status =
-      (said : Option (List ℕ)) × (notice : Notice)
-      × HasAired {H = O} {I = Screen J} {O = O}
-      (λ e is_open moment e'. Waits {S = Screening Listening} (λ s now s'. (s'.connect ≡ s.connect)
-      × (s'.notice ≡ s.notice)) (λ s is_open limit came s'. (s'.connect ≡ s.connect) × (s'.notice ≡ s.notice))
-      (λ s ends s'. OpensScreened OpensOne s ends s')
-      (λ s hearer s'. (s'.connect ≡ s.connect) × (s'.notice ≡ s.notice)) e is_open moment e')
-      (λ e input output e'. ClosesEnds {S = Screening Listening} (λ s input output s'. ClosesScreened
-      (λ l _ _ l'. l' ≡ record l { is_open = false }) s input output s') e input output e')
-      (λ e group e'. SendsGroup (λ _ _ _ _. Unit {0}) contents e group e') screened contents gives refuses ends most
-      room leaves is_clean saves fails o said notice held told told' status
+      (said : Option (List ℕ)) × (notice : Notice) × HasAiredTcp screened contents gives refuses ends most room leaves
+      is_clean saves fails o said notice held told told' status
 
   -- So of an encoder that is a device: on the air, or with a good line.
   abbrev pub ComesOfDevice : EncoderOptions → (held held' told told' : Option (List ℕ)) → (status : ℕ) → Type 0
