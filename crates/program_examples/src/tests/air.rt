@@ -110,6 +110,34 @@ fn store_sent(rt: HostRuntime) {
     holds!(rt; is_sent(&mut carousel, &mut store, &["C201 6555 1234 5678"]));
 }
 
+/// Half of what a start sends first: a name of spaces, and an empty text under flag 0.
+const START: &[&str] = &[
+    "C201 0000 E0E0 2020",
+    "C201 2000 0D20 2020",
+    "C201 0001 E0E0 2020",
+    "C201 2000 0D20 2020",
+    "C201 0002 E0E0 2020",
+    "C201 2000 0D20 2020",
+    "C201 0003 E0E0 2020",
+    "C201 2000 0D20 2020",
+];
+
+#[test]
+fn start_sent(rt: HostRuntime) {
+    let mut store = match RdsStore::new(rt.alloc(), 1, &[0x01]) {
+        Ok(store) => store,
+        Err(_) => return,
+    };
+    let mut carousel = Carousel::restarted();
+    store.apply(&[0x01, 0x00, 0x00, 0xc2, 0x01]);
+    store.apply(b"\x0a\x00\x00\x05\x00News");
+    holds!(rt; is_sent(&mut carousel, &mut store, START));
+    holds!(rt; is_sent(&mut carousel, &mut store, START));
+    // The text, whose toggle is not set, goes out under flag 1.
+    holds!(rt; is_sent(&mut carousel, &mut store, &["C201 0000 E0E0 2020", "C201 2010 4E65 7773"]));
+    holds!(rt; is_sent(&mut carousel, &mut store, &["C201 0001 E0E0 2020", "C201 2011 0D20 2020"]));
+}
+
 #[test]
 fn bits_of_another_sender(rt: HostRuntime) {
     let mut receiver = Receiver::new();
