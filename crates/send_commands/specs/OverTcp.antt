@@ -7,9 +7,10 @@ use Rattle.uecp_text.specs.Written.{Begins}
 use Rattle.uecp_link.specs.Server.{ServerState}
 use Rattle.uecp_net.specs.declared.saved.keep.Progress.{Progress}
 use Rattle.uecp_net.specs.Keeping.{KeptServer}
-use Rattle.uecp_net.specs.Tcp.{Dials}
+use Rattle.uecp_net.specs.Tcp.{Dials, DialsAgain}
 use Rattle.state_files.specs.declared.fault.StateFault.{StateFault}
-use Rattle.live_edges.specs.Patience.{Dialled}
+use Rattle.live_edges.specs.Heard.{Heard}
+use Rattle.live_edges.specs.Patience.{Dialled, OpensAtLast, GivesBack}
 use Rattle.live_edges.specs.declared.patience.Patience.{Patience}
 use Rattle.commands.specs.declared.send_options.SendOptions.{SendOptions}
 use Rattle.send_commands.specs.Job.{HasSentLive}
@@ -71,3 +72,14 @@ module _ {I O K : Type 0} (opens : Dialled Dials → Option (I × O) → Dialled
       × HasSentLive opens closes remaining contents gives refuses ends leaves is_clean saves fails job station dialled
       dialled' unread unread' held held' begun said' status)
       ⊎ HasNotBegun job held held' said said' status
+
+-- So over TCP: each connection is dialled as the job says, and nothing more is known of it.
+module _ {J O K : Type 0} (remaining : Heard J → Option (List ℕ)) (contents : O → Option (List ℕ))
+    (gives : (path : List ℕ) → ServerState → Progress → K → Type 0) (refuses : List ℕ → StateFault → Type 0)
+    (ends : K → Result (Unit {0}) StateFault → Type 0) (leaves : K → KeptServer → Type 0) (is_clean : K → Type 0)
+    (saves fails : K → KeptServer → K → Type 0) where
+  abbrev pub HasSentTcp : SendOptions → (told unread held held' said said' : Option (List ℕ)) → (status : ℕ) → Type 0
+  HasSentTcp =
+      HasSentOver {I = Heard J} {O = O} (λ d given d'. OpensAtLast DialsAgain d given d')
+      (λ d input output d'. GivesBack (λ c _ _ c'. c' ≡ c) d input output d') remaining contents gives refuses ends
+      leaves is_clean saves fails

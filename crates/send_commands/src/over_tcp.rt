@@ -1,7 +1,7 @@
 //! The job `send` over TCP, with lines from a reader. Source: profile.
 ghost use Rattle.std.specs.Prelude.{◌≡◌, ◌≤◌, [], None, IfOk, IfErr};
 ghost use Rattle.send_commands.specs.Job.{IsSendable};
-ghost use Rattle.send_commands.specs.OverTcp.{HasSentOver, DialsLive, limit_of};
+ghost use Rattle.send_commands.specs.OverTcp.{HasSentTcp, DialsLive, limit_of};
 
 use crate::run::run_send;
 use crate::station::{StationFault, read_station};
@@ -18,7 +18,7 @@ use std::net::{Net, TcpStream};
 use std::time::Clock;
 use uecp_frame::Message;
 use uecp_jobs::fail;
-use uecp_net::{Connections, Dialing};
+use uecp_net::Dialing;
 use uecp_text::RunFault;
 
 /// What the connections of `send` are dialled with.
@@ -53,13 +53,12 @@ pub fn run_send_over_tcp<
     states: &S,
 ) -> u8
     requires { IsSendable job.now }
-    ensures { HasSentOver ⟦<Patient<'a, Dialing<'a, N>, N, M> as Connections>⟧.opens
-        ⟦<Patient<'a, Dialing<'a, N>, N, M> as Connections>⟧.closes
-        ⟦<ReadMeter<TcpStream> as Read>⟧.remaining ⟦<TcpStream as Write>⟧.contents
+    ensures sent { HasSentTcp ⟦<ReadMeter<TcpStream> as Read>⟧.remaining ⟦<TcpStream as Write>⟧.contents
         (S.gives_server states.now) (S.refuses_server states.now) (S.closes_server states.now)
         S.ServerKeeper.leaves S.ServerKeeper.is_clean S.ServerKeeper.saves S.ServerKeeper.fails job.now
         (M.contents notices.old) (R.remaining reader.old) teller.old.held teller.new.held (E.contents errors.old)
         (E.contents errors.new) result }
+    ensures writer { teller.new.writer ≡ teller.old.writer }
 {
     let Dialling { net, watch } = dialling;
     let alloc = teller.alloc();

@@ -1,5 +1,5 @@
 -- What comes of the commands whose values are made of their options: groups on the air, a ladder, an encoder that is a
--- device, a display, conformance cases, and a page (profile).
+-- device, `send`, a display, conformance cases, and a page (profile).
 use Rattle.std.specs.Prelude.{◌≡◌, ◌||◌, ℕ, Bool, true, false, IsTrue, List, Option, None, is_some, MatchOption, Result}
 use Rattle.rds_store.specs.Value.{Store}
 use Rattle.uecp_encoder.specs.State.{EncoderState}
@@ -11,13 +11,20 @@ use Rattle.device_jobs.specs.Serving.{HasServedDevice}
 use Rattle.device_jobs.specs.OverTcp.{HasServedTcp}
 use Rattle.on_air_jobs.specs.OverTcp.{HasAiredTcp}
 use Rattle.page_server.specs.Serving.{EndsWith}
+use Rattle.uecp_link.specs.Server.{ServerState}
+use Rattle.uecp_net.specs.declared.saved.keep.Progress.{Progress}
+use Rattle.uecp_net.specs.Keeping.{KeptServer}
+use Rattle.live_edges.specs.Heard.{Heard}
+use Rattle.send_commands.specs.OverTcp.{HasSentTcp}
+use Rattle.commands.specs.declared.send_options.SendOptions.{SendOptions}
 use Rattle.commands.specs.Jobs.{is_device}
 use Rattle.commands.specs.declared.encoder_options.EncoderOptions.{EncoderOptions}
 use Rattle.commands.specs.declared.answer_options.AnswerOptions.{AnswerOptions}
 use Rattle.commands.specs.declared.line_options.LadderForm.{LadderForm}
 use Rattle.commands.specs.declared.line_options.LineOptions.{LineOptions}
 use Rattle.commands.specs.declared.job.Job.{Job}
-use Rattle.commands.specs.declared.job.Job.TheVariants.{AnswerWith, LineWith, EncoderWith, Receive, Conformance, Page}
+use Rattle.commands.specs.declared.job.Job.TheVariants.{AnswerWith, LineWith, EncoderWith, Send, Receive, Conformance}
+use Rattle.commands.specs.declared.job.Job.TheVariants.{Page}
 use Rattle.uecp_jobs.specs.Setups.{Options}
 use Rattle.uecp_jobs.specs.Setups as setup
 use Rattle.air_jobs.specs.AirJobs as air
@@ -64,8 +71,24 @@ pub record DrawsLadder (o : LineOptions) (status : ℕ) (unread unread' held hel
 abbrev pub is_on_air : EncoderOptions → Bool
 is_on_air o = is_some o.air || o.air_bits
 
--- What comes of such a job that ended with status 0 or 1, over the sockets of the machine, where states are kept so. Of
--- a display of lines and of `send` this says nothing.
+-- What comes of `send` that ended with status 0 or 1, whatever had been said of its connections before.
+module _ {I O K : Type 0} (metered : Heard I → Option (List ℕ)) (contents : O → Option (List ℕ))
+    (gives : (path : List ℕ) → ServerState → Progress → K → Type 0) (refuses : List ℕ → StateFault → Type 0)
+    (ends : K → Result (Unit {0}) StateFault → Type 0) (leaves : K → KeptServer → Type 0) (is_clean : K → Type 0)
+    (saves fails : K → KeptServer → K → Type 0) where
+  abbrev pub ComesOfSend : SendOptions → (unread held held' told told' : Option (List ℕ)) → (status : ℕ) → Type 0
+  ComesOfSend o unread held held' told told' status =
+      (said : Option (List ℕ)) × HasSentTcp metered contents gives refuses ends leaves is_clean saves fails o said
+      unread held held' told told' status
+
+  -- So where it is asked for.
+  abbrev pub ComesOfLines : Job → (status : ℕ) → (unread unread' held held' told told' : Option (List ℕ)) → Type 0
+  ComesOfLines (Send o) status unread unread' held held' told told' =
+      ComesOfSend o unread held held' told told' status
+  ComesOfLines job status unread unread' held held' told told' = Unit {0}
+
+-- What comes of the others that ended so, over the sockets of the machine, where states are kept so. Of a display of
+-- lines this says nothing.
 module _ {I J O K : Type 0} (remaining : I → Option (List ℕ)) (screened : Screen J → Option (List ℕ))
     (contents : O → Option (List ℕ)) (gives : List ℕ → EncoderState Store → K → Type 0)
     (refuses : List ℕ → StateFault → Type 0) (ends : K → Result (Unit {0}) StateFault → Type 0) (most room : ℕ)

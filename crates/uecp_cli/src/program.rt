@@ -19,7 +19,8 @@ ghost use Rattle.uecp_cli.specs.Program.{IsApart, IsJobDone, IsJobRefused, IsJob
 ghost use Rattle.uecp_cli.specs.Program.{DialsFor, HasCome};
 ghost use Rattle.uecp_cli.specs.Kept.{HasServedLines, SaysWhyOf, ServesKeptAs, SendsDone, SendsRefused, SendsStopped};
 ghost use Rattle.uecp_cli.specs.Kept.{SendsKeptAs, SendsNotAll};
-ghost use Rattle.uecp_cli.specs.Apart.{ComesOf, ComesOfDevice, AnswersOnAir, DrawsLadder};
+ghost use Rattle.uecp_cli.specs.Apart.{ComesOf, ComesOfDevice, ComesOfLines, ComesOfSend, AnswersOnAir};
+ghost use Rattle.uecp_cli.specs.Apart.{DrawsLadder};
 
 use crate::unreached::say_unreached;
 use air_jobs::{AirJob, run_answer_on_air};
@@ -33,7 +34,7 @@ use device_edges::{Idle, Screened, Screening};
 use device_jobs::{run_device_over_tcp, run_encoder_in};
 use ladders::{LadderJob, run_ladder};
 use line_feed::{Arrival, LineFeed};
-use live_edges::{Polled, Watch};
+use live_edges::{Polled, ReadMeter, Watch};
 use on_air_jobs::run_on_air_over_tcp;
 use page_server::run_page_over_tcp;
 use receive_command::{run_receive, run_receive_bits};
@@ -121,6 +122,14 @@ pub fn run_words<
         S.EncoderKeeper.is_clean S.EncoderKeeper.saves S.EncoderKeeper.fails) (map string_bytes words.now) result
         (R.remaining reader.old) (R.remaining reader.new) (W.contents writer.old) (W.contents writer.new)
         (E.contents errors.old) (E.contents errors.new) }
+    // 0 or 1: and this of `send`.
+    ensures sends { (result ≡ 0) ⊎ (result ≡ 1) → AskForText (map string_bytes words.now)
+        ⊎ HasCome (ComesOfLines ⟦<ReadMeter<TcpStream> as Read>⟧.remaining ⟦<TcpStream as Write>⟧.contents
+        (S.gives_server states.now) (S.refuses_server states.now) (S.closes_server states.now)
+        S.ServerKeeper.leaves S.ServerKeeper.is_clean S.ServerKeeper.saves S.ServerKeeper.fails)
+        (map string_bytes words.now) result (R.remaining reader.old)
+        (R.remaining reader.new) (W.contents writer.old) (W.contents writer.new) (E.contents errors.old)
+        (E.contents errors.new) }
 {
     match parse(alloc, words) {
         Ok(job) => run_asked(alloc, &job, reader, writer, errors, hands, net, states),
@@ -172,6 +181,13 @@ fn run_asked<
         S.EncoderKeeper.is_clean S.EncoderKeeper.saves S.EncoderKeeper.fails job.now result (R.remaining reader.old)
         (R.remaining reader.new)
         (W.contents writer.old) (W.contents writer.new) (E.contents errors.old) (E.contents errors.new) }
+    ensures sends { (result ≡ 0) ⊎ (result ≡ 1) → ComesOfLines ⟦<ReadMeter<TcpStream> as Read>⟧.remaining
+        ⟦<TcpStream as Write>⟧.contents
+        (S.gives_server states.now) (S.refuses_server states.now) (S.closes_server states.now)
+        S.ServerKeeper.leaves S.ServerKeeper.is_clean S.ServerKeeper.saves S.ServerKeeper.fails job.now result
+        (R.remaining reader.old)
+        (R.remaining reader.new) (W.contents writer.old) (W.contents writer.new) (E.contents errors.old)
+        (E.contents errors.new) }
 {
     match job {
         Job::AnswerWith(options) => match options.air {
@@ -474,6 +490,11 @@ fn send<
     states: &S,
 ) -> u8
     requires { IsLiveInRange options.now }
+    ensures { ComesOfSend ⟦<ReadMeter<TcpStream> as Read>⟧.remaining ⟦<TcpStream as Write>⟧.contents
+        (S.gives_server states.now) (S.refuses_server states.now) (S.closes_server states.now)
+        S.ServerKeeper.leaves S.ServerKeeper.is_clean S.ServerKeeper.saves S.ServerKeeper.fails options.now
+        (R.remaining reader.old) (W.contents writer.old)
+        (W.contents writer.new) (E.contents errors.old) (E.contents errors.new) result }
 {
     let Hands {
         input,

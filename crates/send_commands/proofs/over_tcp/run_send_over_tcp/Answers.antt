@@ -1,8 +1,8 @@
 use Rattle.std.proofs.Common.{inl, ap, ◌∙◌}
 use Rattle.send_commands.proofs.over_tcp.run_send_over_tcp.Goals as goal
 
-pub returns-in-Ok-new : goal.returns-in-Ok-new
-returns-in-Ok-new g c =
+pub returns-in-Ok-new-clause-sent : goal.returns-in-Ok-new-clause-sent
+returns-in-Ok-new-clause-sent g c =
     inl (
       c.as_slice-station.result.now,
       c.patient_of-patient.result,

@@ -73,3 +73,7 @@ returns-in-Ok-clause-kept g c = λ either.
 pub returns-in-Ok-clause-comes : goal.returns-in-Ok-clause-comes
 returns-in-Ok-clause-comes g c = λ either.
     inr (c.in-Ok.job, c.in-Ok.ensures.asked, c.run_asked.ensures.comes either)
+
+pub returns-in-Ok-clause-sends : goal.returns-in-Ok-clause-sends
+returns-in-Ok-clause-sends g c = λ either.
+    inr (c.in-Ok.job, c.in-Ok.ensures.asked, c.run_asked.ensures.sends either)
