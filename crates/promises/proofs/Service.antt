@@ -15,7 +15,7 @@ use Rattle.carousel.specs.Carousel.{Carousel}
 use Rattle.carousel.specs.Texts.{line_up}
 use Rattle.carousel.specs.Next.{turn, name_next, send_name, send_text, next_group}
 use Rattle.promises.specs.OnAir.{IsService, Has, after}
-use Rattle.promises.specs.AirLaws.{ServiceIsShown, TrafficIsTold}
+use Rattle.promises.specs.AirLaws.{ServiceIsShown, IsTuned, ServiceIsTuned, MusicIsTold, TrafficIsTold}
 use Rattle.promises.proofs.Words.{bit_small, name_two}
 use Rattle.promises.proofs.AirHearing.{named_now, texted_now}
 use Rattle.promises.proofs.Choice.{next_keeps_name}
@@ -23,24 +23,19 @@ use Rattle.promises.proofs.Places.{far, far_below, nearer, turn_in, turn_over}
 use Rattle.promises.proofs.Steps.{step_is, name_below, goes_on, comes, none, on_air}
 
 -- ---- What every group tells, and what the name's groups tell.
-record TunedIs (s : ServiceData) (r : Receiver) : Type 0 where
-  pi : r.pi ≡ Some s.pi
-  tp : r.tp ≡ Some s.tp
-  pty : r.pty ≡ Some s.pty
-
 tuned_brought : (s : ServiceData) → IsService s → (v : Store) → Has s v → (c : Carousel) (r : Receiver)
-    → TunedIs s (hears (came (blocks (next_group v c).0)) r)
+    → IsTuned s (hears (came (blocks (next_group v c).0)) r)
 tuned_brought s ok v has c r =
-    step_is s v c r (λ d q. TunedIs s q) ok has
+    step_is s v c r (λ d q. IsTuned s q) ok has
     (λ h. record { pi = refl; tp = refl; pty = refl })
     (λ h. record { pi = refl; tp = refl; pty = refl })
     (λ h w. record { pi = refl; tp = refl; pty = refl })
 
 tuned_after : (s : ServiceData) → IsService s → (vs : List Store) → AllByRecursion (Has s) vs → 1 ≤ length vs
     → (c : Carousel) (r : Receiver)
-    → TunedIs s (after vs c r)
+    → IsTuned s (after vs c r)
 tuned_after s ok vs all enough c r =
-    comes s (λ d q. TunedIs s q) (λ d. 0) (λ v. 0)
+    comes s (λ d q. IsTuned s q) (λ d. 0) (λ v. 0)
     (λ v has d q good. tuned_brought s ok v has d q) (λ v has d q. inl (tuned_brought s ok v has d q))
     vs all c r (inr (let e = none vs in omega arith))
 
@@ -74,6 +69,12 @@ switches_after s ok vs all enough c r =
     let e = none vs in
     comes s (λ d q. SwitchesAre s q) (λ d. bit d.is_other) (λ v. 0) (switches_kept s ok) (switches_brought s ok) vs all
     c r (inr (omega arith))
+
+pub service_is_tuned : ServiceIsTuned
+service_is_tuned s vs c r ok all enough = tuned_after s ok vs all enough c r
+
+pub music_is_told : MusicIsTold
+music_is_told s vs c r ok all enough = (switches_after s ok vs all enough c r).music
 
 pub traffic_is_told : TrafficIsTold
 traffic_is_told s vs c r ok all enough = (switches_after s ok vs all enough c r).ta

@@ -49,6 +49,24 @@ TextIsShown =
     → 2 * (blanks_left c + segment_count t.bytes + waiting vs) ≤ length vs
     → text_shown (after vs c r) ≡ Some (up_to_return t.bytes)
 
+-- What each group tells of a service.
+pub record IsTuned (s : ServiceData) (r : Receiver) : Type 0 where
+  pub pi : r.pi ≡ Some s.pi
+  pub tp : r.tp ≡ Some s.tp
+  pub pty : r.pty ≡ Some s.pty
+
+-- It is shown from the first group on.
+abbrev pub ServiceIsTuned : Type 0
+ServiceIsTuned =
+    (s : ServiceData) (vs : List Store) (c : Carousel) (r : Receiver)
+    → IsService s → AllByRecursion (Has s) vs → 1 ≤ length vs → IsTuned s (after vs c r)
+
+-- Music or speech is told within two groups.
+abbrev pub MusicIsTold : Type 0
+MusicIsTold =
+    (s : ServiceData) (vs : List Store) (c : Carousel) (r : Receiver)
+    → IsService s → AllByRecursion (Has s) vs → 2 ≤ length vs → (after vs c r).music ≡ Some s.music
+
 -- Traffic announcements are told within two groups.
 abbrev pub TrafficIsTold : Type 0
 TrafficIsTold =

@@ -1,5 +1,6 @@
 //! What a receiver shows is what the store holds: laws over the store, the carousel and the receiver. No code.
-ghost use Rattle.promises.specs.AirLaws.{ServiceIsShown, TextIsShown, TrafficIsTold, NoNameIsMixed};
+ghost use Rattle.promises.specs.AirLaws.{ServiceIsShown, TextIsShown, ServiceIsTuned, MusicIsTold, TrafficIsTold};
+ghost use Rattle.promises.specs.AirLaws.{NoNameIsMixed};
 ghost use Rattle.promises.specs.AirLaws.{NoTextIsMixed, NoTextIsMixedOverAStart, NothingFalseIsShown, EachPassIsShown};
 ghost use Rattle.promises.specs.Said.{TogglesStaySet, NoSaidTextIsMixed};
 
@@ -11,6 +12,16 @@ pub fn service_is_shown()
 /// So is its text, after two groups for each segment, and for each empty text that a start has left.
 pub fn text_is_shown()
     ensures { TextIsShown }
+{}
+
+/// What each group tells of it, PI, TP and PTY, is shown from the first group on.
+pub fn service_is_tuned()
+    ensures { ServiceIsTuned }
+{}
+
+/// Music or speech is told within two groups.
+pub fn music_is_told()
+    ensures { MusicIsTold }
 {}
 
 /// A traffic announcement is told within two groups.
