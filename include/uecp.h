@@ -15,7 +15,8 @@
  *   - A struct that is handed over is initialized once before its first use, as by `uecp_finding finding = {0};`.
  *   - A bool is true or false.
  *   - A handle is all zero before its first use; then only this library changes it. It is not copied, and its object is
- *     used through that one handle: by one call at a time, and on the thread that made it.
+ *     used through that one handle: by one call at a time, on any thread. A call on another thread comes behind the one
+ *     before by a lock, or as a thread is begun or joined.
  * Every length from 0 on is allowed, of bytes to read and of room to write.
  *
  * Functions that write into `out` follow one rule. They answer how many bytes they have to write, whatever room there

@@ -14,7 +14,7 @@
 
 Bytes come in and go out as `bytes`, findings and elements as iterators, refusals as exceptions below `UecpError`. A `Deframer`, an
 `Encoder` and a `Server` keep what they need in the library until they are closed, by `close`, by `with`, or with the last name for
-them; each is used by one thread at a time, and on the thread that made it. The library is the file that the variable UECP_LIBRARY
+them; each is used by one thread at a time, whichever that is, and freed on any. The library is the file that the variable UECP_LIBRARY
 names, or else the installed libuecp.so.0."""
 
 import ctypes

@@ -13,6 +13,7 @@ import socket
 import sys
 
 CASES = os.path.join(os.path.dirname(os.path.abspath(__file__)), "cases.txt")
+FLOOD = 1 << 20
 
 
 def check(data):
@@ -141,6 +142,10 @@ def run(case, host, port, site, encoder, quiet):
         line.sendall(b"".join(on_the_line(plain(own, counter, b"")) for counter in range(1, 256)))
         if not is_joined(read_until(line, b"", lambda data: is_joined(data, own)), own):
             return "not joined"
+        line.settimeout(quiet)
+        if len(read_until(line, b"", lambda left: len(left) > FLOOD)) > FLOOD:
+            return "floods"
+        line.settimeout(3)
         size = case["pieces"] or len(data)
         for at in range(0, len(data), size):
             line.sendall(data[at : at + size])

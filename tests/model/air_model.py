@@ -19,6 +19,7 @@ NO_FREQUENCIES = 0xE0E0
 RETURN = 0x0D
 PLACES = 64
 BLANKS = 8  # groups of an empty text at a start
+WINDOW, TOO_MANY = 50, 35  # blocks by which a step is judged, and how many wrong ones of them lose it
 GROUP_LINE = re.compile(r"[0-9A-F]{4}( [0-9A-F]{4}){3}")
 
 
@@ -84,17 +85,25 @@ def heard_in(bits):
 
 
 def groups_in(text):
-    """The groups in a stream of bits: whole ones, and once one was found what stands each 104 bits behind the last."""
+    """The groups in a stream of bits: whole ones, and once one was found what stands each 104 bits behind the last, until too many blocks
+    behind a whole one are wrong."""
     # what came before the first bit counts as zeros
     bits = "0" * 103 + "".join(character for character in text if character in "01")
-    due = None
+    due, judged = None, []
     for end in range(104, len(bits) + 1):
         if end != due and word_in(bits[end - 104 : end - 78], "A") is None:
             continue
         heard = heard_in(bits[end - 104 : end])
-        if end == due or None not in heard:
-            yield heard
+        if None not in heard:
+            due, judged = end + 104, []
+        elif end == due:
+            judged += [word is None for word in heard]
             due = end + 104
+            if len(judged) >= WINDOW:
+                due, judged = None if sum(judged[:WINDOW]) >= TOO_MANY else due, judged[WINDOW:]
+        else:
+            continue
+        yield heard
 
 
 # What goes out
@@ -143,6 +152,8 @@ class Carousel:
             return self.send_name(service)
         if store.groups:
             (kind, bits, third, fourth), *store.groups = store.groups
+            # in version B block 3 is the PI again
+            third = service["pi"] if kind[0] & 1 else third
             return self.made(service, kind[0], bits[0], *(int.from_bytes(word, "big") for word in (third, fourth)))
         return self.send_text(service)
 
@@ -200,9 +211,21 @@ class Receiver:
         self.pi = self.tp = self.pty = self.ta = self.ms = self.name = None
         self.coming = b""
         self.flag, self.is_short, self.characters = 0, False, {}
+        self.held = None
 
     def hear(self, group):
-        """Hears a group, of which words may be missing."""
+        """Hears a group, of which words may be missing. The first of another station is held, and counts as one that didn't come."""
+        held, self.held = self.held, None
+        if None in (self.pi, group.first) or group.first == self.pi:
+            self.hear_own(group)
+        elif held is not None and held.first == group.first:
+            self.__init__()
+            self.hear_own(held)
+            self.hear_own(group)
+        else:
+            self.held, self.coming = group, b""
+
+    def hear_own(self, group):
         if group.first is not None:
             self.pi = group.first
         if group.second is None:

@@ -1,6 +1,6 @@
 -- Rules of one line after another.
 use Rattle.std.proofs.Common.{◌≡◌, ◌+◌, ℕ, List, [], ◌∷◌, ◌++◌, refl, sym, ap, ◌∙◌, subst, append_assoc, append-nil}
-use Rattle.std.proofs.Common.{Option, Some, None}
+use Rattle.std.proofs.Common.{Option}
 use Rattle.std.proofs.Common.{true, eqb, length, arith}
 use borrow.Author.Tests.{true-eqb}
 use Rattle.uecp_text.specs.Input.{under, numbered, said, lines_of}

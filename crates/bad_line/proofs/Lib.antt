@@ -6,6 +6,7 @@ pub mod Parts
 pub mod Steps
 pub mod Room
 pub mod Whole
+pub mod Later
 pub mod Bytes
 pub mod Taking
 pub mod Filling

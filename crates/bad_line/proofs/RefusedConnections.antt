@@ -1,7 +1,7 @@
 -- Rules one after another, and connections that are refused.
 use Rattle.std.proofs.Common.{◌≡◌, ℕ, zero, suc, List, [], ◌∷◌, ◌++◌, refl, subst, Option, Some}
 use Rattle.bad_line.specs.declared.rules.rule.Rule.{Rule}
-use Rattle.bad_line.specs.declared.rules.rule.Rule.TheVariants.{Lose, Repeat, Damage, BreakAfter, Delay}
+use Rattle.bad_line.specs.declared.rules.rule.Rule.TheVariants.{Lose, Repeat, Damage, BreakAfter, Delay, Pace}
 use Rattle.bad_line.specs.declared.rules.rule.Rule.TheVariants.{RefuseConnections, LoseByChance, DamageByChance}
 use Rattle.bad_line.specs.declared.rules.rule.Rule.TheVariants.{RestartAfter}
 use Rattle.bad_line.specs.Connections.{with_restarts, Refuses, Line, AsksRestart, is_restart}
@@ -15,10 +15,11 @@ with_restarts-cons (Lose way span) rules = refl
 with_restarts-cons (Repeat way span) rules = refl
 with_restarts-cons (Damage way number place) rules = refl
 with_restarts-cons (BreakAfter way number) rules = refl
-with_restarts-cons (Delay milliseconds) rules = refl
+with_restarts-cons (Delay milliseconds from) rules = refl
+with_restarts-cons (Pace milliseconds from) rules = refl
 with_restarts-cons (RefuseConnections milliseconds) rules = refl
-with_restarts-cons (LoseByChance percent) rules = refl
-with_restarts-cons (DamageByChance percent) rules = refl
+with_restarts-cons (LoseByChance percent from) rules = refl
+with_restarts-cons (DamageByChance percent from) rules = refl
 with_restarts-cons (RestartAfter number) rules = refl
 
 pub refuses_more : {C I O : Type 0} (opens : C → Option (I × O) → C → Type 0) (closes : C → I → O → C → Type 0)

@@ -1,16 +1,16 @@
 -- Words that say no rule.
-use Rattle.std.proofs.Common.{◌≡◌, ℕ, ◌⊎◌, inl, inr, List, [], ◌∷◌, ◌++◌, ◌+◌, ◌*◌, codes, refl, sym, ap, ◌∙◌, subst}
+use Rattle.std.proofs.Common.{◌≡◌, ℕ, inl, inr, List, [], ◌∷◌, ◌+◌, ◌*◌, codes, refl, sym, ap, ◌∙◌, subst}
 use Rattle.std.proofs.Common.{length}
 use Rattle.std.proofs.Common.{get_or, eqb, eq-eqb, false, arith, Option, Some, None, IfNone}
-use Rattle.std.specs.List.{slice_split}
 use Rattle.std.proofs.lemmas.Bool.{false≢true}
 use Rattle.std.proofs.lemmas.List.Splits.{length-slice_split}
 use Rattle.bad_line.specs.declared.rules.rule.Way.{Way}
 use Rattle.bad_line.specs.declared.rules.rule.Span.{Span}
 use Rattle.bad_line.specs.declared.rules.rule.Rule.{Rule}
-use Rattle.bad_line.specs.declared.rules.rule.Rule.TheVariants.{Lose, Repeat, Damage, BreakAfter, Delay}
+use Rattle.bad_line.specs.declared.rules.rule.Rule.TheVariants.{Lose, Repeat, Damage, BreakAfter, Delay, Pace}
 use Rattle.bad_line.specs.declared.rules.rule.Rule.TheVariants.{RefuseConnections, LoseByChance, DamageByChance}
-use Rattle.bad_line.specs.Rules.{name_of, Say, Tell, TellSpan, TellByte, TellBreak, TellChance, IsCount}
+use Rattle.bad_line.specs.Rules.{name_of, Say, Tell, TellSpan, TellByte, TellBreak, TellChance, TellTime, TellFrom}
+use Rattle.bad_line.specs.Rules.{TellFrame, IsCount}
 use Rattle.bad_line.specs.Rules.{IsCountBefore}
 use Rattle.bad_line.specs.Rules.{IsSpan, IsLongSpan, IsTime, IsChance, between_dots}
 
@@ -62,10 +62,47 @@ pub no_time : (word : List ℕ) → ((number : ℕ) → IsCountBefore (codes "ms
 no_time word none no_seconds time (inl milliseconds) = none time milliseconds
 no_time word none no_seconds time (inr seconds) = no_seconds seconds.0 seconds.1
 
-pub no_chance : (words : List (List ℕ)) (word : List ℕ) → words ≡ word ∷ []
-    → ((percent : ℕ) → IsChance word percent → ⊥) → (percent : ℕ) → TellChance words percent → ⊥
-no_chance words word is other percent told =
-    other percent (subst (λ w. IsChance w percent) (first_same told.0 word (sym told.1 ∙ is)) told.2)
+-- No words tell from which segment on.
+pub no_from_other : (words rest : List (List ℕ)) (word : List ℕ) → words ≡ word ∷ rest → (word ≡ codes "from" → ⊥)
+    → (from : ℕ) → TellFrom words from → ⊥
+no_from_other words rest word is other from told = other (subst (λ ws. TellFrom ws from) is told).0
+
+pub no_from : (words rest : List (List ℕ)) (word : List ℕ) → words ≡ word ∷ rest
+    → ((from : ℕ) → TellFrame rest from → ⊥) → (from : ℕ) → TellFrom words from → ⊥
+no_from words rest word is other from told = other from (subst (λ ws. TellFrom ws from) is told).1
+
+pub no_frame : (words : List (List ℕ)) (word : List ℕ) → words ≡ codes "frame" ∷ word ∷ []
+    → ((number : ℕ) → IsCount word number → ⊥) → (from : ℕ) → TellFrame words from → ⊥
+no_frame words word is other from told =
+    other from (subst (λ w. IsCount w from)
+    (second_same (codes "frame") told.0 (codes "frame") word (sym told.1 ∙ is)) told.2)
+
+-- No words tell a chance, or a time.
+pub no_chance : (words rest : List (List ℕ)) (word : List ℕ) → words ≡ word ∷ rest
+    → ((percent : ℕ) → IsChance word percent → ⊥) → (percent from : ℕ) → TellChance words percent from → ⊥
+no_chance words rest word is other percent from told =
+    other percent (subst (λ ws. TellChance ws percent from) is told).0
+
+pub no_chance_from : (words rest : List (List ℕ)) (word : List ℕ) → words ≡ word ∷ rest
+    → ((from : ℕ) → TellFrom rest from → ⊥) → (percent from : ℕ) → TellChance words percent from → ⊥
+no_chance_from words rest word is other percent from told =
+    other from (subst (λ ws. TellChance ws percent from) is told).1
+
+pub no_chance_at_all : (words : List (List ℕ)) → words ≡ [] → (percent from : ℕ) → TellChance words percent from → ⊥
+no_chance_at_all words is percent from told = subst (λ ws. TellChance ws percent from) is told
+
+pub no_time_told : (words rest : List (List ℕ)) (word : List ℕ) → words ≡ word ∷ rest
+    → ((time : ℕ) → IsTime word time → ⊥) → (time from : ℕ) → TellTime words time from → ⊥
+no_time_told words rest word is other time from told =
+    other time (subst (λ ws. TellTime ws time from) is told).0
+
+pub no_time_from : (words rest : List (List ℕ)) (word : List ℕ) → words ≡ word ∷ rest
+    → ((from : ℕ) → TellFrom rest from → ⊥) → (time from : ℕ) → TellTime words time from → ⊥
+no_time_from words rest word is other time from told =
+    other from (subst (λ ws. TellTime ws time from) is told).1
+
+pub no_time_at_all : (words : List (List ℕ)) → words ≡ [] → (time from : ℕ) → TellTime words time from → ⊥
+no_time_at_all words is time from told = subst (λ ws. TellTime ws time from) is told
 
 pub no_span : (words : List (List ℕ)) (first word : List ℕ) → words ≡ first ∷ word ∷ []
     → ((span : Span) → IsSpan word span → ⊥) → (way : Way) (span : Span) → TellSpan words way span → ⊥
@@ -75,12 +112,12 @@ no_span words first word is other way span told =
 -- ---- Words behind a name that tell no rule of that name.
 
 pub no_loss : (words : List (List ℕ)) → ((way : Way) (span : Span) → TellSpan words way span → ⊥)
-    → ((percent : ℕ) → TellChance words percent → ⊥) → (rule : Rule) → Say (codes "lose" ∷ words) rule → ⊥
+    → ((percent from : ℕ) → TellChance words percent from → ⊥) → (rule : Rule) → Say (codes "lose" ∷ words) rule → ⊥
 no_loss words no_span no_chance (Lose way span) said =
     no_span way span (subst (λ ws. TellSpan ws way span) (same_rest (codes "lose") (codes "lose") words said.0 said.1)
     said.2)
-no_loss words no_span no_chance (LoseByChance percent) said =
-    no_chance percent (subst (λ ws. TellChance ws percent)
+no_loss words no_span no_chance (LoseByChance percent from) said =
+    no_chance percent from (subst (λ ws. TellChance ws percent from)
     (same_rest (codes "lose") (codes "lose") words said.0 said.1) said.2)
 no_loss words no_span no_chance rule said = apart (codes "lose") (name_of rule) words said.0 refl said.1
 
@@ -93,12 +130,12 @@ no_repetition words none rule said = apart (codes "repeat") (name_of rule) words
 
 pub no_damage : (words : List (List ℕ))
     → ((way : Way) (number place : ℕ) → TellByte words way number place → ⊥)
-    → ((percent : ℕ) → TellChance words percent → ⊥) → (rule : Rule) → Say (codes "damage" ∷ words) rule → ⊥
+    → ((percent from : ℕ) → TellChance words percent from → ⊥) → (rule : Rule) → Say (codes "damage" ∷ words) rule → ⊥
 no_damage words no_byte no_chance (Damage way number place) said =
     no_byte way number place (subst (λ ws. TellByte ws way number place)
     (same_rest (codes "damage") (codes "damage") words said.0 said.1) said.2)
-no_damage words no_byte no_chance (DamageByChance percent) said =
-    no_chance percent (subst (λ ws. TellChance ws percent)
+no_damage words no_byte no_chance (DamageByChance percent from) said =
+    no_chance percent from (subst (λ ws. TellChance ws percent from)
     (same_rest (codes "damage") (codes "damage") words said.0 said.1) said.2)
 no_damage words no_byte no_chance rule said = apart (codes "damage") (name_of rule) words said.0 refl said.1
 
@@ -109,13 +146,19 @@ no_ending words none (BreakAfter way number) said =
     (same_rest (codes "break") (codes "break") words said.0 said.1) said.2)
 no_ending words none rule said = apart (codes "break") (name_of rule) words said.0 refl said.1
 
-pub no_delay : (words : List (List ℕ)) (word : List ℕ) → words ≡ word ∷ [] → ((time : ℕ) → IsTime word time → ⊥)
+pub no_delay : (words : List (List ℕ)) → ((time from : ℕ) → TellTime words time from → ⊥)
     → (rule : Rule) → Say (codes "delay" ∷ words) rule → ⊥
-no_delay words word is none (Delay time) said =
-    let told = subst (λ ws. Tell ws (Delay time)) (same_rest (codes "delay") (codes "delay") words said.0 said.1)
-    said.2 in
-    none time (subst (λ w. IsTime w time) (first_same told.0 word (sym told.1 ∙ is)) told.2)
-no_delay words word is none rule said = apart (codes "delay") (name_of rule) words said.0 refl said.1
+no_delay words none (Delay time from) said =
+    none time from (subst (λ ws. TellTime ws time from) (same_rest (codes "delay") (codes "delay") words said.0 said.1)
+    said.2)
+no_delay words none rule said = apart (codes "delay") (name_of rule) words said.0 refl said.1
+
+pub no_pace : (words : List (List ℕ)) → ((time from : ℕ) → TellTime words time from → ⊥)
+    → (rule : Rule) → Say (codes "pace" ∷ words) rule → ⊥
+no_pace words none (Pace time from) said =
+    none time from (subst (λ ws. TellTime ws time from) (same_rest (codes "pace") (codes "pace") words said.0 said.1)
+    said.2)
+no_pace words none rule said = apart (codes "pace") (name_of rule) words said.0 refl said.1
 
 pub no_refusal : (words : List (List ℕ)) → ((word : List ℕ) → words ≡ codes "connections" ∷ word ∷ [] → ⊥)
     → (rule : Rule) → Say (codes "refuse" ∷ words) rule → ⊥

@@ -45,7 +45,7 @@ length-with_damage None segment = refl
 length-with_damage (Some place) segment = length-set segment _ _
 
 -- One more copy has room where all have.
-pub one_more_fits : (a copy copies size : ℕ) → copy < copies → a + copies * size ≤ 3072 → a + copy * size + size ≤ 3072
+pub one_more_fits : (a copy copies size : ℕ) → copy < copies → a + copies * size ≤ 8192 → a + copy * size + size ≤ 8192
 one_more_fits a copy copies size less fits =
     let some : suc copy * size ≤ copies * size = mul-le-mul_right size (omega arith) in
     omega (arith, some, suc-mul copy size)

@@ -18,17 +18,18 @@ use Rattle.bad_line.specs.Laws.{CrossesWhole, LosesOne, without}
 use Rattle.bad_line.proofs.Room.{built}
 
 -- The fate of a segment that comes as it is.
-abbrev plain : Fate
+abbrev pub plain : Fate
 plain = record { copies = 1; damaged = None; breaks = false }
 
-built_plain : (l lost twice : Bool) (named drawn : Option ℕ) (breaks : Bool) → l ≡ false → lost ≡ false → twice ≡ false
+pub built_plain : (l lost twice : Bool) (named drawn : Option ℕ) (breaks : Bool) → l ≡ false → lost ≡ false
+    → twice ≡ false
     → named ≡ None → drawn ≡ None → breaks ≡ false → built l lost twice named drawn breaks ≡ plain
 built_plain l lost twice named drawn breaks a b c d e f = rw (built, a, b, c, d, e, f)
 
 -- Where no rule leaves anything to chance, chance does nothing.
-nothing_lost : (rules : List Rule) (size : ℕ) (chance : Chance) → MayDo rules size chance
-    → list_any may_lose rules ≡ false → chance.lost ≡ false
-nothing_lost rules size chance may_do none =
+pub nothing_lost : (rules : List Rule) (number size : ℕ) (chance : Chance) → MayDo rules number size chance
+    → list_any (may_lose number) rules ≡ false → chance.lost ≡ false
+nothing_lost rules number size chance may_do none =
     elim (cases_Bool chance.lost) [
       | inl lost ↦ absurd (false≢true (sym none ∙ may_do.lost lost))
       | inr kept ↦ kept
@@ -39,19 +40,19 @@ no_place : (drawn : Option ℕ) (damages : Bool) (size : ℕ)
 no_place None damages size may none = refl
 no_place (Some place) damages size may none = absurd (false≢true (sym none ∙ may.0))
 
-nothing_damaged : (rules : List Rule) (size : ℕ) (chance : Chance) → MayDo rules size chance
-    → list_any may_damage rules ≡ false → chance.place ≡ None
-nothing_damaged rules size chance may_do none =
-    no_place chance.place (list_any may_damage rules) size may_do.place none
+pub nothing_damaged : (rules : List Rule) (number size : ℕ) (chance : Chance) → MayDo rules number size chance
+    → list_any (may_damage number) rules ≡ false → chance.place ≡ None
+nothing_damaged rules number size chance may_do none =
+    no_place chance.place (list_any (may_damage number) rules) size may_do.place none
 
-out_of_plain : (fate : Fate) (segment : List ℕ) → fate ≡ plain → out_of_segment fate segment ≡ segment
+pub out_of_plain : (fate : Fate) (segment : List ℕ) → fate ≡ plain → out_of_segment fate segment ≡ segment
 out_of_plain fate segment is = ap (λ (f : Fate). out_of_segment f segment) is
 
 -- ---- Without rules.
 comes_plain : (way : Way) (number size : ℕ) (fate : Fate) → MayCome [] way number size fate → fate ≡ plain
 comes_plain way number size fate (chance, may_do, is) =
     is ∙ built_plain false chance.lost false None chance.place false refl
-    (nothing_lost [] size chance may_do refl) refl refl (nothing_damaged [] size chance may_do refl) refl
+    (nothing_lost [] number size chance may_do refl) refl refl (nothing_damaged [] number size chance may_do refl) refl
 
 all_comes : (before after : Passing) (pieces : List Piece) → before.rules ≡ [] → AreRuled before pieces after
     → out_of pieces ≡ bytes_of pieces
@@ -105,8 +106,8 @@ comes_kept : (way : Way) (number other size : ℕ) (fate : Fate) → other ≢ n
     → MayCome (only way number) way other size fate → fate ≡ plain
 comes_kept way number other size fate apart (chance, may_do, is) =
     is ∙ built_plain (list_any (loses way other) (only way number)) chance.lost false None chance.place false
-    (is_kept way number other apart) (nothing_lost (only way number) size chance may_do refl) refl refl
-    (nothing_damaged (only way number) size chance may_do refl) refl
+    (is_kept way number other apart) (nothing_lost (only way number) other size chance may_do refl) refl refl
+    (nothing_damaged (only way number) other size chance may_do refl) refl
 
 -- Behind that segment all comes.
 after_it : (way : Way) (number passed : ℕ) (after : Passing) (pieces : List Piece) → number < 2 ^ 32 → number ≤ passed

@@ -4,18 +4,12 @@ use Rattle.std.specs.Prelude.{Option, Some, None, MatchOption}
 use Rattle.std.specs.List.{list_any}
 use Rattle.bad_line.specs.declared.rules.rule.Way.TheVariants.{Frame}
 use Rattle.bad_line.specs.declared.rules.rule.Rule.{Rule}
-use Rattle.bad_line.specs.declared.rules.rule.Rule.TheVariants.{BreakAfter, Delay, RefuseConnections, RestartAfter}
+use Rattle.bad_line.specs.declared.rules.rule.Rule.TheVariants.{BreakAfter, RefuseConnections, RestartAfter}
 use Rattle.bad_line.specs.Fates.{Passing}
 use Rattle.bad_line.specs.Passages.{opened}
 use Rattle.bad_line.specs.Ends.{End}
 
 -- ---- What rules say that is no matter of a segment.
-
--- How many milliseconds later each segment comes: of several rules the longest counts.
-abbrev pub delay_in : List Rule → ℕ
-delay_in [] = 0
-delay_in (Delay milliseconds ∷ rules) = max milliseconds (delay_in rules)
-delay_in (rule ∷ rules) = delay_in rules
 
 -- For how many milliseconds from the start no connection is taken: of several rules the longest counts.
 abbrev pub refusal_in : List Rule → ℕ

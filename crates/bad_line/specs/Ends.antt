@@ -16,28 +16,36 @@ with_waiting end waiting = record end { direction = record end.direction { waiti
 
 -- ---- Reading.
 
--- One read of the device was made, which is made only where nothing waits and the connection holds, and what it brought
--- passed.
+-- One read of the device was made, which is made only where the connection holds, and what it brought passed: what came
+-- out of it waits behind what waited.
 pub record Fills {D : Type 0} (remaining : D → Option (List ℕ)) (old new : End D) : Type 0 where
   pub read : List ℕ
   pub used : ℕ
-  pub nothing_waits : old.direction.waiting ≡ []
   pub holds : old.direction.is_broken ≡ false
   pub consumed : Consumes (remaining old.device) (remaining new.device) read
   pub takes : TakesAll old.direction new.direction read used
+
+-- One read of the device was made, which is made only where the connection holds, and the device is at its end.
+abbrev pub ComesToEnd : {D : Type 0} → (D → Option (List ℕ)) → (old new : End D) → Type 0
+ComesToEnd remaining old new =
+    (old.direction.is_broken ≡ false) × (new ≡ record old { device = new.device })
+    × Consumes (remaining old.device) (remaining new.device) [] × IsAtEnd (remaining new.device)
+
+-- One read of the device was made, and what it brought passed; or the device is at its end, and something waits.
+abbrev pub ReadsOn : {D : Type 0} → (D → Option (List ℕ)) → (old new : End D) → Type 0
+ReadsOn remaining old new =
+    Fills remaining old new ⊎ ((old.direction.waiting ≢ []) × ComesToEnd remaining old new)
 
 -- So many such reads were made, one after another.
 abbrev pub FillsInTurn : {D : Type 0} → (D → Option (List ℕ)) → (reads : ℕ) → (old new : End D) → Type 0
 FillsInTurn remaining zero old new = new ≡ old
 FillsInTurn {D} remaining (suc reads) old new =
-    (next : End D) × Fills remaining old next × FillsInTurn remaining reads next new
+    (next : End D) × ReadsOn remaining old next × FillsInTurn remaining reads next new
 
 -- The end of the input: nothing waits, and the connection has broken, or the device is at its end.
 abbrev pub IsEnd : {D : Type 0} → (D → Option (List ℕ)) → (old new : End D) → Type 0
 IsEnd remaining old new = (old.direction.waiting ≡ [])
-    × (((old.direction.is_broken ≡ true) × (new ≡ old))
-    ⊎ ((old.direction.is_broken ≡ false) × (new ≡ record old { device = new.device })
-    × Consumes (remaining old.device) (remaining new.device) [] × IsAtEnd (remaining new.device)))
+    × (((old.direction.is_broken ≡ true) × (new ≡ old)) ⊎ ComesToEnd remaining old new)
 
 -- Of what waits the first bytes were handed on.
 abbrev pub HandsOn : {D : Type 0} → (old new : End D) → (bytes : List ℕ) → Type 0

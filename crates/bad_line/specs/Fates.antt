@@ -48,15 +48,15 @@ abbrev pub breaks : Way → (number : ℕ) → Rule → Bool
 breaks way number (BreakAfter of_way segment) = same_way of_way way && segment == number
 breaks way number rule = false
 
--- Whether the rule may lose a segment by chance.
-abbrev pub may_lose : Rule → Bool
-may_lose (LoseByChance percent) = true
-may_lose rule = false
+-- Whether the rule may lose the segment of this number by chance: from the number on that it names.
+abbrev pub may_lose : (number : ℕ) → Rule → Bool
+may_lose number (LoseByChance percent from) = nat_le from number
+may_lose number rule = false
 
--- Whether the rule may damage a segment by chance.
-abbrev pub may_damage : Rule → Bool
-may_damage (DamageByChance percent) = true
-may_damage rule = false
+-- Whether the rule may damage it by chance.
+abbrev pub may_damage : (number : ℕ) → Rule → Bool
+may_damage number (DamageByChance percent from) = nat_le from number
+may_damage number rule = false
 
 -- The first place of two, if there is one.
 abbrev pub first_place : (named drawn : Option ℕ) → Option ℕ
@@ -74,10 +74,11 @@ pub record Chance : Type 0 where
   pub lost : Bool
   pub place : Option ℕ
 
--- Chance may do this to a segment of so many bytes: only what some rule leaves to it.
-pub record MayDo (rules : List Rule) (length : ℕ) (chance : Chance) : Type 0 where
-  pub lost : chance.lost ≡ true → list_any may_lose rules ≡ true
-  pub place : IfSome chance.place (λ place. (list_any may_damage rules ≡ true) × (1 ≤ place) × (place ≤ length))
+-- Chance may do this to the segment of this number, of so many bytes: only what some rule leaves to it.
+pub record MayDo (rules : List Rule) (number length : ℕ) (chance : Chance) : Type 0 where
+  pub lost : chance.lost ≡ true → list_any (may_lose number) rules ≡ true
+  pub place : IfSome chance.place
+      (λ place. (list_any (may_damage number) rules ≡ true) × (1 ≤ place) × (place ≤ length))
 
 -- What comes of a segment of so many bytes where chance does this. One that is lost is neither repeated nor damaged;
 -- the connection breaks behind it all the same.
@@ -95,4 +96,4 @@ fate_of rules way number length chance =
 -- leave to chance anything.
 abbrev pub MayCome : List Rule → Way → (number length : ℕ) → Fate → Type 0
 MayCome rules way number length fate =
-    (chance : Chance) × MayDo rules length chance × (fate ≡ fate_of rules way number length chance)
+    (chance : Chance) × MayDo rules number length chance × (fate ≡ fate_of rules way number length chance)

@@ -1,8 +1,9 @@
 -- Laws of a stream that is cut (profile).
-use Rattle.std.specs.Prelude.{◌≡◌, ◌≤◌, ℕ, zero, suc, List, [], ◌∷◌, ◌++◌, ◌<◌, ◌^◌}
+use Rattle.std.specs.Prelude.{◌≡◌, ◌≤◌, ℕ, zero, suc, List, [], ◌∷◌, ◌++◌, ◌<◌, ◌-◌, ◌^◌}
 use Rattle.bad_line.specs.declared.rules.fate.Fate.{Fate}
 use Rattle.bad_line.specs.declared.rules.rule.Way.{Way}
-use Rattle.bad_line.specs.declared.rules.rule.Rule.TheVariants.{Lose}
+use Rattle.bad_line.specs.declared.rules.rule.Rule.{Rule}
+use Rattle.bad_line.specs.declared.rules.rule.Rule.TheVariants.{Lose, LoseByChance, DamageByChance, Delay, Pace}
 use Rattle.bad_line.specs.Pieces.{Piece, Byte, Segment, bytes_of, AreCut}
 use Rattle.bad_line.specs.Crossing.{Cutting, Crosses}
 
@@ -15,6 +16,27 @@ CrossesInParts = (a b c : Cutting) (first second out more : List ℕ) (fates oth
 -- Law: without rules what comes out is what came, but for what is held.
 abbrev pub CrossesWhole : Type 0
 CrossesWhole = (old new : Cutting) (bytes out : List ℕ) (fates : List Fate) → old.faults.rules ≡ []
+    → Crosses old new bytes out fates → out ++ new.held ≡ old.held ++ bytes
+
+-- The rule changes nothing of the segments up to this number: it is one of chance that holds from a later one on, or a
+-- delay or a pace, which change none.
+abbrev pub IsLater : (number : ℕ) → Rule → Type 0
+IsLater number (LoseByChance percent from) = number < from
+IsLater number (DamageByChance percent from) = number < from
+IsLater number (Delay milliseconds from) = Unit {0}
+IsLater number (Pace milliseconds from) = Unit {0}
+IsLater number rule = ⊥
+
+-- All of the rules do.
+abbrev pub AreLater : (number : ℕ) → List Rule → Type 0
+AreLater number [] = Unit {0}
+AreLater number (rule ∷ rules) = IsLater number rule × AreLater number rules
+
+-- Law: with rules that hold from a later segment on than the last that came, what comes out is what came, but for what
+-- is held.
+abbrev pub CrossesUntouched : Type 0
+CrossesUntouched = (old new : Cutting) (bytes out : List ℕ) (fates : List Fate)
+    → AreLater new.faults.passed old.faults.rules → new.faults.passed < 2 ^ 64 - 1
     → Crosses old new bytes out fates → out ++ new.held ≡ old.held ++ bytes
 
 -- What came without the segment of this number, counted from 1.

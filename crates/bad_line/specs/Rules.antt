@@ -6,7 +6,7 @@ use Rattle.bad_line.specs.declared.rules.rule.Way.{Way}
 use Rattle.bad_line.specs.declared.rules.rule.Way.TheVariants.{Frame, Reply}
 use Rattle.bad_line.specs.declared.rules.rule.Span.{Span}
 use Rattle.bad_line.specs.declared.rules.rule.Rule.{Rule}
-use Rattle.bad_line.specs.declared.rules.rule.Rule.TheVariants.{Lose, Repeat, Damage, BreakAfter, Delay}
+use Rattle.bad_line.specs.declared.rules.rule.Rule.TheVariants.{Lose, Repeat, Damage, BreakAfter, Delay, Pace}
 use Rattle.bad_line.specs.declared.rules.rule.Rule.TheVariants.{RefuseConnections, LoseByChance, DamageByChance}
 use Rattle.bad_line.specs.declared.rules.rule.Rule.TheVariants.{RestartAfter}
 
@@ -55,10 +55,11 @@ name_of (Lose way span) = codes "lose"
 name_of (Repeat way span) = codes "repeat"
 name_of (Damage way number place) = codes "damage"
 name_of (BreakAfter way number) = codes "break"
-name_of (Delay milliseconds) = codes "delay"
+name_of (Delay milliseconds from) = codes "delay"
+name_of (Pace milliseconds from) = codes "pace"
 name_of (RefuseConnections milliseconds) = codes "refuse"
-name_of (LoseByChance percent) = codes "lose"
-name_of (DamageByChance percent) = codes "damage"
+name_of (LoseByChance percent from) = codes "lose"
+name_of (DamageByChance percent from) = codes "damage"
 name_of (RestartAfter number) = codes "restart"
 
 -- The words are a direction and a span of its segments.
@@ -75,9 +76,25 @@ abbrev pub TellBreak : List (List ℕ) → Way → ℕ → Type 0
 TellBreak words way number =
     (word : List ℕ) × (words ≡ codes "after" ∷ way_word way ∷ word ∷ []) × IsCount word number
 
--- The only word is a chance.
-abbrev pub TellChance : List (List ℕ) → (percent : ℕ) → Type 0
-TellChance words percent = (word : List ℕ) × (words ≡ word ∷ []) × IsChance word percent
+-- The words are `frame` and a number.
+abbrev pub TellFrame : List (List ℕ) → (from : ℕ) → Type 0
+TellFrame words from = (word : List ℕ) × (words ≡ codes "frame" ∷ word ∷ []) × IsCount word from
+
+-- From which segment on a rule holds: from the first where there are no words, else from the number behind
+-- `from frame`.
+abbrev pub TellFrom : List (List ℕ) → (from : ℕ) → Type 0
+TellFrom [] from = from ≡ 1
+TellFrom (word ∷ words) from = (word ≡ codes "from") × TellFrame words from
+
+-- The words are a chance, and from which segment on.
+abbrev pub TellChance : List (List ℕ) → (percent from : ℕ) → Type 0
+TellChance [] percent from = ⊥
+TellChance (word ∷ words) percent from = IsChance word percent × TellFrom words from
+
+-- The words are a time, and from which segment on.
+abbrev pub TellTime : List (List ℕ) → (milliseconds from : ℕ) → Type 0
+TellTime [] milliseconds from = ⊥
+TellTime (word ∷ words) milliseconds from = IsTime word milliseconds × TellFrom words from
 
 -- The words after the first tell the rest of the rule.
 abbrev pub Tell : List (List ℕ) → Rule → Type 0
@@ -85,11 +102,12 @@ Tell words (Lose way span) = TellSpan words way span
 Tell words (Repeat way span) = TellSpan words way span
 Tell words (Damage way number place) = TellByte words way number place
 Tell words (BreakAfter way number) = TellBreak words way number
-Tell words (Delay milliseconds) = (word : List ℕ) × (words ≡ word ∷ []) × IsTime word milliseconds
+Tell words (Delay milliseconds from) = TellTime words milliseconds from
+Tell words (Pace milliseconds from) = TellTime words milliseconds from
 Tell words (RefuseConnections milliseconds) =
     (word : List ℕ) × (words ≡ codes "connections" ∷ word ∷ []) × IsTime word milliseconds
-Tell words (LoseByChance percent) = TellChance words percent
-Tell words (DamageByChance percent) = TellChance words percent
+Tell words (LoseByChance percent from) = TellChance words percent from
+Tell words (DamageByChance percent from) = TellChance words percent from
 Tell words (RestartAfter number) = (word : List ℕ) × (words ≡ codes "after" ∷ word ∷ []) × IsCount word number
 
 -- The words say the rule: the first is its name, and the others tell the rest.

@@ -1,5 +1,7 @@
 //! Connections with faults on purpose: [`Connections`](uecp_net::Connections) over others.
 
+mod arrivals;
+mod clock;
 mod effect;
 mod faulty;
 mod passage;
@@ -7,6 +9,7 @@ mod reader;
 mod spans;
 mod writer;
 
+pub use arrivals::Arrivals;
 pub use effect::{Effect, Effects, write_effect};
 pub use faulty::Faulty;
 pub use reader::FaultyReader;

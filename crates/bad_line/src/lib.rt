@@ -5,7 +5,8 @@
 //!   [`RulesFault`] and [`RuleFault`] why there are none.
 //! - [`LineFaults`]: what a line does to the segments of one direction as they come; [`Fate`] is what comes of one.
 //! - [`Cutter`]: the machine that cuts the bytes of one direction; [`Crossed`] is what a call brought.
-//! - [`Faulty`]: [`Connections`](uecp_net::Connections) over others; [`Effect`] is what was done to them.
+//! - [`Faulty`]: [`Connections`](uecp_net::Connections) over others, whose ends are [`Arrivals`]; [`Effect`] is what
+//!   was done to them.
 //! - [`laws`]: what holds of a whole stream.
 #![tactic(auto)]
 
@@ -14,6 +15,8 @@ pub mod laws;
 mod rules;
 mod segments;
 
-pub use connections::{Effect, Effects, Faulty, FaultyReader, FaultyWriter, write_effect};
+pub use connections::{
+    Arrivals, Effect, Effects, Faulty, FaultyReader, FaultyWriter, write_effect,
+};
 pub use rules::{Fate, LineFaults, Rule, RuleFault, RulesFault, Span, Way, read_rule, read_rules};
 pub use segments::{Crossed, Cutter, OUT_MAX, Out};

@@ -5,6 +5,7 @@
 //! - [`LineFaults`]: what a line does to the segments of one direction as they come; [`Fate`] is what comes of one.
 
 mod chances;
+mod delays;
 mod fate;
 mod fates;
 mod file;

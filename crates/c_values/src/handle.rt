@@ -43,3 +43,11 @@ pub fn take(alloc: Global, handle: &mut Handle) -> Option<Box<Object>>
         None
     }
 }
+
+/// A handle may go from one thread to another between two calls, with the object that it has.
+pub fn goes_to_any_thread() {
+    needs_send::<Handle>();
+}
+
+/// Asks for a type that may go from one thread to another.
+fn needs_send<T: Send>() {}

@@ -17,6 +17,6 @@ pub mod status;
 mod unboxed;
 
 pub use finding::{Finding, place_of, show};
-pub use handle::{Handle, put, take};
+pub use handle::{Handle, goes_to_any_thread, put, take};
 pub use object::Object;
 pub use slot::Slot;

@@ -28,6 +28,9 @@ impl Model for Slot {
     ghost also_owns = { λ s. owned (box_owns (ghosts.dealloc_token s.alloc) the_row s.at) s.value };
 }
 
+// What lies there is plain data, and any thread may give its block back: proved where a function asks for it.
+unsafe impl Send for Slot {}
+
 impl Slot {
     /// The slot of an object.
     pub(crate) fn of(object: Unboxed<Object, Global>) -> Slot

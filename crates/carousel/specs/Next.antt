@@ -1,7 +1,7 @@
 -- Which group is next: the name has every other turn, and a free-format group or else the text the turns between.
 use Rattle.std.specs.Prelude.{ℕ, ◌+◌, ◌*◌, Bool, true, false, List, [], ◌∷◌, ◌++◌, slice_index, slice_index_or, nat_lt}
 use Rattle.std.specs.Prelude.{bytes_eq, drop, if◌then◌else◌}
-use Rattle.rds_groups.specs.Groups.{group, name_a, text_a}
+use Rattle.rds_groups.specs.Groups.{group, has_bit, name_a, text_a}
 use Rattle.rds_groups.specs.declared.group.Group.{Group}
 use Rattle.rds_groups.specs.declared.group.Head.{Head}
 use Rattle.rds_groups.specs.declared.group.Segment.{Segment}
@@ -69,9 +69,14 @@ abbrev pub send_text : ServiceData → Carousel → Group × Carousel
 send_text s c = text_sent s (text_next (line_up s.texts) c)
 
 -- ---- Free-format groups.
+-- Block 3 of a group: in each of version B, the last bit of the kind, it is the PI again, whatever was stored. (IEC
+-- 62106, group type codes)
+abbrev pub third_block : (pi kind stored : ℕ) → ℕ
+third_block pi kind stored = if has_bit 1 kind then pi else stored
+
 -- A group of the store has the service's PI, TP and PTY. (SPB 490, free-format group)
 abbrev pub free_group : ServiceData → StoredGroup → Group
-free_group s g = group g.kind (head_of s) g.bits g.block3 g.block4
+free_group s g = group g.kind (head_of s) g.bits (third_block s.pi g.kind g.block3) g.block4
 
 -- The first group that waits goes out in the text's turn; where none waits, the text (profile).
 abbrev pub send_other : ServiceData → (waiting : List StoredGroup) → Carousel → Group × Carousel

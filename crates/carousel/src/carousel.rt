@@ -336,13 +336,19 @@ fn free_group(station: &Station<'_>, group: StoredGroup) -> Group
     requires bits { group.bits < 32 }
     ensures { result ≡ air.free_group (service_of station.now) group }
 {
-    Group::of_kind(
-        group.kind,
-        station.head,
-        group.bits,
-        group.block3,
-        group.block4,
-    )
+    let block3 = third_block(station.head.pi, &group);
+    Group::of_kind(group.kind, station.head, group.bits, block3, group.block4)
+}
+
+/// Block 3 of a group of the store as it goes out: in version B the PI, whatever was stored.
+fn third_block(pi: u16, group: &StoredGroup) -> u16
+    ensures { result ≡ air.third_block pi group.now.kind group.now.block3 }
+{
+    if group.kind % 2 == 1 {
+        pi
+    } else {
+        group.block3
+    }
 }
 
 /// The four characters of a segment of a text.

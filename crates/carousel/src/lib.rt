@@ -6,3 +6,4 @@ pub mod laws;
 mod station;
 
 pub use crate::carousel::{Carousel, NextGroup};
+pub use crate::station::has_pi;

@@ -2,7 +2,7 @@
 ghost use Rattle.std.specs.Prelude.{◌≡◌, ◌<◌, ◌≤◌, length, slice_get, IfSome};
 ghost use Rattle.std.specs.Option.{option_map};
 ghost use Rattle.rds_store.specs.Content.{opening_service};
-ghost use Rattle.carousel.specs.Service.{main_service};
+ghost use Rattle.carousel.specs.Service.{main_service, is_told};
 ghost use Rattle.carousel.specs.Texts as choice;
 ghost use Rattle.carousel.specs.View.{service_of, text_of};
 
@@ -40,6 +40,14 @@ pub(crate) fn main_service(store: &RdsStore) -> Station<'_>
         },
         None => no_station(),
     }
+}
+
+/// Whether the service that is on the air was told a PI. Until then it has 0000, as each store at first, and that goes
+/// out. Source: profile.
+pub fn has_pi(store: &RdsStore) -> bool
+    ensures { result ≡ is_told (main_service store.now) }
+{
+    main_service(store).head.pi != 0
 }
 
 fn station_of(service: &Service) -> Station<'_>

@@ -1,6 +1,9 @@
 -- What the program's command line is built of.
-use Rattle.std.proofs.Common.{◌≡◌, ◌++◌, ◌∷◌, [], List, true, false, ap, ap₂, ◌∙◌, sym, subst, append-nil, append_assoc}
-use Rattle.clap.specs.Words.{AddsArg, AddsInTurn, AddsSubcommand, App, Rule, Shape, app_of, rule_of, shape_of}
+use Rattle.std.proofs.Common.{◌≡◌, ◌++◌, ◌∷◌, [], ℕ, ◌+◌, ◌<◌, List, true, false, refl, ap, ap₂, ◌∙◌, sym, append_assoc}
+use Rattle.std.proofs.Common.{map, take, length, get_or}
+use Rattle.std.proofs.lemmas.List.{map-append, take_more}
+use Rattle.command_line.specs.CommandLine.{configurable, with_commands}
+use Rattle.clap.specs.Words.{AddsArg, AddsSubcommand, App, Rule, Shape, app_of, rule_of, shape_of}
 use Rattle.clap.specs.Words.{with_subcommand}
 use Rattle.clap.specs.declared.builder.command.Command.TheViews.{out-Command as fields_of}
 use Rattle.clap.specs.declared.builder.arg.Arg.{Arg}
@@ -15,25 +18,23 @@ arg_added old new a s r added own is_s is_r =
     ap (λ (x : App). x.top) (added.shape own) ∙ ap₂ (λ (x : Shape) (y : Rule). record x { rules = x.rules ++ y ∷ [] })
     is_s is_r
 
--- the arguments are none for subcommands too, and have these rules
-abbrev pub AreOwn : List Arg → List Rule → Type 0
-AreOwn [] [] = Unit {0}
-AreOwn [] (r ∷ rs) = ⊥
-AreOwn (a ∷ args) [] = ⊥
-AreOwn (a ∷ args) (r ∷ rs) = (a.global ≡ false) × (rule_of a ≡ r) × AreOwn args rs
+-- one more row of a table
+pub row_more : {A B : Type 0} (f : A → B) (xs : List A) (i : ℕ) (other : A) → i < length xs
+    → map f (take (i + 1) xs) ≡ map f (take i xs) ++ f (get_or xs i other) ∷ []
+row_more f xs i other lt =
+    ap (map f) (take_more xs i other lt) ∙ map-append f (take i xs) (get_or xs i other ∷ [])
 
--- a command with more arguments
-pub args_added : (old new : Command) (args : List Arg) (s : Shape) (rs : List Rule) → AddsInTurn AddsArg old args new
-    → AreOwn args rs → shape_of old ≡ s → shape_of new ≡ record s { rules = s.rules ++ rs }
-args_added old new [] s [] added own is =
-    subst (λ c. shape_of c ≡ record s { rules = s.rules ++ [] }) added
-    (is ∙ ap (λ l. record s { rules = l }) (sym (append-nil s.rules)))
-args_added old new [] s (r ∷ rs) added own is = absurd own
-args_added old new (a ∷ args) s [] added own is = absurd own
-args_added old new (a ∷ args) s (r ∷ rs) (m, one, more) own is =
-    args_added m new args (record s { rules = s.rules ++ r ∷ [] }) rs more own.2
-    (arg_added old m a s r one own.0 is own.1)
-    ∙ ap (λ l. record s { rules = l }) (append_assoc s.rules (r ∷ []) rs)
+-- rules with that of one more row
+pub rules_more : {A : Type 0} (f : A → Rule) (rules : List Rule) (xs : List A) (i : ℕ) (other : A) → i < length xs
+    → (rules ++ map f (take i xs)) ++ f (get_or xs i other) ∷ [] ≡ rules ++ map f (take (i + 1) xs)
+rules_more f rules xs i other lt = append_assoc rules (map f (take i xs)) (f (get_or xs i other) ∷ [])
+    ∙ ap (λ l. rules ++ l) (sym (row_more f xs i other lt))
+
+-- a program with one more command behind the others
+pub command_behind : (a : App) (ss : List Shape) (s : Shape)
+    → with_commands a (ss ++ s ∷ []) ≡ with_subcommand (with_commands a ss) (configurable s)
+command_behind a [] s = refl
+command_behind a (t ∷ ss) s = command_behind (with_subcommand a (configurable t)) ss s
 
 -- a plain command has no global argument
 plain_own : (c : Command) → (shape_of c).is_plain ≡ true → (fields_of c).has_globals ≡ false

@@ -215,6 +215,7 @@ full_in_range name rows (Conformance o) is = let has = is.1 in (
   place_in_range rows o.site o.encoder has.is_place,
   in_range _ _ _ _ has.is_timeout,
   in_range _ _ _ _ has.is_quiet,
+  in_range _ _ _ _ has.is_silent,
 )
 full_in_range name rows (ShowWith o) is = tt
 full_in_range name rows (MakeWith o) is = tt

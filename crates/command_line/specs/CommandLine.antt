@@ -260,6 +260,8 @@ pub record IsConformance (rows : List Row) (job : ConformanceOptions) : Type 0 w
   pub is_only : option_map string_bytes job.only ≡ first_of (codes "only") rows
   pub is_timeout : IsOption (one_of (codes "timeout") rows) 1 60000 job.timeout
   pub is_quiet : IsOption (one_of (codes "quiet") rows) 1 60000 job.quiet
+  pub is_silent : IsOption (one_of (codes "silent") rows) 1 86400 job.silent
+  pub is_verbose : IsFlag (one_of (codes "verbose") rows) job.verbose
   pub is_json : IsFlag (one_of (codes "json") rows) job.json
 
 -- A job with all options of its command is that of the command of this name, with the options that its matches have.
@@ -420,7 +422,8 @@ place_argument = record (new_rule (codes "place")) { action = Some Set; value_na
 abbrev pub trying_command : Shape
 trying_command = command_with (codes "conformance") (place_options ++ place_argument ∷ maybe_word (codes "only")
     ∷ number_option (codes "timeout") 1 60000 (Some (codes "3000"))
-    ∷ number_option (codes "quiet") 1 60000 (Some (codes "300")) ∷ flag (codes "json") ∷ [])
+    ∷ number_option (codes "quiet") 1 60000 (Some (codes "300"))
+    ∷ number_option (codes "silent") 1 86400 (Some (codes "30")) ∷ flag (codes "verbose") ∷ flag (codes "json") ∷ [])
 
 -- The command `show`.
 abbrev pub showing_command : Shape

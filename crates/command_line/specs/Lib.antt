@@ -2,5 +2,6 @@
 pub mod Ranges
 pub mod Usages
 pub mod CommandLine
+pub mod Rows
 pub mod FileLines
 pub mod Settled

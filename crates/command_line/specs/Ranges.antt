@@ -41,6 +41,7 @@ IsServerInRange o = IsPlaceInRange o.site o.encoder × Lies 1 65535 o.port × Li
 -- Each number of conformance cases.
 abbrev pub IsConformanceInRange : ConformanceOptions → Type 0
 IsConformanceInRange o = IsPlaceInRange o.site o.encoder × Lies 1 60000 o.timeout × Lies 1 60000 o.quiet
+    × Lies 1 86400 o.silent
 
 -- Each number of a job with all options of its command.
 abbrev pub IsFullInRange : Job → Type 0

@@ -1,7 +1,8 @@
 //! What the matches of the command `encoder` ask for (profile).
-ghost use Rattle.std.specs.Prelude.{codes, IfOk, IfErr};
-ghost use Rattle.clap.specs.Words.{found_of, rows_of};
-ghost use Rattle.command_line.specs.CommandLine.{IsFullOf, RefusesList, services_text};
+ghost use Rattle.std.specs.Prelude.{◌≡◌, codes, option_map, IfOk, IfErr};
+ghost use Rattle.std.specs.String.{string_bytes};
+ghost use Rattle.clap.specs.Words.{first_of, found_of, rows_of};
+ghost use Rattle.command_line.specs.CommandLine.{IsEncoder, IsFullOf, IsList, RefusesList, services_text};
 
 use crate::forms::{flag_of, form_of};
 use crate::matched::{given_of, is_timed, list_of, number_of, short_of, small_of};
@@ -17,12 +18,33 @@ pub fn encoder_of(alloc: Global, found: &ArgMatches<'_>) -> Result<Job, Usage>
     ensures job { IfOk result (IsFullOf (codes "encoder") (rows_of (found_of found.now))) }
     ensures refused { IfErr result (RefusesList (services_text (rows_of (found_of found.now)))) }
 {
-    Ok(Job::EncoderWith(EncoderOptions {
+    let services = list_of(alloc, found)?;
+    let listen = word_of(alloc, found, "listen")?;
+    let faults = word_of(alloc, found, "faults")?;
+    let state = word_of(alloc, found, "state")?;
+    Ok(Job::EncoderWith(with_words(found, services, listen, faults, state)))
+}
+
+/// The options of the command, with its words.
+fn with_words(
+    found: &ArgMatches<'_>,
+    services: Vec<u8>,
+    listen: Option<String>,
+    faults: Option<String>,
+    state: Option<String>,
+) -> EncoderOptions
+    requires services { IsList (services_text (rows_of (found_of found.now))) services.items }
+    requires listen { option_map string_bytes listen ≡ first_of (codes "listen") (rows_of (found_of found.now)) }
+    requires faults { option_map string_bytes faults ≡ first_of (codes "faults") (rows_of (found_of found.now)) }
+    requires state { option_map string_bytes state ≡ first_of (codes "state") (rows_of (found_of found.now)) }
+    ensures { IsEncoder (rows_of (found_of found.now)) result }
+{
+    EncoderOptions {
         site: short_of(found, &SITE),
         encoder: small_of(found, &ENCODER),
         sets: small_of(found, &SETS),
-        services: list_of(alloc, found)?,
-        listen: word_of(alloc, found, "listen")?,
+        services,
+        listen,
         port: given_of(found, &PORT),
         air: given_of(found, &AIR_PORT),
         air_bits: flag_of(found, "air-bits"),
@@ -34,8 +56,8 @@ pub fn encoder_of(alloc: Global, found: &ArgMatches<'_>) -> Result<Job, Usage>
         form: form_of(found),
         time: is_timed(found),
         store: flag_of(found, "final-store"),
-        faults: word_of(alloc, found, "faults")?,
+        faults,
         seed: number_of(found, &SEED),
-        state: word_of(alloc, found, "state")?,
-    }))
+        state,
+    }
 }

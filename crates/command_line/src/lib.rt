@@ -9,14 +9,17 @@
 
 mod arguments;
 mod command_name;
+mod command_row;
+mod command_rows;
+mod command_table;
 mod conformance_options;
 mod definition;
 mod encoder_options;
 mod file_fault;
-mod file_options;
 mod forms;
 mod matched;
 mod numbers;
+mod option_row;
 mod page_options;
 mod parsing;
 mod receive_options;

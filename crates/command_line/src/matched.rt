@@ -6,7 +6,8 @@ ghost use Rattle.clap.specs.Words.{first_of, found_of, one_of, rows_of};
 ghost use Rattle.clap.specs.declared.error.Error.{Error};
 ghost use Rattle.clap.specs.declared.error.kind.ErrorKind.TheVariants.{InvalidValue};
 ghost use Rattle.command_line.specs.CommandLine.{IsOption, IsList, IsFullOf, RefusesList, services_text, host_text};
-ghost use Rattle.command_line.specs.CommandLine.{HasNoForm, IsMaybe, IsTimed, RefusesLine, ladder_word, word_text};
+ghost use Rattle.command_line.specs.CommandLine.{HasNoForm, IsMaybe, IsServer, IsTimed, RefusesLine, ladder_word};
+ghost use Rattle.command_line.specs.CommandLine.{word_text};
 ghost use Rattle.command_line.specs.declared.usage.Usage.TheVariants.{OutOfMemory, Refused};
 
 use crate::definition::program;
@@ -105,11 +106,12 @@ pub fn answer_of(alloc: Global, found: &ArgMatches<'_>) -> Result<Job, Usage>
     ensures job { IfOk result (IsFullOf (codes "answer") (rows_of (found_of found.now))) }
     ensures refused { IfErr result (RefusesList (services_text (rows_of (found_of found.now)))) }
 {
+    let services = list_of(alloc, found)?;
     Ok(Job::AnswerWith(AnswerOptions {
         site: short_of(found, &SITE),
         encoder: small_of(found, &ENCODER),
         sets: small_of(found, &SETS),
-        services: list_of(alloc, found)?,
+        services,
         store: flag_of(found, "store"),
         form: form_of(found),
         air: maybe_of(found, &AIR_GROUPS),
@@ -194,10 +196,21 @@ pub fn server_of(alloc: Global, found: &ArgMatches<'_>) -> Result<Job, Usage>
     ensures job { IfOk result (IsFullOf (codes "server") (rows_of (found_of found.now))) }
     ensures refused { IfErr result (λ why. why ≡ OutOfMemory) }
 {
-    Ok(Job::ServerWith(ServerOptions {
+    let host = host_of(alloc, found)?;
+    let state = word_of(alloc, found, "state")?;
+    Ok(Job::ServerWith(server_with(found, host, state)))
+}
+
+/// The options of the command `server`, with its words.
+fn server_with(found: &ArgMatches<'_>, host: String, state: Option<String>) -> ServerOptions
+    requires host { string_bytes host ≡ host_text (rows_of (found_of found.now)) }
+    requires state { option_map string_bytes state ≡ first_of (codes "state") (rows_of (found_of found.now)) }
+    ensures { IsServer (rows_of (found_of found.now)) result }
+{
+    ServerOptions {
         site: short_of(found, &SITE),
         encoder: small_of(found, &ENCODER),
-        host: host_of(alloc, found)?,
+        host,
         port: short_of(found, &PORT),
         tries: number_of(found, &TRIES),
         timeout: number_of(found, &TIMEOUT),
@@ -207,8 +220,8 @@ pub fn server_of(alloc: Global, found: &ArgMatches<'_>) -> Result<Job, Usage>
         join: flag_of(found, "join"),
         reconnect_silent: flag_of(found, "reconnect-silent"),
         verbose: flag_of(found, "verbose"),
-        state: word_of(alloc, found, "state")?,
-    }))
+        state,
+    }
 }
 
 /// What the command `state` asks for.

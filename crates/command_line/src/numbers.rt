@@ -105,6 +105,15 @@ pub const QUIET: NumberOption = NumberOption {
     help: "After how many milliseconds with nothing read a case is judged, 1 to 60000",
 };
 
+/// After how long with nothing heard of a case `conformance` ends.
+pub const CASE_SILENT: NumberOption = NumberOption {
+    name: "silent",
+    least: 1,
+    most: 86_400,
+    default: Some("30"),
+    help: "After how many seconds with nothing read of a case the run ends, 1 to 86400",
+};
+
 /// What chance begins with on a bad line of `encoder`.
 pub const SEED: NumberOption = NumberOption {
     name: "seed",

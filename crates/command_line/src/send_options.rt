@@ -3,7 +3,7 @@ ghost use Rattle.std.specs.Prelude.{◌≡◌, codes, IfOk, IfErr, option_map};
 ghost use Rattle.std.specs.String.{string_bytes};
 ghost use Rattle.clap.specs.Walk.{first_of};
 ghost use Rattle.clap.specs.Words.{found_of, rows_of};
-ghost use Rattle.command_line.specs.CommandLine.{IsFullOf, IsRegion, IsToldIn};
+ghost use Rattle.command_line.specs.CommandLine.{IsFullOf, IsLive, IsRegion, IsRejoin, IsToldIn, host_text};
 ghost use Rattle.command_line.specs.declared.usage.Usage.TheVariants.{OutOfMemory};
 
 use crate::forms::flag_of;
@@ -23,11 +23,28 @@ pub fn send_of(alloc: Global, found: &ArgMatches<'_>) -> Result<Job, Usage>
     ensures job { IfOk result (IsFullOf (codes "send") (rows_of (found_of found.now))) }
     ensures refused { IfErr result (λ why. why ≡ OutOfMemory) }
 {
+    let host = host_of(alloc, found)?;
+    let state = word_of(alloc, found, "state")?;
     let station = word_of(alloc, found, "station")?;
-    Ok(Job::Send(SendOptions {
+    Ok(Job::Send(with_words(found, host, state, station)))
+}
+
+/// The options of the command, with its words.
+fn with_words(
+    found: &ArgMatches<'_>,
+    host: String,
+    state: Option<String>,
+    station: Option<String>,
+) -> SendOptions
+    requires host { string_bytes host ≡ host_text (rows_of (found_of found.now)) }
+    requires state { option_map string_bytes state ≡ first_of (codes "state") (rows_of (found_of found.now)) }
+    requires station { option_map string_bytes station ≡ first_of (codes "station") (rows_of (found_of found.now)) }
+    ensures { IsLive (rows_of (found_of found.now)) result }
+{
+    SendOptions {
         site: short_of(found, &SITE),
         encoder: small_of(found, &ENCODER),
-        host: host_of(alloc, found)?,
+        host,
         port: short_of(found, &PORT),
         tries: number_of(found, &TRIES),
         timeout: number_of(found, &TIMEOUT),
@@ -37,13 +54,21 @@ pub fn send_of(alloc: Global, found: &ArgMatches<'_>) -> Result<Job, Usage>
         form: told_in(found),
         strict: flag_of(found, "strict"),
         join: flag_of(found, "join"),
-        rejoin: flag_of(found, "rejoin") || station.is_some(),
+        rejoin: is_rejoin(found, &station),
         retry_every: number_of(found, &RETRY_EVERY),
         give_up: number_of(found, &GIVE_UP),
         silent: number_of(found, &SILENT),
-        state: word_of(alloc, found, "state")?,
+        state,
         station,
-    }))
+    }
+}
+
+/// Whether an encoder is joined anew that answers nothing: so it is too where the station's file is given.
+fn is_rejoin(found: &ArgMatches<'_>, station: &Option<String>) -> bool
+    requires { option_map string_bytes station.now ≡ first_of (codes "station") (rows_of (found_of found.now)) }
+    ensures { IsRejoin (rows_of (found_of found.now)) result }
+{
+    flag_of(found, "rejoin") || station.is_some()
 }
 
 /// Of which region the names of programme types are.

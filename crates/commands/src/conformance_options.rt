@@ -15,6 +15,10 @@ pub struct ConformanceOptions {
     pub timeout: u32,
     /// After how many milliseconds in which nothing came a case is judged, from 1.
     pub quiet: u32,
+    /// After how many seconds in which nothing came of a case at all the run ends, 1 to 86400.
+    pub silent: u32,
+    /// Whether what was sent, wanted and came of a case that is not kept is told too.
+    pub verbose: bool,
     /// Whether it is told in objects of JSON.
     pub json: bool,
 }

@@ -2,3 +2,4 @@ pub mod Judged
 pub mod Frames
 pub mod Spelled
 pub mod SoFar
+pub mod NoiseSoFar

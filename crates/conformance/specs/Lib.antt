@@ -2,4 +2,5 @@
 pub mod Cases
 pub mod Judging
 pub mod Lines
+pub mod Noise
 pub mod Sending

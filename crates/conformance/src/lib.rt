@@ -5,6 +5,7 @@
 //!   one line says, and [`CaseFault`] what is wrong with one.
 //! - [`sent`], [`wanted`]: the bytes of a case for the encoder at an address, and the replies that it wants.
 //! - [`judge`]: what came of a case, held against the replies that it wants; [`Verdict`], [`Reply`] and [`Expected`].
+//! - [`noise`]: how many bytes came that are no part of a segment.
 #![tactic(auto)]
 
 mod built_in;
@@ -13,6 +14,7 @@ mod case_bytes;
 mod case_file;
 mod comparison;
 mod line;
+mod passed_over;
 mod steps;
 mod verdict;
 mod words;
@@ -23,4 +25,5 @@ pub use case_bytes::{sent, wanted};
 pub use case_file::{Refusal, read_cases};
 pub use comparison::judge;
 pub use line::{CaseFault, Line};
+pub use passed_over::noise;
 pub use verdict::{Expected, Reply, Verdict};

@@ -22,7 +22,8 @@ pub enum Expected {
 /// What came of a case, by the first place where it is not as it should be.
 #[derive(Clone, Copy, Debug, PartialEq, Eq)]
 pub enum Verdict {
-    /// The replies that came are the wanted ones in order, and nothing else came.
+    /// What is found in what came is the wanted replies in order, and nothing else. Bytes that are no part of a segment
+    /// are found as nothing.
     Kept,
     /// This reply is wanted, and nothing more came.
     Missing(Expected),

@@ -6,9 +6,9 @@ use Rattle.conformance.specs.declared.case.Case.{Case}
 use Rattle.conformance.specs.declared.built_in.TheConstants.{CASES}
 use Rattle.conformance.specs.Cases.{Spells}
 use Rattle.commands.specs.declared.conformance_options.ConformanceOptions.{ConformanceOptions}
-use Rattle.conformance_command.specs.declared.case_run.Went.{Went}
+use Rattle.conformance_command.specs.declared.went.Went.{Went}
 use Rattle.conformance_command.specs.Choosing.{chosen, tally_of, status_of}
-use Rattle.conformance_command.specs.Conformance.{own_address, patience_of, only_of, RunsAll}
+use Rattle.conformance_command.specs.Conformance.{way_of, only_of, RunsAll}
 use Rattle.conformance_command.specs.Dialling.{DialsQuietly}
 use Rattle.conformance_command.specs.OverTcp.{asked_of, RunsBuiltIn}
 use Rattle.conformance_command.specs.Place.{IsPlace}
@@ -24,7 +24,7 @@ module _ {I O : Type 0} (opens : DialsQuietly → Option (I × O) → DialsQuiet
   pub built_in : (cases read : List Case) (host : List ℕ) (port : ℕ) (dialled left : DialsQuietly) (wents : List Went)
       → Spells CASES.now cases → IsPlace (string_bytes job.place) host port → dialled ≡ asked_of job host port
       → read ≡ cases
-      → RunsAll opens closes remaining contents (own_address job) (patience_of job) job.json
+      → RunsAll opens closes remaining contents (way_of job)
       (chosen (only_of job) read) wents (record { connect = dialled; held = held })
       (record { connect = left; held = held' })
       → status ≡ status_of (tally_of (chosen (only_of job) read) wents)
@@ -37,10 +37,10 @@ module _ {I O : Type 0} (opens : DialsQuietly → Option (I × O) → DialsQuiet
     place = place;
     wents = wents;
     left = left;
-    runs = subst (λ d. RunsAll opens closes remaining contents (own_address job) (patience_of job) job.json
+    runs = subst (λ d. RunsAll opens closes remaining contents (way_of job)
         (chosen (only_of job) cases) wents (record { connect = d; held = held })
         (record { connect = left; held = held' })) asked
-        (subst (λ them. RunsAll opens closes remaining contents (own_address job) (patience_of job) job.json
+        (subst (λ them. RunsAll opens closes remaining contents (way_of job)
         (chosen (only_of job) them) wents (record { connect = dialled; held = held })
         (record { connect = left; held = held' })) same runs);
     comes_to = subst (λ them. status ≡ status_of (tally_of (chosen (only_of job) them) wents)) same comes;

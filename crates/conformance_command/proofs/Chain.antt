@@ -1,19 +1,18 @@
 -- Cases one after another.
-use Rattle.std.proofs.Common.{◌≡◌, ◌≢◌, ℕ, ◌+◌, Bool, true, cond, List, [], ◌∷◌, length, Option, Some, None, Result, Ok}
+use Rattle.std.proofs.Common.{◌≡◌, ℕ, ◌+◌, true, cond, List, [], ◌∷◌, length, Option, None, Result, Ok}
 use Rattle.std.proofs.Common.{Err}
-use Rattle.std.proofs.Common.{IfOk, IfErr, arith, refl, ◌∙◌, ap, sym, subst, inl, inr}
+use Rattle.std.proofs.Common.{IfOk, IfErr, append-nil, arith, refl, ◌∙◌, ap, sym, subst, inl, inr}
 use Rattle.std.specs.Io.KnownBytes.{Appends}
 use Rattle.std.proofs.KnownBytes.{Appends-nil}
 use Rattle.uecp_text.specs.declared.run_fault.RunFault.{RunFault}
 use Rattle.uecp_text.specs.declared.run_fault.RunFault.TheVariants as run
 use Rattle.uecp_text.specs.Faults.{status_of as fault_status}
 use Rattle.conformance.specs.declared.case.Case.{Case}
-use Rattle.conformance_command.specs.declared.case_run.Went.{Went}
-use Rattle.conformance_command.specs.declared.case_run.Went.TheVariants.{NotHeard}
-use Rattle.conformance_command.specs.declared.case_run.NotRun.{NotRun}
+use Rattle.conformance_command.specs.declared.went.Went.{Went}
+use Rattle.conformance_command.specs.declared.way.Way.{Way}
 use Rattle.conformance_command.specs.declared.tally.Tally.{Tally}
 use Rattle.conformance_command.specs.Choosing.{is_chosen, chosen, counted, none_counted, tally_from, tally_of}
-use Rattle.conformance_command.specs.Telling.{first_line, case_line, last_line}
+use Rattle.conformance_command.specs.Telling.{first_line, case_lines, bail_line, last_line}
 use Rattle.conformance_command.specs.Conformance.{Standing, IsUntold, TellsLines, Runs, RunsAndTells, RunsCases}
 use Rattle.conformance_command.specs.Conformance.{StopsAt}
 use Rattle.conformance_command.specs.Conformance.{StopsAmong, RunsAll, BreaksOff}
@@ -34,44 +33,54 @@ untold_status fault (inl is) = ap fault_status is
 untold_status fault (inr is) = ap fault_status is
 
 module _ {C I O : Type 0} (opens : C → Option (I × O) → C → Type 0) (closes : C → I → O → C → Type 0)
-    (remaining : I → Option (List ℕ)) (contents : O → Option (List ℕ)) (own patience : ℕ) (json : Bool) where
-  abbrev RunsHere : Case → Went → C → C → Type 0
-  RunsHere = Runs opens closes remaining contents own patience json
+    (remaining : I → Option (List ℕ)) (contents : O → Option (List ℕ)) (way : Way) where
+  abbrev RunsHere : Case → Went → ℕ → List ℕ → C → C → Type 0
+  RunsHere = Runs opens closes remaining contents way
 
   abbrev TellsHere : ℕ → Case → Went → Standing C → Standing C → Type 0
-  TellsHere = RunsAndTells opens closes remaining contents own patience json
+  TellsHere = RunsAndTells opens closes remaining contents way
 
   abbrev CasesHere : ℕ → List Case → List Went → Standing C → Standing C → Type 0
-  CasesHere = RunsCases opens closes remaining contents own patience json
+  CasesHere = RunsCases opens closes remaining contents way
 
   abbrev AtHere : ℕ → Case → RunFault → Standing C → Standing C → Type 0
-  AtHere = StopsAt opens closes remaining contents own patience json
+  AtHere = StopsAt opens closes remaining contents way
 
   abbrev AmongHere : ℕ → List Case → RunFault → Standing C → Standing C → Type 0
-  AmongHere = StopsAmong opens closes remaining contents own patience json
+  AmongHere = StopsAmong opens closes remaining contents way
 
   abbrev AllHere : List Case → List Went → Standing C → Standing C → Type 0
-  AllHere = RunsAll opens closes remaining contents own patience json
+  AllHere = RunsAll opens closes remaining contents way
 
   abbrev BreaksHere : List Case → RunFault → Standing C → Standing C → Type 0
-  BreaksHere = BreaksOff opens closes remaining contents own patience json
+  BreaksHere = BreaksOff opens closes remaining contents way
 
   -- There was no memory for all that came of a case.
-  pub not_heard : (number : ℕ) (case : Case) (r : Result Went NotRun) (c c' : C) (held : Option (List ℕ))
-      → r ≡ Ok NotHeard → IfOk r (λ went. RunsHere case went c c')
+  pub not_heard : (number : ℕ) (case : Case) (went : Went) (left : ℕ) (came : List ℕ) (c c' : C)
+      (held : Option (List ℕ)) → RunsHere case went left came c c'
       → AtHere number case run.OutOfMemory (record { connect = c; held = held }) (record { connect = c'; held = held })
-  not_heard number case r c c' held is runs =
-      inr (inr (
-        NotHeard,
-        subst (λ w. IfOk w (λ went. RunsHere case went c c')) is runs,
+  not_heard number case went left came c c' held runs =
+      inr (inr (inl (
+        went,
+        left,
+        came,
+        runs,
         (
           [],
-          case_line json number case NotHeard,
+          case_lines way number case went left came,
           refl,
           Appends-nil held,
         ),
         inr refl,
-      ))
+      )))
+
+  -- There was no connection to be had, and it was told or begun to be told.
+  pub no_line : (number : ℕ) (case : Case) (c c' : C) (held held' : Option (List ℕ)) (r : Result (Unit {0}) RunFault)
+      → opens c None c' → TellsLines (bail_line way.json) held held' r
+      → AtHere number case run.Connection (record { connect = c; held = held }) (record { connect = c'; held = held' })
+  no_line number case c c' held held' (Ok done) opened told =
+      inl (refl, opened, (bail_line way.json, [], sym (append-nil (bail_line way.json)), told))
+  no_line number case c c' held held' (Err fault) opened (begins, untold) = inl (refl, opened, begins)
 
   -- No case is left.
   pub none_run : (only : Option (List ℕ)) (number : ℕ) (cases : List Case) (x : Standing C) (t : Tally) → cases ≡ []
@@ -123,34 +132,35 @@ module _ {C I O : Type 0} (opens : C → Option (I × O) → C → Type 0) (clos
   module _ (cases : List Case) (count : ℕ) (count_is : count ≡ length cases) where
     -- What stands first could not be told.
     pub not_first : (fault : RunFault) (c : C) (held held' : Option (List ℕ))
-        → TellsLines (first_line json count) held held' (Err fault)
+        → TellsLines (first_line way.json count) held held' (Err fault)
         → (fault_status fault ≡ 3) × BreaksHere cases fault (record { connect = c; held = held })
         (record { connect = c; held = held' })
     not_first fault c held held' told =
-        let (begins, untold) = subst (λ n. TellsLines (first_line json n) held held' (Err fault)) count_is told in
+        let (begins, untold) = subst (λ n. TellsLines (first_line way.json n) held held' (Err fault)) count_is told in
         (untold_status fault untold, inl (refl, begins, untold))
 
     -- The run stopped at one of the cases.
     pub not_all : (fault : RunFault) (c c' : C) (held held1 held' : Option (List ℕ))
-        → Appends held held1 (first_line json count)
+        → Appends held held1 (first_line way.json count)
         → AmongHere 1 cases fault (record { connect = c; held = held1 }) (record { connect = c'; held = held' })
         → BreaksHere cases fault (record { connect = c; held = held }) (record { connect = c'; held = held' })
     not_all fault c c' held held1 held' told stops =
-        let first = subst (λ n. Appends held held1 (first_line json n)) count_is told in
+        let first = subst (λ n. Appends held held1 (first_line way.json n)) count_is told in
         inr (inl (record { connect = c; held = held1 }, (refl, first), stops))
 
     -- What stands last could not be told.
     pub not_last : (fault : RunFault) (c c' : C) (held held1 held2 held' : Option (List ℕ)) (t : Tally)
-        → Appends held held1 (first_line json count)
+        → Appends held held1 (first_line way.json count)
         → (wents : List Went) × CasesHere 1 cases wents (record { connect = c; held = held1 })
         (record { connect = c'; held = held2 }) × (t ≡ tally_of cases wents)
-        → TellsLines (last_line json count t) held2 held' (Err fault)
+        → TellsLines (last_line way.json count t) held2 held' (Err fault)
         → (fault_status fault ≡ 3) × BreaksHere cases fault (record { connect = c; held = held })
         (record { connect = c'; held = held' })
     not_last fault c c' held held1 held2 held' t told (wents, ran, tally) last =
-        let first = subst (λ n. Appends held held1 (first_line json n)) count_is told in
-        let (begins, untold) = subst (λ u. TellsLines (last_line json (length cases) u) held2 held' (Err fault)) tally
-        (subst (λ n. TellsLines (last_line json n t) held2 held' (Err fault)) count_is last) in (
+        let first = subst (λ n. Appends held held1 (first_line way.json n)) count_is told in
+        let (begins, untold) = subst (λ u. TellsLines (last_line way.json (length cases) u) held2 held' (Err fault))
+        tally
+        (subst (λ n. TellsLines (last_line way.json n t) held2 held' (Err fault)) count_is last) in (
           untold_status fault untold,
           inr (inr (
             wents,
@@ -164,10 +174,10 @@ module _ {C I O : Type 0} (opens : C → Option (I × O) → C → Type 0) (clos
 
     -- All was run and told.
     pub all_run : (c c' : C) (held held1 held2 held' : Option (List ℕ)) (t : Tally)
-        → Appends held held1 (first_line json count)
+        → Appends held held1 (first_line way.json count)
         → (wents : List Went) × CasesHere 1 cases wents (record { connect = c; held = held1 })
         (record { connect = c'; held = held2 }) × (t ≡ tally_of cases wents)
-        → Appends held2 held' (last_line json count t)
+        → Appends held2 held' (last_line way.json count t)
         → (wents : List Went) × AllHere cases wents (record { connect = c; held = held })
         (record { connect = c'; held = held' }) × (t ≡ tally_of cases wents)
     all_run c c' held held1 held2 held' t told (wents, ran, tally) last = (
@@ -175,25 +185,23 @@ module _ {C I O : Type 0} (opens : C → Option (I × O) → C → Type 0) (clos
       record {
         begun = record { connect = c; held = held1 };
         ended = record { connect = c'; held = held2 };
-        first = (refl, subst (λ n. Appends held held1 (first_line json n)) count_is told);
+        first = (refl, subst (λ n. Appends held held1 (first_line way.json n)) count_is told);
         ran = ran;
         last = (
           refl,
-          subst (λ u. Appends held2 held' (last_line json (length cases) u)) tally
-              (subst (λ n. Appends held2 held' (last_line json n t)) count_is last),
+          subst (λ u. Appends held2 held' (last_line way.json (length cases) u)) tally
+              (subst (λ n. Appends held2 held' (last_line way.json n t)) count_is last),
         );
       },
       tally,
     )
 
--- The same of the same address, patience and name.
+-- The same in the same way and with the same name.
 pub breaks_as : {C I O : Type 0} (opens : C → Option (I × O) → C → Type 0) (closes : C → I → O → C → Type 0)
-    (remaining : I → Option (List ℕ)) (contents : O → Option (List ℕ)) (own own' patience patience' : ℕ) (json : Bool)
-    (only only' : Option (List ℕ)) (cases : List Case) (fault : RunFault) (x x' : Standing C) → own ≡ own'
-    → patience ≡ patience' → only ≡ only'
-    → BreaksOff opens closes remaining contents own patience json (chosen only cases) fault x x'
-    → BreaksOff opens closes remaining contents own' patience' json (chosen only' cases) fault x x'
-breaks_as opens closes remaining contents own own' patience patience' json only only' cases fault x x' a b d breaks =
-    subst (λ o. BreaksOff opens closes remaining contents o patience' json (chosen only' cases) fault x x') a
-    (subst (λ p. BreaksOff opens closes remaining contents own p json (chosen only' cases) fault x x') b
-    (subst (λ n. BreaksOff opens closes remaining contents own patience json (chosen n cases) fault x x') d breaks))
+    (remaining : I → Option (List ℕ)) (contents : O → Option (List ℕ)) (way way' : Way)
+    (only only' : Option (List ℕ)) (cases : List Case) (fault : RunFault) (x x' : Standing C) → way ≡ way'
+    → only ≡ only' → BreaksOff opens closes remaining contents way (chosen only cases) fault x x'
+    → BreaksOff opens closes remaining contents way' (chosen only' cases) fault x x'
+breaks_as opens closes remaining contents way way' only only' cases fault x x' same named breaks =
+    subst (λ w. BreaksOff opens closes remaining contents w (chosen only' cases) fault x x') same
+    (subst (λ n. BreaksOff opens closes remaining contents way (chosen n cases) fault x x') named breaks)

@@ -3,3 +3,4 @@ pub mod Heard
 pub mod Parts
 pub mod Told
 pub mod BuiltIn
+pub mod Noted

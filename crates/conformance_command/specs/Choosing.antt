@@ -4,8 +4,8 @@ use Rattle.std.specs.Prelude.{None}
 use Rattle.std.specs.Prelude.{if◌then◌else◌}
 use Rattle.conformance.specs.declared.case.Case.{Case}
 use Rattle.conformance.specs.declared.verdict.Verdict.TheVariants.{Kept}
-use Rattle.conformance_command.specs.declared.case_run.Went.{Went}
-use Rattle.conformance_command.specs.declared.case_run.Went.TheVariants.{Judged}
+use Rattle.conformance_command.specs.declared.went.Went.{Went}
+use Rattle.conformance_command.specs.declared.went.Went.TheVariants.{Judged}
 use Rattle.conformance_command.specs.declared.tally.Tally.{Tally}
 
 -- Whether a case is run where this name is given: that which has this name, or is of the group of this name; and each

@@ -1,7 +1,7 @@
 -- A run of conformance cases against an encoder (profile).
-use Rattle.std.specs.Prelude.{◌≡◌, ◌≢◌, ◌⊎◌, ◌+◌, ◌*◌, ◌/◌, ◌%◌, ◌==◌, ◌≤◌, ◌<◌, ◌^◌, ℕ, Bool, List, [], ◌∷◌, length}
+use Rattle.std.specs.Prelude.{◌≡◌, ◌≢◌, ◌⊎◌, ◌+◌, ◌*◌, ◌/◌, ◌%◌, ◌==◌, ◌≤◌, ℕ, List, [], ◌∷◌, length}
 use Rattle.std.specs.Prelude.{codes}
-use Rattle.std.specs.Prelude.{Option, Some, None, Result, Ok, Err, if◌then◌else◌}
+use Rattle.std.specs.Prelude.{Option, None, Result, Ok, Err, if◌then◌else◌}
 use Rattle.std.specs.Option.{option_map}
 use Rattle.std.specs.String.{string_bytes}
 use Rattle.std.specs.Io.KnownBytes.{Appends}
@@ -10,28 +10,49 @@ use Rattle.uecp_text.specs.declared.run_fault.RunFault.TheVariants as run
 use Rattle.uecp_text.specs.Written.{Begins}
 use Rattle.conformance.specs.declared.case.Case.{Case}
 use Rattle.commands.specs.declared.conformance_options.ConformanceOptions.{ConformanceOptions}
-use Rattle.conformance_command.specs.declared.case_run.Went.{Went}
-use Rattle.conformance_command.specs.declared.case_run.Went.TheVariants.{NotHeard}
+use Rattle.conformance_command.specs.declared.went.Went.{Went}
+use Rattle.conformance_command.specs.declared.went.Went.TheVariants.{NotHeard, Silent}
+use Rattle.conformance_command.specs.declared.way.Way.{Way}
 use Rattle.conformance_command.specs.Running.{RunsCase}
-use Rattle.conformance_command.specs.Choosing.{chosen, tally_of, status_of}
-use Rattle.conformance_command.specs.Telling.{first_line, case_line, bail_line, last_line}
+use Rattle.conformance_command.specs.Choosing.{chosen, tally_of}
+use Rattle.conformance_command.specs.Telling.{first_line, case_lines, bail_line, last_line}
 
 -- ---- What is asked for.
 
--- The address is that of one encoder, and both limits of time are some.
+-- The address is that of one encoder, and the limits of time are some.
 pub record IsInRange (job : ConformanceOptions) : Type 0 where
   pub site : (1 ≤ job.site) × (job.site ≤ 1023)
   pub encoder : (1 ≤ job.encoder) × (job.encoder ≤ 63)
   pub timeout : 1 ≤ job.timeout
   pub quiet : 1 ≤ job.quiet
+  pub silent : (1 ≤ job.silent) × (job.silent ≤ 86400)
 
 -- The encoder's address.
 abbrev pub own_address : ConformanceOptions → ℕ
 own_address job = job.site * 64 + job.encoder
 
--- How many quiet times make up the timeout, the last of them perhaps not whole.
+-- How many parts of this length make up a whole, the last of them perhaps not whole.
+abbrev pub parts_of : (whole part : ℕ) → ℕ
+parts_of whole part = whole / part + (if whole % part == 0 then 0 else 1)
+
+-- How many quiet times make up the timeout.
 abbrev pub patience_of : ConformanceOptions → ℕ
-patience_of job = job.timeout / job.quiet + (if job.timeout % job.quiet == 0 then 0 else 1)
+patience_of job = parts_of job.timeout job.quiet
+
+-- How many quiet times make up the seconds after which a run ends where nothing comes.
+abbrev pub silent_of : ConformanceOptions → ℕ
+silent_of job = parts_of (job.silent * 1000) job.quiet
+
+-- How the cases are run and told.
+abbrev pub way_of : ConformanceOptions → Way
+way_of job = record {
+  own = own_address job;
+  patience = patience_of job;
+  silent = silent_of job;
+  seconds = job.silent;
+  json = job.json;
+  verbose = job.verbose;
+}
 
 -- The name of the case or group that alone is to be run, where one is given.
 abbrev pub only_of : ConformanceOptions → Option (List ℕ)
@@ -62,15 +83,16 @@ abbrev pub TellsNot : {C : Type 0} → (lines : List ℕ) → RunFault → (x x'
 TellsNot lines fault x x' = (x'.connect ≡ x.connect) × Begins x.held x'.held lines × IsUntold fault
 
 module _ {C I O : Type 0} (opens : C → Option (I × O) → C → Type 0) (closes : C → I → O → C → Type 0)
-    (remaining : I → Option (List ℕ)) (contents : O → Option (List ℕ)) (own patience : ℕ) (json : Bool) where
-  -- This case was run, with connections from there.
-  abbrev pub Runs : Case → Went → (c c' : C) → Type 0
-  Runs case went c c' = RunsCase opens closes remaining contents own patience case.steps.items c c' went
+    (remaining : I → Option (List ℕ)) (contents : O → Option (List ℕ)) (way : Way) where
+  -- This case was run, with connections from there: so many bytes were left by joining, and these came.
+  abbrev pub Runs : Case → Went → (left : ℕ) → (came : List ℕ) → (c c' : C) → Type 0
+  Runs case went left came c c' = RunsCase opens closes remaining contents way.own way.patience way.silent
+      case.steps.items c c' went left came
 
-  -- A case was run and heard, and then the writer got its line.
+  -- A case was run and heard, and something came; and then the writer got its lines.
   abbrev pub RunsAndTells : (number : ℕ) → Case → Went → (x x' : Standing C) → Type 0
-  RunsAndTells number case went x x' = Runs case went x.connect x'.connect × (went ≢ NotHeard)
-      × Appends x.held x'.held (case_line json number case went)
+  RunsAndTells number case went x x' = (left : ℕ) × (came : List ℕ) × Runs case went left came x.connect x'.connect
+      × (went ≢ NotHeard) × (went ≢ Silent) × Appends x.held x'.held (case_lines way number case went left came)
 
   -- These cases were run and went so, one after another, each from where the one before ended, and numbered from this
   -- on; and nothing else was done.
@@ -81,14 +103,16 @@ module _ {C I O : Type 0} (opens : C → Option (I × O) → C → Type 0) (clos
   RunsCases number cases wents x x' = ⊥
 
   -- A run stopped at this case, for this: there was no connection to be had, which was told or begun to be told; there
-  -- was no memory to begin it; or it was run, and then there was no memory for what came or for its line, or that could
-  -- not be written.
+  -- was no memory to begin it; or it was run, and then there was no memory for what came or for its lines, or they
+  -- could not be written; or nothing came of it, and it was told so.
   abbrev pub StopsAt : (number : ℕ) → Case → RunFault → (x x' : Standing C) → Type 0
   StopsAt number case fault x x' =
-      ((fault ≡ run.Connection) × opens x.connect None x'.connect × Begins x.held x'.held (bail_line json))
+      ((fault ≡ run.Connection) × opens x.connect None x'.connect × Begins x.held x'.held (bail_line way.json))
       ⊎ ((fault ≡ run.OutOfMemory) × (x' ≡ x))
-      ⊎ ((went : Went) × Runs case went x.connect x'.connect × Begins x.held x'.held (case_line json number case went)
-      × IsUntold fault)
+      ⊎ ((went : Went) × (left : ℕ) × (came : List ℕ) × Runs case went left came x.connect x'.connect
+      × Begins x.held x'.held (case_lines way number case went left came) × IsUntold fault)
+      ⊎ ((fault ≡ run.Outstanding) × (left : ℕ) × (came : List ℕ) × Runs case Silent left came x.connect x'.connect
+      × Appends x.held x'.held (case_lines way number case Silent left came))
 
   -- A run stopped at one of these cases, for this; those before it were run and told, and nothing else was done.
   abbrev pub StopsAmong : (number : ℕ) → List Case → RunFault → (x x' : Standing C) → Type 0
@@ -103,18 +127,18 @@ module _ {C I O : Type 0} (opens : C → Option (I × O) → C → Type 0) (clos
   pub record RunsAll (cases : List Case) (wents : List Went) (x x' : Standing C) : Type 0 where
     pub begun : Standing C
     pub ended : Standing C
-    pub first : Tells (first_line json (length cases)) x begun
+    pub first : Tells (first_line way.json (length cases)) x begun
     pub ran : RunsCases 1 cases wents begun ended
-    pub last : Tells (last_line json (length cases) (tally_of cases wents)) ended x'
+    pub last : Tells (last_line way.json (length cases) (tally_of cases wents)) ended x'
 
   -- A run over these cases broke off, for this: what stands first could not be told; or it stopped at one of them; or
   -- all were run, and what stands last could not be told.
   abbrev pub BreaksOff : List Case → RunFault → (x x' : Standing C) → Type 0
   BreaksOff cases fault x x' =
-      TellsNot (first_line json (length cases)) fault x x'
-      ⊎ ((y : Standing C) × Tells (first_line json (length cases)) x y × StopsAmong 1 cases fault y x')
-      ⊎ ((wents : List Went) × (y z : Standing C) × Tells (first_line json (length cases)) x y
-      × RunsCases 1 cases wents y z × TellsNot (last_line json (length cases) (tally_of cases wents)) fault z x')
+      TellsNot (first_line way.json (length cases)) fault x x'
+      ⊎ ((y : Standing C) × Tells (first_line way.json (length cases)) x y × StopsAmong 1 cases fault y x')
+      ⊎ ((wents : List Went) × (y z : Standing C) × Tells (first_line way.json (length cases)) x y
+      × RunsCases 1 cases wents y z × TellsNot (last_line way.json (length cases) (tally_of cases wents)) fault z x')
 
 -- No case and no group has the name that is given.
 abbrev pub IsUnknown : (only : Option (List ℕ)) → List Case → Type 0

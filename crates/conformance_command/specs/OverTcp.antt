@@ -5,9 +5,9 @@ use Rattle.conformance.specs.declared.case.Case.{Case}
 use Rattle.conformance.specs.declared.built_in.TheConstants.{CASES}
 use Rattle.conformance.specs.Cases.{Spells}
 use Rattle.commands.specs.declared.conformance_options.ConformanceOptions.{ConformanceOptions}
-use Rattle.conformance_command.specs.declared.case_run.Went.{Went}
+use Rattle.conformance_command.specs.declared.went.Went.{Went}
 use Rattle.conformance_command.specs.Choosing.{chosen, tally_of, status_of}
-use Rattle.conformance_command.specs.Conformance.{own_address, patience_of, only_of, Standing, RunsAll}
+use Rattle.conformance_command.specs.Conformance.{way_of, only_of, RunsAll}
 use Rattle.conformance_command.specs.Dialling.{DialsQuietly}
 use Rattle.conformance_command.specs.Place.{IsPlace}
 
@@ -31,7 +31,7 @@ pub record RunsBuiltIn {I O : Type 0} (opens : DialsQuietly → Option (I × O) 
     pub place : IsPlace (string_bytes job.place) host port
     pub wents : List Went
     pub left : DialsQuietly
-    pub runs : RunsAll opens closes remaining contents (own_address job) (patience_of job) job.json
+    pub runs : RunsAll opens closes remaining contents (way_of job)
         (chosen (only_of job) cases) wents (record { connect = asked_of job host port; held = held })
         (record { connect = left; held = held' })
     pub comes_to : status ≡ status_of (tally_of (chosen (only_of job) cases) wents)

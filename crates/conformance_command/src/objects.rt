@@ -1,28 +1,56 @@
 //! The objects of cases, written (profile).
+ghost use Rattle.std.specs.Prelude.{IsTrue};
 ghost use Rattle.conformance.specs.declared.verdict.Verdict.TheVariants.{Dropped};
-ghost use Rattle.json_lines.specs.Texts.{fields_text};
+ghost use Rattle.json_lines.specs.Texts.{fields_text, is_plain};
 ghost use Rattle.uecp_text.specs.Written.{Adds};
 ghost use Rattle.conformance_command.specs.Telling.{case_object, case_fields, went_fields, verdict_fields};
-ghost use Rattle.conformance_command.specs.Telling.{wanted_fields};
+ghost use Rattle.conformance_command.specs.Telling.{wanted_fields, count_fields, note_fields};
 ghost use Rattle.conformance_command.specs.Telling.{came_fields, tally_fields, tally_object};
 
-use crate::case_run::Went;
 use crate::fields::text_field;
 use crate::tally::{Tally, is_kept};
+use crate::went::Went;
 use conformance::{Case, Expected, Reply, Verdict};
 use json_lines::{byte_field, close_line, flag_field, number_field, open_line, word_field};
 use uecp_frame::FrameFault;
 use uecp_text::Output;
 
-/// Adds the object of a case that went so.
+/// Adds the object of a case that went so, where joining left so many bytes, and so many came that are no part of a
+/// segment.
 #[tactic(auto, using(json_lines::proofs::Public::parts))]
-pub(crate) fn put_case_object(number: usize, case: &Case<'_>, went: Went, output: &mut Output)
-    ensures { Adds output.old output.new (case_object number case.now went) }
+pub(crate) fn put_case_object(
+    number: usize,
+    case: &Case<'_>,
+    went: Went,
+    left: usize,
+    noise: usize,
+    output: &mut Output,
+)
+    ensures { Adds output.old output.new (case_object number case.now went left noise) }
 {
     open_line("case", output);
     put_case(number, case, is_kept(went), output);
     put_went(went, output);
+    put_note(left, noise, output);
     close_line(output);
+}
+
+/// Adds what says nothing of the rule.
+fn put_note(left: usize, noise: usize, output: &mut Output)
+    ensures { Adds output.old output.new (fields_text (note_fields left noise)) }
+{
+    put_count("left", left, output);
+    put_count("noise", noise, output);
+}
+
+/// Adds a number, where it is not 0.
+fn put_count(name: &str, count: usize, output: &mut Output)
+    requires { IsTrue (is_plain name.now) }
+    ensures { Adds output.old output.new (fields_text (count_fields name.now count)) }
+{
+    if count != 0 {
+        number_field(name, count, output);
+    }
 }
 
 /// Adds what a case is.
@@ -44,6 +72,8 @@ fn put_went(went: Went, output: &mut Output)
     match went {
         Went::Judged(verdict) => put_verdict(verdict, output),
         Went::NotJoined => word_field("verdict", "not_joined", output),
+        Went::Silent => word_field("verdict", "silent", output),
+        Went::Floods => word_field("verdict", "floods", output),
         Went::NotSent(written) => {
             word_field("verdict", "not_sent", output);
             number_field("written", written as usize, output);

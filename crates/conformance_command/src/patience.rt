@@ -9,7 +9,10 @@ use std::marker::Model;
 #[derive(Drop)]
 pub(crate) struct Waiting<R> {
     reader: R,
+    /// How many times the next read is made.
     patience: u32,
+    /// How many times those are made behind one that did not fail.
+    later: u32,
 }
 
 impl<R> Model for Waiting<R> {
@@ -19,11 +22,16 @@ impl<R> Model for Waiting<R> {
 }
 
 impl<R> Waiting<R> {
-    /// This reader, each read of which is made so many times at most, and once where that is 0.
-    pub(crate) fn new(reader: R, patience: u32) -> Waiting<R>
+    /// This reader, whose reads are made so many times at most, and once where that is 0: up to the first that does not
+    /// fail, and from then on.
+    pub(crate) fn new(reader: R, first: u32, later: u32) -> Waiting<R>
         ensures { result ≡ reader }
     {
-        Waiting { reader, patience }
+        Waiting {
+            reader,
+            patience: first,
+            later,
+        }
     }
 
     /// The reader back.
@@ -33,6 +41,7 @@ impl<R> Waiting<R> {
         let Waiting {
             reader,
             patience: _,
+            later: _,
         } = self;
         reader
     }
@@ -44,9 +53,16 @@ impl<R: Read> Read for Waiting<R> {
     fn read(&mut self, buf: &mut [u8]) -> io::Result<usize> {
         for _again in 1..self.patience {
             if let Ok(count) = self.reader.read(buf) {
+                self.patience = self.later;
                 return Ok(count);
             }
         }
-        self.reader.read(buf)
+        match self.reader.read(buf) {
+            Ok(count) => {
+                self.patience = self.later;
+                Ok(count)
+            }
+            Err(error) => Err(error),
+        }
     }
 }

@@ -1,29 +1,30 @@
 //! What comes of a case is read and judged (profile).
-ghost use Rattle.std.specs.Prelude.{◌≡◌, ◌<◌, IsTrue, ◌↔◌};
+ghost use Rattle.std.specs.Prelude.{◌≡◌, ◌<◌, [], IsTrue, ◌↔◌};
 ghost use Rattle.conformance_command.specs.Running.{Hears, IsMissing};
 
-use crate::case_run::{READS_MAX, Went};
+use crate::case_run::READS_MAX;
+use crate::went::Went;
 use conformance::{Expected, Verdict, judge};
-use std::alloc::Global;
 use std::io::Read;
 use uecp_encoder::{Failed, Meter};
 use uecp_frame::Address;
 
 /// The most bytes that one read asks for.
-const READ_MAX: usize = 64;
+pub(crate) const READ_MAX: usize = 64;
 
-/// Reads until the end, or until a read fails and no reply is missing, or until so many failed; and judges what came.
+/// Reads until the end, or until a read fails and no reply is missing, or until so many failed; and judges what came,
+/// which it adds behind nothing.
 pub(crate) fn hear<R: Read>(
-    alloc: Global,
     own: Address,
     patience: u32,
     replies: &[Expected],
     input: &mut Meter<R>,
+    came: &mut Vec<u8>,
 ) -> Went
-    requires { 0 < patience }
-    ensures { Hears R.remaining own patience replies.now input.old input.new result }
+    requires some { 0 < patience }
+    requires empty { came.old.items ≡ [] }
+    ensures { Hears R.remaining own patience replies.now input.old input.new result came.new.items }
 {
-    let mut came = Vec::new(alloc);
     let mut failed = 0;
     let mut buffer = [0u8; READ_MAX];
     for _turn in 0..READS_MAX {

@@ -1,17 +1,20 @@
 //! The lines of a run, put down and written out (profile).
-ghost use Rattle.std.specs.Prelude.{◌≡◌, ◌+◌, ◌<◌, ◌^◌, ℕ, List, IsTrue};
+ghost use Rattle.std.specs.Prelude.{◌≡◌, ◌+◌, ◌<◌, ◌^◌, ℕ, List, IsTrue, OnOk};
 ghost use Rattle.uecp_text.specs.Written.{Adds};
 ghost use Rattle.conformance_command.specs.Conformance.{TellsLines};
 ghost use Rattle.conformance_command.specs.Telling.{reply_words, expected_words, verdict_words, why_words, note};
-ghost use Rattle.conformance_command.specs.Telling.{tap_line, tap_tally, first_line, case_line, bail_line, last_line};
+ghost use Rattle.conformance_command.specs.Telling.{tap_line, tap_lines, silent_line, tap_tally, first_line};
+ghost use Rattle.conformance_command.specs.Telling.{case_lines, bail_line, last_line};
 
-use crate::case_run::Went;
+use crate::notes::{put_exchange, put_notes};
 use crate::objects::{put_case_object, put_tally_object};
 use crate::tally::{Tally, is_kept};
 use crate::texts::put_tap_name;
-use conformance::{Case, Expected, Reply, Verdict};
+use crate::way::Way;
+use crate::went::{Outcome, Went};
+use conformance::{Case, Expected, Reply, Verdict, noise};
 use itoa::Buffer;
-use std::alloc::Global;
+use std::alloc::{AllocError, Global};
 use std::io::Write;
 use uecp_text::{Output, RunFault};
 
@@ -29,20 +32,23 @@ pub(crate) fn tell_first<W: Write>(
     tell(&mut output, writer)
 }
 
-/// Writes the line of a case that went so.
+/// Writes the lines of a case of which this came.
 pub(crate) fn tell_case<W: Write>(
     alloc: Global,
-    json: bool,
+    way: &Way,
     number: usize,
     case: &Case<'_>,
-    went: Went,
+    outcome: &Outcome,
     writer: &mut W,
 ) -> Result<(), RunFault>
-    ensures { TellsLines (case_line json number case.now went) (W.contents writer.old) (W.contents writer.new) result }
+    ensures { TellsLines (case_lines way.now number case.now outcome.now.went outcome.now.left outcome.now.came.items)
+        (W.contents writer.old) (W.contents writer.new) result }
 {
     let mut output = Output::new(alloc);
-    put_line(json, number, case, went, &mut output);
-    tell(&mut output, writer)
+    match put_lines(alloc, way, number, case, outcome, &mut output) {
+        Ok(()) => tell(&mut output, writer),
+        Err(_) => Err(RunFault::OutOfMemory),
+    }
 }
 
 /// Writes that there is no connection to be had.
@@ -92,14 +98,58 @@ fn put_first(json: bool, cases: usize, output: &mut Output)
     }
 }
 
-/// Adds the line of a case that went so.
-fn put_line(json: bool, number: usize, case: &Case<'_>, went: Went, output: &mut Output)
-    ensures { Adds output.old output.new (case_line json number case.now went) }
+/// Adds the lines of a case of which this came.
+#[tactic(auto, unfolding(crate::specs::Telling::case_lines))]
+fn put_lines(
+    alloc: Global,
+    way: &Way,
+    number: usize,
+    case: &Case<'_>,
+    outcome: &Outcome,
+    output: &mut Output,
+) -> Result<(), AllocError>
+    ensures { OnOk result (Adds output.old output.new (case_lines way.now number case.now outcome.now.went
+        outcome.now.left outcome.now.came.items)) }
 {
-    if json {
-        put_case_object(number, case, went, output);
+    if way.json {
+        let outside = noise(outcome.came.as_slice());
+        put_case_object(number, case, outcome.went, outcome.left, outside, output);
+        Ok(())
     } else {
-        put_tap(number, case, went, output);
+        put_tap_lines(alloc, way, number, case, outcome, output)
+    }
+}
+
+/// Adds the same in TAP.
+fn put_tap_lines(
+    alloc: Global,
+    way: &Way,
+    number: usize,
+    case: &Case<'_>,
+    outcome: &Outcome,
+    output: &mut Output,
+) -> Result<(), AllocError>
+    ensures { OnOk result (Adds output.old output.new (tap_lines way.now number case.now outcome.now.went
+        outcome.now.left outcome.now.came.items)) }
+{
+    put_tap(number, case, outcome.went, output);
+    put_notes(outcome.left, outcome.came.as_slice(), output);
+    put_exchange(alloc, way, case, outcome, output)?;
+    put_silent(way.seconds, outcome.went, output);
+    Ok(())
+}
+
+/// Adds what is told behind a case of which nothing came, and ends the run.
+fn put_silent(seconds: u32, went: Went, output: &mut Output)
+    ensures { Adds output.old output.new (silent_line seconds went) }
+{
+    match went {
+        Went::Silent => {
+            output.text("Bail out! nothing came for");
+            output.decimal(seconds as usize);
+            output.text(" s\n");
+        }
+        _ => {}
     }
 }
 
@@ -168,7 +218,8 @@ fn put_why(went: Went, output: &mut Output)
 {
     match went {
         Went::Judged(verdict) => put_difference(verdict, output),
-        Went::NotJoined => output.text("not joined"),
+        Went::NotJoined | Went::Silent => output.text("not joined"),
+        Went::Floods => output.text("floods"),
         Went::NotSent(written) => {
             output.text("not sent behind byte");
             output.decimal(written as usize);

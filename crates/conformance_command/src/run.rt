@@ -6,46 +6,44 @@ ghost use Rattle.uecp_frame.specs.Address.{is_exact};
 ghost use Rattle.uecp_text.specs.declared.run_fault.RunFault.{RunFault as Fault};
 ghost use Rattle.uecp_text.specs.Faults.{error_lines, status_of as fault_status};
 ghost use Rattle.uecp_text.specs.Written.{Begins};
-ghost use Rattle.conformance_command.specs.declared.case_run.Went.{Went as HowItWent};
+ghost use Rattle.conformance_command.specs.declared.went.Went.{Went as HowItWent};
 ghost use Rattle.conformance_command.specs.Choosing.{chosen, tally_of, tally_from, status_of};
-ghost use Rattle.conformance_command.specs.Conformance.{IsInRange, own_address, patience_of, only_of, Standing};
+ghost use Rattle.conformance_command.specs.Conformance.{IsInRange, way_of, only_of, Standing};
 ghost use Rattle.conformance_command.specs.Conformance.{RunsAndTells, RunsCases, StopsAt, StopsAmong, RunsAll};
 ghost use Rattle.conformance_command.specs.Conformance.{BreaksOff};
 ghost use Rattle.conformance_command.specs.Conformance.{IsUnknown, unknown_line};
 
-use crate::case_run::{NotRun, Went, run_case};
+use crate::case_run::{NotRun, run_case};
 use crate::choice::{count_chosen, is_chosen};
-use crate::job::{only_of, own_address, patience_of};
+use crate::job::{only_of, way_of};
 use crate::report::{tell_bail, tell_case, tell_first, tell_last};
 use crate::tally::Tally;
+use crate::way::Way;
+use crate::went::Went;
 use commands::ConformanceOptions;
 use conformance::Case;
 use std::alloc::Global;
 use std::io::Write;
-use uecp_frame::Address;
 use uecp_net::Connections;
 use uecp_text::{RunFault, report, write_parts};
 
-/// Which cases are run, and how they are run and told.
+/// Which cases are run, and how.
 #[derive(Drop)]
 struct Manner<'a> {
     /// The name of a case or of a group, which alone is run.
     only: Option<&'a [u8]>,
-    /// The encoder's address.
-    own: Address,
-    /// How many reads in which nothing came are made again.
-    patience: u32,
-    /// Whether it is told in objects of JSON.
-    json: bool,
+    /// How they are run and told.
+    way: Way,
 }
 
 /// Runs the chosen ones of these cases, one after another, each over a connection of its own, and answers the exit
 /// status: 0 where all that count are kept, 1 where one is not, 2 where no case and no group has the name that is
-/// given, 3 where there was no connection to be had, or memory or writing failed. The line of a case is written out
-/// before the next one begins.
+/// given, 3 where there was no connection to be had, or nothing came of a case, or memory or writing failed. The lines
+/// of a case are written out before the next one begins.
 ///
 /// A read of a connection is to fail where nothing came for the job's quiet time. Joining is given up after the timeout
-/// in which nothing came, and so is a reply that is missing, where what came is judged.
+/// in which nothing came, and so is a reply that is missing, where what came is judged. Where not a byte came in the
+/// seconds that the job says, the run ends behind that case.
 pub fn run_conformance<C: Connections, W: Write, E: Write>(
     alloc: Global,
     job: &ConformanceOptions,
@@ -58,8 +56,8 @@ pub fn run_conformance<C: Connections, W: Write, E: Write>(
     ensures status { result ≤ 3 }
     // 0 or 1: all chosen cases were run and told, and this is what they come to. Nothing was said on `errors`.
     ensures done { (result ≡ 0) ⊎ (result ≡ 1) → ((wents : List HowItWent)
-        × RunsAll C.opens C.closes C.Input.remaining C.Output.contents (own_address job.now) (patience_of job.now)
-        job.now.json (chosen (only_of job.now) cases.now) wents (record {
+        × RunsAll C.opens C.closes C.Input.remaining C.Output.contents (way_of job.now)
+        (chosen (only_of job.now) cases.now) wents (record {
           connect = connect.old;
           held = W.contents writer.old;
         }) (record {
@@ -73,8 +71,8 @@ pub fn run_conformance<C: Connections, W: Write, E: Write>(
         × (writer.new ≡ writer.old) × Begins (E.contents errors.old) (E.contents errors.new) unknown_line }
     // 3: it broke off for this, which was said, or begun to be said.
     ensures failed { result ≡ 3 → (fault : Fault)
-        × BreaksOff C.opens C.closes C.Input.remaining C.Output.contents (own_address job.now) (patience_of job.now)
-        job.now.json (chosen (only_of job.now) cases.now) fault (record {
+        × BreaksOff C.opens C.closes C.Input.remaining C.Output.contents (way_of job.now)
+        (chosen (only_of job.now) cases.now) fault (record {
           connect = connect.old;
           held = W.contents writer.old;
         }) (record {
@@ -90,9 +88,7 @@ pub fn run_conformance<C: Connections, W: Write, E: Write>(
     }
     let manner = Manner {
         only,
-        own: own_address(job),
-        patience: patience_of(job),
-        json: job.json,
+        way: way_of(job),
     };
     match run_all(alloc, &manner, count, cases, connect, writer) {
         Ok(tally) => tally.status(),
@@ -130,12 +126,11 @@ fn run_all<C: Connections, W: Write>(
     connect: &mut C,
     writer: &mut W,
 ) -> Result<Tally, RunFault>
-    requires exact { IsTrue (is_exact manner.now.own) }
-    requires some { 0 < manner.now.patience }
+    requires exact { IsTrue (is_exact manner.now.way.own) }
+    requires some { 0 < manner.now.way.patience }
     requires count { count ≡ length (chosen (option_map (λ name. name.now) manner.now.only) cases.now) }
     ensures all { IfOk result (λ tally. (wents : List HowItWent)
-        × RunsAll C.opens C.closes C.Input.remaining C.Output.contents manner.now.own manner.now.patience
-        manner.now.json
+        × RunsAll C.opens C.closes C.Input.remaining C.Output.contents manner.now.way
         (chosen (option_map (λ name. name.now) manner.now.only) cases.now) wents (record {
           connect = connect.old;
           held = W.contents writer.old;
@@ -145,8 +140,7 @@ fn run_all<C: Connections, W: Write>(
         })
         × (tally ≡ tally_of (chosen (option_map (λ name. name.now) manner.now.only) cases.now) wents)) }
     ensures some { IfErr result (λ fault. (fault_status fault ≡ 3)
-        × BreaksOff C.opens C.closes C.Input.remaining C.Output.contents manner.now.own manner.now.patience
-        manner.now.json
+        × BreaksOff C.opens C.closes C.Input.remaining C.Output.contents manner.now.way
         (chosen (option_map (λ name. name.now) manner.now.only) cases.now) fault (record {
           connect = connect.old;
           held = W.contents writer.old;
@@ -155,13 +149,13 @@ fn run_all<C: Connections, W: Write>(
           held = W.contents writer.new;
         })) }
 {
-    match tell_first(alloc, manner.json, count, writer) {
+    match tell_first(alloc, manner.way.json, count, writer) {
         Err(fault) => Err(fault),
         Ok(()) => {
             let mut tally = Tally::none();
             match run_cases(alloc, manner, 1, cases, connect, writer, &mut tally) {
                 Err(fault) => Err(fault),
-                Ok(()) => match tell_last(alloc, manner.json, count, tally, writer) {
+                Ok(()) => match tell_last(alloc, manner.way.json, count, tally, writer) {
                     Err(fault) => Err(fault),
                     Ok(()) => Ok(tally),
                 },
@@ -180,13 +174,12 @@ fn run_cases<C: Connections, W: Write>(
     writer: &mut W,
     tally: &mut Tally,
 ) -> Result<(), RunFault>
-    requires exact { IsTrue (is_exact manner.now.own) }
-    requires some { 0 < manner.now.patience }
+    requires exact { IsTrue (is_exact manner.now.way.own) }
+    requires some { 0 < manner.now.way.patience }
     requires numbers { number + length cases.now < 2 ^ 64 }
     requires counts { tally.old.kept + tally.old.not_kept + tally.old.profile_not_kept + length cases.now < 2 ^ 64 }
     ensures all { IfOk result (λ _. (wents : List HowItWent)
-        × RunsCases C.opens C.closes C.Input.remaining C.Output.contents manner.now.own manner.now.patience
-        manner.now.json number
+        × RunsCases C.opens C.closes C.Input.remaining C.Output.contents manner.now.way number
         (chosen (option_map (λ name. name.now) manner.now.only) cases.now) wents (record {
           connect = connect.old;
           held = W.contents writer.old;
@@ -198,8 +191,7 @@ fn run_cases<C: Connections, W: Write>(
     ensures few { IfOk result (λ _. tally.new.kept + tally.new.not_kept + tally.new.profile_not_kept
         ≤ tally.old.kept + tally.old.not_kept + tally.old.profile_not_kept + length cases.now) }
     ensures some { IfErr result (λ fault. (fault_status fault ≡ 3)
-        × StopsAmong C.opens C.closes C.Input.remaining C.Output.contents manner.now.own manner.now.patience
-        manner.now.json number
+        × StopsAmong C.opens C.closes C.Input.remaining C.Output.contents manner.now.way number
         (chosen (option_map (λ name. name.now) manner.now.only) cases.now) fault (record {
           connect = connect.old;
           held = W.contents writer.old;
@@ -232,10 +224,10 @@ fn run_and_tell<C: Connections, W: Write>(
     connect: &mut C,
     writer: &mut W,
 ) -> Result<Went, RunFault>
-    requires exact { IsTrue (is_exact manner.now.own) }
-    requires some { 0 < manner.now.patience }
-    ensures all { IfOk result (λ went. RunsAndTells C.opens C.closes C.Input.remaining C.Output.contents manner.now.own
-        manner.now.patience manner.now.json number
+    requires exact { IsTrue (is_exact manner.now.way.own) }
+    requires some { 0 < manner.now.way.patience }
+    ensures all { IfOk result (λ went. RunsAndTells C.opens C.closes C.Input.remaining C.Output.contents manner.now.way
+        number
         case.now went (record {
           connect = connect.old;
           held = W.contents writer.old;
@@ -244,8 +236,7 @@ fn run_and_tell<C: Connections, W: Write>(
           held = W.contents writer.new;
         })) }
     ensures some { IfErr result (λ fault. (fault_status fault ≡ 3)
-        × StopsAt C.opens C.closes C.Input.remaining C.Output.contents manner.now.own manner.now.patience
-        manner.now.json number
+        × StopsAt C.opens C.closes C.Input.remaining C.Output.contents manner.now.way number
         case.now fault (record {
           connect = connect.old;
           held = W.contents writer.old;
@@ -254,15 +245,21 @@ fn run_and_tell<C: Connections, W: Write>(
           held = W.contents writer.new;
         })) }
 {
-    match run_case(alloc, connect, manner.own, manner.patience, case) {
-        Ok(Went::NotHeard) => Err(RunFault::OutOfMemory),
-        Ok(went) => match tell_case(alloc, manner.json, number, case, went, writer) {
-            Ok(()) => Ok(went),
-            Err(fault) => Err(fault),
+    match run_case(alloc, connect, &manner.way, case) {
+        Ok(outcome) => match outcome.went {
+            Went::NotHeard => Err(RunFault::OutOfMemory),
+            Went::Silent => match tell_case(alloc, &manner.way, number, case, &outcome, writer) {
+                Ok(()) => Err(RunFault::Outstanding),
+                Err(fault) => Err(fault),
+            },
+            went => match tell_case(alloc, &manner.way, number, case, &outcome, writer) {
+                Ok(()) => Ok(went),
+                Err(fault) => Err(fault),
+            },
         },
         Err(NotRun::OutOfMemory) => Err(RunFault::OutOfMemory),
         Err(NotRun::NoLine) => {
-            let _ = tell_bail(alloc, manner.json, writer);
+            let _ = tell_bail(alloc, manner.way.json, writer);
             Err(RunFault::Connection)
         }
     }

@@ -2,7 +2,7 @@
 ghost use Rattle.std.specs.Prelude.{◌≡◌, ◌+◌, ◌<◌, ◌^◌};
 ghost use Rattle.conformance_command.specs.Choosing.{is_kept, counted, none_counted, status_of};
 
-use crate::case_run::Went;
+use crate::went::Went;
 use conformance::Verdict;
 
 /// How many cases are kept and are not.

@@ -3,7 +3,7 @@ ghost use Rattle.std.specs.Prelude.{◌≡◌, false};
 ghost use Rattle.bad_line.specs.Connections.{Line};
 
 use crate::telling::Told;
-use bad_line::{Effects, Faulty};
+use bad_line::{Arrivals, Effects, Faulty};
 use device_edges::Idle;
 use std::io::{Read, Write};
 use std::marker::Model;
@@ -100,8 +100,14 @@ impl<'a, 'f, K: Connections + Drop, T: Clock, E: Effects> Restarting<'a, 'f, K, 
     }
 }
 
-impl<'a, 'f, K: Connections + Drop, T: Clock, E: Effects> Connections
-    for Restarting<'a, 'f, K, T, E> {
+impl<
+    'a,
+    'f,
+    A: Write + Arrivals + Drop,
+    K: Connections<Output = A> + Drop,
+    T: Clock,
+    E: Effects,
+> Connections for Restarting<'a, 'f, K, T, E> {
     type Input = <Faulty<'f, K, T, E> as Connections>::Input;
 
     type Output = <Faulty<'f, K, T, E> as Connections>::Output;

@@ -11,7 +11,7 @@ use crate::faults::{fail_faults, rules_of};
 use crate::serving::run_device_from;
 use crate::telling::Told;
 use arrayvec::ArrayVec;
-use bad_line::{Faulty, Rule};
+use bad_line::{Arrivals, Faulty, Rule};
 use commands::EncoderOptions;
 use device_edges::{
     Accepting, AddressFault, BindFault, HERE, Idle, Screened, Screening, listen_address,
@@ -246,7 +246,15 @@ fn serve_told<W: Write, E: Write, T: Clock, C: Connections, S: OpenStates>(
 
 /// Serves over a bad line, and again with an encoder that begins anew each time that the line asks for it: with a state
 /// in a file from that, and else with a new one.
-fn serve_restarting<S: OpenStates, W: Write, C: Clock, E: Write, M: Write, K: Connections + Drop>(
+fn serve_restarting<
+    S: OpenStates,
+    W: Write,
+    C: Clock,
+    E: Write,
+    M: Write,
+    A: Write + Arrivals + Drop,
+    K: Connections<Output = A> + Drop,
+>(
     alloc: Global,
     job: &EncoderOptions,
     states: &S,

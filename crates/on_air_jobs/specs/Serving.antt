@@ -1,15 +1,17 @@
 -- What a device on the air does with its state in a file or with none, and how it ends (profile).
-use Rattle.std.specs.Prelude.{◌≡◌, ◌⊎◌, ℕ, Bool, List, Option, Some, None, Result, Ok, Err, option_map}
+use Rattle.std.specs.Prelude.{◌≡◌, ◌⊎◌, ℕ, Bool, true, false, List, Option, Some, None, Result, Ok, Err, option_map}
+use Rattle.std.specs.Prelude.{codes}
 use Rattle.std.specs.String.{string_bytes}
 use Rattle.rds_groups.specs.declared.group.Group.{Group}
 use Rattle.rds_store.specs.Value.{Store}
 use Rattle.carousel.specs.Carousel.{Carousel, restarted}
+use Rattle.carousel.specs.Service.{main_service, is_told}
 use Rattle.uecp_encoder.specs.State.{EncoderState}
 use Rattle.uecp_text.specs.Written.{Begins}
 use Rattle.uecp_jobs.specs.Setups.{Options, IsSetup, address_of, encoder_at_first}
 use Rattle.uecp_encoder.specs.Keeping.{Kept, Settled}
 use Rattle.kept_jobs.specs.declared.stop.KeptStop.{KeptStop}
-use Rattle.kept_jobs.specs.Stops.{stop_lines}
+use Rattle.kept_jobs.specs.Stops.{stop_lines, state_line}
 use Rattle.state_files.specs.declared.fault.StateFault.{StateFault}
 use Rattle.state_jobs.specs.Opened.{IsOpened}
 use Rattle.state_jobs.specs.Texts.{IsClosed}
@@ -33,24 +35,32 @@ standing e k l m c left = record {
   left = left;
 }
 
+-- Where the service that goes out was told no PI, that was said once, or begun to be said: 0000 is on the air. Else
+-- nothing was said.
+abbrev pub TellsNoPi : (is_told : Bool) → (said said' : Option (List ℕ)) → Type 0
+TellsNoPi true said said' = said' ≡ said
+TellsNoPi false said said' = Begins said said' (state_line (codes "air: no PI yet, 0000 is on the air"))
+
 module _ {K M I O : Type 0} (most room : ℕ) (leaves : K → Kept Store → Type 0) (is_clean : K → Type 0)
     (saves fails : K → Kept Store → K → Type 0) (waits : M → Bool → Moment I O → M → Type 0)
     (closes : M → I → O → M → Type 0) (sends : M → Group → M → Type 0) (remaining : I → Option (List ℕ))
     (contents : O → Option (List ℕ)) (turns connections : ℕ) (store : Bool) where
-  -- A device was on the air from this encoder, from a carousel at a start, and this is left. It came to its
-  -- end, and nothing was said; or it stopped, and why was said, or begun to be said.
+  -- A device was on the air from this encoder, from a carousel at a start, and this is left. Before the first group it
+  -- was said where no PI was told. It came to its end, and nothing more was said; or it stopped, and why was said, or
+  -- begun to be said.
   abbrev pub EndsOnAir : (e e' : EncoderState Store) → (k k' : K) → (m m' : M) → (l l' : Log)
       → (said said' : Option (List ℕ)) → (status : ℕ) → Type 0
   EndsOnAir e e' k k' m m' l l' said said' status =
-      (carousel : Carousel) × (left : ℕ)
+      (carousel : Carousel) × (left : ℕ) × (begun : Option (List ℕ))
+      × TellsNoPi (is_told (main_service e.value)) said begun
       × (((status ≡ 0)
       × RunsOnAir most room leaves is_clean saves fails waits closes sends remaining contents turns store
       (standing e k l m restarted connections) (standing e' k' l' m' carousel left) (Ok tt)
-      × (said' ≡ said))
+      × (said' ≡ begun))
       ⊎ ((stop : KeptStop) × (status ≡ 3)
       × RunsOnAir most room leaves is_clean saves fails waits closes sends remaining contents turns store
       (standing e k l m restarted connections) (standing e' k' l' m' carousel left) (Err stop)
-      × Begins said said' (stop_lines stop)))
+      × Begins begun said' (stop_lines stop)))
 
   -- The state at the path was opened, and its encoder is the one that is asked for; a device was on the air from there;
   -- and then the state was closed. Where it came to its end, whatever a crash leaves is the encoder as the run left it;

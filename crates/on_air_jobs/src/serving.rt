@@ -2,11 +2,12 @@
 ghost use Rattle.std.specs.Prelude.{◌≡◌, ◌≤◌, ◌⊎◌, IsTrue};
 ghost use Rattle.uecp_frame.specs.Address.{is_exact};
 ghost use Rattle.uecp_jobs.specs.Setups.{options_of as options_in, encoder_at_first};
+ghost use Rattle.carousel.specs.Service.{main_service, is_told};
 ghost use Rattle.device_jobs.specs.Serving.{HasNoState};
-ghost use Rattle.on_air_jobs.specs.Serving.{HasBeenOnAir, AirsIn, AirsUnkept};
+ghost use Rattle.on_air_jobs.specs.Serving.{HasBeenOnAir, AirsIn, AirsUnkept, TellsNoPi};
 
 use air_serving::{Moments, run_on_air};
-use carousel::Carousel;
+use carousel::{Carousel, has_pi};
 use commands::EncoderOptions;
 use device_jobs::{Limits, limits_of};
 use device_serving::LogLines;
@@ -24,7 +25,8 @@ use uecp_jobs::{Setup, fail, new_encoder};
 /// say, and answers the exit status: 0 all connections were served, 2 the services or the address were refused, 3 the
 /// state can't be opened, saved or closed, nothing more was to be waited for, or memory or writing failed. With a state
 /// in a file it goes on from that; else it begins with a new encoder. The options are judged before the state is
-/// opened, and the state before the first moment. What the carousel sends begins with the first segment of the name.
+/// opened, and the state before the first moment. Where it was told no PI, that is said before the first group. What
+/// the carousel sends begins with the first segment of the name.
 pub fn run_on_air_from<S: OpenStates, W: Write, T: Clock, E: Write, M: Moments>(
     alloc: Global,
     job: &EncoderOptions,
@@ -84,6 +86,7 @@ fn air_in<S: OpenStates, W: Write, T: Clock, E: Write, M: Moments>(
     match states.open_encoder(path, address, setup.sets, setup.services) {
         Err(fault) => fail_state(state_text(fault), errors),
         Ok((mut encoder, mut keeper)) => {
+            tell_no_pi(encoder.target(), errors);
             let mut carousel = Carousel::restarted();
             let status = run_on_air(
                 limits,
@@ -113,6 +116,7 @@ fn air_unkept<W: Write, T: Clock, E: Write, M: Moments>(
         limits.turns limits.connections limits.store moments.old moments.new log.old log.new (E.contents errors.old)
         (E.contents errors.new) result }
 {
+    tell_no_pi(encoder.target(), errors);
     let mut carousel = Carousel::restarted();
     run_on_air(
         limits,
@@ -123,4 +127,13 @@ fn air_unkept<W: Write, T: Clock, E: Write, M: Moments>(
         &mut carousel,
         moments,
     )
+}
+
+/// Says that 0000 is on the air, where no PI was told. A text that can't be written changes nothing.
+fn tell_no_pi<E: Write>(store: &RdsStore, errors: &mut E)
+    ensures { TellsNoPi (is_told (main_service store.now)) (E.contents errors.old) (E.contents errors.new) }
+{
+    if !has_pi(store) {
+        let _ = fail_state("air: no PI yet, 0000 is on the air", errors);
+    }
 }

@@ -8,6 +8,10 @@ pub mod Told
 pub mod Fields
 pub mod Heard
 pub mod Lives
+pub mod Visiting
+pub mod Visitors
+pub mod Rounds
+pub mod Tidings
 pub mod Cutting
 pub mod Handing
 pub mod Inputs

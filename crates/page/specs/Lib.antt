@@ -21,6 +21,9 @@ pub mod Answers
 pub mod ClientView
 pub mod Hearing
 pub mod Life
+pub mod Talk
+pub mod Delivering
+pub mod Visits
 pub mod Lines
 pub mod Intake
 pub mod Input

@@ -1,5 +1,5 @@
 //! One connection of a live page as a machine over values: the bytes of requests in, those of answers and of a stream
-//! of events out. No IO but through a writer that the caller gives.
+//! of events out. No IO but through the connection that the caller gives.
 //!
 //! - [`Client`]: a connection; [`Site`] is what it is answered from.
 //! - [`Route`]: what a request asks for; [`route_of`], [`is_own`] and [`served`] judge it.

@@ -105,3 +105,16 @@ pub status_tells : {E : Type 0} (old new : Option (List ℕ)) (first : ℕ) (i k
 status_tells old new first i k (Ok refused) status begins all same is none low =
     ends_with old new first i k status begins all (is ∙ ap status_of same)
 status_tells old new first i k (Err e) status begins all same is three low = absurd (omega (arith, three, low))
+
+-- the same where nothing was taken before
+pub moves_from : (old new : Option (List ℕ)) (i j k : Intake) (p : Progress) → i ≡ j → Moves old new i k p
+    → Moves old new j k p
+moves_from old new i j k p is moves =
+    let P : Intake → Type 0 = λ x. Moves old new x k p in
+    subst P is moves
+
+-- nothing was taken behind
+pub reads_to : (old new : Option (List ℕ)) (i j k : Intake) → k ≡ j → ReadsOn old new i j → ReadsOn old new i k
+reads_to old new i j k is reads =
+    let P : Intake → Type 0 = λ x. ReadsOn old new i x in
+    subst P (sym is) reads

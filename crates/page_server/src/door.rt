@@ -34,16 +34,16 @@ impl Door {
         })
     }
 
-    /// Has the poll tell of a descriptor that may be read; and where `writes` holds of one that may be written, which
-    /// is asked for only while something waits to be, since it mostly may.
-    pub(crate) fn watch(&self, fd: RawFd, token: Token, writes: bool) -> bool {
+    /// Has the poll tell of a descriptor that may be read.
+    pub(crate) fn watch(&self, fd: RawFd, token: Token) -> bool {
         self.poll
             .registry()
-            .register(&mut SourceFd(&fd), token, interest(writes))
+            .register(&mut SourceFd(&fd), token, Interest::READABLE)
             .is_ok()
     }
 
-    /// The same of one that it tells of already: what is there now is told again.
+    /// The same of one that it tells of already: what is there now is told again. Where `writes` holds it tells too
+    /// where one may be written, which is asked for only while something waits to be, since it mostly may.
     pub(crate) fn watch_on(&self, fd: RawFd, token: Token, writes: bool) -> bool {
         self.poll
             .registry()
@@ -51,16 +51,21 @@ impl Door {
             .is_ok()
     }
 
-    /// Waits at most so many milliseconds, and answers the tokens of what may be read or written.
-    pub(crate) fn wait(&mut self, milliseconds: u64, tokens: &mut Vec<Token>) -> io::Result<()> {
-        tokens.clear();
+    /// Waits at most so many milliseconds. The numbers are those of the tokens of what may be read or written, but for
+    /// the listener and the input. Whether the listener may be read.
+    pub(crate) fn wait(&mut self, milliseconds: u64, numbers: &mut Vec<usize>) -> io::Result<bool> {
+        numbers.clear();
         self.poll.poll(&mut self.events, Some(Duration::from_millis(milliseconds)))?;
+        let mut asks = false;
         for event in &self.events {
-            if tokens.push(event.token()).is_err() {
+            let token = event.token();
+            if token == LISTENER {
+                asks = true;
+            } else if token != INPUT && numbers.push(token.0).is_err() {
                 return Err(io::Error::from(ErrorKind::OutOfMemory));
             }
         }
-        Ok(())
+        Ok(asks)
     }
 }
 

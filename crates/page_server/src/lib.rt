@@ -5,13 +5,11 @@
 #![tactic(auto)]
 
 mod door;
-mod edge;
 mod input;
 mod over_tcp;
-mod peer;
-mod peers;
 mod place;
 mod server;
 mod stop;
+mod tcp;
 
 pub use over_tcp::run_page_over_tcp;

@@ -6,9 +6,10 @@ ghost use Rattle.page_server.specs.Serving.{EndsWith};
 use crate::place::place_of;
 use crate::server::{Serving, Start};
 use crate::stop::Stop;
+use crate::tcp::TcpSockets;
 use commands::PageOptions;
 use device_edges::{AddressFault, BindFault, bind};
-use page::status_of;
+use page::{Connection, Sockets, status_of};
 use std::alloc::Global;
 use std::io::{Read, Write};
 use std::net::{Net, SocketAddr, TcpListener, TcpStream};
@@ -36,34 +37,33 @@ pub fn run_page_over_tcp<
         Err(fault) => return fail_place(fault, errors),
     };
     match listener_at(net, place) {
-        Ok(listener) => {
-            let since = since_1970(net);
-            let start = Start {
-                listener,
-                place,
-                since,
-            };
-            serve(alloc, reader, fd, start, errors, net)
-        }
+        Ok(listener) => match TcpSockets::new(alloc, net, fd, listener) {
+            Some(mut sockets) => {
+                sockets.say_place(alloc, errors);
+                let since = since_1970(net);
+                serve(alloc, reader, &Start { place, since }, errors, &mut sockets)
+            }
+            None => fail(RunFault::Listening, errors),
+        },
         Err(fault) => fail_bind(fault, errors),
     }
 }
 
-/// Serves at a listener, and answers the exit status.
-fn serve<R: Read, E: Write, N: Net<Listener = TcpListener, Stream = TcpStream> + Clock>(
+/// Serves over these sockets, and answers the exit status.
+fn serve<R: Read, E: Write, S: Sockets<Connection = C>, C: Connection>(
     alloc: Global,
     reader: &mut R,
-    fd: RawFd,
-    start: Start,
+    start: &Start,
     errors: &mut E,
-    net: &N,
+    sockets: &mut S,
 ) -> u8
     ensures ended { result ≤ 1 → EndsWith (R.remaining reader.old) (R.remaining reader.new) result }
     ensures most { (result ≤ 1) ⊎ (result ≡ 3) }
 {
-    match Serving::new(alloc, net, fd, start, errors) {
+    match Serving::new(alloc, start) {
         Ok(mut serving) => {
-            let served = serving.serve(reader, errors);
+            let served = serving.serve(reader, errors, sockets);
+            serving.close(sockets);
             end(served, errors)
         }
         Err(stop) => end(Err(stop), errors),

@@ -1,32 +1,42 @@
-//! A page is served for as long as lines come: what is read, and which lines are taken. What a socket gives or takes is
-//! the edge's matter (profile).
+//! A page is served for as long as lines come: what is read, which lines are taken, and who is heard and sent what.
+//! What a socket gives or takes is the machine's matter (profile).
 
 ghost use Rattle.std.specs.Prelude.{◌≡◌, false, [], IfOk, IsTrue, ◌↔◌, option_map};
 ghost use Rattle.std.specs.Duration.{as_nanos};
 ghost use Rattle.page.specs.Intake.{board_of, IsLoopback, first_number};
 ghost use Rattle.page.specs.Input.{cutting_of, IntakeOf, GoesOn, Ends};
 ghost use Rattle.page_server.specs.Serving.{ReadsAll, Moves};
+ghost use Rattle.page_server.specs.Guesting.{IsServing, Settles};
+ghost use Rattle.page.specs.Visits.{guests_of, AllDo};
 
-use crate::edge::Edge;
 use crate::stop::Stop;
 use itoa::Buffer;
-use page::{Intake, Taken, first_number};
+use page::{Connection, Deed, Guests, Intake, Sockets, Taken, first_number, own_only};
 use std::alloc::Global;
 use std::io::{Read, Write};
-use std::net::{Net, SocketAddr, TcpListener, TcpStream};
-use std::os::fd::RawFd;
-use std::time::{Clock, Duration};
+use std::net::SocketAddr;
+use std::time::Duration;
 use uecp_text::write_parts;
 
 /// How many lines are taken before those who ask are looked after again.
 const LINES_MAX: u32 = 256;
 
+/// How many connections are accepted in one turn.
+const ACCEPTS_MAX: u32 = 64;
+
+/// A tick, in milliseconds: so often a connection gets a sign of life, and is looked at for how long it has asked.
+const TICK: u64 = 10_000;
+
+/// For how many milliseconds at most what waits is sent once the input has ended.
+const LAST: u64 = 2000;
+
+/// For how many milliseconds is waited at once meanwhile.
+const LAST_WAIT: u64 = 100;
+
 /// What a run begins with.
 #[derive(Drop)]
 pub(crate) struct Start {
-    /// Who listens for those who ask.
-    pub(crate) listener: TcpListener,
-    /// Where that is.
+    /// Where is listened for those who ask.
     pub(crate) place: SocketAddr,
     /// How long ago 1970 began; None where the machine has no clock.
     pub(crate) since: Option<Duration>,
@@ -44,113 +54,235 @@ pub(crate) enum Progress {
 }
 
 /// What there is of a page: what was read, what is shown, the last events, and those who ask.
-#[derive(Drop)]
-pub(crate) struct Serving<'a, N: Net<Listener = TcpListener, Stream = TcpStream> + Clock> {
+pub(crate) struct Serving<C> {
     alloc: Global,
-    edge: Edge<'a, N>,
+    guests: Guests<C>,
     intake: Intake,
     heard: Option<u64>,
+    ticked: u64,
 }
 
-impl<'a, N: Net<Listener = TcpListener, Stream = TcpStream> + Clock> Serving<'a, N> {
-    /// A page of which nothing came yet, and says where it is found. The first event gets the time in microseconds for
-    /// its number.
-    pub(crate) fn new<E: Write>(
-        alloc: Global,
-        net: &'a N,
-        fd: RawFd,
-        start: Start,
-        errors: &mut E,
-    ) -> Result<Serving<'a, N>, Stop>
-        ensures own_only { IfOk result (λ serving. IsTrue serving.edge.own_only ↔ IsLoopback start.place) }
+impl<C: Connection> Serving<C> {
+    /// A page of which nothing came yet. The first event gets the time in microseconds for its number.
+    pub(crate) fn new(alloc: Global, start: &Start) -> Result<Serving<C>, Stop>
+        ensures own_only { IfOk result (λ serving. IsTrue serving.guests.own_only ↔ IsLoopback start.now.place) }
         ensures first { IfOk result (λ serving. (board_of serving.intake).past.first
-            ≡ first_number (option_map as_nanos start.since)) }
+            ≡ first_number (option_map as_nanos start.now.since)) }
         ensures refused { IfOk result (λ serving. (board_of serving.intake).refused ≡ false) }
-        ensures begins { IfOk result (λ serving. IntakeOf (first_number (option_map as_nanos start.since)) []
+        ensures begins { IfOk result (λ serving. IntakeOf (first_number (option_map as_nanos start.now.since)) []
             serving.intake) }
+        ensures serving { IfOk result (IsServing C.talk) }
     {
-        let Start {
-            listener,
-            place,
-            since,
-        } = start;
-        let Ok(intake) = Intake::new(alloc, first_number(since)) else {
+        let Ok(intake) = Intake::new(alloc, first_number(start.since)) else {
             return Err(Stop::OutOfMemory);
         };
-        let edge = Edge::new(alloc, net, fd, listener, &place)?;
-        edge.say_place(errors);
         Ok(Serving {
             alloc,
-            edge,
+            guests: Guests::new(alloc, own_only(&start.place)),
             intake,
             heard: None,
+            ticked: 0,
         })
     }
 
     /// Serves until the input has ended and what waits is sent. Whether a line was no object of ours.
-    pub(crate) fn serve<R: Read, E: Write>(
+    pub(crate) fn serve<R: Read, E: Write, S: Sockets<Connection = C>>(
         &mut self,
         reader: &mut R,
         errors: &mut E,
+        sockets: &mut S,
     ) -> Result<bool, Stop>
+        requires { IsServing C.talk self.old }
         ensures all { IfOk result (λ _. ReadsAll (R.remaining reader.old) (R.remaining reader.new) self.old.intake
             self.new.intake) }
         ensures refused { IfOk result (λ refused. refused ≡ (board_of self.new.intake).refused) }
+        ensures serving { IsServing C.talk self.new }
     {
-        self.take_all(reader, errors)?;
-        self.edge.send_rest(&self.intake, self.heard)?;
+        self.take_all(reader, errors, sockets)?;
+        self.send_rest(sockets)?;
         Ok(self.intake.refused())
     }
 
     /// Takes the lines as they come up to the end of the input, and looks after those who ask meanwhile.
-    fn take_all<R: Read, E: Write>(&mut self, reader: &mut R, errors: &mut E) -> Result<(), Stop>
-        ensures { IfOk result (λ _. ReadsAll (R.remaining reader.old) (R.remaining reader.new) self.old.intake
+    fn take_all<R: Read, E: Write, S: Sockets<Connection = C>>(
+        &mut self,
+        reader: &mut R,
+        errors: &mut E,
+        sockets: &mut S,
+    ) -> Result<(), Stop>
+        requires { IsServing C.talk self.old }
+        ensures reads { IfOk result (λ _. ReadsAll (R.remaining reader.old) (R.remaining reader.new) self.old.intake
             self.new.intake) }
+        ensures serving { IsServing C.talk self.new }
     {
-        let mut tokens = Vec::new(self.alloc);
+        let mut numbers = Vec::new(self.alloc);
         let mut at_once = true;
         for _turn in 0..u64::MAX {
-            let limit = if at_once { 0 } else { self.edge.limit() };
-            self.edge
-                .turn(limit, &mut tokens, &self.intake, self.heard)?;
-            match self.take_lines(reader, errors)? {
+            let limit = if at_once { 0 } else { TICK };
+            self.turn(limit, &mut numbers, sockets)?;
+            match self.take_lines(reader, errors, sockets)? {
                 Progress::Ended => return Ok(()),
                 progress => at_once = progress == Progress::More,
             }
-            self.edge.deliver(self.intake.history());
+            self.settle(sockets);
         }
         Err(Stop::Listening)
     }
 
+    /// Waits at most so many milliseconds; hears those on whose connections something came, and answers them; and
+    /// accepts those who ask.
+    fn turn<S: Sockets<Connection = C>>(
+        &mut self,
+        limit: u64,
+        numbers: &mut Vec<usize>,
+        sockets: &mut S,
+    ) -> Result<(), Stop>
+        requires { IsServing C.talk self.old }
+        ensures same { self.new.intake ≡ self.old.intake }
+        ensures serving { IsServing C.talk self.new }
+    {
+        let Some(asks) = sockets.wait(limit, numbers) else {
+            return Err(Stop::Listening);
+        };
+        for number in numbers.iter() {
+            self.hear(*number, sockets);
+        }
+        if asks {
+            self.accept(sockets);
+        }
+        Ok(())
+    }
+
+    /// Something came on the connection of this number, or it may be written to: it is heard, and sent what waits.
+    fn hear<S: Sockets<Connection = C>>(&mut self, number: usize, sockets: &mut S)
+        requires { IsServing C.talk self.old }
+        ensures same { self.new.intake ≡ self.old.intake }
+        ensures serving { IsServing C.talk self.new }
+    {
+        let seconds = match self.heard {
+            Some(heard) => Some(sockets.now().saturating_sub(heard) / 1000),
+            None => None,
+        };
+        self.guests
+            .hear(self.alloc, number, &self.intake, seconds, sockets);
+    }
+
+    /// Accepts those who ask.
+    fn accept<S: Sockets<Connection = C>>(&mut self, sockets: &mut S)
+        requires { IsServing C.talk self.old }
+        ensures same { self.new.intake ≡ self.old.intake }
+        ensures serving { IsServing C.talk self.new }
+    {
+        for _one in 0..ACCEPTS_MAX {
+            match sockets.accept() {
+                Some(connection) => {
+                    self.guests
+                        .add(self.alloc, connection, self.intake.history(), sockets);
+                }
+                None => break,
+            }
+        }
+    }
+
+    /// All who ask do this.
+    fn all<S: Sockets<Connection = C>>(&mut self, deed: Deed, sockets: &mut S)
+        requires { IsServing C.talk self.old }
+        ensures all { AllDo C.talk deed (board_of self.old.intake).past (guests_of self.old.guests)
+            (guests_of self.new.guests) }
+        ensures same { self.new ≡ record self.old { guests = self.new.guests } }
+        ensures serving { IsServing C.talk self.new }
+    {
+        self.guests
+            .all(self.alloc, self.intake.history(), deed, sockets);
+    }
+
+    /// What waits is sent, as far as each takes it; and where enough time has gone by, each who asks is looked at.
+    fn settle<S: Sockets<Connection = C>>(&mut self, sockets: &mut S)
+        requires { IsServing C.talk self.old }
+        ensures same { self.new.intake ≡ self.old.intake }
+        ensures settles { Settles C.talk S.reads sockets.old self.old self.new }
+        ensures serving { IsServing C.talk self.new }
+    {
+        let now = sockets.now();
+        self.all(Deed::Deliver, sockets);
+        if now >= self.ticked.saturating_add(TICK) {
+            self.ticked = now;
+            self.all(Deed::Tick, sockets);
+            self.all(Deed::Deliver, sockets);
+        }
+    }
+
+    /// The input has ended, so no more events come: what waits is sent, for so long as that may take.
+    fn send_rest<S: Sockets<Connection = C>>(&mut self, sockets: &mut S) -> Result<(), Stop>
+        requires { IsServing C.talk self.old }
+        ensures same { self.new.intake ≡ self.old.intake }
+        ensures serving { IsServing C.talk self.new }
+    {
+        self.all(Deed::End, sockets);
+        let last = sockets.now().saturating_add(LAST);
+        let mut numbers = Vec::new(self.alloc);
+        for _turn in 0..u64::MAX {
+            self.settle(sockets);
+            self.turn(LAST_WAIT, &mut numbers, sockets)?;
+            if !self.guests.is_behind() || sockets.now() >= last {
+                return Ok(());
+            }
+        }
+        Err(Stop::Listening)
+    }
+
+    /// Lets all go who ask, and closes their connections.
+    pub(crate) fn close<S: Sockets<Connection = C>>(self, sockets: &mut S)
+        requires { IsServing C.talk self }
+    {
+        let Serving {
+            alloc: _,
+            guests,
+            intake,
+            heard: _,
+            ticked: _,
+        } = self;
+        guests.close(intake.history(), sockets);
+    }
+
     /// Takes the lines that are there, so many at most, of one read.
-    fn take_lines<R: Read, E: Write>(
+    fn take_lines<R: Read, E: Write, S: Sockets<Connection = C>>(
         &mut self,
         reader: &mut R,
         errors: &mut E,
+        sockets: &mut S,
     ) -> Result<Progress, Stop>
-        ensures { IfOk result (Moves (R.remaining reader.old) (R.remaining reader.new) self.old.intake
+        requires { IsServing C.talk self.old }
+        ensures moves { IfOk result (Moves (R.remaining reader.old) (R.remaining reader.new) self.old.intake
             self.new.intake) }
+        ensures serving { IsServing C.talk self.new }
     {
         if !self.intake.is_cut() {
-            return self.take_read(errors);
+            return self.take_read(errors, sockets);
         }
-        if !self.edge.has_input() {
+        if !sockets.has_input() {
             return Ok(Progress::Waits);
         }
         match self.intake.read(reader) {
-            Ok(true) => self.take_read(errors),
-            Ok(false) => self.take_last(errors),
+            Ok(true) => self.take_read(errors, sockets),
+            Ok(false) => self.take_last(errors, sockets),
             Err(_) => Err(Stop::Reading),
         }
     }
 
     /// Takes lines of what was read, so many at most.
-    fn take_read<E: Write>(&mut self, errors: &mut E) -> Result<Progress, Stop>
+    fn take_read<E: Write, S: Sockets<Connection = C>>(
+        &mut self,
+        errors: &mut E,
+        sockets: &mut S,
+    ) -> Result<Progress, Stop>
+        requires { IsServing C.talk self.old }
         ensures more { IfOk result (λ progress. progress ≡ Progress.More) }
         ensures goes_on { IfOk result (λ _. GoesOn [] self.old.intake self.new.intake) }
+        ensures serving { IsServing C.talk self.new }
     {
         for _line in 0..LINES_MAX {
-            if !self.take_next(errors)? {
+            if !self.take_next(errors, sockets)? {
                 break;
             }
         }
@@ -159,52 +291,74 @@ impl<'a, N: Net<Listener = TcpListener, Stream = TcpStream> + Clock> Serving<'a,
 
     /// Takes the next line of what was read, once. Whether there was one. That a message was heard is told by the time
     /// only where one was counted.
-    fn take_next<E: Write>(&mut self, errors: &mut E) -> Result<bool, Stop>
+    fn take_next<E: Write, S: Sockets<Connection = C>>(
+        &mut self,
+        errors: &mut E,
+        sockets: &mut S,
+    ) -> Result<bool, Stop>
+        requires { IsServing C.talk self.old }
         ensures goes_on { IfOk result (λ _. GoesOn [] self.old.intake self.new.intake) }
         ensures heard { IfOk result (λ _. (board_of self.new.intake).shown.counts.messages
             ≡ (board_of self.old.intake).shown.counts.messages → self.new.heard ≡ self.old.heard) }
+        ensures serving { IsServing C.talk self.new }
     {
         let before = self.intake.page().counts().messages;
         match self.intake.take_next(self.alloc) {
             Err(_) => Err(Stop::OutOfMemory),
             Ok(None) => Ok(false),
             Ok(Some(taken)) => {
-                self.tell(before, taken, errors);
+                self.tell(before, taken, errors, sockets);
                 Ok(true)
             }
         }
     }
 
     /// The input has ended: a line that no line feed ends is taken.
-    fn take_last<E: Write>(&mut self, errors: &mut E) -> Result<Progress, Stop>
-        requires { (cutting_of self.old.intake).ahead ≡ [] }
+    fn take_last<E: Write, S: Sockets<Connection = C>>(
+        &mut self,
+        errors: &mut E,
+        sockets: &mut S,
+    ) -> Result<Progress, Stop>
+        requires cut { (cutting_of self.old.intake).ahead ≡ [] }
+        requires serving { IsServing C.talk self.old }
         ensures ended { IfOk result (λ progress. progress ≡ Progress.Ended) }
         ensures ends { IfOk result (λ _. Ends [] self.old.intake self.new.intake) }
         ensures heard { IfOk result (λ _. (board_of self.new.intake).shown.counts.messages
             ≡ (board_of self.old.intake).shown.counts.messages → self.new.heard ≡ self.old.heard) }
+        ensures serving { IsServing C.talk self.new }
     {
         let before = self.intake.page().counts().messages;
         match self.intake.take_last(self.alloc) {
             Err(_) => return Err(Stop::OutOfMemory),
             Ok(None) => {}
-            Ok(Some(taken)) => self.tell(before, taken, errors),
+            Ok(Some(taken)) => self.tell(before, taken, errors, sockets),
         }
         Ok(Progress::Ended)
     }
 
     /// Tells what a line came to: an event goes to those who get them, another line is told on `errors`. So many
     /// messages were counted before it.
-    fn tell<E: Write>(&mut self, before: u64, taken: Taken, errors: &mut E)
+    fn tell<E: Write, S: Sockets<Connection = C>>(
+        &mut self,
+        before: u64,
+        taken: Taken,
+        errors: &mut E,
+        sockets: &mut S,
+    )
+        requires { IsServing C.talk self.old }
         ensures same { self.new.intake ≡ self.old.intake }
         ensures heard { (board_of self.old.intake).shown.counts.messages ≡ before → self.new.heard ≡ self.old.heard }
+        ensures event { taken ≡ Taken.Event → AllDo C.talk Deed.CatchUp (board_of self.old.intake).past
+            (guests_of self.old.guests) (guests_of self.new.guests) }
+        ensures serving { IsServing C.talk self.new }
     {
         match taken {
             Taken::Other(number) => say_other(number, errors),
-            Taken::Event => self.edge.catch_up(self.intake.history()),
+            Taken::Event => self.all(Deed::CatchUp, sockets),
             Taken::Unsent => {}
         }
         if self.intake.page().counts().messages != before {
-            self.heard = Some(self.edge.now());
+            self.heard = Some(sockets.now());
         }
     }
 }

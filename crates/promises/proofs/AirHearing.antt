@@ -12,7 +12,7 @@ use Rattle.rds_groups.specs.declared.heard.HeardGroup.{HeardGroup}
 use Rattle.rds_groups.specs.Heard.{whole, came}
 use Rattle.rds_groups.specs.ReceiverLaws.{IsPartOf, IsRightOrMissing}
 use Rattle.rds_groups.proofs.Public.{comes_whole}
-use Rattle.rds_groups.specs.Shown.{Receiver, Heard, hears, told, identified, joined, shown_with, placed, left_of}
+use Rattle.rds_groups.specs.Shown.{Receiver, Heard, hears_own, told, identified, joined, shown_with, placed, left_of}
 use Rattle.rds_groups.specs.Shown.{is_same, nothing}
 use Rattle.carousel.specs.Carousel.{Carousel}
 use Rattle.carousel.specs.Next.{name_group, text_group, free_group, sent}
@@ -34,23 +34,23 @@ texted_now s c r = text_told s c (Some (text_group s c).block3) (Some (text_grou
 
 -- ---- Whole groups.
 pub hears_name : (s : ServiceData) (i : ℕ) (r : Receiver) → IsService s → i < 4
-    → hears (came (blocks (name_group s i))) r ≡ named_now s i r
+    → hears_own (came (blocks (name_group s i))) r ≡ named_now s i r
 hears_name s i r ok small =
-    ap (λ (h : HeardGroup). hears h r) (comes_whole (name_group s i) (name_words s i ok small))
+    ap (λ (h : HeardGroup). hears_own h r) (comes_whole (name_group s i) (name_words s i ok small))
     ∙ told_name s i (whole (name_group s i)) (record r { pi = Some s.pi }) ok small
     ∙ ap (λ two. shown_with (joined i r.coming two) (record (known s r) { ta = Some s.ta; music = Some s.music }))
     (two_back (name_at s (2 * i + 0)) (name_at s (2 * i + 1)) (byte_at s.ps 0 (2 * i + 1) (omega arith) ok.are_bytes))
 
 pub hears_text : (s : ServiceData) (c : Carousel) (r : Receiver) → IsService s → c.text_segment < 16
-    → All (λ byte. byte < 256) c.text → hears (came (blocks (text_group s c))) r ≡ texted_now s c r
+    → All (λ byte. byte < 256) c.text → hears_own (came (blocks (text_group s c))) r ≡ texted_now s c r
 hears_text s c r ok small are_bytes =
-    ap (λ (h : HeardGroup). hears h r) (comes_whole (text_group s c) (text_words s c ok small are_bytes))
+    ap (λ (h : HeardGroup). hears_own h r) (comes_whole (text_group s c) (text_words s c ok small are_bytes))
     ∙ told_text s c (whole (text_group s c)) (record r { pi = Some s.pi }) ok small
 
 pub hears_free : (s : ServiceData) (g : StoredGroup) (r : Receiver) → IsService s → IsOther g
-    → hears (came (blocks (free_group s g))) r ≡ known s r
+    → hears_own (came (blocks (free_group s g))) r ≡ known s r
 hears_free s g r ok other =
-    ap (λ (h : HeardGroup). hears h r) (comes_whole (free_group s g) (free_words s g ok other))
+    ap (λ (h : HeardGroup). hears_own h r) (comes_whole (free_group s g) (free_words s g ok other))
     ∙ told_free s g (whole (free_group s g)) (record r { pi = Some s.pi }) ok other
 
 -- ---- A part of a group.
@@ -59,7 +59,7 @@ pub hears_part : (Before After : Receiver → Type 0) (g : Group) (h : HeardGrou
     → ((q : Receiver) → Before q → Before (record q { pi = Some g.block1 }))
     → ((q : Receiver) → Before q → After (record q { coming = [] }))
     → ((q : Receiver) → Before q → After (told (Some g.block2) h q))
-    → After (hears h r)
+    → After (hears_own h r)
 hears_part Before After g h r part before identifies loses tells =
     let q = identified h.block1 r in
     let first : Before q = elim part.block1 [

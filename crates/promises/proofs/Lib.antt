@@ -3,6 +3,8 @@ pub mod AirHearing
 pub mod Choice
 pub mod Places
 pub mod Steps
+pub mod Tuning
+pub mod Retuning
 pub mod Service
 pub mod AirLines
 pub mod TextRuns

@@ -1,6 +1,7 @@
 -- Where each text has its toggle set, no text is mixed, nor over a start.
-use Rattle.std.proofs.Common.{◌≡◌, ◌⊎◌, ℕ, zero, suc, ◌/◌, ◌<◌, ◌≤◌, Bool, true, false, not, List, [], ◌∷◌, length}
-use Rattle.std.proofs.Common.{Option, Some, None, refl, arith, ap, sym, ◌∙◌, subst, inl, inr, if◌then◌else◌, ◌&&◌}
+use Rattle.std.proofs.Common.{◌≡◌, ◌⊎◌, ℕ, zero, suc, ◌+◌, ◌/◌, ◌<◌, ◌≤◌, Bool, true, false, not, List, [], ◌∷◌}
+use Rattle.std.proofs.Common.{length, Option, Some, None, refl, arith, ap, sym, ◌∙◌, subst, inl, inr, if◌then◌else◌}
+use Rattle.std.proofs.Common.{◌&&◌}
 use Rattle.std.specs.Prelude.{slice_get, unwrap_or, bytes_eq, is_some, IfSome, ◌||◌}
 use Rattle.std.specs.List.{AllByRecursion}
 use Rattle.std.proofs.lemmas.Bool.{cases_lt, cases_eq, cases_Bool, false≢true}
@@ -8,18 +9,21 @@ use Rattle.std.proofs.lemmas.Slice.Eq.{bytes_eq-Decides}
 use Rattle.rds_groups.specs.Groups.{blocks}
 use Rattle.rds_store.specs.Value.{Store, ServiceData, StoredText}
 use Rattle.rds_groups.specs.Heard.{came}
-use Rattle.rds_groups.specs.Shown.{Receiver, hears, left_of, is_same, nothing, text_shown}
+use Rattle.rds_groups.specs.Shown.{Receiver, hears_own, left_of, is_same, nothing, text_shown, switched_on}
+use Rattle.rds_groups.specs.Shown.{line, before, is_return}
 use Rattle.carousel.specs.Carousel.{Carousel, blanks_left}
 use Rattle.carousel.specs.Texts.{no_text, line_up, segment_count, begun, chosen}
 use Rattle.carousel.specs.Service.{main_service}
 use Rattle.carousel.specs.Next.{sent, send_text, text_sent, next_group}
 use Rattle.promises.specs.OnAir.{IsService, IsStore, after, carousel_after}
-use Rattle.promises.specs.AirLaws.{HasHeardOnly, Toggles, NoTextIsMixed, OthersToggle, TogglesBehind}
-use Rattle.promises.specs.AirLaws.{StartIsHeard, NoTextIsMixedOverAStart, up_to_return}
+use Rattle.promises.specs.AirLaws.{HasHeardNothing, HasHeardOnly, HasHeardBefore, Toggles, NoTextIsMixed}
+use Rattle.promises.specs.AirLaws.{OthersToggle, TogglesBehind}
+use Rattle.promises.specs.AirLaws.{NoTextIsMixedOverAStart, up_to_return}
 use Rattle.promises.proofs.AirHearing.{texted_now, text_comes, text_stays, left_same, MayHold}
 use Rattle.promises.proofs.Choice.{IsFine, any_choice, is_blanked, is_chosen}
 use Rattle.promises.proofs.Steps.{step_is, on_air, fine}
 use Rattle.promises.proofs.AirLines.{text_may_show, text_is_up_to_return}
+use Rattle.promises.proofs.Tuning.{AllOk, Standing, Settled, Elsewhere, Anything, run}
 
 -- ---- The text that goes out stays, or the flag turns.
 pub record Stays (c d : Carousel) : Type 0 where
@@ -207,7 +211,7 @@ clear_kept c d r q same flag long text clear = elim clear [
 ]
 
 clear_step : (v : Store) (c : Carousel) (r : Receiver) → IsStore v → (c.blanks ≡ None → OthersToggle c v) → IsClear c r
-    → IsClear (next_group v c).1 (hears (came (blocks (next_group v c).0)) r)
+    → IsClear (next_group v c).1 (hears_own (came (blocks (next_group v c).0)) r)
 clear_step v c r ok toggles clear =
     let s = main_service v in
     step_is s v c r IsClear ok.service (record { same = refl; first = ok.first })
@@ -215,32 +219,60 @@ clear_step v c r ok toggles clear =
     (λ h. clear_texted s c r ok.service (due_of v c toggles) clear)
     (λ h w. clear_kept c _ r _ (record { text = refl; flag = refl; blanks = refl }) refl refl refl clear)
 
-clear_after : (vs : List Store) (c : Carousel) (r : Receiver) → AllByRecursion IsStore vs → TogglesBehind vs c
-    → IsClear c r → IsClear (carousel_after vs c) (after vs c r)
-clear_after [] c r ok toggles clear = clear
-clear_after (v ∷ vs) c r ok toggles clear =
-    clear_after vs (next_group v c).1 (hears (came (blocks (next_group v c).0)) r) ok.1 toggles.1
-    (clear_step v c r ok.0 toggles.0 clear)
-
 -- a group of a start: an empty text, or as many of them are left
 blank_or_left : (v : Store) (c : Carousel) (r : Receiver) → IsStore v → 0 < blanks_left c
-    → IsClear (next_group v c).1 (hears (came (blocks (next_group v c).0)) r)
+    → IsClear (next_group v c).1 (hears_own (came (blocks (next_group v c).0)) r)
     ⊎ (blanks_left (next_group v c).1 ≡ blanks_left c)
 blank_or_left v c r ok some =
     step_is (main_service v) v c r (λ d q. IsClear d q ⊎ (blanks_left d ≡ blanks_left c)) ok.service
     (record { same = refl; first = ok.first })
     (λ h. inr refl) (λ h. inl (blank_clears (main_service v) c r ok.service some)) (λ h w. inr refl)
 
-cleared_after : (vs : List Store) (c : Carousel) (r : Receiver) → AllByRecursion IsStore vs → TogglesBehind vs c
-    → StartIsHeard vs c → IsClear (carousel_after vs c) (after vs c r)
-cleared_after [] c r ok toggles fewer = absurd (omega arith)
-cleared_after (v ∷ vs) c r ok toggles fewer =
-    let c' = (next_group v c).1 in
-    let r' = hears (came (blocks (next_group v c).0)) r in
-    elim (blank_or_left v c r ok.0 (omega arith)) [
-      | inl clear ↦ clear_after vs c' r' ok.1 toggles.1 clear
-      | inr same ↦ cleared_after vs c' r' ok.1 toggles.1 (omega arith)
-    ]
+-- what a receiver holds of a text that began anew, or heard only of the one on the air: nothing, or that
+abbrev HasHeardRight : Carousel → Receiver → Type 0
+HasHeardRight c r = HasHeardNothing r ⊎ IsClear c r
+
+nothing_left : (flag : Bool) (r : Receiver) → HasHeardNothing r → (p : ℕ) → left_of flag false r p ≡ None
+nothing_left flag r none p = kept (is_same r.flag flag && is_same r.is_short false)
+  where
+    kept : (b : Bool) → (if b then r.text else nothing) p ≡ None
+    kept true = none p
+    kept false = refl
+
+abbrev TogglesAt : Store → Carousel → Type 0
+TogglesAt v c = c.blanks ≡ None → OthersToggle c v
+
+right_step : (v : Store) (c : Carousel) (r : Receiver) → IsStore v → TogglesAt v c → HasHeardRight c r
+    → HasHeardRight (next_group v c).1 (hears_own (came (blocks (next_group v c).0)) r)
+right_step v c r ok toggles (inr clear) = inr (clear_step v c r ok toggles clear)
+right_step v c r ok toggles (inl none) =
+    let s = main_service v in
+    step_is s v c r HasHeardRight ok.service (record { same = refl; first = ok.first })
+    (λ h. inl (λ p. none p))
+    (λ h. let d = on_air s c in
+    inr (inl (only_now s d r (fine s c ok.service) (λ p. inl (nothing_left d.flag r none p)))))
+    (λ h w. inl (λ p. none p))
+
+right_anew : (v : Store) (c : Carousel) → IsStore v → TogglesAt v c
+    → HasHeardRight (next_group v c).1 (hears_own (came (blocks (next_group v c).0)) switched_on)
+right_anew v c ok toggles = right_step v c switched_on ok toggles (inl (λ p. refl))
+
+toggles_at : (vs : List Store) (c : Carousel) → TogglesBehind vs c → AllOk TogglesAt vs c
+toggles_at [] c all = tt
+toggles_at (v ∷ vs) c all = (all.0, toggles_at vs (next_group v c).1 all.1)
+
+-- ---- Over a start, of which so many empty texts are left.
+abbrev HasHeardStart : (left : ℕ) → Carousel → Receiver → Type 0
+HasHeardStart left c r = HasHeardRight c r ⊎ (blanks_left c ≡ left)
+
+start_step : (left : ℕ) → 0 < left → (v : Store) (c : Carousel) (r : Receiver) → IsStore v → TogglesAt v c
+    → HasHeardStart left c r
+    → HasHeardStart left (next_group v c).1 (hears_own (came (blocks (next_group v c).0)) r)
+start_step left some v c r ok toggles (inl right) = inl (right_step v c r ok toggles right)
+start_step left some v c r ok toggles (inr are) = elim (blank_or_left v c r ok (omega arith)) [
+  | inl clear ↦ inl (inr clear)
+  | inr same ↦ inr (same ∙ are)
+]
 
 -- ---- What is shown.
 shows_clear : (c : Carousel) (r : Receiver) → IsClear c r
@@ -262,10 +294,43 @@ all_behind (v ∷ vs) c all = (λ begun. each (main_service v).texts all.0, all_
     each [] set = tt
     each (t ∷ ts) set = (inr set.0, each ts set.1)
 
+nothing_in : (count place : ℕ) (heard : ℕ → Option ℕ) → heard place ≡ None → line (suc count) place heard ≡ None
+nothing_in count place heard none =
+    ap (λ (o : Option ℕ). if is_return o then Some [] else before o (line count (place + 1) heard)) none
+
+nothing_shown : (r : Receiver) → HasHeardNothing r → text_shown r ≡ None
+unfolding text_shown
+nothing_shown r none = by r.is_short
+  where
+    by : (b : Bool) → line (if b then 32 else 64) 0 r.text ≡ None
+    by true = nothing_in 31 0 r.text (none 0)
+    by false = nothing_in 63 0 r.text (none 0)
+
+shows_right : (c : Carousel) (r : Receiver) → HasHeardRight c r
+    → IfSome (text_shown r) (λ shown. shown ≡ up_to_return c.text)
+shows_right c r (inr clear) = shows_clear c r clear
+shows_right c r (inl none) =
+    subst (λ (o : Option (List ℕ)). IfSome o (λ shown. shown ≡ up_to_return c.text)) (sym (nothing_shown r none)) tt
+
+stands : (vs : List Store) (c : Carousel) (r : Receiver) → HasHeardBefore vs c r
+    → Standing HasHeardRight vs r.pi c r
+stands vs c r (inl (none, inl nothing)) = Settled refl none (inl nothing)
+stands vs c r (inl (none, inr only)) = Settled refl none (inr (inl only))
+stands vs c r (inr other) = Elsewhere refl other
+
 pub no_text_is_mixed : NoTextIsMixed
-no_text_is_mixed vs c r ok all only =
-    shows_clear (carousel_after vs c) (after vs c r) (clear_after vs c r ok (all_behind vs c all) (inl only))
+no_text_is_mixed vs c r ok all stay heard shows =
+    shows_right (carousel_after vs c) (after vs c r)
+    (run TogglesAt HasHeardRight right_step right_anew vs r.pi c r ok (toggles_at vs c (all_behind vs c all)) stay
+    (stands vs c r heard) shows)
 
 pub no_text_is_mixed_over_a_start : NoTextIsMixedOverAStart
-no_text_is_mixed_over_a_start vs c r ok toggles fewer =
-    shows_clear (carousel_after vs c) (after vs c r) (cleared_after vs c r ok toggles fewer)
+no_text_is_mixed_over_a_start vs c r ok toggles stay fewer shows =
+    let left = blanks_left c in
+    let some : 0 < left = omega arith in
+    elim (run TogglesAt (HasHeardStart left) (start_step left some)
+    (λ v d ok toggles. inl (right_anew v d ok toggles)) vs r.pi c r ok (toggles_at vs c toggles) stay
+    (Anything refl (λ q. inr refl)) shows) [
+      | inl right ↦ shows_right (carousel_after vs c) (after vs c r) right
+      | inr same ↦ absurd (omega arith)
+    ]

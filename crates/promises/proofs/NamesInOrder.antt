@@ -1,5 +1,5 @@
 -- A receiver shows no mix of names, whatever changes and whatever is lost.
-use Rattle.std.proofs.Common.{◌≡◌, ◌⊎◌, ℕ, ◌+◌, ◌*◌, List, [], ◌∷◌, ◌++◌, length, take, map, Option, Some, refl, ap}
+use Rattle.std.proofs.Common.{◌≡◌, ◌⊎◌, ℕ, ◌+◌, ◌*◌, List, [], ◌∷◌, ◌++◌, length, take, Option, Some, refl, ap}
 use Rattle.std.proofs.Common.{sym, ◌∙◌, subst, arith, inl, inr, if◌then◌else◌, ◌==◌}
 use Rattle.std.specs.Prelude.{IfSome, Contains}
 use Rattle.std.specs.List.{AllByRecursion}
@@ -9,19 +9,20 @@ use Rattle.std.proofs.lemmas.Bool.{cases_eq, eq-eqb, ne_eqb}
 use Rattle.rds_groups.specs.Groups.{blocks}
 use Rattle.rds_store.specs.Value.{Store, ServiceData}
 use Rattle.rds_groups.specs.Heard.{came}
-use Rattle.rds_groups.specs.Shown.{Receiver, hears, joined, shown_with, switched_on}
+use Rattle.rds_groups.specs.Shown.{Receiver, hears_own, joined, shown_with, switched_on}
 use Rattle.rds_groups.specs.Damage.{GroupDamage, IsGroupDamage, damaged}
 use Rattle.rds_groups.specs.ReceiverLaws.{IsRightOrMissing}
 use Rattle.carousel.specs.Carousel.{Carousel}
 use Rattle.carousel.specs.Texts.{line_up}
 use Rattle.carousel.specs.Service.{main_service}
 use Rattle.carousel.specs.Next.{name_next, name_group, send_name, next_group}
-use Rattle.promises.specs.OnAir.{IsService, IsStore, Has, Moment, after_damage}
-use Rattle.promises.specs.AirLaws.{NoNameIsMixed}
+use Rattle.promises.specs.OnAir.{IsService, IsStore, Has, Moment}
+use Rattle.promises.specs.AirLaws.{NoNameIsMixed, names_of}
 use Rattle.promises.proofs.Words.{name_at, name_two, name_told, two_back, byte_at}
 use Rattle.promises.proofs.Choice.{next_keeps_name}
 use Rattle.promises.proofs.Steps.{part_step, name_below, on_air}
 use Rattle.promises.proofs.Service.{two_more, going_on}
+use Rattle.promises.proofs.Retuning.{Kept, kept, elsewhere_before}
 
 -- so many segments of a name
 pub record IsFront (name : List ℕ) (next : ℕ) (coming : List ℕ) : Type 0 where
@@ -120,7 +121,7 @@ kept_coming s c coming before =
 names_step : (P : List ℕ → Type 0) (s : ServiceData) (v : Store) (d : GroupDamage) (c : Carousel) (r : Receiver)
     → IsService s → Has s v
     → IsGroupDamage d → P s.ps → HeardNames P c r → HeardNames P (next_group v c).1
-    (hears (came (damaged d (blocks (next_group v c).0))) r)
+    (hears_own (came (damaged d (blocks (next_group v c).0))) r)
 names_step P s v d c r ok has damage held good =
     part_step s v d c r (HeardNames P c) (HeardNames P) ok has damage good
     (λ q before. record { coming = before.coming; shown = before.shown })
@@ -129,27 +130,44 @@ names_step P s v d c r ok has damage held good =
     (λ block3 block4 h3 h4 q before. record { coming = kept_coming s c q.coming before.coming; shown = before.shown })
     (λ q before. record { coming = before.coming; shown = before.shown })
 
-names_after : (P : List ℕ → Type 0) (ms : List Moment) (c : Carousel) (r : Receiver)
-    → AllByRecursion (λ m. IsStore m.store) ms
-    → AllByRecursion (λ m. IsGroupDamage m.damage) ms → AllByRecursion (λ m. P (main_service m.store).ps) ms
-    → HeardNames P c r
-    → IfSome (after_damage ms c r).name P
-names_after P [] c r ok damage held good = good.shown
-names_after P (m ∷ ms) c r ok damage held good =
-    let c' = (next_group m.store c).1 in
-    let r' = hears (came (damaged m.damage (blocks (next_group m.store c).0))) r in
-    names_after P ms c' r' ok.1 damage.1 held.1
-    (names_step P (main_service m.store) m.store m.damage c r ok.0.service (record { same = refl; first = ok.0.first })
-    damage.0 held.0 good)
+abbrev AreNames : (P : List ℕ → Type 0) → Moment → Type 0
+AreNames P m = IsStore m.store × IsGroupDamage m.damage × P (main_service m.store).ps
 
-of_each : (P : List ℕ → Type 0) (ms : List Moment) → AllByRecursion P (map (λ m. (main_service m.store).ps) ms)
-    → AllByRecursion (λ m. P (main_service m.store).ps) ms
-of_each P [] h = h
-of_each P (m ∷ ms) h = (h.0, of_each P ms h.1)
+names_kept : (P : List ℕ → Type 0)
+    → Kept (AreNames P) (λ c. Unit {0}) (HeardNames P) (λ r. IfSome r.name P)
+names_kept P = record {
+  store = λ m ok. ok.0;
+  damage = λ m ok. ok.1;
+  moves = λ m c ok k. tt;
+  starts = λ c k. record { coming = inl refl; shown = tt };
+  own = λ m c r ok k good.
+      names_step P (main_service m.store) m.store m.damage c r ok.0.service
+      (record { same = refl; first = ok.0.first }) ok.1 ok.2 good;
+  misses = λ m c r ok k good. record { coming = inl refl; shown = good.shown };
+  holds = λ c r o good. record { coming = good.coming; shown = good.shown };
+  shows = λ c r good. good.shown;
+}
+
+are_names : (P : List ℕ → Type 0) (ms : List Moment) → AllByRecursion (λ m. IsStore m.store) ms
+    → AllByRecursion (λ m. IsGroupDamage m.damage) ms → AllByRecursion P (names_of ms)
+    → AllByRecursion (AreNames P) ms
+are_names P [] ok damage held = tt
+are_names P (m ∷ ms) ok damage held = ((ok.0, damage.0, held.0), are_names P ms ok.1 damage.1 held.1)
+
+held_names : (ms : List Moment) → AllByRecursion (λ m. IsStore m.store) ms
+    → AllByRecursion (λ m. IsGroupDamage m.damage) ms → AllByRecursion (AreNames (Contains (names_of ms))) ms
+held_names ms ok damage =
+    let names = names_of ms in
+    are_names (Contains names) ms ok damage (recursion_from_All (Contains names) names (All-contains_itself names))
 
 pub no_name_is_mixed : NoNameIsMixed
-no_name_is_mixed ms c ok damage =
-    let names = map (λ (m : Moment). (main_service m.store).ps) ms in
-    names_after (Contains names) ms c switched_on ok damage
-    (of_each (Contains names) ms (recursion_from_All (Contains names) names (All-contains_itself names)))
-    (record { coming = inl refl; shown = tt })
+no_name_is_mixed = record {
+  new = λ ms c ok damage.
+      let P = Contains (names_of ms) in
+      kept (AreNames P) (λ c. Unit {0}) (HeardNames P) (λ r. IfSome r.name P) (names_kept P) ms c switched_on
+      (held_names ms ok damage) tt (record { coming = inl refl; shown = tt }) tt;
+  tuned = λ ms c r ok damage elsewhere.
+      let P = Contains (names_of ms) in
+      elsewhere_before (AreNames P) (λ c. Unit {0}) (HeardNames P) (λ r. IfSome r.name P) (names_kept P) ms c r
+      (held_names ms ok damage) tt elsewhere;
+}

@@ -203,8 +203,8 @@ stores_set region (GoesOut ∷ events) v c said each =
     (main_set v each, stores_set region events (aired v c).1 (aired v c).2 said.1 (aired_set v c each))
 
 pub no_said_text_is_mixed : NoSaidTextIsMixed
-no_said_text_is_mixed region events v c r said each stores (inl only) =
-    no_text_is_mixed (stores_of events v c) c r stores (stores_set region events v c said each) only
-no_said_text_is_mixed region events v c r said each stores (inr start) =
+no_said_text_is_mixed region events v c r said each stores stay (inl heard) =
+    no_text_is_mixed (stores_of events v c) c r stores (stores_set region events v c said each) stay heard
+no_said_text_is_mixed region events v c r said each stores stay (inr start) =
     let vs = stores_of events v c in
-    no_text_is_mixed_over_a_start vs c r stores (all_behind vs c (stores_set region events v c said each)) start
+    no_text_is_mixed_over_a_start vs c r stores (all_behind vs c (stores_set region events v c said each)) stay start

@@ -1,7 +1,7 @@
 -- A service that stays is shown: all but its text.
 use Rattle.std.proofs.Common.{◌≡◌, ◌≢◌, ◌⊎◌, ℕ, ◌+◌, ◌*◌, ◌<◌, ◌≤◌, true, false, List, [], ◌∷◌, ◌++◌, length, take}
-use Rattle.std.proofs.Common.{get_or, Some, refl, ap, sym, ◌∙◌, arith, ◌==◌, if◌then◌else◌, inl, inr, append_assoc}
-use Rattle.std.proofs.Common.{slice_index}
+use Rattle.std.proofs.Common.{get_or, Some, refl, ap, sym, ◌∙◌, subst, arith, ◌==◌, if◌then◌else◌, inl, inr}
+use Rattle.std.proofs.Common.{append_assoc, slice_index}
 use Rattle.std.specs.Prelude.{bytes_eq}
 use Rattle.std.specs.List.{AllByRecursion}
 use Rattle.std.proofs.lemmas.Bool.{cases_lt, cases_eq, cases_Bool, eq-eqb, ne_eqb}
@@ -10,21 +10,22 @@ use Rattle.std.proofs.lemmas.Slice.Eq.{bytes_eq-Decides}
 use Rattle.rds_groups.specs.Groups.{bit, blocks}
 use Rattle.rds_store.specs.Value.{Store, ServiceData}
 use Rattle.rds_groups.specs.Heard.{came}
-use Rattle.rds_groups.specs.Shown.{Receiver, hears, joined}
+use Rattle.rds_groups.specs.Shown.{Receiver, hears_own, joined}
 use Rattle.carousel.specs.Carousel.{Carousel}
 use Rattle.carousel.specs.Texts.{line_up}
 use Rattle.carousel.specs.Next.{turn, name_next, send_name, send_text, next_group}
-use Rattle.promises.specs.OnAir.{IsService, Has, after}
-use Rattle.promises.specs.AirLaws.{ServiceIsShown, IsTuned, ServiceIsTuned, MusicIsTold, TrafficIsTold}
+use Rattle.promises.specs.OnAir.{IsService, Has, HasFlags}
+use Rattle.promises.specs.AirLaws.{Shows, ServiceIsShown, IsTuned, ServiceIsTuned, MusicIsTold, TrafficIsTold}
 use Rattle.promises.proofs.Words.{bit_small, name_two}
 use Rattle.promises.proofs.AirHearing.{named_now, texted_now}
 use Rattle.promises.proofs.Choice.{next_keeps_name}
 use Rattle.promises.proofs.Places.{far, far_below, nearer, turn_in, turn_over}
-use Rattle.promises.proofs.Steps.{step_is, name_below, goes_on, comes, none, on_air}
+use Rattle.promises.proofs.Steps.{step_is, name_below, goes_on, comes, none, on_air, own_after}
+use Rattle.promises.proofs.Tuning.{stores_have, pis_are, steady, service_steady}
 
 -- ---- What every group tells, and what the name's groups tell.
 tuned_brought : (s : ServiceData) → IsService s → (v : Store) → Has s v → (c : Carousel) (r : Receiver)
-    → IsTuned s (hears (came (blocks (next_group v c).0)) r)
+    → IsTuned s (hears_own (came (blocks (next_group v c).0)) r)
 tuned_brought s ok v has c r =
     step_is s v c r (λ d q. IsTuned s q) ok has
     (λ h. record { pi = refl; tp = refl; pty = refl })
@@ -33,7 +34,7 @@ tuned_brought s ok v has c r =
 
 tuned_after : (s : ServiceData) → IsService s → (vs : List Store) → AllByRecursion (Has s) vs → 1 ≤ length vs
     → (c : Carousel) (r : Receiver)
-    → IsTuned s (after vs c r)
+    → IsTuned s (own_after vs c r)
 tuned_after s ok vs all enough c r =
     comes s (λ d q. IsTuned s q) (λ d. 0) (λ v. 0)
     (λ v has d q good. tuned_brought s ok v has d q) (λ v has d q. inl (tuned_brought s ok v has d q))
@@ -45,7 +46,7 @@ record SwitchesAre (s : ServiceData) (r : Receiver) : Type 0 where
 
 switches_kept : (s : ServiceData) → IsService s → (v : Store) → Has s v → (c : Carousel) (r : Receiver)
     → SwitchesAre s r
-    → SwitchesAre s (hears (came (blocks (next_group v c).0)) r)
+    → SwitchesAre s (hears_own (came (blocks (next_group v c).0)) r)
 switches_kept s ok v has c r good =
     step_is s v c r (λ d q. SwitchesAre s q) ok has
     (λ h. record { ta = refl; music = refl })
@@ -53,7 +54,7 @@ switches_kept s ok v has c r good =
     (λ h w. record { ta = good.ta; music = good.music })
 
 switches_brought : (s : ServiceData) → IsService s → (v : Store) → Has s v → (c : Carousel) (r : Receiver)
-    → SwitchesAre s (hears (came (blocks (next_group v c).0)) r)
+    → SwitchesAre s (hears_own (came (blocks (next_group v c).0)) r)
     ⊎ (bit (next_group v c).1.is_other < bit c.is_other + 0)
 switches_brought s ok v has c r =
     step_is s v c r (λ d q. SwitchesAre s q ⊎ (bit d.is_other < bit c.is_other + 0)) ok has
@@ -63,7 +64,7 @@ switches_brought s ok v has c r =
 
 switches_after : (s : ServiceData) → IsService s → (vs : List Store) → AllByRecursion (Has s) vs → 2 ≤ length vs
     → (c : Carousel) (r : Receiver)
-    → SwitchesAre s (after vs c r)
+    → SwitchesAre s (own_after vs c r)
 switches_after s ok vs all enough c r =
     let b = bit_small c.is_other in
     let e = none vs in
@@ -71,13 +72,26 @@ switches_after s ok vs all enough c r =
     c r (inr (omega arith))
 
 pub service_is_tuned : ServiceIsTuned
-service_is_tuned s vs c r ok all enough = tuned_after s ok vs all enough c r
+service_is_tuned s vs c r ok all enough =
+    let is = steady s.pi vs c r (stores_have s ok vs all) (pis_are s vs all) enough in
+    subst (IsTuned s) (sym is.1) (tuned_after s ok vs all (omega arith) c is.0)
+
+-- where no 15B goes out between either
+pub all_have : (s : ServiceData) (vs : List Store) → AllByRecursion (HasFlags s) vs → AllByRecursion (Has s) vs
+all_have s [] flags = flags
+all_have s (v ∷ vs) flags = (flags.0.has, all_have s vs flags.1)
 
 pub music_is_told : MusicIsTold
-music_is_told s vs c r ok all enough = (switches_after s ok vs all enough c r).music
+music_is_told s vs c r ok flags enough =
+    let all = all_have s vs flags in
+    let is = service_steady s ok vs all enough c r in
+    ap (λ (q : Receiver). q.music) is.1 ∙ (switches_after s ok vs all enough c is.0).music
 
 pub traffic_is_told : TrafficIsTold
-traffic_is_told s vs c r ok all enough = (switches_after s ok vs all enough c r).ta
+traffic_is_told s vs c r ok flags enough =
+    let all = all_have s vs flags in
+    let is = service_steady s ok vs all enough c r in
+    ap (λ (q : Receiver). q.ta) is.1 ∙ (switches_after s ok vs all enough c is.0).ta
 
 -- ---- The name.
 -- one more segment of it
@@ -156,7 +170,7 @@ pass_kept s c r pass =
     record { name = keeps.name ∙ pass.name; front = pass.front ∙ ap (λ n. take (2 * n) s.ps) (sym keeps.name_segment) }
 
 pass_stays : (s : ServiceData) → IsService s → (v : Store) → Has s v → (c : Carousel) (r : Receiver) → IsInPass s c r
-    → IsInPass s (next_group v c).1 (hears (came (blocks (next_group v c).0)) r)
+    → IsInPass s (next_group v c).1 (hears_own (came (blocks (next_group v c).0)) r)
 pass_stays s ok v has c r pass =
     step_is s v c r (IsInPass s) ok has
     (λ h. pass_more s c r ok (inr pass))
@@ -194,7 +208,7 @@ unfolding wait_for
 free_nearer s i c h = omega (arith, ap bit h)
 
 pass_brought : (s : ServiceData) → IsService s → (v : Store) → Has s v → (c : Carousel) (r : Receiver)
-    → IsInPass s (next_group v c).1 (hears (came (blocks (next_group v c).0)) r)
+    → IsInPass s (next_group v c).1 (hears_own (came (blocks (next_group v c).0)) r)
     ⊎ (wait_for s 0 (next_group v c).1 < wait_for s 0 c)
 pass_brought s ok v has c r =
     step_is s v c r (λ d q. IsInPass s d q ⊎ (wait_for s 0 d < wait_for s 0 c)) ok has
@@ -227,12 +241,12 @@ shown_by s c r ok pass before =
 
 shown_stays : (s : ServiceData) → IsService s → (v : Store) → Has s v → (c : Carousel) (r : Receiver) → IsInPass s c r
     → r.name ≡ Some s.ps
-    → (hears (came (blocks (next_group v c).0)) r).name ≡ Some s.ps
+    → (hears_own (came (blocks (next_group v c).0)) r).name ≡ Some s.ps
 shown_stays s ok v has c r pass old =
     step_is s v c r (λ d q. q.name ≡ Some s.ps) ok has (λ h. shown_by s c r ok pass (inr old)) (λ h. old) (λ h w. old)
 
 shown_brought : (s : ServiceData) → IsService s → (v : Store) → Has s v → (c : Carousel) (r : Receiver) → IsInPass s c r
-    → ((hears (came (blocks (next_group v c).0)) r).name ≡ Some s.ps)
+    → ((hears_own (came (blocks (next_group v c).0)) r).name ≡ Some s.ps)
     ⊎ (wait_for s 3 (next_group v c).1 < wait_for s 3 c)
 shown_brought s ok v has c r pass =
     step_is s v c r (λ d q. (q.name ≡ Some s.ps) ⊎ (wait_for s 3 d < wait_for s 3 c)) ok has
@@ -251,29 +265,30 @@ data Stage (s : ServiceData) (c : Carousel) (r : Receiver) (groups : ℕ) : Type
 
 name_comes : (s : ServiceData) → IsService s → (vs : List Store) → AllByRecursion (Has s) vs
     → (c : Carousel) (r : Receiver)
-    → Stage s c r (length vs) → (after vs c r).name ≡ Some s.ps
+    → Stage s c r (length vs) → (own_after vs c r).name ≡ Some s.ps
 name_comes s ok [] all c r (Shown pass old) = old
 name_comes s ok [] all c r (UnderWay pass soon) = absurd (omega arith)
 name_comes s ok [] all c r (ToBegin soon) = absurd (omega arith)
 name_comes s ok (v ∷ vs) all c r (Shown pass old) =
-    name_comes s ok vs all.1 (next_group v c).1 (hears (came (blocks (next_group v c).0)) r)
+    name_comes s ok vs all.1 (next_group v c).1 (hears_own (came (blocks (next_group v c).0)) r)
     (Shown (pass_stays s ok v all.0 c r pass) (shown_stays s ok v all.0 c r pass old))
 name_comes s ok (v ∷ vs) all c r (UnderWay pass soon) =
     let stays = pass_stays s ok v all.0 c r pass in
-    name_comes s ok vs all.1 (next_group v c).1 (hears (came (blocks (next_group v c).0)) r)
+    name_comes s ok vs all.1 (next_group v c).1 (hears_own (came (blocks (next_group v c).0)) r)
     (elim (shown_brought s ok v all.0 c r pass) [
       | inl shown ↦ Shown stays shown
       | inr less ↦ UnderWay stays (omega arith)
     ])
 name_comes s ok (v ∷ vs) all c r (ToBegin soon) =
-    name_comes s ok vs all.1 (next_group v c).1 (hears (came (blocks (next_group v c).0)) r)
+    name_comes s ok vs all.1 (next_group v c).1 (hears_own (came (blocks (next_group v c).0)) r)
     (elim (pass_brought s ok v all.0 c r) [
       | inl pass ↦ UnderWay pass (let b = wait_bound s 3 (omega arith) (next_group v c).1 in omega arith)
       | inr less ↦ ToBegin (omega arith)
     ])
 
-pub service_is_shown : ServiceIsShown
-service_is_shown s vs c r ok all enough =
+all_shown : (s : ServiceData) → IsService s → (vs : List Store) → AllByRecursion (Has s) vs → 16 ≤ length vs
+    → (c : Carousel) (r : Receiver) → Shows s (own_after vs c r)
+all_shown s ok vs all enough c r =
     let tuned = tuned_after s ok vs all (omega arith) c r in
     let switches = switches_after s ok vs all (omega arith) c r in
     record {
@@ -284,3 +299,9 @@ service_is_shown s vs c r ok all enough =
       music = switches.music;
       name = name_comes s ok vs all c r (ToBegin (let b = wait_bound s 0 (omega arith) c in omega arith));
     }
+
+pub service_is_shown : ServiceIsShown
+service_is_shown s vs c r ok flags enough =
+    let all = all_have s vs flags in
+    let is = service_steady s ok vs all (omega arith) c r in
+    subst (Shows s) (sym is.1) (all_shown s ok vs all enough c is.0)

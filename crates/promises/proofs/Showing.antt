@@ -7,7 +7,7 @@ use Rattle.std.specs.List.{All}
 use Rattle.rds_groups.specs.Groups.{pair, blocks}
 use Rattle.rds_store.specs.Value.{Store, ServiceData, StoredText}
 use Rattle.rds_groups.specs.Heard.{came}
-use Rattle.rds_groups.specs.Shown.{Receiver, hears, placed, left_of, is_same, nothing, switched_on}
+use Rattle.rds_groups.specs.Shown.{Receiver, hears_own, placed, left_of, is_same, nothing, switched_on}
 use Rattle.rds_groups.specs.Damage.{GroupDamage, IsGroupDamage, damaged}
 use Rattle.rds_groups.specs.ReceiverLaws.{IsRightOrMissing}
 use Rattle.carousel.specs.Carousel.{Carousel, blanks_left}
@@ -94,7 +94,7 @@ by_name s t c ok block4 h q good = by block4 (names_by_name (λ name. name ≡ s
 pub step : (s : ServiceData) (t : StoredText) → IsService s → line_up s.texts ≡ t ∷ []
     → (v : Store) (d : GroupDamage) (c : Carousel) (r : Receiver) → blanks_left c ≡ 0 → Has s v
     → IsGroupDamage d → HeardOnly s t c r → HeardOnly s t (next_group v c).1
-    (hears (came (damaged d (blocks (next_group v c).0))) r)
+    (hears_own (came (damaged d (blocks (next_group v c).0))) r)
 step s t ok e v d c r none has damage good =
     part_step s v d c r (HeardOnly s t c) (HeardOnly s t) ok has damage good
     (λ q g. record {

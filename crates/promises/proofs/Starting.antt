@@ -6,16 +6,17 @@ use Rattle.std.specs.List.{AllByRecursion}
 use Rattle.std.proofs.lemmas.Bool.{cases_lt}
 use Rattle.rds_groups.specs.Groups.{blocks}
 use Rattle.rds_store.specs.Value.{Store, ServiceData, StoredText}
+use Rattle.rds_groups.specs.declared.heard.HeardGroup.{HeardGroup}
 use Rattle.rds_groups.specs.Heard.{came}
-use Rattle.rds_groups.specs.Shown.{Receiver, hears, is_same, nothing, switched_on}
+use Rattle.rds_groups.specs.Shown.{Receiver, hears_own, is_same, nothing, switched_on}
 use Rattle.rds_groups.specs.Damage.{GroupDamage, IsGroupDamage, damaged}
 use Rattle.rds_groups.specs.ReceiverLaws.{IsRightOrMissing}
 use Rattle.carousel.specs.Carousel.{Carousel, blanks_left}
 use Rattle.carousel.specs.Service.{main_service}
 use Rattle.carousel.specs.Texts.{no_text, line_up}
 use Rattle.carousel.specs.Next.{sent, name_next, text_group, text_sent, next_group}
-use Rattle.promises.specs.OnAir.{IsService, Has, Moment, after_damage}
-use Rattle.promises.specs.AirLaws.{ShowsNothingFalse, NothingFalseIsShown}
+use Rattle.promises.specs.OnAir.{IsService, Has, HasFlags, Moment, after_damage, pi_of, IsElsewhere}
+use Rattle.promises.specs.AirLaws.{ShowsNothingFalse, ShowsNothingElse, NothingFalseIsShown}
 use Rattle.promises.proofs.Words.{tuned_to, name_told, text_told}
 use Rattle.promises.proofs.AirHearing.{MayHold}
 use Rattle.promises.proofs.Choice.{is_blanked, is_chosen}
@@ -25,6 +26,8 @@ use Rattle.promises.proofs.NamesInOrder.{kept_coming}
 use Rattle.promises.proofs.Mixing.{stays_or_turns}
 use Rattle.promises.proofs.Showing.{HeardOnly, text_may, left_or_nothing, by_name, step, still_started, shows_only}
 use Rattle.promises.proofs.Showing.{nothing_heard}
+use Rattle.promises.proofs.Tuning.{store_has}
+use Rattle.promises.proofs.Retuning.{Kept, kept, elsewhere_before}
 
 -- ---- How far a start has come.
 -- an empty text is on the air under flag 0, and the first text is still to come
@@ -159,7 +162,7 @@ text_in_start s t c ok block3 block4 h3 h4 q (inr is) heard =
 start_step : (s : ServiceData) (t : StoredText) → IsService s → line_up s.texts ≡ t ∷ []
     → (v : Store) (d : GroupDamage) (c : Carousel) (r : Receiver) → Stage t c → Has s v → IsGroupDamage d
     → HeardEmpty s c r
-    → HeardStart s t (next_group v c).1 (hears (came (damaged d (blocks (next_group v c).0))) r)
+    → HeardStart s t (next_group v c).1 (hears_own (came (damaged d (blocks (next_group v c).0))) r)
 start_step s t ok e v d c r stage has damage heard =
     part_step s v d c r (HeardEmpty s c) (HeardStart s t) ok has damage heard
     (λ q g. record { only = identified_only q g.only; flag = g.flag })
@@ -210,37 +213,148 @@ start_step s t ok e v d c r stage has damage heard =
     }
 
 -- ---- Runs.
--- where nothing of a start is left
-all_steps : (s : ServiceData) (t : StoredText) → IsService s → line_up s.texts ≡ t ∷ []
-    → (ms : List Moment) (c : Carousel) (r : Receiver) → blanks_left c ≡ 0
-    → AllByRecursion (λ m. Has s m.store) ms → AllByRecursion (λ m. IsGroupDamage m.damage) ms → HeardOnly s t c r
-    → ShowsNothingFalse s t (after_damage ms c r)
-all_steps s t ok e [] c r none has damage good = shows_only s t c r (one_short s t ok e).short good
-all_steps s t ok e (m ∷ ms) c r none has damage good =
-    all_steps s t ok e ms (next_group m.store c).1 (hears (came (damaged m.damage (blocks (next_group m.store c).0))) r)
-    (still_started m.store c none) has.1 damage.1
-    (step s t ok e m.store m.damage c r none has.0 damage.0 good)
+-- a group that is missed, and one that is held
+missed : (s : ServiceData) (t : StoredText) (c d : Carousel) (r : Receiver) → HeardOnly s t c r
+    → HeardOnly s t d (record r { coming = [] })
+missed s t c d r g = record {
+  pi = g.pi;
+  tp = g.tp;
+  pty = g.pty;
+  ta = g.ta;
+  music = g.music;
+  long = g.long;
+  text = g.text;
+  names = record { coming = inl refl; shown = g.names.shown };
+}
 
--- and where it is
-all_from_start : (s : ServiceData) (t : StoredText) → IsService s → line_up s.texts ≡ t ∷ []
-    → (ms : List Moment) (c : Carousel) (r : Receiver) → Stage t c
-    → AllByRecursion (λ m. Has s m.store) ms → AllByRecursion (λ m. IsGroupDamage m.damage) ms → HeardEmpty s c r
-    → ShowsNothingFalse s t (after_damage ms c r) ⊎ ShowsNothingFalse s no_text (after_damage ms c r)
-all_from_start s t ok e [] c r stage has damage heard = inr (shows_only s no_text c r (omega arith) heard.only)
-all_from_start s t ok e (m ∷ ms) c r stage has damage heard =
-    let c' = (next_group m.store c).1 in
-    let r' = hears (came (damaged m.damage (blocks (next_group m.store c).0))) r in
-    elim (start_step s t ok e m.store m.damage c r stage has.0 damage.0 heard) [
-      | inl empty ↦ all_from_start s t ok e ms c' r' (next_stage s t e m.store has.0 c stage) has.1 damage.1 empty
-      | inr good ↦ inl (all_steps s t ok e ms c' r' good.0 has.1 damage.1 good.1)
-    ]
+holding : (s : ServiceData) (t : StoredText) (c : Carousel) (r : Receiver) (o : Option HeardGroup) → HeardOnly s t c r
+    → HeardOnly s t c (record r { held = o })
+holding s t c r o g = record {
+  pi = g.pi;
+  tp = g.tp;
+  pty = g.pty;
+  ta = g.ta;
+  music = g.music;
+  long = g.long;
+  text = g.text;
+  names = record { coming = g.names.coming; shown = g.names.shown };
+}
+
+abbrev IsOf : ServiceData → Moment → Type 0
+IsOf s m = Has s m.store × IsGroupDamage m.damage
+
+are_of : (s : ServiceData) (ms : List Moment) → AllByRecursion (λ m. Has s m.store) ms
+    → AllByRecursion (λ m. IsGroupDamage m.damage) ms → AllByRecursion (IsOf s) ms
+are_of s [] has damage = tt
+are_of s (m ∷ ms) has damage = ((has.0, damage.0), are_of s ms has.1 damage.1)
+
+all_elsewhere : (s : ServiceData) (ms : List Moment) (r : Receiver) → AllByRecursion (λ m. Has s m.store) ms
+    → IsElsewhere s.pi r → AllByRecursion (λ m. IsElsewhere (pi_of m.store) r) ms
+all_elsewhere s [] r has elsewhere = tt
+all_elsewhere s (m ∷ ms) r has elsewhere = (
+  subst (λ (u : ServiceData). IsElsewhere u.pi r) (sym has.0.same) elsewhere,
+  all_elsewhere s ms r has.1 elsewhere,
+)
+
+module _ (s : ServiceData) (t : StoredText) (ok : IsService s) (e : line_up s.texts ≡ t ∷ []) where
+  -- where nothing of a start is left
+  text_kept : Kept (IsOf s) (λ c. blanks_left c ≡ 0) (HeardOnly s t) (ShowsNothingFalse s t)
+  text_kept = record {
+    store = λ m is. store_has s m.store ok is.0;
+    damage = λ m is. is.1;
+    moves = λ m c is none. still_started m.store c none;
+    starts = λ c none. nothing_heard s t c;
+    own = λ m c r is none good. step s t ok e m.store m.damage c r none is.0 is.1 good;
+    misses = λ m c r is none good. missed s t c (next_group m.store c).1 r good;
+    holds = λ c r o good. holding s t c r o good;
+    shows = λ c r good. shows_only s t c r (one_short s t ok e).short good;
+  }
+
+  -- and where it is
+  abbrev ShowsEither : Receiver → Type 0
+  ShowsEither r = ShowsNothingFalse s t r ⊎ ShowsNothingFalse s no_text r
+
+  own_step : (m : Moment) (c : Carousel) (r : Receiver) → IsOf s m → Stage t c → HeardStart s t c r
+      → HeardStart s t (next_group m.store c).1
+      (hears_own (came (damaged m.damage (blocks (next_group m.store c).0))) r)
+  own_step m c r is stage (inl empty) = start_step s t ok e m.store m.damage c r stage is.0 is.1 empty
+  own_step m c r is stage (inr good) = inr (
+    still_started m.store c good.0,
+    step s t ok e m.store m.damage c r good.0 is.0 is.1 good.1,
+  )
+
+  miss_step : (m : Moment) (c : Carousel) (r : Receiver) → HeardStart s t c r
+      → HeardStart s t (next_group m.store c).1 (record r { coming = [] })
+  miss_step m c r (inl empty) =
+      inl (record { only = missed s no_text c (next_group m.store c).1 r empty.only; flag = empty.flag })
+  miss_step m c r (inr good) =
+      inr (still_started m.store c good.0, missed s t c (next_group m.store c).1 r good.1)
+
+  hold_step : (c : Carousel) (r : Receiver) (o : Option HeardGroup) → HeardStart s t c r
+      → HeardStart s t c (record r { held = o })
+  hold_step c r o (inl empty) = inl (record { only = holding s no_text c r o empty.only; flag = empty.flag })
+  hold_step c r o (inr good) = inr (good.0, holding s t c r o good.1)
+
+  shows_either : (c : Carousel) (r : Receiver) → HeardStart s t c r → ShowsEither r
+  shows_either c r (inl empty) = inr (shows_only s no_text c r (omega arith) empty.only)
+  shows_either c r (inr good) = inl (shows_only s t c r (one_short s t ok e).short good.1)
+
+  start_kept : Kept (IsOf s) (Stage t) (HeardStart s t) ShowsEither
+  start_kept = record {
+    store = λ m is. store_has s m.store ok is.0;
+    damage = λ m is. is.1;
+    moves = λ m c is stage. next_stage s t e m.store is.0 c stage;
+    starts = λ c stage. inl (record { only = nothing_heard s no_text c; flag = refl });
+    own = own_step;
+    misses = λ m c r is stage good. miss_step m c r good;
+    holds = hold_step;
+    shows = shows_either;
+  }
+
+  either_or : (c : Carousel) (r : Receiver) → 0 < blanks_left c → ShowsEither r → ShowsNothingElse s t c r
+  either_or c r some (inl shows) = inl shows
+  either_or c r some (inr empty) = inr (some, empty)
+
+  shown_new : (ms : List Moment) (c : Carousel) → AllByRecursion (IsOf s) ms
+      → ShowsNothingElse s t c (after_damage ms c switched_on)
+  shown_new ms c all = elim (cases_lt 0 (blanks_left c)) [
+    | inl some ↦ either_or c (after_damage ms c switched_on) some
+        (kept (IsOf s) (Stage t) (HeardStart s t) ShowsEither start_kept ms c switched_on all (Begins some)
+        (inl (record { only = nothing_heard s no_text c; flag = refl })) tt)
+    | inr over ↦
+        let none : blanks_left c ≡ 0 = omega arith in
+        inl (kept (IsOf s) (λ c. blanks_left c ≡ 0) (HeardOnly s t) (ShowsNothingFalse s t) text_kept ms c switched_on
+        all none (nothing_heard s t c) tt)
+  ]
+
+  shown_tuned : (ms : List Moment) (c : Carousel) (r : Receiver) → AllByRecursion (IsOf s) ms
+      → AllByRecursion (λ m. IsElsewhere (pi_of m.store) r) ms
+      → ((after_damage ms c r).pi ≡ r.pi) ⊎ ShowsNothingElse s t c (after_damage ms c r)
+  shown_tuned ms c r all elsewhere = elim (cases_lt 0 (blanks_left c)) [
+    | inl some ↦ elim (elsewhere_before (IsOf s) (Stage t) (HeardStart s t) ShowsEither start_kept ms c r all
+        (Begins some) elsewhere) [
+          | inl stays ↦ inl stays
+          | inr shows ↦ inr (either_or c (after_damage ms c r) some shows)
+        ]
+    | inr over ↦
+        let none : blanks_left c ≡ 0 = omega arith in
+        elim (elsewhere_before (IsOf s) (λ c. blanks_left c ≡ 0) (HeardOnly s t) (ShowsNothingFalse s t) text_kept ms c
+        r all none elsewhere) [
+          | inl stays ↦ inl stays
+          | inr shows ↦ inr (inl shows)
+        ]
+  ]
+
+-- where no 15B goes out between either
+each_has : (s : ServiceData) (ms : List Moment) → AllByRecursion (λ m. HasFlags s m.store) ms
+    → AllByRecursion (λ m. Has s m.store) ms
+each_has s [] flags = flags
+each_has s (m ∷ ms) flags = (flags.0.has, each_has s ms flags.1)
 
 pub nothing_false_is_shown : NothingFalseIsShown
-nothing_false_is_shown s t ms c ok e has damage = elim (cases_lt 0 (blanks_left c)) [
-  | inl some ↦ elim (all_from_start s t ok e ms c switched_on (Begins some) has damage
-      (record { only = nothing_heard s no_text c; flag = refl })) [
-        | inl shows ↦ inl shows
-        | inr empty ↦ inr (some, empty)
-      ]
-  | inr over ↦ inl (all_steps s t ok e ms c switched_on (omega arith) has damage (nothing_heard s t c))
-]
+nothing_false_is_shown = record {
+  new = λ s t ms c ok e flags damage. shown_new s t ok e ms c (are_of s ms (each_has s ms flags) damage);
+  tuned = λ s t ms c r ok e flags damage elsewhere.
+      let has = each_has s ms flags in
+      shown_tuned s t ok e ms c r (are_of s ms has damage) (all_elsewhere s ms r has elsewhere);
+}

@@ -6,18 +6,19 @@ use Rattle.std.proofs.lemmas.Bool.{cases_lt, cases_eq}
 use Rattle.rds_groups.specs.Groups.{bit, blocks}
 use Rattle.rds_store.specs.Value.{Store, ServiceData, StoredText}
 use Rattle.rds_groups.specs.Heard.{came}
-use Rattle.rds_groups.specs.Shown.{Receiver, hears}
+use Rattle.rds_groups.specs.Shown.{Receiver, hears_own, text_shown}
 use Rattle.carousel.specs.Carousel.{Carousel, switched_on, blanks_left}
 use Rattle.carousel.specs.Texts.{line_up, segment_count, chosen, text_next}
 use Rattle.carousel.specs.Next.{turn, sent, name_next, send_text, next_group, is_waiting}
-use Rattle.promises.specs.OnAir.{IsService, IsText, Has, after, carousel_after}
+use Rattle.promises.specs.OnAir.{IsService, IsText, Has, carousel_after}
 use Rattle.promises.specs.AirLaws.{TextIsShown, waiting}
 use Rattle.promises.proofs.Words.{bit_small}
 use Rattle.promises.proofs.AirHearing.{texted_now, text_comes, text_stays, left_same}
 use Rattle.promises.proofs.Choice.{IsOn, on_or_off, off_begins, GoesOn, on_goes_on, is_blanked, is_chosen}
 use Rattle.promises.proofs.Choice.{stays_started}
 use Rattle.promises.proofs.Places.{far, far_below, nearer}
-use Rattle.promises.proofs.Steps.{step_is, comes, total, on_air, fine}
+use Rattle.promises.proofs.Steps.{step_is, comes, total, on_air, fine, own_after}
+use Rattle.promises.proofs.Tuning.{service_steady}
 use Rattle.promises.proofs.AirLines.{text_is_up_to_return}
 
 -- ---- The one text.
@@ -137,7 +138,7 @@ text_kept s t ok e p c r good =
 
 keeps : (s : ServiceData) (t : StoredText) → IsService s → line_up s.texts ≡ t ∷ [] → (p : ℕ) → (v : Store) → Has s v
     → (c : Carousel) (r : Receiver) → TextIs t p c r
-    → TextIs t p (next_group v c).1 (hears (came (blocks (next_group v c).0)) r)
+    → TextIs t p (next_group v c).1 (hears_own (came (blocks (next_group v c).0)) r)
 keeps s t ok e p v has c r good =
     step_is s v c r (TextIs t p) ok has
     (λ h. record {
@@ -219,7 +220,7 @@ text_nearer s t ok e p small c none there h =
 brings : (s : ServiceData) (t : StoredText) → IsService s → line_up s.texts ≡ t ∷ [] → (p : ℕ)
     → p / 4 < segment_count t.bytes
     → (v : Store) → Has s v → (c : Carousel) (r : Receiver)
-    → TextIs t p (next_group v c).1 (hears (came (blocks (next_group v c).0)) r)
+    → TextIs t p (next_group v c).1 (hears_own (came (blocks (next_group v c).0)) r)
     ⊎ (wait t p (next_group v c).1 < wait t p c + extra v)
 unfolding wait extra
 brings s t ok e p small v has c r =
@@ -254,7 +255,7 @@ place_comes : (s : ServiceData) (t : StoredText) → IsService s → line_up s.t
     → p / 4 < segment_count t.bytes
     → (vs : List Store) → AllByRecursion (Has s) vs → (c : Carousel) (r : Receiver)
     → 2 * (blanks_left c + segment_count t.bytes + waiting vs) ≤ length vs
-    → TextIs t p (carousel_after vs c) (after vs c r)
+    → TextIs t p (carousel_after vs c) (own_after vs c r)
 unfolding wait
 place_comes s t ok e p small vs all c r enough =
     let b = bit_small (not c.is_other) in
@@ -276,5 +277,9 @@ one_short s t ok e =
 pub text_is_shown : TextIsShown
 text_is_shown s t vs c r ok e all enough =
     let short = (one_short s t ok e).short in
-    text_is_up_to_return t.bytes (after vs c r) short (place_comes s t ok e 0 (omega arith) vs all c r enough).long
-    (λ p within few. (place_comes s t ok e p (omega arith) vs all c r enough).at)
+    let is = service_steady s ok vs all (omega arith) c r in
+    let q = is.0 in
+    ap text_shown is.1
+    ∙ text_is_up_to_return t.bytes (own_after vs c q) short
+    (place_comes s t ok e 0 (omega arith) vs all c q enough).long
+    (λ p within few. (place_comes s t ok e p (omega arith) vs all c q enough).at)

@@ -1,18 +1,19 @@
 -- What a receiver hears of a service's groups, in the service's own words.
-use Rattle.std.proofs.Common.{◌≡◌, ℕ, ◌+◌, ◌*◌, ◌/◌, ◌%◌, ◌<◌, Bool, true, false, List, [], ◌∷◌, ◌++◌, length, get_or}
-use Rattle.std.proofs.Common.{Option, Some, refl, ap, sym, ◌∙◌, subst, arith, ◌==◌, slice_index, inl, inr}
+use Rattle.std.proofs.Common.{◌≡◌, ℕ, ◌+◌, ◌*◌, ◌/◌, ◌%◌, ◌^◌, ◌<◌, if◌then◌else◌, Bool, true, false, List, [], ◌∷◌}
+use Rattle.std.proofs.Common.{◌++◌, length, get_or, Option, Some, refl, ap, sym, ◌∙◌, subst, arith, ◌==◌, slice_index}
+use Rattle.std.proofs.Common.{inl, inr}
 use Rattle.std.specs.List.{All}
 use Rattle.std.proofs.lemmas.Bool.{cases_lt, ne_eqb}
 use Rattle.std.proofs.lemmas.List.Elements.{All-push}
 use Rattle.std.proofs.Math.ListN.{get_or-eq_default}
-use Rattle.rds_groups.specs.Groups.{second_block, bit, pair, characters}
+use Rattle.rds_groups.specs.Groups.{second_block, bit, has_bit, pair, characters}
 use Rattle.rds_groups.specs.Lines.{IsGroup}
 use Rattle.rds_store.specs.Value.{ServiceData}
 use Rattle.rds_store.specs.declared.group.Group.{Group as StoredGroup}
 use Rattle.rds_groups.specs.declared.heard.HeardGroup.{HeardGroup}
 use Rattle.rds_groups.specs.Shown.{Receiver, told, named, text_placed, left_of}
 use Rattle.carousel.specs.Carousel.{Carousel}
-use Rattle.carousel.specs.Next.{name_group, text_group, free_group, sent}
+use Rattle.carousel.specs.Next.{name_group, text_group, free_group, third_block, sent}
 use Rattle.promises.specs.OnAir.{IsService, IsOther}
 
 -- ---- Numbers in block 2 and in a block of two characters.
@@ -162,9 +163,17 @@ text_words s c ok h are_bytes =
     let z = sent_byte c.text (4 * i + 3) are_bytes in
     record { block1 = ok.pi; block2 = omega arith; block3 = omega arith; block4 = omega arith }
 
+third_small : (pi kind stored : ℕ) → pi < 2 ^ 16 → stored < 2 ^ 16 → third_block pi kind stored < 2 ^ 16
+third_small pi kind stored own given = by (has_bit 1 kind)
+  where
+    by : (is_b : Bool) → (if is_b then pi else stored) < 2 ^ 16
+    by true = own
+    by false = given
+
 pub free_words : (s : ServiceData) (g : StoredGroup) → IsService s → IsOther g → IsGroup (free_group s g)
 free_words s g ok other =
     let tp = bit_small s.tp in
     let pty = ok.pty in
     let kind = other.kind in let bits = other.bits in
-    record { block1 = ok.pi; block2 = omega arith; block3 = other.block3; block4 = other.block4 }
+    let third = third_small s.pi g.kind g.block3 ok.pi other.block3 in
+    record { block1 = ok.pi; block2 = omega arith; block3 = third; block4 = other.block4 }

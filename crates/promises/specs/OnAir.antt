@@ -1,10 +1,11 @@
 -- A carousel on the air, and a receiver that hears it.
-use Rattle.std.specs.Prelude.{◌/◌, ◌≤◌, ◌<◌, ◌≡◌, ◌≢◌, ◌^◌, List, [], ◌∷◌, length, All, IfSome, slice_get}
+use Rattle.std.specs.Prelude.{ℕ, ◌/◌, ◌≤◌, ◌<◌, ◌≡◌, ◌≢◌, ◌^◌, true, List, [], ◌∷◌, length, All, Option, Some, IfSome}
+use Rattle.std.specs.Prelude.{slice_get}
 use Rattle.rds_groups.specs.Groups.{blocks}
 use Rattle.rds_store.specs.Value.{Store, ServiceData, StoredText}
 use Rattle.rds_store.specs.declared.group.Group.{Group as StoredGroup}
 use Rattle.rds_groups.specs.Heard.{came}
-use Rattle.rds_groups.specs.Shown.{Receiver, hears}
+use Rattle.rds_groups.specs.Shown.{Receiver, hears, is_another}
 use Rattle.rds_groups.specs.Damage.{GroupDamage, damaged}
 use Rattle.carousel.specs.Carousel.{Carousel}
 use Rattle.carousel.specs.Next.{next_group}
@@ -65,3 +66,39 @@ after_damage [] c r = r
 after_damage (m ∷ ms) c r =
     after_damage ms (next_group m.store c).1
     (hears (came (damaged m.damage (blocks (next_group m.store c).0))) r)
+
+-- And no 15B goes out between: a receiver takes its TP, TA and MS for the station's own. (IEC 62106, type 15 groups)
+pub record HasFlags (s : ServiceData) (v : Store) : Type 0 where
+  pub has : Has s v
+  pub no_15b : IfSome (slice_get v.groups 0) (λ (g : StoredGroup). g.kind ≢ 31)
+
+-- ---- The station: another PI is another one. (IEC 62106, programme identification)
+-- The PI that a store sends.
+abbrev pub pi_of : Store → ℕ
+pi_of v = (main_service v).pi
+
+-- The PI on the air after the groups of these stores; before the first of them it is that of before.
+abbrev pub pi_after : List Store → (before : Option ℕ) → Option ℕ
+pi_after [] before = before
+pi_after (v ∷ vs) before = pi_after vs (Some (pi_of v))
+
+-- If there is a next group it has this PI.
+abbrev pub BeginsWith : (pi : ℕ) → List Store → Type 0
+BeginsWith pi [] = Unit {0}
+BeginsWith pi (v ∷ vs) = pi_of v ≡ pi
+
+-- Each PI that is another than the one before stays for two groups.
+abbrev pub PisStay : (before : Option ℕ) → List Store → Type 0
+PisStay before [] = Unit {0}
+PisStay before (v ∷ vs) =
+    (is_another before (Some (pi_of v)) ≡ true → BeginsWith (pi_of v) vs) × PisStay (Some (pi_of v)) vs
+
+-- A receiver has heard another station than the one of this PI, and holds no group of that one back.
+pub record IsElsewhere (pi : ℕ) (r : Receiver) : Type 0 where
+  pub tuned : is_another r.pi (Some pi) ≡ true
+  pub holds : IfSome r.held (λ g. is_another g.block1 (Some pi) ≡ true)
+
+-- Another one than that of the first of these groups.
+abbrev pub HasHeardAnother : List Store → Receiver → Type 0
+HasHeardAnother [] r = ⊥
+HasHeardAnother (v ∷ vs) r = IsElsewhere (pi_of v) r

@@ -1,5 +1,5 @@
 -- What a station says in words, between the groups that go out.
-use Rattle.std.specs.Prelude.{ℕ, ◌≡◌, ◌⊎◌, true, List, [], ◌∷◌, Some, IfSome}
+use Rattle.std.specs.Prelude.{ℕ, ◌≡◌, ◌⊎◌, true, List, [], ◌∷◌, Some}
 use Rattle.std.specs.List.{AllByRecursion}
 use Rattle.std.specs.FinMap.{get}
 use Rattle.uecp_elements.specs.Grammar.{AreBytes}
@@ -10,11 +10,11 @@ use Rattle.uecp_phrases.specs.Laws.{IsPlain}
 use Rattle.rds_store.specs.Value.{Store, ServiceData, StoredText}
 use Rattle.rds_store.specs.Step.{step, group_taken}
 use Rattle.rds_store.specs.Opening.{opening}
-use Rattle.rds_groups.specs.Shown.{Receiver, text_shown}
+use Rattle.rds_groups.specs.Shown.{Receiver}
 use Rattle.carousel.specs.Carousel.{Carousel}
 use Rattle.carousel.specs.Next.{aired}
-use Rattle.promises.specs.OnAir.{IsStore, after, carousel_after}
-use Rattle.promises.specs.AirLaws.{HasHeardOnly, StartIsHeard, up_to_return}
+use Rattle.promises.specs.OnAir.{IsStore, PisStay}
+use Rattle.promises.specs.AirLaws.{HasHeardBefore, StartIsHeard, ShowsNoMix}
 
 -- ---- What happens at an encoder that is on the air.
 -- A message comes, or the next group goes out.
@@ -54,13 +54,13 @@ pub record TogglesStaySet : Type 0 where
       → EachToggles (step v message).0
   pub take : (v : Store) → EachToggles v → EachToggles (group_taken v).0
 
--- Law: where each message is said in such words, whatever it says and whenever it comes, a receiver that heard of a
--- text the one that is on the air, or held anything and hears an empty text of a start, and misses no group, shows of a
--- text the one that is on the air, or nothing: no mix.
+-- Law: where each message is said in such words, whatever it says and whenever it comes, a receiver that heard nothing
+-- of a text, or of the one that is on the air alone, or another station, or held anything and hears an empty text of a
+-- start, and misses no group, shows of a text the one that is on the air, or nothing: no mix. A new PI stays for two
+-- groups at least.
 abbrev pub NoSaidTextIsMixed : Type 0
 NoSaidTextIsMixed =
     (region : Region) (events : List Event) (v : Store) (c : Carousel) (r : Receiver)
-    → AllByRecursion (IsSaid region) events → EachToggles v → AllByRecursion IsStore (stores_of events v c)
-    → HasHeardOnly c r ⊎ StartIsHeard (stores_of events v c) c
-    → IfSome (text_shown (after (stores_of events v c) c r))
-    (λ shown. shown ≡ up_to_return (carousel_after (stores_of events v c) c).text)
+    → AllByRecursion (IsSaid region) events → EachToggles v
+    → let vs = stores_of events v c in
+    AllByRecursion IsStore vs → PisStay r.pi vs → HasHeardBefore vs c r ⊎ StartIsHeard vs c → ShowsNoMix vs c r

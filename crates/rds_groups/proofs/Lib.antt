@@ -6,5 +6,8 @@ pub mod ReceiverReading
 pub mod Lines
 pub mod Window
 pub mod Finding
+pub mod Judging
+pub mod Losing
+pub mod Stations
 pub mod SynchroniserReading
 pub mod Public

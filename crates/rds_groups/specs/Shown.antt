@@ -15,7 +15,7 @@ nothing place = None
 
 -- What a receiver has heard. `coming` is what came of the name since its first segment, `name` the last name that came
 -- whole. `flag` is the A/B flag of the RadioText that it collects, and `is_short` whether that comes by 2B, with 32
--- characters.
+-- characters. `held` is the last group, where its PI is another than that of the station: it is held back.
 pub record Receiver : Type 0 where
   pub pi : Option ℕ
   pub tp : Option Bool
@@ -27,6 +27,7 @@ pub record Receiver : Type 0 where
   pub flag : Bool
   pub is_short : Bool
   pub text : Heard
+  pub held : Option HeardGroup
 
 -- A receiver that has heard nothing.
 abbrev pub switched_on : Receiver
@@ -41,6 +42,7 @@ switched_on = record {
   flag = false;
   is_short = false;
   text = nothing;
+  held = None;
 }
 
 -- ---- The name. (IEC 62106, programme service name)
@@ -96,7 +98,7 @@ text_heard block2 block3 block4 r =
       text = text_placed is_short (block2 % 16) block3 block4 (left_of flag is_short r);
     }
 
--- ---- A group.
+-- ---- A group of the station.
 -- Block 1 tells the PI.
 abbrev pub identified : (block1 : Option ℕ) → Receiver → Receiver
 identified None r = r
@@ -118,9 +120,33 @@ abbrev pub told : (block2 : Option ℕ) → HeardGroup → Receiver → Receiver
 told None g r = record r { coming = [] }
 told (Some block2) g r = by_type block2 g (tuned block2 r)
 
--- What a receiver has heard after one more group.
+-- What a receiver has heard after one more group of its station.
+abbrev pub hears_own : HeardGroup → Receiver → Receiver
+hears_own g r = told g.block2 g (identified g.block1 r)
+
+-- ---- A group, of whichever station. Another PI is another station. (IEC 62106, programme identification)
+-- The other PI is another than this one. A group without its block 1 is of the station that is tuned, and so is any
+-- before a PI was heard.
+abbrev pub is_another : (this other : Option ℕ) → Bool
+is_another (Some this) (Some other) = not (this == other)
+is_another (Some this) None = false
+is_another None other = false
+
+-- A group of another station is held back, in place of one that was. It may have been a segment of the name, so it ends
+-- the pass; what is shown stays.
+abbrev pub holds : HeardGroup → Receiver → Receiver
+holds g r = record r { coming = []; held = Some g }
+
+-- The second one with the same PI, right behind the first: the receiver begins anew, and hears both. (profile)
+abbrev pub hears_another : (held : Option HeardGroup) → HeardGroup → Receiver → Receiver
+hears_another None g r = holds g r
+hears_another (Some first) g r =
+    if is_another first.block1 g.block1 then holds g r else hears_own g (hears_own first switched_on)
+
+-- What a receiver has heard after one more group. One of its own station drops one that was held back.
 abbrev pub hears : HeardGroup → Receiver → Receiver
-hears g r = told g.block2 g (identified g.block1 r)
+hears g r =
+    if is_another r.pi g.block1 then hears_another r.held g r else hears_own g (record r { held = None })
 
 -- ---- What is shown of a text.
 -- A character before others; none where it, or one of them, was not heard.

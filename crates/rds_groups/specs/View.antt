@@ -19,4 +19,5 @@ receiver_of r = record {
   flag = r.flag;
   is_short = r.is_short;
   text = heard_in r.text;
+  held = r.held;
 }

@@ -2,9 +2,9 @@
 //! as text: each law the contract of a function that does nothing.
 ghost use Rattle.rds_groups.specs.Laws.{ReadsBack, IsTold, OneIsFound, TwoAreFound, BurstIsFound};
 ghost use Rattle.rds_groups.specs.Laws.{GroupsRead, SegmentsRead};
-ghost use Rattle.rds_groups.specs.ReceiverLaws.{ComesWhole, NoWordIsWrong};
+ghost use Rattle.rds_groups.specs.ReceiverLaws.{ComesWhole, NoWordIsWrong, BeginsAnew, OneChangesNothing};
 ghost use Rattle.rds_groups.specs.SynchroniserLaws.{EachGroupIsFound, StepIsKept, LinesReadBack, TextIsItsBits};
-ghost use Rattle.rds_groups.specs.SynchroniserLaws.{TextsAddUp};
+ghost use Rattle.rds_groups.specs.SynchroniserLaws.{TextsAddUp, WindowsAreJudged, StepIsLost};
 
 /// A block reads back as its word.
 #[tactic(auto, using(crate::proofs::Found::reads_back))]
@@ -59,6 +59,16 @@ pub fn no_word_is_wrong()
     ensures { NoWordIsWrong }
 {}
 
+/// Two groups of another station, one behind the other, and a receiver has heard nothing but these.
+pub fn begins_anew()
+    ensures { BeginsAnew }
+{}
+
+/// One alone is as if nothing had come.
+pub fn one_changes_nothing()
+    ensures { OneChangesNothing }
+{}
+
 /// A group that comes as it went out is found with its last bit, whatever came before.
 pub fn each_group_is_found()
     ensures { EachGroupIsFound }
@@ -67,6 +77,16 @@ pub fn each_group_is_found()
 /// Once a group was found, what comes of the next one is given with its last bit, however much of it is wrong.
 pub fn step_is_kept()
     ensures { StepIsKept }
+{}
+
+/// Behind a whole group, where no other comes, a step is lost exactly where a window has too many wrong blocks.
+pub fn step_is_lost()
+    ensures { StepIsLost }
+{}
+
+/// So it is of blocks that are counted from the beginning of a window on.
+pub fn windows_are_judged()
+    ensures { WindowsAreJudged }
 {}
 
 /// The line of a group reads as its bits.

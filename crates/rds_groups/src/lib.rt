@@ -3,12 +3,13 @@
 //!
 //! - [`Group`], [`Head`], [`Segment`]: a group and what it says; [`block`], [`check_word`], [`word_of`]: its blocks,
 //!   each with its [`OffsetWord`]; [`line`], [`read_line`]: it as a line of text.
-//! - [`Synchroniser`]: finds groups in a stream of bits; [`bit_of`], [`bit_line`]: such bits as text.
+//! - [`Synchroniser`], [`BlockWindow`]: finds groups in a stream of bits; [`bit_of`], [`bit_line`]: such bits as text.
 //! - [`Receiver`]: what is shown of groups, each as it was heard, a [`HeardGroup`].
 //! - [`laws`]: which wrong bits are found, and how groups and bits read.
 #![tactic(auto)]
 
 mod bit_text;
+mod block_window;
 mod group;
 mod group_line;
 mod heard;
@@ -19,6 +20,7 @@ mod receiver;
 mod synchroniser;
 
 pub use bit_text::{bit_line, bit_of};
+pub use block_window::BlockWindow;
 pub use group::{Group, Head, Segment, third_offset};
 pub use group_line::{line, read_line};
 pub use heard::HeardGroup;

@@ -30,6 +30,8 @@ pub struct Receiver {
     pub is_short: bool,
     /// Its characters, where they were heard.
     pub text: [Option<u8>; 64],
+    /// The last group, where its PI is another than that of the station.
+    pub held: Option<HeardGroup>,
 }
 
 impl Receiver {
@@ -48,12 +50,57 @@ impl Receiver {
             flag: false,
             is_short: false,
             text: no_text(),
+            held: None,
         }
     }
 
     /// Hears one more group. A group of which nothing came is heard too: it may have been a segment of a name.
+    ///
+    /// The first group with another PI is held back; where the next one has the same, the receiver begins anew with the
+    /// two. A group without a PI is of the station that is tuned.
     pub fn hear(&mut self, group: &HeardGroup)
         ensures { receiver_of self.new ≡ shown.hears group.now (receiver_of self.old) }
+    {
+        if is_another(self.pi, group.block1) {
+            self.hear_another(group);
+        } else {
+            self.held = None;
+            self.hear_own(group);
+        }
+    }
+
+    /// A group of another station.
+    fn hear_another(&mut self, group: &HeardGroup)
+        ensures { receiver_of self.new ≡ shown.hears_another self.old.held group.now (receiver_of self.old) }
+    {
+        match self.held {
+            Some(first) if !is_another(first.block1, group.block1) => {
+                self.begin_anew(&first, group);
+            }
+            _ => self.hold(group),
+        }
+    }
+
+    /// What was heard of the station before is gone.
+    fn begin_anew(&mut self, first: &HeardGroup, second: &HeardGroup)
+        ensures { receiver_of self.new ≡ shown.hears_own second.now (shown.hears_own first.now shown.switched_on) }
+    {
+        *self = Receiver::new();
+        self.hear_own(first);
+        self.hear_own(second);
+    }
+
+    /// A group is held back.
+    fn hold(&mut self, group: &HeardGroup)
+        ensures { receiver_of self.new ≡ shown.holds group.now (receiver_of self.old) }
+    {
+        self.coming.clear();
+        self.held = Some(*group);
+    }
+
+    /// A group of the station.
+    fn hear_own(&mut self, group: &HeardGroup)
+        ensures { receiver_of self.new ≡ shown.hears_own group.now (receiver_of self.old) }
     {
         if let Some(pi) = group.block1 {
             self.pi = Some(pi);
@@ -158,6 +205,16 @@ impl Receiver {
             shown.push(character);
         }
         Some(shown)
+    }
+}
+
+/// The other PI is another than this one; a group without its block 1 has none.
+fn is_another(this: Option<u16>, other: Option<u16>) -> bool
+    ensures { result ≡ shown.is_another this other }
+{
+    match (this, other) {
+        (Some(this), Some(other)) => this != other,
+        _ => false,
     }
 }
 

@@ -4,6 +4,7 @@ ghost use Rattle.rds_groups.specs.Sync as sync;
 ghost use Rattle.rds_groups.specs.Text as text;
 
 use crate::bit_text::bit_of;
+use crate::block_window::BlockWindow;
 use crate::heard::HeardGroup;
 
 /// Finds the groups in a stream of bits.
@@ -13,6 +14,8 @@ pub struct Synchroniser {
     pub blocks: [u32; 4],
     /// Once a group was found: how many bits are left until the next one ends.
     pub left: Option<u8>,
+    /// Its window of blocks: whether the step is still right.
+    pub window: BlockWindow,
 }
 
 impl Synchroniser {
@@ -23,13 +26,15 @@ impl Synchroniser {
         Synchroniser {
             blocks: [0; 4],
             left: None,
+            window: BlockWindow::new(),
         }
     }
 
     /// Takes one more bit, and gives the group that ends with it, as it came.
     ///
     /// A group is found where the last 104 bits are one with no wrong bit. From then on each 104 bits are a group, of
-    /// which blocks may be missing, until a whole one is found elsewhere.
+    /// which blocks may be missing, until a whole one is found elsewhere, or at least 35 of a window of 50 blocks were
+    /// wrong: then a whole one is looked for as at the beginning.
     pub fn take(&mut self, bit: bool) -> Option<HeardGroup>
         ensures { (self.new, result) ≡ sync.step bit self.old }
     {
@@ -37,10 +42,26 @@ impl Synchroniser {
         self.left = counted(self.left);
         let heard = HeardGroup::of_blocks(self.blocks);
         if is_end(&heard, self.left) {
-            self.left = Some(104);
+            self.go_on(&heard);
             Some(heard)
         } else {
             None
+        }
+    }
+
+    /// Behind a group: the next one has 104 bits, unless the step is lost.
+    fn go_on(&mut self, heard: &HeardGroup)
+        ensures { self.new ≡ sync.behind self.old.blocks (sync.window_after heard.now self.old.window) }
+    {
+        match window_after(heard, self.window) {
+            Some(window) => {
+                self.left = Some(104);
+                self.window = window;
+            }
+            None => {
+                self.left = None;
+                self.window = BlockWindow::new();
+            }
         }
     }
 
@@ -110,6 +131,17 @@ fn is_end(heard: &HeardGroup, left: Option<u8>) -> bool
     ensures { result ≡ sync.is_end heard.now left }
 {
     is_whole(heard) || is_due(left)
+}
+
+/// The window behind a group; None where the step is lost. A whole group begins a new one.
+fn window_after(heard: &HeardGroup, window: BlockWindow) -> Option<BlockWindow>
+    ensures { result ≡ sync.window_after heard.now window }
+{
+    if is_whole(heard) {
+        Some(BlockWindow::new())
+    } else {
+        window.after_group(heard)
+    }
 }
 
 /// Each of the four blocks came.

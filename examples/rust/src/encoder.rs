@@ -2,7 +2,6 @@
 
 use std::error::Error;
 use std::fmt;
-use std::marker::PhantomData;
 
 mod ffi {
     use std::ffi::c_void;
@@ -77,11 +76,13 @@ pub enum Answer {
     Dropped { fault: u8, place: usize },
 }
 
-/// An encoder, which stays on the thread that made it.
+/// An encoder, which may go to another thread.
 pub struct Encoder {
     handle: ffi::Handle,
-    on_one_thread: PhantomData<*mut ()>,
 }
+
+// SAFETY: what lies behind a handle belongs to no thread, and a call has `&mut self`, so one has the handle at a time
+unsafe impl Send for Encoder {}
 
 impl Encoder {
     pub fn new(site: u16, encoder: u8, sets: u8, services: &[u8]) -> Result<Encoder, Refused> {
@@ -90,7 +91,7 @@ impl Encoder {
         let status =
             unsafe { ffi::uecp_encoder_new(&mut handle, site, encoder, sets, services.as_ptr(), services.len()) };
         // a handle may lie anywhere between two calls, so it may be moved
-        if status == 0 { Ok(Encoder { handle, on_one_thread: PhantomData }) } else { Err(Refused(status)) }
+        if status == 0 { Ok(Encoder { handle }) } else { Err(Refused(status)) }
     }
 
     /// What a piece brings, as far as the iterator is taken: the rest of the piece is not fed.

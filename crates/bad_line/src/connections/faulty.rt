@@ -3,14 +3,17 @@ ghost use Rattle.std.specs.Prelude.{◌≡◌, ◌<◌, Some, None, IfOk, nat_lt
 ghost use Rattle.bad_line.specs.declared.rules.rule.Way.TheVariants.{Frame, Reply};
 ghost use Rattle.bad_line.specs.Connections.{Line, OpensNext, AsksRestart, with_restarts, refusal_in};
 
+use crate::connections::arrivals::Arrivals;
+use crate::connections::clock::now;
 use crate::connections::effect::{Effect, Effects};
 use crate::connections::reader::FaultyReader;
-use crate::connections::spans::{breaking, delay_of, refusal_of, restarts};
+use crate::connections::spans::{breaking, refusal_of, restarts};
 use crate::connections::writer::FaultyWriter;
 use crate::rules::{LineFaults, Rule, Way};
 use std::alloc::{AllocError, Global};
+use std::io::Write;
 use std::marker::Model;
-use std::time::{Clock, Duration};
+use std::time::Clock;
 use uecp_net::Connections;
 
 /// How many connections are refused at most before one is opened.
@@ -24,7 +27,6 @@ pub struct Faulty<'a, C, T, E> {
     connect: C,
     frames: Option<LineFaults>,
     replies: Option<LineFaults>,
-    delay: Duration,
     /// For how many milliseconds from the start no connection is taken.
     refusal: u64,
     rules: Vec<Rule>,
@@ -83,7 +85,6 @@ impl<'a, C: Drop, T: Clock, E> Faulty<'a, C, T, E> {
             connect,
             frames: Some(frames),
             replies: Some(replies),
-            delay: Duration::from_millis(delay_of(rules)),
             refusal: refusal_of(rules),
             rules: kept,
             asked: 0,
@@ -103,7 +104,6 @@ impl<'a, C, T: Clock, E> Faulty<'a, C, T, E> {
             connect,
             frames: _,
             replies: _,
-            delay: _,
             refusal: _,
             rules: _,
             asked: _,
@@ -138,17 +138,6 @@ impl<'a, C, T: Clock, E> Faulty<'a, C, T, E> {
     }
 }
 
-/// The milliseconds of a clock that never goes back; 0 where it tells no time.
-fn now<T: Clock>(time: &T) -> u64 {
-    match time.monotonic() {
-        Ok(time) => time
-            .as_secs()
-            .saturating_mul(1000)
-            .saturating_add(u64::from(time.subsec_millis())),
-        Err(_) => 0,
-    }
-}
-
 impl<'a, C: Connections, T: Clock, E: Effects> Faulty<'a, C, T, E> {
     /// The next connection without faults, behind those that are refused.
     fn open_next(&mut self) -> Option<(C::Input, C::Output)>
@@ -170,10 +159,11 @@ impl<'a, C: Connections, T: Clock, E: Effects> Faulty<'a, C, T, E> {
     }
 }
 
-impl<'a, C: Connections, T: Clock, E: Effects> Connections for Faulty<'a, C, T, E> {
-    type Input = FaultyReader<'a, C::Input, T, E>;
+impl<'a, A: Write + Arrivals + Drop, C: Connections<Output = A>, T: Clock, E: Effects> Connections
+    for Faulty<'a, C, T, E> {
+    type Input = FaultyReader<'a, C::Input, A, T, E>;
 
-    type Output = FaultyWriter<'a, C::Output, T, E>;
+    type Output = FaultyWriter<'a, A, T, E>;
 
     ghost use Rattle.bad_line.specs.Connections.{OpensFaulty, ClosesFaulty};
 
@@ -190,10 +180,13 @@ impl<'a, C: Connections, T: Clock, E: Effects> Connections for Faulty<'a, C, T, 
             return None;
         };
         match self.open_next() {
-            Some((input, output)) => Some((
-                FaultyReader::new(input, frames, self.delay, self.time, self.effects),
-                FaultyWriter::new(output, replies, self.delay, self.time, self.effects),
-            )),
+            Some((input, output)) => {
+                let arrivals = output.another();
+                Some((
+                    FaultyReader::new(input, frames, arrivals, self.time, self.effects),
+                    FaultyWriter::new(output, replies, self.time, self.effects),
+                ))
+            }
             None => {
                 self.frames = Some(frames);
                 self.replies = Some(replies);

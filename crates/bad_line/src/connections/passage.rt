@@ -1,5 +1,6 @@
 //! One direction of a connection with faults (profile).
-ghost use Rattle.std.specs.Prelude.{◌≡◌, ◌<◌, ◌≤◌, [], length, drop, true, false};
+ghost use Rattle.std.specs.Prelude.{◌≡◌, ◌<◌, ◌≤◌, length, drop, true, false, IsTrue};
+ghost use Rattle.bad_line.specs.Delays.{delay_in, pace_in};
 ghost use Rattle.bad_line.specs.Passages.{Direction, Takes, TakesAll, opened};
 
 use crate::connections::effect::{Effects, tell_fate};
@@ -7,6 +8,22 @@ use crate::rules::{LineFaults, Way};
 use crate::segments::{Cutter, Out};
 use arrayvec::ArrayVec;
 use std::marker::Model;
+
+/// How many bytes may wait at most where others come, so that there is room for what comes out of those.
+const WAITING_MAX: usize = 5120;
+
+/// How many segments end at most with the bytes of one call.
+const SEGMENTS_MAX: usize = 512;
+
+/// The end of a segment that came: its number, and how many bytes waited behind what came out of it.
+#[derive(Clone, Copy, Debug, Default)]
+pub(crate) struct Mark {
+    pub(crate) number: u64,
+    pub(crate) waiting: usize,
+}
+
+/// The segments that came with one call, in order.
+pub(crate) type Marks = ArrayVec<Mark, SEGMENTS_MAX>;
 
 /// One direction of a connection: the stream as it is cut, and what has come out of it and was not handed on yet.
 #[derive(Drop)]
@@ -16,6 +33,7 @@ pub(crate) struct Passage {
     /// How many bytes of `out` were handed on.
     given: usize,
     is_broken: bool,
+    marks: Marks,
 }
 
 impl Model for Passage {
@@ -26,7 +44,7 @@ impl Model for Passage {
 
     ghost view = { λ p. record { cutting = p.cutter; waiting = drop p.given p.out.items; is_broken = p.is_broken } };
 
-    ghost invariant = { λ p. (p.given ≤ length p.out.items) × (length p.out.items ≤ 3072) };
+    ghost invariant = { λ p. (p.given ≤ length p.out.items) × (length p.out.items ≤ 8192) };
 }
 
 impl Passage {
@@ -39,6 +57,7 @@ impl Passage {
             out: ArrayVec::new(),
             given: 0,
             is_broken: false,
+            marks: ArrayVec::new(),
         }
     }
 
@@ -51,6 +70,7 @@ impl Passage {
             out: _,
             given: _,
             is_broken: _,
+            marks: _,
         } = self;
         cutter.into_faults()
     }
@@ -77,20 +97,62 @@ impl Passage {
         self.given += count;
     }
 
-    /// Bytes come in this direction, at most 512, and nothing waits: how many of them were taken. That is all of them,
-    /// but where the connection breaks. What the line does to segments is told as it does it.
+    /// The segments that came with the last call of `take`.
+    pub(crate) fn marks(&self) -> &[Mark] {
+        self.marks.as_slice()
+    }
+
+    /// How many milliseconds later the segment of this number comes.
+    pub(crate) fn delay(&self, number: u64) -> u64
+        ensures { result ≡ delay_in number self.now.cutting.faults.rules }
+    {
+        self.cutter.delay(number)
+    }
+
+    /// For how many milliseconds the last segment that came is held, one behind the other.
+    pub(crate) fn pace(&self) -> u64
+        ensures { result ≡ pace_in self.now.cutting.faults.passed self.now.cutting.faults.rules }
+    {
+        self.cutter.pace()
+    }
+
+    /// Whether there is room for what comes out of 512 bytes.
+    pub(crate) fn has_room(&self) -> bool
+        ensures { IsTrue result → length self.now.waiting ≤ 5120 }
+    {
+        self.waiting().len() <= WAITING_MAX
+    }
+
+    /// Bytes come in this direction, at most 512, and there is room for what comes out: how many of them were taken.
+    /// That is all of them, but where the connection breaks. What the line does to segments is told as it does it.
     pub(crate) fn take<E: Effects>(&mut self, bytes: &[u8], way: Way, effects: &E) -> usize
         requires few { length bytes.now ≤ 512 }
-        requires nothing_waits { self.old.waiting ≡ [] }
+        requires room { length self.old.waiting ≤ 5120 }
         requires holds { self.old.is_broken ≡ false }
         ensures { TakesAll self.old self.new bytes.now result }
     {
-        self.out.clear();
+        let_go(&mut self.out, self.given);
         self.given = 0;
-        let crossed = cross_all(&mut self.cutter, &mut self.out, bytes, way, effects);
+        self.marks.clear();
+        let crossed = cross_all(
+            &mut self.cutter,
+            &mut self.out,
+            &mut self.marks,
+            bytes,
+            way,
+            effects,
+        );
         self.is_broken = crossed.is_broken;
         crossed.used
     }
+}
+
+/// The first so many bytes are let go.
+fn let_go(out: &mut Out, count: usize)
+    requires { count ≤ length out.old.items }
+    ensures { out.new.items ≡ drop count out.old.items }
+{
+    out.drain(..count);
 }
 
 /// How many bytes crossed, and whether the connection has broken.
@@ -100,21 +162,23 @@ struct Crossing {
     is_broken: bool,
 }
 
-/// Bytes come, at most 512: all of them cross, or those up to the segment behind which the connection breaks.
+/// Bytes come, at most 512: all of them cross, or those up to the segment behind which the connection breaks. The
+/// segments that end are marked.
 fn cross_all<E: Effects>(
     cutter: &mut Cutter,
     out: &mut Out,
+    marks: &mut Marks,
     bytes: &[u8],
     way: Way,
     effects: &E,
 ) -> Crossing
     requires few { length bytes.now ≤ 512 }
-    requires empty { out.old.items ≡ [] }
+    requires room { length out.old.items ≤ 5120 }
     ensures takes { Takes (record { cutting = cutter.old; waiting = out.old.items; is_broken = false })
         (record { cutting = cutter.new; waiting = out.new.items; is_broken = result.is_broken }) bytes.now result.used }
     ensures all { result.is_broken ≡ false → result.used ≡ length bytes.now }
     ensures some { 0 < length bytes.now → 0 < result.used }
-    ensures room { length out.new.items ≤ 3072 }
+    ensures room { length out.new.items ≤ 8192 }
 {
     let _ = cutter.held();
     let mut used = 0;
@@ -123,7 +187,12 @@ fn cross_all<E: Effects>(
         let crossed = cutter.cross(&bytes[used..], out);
         used += crossed.used;
         if let Some(fate) = crossed.fate {
-            tell_fate(way, cutter.passed(), fate, effects);
+            let number = cutter.passed();
+            tell_fate(way, number, fate, effects);
+            let _ = marks.try_push(Mark {
+                number,
+                waiting: out.len(),
+            });
             is_broken = fate.breaks;
         }
     }

@@ -1,23 +1,10 @@
 //! What rules say that is no matter of a segment (profile).
 ghost use Rattle.std.specs.Prelude.{◌≡◌, [], ◌∷◌, IfOk};
 ghost use Rattle.std.specs.List.{list_any};
-ghost use Rattle.bad_line.specs.Connections.{delay_in, refusal_in, with_restarts, is_restart};
+ghost use Rattle.bad_line.specs.Connections.{refusal_in, with_restarts, is_restart};
 
 use crate::rules::{Rule, Way};
 use std::alloc::{AllocError, Global};
-
-/// How many milliseconds later each segment comes.
-pub(crate) fn delay_of(rules: &[Rule]) -> u64
-    ensures { result ≡ delay_in rules.now }
-{
-    let mut longest = 0;
-    for rule in rules {
-        if let Rule::Delay(milliseconds) = rule {
-            longest = longest.max(*milliseconds);
-        }
-    }
-    longest
-}
 
 /// For how many milliseconds from the start no connection is taken.
 pub(crate) fn refusal_of(rules: &[Rule]) -> u64

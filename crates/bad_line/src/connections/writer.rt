@@ -5,13 +5,14 @@ ghost use Rattle.std.specs.Io.KnownBytes.{Keeps, WriteAppends};
 ghost use Rattle.bad_line.specs.Passages.{TakesAll, opened};
 ghost use Rattle.bad_line.specs.Ends.{End, Writes, Delivers};
 
+use crate::connections::clock::hold;
 use crate::connections::effect::Effects;
 use crate::connections::passage::Passage;
 use crate::rules::{LineFaults, Way};
+use std::io;
 use std::io::{ErrorKind, Write};
 use std::marker::Model;
-use std::time::{Clock, Duration};
-use std::{io, thread};
+use std::time::Clock;
 
 /// How many bytes one write takes at most.
 const WRITE_MAX: usize = 512;
@@ -25,7 +26,6 @@ const WRITE_MAX: usize = 512;
 pub struct FaultyWriter<'a, W, T, E> {
     device: W,
     passage: Passage,
-    delay: Duration,
     time: &'a T,
     effects: &'a E,
 }
@@ -39,11 +39,10 @@ impl<'a, W, T, E> Model for FaultyWriter<'a, W, T, E> {
 }
 
 impl<'a, W, T, E> FaultyWriter<'a, W, T, E> {
-    /// The device with these faults, to which nothing was written yet. What comes out comes so much later.
+    /// The device with these faults, to which nothing was written yet.
     pub(crate) fn new(
         device: W,
         faults: LineFaults,
-        delay: Duration,
         time: &'a T,
         effects: &'a E,
     ) -> FaultyWriter<'a, W, T, E>
@@ -52,7 +51,6 @@ impl<'a, W, T, E> FaultyWriter<'a, W, T, E> {
         FaultyWriter {
             device,
             passage: Passage::new(faults),
-            delay,
             time,
             effects,
         }
@@ -73,7 +71,6 @@ impl<'a, W, T, E> FaultyWriter<'a, W, T, E> {
         let FaultyWriter {
             device,
             passage,
-            delay: _,
             time: _,
             effects: _,
         } = self;
@@ -106,7 +103,7 @@ impl<'a, W: Write, T: Clock, E: Effects> FaultyWriter<'a, W, T, E> {
     {
         let count = self.passage.take(bytes, Way::Reply, self.effects);
         if !self.passage.waiting().is_empty() {
-            thread::sleep(self.time, self.delay);
+            hold(self.time, self.passage.pace());
         }
         count
     }

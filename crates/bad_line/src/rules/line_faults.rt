@@ -1,8 +1,10 @@
 //! The machine of one direction (profile).
 ghost use Rattle.std.specs.Prelude.{◌≡◌, ◌+◌, ◌-◌, ◌^◌, min, IfOk};
 ghost use Rattle.bad_line.specs.Fates.{MayCome};
+ghost use Rattle.bad_line.specs.Delays.{delay_in, pace_in};
 
 use crate::rules::chances::{draws_loss, draws_place};
+use crate::rules::delays::{delay_of, pace_of};
 use crate::rules::fate::Fate;
 use crate::rules::fates::fate_in;
 use crate::rules::rule::{Rule, Way};
@@ -55,8 +57,8 @@ impl LineFaults {
         ensures fate { MayCome self.old.rules self.old.way self.new.passed length result }
     {
         self.passed = self.passed.saturating_add(1);
-        let lost = draws_loss(self.rules.as_slice(), &mut self.draws);
-        let place = draws_place(self.rules.as_slice(), length, &mut self.draws);
+        let lost = draws_loss(self.rules.as_slice(), self.passed, &mut self.draws);
+        let place = draws_place(self.rules.as_slice(), self.passed, length, &mut self.draws);
         fate_in(
             self.rules.as_slice(),
             self.way,
@@ -65,6 +67,20 @@ impl LineFaults {
             lost,
             place,
         )
+    }
+
+    /// How many milliseconds later the segment of this number comes.
+    pub(crate) fn delay(&self, number: u64) -> u64
+        ensures { result ≡ delay_in number self.now.rules }
+    {
+        delay_of(self.rules.as_slice(), number)
+    }
+
+    /// For how many milliseconds the last segment that came is held, one behind the other.
+    pub(crate) fn pace(&self) -> u64
+        ensures { result ≡ pace_in self.now.passed self.now.rules }
+    {
+        pace_of(self.rules.as_slice(), self.passed)
     }
 
     /// How many segments have come; 2^64 - 1 stands for more too.

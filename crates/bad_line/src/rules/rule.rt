@@ -29,14 +29,16 @@ pub enum Rule {
     Damage(Way, u32, u32),
     /// The connection breaks behind the segment of this number.
     BreakAfter(Way, u32),
-    /// Each segment comes so many milliseconds later.
-    Delay(u64),
+    /// Each segment from this number on comes so many milliseconds later, and none waits for another.
+    Delay(u64, u32),
+    /// Each segment from this number on is held so many milliseconds, one behind the other.
+    Pace(u64, u32),
     /// For so many milliseconds from the start no connection is taken.
     RefuseConnections(u64),
-    /// Of a hundred segments so many are lost, by chance.
-    LoseByChance(u32),
-    /// Of a hundred segments so many come with one byte changed, by chance.
-    DamageByChance(u32),
+    /// Of a hundred segments from this number on so many are lost, by chance.
+    LoseByChance(u32, u32),
+    /// Of a hundred segments from this number on so many come with one byte changed, by chance.
+    DamageByChance(u32, u32),
     /// The encoder begins anew behind the frame of this number.
     RestartAfter(u32),
 }

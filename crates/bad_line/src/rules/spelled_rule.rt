@@ -4,11 +4,15 @@ ghost use Rattle.uecp_text.specs.Words.{words};
 ghost use Rattle.bad_line.specs.declared.rules.rule.Rule.{Rule as RuleValue};
 ghost use Rattle.bad_line.specs.declared.rules.rule.Way.{Way as WayValue};
 ghost use Rattle.bad_line.specs.declared.rules.rule.Span.{Span as SpanValue};
-ghost use Rattle.bad_line.specs.Rules.{Spells, Say, TellSpan, TellByte, TellBreak, TellChance, IsCount, way_word};
+ghost use Rattle.bad_line.specs.Rules.{Spells, Say, TellSpan, TellByte, TellBreak, TellChance, TellTime, TellFrom};
+ghost use Rattle.bad_line.specs.Rules.{TellFrame, IsCount, way_word};
 
 use crate::rules::numbers::{chance_of, count_of, span_of, time_of};
 use crate::rules::rule::{Rule, RuleFault, Span, Way};
-use crate::rules::words::{four_words, next_word, one_word, three_words, two_words};
+use crate::rules::words::{four_words, next_word, three_words, two_words};
+
+/// The number of the first segment.
+const FIRST: u32 = 1;
 
 /// The rule that a text spells, such as `lose reply 5..9`.
 ///
@@ -41,6 +45,8 @@ fn rule_named(name: &[u8], rest: &[u8]) -> Option<Rule>
         ending(rest)
     } else if name == b"delay".as_slice() {
         delay(rest)
+    } else if name == b"pace".as_slice() {
+        pace(rest)
     } else if name == b"refuse".as_slice() {
         refusal(rest)
     } else if name == b"restart".as_slice() {
@@ -57,8 +63,8 @@ fn loss(text: &[u8]) -> Option<Rule>
 {
     match segments_of(text) {
         Some((way, span)) => Some(Rule::Lose(way, span)),
-        None => match alone(text) {
-            Some(percent) => Some(Rule::LoseByChance(percent)),
+        None => match chance_from(text) {
+            Some((percent, from)) => Some(Rule::LoseByChance(percent, from)),
             None => None,
         },
     }
@@ -82,8 +88,8 @@ fn damage(text: &[u8]) -> Option<Rule>
 {
     match byte_of_segment(text) {
         Some((way, number, place)) => Some(Rule::Damage(way, number, place)),
-        None => match alone(text) {
-            Some(percent) => Some(Rule::DamageByChance(percent)),
+        None => match chance_from(text) {
+            Some((percent, from)) => Some(Rule::DamageByChance(percent, from)),
             None => None,
         },
     }
@@ -100,16 +106,24 @@ fn ending(text: &[u8]) -> Option<Rule>
     }
 }
 
-/// A delay of the time that the word tells.
+/// A delay of the time that the words tell.
 fn delay(text: &[u8]) -> Option<Rule>
     ensures said { IfSome result (λ rule. Say (codes "delay" ∷ words text.now) rule) }
     ensures other { IfNone result ((rule : RuleValue) → Say (codes "delay" ∷ words text.now) rule → ⊥) }
 {
-    match one_word(text) {
-        Some(word) => match time_of(word) {
-            Some(milliseconds) => Some(Rule::Delay(milliseconds)),
-            None => None,
-        },
+    match time_from(text) {
+        Some((milliseconds, from)) => Some(Rule::Delay(milliseconds, from)),
+        None => None,
+    }
+}
+
+/// A pace of the time that the words tell.
+fn pace(text: &[u8]) -> Option<Rule>
+    ensures said { IfSome result (λ rule. Say (codes "pace" ∷ words text.now) rule) }
+    ensures other { IfNone result ((rule : RuleValue) → Say (codes "pace" ∷ words text.now) rule → ⊥) }
+{
+    match time_from(text) {
+        Some((milliseconds, from)) => Some(Rule::Pace(milliseconds, from)),
         None => None,
     }
 }
@@ -218,13 +232,64 @@ fn two_counts(first: &[u8], second: &[u8]) -> Option<(u32, u32)>
     }
 }
 
-/// The chance that the only word is.
-fn alone(text: &[u8]) -> Option<u32>
-    ensures told { IfSome result (λ percent. TellChance (words text.now) percent) }
-    ensures other { IfNone result ((percent : ℕ) → TellChance (words text.now) percent → ⊥) }
+/// The chance that the first word is, and from which segment on.
+fn chance_from(text: &[u8]) -> Option<(u32, u32)>
+    ensures told { IfSome result (λ told. TellChance (words text.now) told.0 told.1) }
+    ensures other { IfNone result ((percent from : ℕ) → TellChance (words text.now) percent from → ⊥) }
 {
-    match one_word(text) {
-        Some(word) => chance_of(word),
+    match next_word(text) {
+        Some((word, rest)) => match chance_of(word) {
+            Some(percent) => match from_of(rest) {
+                Some(from) => Some((percent, from)),
+                None => None,
+            },
+            None => None,
+        },
+        None => None,
+    }
+}
+
+/// The time that the first word is, and from which segment on.
+fn time_from(text: &[u8]) -> Option<(u64, u32)>
+    ensures told { IfSome result (λ told. TellTime (words text.now) told.0 told.1) }
+    ensures other { IfNone result ((milliseconds from : ℕ) → TellTime (words text.now) milliseconds from → ⊥) }
+{
+    match next_word(text) {
+        Some((word, rest)) => match time_of(word) {
+            Some(milliseconds) => match from_of(rest) {
+                Some(from) => Some((milliseconds, from)),
+                None => None,
+            },
+            None => None,
+        },
+        None => None,
+    }
+}
+
+/// From which segment on, as the words tell behind `from frame`: from the first where there are none.
+fn from_of(text: &[u8]) -> Option<u32>
+    ensures told { IfSome result (λ from. TellFrom (words text.now) from) }
+    ensures other { IfNone result ((from : ℕ) → TellFrom (words text.now) from → ⊥) }
+{
+    match next_word(text) {
+        None => Some(FIRST),
+        Some((name, rest)) => {
+            if name == b"from".as_slice() {
+                frame_of(rest)
+            } else {
+                None
+            }
+        }
+    }
+}
+
+/// The number behind `frame`.
+fn frame_of(text: &[u8]) -> Option<u32>
+    ensures told { IfSome result (λ from. TellFrame (words text.now) from) }
+    ensures other { IfNone result ((from : ℕ) → TellFrame (words text.now) from → ⊥) }
+{
+    match behind(b"frame", text) {
+        Some(word) => count_of(word),
         None => None,
     }
 }

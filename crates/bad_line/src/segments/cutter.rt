@@ -4,6 +4,7 @@ ghost use Rattle.std.specs.Prelude.{IfNone, IfSome};
 ghost use Rattle.bad_line.specs.declared.rules.fate.Fate.{Fate as FateValue};
 ghost use Rattle.bad_line.specs.Pieces.{IsHeld};
 ghost use Rattle.bad_line.specs.Crossing.{Cutting, Crosses};
+ghost use Rattle.bad_line.specs.Delays.{delay_in, pace_in};
 
 use crate::rules::{Fate, LineFaults};
 use crate::segments::outcome::{end, give};
@@ -19,8 +20,8 @@ const END: u8 = 0xFF;
 /// The most bytes of a segment, and so of what is held of one.
 pub(crate) const SEGMENT_MAX: usize = 1024;
 
-/// The most bytes that come out of 512 that come.
-pub const OUT_MAX: usize = 3072;
+/// How many bytes that have come out wait at most.
+pub const OUT_MAX: usize = 8192;
 
 /// What has come out, and waits to be handed on.
 pub type Out = ArrayVec<u8, OUT_MAX>;
@@ -81,6 +82,20 @@ impl Cutter {
         self.held.as_slice()
     }
 
+    /// How many milliseconds later the segment of this number comes.
+    pub(crate) fn delay(&self, number: u64) -> u64
+        ensures { result ≡ delay_in number self.now.faults.rules }
+    {
+        self.faults.delay(number)
+    }
+
+    /// For how many milliseconds the last segment that came is held, one behind the other.
+    pub(crate) fn pace(&self) -> u64
+        ensures { result ≡ pace_in self.now.faults.passed self.now.faults.rules }
+    {
+        self.faults.pace()
+    }
+
     /// How many segments have come; 2^64 - 1 stands for more too.
     pub fn passed(&self) -> u64
         ensures { result ≡ self.now.faults.passed }
@@ -92,7 +107,7 @@ impl Cutter {
     /// put behind what `out` has. The caller knows that there is room: of a stream that holds at most 1,023 bytes, and
     /// of 512 more, at most 3,070 come out.
     pub fn cross(&mut self, bytes: &[u8], out: &mut Out) -> Crossed
-        requires room { length out.old.items + 2 * length self.old.held + 2 * length bytes.now ≤ 3072 }
+        requires room { length out.old.items + 2 * length self.old.held + 2 * length bytes.now ≤ 8192 }
         ensures used { result.used ≤ length bytes.now }
         ensures all { IfNone result.fate (result.used ≡ length bytes.now) }
         ensures some { IfSome result.fate (λ _. 0 < result.used) }
@@ -120,7 +135,7 @@ impl Cutter {
 
     /// The next byte comes: what comes of the segment that it ends, if it ends one.
     fn put(&mut self, byte: u8, out: &mut Out) -> Option<Fate>
-        requires room { length out.old.items + 2 * length self.old.held + 2 ≤ 3072 }
+        requires room { length out.old.items + 2 * length self.old.held + 2 ≤ 8192 }
         ensures crosses { (made : List ℕ) × (out.new.items ≡ out.old.items ++ made)
             × Crosses self.old self.new (byte ∷ []) made (option_to_list result) }
         ensures few { length out.new.items + 2 * length self.new.held

@@ -12,7 +12,7 @@ const DAMAGE: u8 = 0x20;
 /// The segment that is held ends: what comes of it comes out, and nothing is held any longer. The caller knows that
 /// there is room.
 pub(crate) fn end(held: &mut ArrayVec<u8, SEGMENT_MAX>, fate: Fate, out: &mut Out)
-    requires { length out.old.items + fate.copies * length held.old.items ≤ 3072 }
+    requires { length out.old.items + fate.copies * length held.old.items ≤ 8192 }
     ensures given { out.new.items ≡ out.old.items ++ out_of_segment fate held.old.items }
     ensures held { held.new.items ≡ [] }
 {
@@ -35,7 +35,7 @@ fn damage(segment: &mut [u8], place: Option<usize>)
 
 /// The bytes come out as they are. The caller knows that there is room.
 pub(crate) fn give(bytes: &[u8], out: &mut Out)
-    requires { length out.old.items + length bytes.now ≤ 3072 }
+    requires { length out.old.items + length bytes.now ≤ 8192 }
     ensures { out.new.items ≡ out.old.items ++ bytes.now }
 {
     let _ = out.try_extend_from_slice(bytes);
@@ -43,7 +43,7 @@ pub(crate) fn give(bytes: &[u8], out: &mut Out)
 
 /// So many copies of the bytes come out. The caller knows that there is room.
 fn give_copies(copies: u8, bytes: &[u8], out: &mut Out)
-    requires { length out.old.items + copies * length bytes.now ≤ 3072 }
+    requires { length out.old.items + copies * length bytes.now ≤ 8192 }
     ensures { out.new.items ≡ out.old.items ++ times copies bytes.now }
 {
     for _copy in 0..copies {

@@ -1,16 +1,15 @@
 //! What came of a connection's request, and what waits to be sent (profile; RFC 9112).
-ghost use Rattle.std.specs.Prelude.{◌≡◌, ◌≤◌, [], ◌++◌, length, take, drop, IfOk, OnErr};
-ghost use Rattle.std.specs.Io.KnownBytes.{Appends, Keeps};
+ghost use Rattle.std.specs.Prelude.{◌≡◌, [], ◌++◌, length};
 ghost use Rattle.page.specs.ClientView.{standing_of, source_of, came_of};
 ghost use Rattle.page.specs.Hearing.{Hears};
+ghost use Rattle.page.specs.Delivering.{WritesOnce};
 
 use crate::clients::asked::Asked;
 use crate::clients::client::{Client, Phase, Site};
+use crate::guests::{Connection, Passed};
 use http1::{Event, Limits, Server};
 use httparse::spans::EMPTY_HEADER_SPAN;
 use std::alloc::Global;
-use std::io;
-use std::io::Write;
 
 /// How many fields a head has at most.
 const FIELDS_MAX: usize = 64;
@@ -45,22 +44,17 @@ impl Client {
         self.output.len()
     }
 
-    /// Writes once what waits, as much as the writer takes.
-    ///
-    /// Errors: those of the writer; nothing changes then.
-    pub fn write_to<W: Write>(&mut self, writer: &mut W) -> io::Result<usize>
-        ensures ok { IfOk result (λ count. (count ≤ length (standing_of self.old).output)
-            × (standing_of self.new ≡ record (standing_of self.old) {
-              output =
-                  drop count (standing_of self.old).output;
-            })
-            × Appends (W.contents writer.old) (W.contents writer.new) (take count (standing_of self.old).output)) }
-        ensures err { OnErr result ((standing_of self.new ≡ standing_of self.old)
-            × Keeps (W.contents writer.old) (W.contents writer.new)) }
+    /// Writes once what waits, as much as the connection takes.
+    pub(crate) fn write_to<C: Connection>(&mut self, connection: &mut C) -> Passed
+        ensures writes { WritesOnce (C.talk connection.old) (C.talk connection.new) (standing_of self.old)
+            (standing_of self.new) result }
+        ensures came { came_of self.new ≡ came_of self.old }
     {
-        let count = writer.write(self.output.as_slice())?;
-        self.output.drain(..count);
-        Ok(count)
+        let passed = connection.write(self.output.as_slice());
+        if let Passed::Bytes(count) = passed {
+            self.output.drain(..count);
+        }
+        passed
     }
 
     /// Takes what came of its request, and answers it once its head is whole. What comes behind that is passed over.

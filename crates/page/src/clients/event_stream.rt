@@ -1,18 +1,19 @@
 //! Events as they go out on a connection (profile).
 ghost use Rattle.std.specs.Prelude.{◌≡◌, ◌≤◌, ◌<◌, ◌⊎◌, ℕ, List, [], ◌∷◌, ◌+◌, ◌++◌, Err, OnOk, OnErr, length};
 ghost use Rattle.http1.specs.Conn.{data_text};
-ghost use Rattle.std.specs.Io.KnownBytes.{Appends};
 ghost use Rattle.http1.specs.Server.{writing};
 ghost use Rattle.page.specs.Events.{Event};
 ghost use Rattle.page.specs.Stream.{part_text, carries};
 ghost use Rattle.page.specs.declared.clients.event_stream.EndOfEvents.TheVariants.{Lost};
-ghost use Rattle.page.specs.Sending.{Delivers, Writes, IsLive, SaysAlive, Ends, owed};
-ghost use Rattle.page.specs.ClientView.{standing_of};
+ghost use Rattle.page.specs.Sending.{Delivers, IsLive, SaysAlive, Ends, owed};
+ghost use Rattle.page.specs.Talk.{Gets};
+ghost use Rattle.page.specs.Delivering.{IsSent, IsServed};
+ghost use Rattle.page.specs.ClientView.{standing_of, came_of};
 
 use crate::clients::client::{Client, Phase};
 use crate::events::{ALIVE, History, put_event};
+use crate::guests::{Connection, Passed};
 use std::alloc::Global;
-use std::io::{ErrorKind, Write};
 
 /// From how many bytes on no more events are put behind what waits.
 pub const WAITING_MAX: usize = 1024 * 1024;
@@ -44,6 +45,7 @@ impl Client {
         ensures all { OnOk result (IsLive (standing_of self.new)
             → (owed history.now (standing_of self.new) ≡ []) ⊎ (1048576 ≤ length (standing_of self.new).output)) }
         ensures idle { (IsLive (standing_of self.old) → ⊥) → standing_of self.new ≡ standing_of self.old }
+        ensures came { came_of self.new ≡ came_of self.old }
     {
         if self.phase != Phase::Live {
             return Ok(());
@@ -74,6 +76,7 @@ impl Client {
         ensures due { OnOk result (self.new.due ≡ self.old.due + 1) }
         ensures writing { writing self.new.server ≡ writing self.old.server }
         ensures phase { self.new.phase ≡ self.old.phase }
+        ensures came { came_of self.new ≡ came_of self.old }
         ensures err { OnErr result (standing_of self.new ≡ standing_of self.old) }
         ensures memory { result ≡ Err Lost → ⊥ }
     {
@@ -95,37 +98,35 @@ impl Client {
         Ok(())
     }
 
-    /// Puts the events that it is owed behind what waits, and writes what waits, until nothing does or the writer takes
-    /// no more for now; 16 times at most. Where it gets no events it only writes.
+    /// Puts the events that it is owed behind what waits, and writes what waits, until nothing does or the connection
+    /// takes no more for now; 16 times at most. Where it gets no events it only writes.
     ///
     /// Errors: as [`EndOfEvents`] has them; then it is to be closed.
-    pub fn deliver<W: Write>(
+    pub fn deliver<C: Connection>(
         &mut self,
         alloc: Global,
         history: &History,
-        writer: &mut W,
+        connection: &mut C,
     ) -> Result<(), EndOfEvents>
-        ensures sends { IsLive (standing_of self.old) → (events : List Event) × (written : List ℕ)
-            × Appends (W.contents writer.old) (W.contents writer.new) written
-            × Delivers history.now events written (standing_of self.old) (standing_of self.new) }
-        ensures phase { (standing_of self.new).phase ≡ (standing_of self.old).phase }
-        ensures idle { (IsLive (standing_of self.old) → ⊥) → (written : List ℕ)
-            × Appends (W.contents writer.old) (W.contents writer.new) written
-            × Writes written (standing_of self.old) (standing_of self.new) }
+        ensures sends { (events : List Event) × (written : List ℕ)
+            × Gets written (C.talk connection.old) (C.talk connection.new)
+            × IsSent history.now events written (standing_of self.old) (standing_of self.new)
+            × OnOk result (IsServed history.now written (C.talk connection.new) (standing_of self.new)) }
+        ensures came { came_of self.new ≡ came_of self.old }
     {
         for _write in 0..WRITES_MAX {
             self.catch_up(alloc, history)?;
-            if self.output.is_empty() {
+            if self.waiting() == 0 {
                 return Ok(());
             }
-            match self.write_to(writer) {
-                Ok(0) => return Err(EndOfEvents::Gone),
-                Ok(_) => {}
-                Err(error) => match error.kind() {
-                    ErrorKind::WouldBlock => return Ok(()),
-                    ErrorKind::Interrupted => {}
-                    _ => return Err(EndOfEvents::Gone),
-                },
+            match self.write_to(connection) {
+                Passed::Bytes(count) => {
+                    if count == 0 {
+                        return Err(EndOfEvents::Gone);
+                    }
+                }
+                Passed::NotNow => return Ok(()),
+                Passed::Gone => return Err(EndOfEvents::Gone),
             }
         }
         Ok(())
@@ -133,7 +134,8 @@ impl Client {
 
     /// Says that all is well, where nothing waits.
     pub fn say_alive(&mut self)
-        ensures { SaysAlive (standing_of self.old) (standing_of self.new) }
+        ensures says { SaysAlive (standing_of self.old) (standing_of self.new) }
+        ensures came { came_of self.new ≡ came_of self.old }
     {
         if self.phase == Phase::Live && self.output.is_empty() {
             let _ = self.server.write_data(&mut self.output, ALIVE.as_bytes());
@@ -142,7 +144,8 @@ impl Client {
 
     /// Ends the stream of events: what waits is sent, and then it is closed.
     pub fn end(&mut self)
-        ensures { Ends (standing_of self.old) (standing_of self.new) }
+        ensures ends { Ends (standing_of self.old) (standing_of self.new) }
+        ensures came { came_of self.new ≡ came_of self.old }
     {
         let was_live = self.phase == Phase::Live;
         self.phase = Phase::Closing;

@@ -3,7 +3,9 @@ mod fates;
 mod rules;
 
 use crate::tests::asserting::{holds, same};
-use bad_line::{Effect, Effects, Faulty, Rule, RulesFault, Span, Way, read_rules, write_effect};
+use bad_line::{
+    Arrivals, Effect, Effects, Faulty, Rule, RulesFault, Span, Way, read_rules, write_effect,
+};
 use faulty_io::{FaultyReader, FaultyWriter};
 use std::alloc::AllocError;
 use std::cell::{Cell, RefCell};
@@ -27,7 +29,8 @@ impl Effects for Lines<'_> {
     }
 }
 
-/// A clock that goes on a second each time it is asked, and notes how many milliseconds it slept.
+/// A clock that goes on a second each time it is asked, and as long as it sleeps, and notes how many milliseconds it
+/// slept.
 #[derive(Drop)]
 struct Ticking {
     seconds: Cell<u64>,
@@ -49,6 +52,36 @@ impl Clock for Ticking {
         let milliseconds = duration.as_secs().saturating_mul(1000);
         let more = milliseconds.saturating_add(u64::from(duration.subsec_millis()));
         self.slept.set(self.slept.get().saturating_add(more));
+        let now = self.seconds.get();
+        self.seconds.set(now.saturating_add(duration.as_secs()));
+    }
+}
+
+/// The writing end of a connection on which something has always come.
+#[derive(Drop)]
+struct Ready<'a> {
+    writer: FaultyWriter<'a>,
+}
+
+impl Arrivals for Ready<'_> {
+    fn another(&self) -> Option<Self> {
+        Some(Ready {
+            writer: FaultyWriter::new(),
+        })
+    }
+
+    fn comes_within(&self, _limit: Duration) -> bool {
+        true
+    }
+}
+
+impl Write for Ready<'_> {
+    fn write(&mut self, buf: &[u8]) -> io::Result<usize> {
+        self.writer.write(buf)
+    }
+
+    fn flush(&mut self) -> io::Result<()> {
+        self.writer.flush()
     }
 }
 
@@ -67,21 +100,22 @@ struct Prepared<'a> {
 impl<'a> Connections for Prepared<'a> {
     type Input = FaultyReader<'a>;
 
-    type Output = FaultyWriter<'a>;
+    type Output = Ready<'a>;
 
     ghost opens = { λ _ _ _. Unit {0} };
 
     ghost closes = { λ _ _ _ _. Unit {0} };
 
-    fn open(&mut self) -> Option<(FaultyReader<'a>, FaultyWriter<'a>)> {
+    fn open(&mut self) -> Option<(FaultyReader<'a>, Ready<'a>)> {
         let input = self.inputs.get(self.opened)?;
         self.opened = self.opened.saturating_add(1);
         let reader = FaultyReader::new(input).giving(3);
-        Some((reader, FaultyWriter::new().failing_at(self.failing)))
+        let writer = FaultyWriter::new().failing_at(self.failing);
+        Some((reader, Ready { writer }))
     }
 
-    fn close(&mut self, _input: FaultyReader<'a>, output: FaultyWriter<'a>) {
-        let _ = self.output.write(output.taken());
+    fn close(&mut self, _input: FaultyReader<'a>, output: Ready<'a>) {
+        let _ = self.output.write(output.writer.taken());
     }
 }
 
@@ -161,7 +195,7 @@ fn frames_are_lost_doubled_and_damaged(rt: HostRuntime) -> Result<(), AllocError
         Rule::Repeat(Way::Frame, one(2)),
         Rule::Damage(Way::Frame, 4, 2),
         Rule::Lose(Way::Reply, one(3)),
-        Rule::Delay(200),
+        Rule::Pace(200, 1),
     ];
     let connect = known(&inputs, &[]);
     let mut faulty = Faulty::new(rt.alloc(), connect, &rules, 1, &time, &lines)?;
@@ -177,6 +211,32 @@ fn frames_are_lost_doubled_and_damaged(rt: HostRuntime) -> Result<(), AllocError
         b"frame 1 lost\nframe 2 twice\nframe 4 damaged at byte 2\n",
     );
     holds!(rt; time.slept.get() > 0 && time.slept.get() % 200 == 0);
+    Ok(())
+}
+
+#[test]
+fn what_is_delayed_is_held_side_by_side(rt: HostRuntime) -> Result<(), AllocError> {
+    // the clock goes on a second each time it is asked, and the delay is an hour: all is read before any of it is due
+    let (lines, time, inputs) = (told_none(), at_start(), [FRAMES]);
+    let rules = [Rule::Delay(3_600_000, 2), Rule::Lose(Way::Frame, one(3))];
+    let connect = known(&inputs, &[]);
+    let mut faulty = Faulty::new(rt.alloc(), connect, &rules, 1, &time, &lines)?;
+    if let Some((mut input, output)) = faulty.open() {
+        let mut buffer = [0u8; 64];
+        same!(rt; input.read(&mut buffer).unwrap_or(0), 1);
+        same!(rt; &buffer[..1], b"a".as_slice());
+        same!(rt; input.read(&mut buffer).unwrap_or(0), 4);
+        same!(rt; &buffer[..4], b"\xFE1\xFFb".as_slice());
+        told(&rt, &lines, b"");
+        holds!(rt; time.slept.get() == 0);
+        let mut all = FaultyWriter::new();
+        read_all(&mut input, &mut all);
+        same!(rt; all.taken(), b"\xFE2\xFF\xFEc\xFE4\xFF".as_slice());
+        // it slept once for the two delays, and not once for each segment
+        holds!(rt; time.slept.get() < 7_200_000);
+        faulty.close(input, output);
+    }
+    told(&rt, &lines, b"frame 3 lost\n");
     Ok(())
 }
 

@@ -1,4 +1,4 @@
-use Rattle.std.proofs.Common.{rules, arith, ◌≡◌, ◌∙◌, subst, sym}
+use Rattle.std.proofs.Common.{rules, arith, ◌≡◌, ◌∙◌, subst}
 use Rattle.conformance_command.specs.OverTcp.{asked_of}
 use Rattle.conformance_command.specs.Place.{IsPlace}
 use Rattle.std.specs.String.{string_bytes}

@@ -1,5 +1,4 @@
-use Rattle.std.proofs.Common.{rules, arith, ◌≡◌, ℕ, ◌+◌, ◌≤◌, false, true, length, take}
-use Rattle.uecp_link.specs.Reading.{Reads}
+use Rattle.std.proofs.Common.{rules, ◌≡◌, ◌+◌, ◌≤◌, false, true, length, take}
 use Rattle.conformance_command.proofs.Heard.{failed_more, ended_more, brought_more}
 use Rattle.conformance_command.proofs.reply_stream.hear.Goals as goal
 use Rattle.conformance_command.proofs.reply_stream.hear.Goals.{in-Err+else-failed-patience+else-not-is_missing}
@@ -9,7 +8,6 @@ pub returns-then-failed-patience : goal.returns-then-failed-patience
 returns-then-failed-patience g c =
     let more = failed_more g.R.Read.remaining _ _ _ _ _ c.loop-turn.invariant.reads _ c.in-Err.ensures.bytes
     c.read.ensures.calls c.in-Err.ensures.failures c.in-Err.ensures.empty in (
-      c.loop-turn.came.items,
       c.loop-turn._turn + 1,
       c.loop-turn.failed + 1,
       false,
@@ -25,7 +23,6 @@ returns-in-Ok-eq0 g c =
     let more = ended_more g.R.Read.remaining _ _ _ _ _ c.loop-turn.invariant.reads _ c.read.new.buffer _
     c.in-Ok-eq0.field-0-test c.in-Ok-eq0.ensures.bytes.0 c.read.ensures.calls c.in-Ok-eq0.ensures.failures
     (search rules) in (
-      c.loop-turn.came.items,
       c.loop-turn._turn + 1,
       c.loop-turn.failed + 0,
       true,

@@ -2,7 +2,7 @@ use Rattle.std.proofs.Common.{rules, ◌≡◌, codes, sym, subst}
 use Rattle.uecp_text.specs.Digits.{decimal_word}
 use Rattle.uecp_text.specs.Written.{Adds}
 use Rattle.uecp_text.proofs.Public.{adds_then}
-use Rattle.conformance_command.specs.declared.case_run.Went.TheVariants.{NotSent, NotQuiet}
+use Rattle.conformance_command.specs.declared.went.Went.TheVariants.{NotSent, NotQuiet}
 use Rattle.conformance_command.specs.Telling.{why_words}
 use Rattle.conformance_command.proofs.report.put_why.Goals as goal
 

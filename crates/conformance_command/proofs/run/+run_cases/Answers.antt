@@ -9,8 +9,7 @@ returns-in_default-clause-all g t c =
     let only : Option (List ℕ) = option_map {T = Bor (List ℕ)} {U = List ℕ} (λ name. name.now) c.args.manner.now.only in
     let none : c.args.cases.now ≡ [] = empty_of c.args.cases.now c.in_default.ensures.cases in
     let (ran, tallied) = none_run g.C.Connections.opens g.C.Connections.closes g.C.Input.Read.remaining
-    g.C.Output.Write.contents c.args.manner.now.own
-    c.args.manner.now.patience c.args.manner.now.json
+    g.C.Output.Write.contents c.args.manner.now.way
     only c.args.number c.args.cases.now (record {
       connect = c.args.connect.now;
       held = g.W.Write.contents c.args.writer.now;
@@ -25,8 +24,7 @@ returns-in-Err-clause-some g t c =
     let (status, stops) = c.in-Err.ensures.some in (
       status,
       first_stops g.C.Connections.opens g.C.Connections.closes g.C.Input.Read.remaining g.C.Output.Write.contents
-          c.args.manner.now.own
-          c.args.manner.now.patience c.args.manner.now.json
+          c.args.manner.now.way
           only c.args.number c.args.cases.now c.in-Some.case.now c.in-Some.rest.now c.in-Err.fault
           (record { connect = c.args.connect.now; held = g.W.Write.contents c.args.writer.now })
           (record { connect = c.run_and_tell.new.connect; held = g.W.Write.contents c.run_and_tell.new.writer })
@@ -39,8 +37,7 @@ returns-in-Ok-clause-all g t c =
     let split : c.args.cases.now ≡ c.in-Some.case.now ∷ c.in-Some.rest.now = search rules in
     let picked : is_chosen only c.in-Some.case.now ≡ true = search rules in
     more_run g.C.Connections.opens g.C.Connections.closes g.C.Input.Read.remaining g.C.Output.Write.contents
-    c.args.manner.now.own
-    c.args.manner.now.patience c.args.manner.now.json
+    c.args.manner.now.way
     only c.args.number c.args.cases.now c.in-Some.case.now c.in-Some.rest.now c.in-Ok.went
     (record { connect = c.args.connect.now; held = g.W.Write.contents c.args.writer.now })
     (record { connect = c.run_and_tell.new.connect; held = g.W.Write.contents c.run_and_tell.new.writer })
@@ -54,8 +51,7 @@ returns-in-Ok-clause-some g t c =
     let split : c.args.cases.now ≡ c.in-Some.case.now ∷ c.in-Some.rest.now = search rules in
     let picked : is_chosen only c.in-Some.case.now ≡ true = search rules in
     more_stop g.C.Connections.opens g.C.Connections.closes g.C.Input.Read.remaining g.C.Output.Write.contents
-    c.args.manner.now.own
-    c.args.manner.now.patience c.args.manner.now.json
+    c.args.manner.now.way
     only c.args.number c.args.cases.now c.in-Some.case.now c.in-Some.rest.now c.in-Ok.went
     (record { connect = c.args.connect.now; held = g.W.Write.contents c.args.writer.now })
     (record { connect = c.run_and_tell.new.connect; held = g.W.Write.contents c.run_and_tell.new.writer })

@@ -16,7 +16,7 @@ returns-in-Ok g c =
     k.is_clean k.saves k.fails m.waits m.closes m.sends g.M.Input.Read.remaining g.M.Output.Write.contents
     c.args.limits.turns c.args.limits.store (standing c.in-Ok.encoder c.in-Ok.keeper c.args.log.now c.args.moments.now
     start c.args.limits.connections) (standing run.new.encoder run.new.keeper run.new.log run.new.moments
-    run.new.carousel left) went) g.E.Write.contents c.args.errors.now run.new.errors run.result
+    run.new.carousel left) went) g.E.Write.contents c.tell_no_pi.new.errors run.new.errors run.result
     c.restarted-carousel.result
     c.restarted-carousel.ensures run.ensures.status run.ensures.done run.ensures.failed in
     inl (record {
@@ -32,7 +32,13 @@ returns-in-Ok g c =
         described = c.in-Ok.ensures.described;
         settled = c.in-Ok.ensures.settled;
       };
-      runs = (run.new.carousel, ended.0, ended.1);
+      runs = (
+        run.new.carousel,
+        ended.0,
+        g.E.Write.contents c.tell_no_pi.new.errors,
+        rw c.target.ensures at c.tell_no_pi.ensures,
+        ended.1,
+      );
       settled = λ zero clean. run.ensures.settled zero (c.in-Ok.ensures.settled (run.ensures.clean clean)) clean;
       outlives = λ clean kept leaves_it.
           let out = run.ensures.outlives (c.in-Ok.ensures.settled (run.ensures.clean clean)) clean kept leaves_it in

@@ -22,7 +22,7 @@ returns-in-Err g c =
 
 pub returns-in-Some-clause-status : goal.returns-in-Some-clause-status
 returns-in-Some-clause-status g c = elim c.air_in.ensures [
-  | inl a ↦ let few : a.status ≤ 3 = elim a.runs.2 [
+  | inl a ↦ let few : a.status ≤ 3 = elim a.runs.4 [
     | inl done ↦ omega (arith, done.0)
     | inr stopped ↦ omega (arith, stopped.1)
   ] in
@@ -35,7 +35,7 @@ returns g c =
     let none : option_map string_bytes c.args.job.now.state ≡ None = search rules in
     let limits = c.limits_of-limits.ensures in
     record {
-      status = elim c.air_unkept.ensures.3.2 [
+      status = elim c.air_unkept.ensures.3.4 [
         | inl done ↦ omega (arith, done.0)
         | inr stopped ↦ omega (arith, stopped.1)
       ];

@@ -40,7 +40,7 @@ fn each_frame_of_eight_bytes(rt: HostRuntime) -> Result<(), AllocError> {
 
 #[test]
 fn chance_takes_about_so_many_and_the_same_again(rt: HostRuntime) -> Result<(), AllocError> {
-    let rules = [Rule::LoseByChance(5), Rule::DamageByChance(50)];
+    let rules = [Rule::LoseByChance(5, 1), Rule::DamageByChance(50, 1)];
     let mut faults = LineFaults::of(rt.alloc(), &rules, Way::Frame, 7)?;
     let mut again = LineFaults::of(rt.alloc(), &rules, Way::Frame, 7)?;
     let mut lost = 0u32;
@@ -53,5 +53,22 @@ fn chance_takes_about_so_many_and_the_same_again(rt: HostRuntime) -> Result<(), 
     }
     holds!(rt; (20..100).contains(&lost));
     holds!(rt; (400..560).contains(&damaged));
+    Ok(())
+}
+
+#[test]
+fn chance_begins_at_its_number(rt: HostRuntime) -> Result<(), AllocError> {
+    let rules = [Rule::LoseByChance(100, 256), Rule::DamageByChance(100, 255)];
+    let mut faults = LineFaults::of(rt.alloc(), &rules, Way::Reply, 7)?;
+    for _segment in 1..255u16 {
+        let whole = Fate {
+            copies: 1,
+            damaged: None,
+            breaks: false,
+        };
+        same!(rt; faults.pass(8), whole);
+    }
+    holds!(rt; faults.pass(8).damaged.is_some());
+    holds!(rt; faults.pass(8).copies == 0);
     Ok(())
 }

@@ -9,7 +9,7 @@ pub loop-used-init : goal.loop-used-init
 loop-used-init g c = record {
   takes = takes_nothing c.args.cutter.now c.args.out.now.items c.args.bytes.now c.held.ensures.beginning;
   few =
-      omega (arith, held_short [] c.args.cutter.now.held c.held.ensures.beginning, ap length c.requires.empty);
+      omega (arith, held_short [] c.args.cutter.now.held c.held.ensures.beginning);
   some = λ e. absurd (false≢true e);
 }
 
@@ -18,6 +18,7 @@ cross-crossed-requires g c = record {
   room = omega (
     arith,
     c.loop-used.invariant.few,
+    c.requires.room,
     ap length (rest_is c.args.bytes.now c.loop-used.used),
     length-drop c.loop-used.used c.args.bytes.now,
   );

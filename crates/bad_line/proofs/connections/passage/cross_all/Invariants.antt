@@ -7,7 +7,7 @@ abbrev pub invariant-loop-used : goal.invariant-loop-used
 invariant-loop-used g l = record {
   takes : Takes (record { cutting = l.initial.cutter; waiting = l.initial.out.items; is_broken = false })
       (record { cutting = l.cutter; waiting = l.out.items; is_broken = l.is_broken }) l.bytes l.used;
-  few : length l.out.items + 2 * length l.cutter.held ≤ 2046 + 2 * l.used;
+  few : length l.out.items + 2 * length l.cutter.held ≤ length l.initial.out.items + 2046 + 2 * l.used;
   some : l.is_broken ≡ true → 0 < l.used;
 }
 

@@ -1,6 +1,5 @@
-use Rattle.std.proofs.Common.{◌≡◌, ◌+◌, ◌++◌, ◌∷◌, [], List, ℕ, ap, ◌∙◌, sym, subst, append_assoc, append-nil, arith}
-use Rattle.std.proofs.Common.{Some, None, length}
-use Rattle.std.specs.Option.{option_copied}
+use Rattle.std.proofs.Common.{◌+◌, ◌++◌, ◌∷◌, [], List, ℕ, ap, ◌∙◌, sym, subst, append_assoc, append-nil, arith}
+use Rattle.std.proofs.Common.{Some, None}
 use Rattle.uecp_text.specs.Input.{numbered, lines_of}
 use Rattle.bad_line.specs.Files.{AreSpelled}
 use Rattle.bad_line.proofs.Filing.{one_more, next_line, none_left, nothing_left}

@@ -1,4 +1,4 @@
-use Rattle.std.proofs.Common.{◌≡◌, ◌≤◌, ◌+◌, ◌-◌, ℕ, List, ◌++◌, length}
+use Rattle.std.proofs.Common.{◌≡◌, ◌≤◌, ◌+◌, ℕ, List, ◌++◌, length}
 use Rattle.uecp_text.specs.Input.{texts_of, numbered, lines_of}
 use Rattle.bad_line.specs.Files.{AreSpelled}
 use Rattle.bad_line.proofs.rules.file.read_rules.Given as goal

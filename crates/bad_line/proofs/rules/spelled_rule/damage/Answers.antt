@@ -2,6 +2,6 @@ use Rattle.uecp_text.specs.Words.{words}
 use Rattle.bad_line.proofs.RefusedRules.{no_damage}
 use Rattle.bad_line.proofs.rules.spelled_rule.damage.Goals as goal
 
-pub returns-in-None-alone-clause-other : goal.returns-in-None-alone-clause-other
-returns-in-None-alone-clause-other c =
-    no_damage (words c.args.text.now) c.in-None.ensures.other c.in-None-alone.ensures.other
+pub returns-in-None-chance_from-clause-other : goal.returns-in-None-chance_from-clause-other
+returns-in-None-chance_from-clause-other c =
+    no_damage (words c.args.text.now) c.in-None.ensures.other c.in-None-chance_from.ensures.other

@@ -28,10 +28,15 @@ returns-then-eq-5-clause-other c =
 
 pub returns-then-eq-6-clause-other : goal.returns-then-eq-6-clause-other
 returns-then-eq-6-clause-other c =
-    let same : c.args.name.now ≡ codes "refuse" = search rules in
-    rw same c.refusal.ensures.other
+    let same : c.args.name.now ≡ codes "pace" = search rules in
+    rw same c.pace.ensures.other
 
 pub returns-then-eq-7-clause-other : goal.returns-then-eq-7-clause-other
 returns-then-eq-7-clause-other c =
+    let same : c.args.name.now ≡ codes "refuse" = search rules in
+    rw same c.refusal.ensures.other
+
+pub returns-then-eq-8-clause-other : goal.returns-then-eq-8-clause-other
+returns-then-eq-8-clause-other c =
     let same : c.args.name.now ≡ codes "restart" = search rules in
     rw same c.restart.ensures.other

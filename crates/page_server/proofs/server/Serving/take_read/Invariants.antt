@@ -1,7 +1,11 @@
 use Rattle.std.proofs.Common.{[]}
 use Rattle.page.specs.Input.{GoesOn}
+use Rattle.page_server.specs.Guesting.{IsServing}
 use Rattle.page_server.proofs.server.Serving.take_read.Given as goal
 
--- the lines that were taken are what came of what had been read
+-- the lines that were taken are what came of what had been read, and all who ask live
 abbrev pub invariant-loop-line : goal.invariant-loop-line
-invariant-loop-line g l = GoesOn [] l.fn.self.intake l.self.intake
+invariant-loop-line g l = record {
+  goes_on : GoesOn [] l.fn.self.intake l.self.intake;
+  serving : IsServing g.C.Connection.talk l.self;
+}

@@ -1,4 +1,4 @@
-use Rattle.std.proofs.Common.{◌≡◌, ap, ◌∙◌, sym, subst, ℕ, List, Bool, refl}
+use Rattle.std.proofs.Common.{ap, ◌∙◌, sym, ℕ, List}
 use Rattle.std.specs.List.{list_any}
 use Rattle.bad_line.specs.declared.rules.rule.Rule.{Rule}
 use Rattle.bad_line.specs.Connections.{Line, is_restart}

@@ -8,6 +8,7 @@ pub loop-event-init : goal.loop-event-init
 loop-event-init c = record {
   sends = λ live. ([], nothing_sent c.args.history.now (standing_of c.args.self.now));
   phase = refl;
+  came = refl;
 }
 
 pub loop-event-preserved : goal.loop-event-preserved
@@ -23,4 +24,5 @@ loop-event-preserved c =
                 c.in_ok-send.ensures.writing,
           );
       phase = c.in_ok-send.ensures.phase ∙ c.loop-event.invariant.phase;
+      came = c.in_ok-send.ensures.came ∙ c.loop-event.invariant.came;
     }

@@ -1,9 +1,12 @@
--- So far events were put behind what waited, and bytes of that were written.
-use Rattle.page.specs.ClientView.{standing_of}
+-- So far events were put behind what waited, and bytes of that were written, one at least in each turn.
+use Rattle.std.proofs.Common.{◌≡◌}
+use Rattle.page.specs.ClientView.{standing_of, came_of}
 use Rattle.page.proofs.Delivered.{Since}
 use Rattle.page.proofs.clients.client.Client.deliver.Given as goal
 
 abbrev pub invariant-loop-write : goal.invariant-loop-write
-invariant-loop-write g l =
-    Since l.history (g.W.Write.contents l.fn.writer) (g.W.Write.contents l.writer) (standing_of l.fn.self)
-    (standing_of l.self)
+invariant-loop-write g l = record {
+  since : Since l.history (g.C.Connection.talk l.fn.connection) (g.C.Connection.talk l.connection)
+      (standing_of l.fn.self) (standing_of l.self) l._write;
+  came : came_of l.self ≡ came_of l.fn.self;
+}

@@ -1,7 +1,0 @@
-use Rattle.std.proofs.Common.{◌≡◌, max, drop}
-use Rattle.bad_line.specs.Connections.{delay_in}
-use Rattle.bad_line.proofs.connections.spans.delay_of.Given as goal
-
--- the longest so far, or a longer one that comes
-abbrev pub invariant-loop-rule : goal.invariant-loop-rule
-invariant-loop-rule l = max l.longest (delay_in (drop l.rule-index l.rules)) ≡ delay_in l.rules

@@ -1,0 +1,206 @@
+//! All who ask (profile).
+ghost use Rattle.std.specs.Prelude.{◌≡◌, ◌⊎◌, ◌<◌, [], leb, length, slice_index_or, IfSome, IfNone};
+ghost use Rattle.page.specs.declared.guests.guest.Guest.{Guest as GuestValue};
+ghost use Rattle.page.specs.ClientView.{source_of};
+ghost use Rattle.page.specs.Intake.{board_of};
+ghost use Rattle.page.specs.Talk.{IsUnsaid};
+ghost use Rattle.page.specs.Visits.{
+  guests_of,
+  live_in,
+  AllServed,
+  HasNone,
+  HearsOne,
+  HearsThen,
+  AllDo,
+  TakesTurn,
+};
+
+use crate::clients::Site;
+use crate::events::History;
+use crate::guests::connection::Connection;
+use crate::guests::guest::{Deed, Guest};
+use crate::guests::sockets::Sockets;
+use crate::intake::Intake;
+use std::alloc::Global;
+
+/// How many ask at a time.
+const GUESTS_MAX: usize = 128;
+
+/// How many of them get events.
+const LIVE_MAX: usize = 64;
+
+/// All who ask, in the order in which they came; and whether only the machine's own names are served to them.
+pub struct Guests<C> {
+    guests: Vec<Guest<C>>,
+    own_only: bool,
+}
+
+impl<C: Connection> Guests<C> {
+    /// Nobody asks; with `own_only` only the machine's own names are served.
+    pub fn new(alloc: Global, own_only: bool) -> Guests<C>
+        ensures nobody { guests_of result ≡ [] }
+        ensures own_only { result.own_only ≡ own_only }
+    {
+        Guests {
+            guests: Vec::new(alloc),
+            own_only,
+        }
+    }
+
+    /// Whether no more may get events.
+    pub fn is_full(&self) -> bool
+        ensures { result ≡ leb 64 (live_in (guests_of self.now)) }
+    {
+        let live = self.guests.iter().filter(|guest| guest.is_live()).count();
+        live >= LIVE_MAX
+    }
+
+    /// Whether something waits to be sent to one of them.
+    pub fn is_behind(&self) -> bool {
+        self.guests.iter().any(|guest| guest.is_behind())
+    }
+
+    /// One more asks. Where there are too many, or without memory, its connection is closed.
+    pub fn add<S: Sockets<Connection = C>>(
+        &mut self,
+        alloc: Global,
+        connection: C,
+        history: &History,
+        sockets: &mut S,
+    )
+        requires unsaid { IsUnsaid (C.talk connection) }
+        requires served { AllServed C.talk history.now self.old }
+        ensures served { AllServed C.talk history.now self.new }
+        ensures own_only { self.new.own_only ≡ self.old.own_only }
+    {
+        let guest = Guest::new(alloc, connection);
+        if self.guests.len() >= GUESTS_MAX {
+            sockets.close(guest.leave());
+            return;
+        }
+        match self.guests.push(guest) {
+            Ok(()) => {}
+            Err(failed) => sockets.close(failed.value.leave()),
+        }
+    }
+
+    /// Something came on the connection of this number: it is heard, and answered from what came in; the last message
+    /// came so many seconds ago.
+    pub fn hear<S: Sockets<Connection = C>>(
+        &mut self,
+        alloc: Global,
+        number: usize,
+        intake: &Intake,
+        seconds: Option<u64>,
+        sockets: &mut S,
+    )
+        requires { AllServed C.talk (board_of intake.now).past self.old }
+        ensures served { AllServed C.talk (board_of intake.now).past self.new }
+        ensures own_only { self.new.own_only ≡ self.old.own_only }
+        ensures hears { (HasNone C.numbered number (guests_of self.old) × (self.new ≡ self.old))
+            ⊎ HearsOne C.talk C.numbered C.reads number (board_of intake.now).shown (board_of intake.now).past seconds
+            self.old.own_only (guests_of self.old) (guests_of self.new) }
+    {
+        let Some(place) = self.place_of(number) else {
+            return;
+        };
+        let site = intake.site(seconds, self.own_only, self.is_full());
+        if !hear(&mut self.guests[place], alloc, &site, sockets) {
+            let guest = self.guests.remove(place);
+            sockets.close(guest.leave());
+        }
+    }
+
+    /// Where the one stands whose connection has this number.
+    fn place_of(&self, number: usize) -> Option<usize>
+        ensures some { IfSome result (λ place. (place < length (guests_of self.now))
+            × ((d : GuestValue C) → C.numbered (slice_index_or (guests_of self.now) place d).connection ≡ number)) }
+        ensures none { IfNone result (HasNone C.numbered number (guests_of self.now)) }
+    {
+        for (place, guest) in self.guests.iter().enumerate() {
+            if guest.connection.number() == number {
+                return Some(place);
+            }
+        }
+        None
+    }
+
+    /// All who ask do this, one after another; who is not to be kept is let go, and its connection closed.
+    pub fn all<S: Sockets<Connection = C>>(
+        &mut self,
+        alloc: Global,
+        history: &History,
+        deed: Deed,
+        sockets: &mut S,
+    )
+        requires { AllServed C.talk history.now self.old }
+        ensures served { AllServed C.talk history.now self.new }
+        ensures own_only { self.new.own_only ≡ self.old.own_only }
+        ensures all { AllDo C.talk deed history.now (guests_of self.old) (guests_of self.new) }
+    {
+        let mut place = 0;
+        while place < self.guests.len() {
+            if take_turn(&mut self.guests[place], alloc, history, deed, sockets) {
+                place += 1;
+            } else {
+                let guest = self.guests.remove(place);
+                sockets.close(guest.leave());
+            }
+        }
+    }
+
+    /// Lets all go, and closes their connections.
+    pub fn close<S: Sockets<Connection = C>>(self, history: &History, sockets: &mut S)
+        requires { AllServed C.talk history.now self }
+    {
+        let Guests {
+            mut guests,
+            own_only: _,
+        } = self;
+        while let Some(guest) = guests.pop() {
+            sockets.close(guest.leave());
+        }
+        guests.destroy_empty();
+    }
+}
+
+/// One of them is heard, and answered as far as it takes it. Whether it is to be kept.
+fn hear<C: Connection, S: Sockets<Connection = C>>(
+    guest: &mut Guest<C>,
+    alloc: Global,
+    site: &Site<'_>,
+    sockets: &mut S,
+) -> bool
+    ensures { HearsThen C.talk C.reads (source_of site.now) site.now.own_only guest.old result guest.new }
+{
+    if !guest.hear(alloc, site) {
+        return false;
+    }
+    if !guest.deliver(alloc, site.history) {
+        return false;
+    }
+    sockets.watch(&guest.connection, guest.is_behind())
+}
+
+/// One of them does this. Whether it is to be kept. Of one that something waited for it is told from now on whether
+/// something does.
+fn take_turn<C: Connection, S: Sockets<Connection = C>>(
+    guest: &mut Guest<C>,
+    alloc: Global,
+    history: &History,
+    deed: Deed,
+    sockets: &mut S,
+) -> bool
+    ensures { TakesTurn C.talk deed history.now guest.old result guest.new }
+{
+    let was_behind = guest.is_behind();
+    if !guest.take_turn(alloc, history, deed) {
+        return false;
+    }
+    if let Deed::Deliver = deed {
+        if was_behind {
+            return sockets.watch(&guest.connection, guest.is_behind());
+        }
+    }
+    true
+}

@@ -1,0 +1,7 @@
+use Rattle.page.proofs.Public.{served_next}
+use Rattle.page_server.proofs.server.Serving.take_next.Goals as goal
+
+pub tell-requires : goal.tell-requires
+tell-requires g c =
+    served_next g.C.Connection.talk c.args.self.now.intake c.take_next.new.self c.in-Ok-Some.field-0
+    c.args.self.now.guests c.in-Ok-Some.ensures.takes c.requires

@@ -1,0 +1,185 @@
+//! The sockets of a page over TCP: one wait for what comes, and the clock. Nothing is claimed of what a socket gives or
+//! takes, nor of the clock (profile).
+ghost use Rattle.page_server.specs.Guesting.{PassesNone};
+
+use crate::door::{Door, INPUT, LISTENER};
+use crate::input::Input;
+use line_feed::Arrival;
+use mio::Token;
+use page::{Connection, Passed, Sockets};
+use std::alloc::Global;
+use std::io::{Error, ErrorKind, Read, Write};
+use std::net::{Net, Shutdown, TcpListener, TcpStream};
+use std::os::fd::{AsRawFd, RawFd};
+use std::time::{Clock, Instant};
+use uecp_text::write_parts;
+
+/// The most milliseconds that are counted: some eight million years.
+const TIME_MAX: u64 = (1 << 58) - 1;
+
+/// The connection of a browser, whose calls don't wait. Its number is that of its descriptor.
+#[derive(Drop)]
+pub(crate) struct Browser {
+    stream: TcpStream,
+    number: usize,
+}
+
+/// Who listens, what is waited for, and the clock of the machine.
+#[derive(Drop)]
+pub(crate) struct TcpSockets<'a, N: Net<Listener = TcpListener, Stream = TcpStream> + Clock> {
+    net: &'a N,
+    door: Door,
+    listener: TcpListener,
+    was_asked: bool,
+    input: Input<'a, N>,
+    fd: RawFd,
+    begun: Instant,
+}
+
+impl<'a, N: Net<Listener = TcpListener, Stream = TcpStream> + Clock> TcpSockets<'a, N> {
+    /// Waits at this listener from now on, and for the input of this descriptor; and counts the time from now on. A
+    /// regular file is never waited for. None where the machine gives no wait or no clock.
+    pub(crate) fn new(
+        alloc: Global,
+        net: &'a N,
+        fd: RawFd,
+        listener: TcpListener,
+    ) -> Option<TcpSockets<'a, N>> {
+        let input = Input::new(alloc, net, fd);
+        let (Ok(door), Ok(begun)) = (Door::new(alloc, net), Instant::now(net)) else {
+            return None;
+        };
+        if !door.watch(listener.as_raw_fd(), LISTENER) {
+            return None;
+        }
+        if input.is_polled() {
+            let _ = door.watch(fd, INPUT);
+        }
+        Some(TcpSockets {
+            net,
+            door,
+            listener,
+            was_asked: false,
+            input,
+            fd,
+            begun,
+        })
+    }
+
+    /// Says where the page is found.
+    pub(crate) fn say_place<E: Write>(&self, alloc: Global, errors: &mut E) {
+        if let Ok(place) = self.listener.local_addr() {
+            if let Ok(text) = format!(in alloc; "uecp: page at http://{place}/\n") {
+                let _ = write_parts(&[text.as_bytes()], errors);
+            }
+        }
+    }
+
+    /// The connection over this stream, of which is told from now on. None where it can't be.
+    fn browser(&self, stream: TcpStream) -> Option<Browser> {
+        let _ = stream.set_nodelay(true);
+        stream.set_nonblocking(true).ok()?;
+        let number = usize::try_from(stream.as_raw_fd()).ok()?;
+        if self.door.watch(stream.as_raw_fd(), Token(number)) {
+            Some(Browser { stream, number })
+        } else {
+            None
+        }
+    }
+}
+
+impl<'a, N: Net<Listener = TcpListener, Stream = TcpStream> + Clock> Sockets for TcpSockets<'a, N> {
+    type Connection = Browser;
+
+    ghost reads = { λ _ _ _. Unit {0} };
+
+    fn now(&mut self) -> u64 {
+        match self.begun.elapsed(self.net) {
+            Ok(elapsed) => u64::try_from(elapsed.as_millis())
+                .unwrap_or(TIME_MAX)
+                .min(TIME_MAX),
+            Err(_) => 0,
+        }
+    }
+
+    fn wait(&mut self, milliseconds: u64, numbers: &mut Vec<usize>) -> Option<bool> {
+        if self.was_asked {
+            self.was_asked = false;
+            let _ = self
+                .door
+                .watch_on(self.listener.as_raw_fd(), LISTENER, false);
+        }
+        self.door.wait(milliseconds, numbers).ok()
+    }
+
+    fn has_input(&mut self) -> bool {
+        if self.input.wait(Some(0)) {
+            return true;
+        }
+        let _ = self.door.watch_on(self.fd, INPUT, false);
+        false
+    }
+
+    fn accept(&mut self) -> Option<Browser> {
+        self.was_asked = true;
+        match self.listener.accept() {
+            Ok((stream, _)) => self.browser(stream),
+            Err(_) => None,
+        }
+    }
+
+    fn watch(&mut self, connection: &Browser, writes: bool) -> bool {
+        self.door.watch_on(
+            connection.stream.as_raw_fd(),
+            Token(connection.number),
+            writes,
+        )
+    }
+
+    fn close(&mut self, _connection: Browser) {}
+}
+
+impl Connection for Browser {
+    ghost use Rattle.std.specs.Prelude.{None, true, false};
+
+    ghost talk = { λ _. record { given = None; written = None; takes_now = false; is_shut = true } };
+
+    ghost reads = { λ _ _ _ _. Unit {0} };
+
+    ghost numbered = { λ b. b.number };
+
+    fn number(&self) -> usize {
+        self.number
+    }
+
+    fn read(&mut self, buffer: &mut [u8]) -> Passed {
+        match self.stream.read(buffer) {
+            Ok(count) => Passed::Bytes(count),
+            Err(error) => passed_none(&error),
+        }
+    }
+
+    fn write(&mut self, bytes: &[u8]) -> Passed {
+        match self.stream.write(bytes) {
+            Ok(count) => Passed::Bytes(count),
+            Err(error) => passed_none(&error),
+        }
+    }
+
+    fn shut(&mut self) -> bool {
+        match self.stream.shutdown(Shutdown::Write) {
+            Ok(()) => true,
+            Err(_) => false,
+        }
+    }
+}
+
+/// What a call came to that failed so.
+fn passed_none(error: &Error) -> Passed
+    ensures { PassesNone result }
+{
+    match error.kind() {
+        ErrorKind::WouldBlock | ErrorKind::Interrupted => Passed::NotNow,
+        _ => Passed::Gone,
+    }
+}
