@@ -6,10 +6,11 @@ ghost use Rattle.uecp_jobs.specs.Setups.{IsSetup, RefusesSetup};
 ghost use Rattle.air_jobs.specs.AirJobs.{options_of, IsDone, IsRefused, IsUndescribed, HasFailed, DoesAir};
 
 use crate::answering::AnsweringOnAir;
+use notices::{Notices, fail};
 use output_forms::Form;
 use std::alloc::Global;
 use std::io::{Read, Write};
-use uecp_jobs::{Setup, fail};
+use uecp_jobs::Setup;
 use uecp_text::{RunFault, run};
 
 /// What is asked of the command `answer` with groups of its store behind.
@@ -28,7 +29,7 @@ pub struct AirJob<'a> {
 /// Does the job and answers the exit status: 0 done, 1 a line was refused, 2 the services were refused, 3 memory,
 /// reading or writing failed. What the lines before a refusal bring is written all the same, and no group. Why a run
 /// stopped is said on `errors`, as far as that takes it.
-pub fn run_answer_on_air<R: Read, W: Write, E: Write>(
+pub fn run_answer_on_air<R: Read, W: Write, E: Notices>(
     alloc: Global,
     job: &AirJob<'_>,
     reader: &mut R,
@@ -39,11 +40,11 @@ pub fn run_answer_on_air<R: Read, W: Write, E: Write>(
     ensures done { result ≡ 0 → IsDone job.now (R.remaining reader.old) (R.remaining reader.new) (W.contents writer.old)
         (W.contents writer.new) × (errors.new ≡ errors.old) }
     ensures refused { result ≡ 1 → IsRefused job.now (R.remaining reader.old) (R.remaining reader.new)
-        (W.contents writer.old) (W.contents writer.new) (E.contents errors.old) (E.contents errors.new) }
-    ensures undescribed { result ≡ 2 → IsUndescribed job.now (E.contents errors.old) (E.contents errors.new)
+        (W.contents writer.old) (W.contents writer.new) (E.says errors.old errors.new) }
+    ensures undescribed { result ≡ 2 → IsUndescribed job.now (E.says errors.old errors.new)
         × (reader.new ≡ reader.old) × (writer.new ≡ writer.old) }
     ensures failed { result ≡ 3 → HasFailed job.now (R.remaining reader.old) (R.remaining reader.new)
-        (W.contents writer.old) (W.contents writer.new) (E.contents errors.old) (E.contents errors.new) }
+        (W.contents writer.old) (W.contents writer.new) (E.says errors.old errors.new) }
 {
     match answer_on_air(alloc, job, reader, writer) {
         Ok(()) => 0,

@@ -1,6 +1,5 @@
 //! The job of an encoder that is on the air. Source: profile.
 ghost use Rattle.std.specs.Prelude.{◌≡◌, ◌⊎◌, ◌<◌, ℕ, None, Ok, Err};
-ghost use Rattle.uecp_text.specs.Written.{Begins};
 ghost use Rattle.rds_store.specs.Value.{Store};
 ghost use Rattle.uecp_encoder.specs.Keeping.{Kept, Settled};
 ghost use Rattle.kept_jobs.specs.declared.stop.KeptStop.{KeptStop};
@@ -12,6 +11,7 @@ ghost use Rattle.device_serving.specs.DeviceRun.{went_after};
 ghost use Rattle.air_serving.specs.AirRun.{ReadsOpen, DoesNext, DoesAll, Serves, RunsOnAir, OutlivesRun};
 ghost use Rattle.air_serving.specs.Lines.{ended_over};
 ghost use Rattle.air_serving.specs.Parts.{Comes};
+ghost use Rattle.notices.specs.Told.{Says};
 
 use crate::airing::send_next;
 use crate::line::{OpenLine, Sent, ended_over, is_over};
@@ -20,6 +20,7 @@ use crate::tally::{Turn, read_once};
 use carousel::Carousel;
 use device_serving::{Limits, LogLines, tell_last, went_after};
 use kept_jobs::{KeptStop, fail_run};
+use notices::NoticesTo;
 use rds_store::RdsStore;
 use std::io::Write;
 use std::time::Clock;
@@ -60,7 +61,7 @@ pub fn run_on_air<
     encoder: &mut Encoder<RdsStore>,
     keeper: &mut K,
     log: &mut LogLines<'_, W, Clk>,
-    errors: &mut E,
+    errors: &mut NoticesTo<E>,
     carousel: &mut Carousel,
     moments: &mut M,
 ) -> u8
@@ -86,7 +87,7 @@ pub fn run_on_air<
           left = left;
         }) (Ok tt)
         × (errors.new ≡ errors.old) }
-    // 3: moments went by up to one at which the run stopped, and why was said, or begun to be said.
+    // 3: moments went by up to one at which the run stopped, and why was said.
     ensures failed { result ≡ 3 → (stop : KeptStop) × (left : ℕ)
         × RunsOnAir K.TOGETHER_MAX K.READ_MAX K.leaves K.is_clean K.saves K.fails M.waits M.closes M.sends
         M.Input.remaining M.Output.contents limits.turns limits.store
@@ -107,7 +108,7 @@ pub fn run_on_air<
           line = None;
           left = left;
         }) (Err stop)
-        × Begins (E.contents errors.old) (E.contents errors.new) (stop_lines stop) }
+        × Says errors.old errors.new (stop_lines stop) }
     // 0: whatever a crash leaves is the encoder.
     ensures settled { result ≡ 0 → Settled (K.leaves keeper.old) encoder.old → K.is_clean keeper.new
         → Settled (K.leaves keeper.new) encoder.new }

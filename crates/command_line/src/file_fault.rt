@@ -1,18 +1,18 @@
 //! Why a file gives no options, and how that is said (profile).
 ghost use Rattle.std.specs.Prelude.{◌≡◌, ◌≢◌, ◌≤◌, ◌++◌, codes};
-ghost use Rattle.uecp_text.specs.Written.{Begins};
 ghost use Rattle.command_line.specs.FileLines.{place_line};
 ghost use Rattle.command_line.specs.declared.file_fault.FileFault.TheVariants.{Entries, OutOfMemory};
 ghost use Rattle.command_line.specs.declared.file_fault.ReadFault.TheVariants as unread;
+ghost use Rattle.notices.specs.Told.{Says};
 
 use itoa::Buffer;
+use notices::{Notices, NoticesTo, fail};
 use option_files::{EntriesFault, Place, place_at, place_of};
 use std::alloc::{AllocError, Global};
 use std::fmt::InlineText;
 use std::io::Write;
 use thiserror::Error;
-use uecp_jobs::fail;
-use uecp_text::{RunFault, write_parts};
+use uecp_text::RunFault;
 
 /// How many bytes the text of a `ReadFault` has at most.
 const READ_FAULT_MAX: usize = 32;
@@ -72,7 +72,7 @@ pub(crate) fn say_of_file<E: Write>(
     path: &str,
     text: &str,
     fault: &FileFault,
-    errors: &mut E,
+    errors: &mut NoticesTo<E>,
 ) -> u8
     ensures { (2 ≤ result) × (result ≤ 3) }
 {
@@ -122,15 +122,26 @@ fn first_line(text: &str) -> &str {
 }
 
 /// Says that the file at this path is no text at this byte, and answers the exit status.
-pub(crate) fn say_no_text<E: Write>(path: &str, bytes: &[u8], index: usize, errors: &mut E) -> u8
+pub(crate) fn say_no_text<E: Write>(
+    path: &str,
+    bytes: &[u8],
+    index: usize,
+    errors: &mut NoticesTo<E>,
+) -> u8
     ensures { result ≡ 2 }
 {
     say_at(path, place_at(bytes, index), "", "not UTF-8", errors)
 }
 
 /// Says something of a place in the file at this path, in a line of its own, and answers the exit status.
-fn say_at<E: Write>(path: &str, place: Place, name: &str, words: &str, errors: &mut E) -> u8
-    ensures said { Begins (E.contents errors.old) (E.contents errors.new)
+fn say_at<E: Write>(
+    path: &str,
+    place: Place,
+    name: &str,
+    words: &str,
+    errors: &mut NoticesTo<E>,
+) -> u8
+    ensures said { Says errors.old errors.new
         (place_line path.now place.line place.column name.now words.now) }
     ensures status { result ≡ 2 }
 {
@@ -139,30 +150,27 @@ fn say_at<E: Write>(path: &str, place: Place, name: &str, words: &str, errors: &
     let line = line.format(place.line).as_bytes();
     let column = column.format(place.column).as_bytes();
     let (path, name, words) = (path.as_bytes(), name.as_bytes(), words.as_bytes());
-    let _ = write_place(path, line, column, name, words, errors);
+    say_place(path, line, column, name, words, errors);
     2
 }
 
-/// Writes the line of a place, its numbers in digits.
-fn write_place<'a, E: Write>(
+/// Says the line of a place, its numbers in digits.
+fn say_place<'a, E: Write>(
     path: &'a [u8],
     line: &'a [u8],
     column: &'a [u8],
     name: &'a [u8],
     words: &'a [u8],
-    errors: &mut E,
-) -> Result<(), RunFault>
-    ensures { Begins (E.contents errors.old) (E.contents errors.new) (path.now ++ (codes ":" ++ (line.now
+    errors: &mut NoticesTo<E>,
+)
+    ensures { Says errors.old errors.new (path.now ++ (codes ":" ++ (line.now
         ++ (codes ":" ++ (column.now ++ (codes ": " ++ (name.now ++ (words.now ++ codes "\n")))))))) }
 {
-    write_parts(
-        &[path, b":", line, b":", column, b": ", name, words, b"\n"],
-        errors,
-    )
+    errors.say(&[path, b":", line, b":", column, b": ", name, words, b"\n"]);
 }
 
 /// Says why the bytes of the file at this path are not had, and answers the exit status.
-pub(crate) fn say_unread<E: Write>(path: &str, fault: ReadFault, errors: &mut E) -> u8
+pub(crate) fn say_unread<E: Write>(path: &str, fault: ReadFault, errors: &mut NoticesTo<E>) -> u8
     ensures unreadable { fault ≡ unread.Unreadable → result ≡ 3 }
     ensures long { fault ≡ unread.TooLong → result ≡ 2 }
     ensures memory { fault ≡ unread.OutOfMemory → result ≡ 3 }
@@ -171,11 +179,11 @@ pub(crate) fn say_unread<E: Write>(path: &str, fault: ReadFault, errors: &mut E)
     let words = words.as_str().as_bytes();
     match fault {
         ReadFault::Unreadable => {
-            let _ = write_parts(&[b"uecp: ", path.as_bytes(), b": ", words, b"\n"], errors);
+            errors.say(&[b"uecp: ", path.as_bytes(), b": ", words, b"\n"]);
             3
         }
         ReadFault::TooLong => {
-            let _ = write_parts(&[path.as_bytes(), b": ", words, b"\n"], errors);
+            errors.say(&[path.as_bytes(), b": ", words, b"\n"]);
             2
         }
         ReadFault::OutOfMemory => fail(&RunFault::OutOfMemory, errors),

@@ -5,22 +5,22 @@ ghost use Rattle.command_line.specs.Usages.{AsksForText, SaysFailure, SaysMistak
 
 use crate::usage::Usage;
 use clap::Error;
+use notices::{NoticesTo, fail};
 use std::io::Write;
-use uecp_jobs::fail;
 use uecp_text::RunFault;
 
 /// Says why words ask for no job, and answers the exit status. A text that was asked for goes to the writer.
-pub fn refuse<W: Write, E: Write>(usage: &Usage, writer: &mut W, errors: &mut E) -> u8
+pub fn refuse<W: Write, E: Write>(usage: &Usage, writer: &mut W, errors: &mut NoticesTo<E>) -> u8
     ensures status { (result ≤ 3) × (result ≢ 1) }
     ensures text { result ≡ 0 → AsksForText usage.now × (errors.new ≡ errors.old) }
-    ensures mistaken { result ≡ 2 → SaysMistake usage.now (E.contents errors.old) (E.contents errors.new)
+    ensures mistaken { result ≡ 2 → SaysMistake usage.now errors.old errors.new
         × (writer.new ≡ writer.old) }
-    ensures failed { result ≡ 3 → SaysFailure (E.contents errors.old) (E.contents errors.new)
+    ensures failed { result ≡ 3 → SaysFailure errors.old errors.new
         × (AsksForText usage.now ⊎ (writer.new ≡ writer.old)) }
 {
     match usage {
         Usage::Refused(error) if error.use_stderr() => {
-            let _ = write!(errors, "{error}");
+            errors.show(error);
             2
         }
         Usage::Refused(error) => match show_text(error, writer) {

@@ -20,12 +20,12 @@ use crate::refusing::refuse;
 use crate::usage::Usage;
 use clap::Error;
 use clap::error::ErrorKind;
+use notices::{Notices, NoticesTo, fail};
 use option_files::{Entry, entries_of, file_in, has_option, words_to_try, words_with};
 use std::alloc::{AllocError, Global};
 use std::fs::{Files, OpenOptions};
 use std::io::{Read, Write};
 use std::str;
-use uecp_jobs::fail;
 use uecp_text::{RunFault, read_all, write_parts};
 
 /// How many bytes a file of options has at most.
@@ -40,7 +40,7 @@ pub fn settle<F: Files, W: Write, E: Write>(
     words: Vec<String>,
     files: &F,
     writer: &mut W,
-    errors: &mut E,
+    errors: &mut NoticesTo<E>,
 ) -> Result<Vec<String>, u8>
     // With no file, and none to look at, they are the words as they were given.
     ensures given { HasNoFile (map string_bytes words.items) → result ≡ Ok words }
@@ -83,10 +83,10 @@ fn refusal_of(alloc: Global, words: &[String]) -> Result<Option<Error>, AllocErr
 }
 
 /// Says that there is no file to look at, and answers the exit status.
-fn say_no_file<E: Write>(errors: &mut E) -> u8
+fn say_no_file<E: Write>(errors: &mut NoticesTo<E>) -> u8
     ensures { result ≡ 2 }
 {
-    let _ = write_parts(&[b"uecp: --check-config needs --config FILE\n"], errors);
+    errors.say(&[b"uecp: --check-config needs --config FILE\n"]);
     2
 }
 
@@ -97,7 +97,7 @@ fn look_at<F: Files, W: Write, E: Write>(
     path: &str,
     files: &F,
     writer: &mut W,
-    errors: &mut E,
+    errors: &mut NoticesTo<E>,
 ) -> u8
     ensures status { (result ≤ 3) × (result ≢ 1) }
     ensures refused { result ≡ 2 → writer.new ≡ writer.old }
@@ -115,7 +115,7 @@ fn look_over<W: Write, E: Write>(
     path: &str,
     all: &[String],
     writer: &mut W,
-    errors: &mut E,
+    errors: &mut NoticesTo<E>,
 ) -> u8
     ensures status { (result ≤ 3) × (result ≢ 1) }
     ensures ok { result ≡ 0 → SaysOk path.now (map string_bytes all.now) (W.contents writer.old)
@@ -146,7 +146,7 @@ fn fill<F: Files, E: Write>(
     given: &[String],
     path: &str,
     files: &F,
-    errors: &mut E,
+    errors: &mut NoticesTo<E>,
 ) -> Result<Vec<String>, u8>
     ensures filled { IfOk result (λ all. ((text : List ℕ) × Fills (map string_bytes given.now) text
         (map string_bytes all.items)) × (errors.new ≡ errors.old)) }
@@ -165,7 +165,7 @@ fn fill_from<R: Read, E: Write>(
     given: &[String],
     path: &str,
     file: &mut R,
-    errors: &mut E,
+    errors: &mut NoticesTo<E>,
 ) -> Result<Vec<String>, u8>
     ensures filled { IfOk result (λ all. ((text : List ℕ) × IsInput (R.remaining file.old) (R.remaining file.new) text
         × Fills (map string_bytes given.now) text (map string_bytes all.items)) × (errors.new ≡ errors.old)) }

@@ -1,9 +1,9 @@
 -- Where connections over TCP come from, and what is said where there is none (profile).
 use Rattle.std.specs.Prelude.{◌≡◌, ℕ, List, ◌++◌, codes, decimal, Option, Some, None}
-use Rattle.uecp_text.specs.Written.{Begins}
 use Rattle.uecp_net.specs.declared.tcp.DialFault.{DialFault}
 use Rattle.uecp_net.specs.declared.tcp.DialFault.TheVariants.{NoSuchHost, Refused, TimedOut, Unreachable, Failed}
 use Rattle.uecp_net.specs.Tcp.{Dials, DialsAgain}
+use Rattle.notices.specs.Told.{Told, Says}
 
 -- What is dialled, and after how many milliseconds a read that brings nothing fails.
 pub record DialsQuietly : Type 0 where
@@ -27,7 +27,7 @@ abbrev pub dial_line : (host : List ℕ) (port : ℕ) → DialFault → List ℕ
 dial_line host port fault = codes "uecp: " ++ (host
     ++ (codes " port " ++ (decimal port ++ (codes ": " ++ (dial_words fault ++ codes "\n")))))
 
--- Where one could not be made its line was said, or begun to be said; else nothing was.
-abbrev pub SaysUnreached : (host : List ℕ) (port : ℕ) → Option DialFault → (told told' : Option (List ℕ)) → Type 0
+-- Where one could not be made its line was said; else nothing was.
+abbrev pub SaysUnreached : (host : List ℕ) (port : ℕ) → Option DialFault → (told told' : Told) → Type 0
 SaysUnreached host port None told told' = told' ≡ told
-SaysUnreached host port (Some fault) told told' = Begins told told' (dial_line host port fault)
+SaysUnreached host port (Some fault) told told' = Says told told' (dial_line host port fault)

@@ -4,7 +4,8 @@
 //!   [`NotRun`] why it was not run.
 //! - [`run_conformance`]: the cases that are asked for, one after another, told in lines of TAP or JSON; it answers an
 //!   exit status.
-//! - [`run_conformance_over_tcp`]: the built-in cases over TCP, with connections from [`Dialled`].
+//! - [`run_conformance_over_tcp`]: the built-in cases over TCP, with connections from [`Dialled`]; [`say_unreached`]
+//!   says why one could not be made.
 #![tactic(auto)]
 
 mod address;
@@ -32,5 +33,6 @@ pub use case_run::{NotRun, run_case};
 pub use dialled::Dialled;
 pub use over_tcp::run_conformance_over_tcp;
 pub use run::run_conformance;
+pub use unreached::say_unreached;
 pub use way::Way;
 pub use went::{Outcome, Went};

@@ -5,15 +5,16 @@ ghost use Rattle.conformance_command.specs.OverTcp.{RunsBuiltIn};
 
 use crate::address::address_of;
 use crate::dialled::Dialled;
-use crate::run::{fail, run_conformance};
+use crate::run::run_conformance;
 use crate::unreached::say_unreached;
 use commands::ConformanceOptions;
 use conformance::{CASES, read_cases};
+use notices::{Notices, NoticesTo, fail};
 use std::alloc::Global;
 use std::io::{Read, Write};
 use std::net::{Net, TcpStream};
 use uecp_net::Connections;
-use uecp_text::{RunFault, write_parts};
+use uecp_text::RunFault;
 
 /// Runs the chosen ones of the built-in cases over TCP, and answers the exit status: that of [`run_conformance`]; 2
 /// also where the text of the place is none, which is said on `errors`. Where there was no connection to be had, it
@@ -22,7 +23,7 @@ pub fn run_conformance_over_tcp<'a, W: Write, E: Write, N: Net<Stream = TcpStrea
     alloc: Global,
     job: &'a ConformanceOptions,
     writer: &mut W,
-    errors: &mut E,
+    errors: &mut NoticesTo<E>,
     net: &'a N,
 ) -> u8
     requires { IsInRange job.now }
@@ -39,7 +40,7 @@ pub fn run_conformance_over_tcp<'a, W: Write, E: Write, N: Net<Stream = TcpStrea
     let timeout = u64::from(job.timeout);
     let quiet = u64::from(job.quiet);
     let Some((host, port)) = address_of(job.place.as_str()) else {
-        let _ = write_parts(&[b"uecp: no HOST:PORT\n"], errors);
+        errors.say(&[b"uecp: no HOST:PORT\n"]);
         return 2;
     };
     let mut dialled = Dialled::new(net, host, port, timeout, quiet);

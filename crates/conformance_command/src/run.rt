@@ -5,13 +5,13 @@ ghost use Rattle.std.specs.Option.{option_map};
 ghost use Rattle.uecp_frame.specs.Address.{is_exact};
 ghost use Rattle.uecp_text.specs.declared.run_fault.RunFault.{RunFault as Fault};
 ghost use Rattle.uecp_text.specs.Faults.{error_lines, status_of as fault_status};
-ghost use Rattle.uecp_text.specs.Written.{Begins};
 ghost use Rattle.conformance_command.specs.declared.went.Went.{Went as HowItWent};
 ghost use Rattle.conformance_command.specs.Choosing.{chosen, tally_of, tally_from, status_of};
 ghost use Rattle.conformance_command.specs.Conformance.{IsInRange, way_of, only_of, Standing};
 ghost use Rattle.conformance_command.specs.Conformance.{RunsAndTells, RunsCases, StopsAt, StopsAmong, RunsAll};
 ghost use Rattle.conformance_command.specs.Conformance.{BreaksOff};
 ghost use Rattle.conformance_command.specs.Conformance.{IsUnknown, unknown_line};
+ghost use Rattle.notices.specs.Told.{Says};
 
 use crate::case_run::{NotRun, run_case};
 use crate::choice::{count_chosen, is_chosen};
@@ -22,10 +22,11 @@ use crate::way::Way;
 use crate::went::Went;
 use commands::ConformanceOptions;
 use conformance::Case;
+use notices::{Notices, NoticesTo, fail};
 use std::alloc::Global;
 use std::io::Write;
 use uecp_net::Connections;
-use uecp_text::{RunFault, report, write_parts};
+use uecp_text::RunFault;
 
 /// Which cases are run, and how.
 #[derive(Drop)]
@@ -50,7 +51,7 @@ pub fn run_conformance<C: Connections, W: Write, E: Write>(
     cases: &[Case<'_>],
     connect: &mut C,
     writer: &mut W,
-    errors: &mut E,
+    errors: &mut NoticesTo<E>,
 ) -> u8
     requires { IsInRange job.now }
     ensures status { result ≤ 3 }
@@ -68,8 +69,8 @@ pub fn run_conformance<C: Connections, W: Write, E: Write>(
         × (IsUnknown (only_of job.now) cases.now → ⊥) × (errors.new ≡ errors.old) }
     // 2: no case and no group has the name. Nothing was opened or written.
     ensures unknown { result ≡ 2 → IsUnknown (only_of job.now) cases.now × (connect.new ≡ connect.old)
-        × (writer.new ≡ writer.old) × Begins (E.contents errors.old) (E.contents errors.new) unknown_line }
-    // 3: it broke off for this, which was said, or begun to be said.
+        × (writer.new ≡ writer.old) × Says errors.old errors.new unknown_line }
+    // 3: it broke off for this, which was said.
     ensures failed { result ≡ 3 → (fault : Fault)
         × BreaksOff C.opens C.closes C.Input.remaining C.Output.contents (way_of job.now)
         (chosen (only_of job.now) cases.now) fault (record {
@@ -79,7 +80,7 @@ pub fn run_conformance<C: Connections, W: Write, E: Write>(
           connect = connect.new;
           held = W.contents writer.new;
         })
-        × Begins (E.contents errors.old) (E.contents errors.new) (error_lines fault) }
+        × Says errors.old errors.new (error_lines fault) }
 {
     let only = only_of(job);
     let count = count_chosen(only, cases);
@@ -97,24 +98,12 @@ pub fn run_conformance<C: Connections, W: Write, E: Write>(
 }
 
 /// Says that no case and no group has the name that is given, and answers the status of that.
-fn refuse_name<E: Write>(errors: &mut E) -> u8
+fn refuse_name<E: Write>(errors: &mut NoticesTo<E>) -> u8
     ensures status { result ≡ 2 }
-    ensures said { Begins (E.contents errors.old) (E.contents errors.new) unknown_line }
+    ensures said { Says errors.old errors.new unknown_line }
 {
-    let _ = write_parts(
-        &[b"uecp: only: no case and no group has this name\n"],
-        errors,
-    );
+    errors.say(&[b"uecp: only: no case and no group has this name\n"]);
     2
-}
-
-/// Says why a run broke off, and answers the status of that.
-pub(crate) fn fail<E: Write>(fault: &RunFault, errors: &mut E) -> u8
-    ensures status { result ≡ fault_status fault.now }
-    ensures said { Begins (E.contents errors.old) (E.contents errors.new) (error_lines fault.now) }
-{
-    let _ = report(fault, errors);
-    fault.status()
 }
 
 /// Runs the chosen cases, of which there are so many, and tells of them.

@@ -7,7 +7,6 @@ use Rattle.commands.specs.Jobs.{is_device}
 use Rattle.rds_store.specs.Value.{Store}
 use Rattle.uecp_encoder.specs.State.{EncoderState}
 use Rattle.uecp_encoder.specs.Keeping.{Kept}
-use Rattle.uecp_text.specs.Written.{Begins}
 use Rattle.kept_jobs.specs.Stops.{state_line}
 use Rattle.state_files.specs.declared.fault.StateFault.{StateFault}
 use Rattle.state_jobs.specs.Texts.{Closed, IsClosed, state_text, unclosed_line}
@@ -19,6 +18,7 @@ use Rattle.device_jobs.specs.Limits.{connections_of}
 use Rattle.device_jobs.specs.Serving.{ServesIn, HasNoState}
 use Rattle.device_jobs.specs.Kept.{ServedKept, plain_log}
 use Rattle.device_jobs.proofs.Ending.{not_three}
+use Rattle.notices.specs.Told.{Told, Says}
 
 or_left : (a b : Bool) → a || b ≡ false → a ≡ false
 or_left true b is = cc
@@ -40,13 +40,13 @@ plain_limits o plain =
     )
 
 -- what is said where a run came to its end, and its state could not be closed
-unclosed : (path : List ℕ) (status : ℕ) (closed : Closed) (told between told' : Option (List ℕ)) → status ≡ 0
+unclosed : (path : List ℕ) (status : ℕ) (closed : Closed) (told between told' : Told) → status ≡ 0
     → between ≡ told → IsClosed path status closed 3 between told' → SaysWhy path told told'
 unclosed path status (Ok well) told between told' zero same is = absurd (let three : 3 ≡ 0 = is.0 ∙ zero in cc)
 unclosed path status (Err fault) told between told' zero same is = inl (
   fault,
-  subst (λ x. Begins x told' (state_line (state_text fault))) same
-      (subst (λ s. Begins between told' (unclosed_line path s fault)) zero is.1),
+  subst (λ x. Says x told' (state_line (state_text fault))) same
+      (subst (λ s. Says between told' (unclosed_line path s fault)) zero is.1),
 )
 
 module _ {K C I O : Type 0} (gives : List ℕ → EncoderState Store → K → Type 0)
@@ -55,18 +55,18 @@ module _ {K C I O : Type 0} (gives : List ℕ → EncoderState Store → K → T
     (opens : C → Option (I × O) → C → Type 0) (closes : C → I → O → C → Type 0) (remaining : I → Option (List ℕ))
     (contents : O → Option (List ℕ)) (turns connections : ℕ) (path : List ℕ) (address sets : ℕ) (services : List ℕ)
     (c c' : C) where
-  abbrev In : (l l' : Log) → (said said' : Option (List ℕ)) → (status : ℕ) → Type 0
+  abbrev In : (l l' : Log) → (said said' : Told) → (status : ℕ) → Type 0
   In = ServesIn most room leaves is_clean saves fails opens closes remaining contents turns connections false gives ends
       path address sets services c c'
 
-  abbrev pub Serves : (l l' : Log) → (said said' : Option (List ℕ)) → (status : ℕ) → Type 0
+  abbrev pub Serves : (l l' : Log) → (said said' : Told) → (status : ℕ) → Type 0
   Serves l l' said said' status =
       In l l' said said' status ⊎ (HasNoState refuses path said said' status × (c' ≡ c) × (l' ≡ l))
 
   abbrev Left : (held held' : Option (List ℕ)) → Type 0
   Left held held' = ServedKept gives leaves is_clean path address sets services connections held held'
 
-  served_in : (loan : ℕ) (held : Option (List ℕ)) (l' : Log) (said said' : Option (List ℕ)) (status : ℕ)
+  served_in : (loan : ℕ) (held : Option (List ℕ)) (l' : Log) (said said' : Told) (status : ℕ)
       → connections < 2 ^ 64 → status ≡ 0 → In (plain_log loan held) l' said said' status → Left held l'.held
   served_in loan held l' said said' status small zero s =
       let well = closed_well path s.status s.closed status s.between said' (not_three status zero) s.is_closed in
@@ -89,20 +89,20 @@ module _ {K C I O : Type 0} (gives : List ℕ → EncoderState Store → K → T
         | inr (stop, three, runs, said_so) ↦ absurd (not_three s.status (well.1 ∙ zero) three)
       ]
 
-  pub has_served : (loan : ℕ) (held : Option (List ℕ)) (l' : Log) (said said' : Option (List ℕ)) (status : ℕ)
+  pub has_served : (loan : ℕ) (held : Option (List ℕ)) (l' : Log) (said said' : Told) (status : ℕ)
       → connections < 2 ^ 64 → status ≡ 0 → Serves (plain_log loan held) l' said said' status → Left held l'.held
   has_served loan held l' said said' status small zero (inl s) = served_in loan held l' said said' status small zero s
   has_served loan held l' said said' status small zero (inr (none, same, stays)) =
       absurd (not_three status zero none.2)
 
-  says_in : (l l' : Log) (said said' : Option (List ℕ)) → In l l' said said' 3 → SaysWhy path said said'
+  says_in : (l l' : Log) (said said' : Told) → In l l' said said' 3 → SaysWhy path said said'
   says_in l l' said said' s = elim s.runs [
     | inl (done, runs, same) ↦ unclosed path s.status s.closed said s.between said' done same s.is_closed
     | inr (stop, three, runs, said_so) ↦
         inr (stop, s.between, said_so, says_more path s.status s.closed 3 s.between said' s.is_closed)
   ]
 
-  pub says_why : (l l' : Log) (said said' : Option (List ℕ)) (status : ℕ) → status ≡ 3
+  pub says_why : (l l' : Log) (said said' : Told) (status : ℕ) → status ≡ 3
       → Serves l l' said said' status → SaysWhy path said said'
   says_why l l' said said' status three (inl s) =
       says_in l l' said said' (subst (In l l' said said') three s)

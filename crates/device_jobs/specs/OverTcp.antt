@@ -8,6 +8,7 @@ use Rattle.device_edges.specs.Place.{Listens, IsPlace, IsNoPlace}
 use Rattle.device_edges.specs.Screen.{Screening}
 use Rattle.device_serving.specs.Logging.{Log}
 use Rattle.device_jobs.specs.Limits.{limit_of}
+use Rattle.notices.specs.Told.{Told}
 
 -- The text of an address to listen at: this machine alone where none is given.
 abbrev pub listen_text : Option (List ℕ) → List ℕ
@@ -41,15 +42,15 @@ log_of job loan held = record {
 
 -- A device served so, and told it in the log that the job asks for.
 abbrev pub ServesTold : {C : Type 0}
-    → (serves : (c c' : C) → (l l' : Log) → (said said' : Option (List ℕ)) → (status : ℕ) → Type 0)
-    → EncoderOptions → (c c' : C) → (held held' said said' : Option (List ℕ)) → (status : ℕ) → Type 0
+    → (serves : (c c' : C) → (l l' : Log) → (said said' : Told) → (status : ℕ) → Type 0)
+    → EncoderOptions → (c c' : C) → (held held' : Option (List ℕ)) → (said said' : Told) → (status : ℕ) → Type 0
 ServesTold serves job c c' held held' said said' status =
     (loan : ℕ) × (l' : Log) × serves c c' (log_of job loan held) l' said said' status × (l'.held ≡ held')
 
 -- So over connections that came for the job. Or it did not begin, and told nothing.
 abbrev pub HasServedTcp :
-    (serves : (s s' : Screening Listens) → (l l' : Log) → (said said' : Option (List ℕ)) → (status : ℕ) → Type 0)
-    → EncoderOptions → (held held' said said' : Option (List ℕ)) → (status : ℕ) → Type 0
+    (serves : (s s' : Screening Listens) → (l l' : Log) → (said said' : Told) → (status : ℕ) → Type 0)
+    → EncoderOptions → (held held' : Option (List ℕ)) → (said said' : Told) → (status : ℕ) → Type 0
 HasServedTcp serves job held held' said said' status =
     ((s : Screening Listens) × (s' : Screening Listens) × ListensFor job s
     × ServesTold serves job s s' held held' said said' status)

@@ -5,11 +5,11 @@ use bad_line::{Rule, RulesFault, read_rules};
 use commands::EncoderOptions;
 use itoa::Buffer;
 use kept_jobs::fail_state;
+use notices::{Notices, NoticesTo, fail};
 use std::alloc::Global;
 use std::fs::{Files, OpenOptions};
 use std::io::Write;
-use uecp_jobs::fail;
-use uecp_text::{RunFault, read_all, write_parts};
+use uecp_text::{RunFault, read_all};
 
 /// Why there are no rules.
 #[derive(Debug, Drop)]
@@ -54,7 +54,7 @@ fn read_file<F: Files>(alloc: Global, path: &str, files: &F) -> Result<Vec<Rule>
 }
 
 /// Says why there are no rules, and answers the exit status.
-pub(crate) fn fail_faults<E: Write>(fault: &FaultsFault, errors: &mut E) -> u8
+pub(crate) fn fail_faults<E: Write>(fault: &FaultsFault, errors: &mut NoticesTo<E>) -> u8
     ensures { (2 ≤ result) × (result ≤ 3) }
 {
     match fault {
@@ -70,13 +70,10 @@ pub(crate) fn fail_faults<E: Write>(fault: &FaultsFault, errors: &mut E) -> u8
 }
 
 /// Says that the line of this number is no rule.
-fn say_no_rule<E: Write>(line: &[u8], errors: &mut E) {
-    let _ = write_parts(
-        &[
-            b"uecp: line ",
-            line,
-            b" of the file of faults: not a rule\n",
-        ],
-        errors,
-    );
+fn say_no_rule<E: Write>(line: &[u8], errors: &mut NoticesTo<E>) {
+    errors.say(&[
+        b"uecp: line ",
+        line,
+        b" of the file of faults: not a rule\n",
+    ]);
 }

@@ -18,6 +18,7 @@ use device_edges::{
 };
 use device_serving::LogLines;
 use kept_jobs::fail_state;
+use notices::{Notices, NoticesTo, fail};
 use state_jobs::OpenStates;
 use std::alloc::Global;
 use std::fs::Files;
@@ -25,9 +26,9 @@ use std::io;
 use std::io::{Read, Write};
 use std::net::{Net, SocketAddr, TcpListener, TcpStream};
 use std::time::Clock;
-use uecp_jobs::{Setup, fail, new_encoder};
+use uecp_jobs::{Setup, new_encoder};
 use uecp_net::Connections;
-use uecp_text::{RunFault, write_parts};
+use uecp_text::RunFault;
 
 /// Is the device that the job asks for, over TCP, and answers the exit status: that of
 /// [`run_device_from`](crate::run_device_from), or 2 where the address is none or a line of the file of faults is no
@@ -44,7 +45,7 @@ pub fn run_device_over_tcp<
     alloc: Global,
     job: &EncoderOptions,
     writer: &mut W,
-    errors: &mut E,
+    errors: &mut NoticesTo<E>,
     effects: &mut M,
     notices: &mut Q,
     net: &N,
@@ -60,7 +61,7 @@ pub fn run_device_over_tcp<
         (S.refuses_encoder states.now) (S.closes_encoder states.now) S.EncoderKeeper.TOGETHER_MAX
         S.EncoderKeeper.READ_MAX S.EncoderKeeper.leaves S.EncoderKeeper.is_clean S.EncoderKeeper.saves
         S.EncoderKeeper.fails job.now) job.now (W.contents writer.old) (W.contents writer.new)
-        (E.contents errors.old) (E.contents errors.new) result }
+        errors.old errors.new result }
 {
     match begin(alloc, job, net, errors) {
         Err(status) => status,
@@ -84,7 +85,7 @@ fn begin<'a, E: Write, N: Net<Listener = TcpListener, Stream = TcpStream> + Cloc
     alloc: Global,
     job: &EncoderOptions,
     net: &'a N,
-    errors: &mut E,
+    errors: &mut NoticesTo<E>,
 ) -> Result<Begun<'a, N>, u8>
     ensures place { IfOk result (λ begun. IsPlaceOf job.now begun.accepting.place) }
     ensures idle { IfOk result (λ begun. begun.accepting.idle ≡ limit_of job.now.idle) }
@@ -137,7 +138,7 @@ pub fn limit_of(seconds: u32) -> Option<u32>
 }
 
 /// Says why the job asks for no address and port, and answers the exit status.
-pub fn fail_address<E: Write>(fault: AddressFault, errors: &mut E) -> u8
+pub fn fail_address<E: Write>(fault: AddressFault, errors: &mut NoticesTo<E>) -> u8
     ensures { (2 ≤ result) × (result ≤ 3) }
 {
     let text = match fault {
@@ -151,7 +152,7 @@ pub fn fail_address<E: Write>(fault: AddressFault, errors: &mut E) -> u8
 }
 
 /// Says why nobody can listen there, and answers the exit status.
-pub fn fail_bind<E: Write>(fault: BindFault, errors: &mut E) -> u8
+pub fn fail_bind<E: Write>(fault: BindFault, errors: &mut NoticesTo<E>) -> u8
     ensures { (2 ≤ result) × (result ≤ 3) }
 {
     let status = fail(&RunFault::Listening, errors);
@@ -178,7 +179,7 @@ fn serve_with<
     job: &EncoderOptions,
     begun: Begun<'_, N>,
     writer: &mut W,
-    errors: &mut E,
+    errors: &mut NoticesTo<E>,
     notices: &mut Q,
     told: &Told<'_, M, N>,
     states: &S,
@@ -193,7 +194,7 @@ fn serve_with<
         (S.refuses_encoder states.now) (S.closes_encoder states.now) S.EncoderKeeper.TOGETHER_MAX
         S.EncoderKeeper.READ_MAX S.EncoderKeeper.leaves S.EncoderKeeper.is_clean S.EncoderKeeper.saves
         S.EncoderKeeper.fails job.now) job.now (W.contents writer.old) (W.contents writer.new)
-        (E.contents errors.old) (E.contents errors.new) result }
+        errors.old errors.new result }
 {
     let Begun {
         net,
@@ -226,7 +227,7 @@ fn serve_told<W: Write, E: Write, T: Clock, C: Connections, S: OpenStates>(
     job: &EncoderOptions,
     clock: Option<&T>,
     writer: &mut W,
-    errors: &mut E,
+    errors: &mut NoticesTo<E>,
     connect: &mut C,
     states: &S,
 ) -> u8
@@ -236,7 +237,7 @@ fn serve_told<W: Write, E: Write, T: Clock, C: Connections, S: OpenStates>(
         (S.gives_encoder states.now) (S.refuses_encoder states.now) (S.closes_encoder states.now)
         S.EncoderKeeper.TOGETHER_MAX S.EncoderKeeper.READ_MAX S.EncoderKeeper.leaves S.EncoderKeeper.is_clean
         S.EncoderKeeper.saves S.EncoderKeeper.fails job.now) job.now connect.old connect.new (W.contents writer.old)
-        (W.contents writer.new) (E.contents errors.old) (E.contents errors.new) result }
+        (W.contents writer.new) errors.old errors.new result }
 {
     let mut log = LogLines::new(alloc, job.form, clock, job.log, writer);
     let status = run_device_from(alloc, job, states, &mut log, errors, connect);
@@ -259,18 +260,18 @@ fn serve_restarting<
     job: &EncoderOptions,
     states: &S,
     log: &mut LogLines<'_, W, C>,
-    errors: &mut E,
+    errors: &mut NoticesTo<E>,
     faulty: &mut Faulty<'_, K, C, Told<'_, M, C>>,
     told: &Told<'_, M, C>,
 ) -> u8
     ensures { (result ≤ 3) × (result ≢ 1) }
 {
     for _restart in 0..u64::MAX {
-        let mut said = Said::new();
+        let mut said = NoticesTo::new(Said::new());
         let mut line = Restarting::new(faulty);
         let status = run_device_from(alloc, job, states, log, &mut said, &mut line);
         if !line.is_restart() {
-            let _ = write_parts(&[said.bytes()], errors);
+            errors.say(&[said.into_inner().bytes()]);
             return status;
         }
         told.tell_restart();

@@ -8,18 +8,20 @@ ghost use Rattle.state_jobs.specs.Kept.{SaysWhy};
 ghost use Rattle.device_serving.specs.Logging.{Log};
 ghost use Rattle.device_jobs.specs.Serving.{HasServedDevice};
 ghost use Rattle.device_jobs.specs.Kept.{HasServedKept, plain_log};
+ghost use Rattle.notices.specs.Told.{Says};
 
 use crate::limits::limits_of;
 use crate::serving::serve_in;
 use commands::EncoderOptions;
 use device_serving::LogLines;
+use notices::{NoticesTo, fail};
 use output_forms::Form;
 use state_jobs::OpenStates;
 use std::alloc::Global;
 use std::io;
 use std::io::{ErrorKind, Write};
 use std::time::{Clock, Duration};
-use uecp_jobs::{Setup, fail, new_encoder};
+use uecp_jobs::{Setup, new_encoder};
 use uecp_net::Connections;
 
 /// No clock: nobody asks it for the time.
@@ -51,7 +53,7 @@ pub fn run_encoder_in<S: OpenStates, W: Write, E: Write, C: Connections>(
     path: &str,
     states: &S,
     writer: &mut W,
-    errors: &mut E,
+    errors: &mut NoticesTo<E>,
     connect: &mut C,
 ) -> u8
     requires plain { is_device options.now ≡ false }
@@ -62,7 +64,7 @@ pub fn run_encoder_in<S: OpenStates, W: Write, E: Write, C: Connections>(
         (S.gives_encoder states.now) (S.refuses_encoder states.now) (S.closes_encoder states.now)
         S.EncoderKeeper.TOGETHER_MAX S.EncoderKeeper.READ_MAX S.EncoderKeeper.leaves S.EncoderKeeper.is_clean
         S.EncoderKeeper.saves S.EncoderKeeper.fails options.now connect.old connect.new
-        (plain_log loan (W.contents writer.old)) log (E.contents errors.old) (E.contents errors.new) result
+        (plain_log loan (W.contents writer.old)) log errors.old errors.new result
         × (log.held ≡ W.contents writer.new) }
     // 0: whatever the connections are, each has its line, and a crash leaves the encoder as the last one left it.
     ensures kept { result ≡ 0 → HasServedKept (S.gives_encoder states.now) S.EncoderKeeper.leaves
@@ -70,10 +72,10 @@ pub fn run_encoder_in<S: OpenStates, W: Write, E: Write, C: Connections>(
     // 0: nothing was said on `errors`.
     ensures same { result ≡ 0 → errors.new ≡ errors.old }
     // 2: the options describe no encoder. No state was opened, no connection, and nothing was written.
-    ensures undescribed { result ≡ 2 → IsUndescribed (EncoderWith options.now) (E.contents errors.old)
-        (E.contents errors.new) × (writer.new ≡ writer.old) × (connect.new ≡ connect.old) }
-    // 3: why was said, or begun to be said.
-    ensures said { result ≡ 3 → SaysWhy path.now (E.contents errors.old) (E.contents errors.new) }
+    ensures undescribed { result ≡ 2 → IsUndescribed (EncoderWith options.now) (Says errors.old errors.new)
+        × (writer.new ≡ writer.old) × (connect.new ≡ connect.old) }
+    // 3: why was said.
+    ensures said { result ≡ 3 → SaysWhy path.now errors.old errors.new }
 {
     let setup = Setup {
         site: options.site,

@@ -8,6 +8,7 @@ use crate::limits::limits_of;
 use commands::EncoderOptions;
 use device_serving::{Limits, LogLines, run_device};
 use kept_jobs::fail_state;
+use notices::{NoticesTo, fail};
 use rds_store::RdsStore;
 use state_jobs::{OpenStates, closed_so, state_text};
 use std::alloc::Global;
@@ -15,7 +16,7 @@ use std::io::Write;
 use std::time::Clock;
 use uecp_encoder::{Encoder, NotSaved};
 use uecp_frame::Address;
-use uecp_jobs::{Setup, fail, new_encoder};
+use uecp_jobs::{Setup, new_encoder};
 use uecp_net::Connections;
 
 /// Is the device that the job asks for, over connections that come from here, and answers the exit status: 0 all
@@ -28,15 +29,14 @@ pub fn run_device_from<S: OpenStates, W: Write, T: Clock, E: Write, C: Connectio
     job: &EncoderOptions,
     states: &S,
     log: &mut LogLines<'_, W, T>,
-    errors: &mut E,
+    errors: &mut NoticesTo<E>,
     connect: &mut C,
 ) -> u8
     ensures status { (result ≤ 3) × (result ≢ 1) }
     ensures serves { HasServedDevice C.opens C.closes C.Input.remaining C.Output.contents (S.gives_encoder states.now)
         (S.refuses_encoder states.now) (S.closes_encoder states.now) S.EncoderKeeper.TOGETHER_MAX
         S.EncoderKeeper.READ_MAX S.EncoderKeeper.leaves S.EncoderKeeper.is_clean S.EncoderKeeper.saves
-        S.EncoderKeeper.fails job.now connect.old connect.new log.old log.new (E.contents errors.old) (E.contents
-        errors.new) result }
+        S.EncoderKeeper.fails job.now connect.old connect.new log.old log.new errors.old errors.new result }
     ensures loan { log.new.loan ≡ log.old.loan }
 {
     let setup = Setup {
@@ -67,7 +67,7 @@ pub(crate) fn serve_in<S: OpenStates, W: Write, T: Clock, E: Write, C: Connectio
     path: &str,
     states: &S,
     log: &mut LogLines<'_, W, T>,
-    errors: &mut E,
+    errors: &mut NoticesTo<E>,
     connect: &mut C,
 ) -> u8
     requires { IsTrue (is_exact address) }
@@ -75,8 +75,8 @@ pub(crate) fn serve_in<S: OpenStates, W: Write, T: Clock, E: Write, C: Connectio
         S.EncoderKeeper.is_clean S.EncoderKeeper.saves S.EncoderKeeper.fails C.opens C.closes C.Input.remaining
         C.Output.contents limits.turns limits.connections limits.store (S.gives_encoder states.now) (S.closes_encoder
         states.now) path.now address setup.now.sets setup.now.services.now connect.old connect.new log.old log.new
-        (E.contents errors.old) (E.contents errors.new) result
-        ⊎ (HasNoState (S.refuses_encoder states.now) path.now (E.contents errors.old) (E.contents errors.new) result
+        errors.old errors.new result
+        ⊎ (HasNoState (S.refuses_encoder states.now) path.now errors.old errors.new result
         × (connect.new ≡ connect.old) × (log.new ≡ log.old)) }
     ensures status { (result ≡ 0) ⊎ (result ≡ 3) }
     ensures same { result ≡ 0 → errors.new ≡ errors.old }
@@ -97,15 +97,15 @@ fn serve_unkept<W: Write, T: Clock, E: Write, C: Connections>(
     limits: Limits,
     encoder: &mut Encoder<RdsStore>,
     log: &mut LogLines<'_, W, T>,
-    errors: &mut E,
+    errors: &mut NoticesTo<E>,
     connect: &mut C,
 ) -> u8
     requires { encoder.old ≡ encoder_at_first (options_in setup.now) }
     ensures status { (result ≡ 0) ⊎ (result ≡ 3) }
     ensures serves { ServesUnkept C.opens C.closes C.Input.remaining C.Output.contents (options_in setup.now)
         limits.turns
-        limits.connections limits.store connect.old connect.new log.old log.new (E.contents errors.old)
-        (E.contents errors.new) result }
+        limits.connections limits.store connect.old connect.new log.old log.new errors.old
+        errors.new result }
     ensures loan { log.new.loan ≡ log.old.loan }
 {
     run_device(limits, encoder, &mut NotSaved, log, errors, connect)

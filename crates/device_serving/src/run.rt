@@ -1,6 +1,5 @@
 //! The job of an encoder that runs for days. Source: profile.
 ghost use Rattle.std.specs.Prelude.{◌≡◌, ◌⊎◌, Ok, Err};
-ghost use Rattle.uecp_text.specs.Written.{Begins};
 ghost use Rattle.rds_store.specs.Value.{Store};
 ghost use Rattle.rds_store.specs.Step.{step};
 ghost use Rattle.uecp_encoder.specs.Keeping.{Kept, Settled};
@@ -8,10 +7,12 @@ ghost use Rattle.kept_jobs.specs.declared.stop.KeptStop.{KeptStop};
 ghost use Rattle.kept_jobs.specs.Stops.{stop_lines};
 ghost use Rattle.device_serving.specs.DeviceRun.{ServesNext, ServesFrom, RunsDevice, OutlivesRun};
 ghost use Rattle.device_serving.specs.DeviceRun.{TellsStore, went, went_after, ended_so};
+ghost use Rattle.notices.specs.Told.{Says};
 
 use crate::limits::Limits;
 use crate::log_lines::{LogFault, LogLines};
 use kept_jobs::{KeptStop, fail_run};
+use notices::NoticesTo;
 use rds_store::RdsStore;
 use std::io::Write;
 use std::time::Clock;
@@ -42,7 +43,7 @@ pub fn run_device<
     encoder: &mut Encoder<RdsStore>,
     keeper: &mut K,
     log: &mut LogLines<'_, W, Clk>,
-    errors: &mut E,
+    errors: &mut NoticesTo<E>,
     connect: &mut C,
 ) -> u8
     ensures status { (result ≡ 0) ⊎ (result ≡ 3) }
@@ -59,7 +60,7 @@ pub fn run_device<
           connect = connect.new;
           log = log.new;
         }) (Ok tt) × (errors.new ≡ errors.old) }
-    // 3: some were served up to one at which the run stopped, and why was said, or begun to be said.
+    // 3: some were served up to one at which the run stopped, and why was said.
     ensures failed { result ≡ 3 → (stop : KeptStop) × RunsDevice K.TOGETHER_MAX K.READ_MAX K.leaves K.is_clean K.saves
         K.fails C.opens C.closes C.Input.remaining C.Output.contents limits.turns limits.connections limits.store
         (record {
@@ -72,7 +73,7 @@ pub fn run_device<
           keeper = keeper.new;
           connect = connect.new;
           log = log.new;
-        }) (Err stop) × Begins (E.contents errors.old) (E.contents errors.new) (stop_lines stop) }
+        }) (Err stop) × Says errors.old errors.new (stop_lines stop) }
     // 0: whatever a crash leaves is the encoder.
     ensures settled { result ≡ 0 → Settled (K.leaves keeper.old) encoder.old → K.is_clean keeper.new
         → Settled (K.leaves keeper.new) encoder.new }

@@ -9,7 +9,6 @@ use Rattle.uecp_text.specs.declared.run_fault.RunFault.TheVariants as run
 use Rattle.uecp_text.specs.Faults.{status_of, error_lines}
 use Rattle.uecp_text.specs.Input.{texts_of}
 use Rattle.uecp_text.specs.Run.{IsInput, IsUnread, StopsReading}
-use Rattle.uecp_text.specs.Written.{Begins}
 use Rattle.uecp_link.specs.declared.counts.ServerCounts.{ServerCounts}
 use Rattle.uecp_link.specs.Server.{ServerState, waiting}
 use Rattle.uecp_net.specs.declared.sender.Limits.{Limits}
@@ -455,28 +454,28 @@ module _ {C I O K : Type 0} (opens : C → Option (I × O) → C → Type 0) (cl
       inr (same_reason k' stop (Run fault) (unread_status unread unread' fault why, tt) is)
 
   -- what is said of a run that stopped
-  pub record Said (unread unread' : Option (List ℕ)) (x : Was) (k' : K) (answer : ℕ) (told told' : Option (List ℕ))
+  pub record Said (unread unread' : Option (List ℕ)) (x : Was) (k' : K) (answer : ℕ) (says : List ℕ → Type 0)
       : Type 0 where
     pub status : (answer ≡ 0) ⊎ (answer ≡ 1) ⊎ (answer ≡ 3)
     pub not_done : answer ≡ 0 → ⊥
     pub refused : answer ≡ 1 → (fault : RunFault) × IsReadWith (Some fault) unread unread'
-        × Begins told told' (error_lines fault)
-    pub failed : answer ≡ 3 → (stop : KeptStop) × IsReasonFor fails k' stop × Begins told told' (stop_lines stop)
+        × says (error_lines fault)
+    pub failed : answer ≡ 3 → (stop : KeptStop) × IsReasonFor fails k' stop × says (stop_lines stop)
     pub kept : (answer ≡ 0) ⊎ (answer ≡ 1) → IsKept (leaves x.keeper) x.progress x.runs → is_clean k'
         → (left : KeptServer) → leaves k' left → HasTakenInput unread unread' x.progress left
 
   pub said_so : (unread unread' : Option (List ℕ)) (x : Was) (k' : K) (stop : KeptStop) (answer : ℕ)
-      (told told' : Option (List ℕ)) → Stopped unread unread' x k' stop → answer ≡ stop_status stop
-      → Begins told told' (stop_lines stop) → Said unread unread' x k' answer told told'
-  said_so unread unread' x k' stop answer told told' (inl (fault, same, one, read, kept)) is said =
+      (says : List ℕ → Type 0) → Stopped unread unread' x k' stop → answer ≡ stop_status stop
+      → says (stop_lines stop) → Said unread unread' x k' answer says
+  said_so unread unread' x k' stop answer says (inl (fault, same, one, read, kept)) is said =
       let is_one : answer ≡ 1 = is ∙ one in record {
         status = inr (inl is_one);
         not_done = λ zero_is. absurd (let no : 0 ≡ 1 = sym zero_is ∙ is_one in cc);
-        refused = λ it_is. (fault, read, subst (λ s. Begins told told' (stop_lines s)) same said);
+        refused = λ it_is. (fault, read, subst (λ s. says (stop_lines s)) same said);
         failed = λ three_is. absurd (let no : 3 ≡ 1 = sym three_is ∙ is_one in cc);
         kept = λ some. kept;
       }
-  said_so unread unread' x k' stop answer told told' (inr (three, reason)) is said =
+  said_so unread unread' x k' stop answer says (inr (three, reason)) is said =
       let is_three : answer ≡ 3 = is ∙ three in record {
         status = inr (inr is_three);
         not_done = λ zero_is. absurd (let no : 0 ≡ 3 = sym zero_is ∙ is_three in cc);

@@ -6,7 +6,6 @@ use Rattle.uecp_text.specs.declared.run_fault.RunFault.{RunFault}
 use Rattle.uecp_text.specs.declared.run_fault.RunFault.TheVariants as run
 use Rattle.uecp_text.specs.Input.{texts_of}
 use Rattle.uecp_text.specs.Run.{IsInput, IsUnread}
-use Rattle.uecp_text.specs.Written.{Begins}
 use Rattle.uecp_link.specs.declared.counts.ServerCounts.{ServerCounts}
 use Rattle.uecp_link.specs.Server.{ServerState, idle_at, waiting}
 use Rattle.uecp_net.specs.declared.sender.Limits.{Limits}
@@ -237,7 +236,7 @@ module _ {C I O K : Type 0} (opens : C → Option (I × O) → C → Type 0) (cl
       × (went ≡ Err (Run fault)) × (c' ≡ c) × (k' ≡ x.keeper) × (held' ≡ x.held))
 
 -- How a run that went so is told: nothing is said on standard error where it was done, and the status is 0; else why it
--- stopped was said, or begun to be said, and the status is that of the stop.
-abbrev pub IsTold : Went → (status : ℕ) → (told told' : Option (List ℕ)) → Type 0
-IsTold (Ok done) status told told' = (status ≡ 0) × (told' ≡ told)
-IsTold (Err stop) status told told' = (status ≡ stop_status stop) × Begins told told' (stop_lines stop)
+-- stopped was said, and the status is that of the stop.
+abbrev pub IsTold : {E : Type 0} → (says : E → E → List ℕ → Type 0) → Went → (status : ℕ) → (told told' : E) → Type 0
+IsTold says (Ok done) status told told' = (status ≡ 0) × (told' ≡ told)
+IsTold says (Err stop) status told told' = (status ≡ stop_status stop) × says told told' (stop_lines stop)

@@ -6,7 +6,6 @@ ghost use Rattle.uecp_jobs.specs.Batches.{batch_size};
 ghost use Rattle.uecp_jobs.specs.Messages.{messages_first, refusal_in};
 ghost use Rattle.uecp_text.specs.declared.run_fault.RunFault.{RunFault};
 ghost use Rattle.uecp_text.specs.Faults.{error_lines};
-ghost use Rattle.uecp_text.specs.Written.{Begins};
 ghost use Rattle.uecp_net.specs.Keeping.{KeptServer, IsKept};
 ghost use Rattle.kept_jobs.specs.declared.stop.KeptStop.{KeptStop};
 ghost use Rattle.kept_jobs.specs.Stops.{Went, stop_lines};
@@ -17,6 +16,7 @@ ghost use Rattle.kept_jobs.specs.ServerRun.{is_due};
 use crate::batches::{join_if, send_batches, settle_first};
 use crate::beginning::begin;
 use crate::stop::{KeptStop, fail_run};
+use notices::Notices;
 use std::alloc::Global;
 use std::io::{Read, Write};
 use uecp_encoder::Keep;
@@ -52,7 +52,7 @@ pub struct Start {
 ///     alloc, &options, Start { server, progress }, &mut keeper, &mut input, &mut output, &mut errors, &mut connecting,
 /// );
 /// ```
-pub fn run_server_kept<K: Keep<SavedServer>, R: Read, W: Write, E: Write, C: Connections>(
+pub fn run_server_kept<K: Keep<SavedServer>, R: Read, W: Write, E: Notices, C: Connections>(
     alloc: Global,
     options: &ServerSetup,
     start: Start,
@@ -72,17 +72,17 @@ pub fn run_server_kept<K: Keep<SavedServer>, R: Read, W: Write, E: Write, C: Con
           progress = start.progress;
           held = W.contents writer.old;
         }) keeper.new (W.contents writer.new) went
-        × IsTold went result (E.contents errors.old) (E.contents errors.new) }
+        × IsTold E.says went result errors.old errors.new }
     ensures status { (result ≡ 0) ⊎ (result ≡ 1) ⊎ (result ≡ 3) }
     // 0: the input was read to its end, and no line of it is refused. Nothing was said on `errors`.
     ensures done { result ≡ 0 → IsReadWith None (R.remaining reader.old) (R.remaining reader.new)
         × (errors.new ≡ errors.old) }
-    // 1: a line of it is refused, and its number and fault were said, or begun to be said.
+    // 1: a line of it is refused, and its number and fault were said.
     ensures refused { result ≡ 1 → (fault : RunFault) × IsReadWith (Some fault) (R.remaining reader.old)
-        (R.remaining reader.new) × Begins (E.contents errors.old) (E.contents errors.new) (error_lines fault) }
-    // 3: why the run stopped was said, or begun to be said; that the state failed only where a save did.
+        (R.remaining reader.new) × E.says errors.old errors.new (error_lines fault) }
+    // 3: why the run stopped was said; that the state failed only where a save did.
     ensures failed { result ≡ 3 → (stop : KeptStop) × IsReasonFor K.fails keeper.new stop
-        × Begins (E.contents errors.old) (E.contents errors.new) (stop_lines stop) }
+        × E.says errors.old errors.new (stop_lines stop) }
     // 0 or 1: whatever a crash leaves has taken all messages of the input, or all before the line that is refused, and
     // none of them waits, nor any that waited before.
     ensures kept { (result ≡ 0) ⊎ (result ≡ 1) → IsKept (K.leaves keeper.old) start.progress start.server

@@ -1,12 +1,10 @@
 //! Why a run stops whose state is kept, and what is said of that. Source: profile.
 ghost use Rattle.std.specs.Prelude.{◌≡◌, Err};
-ghost use Rattle.uecp_text.specs.Written.{Begins};
 ghost use Rattle.kept_jobs.specs.Stops.{stop_status, stop_lines, state_line};
 ghost use Rattle.kept_jobs.specs.declared.stop.KeptStop.TheVariants.{Run};
 
-use std::io::Write;
-use uecp_jobs::fail;
-use uecp_text::{RunFault, write_parts};
+use notices::{Notices, fail};
+use uecp_text::RunFault;
 
 /// Why a run stopped whose state is kept.
 #[derive(Debug, Drop)]
@@ -30,9 +28,9 @@ impl From<RunFault> for KeptStop {
 
 /// Says on the writer of errors why a run stopped, and answers its status. A text that can't be written changes
 /// nothing.
-pub fn fail_run<E: Write>(stop: &KeptStop, errors: &mut E) -> u8
+pub fn fail_run<E: Notices>(stop: &KeptStop, errors: &mut E) -> u8
     ensures status { result ≡ stop_status stop.now }
-    ensures said { Begins (E.contents errors.old) (E.contents errors.new) (stop_lines stop.now) }
+    ensures said { E.says errors.old errors.new (stop_lines stop.now) }
 {
     match stop {
         KeptStop::Run(fault) => fail(fault, errors),
@@ -47,10 +45,10 @@ pub fn fail_run<E: Write>(stop: &KeptStop, errors: &mut E) -> u8
 
 /// Says on the writer of errors why a state can't be kept, as `state in use`, and answers the status of that, 3. A text
 /// that can't be written changes nothing.
-pub fn fail_state<E: Write>(text: &str, errors: &mut E) -> u8
+pub fn fail_state<E: Notices>(text: &str, errors: &mut E) -> u8
     ensures status { result ≡ 3 }
-    ensures said { Begins (E.contents errors.old) (E.contents errors.new) (state_line text.now) }
+    ensures said { E.says errors.old errors.new (state_line text.now) }
 {
-    let _ = write_parts(&[b"uecp: ", text.as_bytes(), b"\n"], errors);
+    errors.say(&[b"uecp: ", text.as_bytes(), b"\n"]);
     3
 }

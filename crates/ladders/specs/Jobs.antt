@@ -4,7 +4,6 @@ use Rattle.std.specs.Io.KnownBytes.{Appends}
 use Rattle.uecp_text.specs.declared.run_fault.RunFault.{RunFault}
 use Rattle.uecp_text.specs.Faults.{status_of, error_lines}
 use Rattle.uecp_text.specs.Run.{IsInput, Prints, Breaks}
-use Rattle.uecp_text.specs.Written.{Begins}
 use Rattle.uecp_jobs.specs.Setups.{Options, IsSetup, RefusesSetup, line_at_first}
 use Rattle.uecp_jobs.specs.Setups as setup
 use Rattle.commands.specs.declared.line_options.LadderForm.{LadderForm}
@@ -53,18 +52,18 @@ DoesLadder job unread unread' held held' result =
 abbrev pub IsDone : LadderJob → (unread unread' held held' : Option (List ℕ)) → Type 0
 IsDone job unread unread' held held' = IsSetup (options_of job) × Wrote job unread unread' (Ok tt) held held'
 
--- A line was refused: nothing was written, and what is wrong with it was said, or begun to be.
-abbrev pub IsRefused : LadderJob → (unread unread' held held' told told' : Option (List ℕ)) → Type 0
-IsRefused job unread unread' held held' told told' =
+-- A line was refused: nothing was written, and what is wrong with it was said.
+abbrev pub IsRefused : LadderJob → (unread unread' held held' : Option (List ℕ)) → (says : List ℕ → Type 0) → Type 0
+IsRefused job unread unread' held held' says =
     (fault : RunFault) × (status_of fault ≡ 1) × Wrote job unread unread' (Err fault) held held'
-    × Begins told told' (error_lines fault)
+    × says (error_lines fault)
 
--- The options describe no encoder, and that was said, or begun to be.
-abbrev pub IsUndescribed : LadderJob → (told told' : Option (List ℕ)) → Type 0
-IsUndescribed job told told' =
-    (fault : RunFault) × RefusesSetup (options_of job) fault × Begins told told' (error_lines fault)
+-- The options describe no encoder, and that was said.
+abbrev pub IsUndescribed : LadderJob → (says : List ℕ → Type 0) → Type 0
+IsUndescribed job says =
+    (fault : RunFault) × RefusesSetup (options_of job) fault × says (error_lines fault)
 
--- Memory, reading or writing failed, and that was said, or begun to be.
-abbrev pub HasFailed : LadderJob → (unread unread' held held' told told' : Option (List ℕ)) → Type 0
-HasFailed job unread unread' held held' told told' =
-    (fault : RunFault) × LadderBreaks job unread unread' held held' fault × Begins told told' (error_lines fault)
+-- Memory, reading or writing failed, and that was said.
+abbrev pub HasFailed : LadderJob → (unread unread' held held' : Option (List ℕ)) → (says : List ℕ → Type 0) → Type 0
+HasFailed job unread unread' held held' says =
+    (fault : RunFault) × LadderBreaks job unread unread' held held' fault × says (error_lines fault)

@@ -7,9 +7,10 @@ ghost use Rattle.ladders.specs.Jobs.{options_of, IsDone, IsRefused, IsUndescribe
 
 use crate::playing::Drawing;
 use commands::LadderForm;
+use notices::{Notices, fail};
 use std::alloc::Global;
 use std::io::{Read, Write};
-use uecp_jobs::{Setup, fail};
+use uecp_jobs::Setup;
 use uecp_text::{RunFault, run};
 
 /// What is asked of the command `line` that draws a ladder.
@@ -24,7 +25,7 @@ pub struct LadderJob<'a> {
 /// Does the job and answers the exit status: 0 done, 1 a line was refused, 2 the services were refused, 3 memory,
 /// reading or writing failed. Nothing is drawn of a script with a line that is refused. Why a run stopped is said on
 /// `errors`, as far as that takes it.
-pub fn run_ladder<R: Read, W: Write, E: Write>(
+pub fn run_ladder<R: Read, W: Write, E: Notices>(
     alloc: Global,
     job: &LadderJob<'_>,
     reader: &mut R,
@@ -35,11 +36,11 @@ pub fn run_ladder<R: Read, W: Write, E: Write>(
     ensures done { result ≡ 0 → IsDone job.now (R.remaining reader.old) (R.remaining reader.new) (W.contents writer.old)
         (W.contents writer.new) × (errors.new ≡ errors.old) }
     ensures refused { result ≡ 1 → IsRefused job.now (R.remaining reader.old) (R.remaining reader.new)
-        (W.contents writer.old) (W.contents writer.new) (E.contents errors.old) (E.contents errors.new) }
-    ensures undescribed { result ≡ 2 → IsUndescribed job.now (E.contents errors.old) (E.contents errors.new)
+        (W.contents writer.old) (W.contents writer.new) (E.says errors.old errors.new) }
+    ensures undescribed { result ≡ 2 → IsUndescribed job.now (E.says errors.old errors.new)
         × (reader.new ≡ reader.old) × (writer.new ≡ writer.old) }
     ensures failed { result ≡ 3 → HasFailed job.now (R.remaining reader.old) (R.remaining reader.new)
-        (W.contents writer.old) (W.contents writer.new) (E.contents errors.old) (E.contents errors.new) }
+        (W.contents writer.old) (W.contents writer.new) (E.says errors.old errors.new) }
 {
     match draw_ladder(alloc, job, reader, writer) {
         Ok(()) => 0,

@@ -10,12 +10,12 @@ use Rattle.uecp_text.specs.declared.run_fault.RunFault.TheVariants.{Reading, Out
 use Rattle.uecp_text.specs.Faults.{error_lines}
 use Rattle.uecp_text.specs.Input.{said}
 use Rattle.uecp_text.specs.Run.{fault_at}
-use Rattle.uecp_text.specs.Written.{Begins}
 use Rattle.line_feed.specs.declared.feed_fault.FeedFault.TheVariants as feed
 use Rattle.line_feed.specs.Lines.{IsFirstLine, IsUntaken}
 use Rattle.line_batches.specs.declared.intake.Given.{Given}
 use Rattle.line_batches.specs.declared.intake.Given.TheVariants.{Nothing, Gives, Refused}
 use Rattle.phrase_scripts.specs.Lines.{Begins as Heads, Says, SaysLine, SaysNothing, IsUnsaid}
+use Rattle.notices.specs.Told.{Told, Says as IsSaid}
 
 -- A text is refused for this: it says nothing; or it is the heading of a frame, which is no matter of a server.
 abbrev pub RefusesText : Region → (text : List ℕ) → TextFault → Type 0
@@ -59,12 +59,12 @@ pub record Intake : Type 0 where
   pub unread : Option (List ℕ)
   pub lines : ℕ
   pub refused : Bool
-  pub said : Option (List ℕ)
+  pub said : Told
 
 -- What is said of a line that gives this: of one that is refused its number and its fault, as far as that could be
 -- written, and of another nothing.
-abbrev pub SaysOf : Given → (number : ℕ) → (said said' : Option (List ℕ)) → Type 0
-SaysOf (Refused fault) number said said' = Begins said said' (error_lines (fault_at number fault))
+abbrev pub SaysOf : Given → (number : ℕ) → (said said' : Told) → Type 0
+SaysOf (Refused fault) number said said' = IsSaid said said' (error_lines (fault_at number fault))
 SaysOf given number said said' = said' ≡ said
 
 -- Whether the line was refused.

@@ -8,11 +8,12 @@ ghost use Rattle.line_batches.specs.Batches.{TakesBatch, TakesInto, PutsGiven};
 
 use crate::intake::{Given, read_line};
 use line_feed::{Feed, FeedFault, Next};
+use notices::{Notices, NoticesTo};
 use rds_text::Region;
 use std::alloc::Global;
 use std::io::Write;
 use uecp_frame::Message;
-use uecp_text::{RunFault, TextFault, report};
+use uecp_text::{RunFault, TextFault};
 
 /// What was taken so far.
 #[derive(Clone, Copy, Debug, PartialEq, Eq)]
@@ -50,7 +51,7 @@ pub fn take_batch<F: Feed, E: Write>(
     reading: &Reading,
     feed: &mut F,
     line: &mut Vec<u8>,
-    errors: &mut E,
+    errors: &mut NoticesTo<E>,
     tally: &mut Tally,
     batch: &mut Vec<Message>,
 ) -> After
@@ -60,12 +61,12 @@ pub fn take_batch<F: Feed, E: Write>(
       unread = F.remaining feed.old;
       lines = tally.old.lines;
       refused = tally.old.refused;
-      said = E.contents errors.old;
+      said = errors.old;
     }) (record {
       unread = F.remaining feed.new;
       lines = tally.new.lines;
       refused = tally.new.refused;
-      said = E.contents errors.new;
+      said = errors.new;
     }) }
 {
     for _line in 0..u64::MAX {
@@ -82,7 +83,7 @@ fn take_one<F: Feed, E: Write>(
     reading: &Reading,
     feed: &mut F,
     line: &mut Vec<u8>,
-    errors: &mut E,
+    errors: &mut NoticesTo<E>,
     tally: &mut Tally,
     batch: &mut Vec<Message>,
 ) -> Option<After>
@@ -91,12 +92,12 @@ fn take_one<F: Feed, E: Write>(
       unread = F.remaining feed.old;
       lines = tally.old.lines;
       refused = tally.old.refused;
-      said = E.contents errors.old;
+      said = errors.old;
     }) (record {
       unread = F.remaining feed.new;
       lines = tally.new.lines;
       refused = tally.new.refused;
-      said = E.contents errors.new;
+      said = errors.new;
     }) batch.old.items batch.new.items result }
 {
     match take_line(alloc, reading.region, feed, line, errors, tally) {
@@ -170,30 +171,30 @@ fn take_line<F: Feed, E: Write>(
     region: Region,
     feed: &mut F,
     line: &mut Vec<u8>,
-    errors: &mut E,
+    errors: &mut NoticesTo<E>,
     tally: &mut Tally,
 ) -> Result<Option<Given>, RunFault>
     ensures taken { IfOk result (TakesOne region (record {
       unread = F.remaining feed.old;
       lines = tally.old.lines;
       refused = tally.old.refused;
-      said = E.contents errors.old;
+      said = errors.old;
     }) (record {
       unread = F.remaining feed.new;
       lines = tally.new.lines;
       refused = tally.new.refused;
-      said = E.contents errors.new;
+      said = errors.new;
     })) }
     ensures failed { IfErr result (FailsToTake (record {
       unread = F.remaining feed.old;
       lines = tally.old.lines;
       refused = tally.old.refused;
-      said = E.contents errors.old;
+      said = errors.old;
     }) (record {
       unread = F.remaining feed.new;
       lines = tally.new.lines;
       refused = tally.new.refused;
-      said = E.contents errors.new;
+      said = errors.new;
     })) }
 {
     let Some(given) = next_given(alloc, region, feed, line)? else {
@@ -228,14 +229,14 @@ fn next_given<F: Feed>(
 }
 
 /// Counts a line, and says what is wrong with one that is refused.
-fn count_line<E: Write>(given: &Given, errors: &mut E, tally: &mut Tally)
+fn count_line<E: Write>(given: &Given, errors: &mut NoticesTo<E>, tally: &mut Tally)
     ensures lines { tally.new.lines ≡ min (tally.old.lines + 1) (2 ^ 64 - 1) }
     ensures refused { tally.new.refused ≡ tally.old.refused || is_refusal given.now }
-    ensures said { SaysOf given.now tally.new.lines (E.contents errors.old) (E.contents errors.new) }
+    ensures said { SaysOf given.now tally.new.lines errors.old errors.new }
 {
     tally.lines = tally.lines.saturating_add(1);
     if let Given::Refused(fault) = given {
         tally.refused = true;
-        let _ = report(&fault.at(tally.lines), errors);
+        errors.report(&fault.at(tally.lines));
     }
 }

@@ -1,5 +1,5 @@
 -- Which exit statuses there are.
-use Rattle.std.proofs.Common.{◌≤◌, ℕ, List, Option, Result, Ok, Err, inl, inr, arith}
+use Rattle.std.proofs.Common.{◌≤◌, ℕ, List, Result, Ok, Err, inl, inr, arith}
 use Rattle.uecp_text.specs.declared.run_fault.RunFault.{RunFault}
 use Rattle.uecp_text.specs.declared.run_fault.RunFault.TheVariants as run
 use Rattle.uecp_text.specs.Faults.{status_of}
@@ -10,6 +10,7 @@ use Rattle.device_jobs.specs.Limits.{options_of}
 use Rattle.device_jobs.specs.Serving.{IsNoEncoder}
 use Rattle.commands.specs.declared.encoder_options.EncoderOptions.{EncoderOptions}
 use Rattle.on_air_jobs.specs.OverTcp.{HasNotAired}
+use Rattle.notices.specs.Told.{Told}
 
 -- the status of a run that stopped
 pub few_of : (fault : RunFault) → status_of fault ≤ 3
@@ -25,11 +26,11 @@ few_of run.Listening = omega arith
 few_of run.Connection = omega arith
 few_of run.Outstanding = omega arith
 
-no_encoder : (o : Options) (said said' : Option (List ℕ)) (status : ℕ) → IsNoEncoder o said said' status → status ≤ 3
+no_encoder : (o : Options) (said said' : Told) (status : ℕ) → IsNoEncoder o said said' status → status ≤ 3
 no_encoder o said said' status is = omega (arith, is.2, few_of is.0)
 
 -- where nothing was begun
-pub not_aired : (job : EncoderOptions) (said said' : Option (List ℕ)) (status : ℕ) → HasNotAired job said said' status
+pub not_aired : (job : EncoderOptions) (said said' : Told) (status : ℕ) → HasNotAired job said said' status
     → status ≤ 3
 not_aired job said said' status not_begun = elim not_begun [
   | inl no_air ↦ omega (arith, no_air.1)
@@ -47,6 +48,6 @@ not_aired job said said' status not_begun = elim not_begun [
 
 -- where a state was closed behind a run
 pub closed : (path : List ℕ) (status : ℕ) (ended : Result (Unit {0}) StateFault) (status' : ℕ)
-    (said said' : Option (List ℕ)) → status ≤ 3 → IsClosed path status ended status' said said' → status' ≤ 3
+    (said said' : Told) → status ≤ 3 → IsClosed path status ended status' said said' → status' ≤ 3
 closed path status (Ok done) status' said said' few is = omega (arith, few, is.0)
 closed path status (Err fault) status' said said' few is = omega (arith, is.0)

@@ -4,7 +4,6 @@ use Rattle.std.specs.Prelude.{is_some}
 use Rattle.std.specs.Net.Socket.{socket_ip, socket_port}
 use Rattle.rds_groups.specs.declared.group.Group.{Group}
 use Rattle.rds_store.specs.Value.{Store}
-use Rattle.uecp_text.specs.Written.{Begins}
 use Rattle.uecp_encoder.specs.State.{EncoderState}
 use Rattle.uecp_encoder.specs.Keeping.{Kept}
 use Rattle.uecp_jobs.specs.Setups.{IsSetup}
@@ -24,6 +23,7 @@ use Rattle.air_edges.specs.Places.{Listening, OpensOne}
 use Rattle.air_edges.specs.Edge.{Edge, edge_at_first, Waits, ClosesEnds, SendsGroup}
 use Rattle.commands.specs.declared.encoder_options.EncoderOptions.{EncoderOptions}
 use Rattle.on_air_jobs.specs.Serving.{HasBeenOnAir}
+use Rattle.notices.specs.Told.{Told, Says}
 
 -- The studio connects at the address and the port of the job; those who listen to the air, at the same address and the
 -- port of the air.
@@ -58,10 +58,10 @@ pub record IsLogOf (job : EncoderOptions) (held : Option (List ℕ)) (log : Log)
 
 -- The job could not be begun: it has no port of the air, or a bad line too, or its address is none, or its options
 -- describe no encoder; or nobody can listen there, or memory was wanting. Nothing was waited for or sent.
-abbrev pub HasNotAired : EncoderOptions → (said said' : Option (List ℕ)) → (status : ℕ) → Type 0
+abbrev pub HasNotAired : EncoderOptions → (said said' : Told) → (status : ℕ) → Type 0
 HasNotAired job said said' status =
-    ((job.air ≡ None) × (status ≡ 2) × Begins said said' (state_line (codes "air-bits: without --air")))
-    ⊎ ((is_some job.faults ≡ true) × (status ≡ 2) × Begins said said' (state_line (codes "air: not with --faults")))
+    ((job.air ≡ None) × (status ≡ 2) × Says said said' (state_line (codes "air-bits: without --air")))
+    ⊎ ((is_some job.faults ≡ true) × (status ≡ 2) × Says said said' (state_line (codes "air: not with --faults")))
     ⊎ ((fault : AddressFault) × IsNoPlaceOf job fault
     × (2 ≤ status) × (status ≤ 3))
     ⊎ IsNoEncoder (options_of job) said said' status
@@ -76,7 +76,8 @@ module _ {H I O K : Type 0} (waits : Edge (Screening Listening) H → Bool → M
     (refuses : List ℕ → StateFault → Type 0) (ends : K → Result (Unit {0}) StateFault → Type 0) (most room : ℕ)
     (leaves : K → Kept Store → Type 0) (is_clean : K → Type 0) (saves fails : K → Kept Store → K → Type 0) where
   -- A device was on the air, as `run_on_air_from` says, over the job's edge and from its log; or it could not be begun.
-  abbrev pub HasAired : EncoderOptions → (told : Option (List ℕ)) → Notice → (held said said' : Option (List ℕ))
+  abbrev pub HasAired : EncoderOptions → (told : Option (List ℕ)) → Notice → (held : Option (List ℕ))
+      → (said said' : Told)
       → (status : ℕ) → Type 0
   HasAired job told notice held said said' status =
       ((edge : Edge (Screening Listening) H) × (edge' : Edge (Screening Listening) H) × (log : Log) × (log' : Log)
@@ -114,7 +115,8 @@ module _ {J O K : Type 0} (screened : Screen J → Option (List ℕ)) (contents 
     (ends : K → Result (Unit {0}) StateFault → Type 0) (most room : ℕ) (leaves : K → Kept Store → Type 0)
     (is_clean : K → Type 0) (saves fails : K → Kept Store → K → Type 0) where
   -- A device was on the air so over them, or could not be begun.
-  abbrev pub HasAiredTcp : EncoderOptions → (told : Option (List ℕ)) → Notice → (held said said' : Option (List ℕ))
+  abbrev pub HasAiredTcp : EncoderOptions → (told : Option (List ℕ)) → Notice → (held : Option (List ℕ))
+      → (said said' : Told)
       → (status : ℕ) → Type 0
   HasAiredTcp =
       HasAired {H = O} {I = Screen J} {O = O} (λ e is_open moment e'. WaitsTcp e is_open moment e')

@@ -13,12 +13,13 @@ use device_edges::{BindFault, Idle, Screened};
 use device_jobs::{address_of, fail_address, fail_bind, limit_of};
 use device_serving::LogLines;
 use kept_jobs::fail_state;
+use notices::{NoticesTo, fail};
 use state_jobs::OpenStates;
 use std::alloc::Global;
 use std::io::{Read, Write};
 use std::net::{Net, SocketAddr, TcpListener, TcpStream};
 use std::time::Clock;
-use uecp_jobs::{Setup, fail, new_encoder};
+use uecp_jobs::{Setup, new_encoder};
 
 /// Is the device on the air that the job asks for, over TCP, and answers the exit status: that of
 /// [`run_on_air_from`](crate::run_on_air_from), or 2 where the address is none, the options describe no encoder, or a
@@ -36,7 +37,7 @@ pub fn run_on_air_over_tcp<
     alloc: Global,
     job: &EncoderOptions,
     writer: &mut W,
-    errors: &mut E,
+    errors: &mut NoticesTo<E>,
     notices: &'a mut M,
     foreign: &'a mut M,
     net: &'a N,
@@ -47,7 +48,7 @@ pub fn run_on_air_over_tcp<
         (S.gives_encoder states.now) (S.refuses_encoder states.now) (S.closes_encoder states.now)
         S.EncoderKeeper.TOGETHER_MAX S.EncoderKeeper.READ_MAX S.EncoderKeeper.leaves S.EncoderKeeper.is_clean
         S.EncoderKeeper.saves S.EncoderKeeper.fails job.now (M.contents notices.old) (unsaid (M.contents foreign.old))
-        (W.contents writer.old) (E.contents errors.old) (E.contents errors.new) result }
+        (W.contents writer.old) errors.old errors.new result }
 {
     let places = match begin(alloc, job, errors) {
         Ok(places) => places,
@@ -63,10 +64,14 @@ pub fn run_on_air_over_tcp<
 }
 
 /// Where the job has it listen, once its options are judged; or the exit status, and why was said.
-fn begin<E: Write>(alloc: Global, job: &EncoderOptions, errors: &mut E) -> Result<Addresses, u8>
+fn begin<E: Write>(
+    alloc: Global,
+    job: &EncoderOptions,
+    errors: &mut NoticesTo<E>,
+) -> Result<Addresses, u8>
     ensures { MatchResult result
         (λ places. IsFoundAt job.now places × IsSetup (options_of job.now) × (errors.new ≡ errors.old))
-        (λ status. HasNotAired job.now (E.contents errors.old) (E.contents errors.new) status) }
+        (λ status. HasNotAired job.now errors.old errors.new status) }
 {
     let places = places_of(job, errors)?;
     let setup = Setup {
@@ -137,9 +142,9 @@ fn log_of<'a, W: Write, T: Clock>(
 }
 
 /// Where the job has it listen; or the exit status, and why was said.
-fn places_of<E: Write>(job: &EncoderOptions, errors: &mut E) -> Result<Addresses, u8>
+fn places_of<E: Write>(job: &EncoderOptions, errors: &mut NoticesTo<E>) -> Result<Addresses, u8>
     ensures { MatchResult result (λ places. IsFoundAt job.now places × (errors.new ≡ errors.old))
-        (λ status. HasNotAired job.now (E.contents errors.old) (E.contents errors.new) status) }
+        (λ status. HasNotAired job.now errors.old errors.new status) }
 {
     let Some(air) = job.air else {
         let _ = fail_state("air-bits: without --air", errors);

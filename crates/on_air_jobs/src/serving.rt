@@ -12,6 +12,7 @@ use commands::EncoderOptions;
 use device_jobs::{Limits, limits_of};
 use device_serving::LogLines;
 use kept_jobs::fail_state;
+use notices::{NoticesTo, fail};
 use rds_store::RdsStore;
 use state_jobs::{OpenStates, closed_so, state_text};
 use std::alloc::Global;
@@ -19,7 +20,7 @@ use std::io::Write;
 use std::time::Clock;
 use uecp_encoder::{Encoder, NotSaved};
 use uecp_frame::Address;
-use uecp_jobs::{Setup, fail, new_encoder};
+use uecp_jobs::{Setup, new_encoder};
 
 /// Is the device on the air that the job asks for, where what comes and when the next group is due is for `moments` to
 /// say, and answers the exit status: 0 all connections were served, 2 the services or the address were refused, 3 the
@@ -32,7 +33,7 @@ pub fn run_on_air_from<S: OpenStates, W: Write, T: Clock, E: Write, M: Moments>(
     job: &EncoderOptions,
     states: &S,
     log: &mut LogLines<'_, W, T>,
-    errors: &mut E,
+    errors: &mut NoticesTo<E>,
     moments: &mut M,
 ) -> u8
     ensures status { result ≤ 3 }
@@ -40,8 +41,7 @@ pub fn run_on_air_from<S: OpenStates, W: Write, T: Clock, E: Write, M: Moments>(
         (S.gives_encoder states.now)
         (S.refuses_encoder states.now) (S.closes_encoder states.now) S.EncoderKeeper.TOGETHER_MAX
         S.EncoderKeeper.READ_MAX S.EncoderKeeper.leaves S.EncoderKeeper.is_clean S.EncoderKeeper.saves
-        S.EncoderKeeper.fails job.now moments.old moments.new log.old log.new (E.contents errors.old) (E.contents
-        errors.new) result }
+        S.EncoderKeeper.fails job.now moments.old moments.new log.old log.new errors.old errors.new result }
 {
     let setup = Setup {
         site: job.site,
@@ -71,7 +71,7 @@ fn air_in<S: OpenStates, W: Write, T: Clock, E: Write, M: Moments>(
     path: &str,
     states: &S,
     log: &mut LogLines<'_, W, T>,
-    errors: &mut E,
+    errors: &mut NoticesTo<E>,
     moments: &mut M,
 ) -> u8
     requires { IsTrue (is_exact address) }
@@ -79,8 +79,8 @@ fn air_in<S: OpenStates, W: Write, T: Clock, E: Write, M: Moments>(
         S.EncoderKeeper.is_clean S.EncoderKeeper.saves S.EncoderKeeper.fails M.waits M.closes M.sends M.Input.remaining
         M.Output.contents limits.turns limits.connections limits.store (S.gives_encoder states.now) (S.closes_encoder
         states.now) path.now address setup.now.sets setup.now.services.now moments.old moments.new log.old log.new
-        (E.contents errors.old) (E.contents errors.new) result
-        ⊎ (HasNoState (S.refuses_encoder states.now) path.now (E.contents errors.old) (E.contents errors.new) result
+        errors.old errors.new result
+        ⊎ (HasNoState (S.refuses_encoder states.now) path.now errors.old errors.new result
         × (moments.new ≡ moments.old) × (log.new ≡ log.old)) }
 {
     match states.open_encoder(path, address, setup.sets, setup.services) {
@@ -108,13 +108,13 @@ fn air_unkept<W: Write, T: Clock, E: Write, M: Moments>(
     limits: Limits,
     encoder: &mut Encoder<RdsStore>,
     log: &mut LogLines<'_, W, T>,
-    errors: &mut E,
+    errors: &mut NoticesTo<E>,
     moments: &mut M,
 ) -> u8
     requires { encoder.old ≡ encoder_at_first (options_in setup.now) }
     ensures { AirsUnkept M.waits M.closes M.sends M.Input.remaining M.Output.contents (options_in setup.now)
-        limits.turns limits.connections limits.store moments.old moments.new log.old log.new (E.contents errors.old)
-        (E.contents errors.new) result }
+        limits.turns limits.connections limits.store moments.old moments.new log.old log.new errors.old
+        errors.new result }
 {
     tell_no_pi(encoder.target(), errors);
     let mut carousel = Carousel::restarted();
@@ -130,8 +130,8 @@ fn air_unkept<W: Write, T: Clock, E: Write, M: Moments>(
 }
 
 /// Says that 0000 is on the air, where no PI was told. A text that can't be written changes nothing.
-fn tell_no_pi<E: Write>(store: &RdsStore, errors: &mut E)
-    ensures { TellsNoPi (is_told (main_service store.now)) (E.contents errors.old) (E.contents errors.new) }
+fn tell_no_pi<E: Write>(store: &RdsStore, errors: &mut NoticesTo<E>)
+    ensures { TellsNoPi (is_told (main_service store.now)) errors.old errors.new }
 {
     if !has_pi(store) {
         let _ = fail_state("air: no PI yet, 0000 is on the air", errors);

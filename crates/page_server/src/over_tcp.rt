@@ -9,13 +9,14 @@ use crate::stop::Stop;
 use crate::tcp::TcpSockets;
 use commands::PageOptions;
 use device_edges::{AddressFault, BindFault, bind};
+use notices::{Notices, NoticesTo, fail};
 use page::{Connection, Sockets, status_of};
 use std::alloc::Global;
 use std::io::{Read, Write};
 use std::net::{Net, SocketAddr, TcpListener, TcpStream};
 use std::os::fd::RawFd;
 use std::time::{Clock, Duration, SystemTime};
-use uecp_text::{RunFault, report, write_parts};
+use uecp_text::RunFault;
 
 /// Serves the page of the lines that a reader gives, whose descriptor is told, until it is at its end and what waits is
 /// sent. It answers the exit status: 0 at the end of the input, 1 there where a line was no object of ours; 2 where the
@@ -25,7 +26,14 @@ pub fn run_page_over_tcp<
     R: Read,
     E: Write,
     N: Net<Listener = TcpListener, Stream = TcpStream> + Clock,
->(alloc: Global, options: &PageOptions, reader: &mut R, fd: RawFd, errors: &mut E, net: &N) -> u8
+>(
+    alloc: Global,
+    options: &PageOptions,
+    reader: &mut R,
+    fd: RawFd,
+    errors: &mut NoticesTo<E>,
+    net: &N,
+) -> u8
     ensures most { result ≤ 3 }
     // 0 or 1: the input was read to its end, and the status is that of its lines.
     ensures ended { result ≤ 1 → EndsWith (R.remaining reader.old) (R.remaining reader.new) result }
@@ -43,7 +51,7 @@ pub fn run_page_over_tcp<
                 let since = since_1970(net);
                 serve(alloc, reader, &Start { place, since }, errors, &mut sockets)
             }
-            None => fail(RunFault::Listening, errors),
+            None => fail(&RunFault::Listening, errors),
         },
         Err(fault) => fail_bind(fault, errors),
     }
@@ -54,7 +62,7 @@ fn serve<R: Read, E: Write, S: Sockets<Connection = C>, C: Connection>(
     alloc: Global,
     reader: &mut R,
     start: &Start,
-    errors: &mut E,
+    errors: &mut NoticesTo<E>,
     sockets: &mut S,
 ) -> u8
     ensures ended { result ≤ 1 → EndsWith (R.remaining reader.old) (R.remaining reader.new) result }
@@ -72,16 +80,16 @@ fn serve<R: Read, E: Write, S: Sockets<Connection = C>, C: Connection>(
 
 /// The exit status of a run that ended so, which says why where it was stopped: at the end of its input 1 where a line
 /// was no object of ours, and else 0.
-fn end<E: Write>(served: Result<bool, Stop>, errors: &mut E) -> u8
+fn end<E: Write>(served: Result<bool, Stop>, errors: &mut NoticesTo<E>) -> u8
     ensures ok { IfOk served (λ refused. result ≡ status_of refused) }
     ensures err { OnErr served (result ≡ 3) }
     ensures most { (result ≤ 1) ⊎ (result ≡ 3) }
 {
     match served {
         Ok(refused) => status_of(refused),
-        Err(Stop::OutOfMemory) => fail(RunFault::OutOfMemory, errors),
-        Err(Stop::Reading) => fail(RunFault::Reading, errors),
-        Err(Stop::Listening) => fail(RunFault::Listening, errors),
+        Err(Stop::OutOfMemory) => fail(&RunFault::OutOfMemory, errors),
+        Err(Stop::Reading) => fail(&RunFault::Reading, errors),
+        Err(Stop::Listening) => fail(&RunFault::Listening, errors),
     }
 }
 
@@ -105,16 +113,8 @@ fn listener_at<N: Net<Listener = TcpListener, Stream = TcpStream>>(
     }
 }
 
-/// Says why the run stopped, and answers its status.
-fn fail<E: Write>(fault: RunFault, errors: &mut E) -> u8
-    ensures { result ≡ 3 }
-{
-    let _ = report(&fault, errors);
-    3
-}
-
 /// Says why the job asks for no address and port, and answers the exit status.
-fn fail_place<E: Write>(fault: AddressFault, errors: &mut E) -> u8
+fn fail_place<E: Write>(fault: AddressFault, errors: &mut NoticesTo<E>) -> u8
     ensures { result ≡ 2 }
 {
     let text: &[u8] = match fault {
@@ -123,21 +123,21 @@ fn fail_place<E: Write>(fault: AddressFault, errors: &mut E) -> u8
         AddressFault::TwoPorts => b"uecp: listen: two ports are given\n",
         AddressFault::PortZero => b"uecp: listen: port 0 is none\n",
     };
-    let _ = write_parts(&[text], errors);
+    errors.say(&[text]);
     2
 }
 
 /// Says why nobody can listen there, and answers the exit status.
-fn fail_bind<E: Write>(fault: BindFault, errors: &mut E) -> u8
+fn fail_bind<E: Write>(fault: BindFault, errors: &mut NoticesTo<E>) -> u8
     ensures { result ≡ 3 }
 {
-    let status = fail(RunFault::Listening, errors);
+    let status = fail(&RunFault::Listening, errors);
     let text: &[u8] = match fault {
         BindFault::InUse => b"uecp: somebody listens there already\n",
         BindFault::NoSuchAddress => b"uecp: the machine has no such address\n",
         BindFault::NotAllowed => b"uecp: not allowed\n",
         BindFault::Failed => return status,
     };
-    let _ = write_parts(&[text], errors);
+    errors.say(&[text]);
     status
 }

@@ -11,12 +11,12 @@ ghost use Rattle.page.specs.Visits.{guests_of, AllDo};
 
 use crate::stop::Stop;
 use itoa::Buffer;
+use notices::{Notices, NoticesTo};
 use page::{Connection, Deed, Guests, Intake, Sockets, Taken, first_number, own_only};
 use std::alloc::Global;
 use std::io::{Read, Write};
 use std::net::SocketAddr;
 use std::time::Duration;
-use uecp_text::write_parts;
 
 /// How many lines are taken before those who ask are looked after again.
 const LINES_MAX: u32 = 256;
@@ -89,7 +89,7 @@ impl<C: Connection> Serving<C> {
     pub(crate) fn serve<R: Read, E: Write, S: Sockets<Connection = C>>(
         &mut self,
         reader: &mut R,
-        errors: &mut E,
+        errors: &mut NoticesTo<E>,
         sockets: &mut S,
     ) -> Result<bool, Stop>
         requires { IsServing C.talk self.old }
@@ -107,7 +107,7 @@ impl<C: Connection> Serving<C> {
     fn take_all<R: Read, E: Write, S: Sockets<Connection = C>>(
         &mut self,
         reader: &mut R,
-        errors: &mut E,
+        errors: &mut NoticesTo<E>,
         sockets: &mut S,
     ) -> Result<(), Stop>
         requires { IsServing C.talk self.old }
@@ -249,7 +249,7 @@ impl<C: Connection> Serving<C> {
     fn take_lines<R: Read, E: Write, S: Sockets<Connection = C>>(
         &mut self,
         reader: &mut R,
-        errors: &mut E,
+        errors: &mut NoticesTo<E>,
         sockets: &mut S,
     ) -> Result<Progress, Stop>
         requires { IsServing C.talk self.old }
@@ -273,7 +273,7 @@ impl<C: Connection> Serving<C> {
     /// Takes lines of what was read, so many at most.
     fn take_read<E: Write, S: Sockets<Connection = C>>(
         &mut self,
-        errors: &mut E,
+        errors: &mut NoticesTo<E>,
         sockets: &mut S,
     ) -> Result<Progress, Stop>
         requires { IsServing C.talk self.old }
@@ -293,7 +293,7 @@ impl<C: Connection> Serving<C> {
     /// only where one was counted.
     fn take_next<E: Write, S: Sockets<Connection = C>>(
         &mut self,
-        errors: &mut E,
+        errors: &mut NoticesTo<E>,
         sockets: &mut S,
     ) -> Result<bool, Stop>
         requires { IsServing C.talk self.old }
@@ -316,7 +316,7 @@ impl<C: Connection> Serving<C> {
     /// The input has ended: a line that no line feed ends is taken.
     fn take_last<E: Write, S: Sockets<Connection = C>>(
         &mut self,
-        errors: &mut E,
+        errors: &mut NoticesTo<E>,
         sockets: &mut S,
     ) -> Result<Progress, Stop>
         requires cut { (cutting_of self.old.intake).ahead ≡ [] }
@@ -342,7 +342,7 @@ impl<C: Connection> Serving<C> {
         &mut self,
         before: u64,
         taken: Taken,
-        errors: &mut E,
+        errors: &mut NoticesTo<E>,
         sockets: &mut S,
     )
         requires { IsServing C.talk self.old }
@@ -364,8 +364,8 @@ impl<C: Connection> Serving<C> {
 }
 
 /// Says that the line of this number is no object of ours.
-fn say_other<E: Write>(number: u64, errors: &mut E) {
+fn say_other<E: Write>(number: u64, errors: &mut NoticesTo<E>) {
     let mut buffer = Buffer::new();
     let digits = buffer.format(number).as_bytes();
-    let _ = write_parts(&[b"uecp: line ", digits, b": no object of uecp\n"], errors);
+    errors.say(&[b"uecp: line ", digits, b": no object of uecp\n"]);
 }

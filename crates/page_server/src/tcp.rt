@@ -6,13 +6,13 @@ use crate::door::{Door, INPUT, LISTENER};
 use crate::input::Input;
 use line_feed::Arrival;
 use mio::Token;
+use notices::{Notices, NoticesTo};
 use page::{Connection, Passed, Sockets};
 use std::alloc::Global;
 use std::io::{Error, ErrorKind, Read, Write};
 use std::net::{Net, Shutdown, TcpListener, TcpStream};
 use std::os::fd::{AsRawFd, RawFd};
 use std::time::{Clock, Instant};
-use uecp_text::write_parts;
 
 /// The most milliseconds that are counted: some eight million years.
 const TIME_MAX: u64 = (1 << 58) - 1;
@@ -67,10 +67,10 @@ impl<'a, N: Net<Listener = TcpListener, Stream = TcpStream> + Clock> TcpSockets<
     }
 
     /// Says where the page is found.
-    pub(crate) fn say_place<E: Write>(&self, alloc: Global, errors: &mut E) {
+    pub(crate) fn say_place<E: Write>(&self, alloc: Global, errors: &mut NoticesTo<E>) {
         if let Ok(place) = self.listener.local_addr() {
             if let Ok(text) = format!(in alloc; "uecp: page at http://{place}/\n") {
-                let _ = write_parts(&[text.as_bytes()], errors);
+                errors.say(&[text.as_bytes()]);
             }
         }
     }

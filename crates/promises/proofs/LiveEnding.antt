@@ -2,7 +2,6 @@
 use Rattle.std.proofs.Common.{arith, ◌≡◌, ◌⊎◌, ℕ, Bool, true, List, Option, refl, sym, ◌∙◌, inl, inr}
 use Rattle.std.specs.List.{list_all}
 use Rattle.uecp_elements.specs.declared.code.Code.{Code}
-use Rattle.uecp_text.specs.Written.{Begins}
 use Rattle.uecp_link.specs.Server.{ServerState}
 use Rattle.uecp_net.specs.Keeping.{KeptServer}
 use Rattle.kept_jobs.specs.declared.stop.KeptStop.{KeptStop}
@@ -20,6 +19,7 @@ use Rattle.promises.specs.LiveLaws.{IsDone, DoneIsKept, WhatACrashLeaves, ToldIs
 use Rattle.promises.proofs.Refusing.{refused_in_all, status_so}
 use Rattle.promises.proofs.Runs.{whole}
 use Rattle.promises.proofs.TellingRuns.{whole_told}
+use Rattle.notices.specs.Told.{Told, Says}
 
 not_three : (status : ℕ) → IsDone status → status ≡ 3 → ⊥
 not_three status (inl is) three = absurd (omega arith)
@@ -27,14 +27,14 @@ not_three status (inr (inl is)) three = absurd (omega arith)
 not_three status (inr (inr is)) three = absurd (omega arith)
 
 -- how a run ended
-abbrev EndedSo : (went : Went) → (taken : Intake) → (applied : Bool) → (said' : Option (List ℕ)) → (status : ℕ) → Type 0
+abbrev EndedSo : (went : Went) → (taken : Intake) → (applied : Bool) → (said' : Told) → (status : ℕ) → Type 0
 EndedSo went taken applied said' status =
     ((went ≡ goes) × (status ≡ tally_status taken.refused applied) × (said' ≡ taken.said))
     ⊎ ((stop : KeptStop) × (went ≡ stopped stop) × (status ≡ stop_status stop)
-    × Begins taken.said said' (stop_lines stop))
+    × Says taken.said said' (stop_lines stop))
 
 -- one with the status of an end did not stop
-on_where_done : (went : Went) (taken : Intake) (applied : Bool) (said' : Option (List ℕ)) (status : ℕ) → IsDone status
+on_where_done : (went : Went) (taken : Intake) (applied : Bool) (said' : Told) (status : ℕ) → IsDone status
     → ((stop : KeptStop) → went ≡ stopped stop → stop_status stop ≡ 3) → EndedSo went taken applied said' status
     → goes ≡ went
 on_where_done went taken applied said' status done three (inl (is, status_is, said_is)) = sym is
@@ -42,7 +42,7 @@ on_where_done went taken applied said' status done three (inr (stop, is, status_
     absurd (not_three status done (status_is ∙ three stop is))
 
 -- what the status of one that did not stop says
-status_where_done : (went : Went) (taken : Intake) (applied : Bool) (said' : Option (List ℕ)) (status : ℕ)
+status_where_done : (went : Went) (taken : Intake) (applied : Bool) (said' : Told) (status : ℕ)
     (lines : List (List ℕ × Given)) (answers : List (Option Code)) → goes ≡ went
     → has_refused lines ≡ taken.refused → (applied ≡ true → list_all was_applied answers ≡ true)
     → EndedSo went taken applied said' status → IsStatusOf lines answers status
@@ -55,7 +55,7 @@ module _ {C I O K : Type 0} (opens : C → Option (I × O) → C → Type 0) (cl
     (remaining : I → Option (List ℕ)) (contents : O → Option (List ℕ)) (leaves : K → KeptServer → Type 0)
     (is_clean : K → Type 0) (saves fails : K → KeptServer → K → Type 0) where
   -- where a run stands at its start
-  abbrev begins_at : Standing ServerState K → (unread said : Option (List ℕ)) → Live ServerState K
+  abbrev begins_at : Standing ServerState K → (unread : Option (List ℕ)) → (said : Told) → Live ServerState K
   begins_at x unread said = record {
     sends = x;
     takes = at_start unread said;

@@ -14,6 +14,7 @@ use Rattle.sending.specs.Run.{Lives}
 use Rattle.promises.specs.Taken.{TakesSome, TakesAll}
 use Rattle.promises.specs.Left.{OutlivesLive}
 use Rattle.promises.specs.LiveTold.{TellsAll, IsStatusOf}
+use Rattle.notices.specs.Told.{Told}
 
 -- the status of a run that came to its end
 abbrev pub IsDone : (status : ℕ) → Type 0
@@ -28,7 +29,7 @@ module _ {C I O K : Type 0} (opens : C → Option (I × O) → C → Type 0) (cl
   abbrev pub DoneIsKept : Type 0
   DoneIsKept =
       (options : LiveOptions) (c c' : C) (x : Standing ServerState K) (k' : K)
-      (held' unread unread' said said' : Option (List ℕ)) (status : ℕ) →
+      (held' unread unread' : Option (List ℕ)) (said said' : Told) (status : ℕ) →
       Lives opens closes remaining contents leaves is_clean saves fails options c c' x k' held' unread unread' said
       said' status → IsDone status →
       (lines : List (List ℕ × Given)) × TakesAll options unread unread' said lines
@@ -40,7 +41,7 @@ module _ {C I O K : Type 0} (opens : C → Option (I × O) → C → Type 0) (cl
   abbrev pub WhatACrashLeaves : Type 0
   WhatACrashLeaves =
       (options : LiveOptions) (c c' : C) (x : Standing ServerState K) (k' : K)
-      (held' unread unread' said said' : Option (List ℕ)) (status : ℕ) →
+      (held' unread unread' : Option (List ℕ)) (said said' : Told) (status : ℕ) →
       Lives opens closes remaining contents leaves is_clean saves fails options c c' x k' held' unread unread' said
       said' status →
       (lines : List (List ℕ × Given)) × TakesSome options unread unread' said lines
@@ -54,7 +55,7 @@ module _ {C I O K : Type 0} (opens : C → Option (I × O) → C → Type 0) (cl
   abbrev pub ToldIsTaken : Type 0
   ToldIsTaken =
       (options : LiveOptions) (c c' : C) (x : Standing ServerState K) (k' : K)
-      (held' unread unread' said said' : Option (List ℕ)) (status : ℕ) →
+      (held' unread unread' : Option (List ℕ)) (said said' : Told) (status : ℕ) →
       Lives opens closes remaining contents leaves is_clean saves fails options c c' x k' held' unread unread' said
       said' status → IsDone status →
       (lines : List (List ℕ × Given)) × TakesAll options unread unread' said lines

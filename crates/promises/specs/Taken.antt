@@ -6,6 +6,7 @@ use Rattle.line_batches.specs.declared.intake.Given.{Given}
 use Rattle.line_batches.specs.Intake.{Intake, TakesLines, TakesOne, FailsToTake}
 use Rattle.line_batches.specs.Batches.{EndsRefused, LosesMessage, NoneRefused}
 use Rattle.sending.specs.declared.options.LiveOptions.{LiveOptions}
+use Rattle.notices.specs.Told.{Told}
 
 -- How the taking of lines comes to a stop: nothing was done; or the input was found at its end; or the next line could
 -- not be read, or memory was wanting for it; or it was taken, and there was no memory for its message, which is lost.
@@ -25,13 +26,14 @@ abbrev pub Passes : (strict : Bool) → List (List ℕ × Given) → Type 0
 Passes strict lines = NoneRefused strict lines ⊎ ((strict ≡ true) × EndsRefused lines)
 
 -- where the taking of lines stands at the start of a run
-abbrev pub at_start : (unread said : Option (List ℕ)) → Intake
+abbrev pub at_start : (unread : Option (List ℕ)) → (said : Told) → Intake
 at_start unread said = record { unread = unread; lines = 0; refused = false; said = said }
 
 -- A run took these lines of its input, one after another, and nothing else, and then it took no more; with `strict`
 -- none
 -- of them was refused, or the last alone.
-pub record TakesSome (options : LiveOptions) (unread unread' said : Option (List ℕ)) (lines : List (List ℕ × Given))
+pub record TakesSome (options : LiveOptions) (unread unread' : Option (List ℕ)) (said : Told)
+    (lines : List (List ℕ × Given))
     : Type 0 where
   pub last : Intake
   pub end : Intake
@@ -41,7 +43,8 @@ pub record TakesSome (options : LiveOptions) (unread unread' said : Option (List
   pub is_unread : unread' ≡ end.unread
 
 -- A run took these lines, and with them it came to the end of its input, or with `strict` to a line that was refused.
-pub record TakesAll (options : LiveOptions) (unread unread' said : Option (List ℕ)) (lines : List (List ℕ × Given))
+pub record TakesAll (options : LiveOptions) (unread unread' : Option (List ℕ)) (said : Told)
+    (lines : List (List ℕ × Given))
     : Type 0 where
   pub last : Intake
   pub end : Intake

@@ -13,9 +13,10 @@ use Rattle.receive_command.specs.Shown.{shown_by}
 use Rattle.receive_command.specs.Told.{IsTold}
 use Rattle.receive_command.specs.Receiving.{Standing, at_first, Takes, Hears, HearsEach, FailsFor}
 use Rattle.receive_command.specs.View.{standing_of, FailsToTell}
+use Rattle.notices.specs.Told.{Told}
 
 abbrev standing_with : (unread : Option (List ℕ)) (lines : ℕ) (refused : Bool) (heard : Receiver)
-    (held said : Option (List ℕ)) → Standing
+    (held : Option (List ℕ)) (said : Told) → Standing
 standing_with unread lines refused heard held said = record {
   unread = unread;
   lines = lines;
@@ -26,7 +27,7 @@ standing_with unread lines refused heard held said = record {
 }
 
 -- at first nothing was heard
-pub stands_first : (h : Hearing) (unread held said : Option (List ℕ)) → receiver_of h.receiver ≡ switched_on
+pub stands_first : (h : Hearing) (unread held : Option (List ℕ)) (said : Told) → receiver_of h.receiver ≡ switched_on
     → h.lines ≡ 0 → h.refused ≡ false → standing_of h unread held said ≡ at_first unread held said
 stands_first h unread held said receiver lines refused =
     ap (λ n. standing_with unread n h.refused (receiver_of h.receiver) held said) lines

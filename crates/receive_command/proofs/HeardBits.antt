@@ -9,7 +9,7 @@ use Rattle.std.proofs.KnownBytes.{Consumes-trans, Consumes-kept}
 use Rattle.uecp_text.specs.declared.run_fault.RunFault.{RunFault}
 use Rattle.uecp_text.specs.declared.run_fault.RunFault.TheVariants.{Reading, Writing, OutOfMemory}
 use Rattle.uecp_text.specs.Faults.{status_of, error_lines}
-use Rattle.uecp_text.specs.Written.{Begins}
+use Rattle.notices.specs.Told.{Told, Says}
 use Rattle.rds_groups.specs.Shown.{switched_on}
 use Rattle.rds_groups.specs.View.{receiver_of}
 use Rattle.rds_groups.specs.Sync as sync
@@ -21,7 +21,8 @@ use Rattle.receive_command.specs.View.{bits_of_hearing, SaysMore}
 use Rattle.receive_command.proofs.Texts.{hears_nothing, hears_more, fails_more}
 
 -- All that was read was heard, and all that there was to tell and to say was.
-abbrev pub HasHeard : ShownForm → (timed : Bool) → (unread unread' held held' said said' : Option (List ℕ)) → BitHearing
+abbrev pub HasHeard : ShownForm → (timed : Bool) → (unread unread' held held' : Option (List ℕ)) → (said said' : Told)
+    → BitHearing
     → Type 0
 HasHeard form timed unread unread' held held' said said' h =
     (text : List ℕ)
@@ -42,7 +43,7 @@ stands h held x holds place heard =
     ∙ ap (λ r. record { place = x.place; heard = r; held = held }) heard
     ∙ ap (λ o. record { place = x.place; heard = x.heard; held = o }) (sym holds)
 
-pub heard_at_first : (form : ShownForm) (timed : Bool) (unread held said : Option (List ℕ)) (h : BitHearing)
+pub heard_at_first : (form : ShownForm) (timed : Bool) (unread held : Option (List ℕ)) (said : Told) (h : BitHearing)
     → h.synchroniser ≡ sync.switched_on → receiver_of h.receiver ≡ switched_on → h.foreign ≡ false
     → HasHeard form timed unread unread held held said said h
 heard_at_first form timed unread held said h place heard foreign = (
@@ -55,7 +56,7 @@ heard_at_first form timed unread held said h place heard foreign = (
 )
 
 -- what is said once more
-says_on : (before more : Bool) (said between said' : Option (List ℕ)) → SaysForeign before said between
+says_on : (before more : Bool) (said between said' : Told) → SaysForeign before said between
     → SaysMore before more between said' → SaysForeign (before || more) said said'
 says_on true more said between said' first then = subst (SaysForeign true said) (sym then) first
 says_on false more said between said' first then = subst (λ s. SaysForeign more s said') first then
@@ -64,7 +65,7 @@ fails_with_3 : (fault : RunFault) → (fault ≡ OutOfMemory) ⊎ (fault ≡ Wri
 fails_with_3 fault (inl is) = ap status_of is
 fails_with_3 fault (inr is) = ap status_of is
 
-module _ (form : ShownForm) (timed : Bool) (unread between unread' held before said spoken : Option (List ℕ))
+module _ (form : ShownForm) (timed : Bool) (unread between unread' held before : Option (List ℕ)) (said spoken : Told)
     (h : BitHearing) (left : HasHeard form timed unread between held before said spoken h) where
   -- a read that was interrupted
   pub heard_kept : Keeps between unread' → HasHeard form timed unread unread' held before said spoken h
@@ -72,8 +73,8 @@ module _ (form : ShownForm) (timed : Bool) (unread between unread' held before s
       (left.0, left.1, Consumes-kept unread between unread' left.0 left.2 keeps, left.3, left.4)
 
   -- reading failed
-  pub stops_reading : Keeps between unread' → (status : ℕ) (said' : Option (List ℕ)) → status ≡ status_of Reading
-      → Begins spoken said' (error_lines Reading)
+  pub stops_reading : Keeps between unread' → (status : ℕ) (said' : Told) → status ≡ status_of Reading
+      → Says spoken said' (error_lines Reading)
       → ReceivesBits form timed status unread unread' held before said said'
   stops_reading keeps status said' is told = inr record {
     text = left.0;
@@ -88,7 +89,7 @@ module _ (form : ShownForm) (timed : Bool) (unread between unread' held before s
 
   module _ (bytes : List ℕ) (consumes : Consumes between unread' bytes) (h' : BitHearing)
       (foreign : h'.foreign ≡ h.foreign || list_any is_foreign bytes) (place : h'.synchroniser ≡ h.synchroniser)
-      (heard : h'.receiver ≡ h.receiver) (spoken' : Option (List ℕ))
+      (heard : h'.receiver ≡ h.receiver) (spoken' : Told)
       (more : SaysMore h.foreign (list_any is_foreign bytes) spoken spoken') where
     same : bits_of_hearing h' before ≡ bits_of_hearing h before
     same = stands h' before (bits_of_hearing h before) refl place (ap receiver_of heard)
@@ -120,8 +121,8 @@ module _ (form : ShownForm) (timed : Bool) (unread between unread' held before s
 
     -- a read that could not be told
     pub heard_off : (held' : Option (List ℕ)) (fault : RunFault)
-        → FailsInText form timed bytes (bits_of_hearing h' before) held' fault → (status : ℕ) (said' : Option (List ℕ))
-        → status ≡ status_of fault → Begins spoken' said' (error_lines fault)
+        → FailsInText form timed bytes (bits_of_hearing h' before) held' fault → (status : ℕ) (said' : Told)
+        → status ≡ status_of fault → Says spoken' said' (error_lines fault)
         → ReceivesBits form timed status unread unread' held held' said said'
     heard_off held' fault fails status said' is told = inr record {
       text = left.0 ++ bytes;

@@ -15,6 +15,7 @@ use Rattle.rds_groups.specs.declared.synchroniser.Synchroniser.{Synchroniser}
 use Rattle.commands.specs.declared.receive_options.ShownForm.{ShownForm}
 use Rattle.receive_command.specs.Shown.{shown_by}
 use Rattle.receive_command.specs.Told.{IsTold}
+use Rattle.notices.specs.Told.{Told, Says}
 
 -- ---- Groups that a receiver hears one after another.
 -- What it has heard then.
@@ -72,14 +73,14 @@ abbrev pub foreign_line : List ℕ
 foreign_line = codes "uecp: input that is neither 0 nor 1\n"
 
 -- That, where there are some, as far as it could be written, and nothing where there are none.
-abbrev pub SaysForeign : (foreign : Bool) → (said said' : Option (List ℕ)) → Type 0
+abbrev pub SaysForeign : (foreign : Bool) → (said said' : Told) → Type 0
 SaysForeign false said said' = said' ≡ said
-SaysForeign true said said' = Begins said said' foreign_line
+SaysForeign true said said' = Says said said' foreign_line
 
 -- ---- How a run ends.
 -- The input was at its end, and all of it is told: 1 where some of it is neither bit nor white space, else 0.
 pub record EndsWith (form : ShownForm) (timed : Bool) (status : ℕ)
-    (unread unread' held held' said said' : Option (List ℕ)) : Type 0 where
+    (unread unread' held held' : Option (List ℕ)) (said said' : Told) : Type 0 where
   pub text : List ℕ
   pub last : BitStanding
   pub hears : HearsText form timed text (bits_at_first held) last
@@ -96,21 +97,21 @@ StopsFor fault form timed text held held' =
     × ((last : BitStanding) × HearsText form timed text (bits_at_first held) last × (held' ≡ last.held)))
     ⊎ FailsInText form timed text (bits_at_first held) held' fault
 
--- That was said too, or begun to be said, and the status is 3.
+-- That was said too, and the status is 3.
 pub record StopsWith (form : ShownForm) (timed : Bool) (status : ℕ)
-    (unread unread' held held' said said' : Option (List ℕ)) : Type 0 where
+    (unread unread' held held' : Option (List ℕ)) (said said' : Told) : Type 0 where
   pub text : List ℕ
   pub fault : RunFault
   pub stops : StopsFor fault form timed text held held'
   pub consumed : Consumes unread unread' text
-  pub between : Option (List ℕ)
+  pub between : Told
   pub says : SaysForeign (list_any is_foreign text) said between
-  pub told : Begins between said' (error_lines fault)
+  pub told : Says between said' (error_lines fault)
   pub status_is : status ≡ 3
 
 -- The bits of the input were heard from its front, and then the run ended or stopped.
 abbrev pub ReceivesBits : ShownForm → (timed : Bool) → (status : ℕ)
-    → (unread unread' held held' said said' : Option (List ℕ)) → Type 0
+    → (unread unread' held held' : Option (List ℕ)) → (said said' : Told) → Type 0
 ReceivesBits form timed status unread unread' held held' said said' =
     EndsWith form timed status unread unread' held held' said said'
     ⊎ StopsWith form timed status unread unread' held held' said said'

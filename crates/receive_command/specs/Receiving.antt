@@ -15,6 +15,7 @@ use Rattle.receive_command.specs.Told.{IsTold}
 use Rattle.receive_command.specs.declared.group_lines.group_line.GroupLine.{GroupLine}
 use Rattle.receive_command.specs.declared.group_lines.group_line.GroupLine.TheVariants.{Nothing, Group, NoGroup}
 use Rattle.receive_command.specs.GroupLines.{IsTaken, after_line}
+use Rattle.notices.specs.Told.{Told, Says}
 
 -- Where receiving stands: what of the input was not taken, how many lines were, whether one of them was no group, what
 -- the receiver has heard, and what the writer and standard error hold.
@@ -24,10 +25,10 @@ pub record Standing : Type 0 where
   pub refused : Bool
   pub heard : Receiver
   pub held : Option (List ℕ)
-  pub said : Option (List ℕ)
+  pub said : Told
 
 -- At first the receiver is switched on.
-abbrev pub at_first : (unread held said : Option (List ℕ)) → Standing
+abbrev pub at_first : (unread held : Option (List ℕ)) → (said : Told) → Standing
 at_first unread held said = record {
   unread = unread;
   lines = 0;
@@ -42,10 +43,10 @@ abbrev pub refusal_line : (number : ℕ) → List ℕ
 refusal_line number = codes "uecp: line " ++ (decimal number ++ codes ": no group\n")
 
 -- That, as far as it could be written; nothing of another line.
-abbrev pub SaysOf : GroupLine → (number : ℕ) → (said said' : Option (List ℕ)) → Type 0
+abbrev pub SaysOf : GroupLine → (number : ℕ) → (said said' : Told) → Type 0
 SaysOf Nothing number said said' = said' ≡ said
 SaysOf (Group g) number said said' = said' ≡ said
-SaysOf NoGroup number said said' = Begins said said' (refusal_line number)
+SaysOf NoGroup number said said' = Says said said' (refusal_line number)
 
 abbrev pub is_refused : GroupLine → Bool
 is_refused Nothing = false
@@ -76,7 +77,7 @@ HearsEach form timed (is ∷ others) x x' =
 
 -- ---- How a run ends.
 -- The input was at its end: 1 where a line was no group, else 0.
-pub record Ends (status : ℕ) (x : Standing) (unread' held' said' : Option (List ℕ)) : Type 0 where
+pub record Ends (status : ℕ) (x : Standing) (unread' held' : Option (List ℕ)) (said' : Told) : Type 0 where
   pub status_is : status ≡ (if x.refused then 1 else 0)
   pub kept : Keeps x.unread unread'
   pub ended : IsAtEnd unread'
@@ -99,16 +100,17 @@ FailsFor Writing form timed x unread' held' =
     (told : List ℕ) × WouldTell form timed x unread' told × Begins x.held held' told
 FailsFor fault form timed x unread' held' = ⊥
 
--- That was said, or begun to be said, and the status is 3.
-abbrev pub Fails : ShownForm → (timed : Bool) → (status : ℕ) → Standing → (unread' held' said' : Option (List ℕ))
+-- That was said, and the status is 3.
+abbrev pub Fails : ShownForm → (timed : Bool) → (status : ℕ) → Standing → (unread' held' : Option (List ℕ))
+    → (said' : Told)
     → Type 0
 Fails form timed status x unread' held' said' =
     (status ≡ 3)
-    × ((fault : RunFault) × FailsFor fault form timed x unread' held' × Begins x.said said' (error_lines fault))
+    × ((fault : RunFault) × FailsFor fault form timed x unread' held' × Says x.said said' (error_lines fault))
 
 -- Lines were heard one after another from the front of the input, and then the run ended or failed.
 abbrev pub Receives : ShownForm → (timed : Bool) → (status : ℕ) → (x : Standing)
-    → (unread' held' said' : Option (List ℕ))
+    → (unread' held' : Option (List ℕ)) → (said' : Told)
     → Type 0
 Receives form timed status x unread' held' said' =
     (lines : List GroupLine) × (last : Standing) × HearsEach form timed lines x last

@@ -15,9 +15,10 @@ use Rattle.receive_command.specs.declared.bit_input.BitHearing.{BitHearing}
 use Rattle.receive_command.specs.declared.line_input.Hearing.{Hearing}
 use Rattle.receive_command.specs.Bits.{BitStanding, SaysForeign}
 use Rattle.receive_command.specs.Receiving.{Standing, Takes}
+use Rattle.notices.specs.Told.{Told}
 
 -- Where receiving stands, by what was heard.
-abbrev pub standing_of : Hearing → (unread held said : Option (List ℕ)) → Standing
+abbrev pub standing_of : Hearing → (unread held : Option (List ℕ)) → (said : Told) → Standing
 standing_of h unread held said = record {
   unread = unread;
   lines = h.lines;
@@ -51,6 +52,6 @@ abbrev pub bits_of_hearing : BitHearing → (held : Option (List ℕ)) → BitSt
 bits_of_hearing h held = record { place = h.synchroniser; heard = receiver_of h.receiver; held = held }
 
 -- What is said of characters that are neither bits nor white space: nothing where it was said before.
-abbrev pub SaysMore : (before foreign : Bool) → (said said' : Option (List ℕ)) → Type 0
+abbrev pub SaysMore : (before foreign : Bool) → (said said' : Told) → Type 0
 SaysMore true foreign said said' = said' ≡ said
 SaysMore false foreign said said' = SaysForeign foreign said said'

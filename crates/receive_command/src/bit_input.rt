@@ -6,15 +6,15 @@ ghost use Rattle.rds_groups.specs.View.{receiver_of};
 ghost use Rattle.rds_groups.specs.Sync as sync;
 ghost use Rattle.receive_command.specs.Bits.{HearsText, FailsInText, SaysForeign, is_foreign, foreign_line};
 ghost use Rattle.receive_command.specs.View.{bits_of_hearing, SaysMore};
-ghost use Rattle.uecp_text.specs.Written.{Begins};
 
 use crate::group_lines::GroupLine;
 use crate::line_input::hear_group;
 use commands::ShownForm;
+use notices::{Notices, NoticesTo};
 use rds_groups::{Receiver, Synchroniser};
 use std::io::Write;
 use std::time::Clock;
-use uecp_text::{Output, RunFault, write_parts};
+use uecp_text::{Output, RunFault};
 
 /// What was heard of bits so far.
 #[derive(Drop)]
@@ -43,16 +43,20 @@ impl BitHearing {
 }
 
 /// Notes what of a read is neither bit nor white space, and says it where it is the first.
-pub(crate) fn note_foreign<E: Write>(bytes: &[u8], hearing: &mut BitHearing, errors: &mut E)
+pub(crate) fn note_foreign<E: Write>(
+    bytes: &[u8],
+    hearing: &mut BitHearing,
+    errors: &mut NoticesTo<E>,
+)
     ensures foreign { hearing.new.foreign ≡ hearing.old.foreign || list_any is_foreign bytes.now }
     ensures synchroniser { hearing.new.synchroniser ≡ hearing.old.synchroniser }
     ensures receiver { hearing.new.receiver ≡ hearing.old.receiver }
     ensures said { SaysMore hearing.old.foreign (list_any is_foreign bytes.now)
-        (E.contents errors.old) (E.contents errors.new) }
+        errors.old errors.new }
 {
     if !hearing.foreign && has_foreign(bytes) {
         hearing.foreign = true;
-        let _ = write_parts(&[b"uecp: input that is neither 0 nor 1\n"], errors);
+        errors.say(&[b"uecp: input that is neither 0 nor 1\n"]);
     }
 }
 

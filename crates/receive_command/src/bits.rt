@@ -3,8 +3,8 @@ ghost use Rattle.std.specs.Prelude.{◌≡◌, ◌&&◌, is_some};
 ghost use Rattle.receive_command.specs.Bits.{ReceivesBits};
 
 use crate::bit_input::{BitHearing, hear_bits, note_foreign};
-use crate::run::fail;
 use commands::{ReceiveOptions, ShownForm};
+use notices::{NoticesTo, fail};
 use std::alloc::Global;
 use std::io::{ErrorKind, Read, Write};
 use std::time::Clock;
@@ -23,11 +23,11 @@ pub fn run_receive_bits<R: Read, W: Write, E: Write, C: Clock>(
     clock: Option<&C>,
     reader: &mut R,
     writer: &mut W,
-    errors: &mut E,
+    errors: &mut NoticesTo<E>,
 ) -> u8
     ensures { ReceivesBits job.now.form (job.now.time && is_some clock.entry) result
         (R.remaining reader.old) (R.remaining reader.new) (W.contents writer.old) (W.contents writer.new)
-        (E.contents errors.old) (E.contents errors.new) }
+        errors.old errors.new }
 {
     let clock = if job.time { clock } else { None };
     receive_bits(alloc, job.form, clock, reader, writer, errors)
@@ -40,11 +40,11 @@ fn receive_bits<R: Read, W: Write, E: Write, C: Clock>(
     clock: Option<&C>,
     reader: &mut R,
     writer: &mut W,
-    errors: &mut E,
+    errors: &mut NoticesTo<E>,
 ) -> u8
     ensures { ReceivesBits form (is_some clock.entry) result
         (R.remaining reader.old) (R.remaining reader.new) (W.contents writer.old) (W.contents writer.new)
-        (E.contents errors.old) (E.contents errors.new) }
+        errors.old errors.new }
 {
     let mut hearing = BitHearing::new();
     let mut output = Output::new(alloc);

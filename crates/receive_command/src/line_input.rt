@@ -4,24 +4,25 @@ ghost use Rattle.std.specs.Prelude.{IfOk, IfErr, OnOk, IsTrue};
 ghost use Rattle.std.specs.Io.KnownBytes.{Keeps, IsAtEnd, Appends};
 ghost use Rattle.rds_groups.specs.Shown.{switched_on};
 ghost use Rattle.rds_groups.specs.View.{receiver_of};
-ghost use Rattle.uecp_text.specs.Written.{Begins};
 ghost use Rattle.receive_command.specs.Shown.{shown_by};
 ghost use Rattle.receive_command.specs.Told.{IsTold};
 ghost use Rattle.receive_command.specs.DisplayView.{shown_in};
 ghost use Rattle.receive_command.specs.GroupLines.{after_line};
 ghost use Rattle.receive_command.specs.Receiving.{Hears, FailsFor, SaysOf, is_refused, refusal_line};
 ghost use Rattle.receive_command.specs.View.{standing_of, NextIs, NextFails, FailsToTell};
+ghost use Rattle.notices.specs.Told.{Says};
 
 use crate::display::{Shown, put_change};
 use crate::group_lines::{GroupLine, hear_line, read_group};
 use commands::ShownForm;
 use itoa::Buffer;
 use line_feed::{Feed, FeedFault, Next};
+use notices::{Notices, NoticesTo};
 use rds_groups::Receiver;
 use std::alloc::Global;
 use std::io::Write;
 use std::time::Clock;
-use uecp_text::{Output, RunFault, write_parts};
+use uecp_text::{Output, RunFault};
 
 /// What was heard so far.
 #[derive(Drop)]
@@ -69,19 +70,19 @@ pub(crate) fn hear_next<F: Feed, W: Write, E: Write, C: Clock>(
     hearing: &mut Hearing,
     buffers: &mut Buffers,
     writer: &mut W,
-    errors: &mut E,
+    errors: &mut NoticesTo<E>,
 ) -> Result<bool, RunFault>
     requires empty { buffers.old.output.bytes ≡ [] }
     requires whole { IsTrue buffers.old.output.is_whole }
     ensures heard { result ≡ Ok true → (is : GroupLine) × Hears form (is_some clock.entry) is
-        (standing_of hearing.old (F.remaining feed.old) (W.contents writer.old) (E.contents errors.old))
-        (standing_of hearing.new (F.remaining feed.new) (W.contents writer.new) (E.contents errors.new)) }
+        (standing_of hearing.old (F.remaining feed.old) (W.contents writer.old) errors.old)
+        (standing_of hearing.new (F.remaining feed.new) (W.contents writer.new) errors.new) }
     ensures ended { result ≡ Ok false → Keeps (F.remaining feed.old) (F.remaining feed.new)
         × IsAtEnd (F.remaining feed.new) × (hearing.new ≡ hearing.old)
-        × (W.contents writer.new ≡ W.contents writer.old) × (E.contents errors.new ≡ E.contents errors.old) }
+        × (W.contents writer.new ≡ W.contents writer.old) × (errors.new ≡ errors.old) }
     ensures failed { IfErr result (λ fault. FailsFor fault form (is_some clock.entry)
-        (standing_of hearing.old (F.remaining feed.old) (W.contents writer.old) (E.contents errors.old))
-        (F.remaining feed.new) (W.contents writer.new) × (E.contents errors.new ≡ E.contents errors.old)) }
+        (standing_of hearing.old (F.remaining feed.old) (W.contents writer.old) errors.old)
+        (F.remaining feed.new) (W.contents writer.new) × (errors.new ≡ errors.old)) }
     ensures empty { OnOk result (buffers.new.output.bytes ≡ []) }
     ensures whole { OnOk result (IsTrue buffers.new.output.is_whole) }
 {
@@ -173,11 +174,11 @@ fn tell<W: Write, C: Clock>(
 }
 
 /// Counts a line, and refuses one that is no group.
-fn count<E: Write>(group: &GroupLine, hearing: &mut Hearing, errors: &mut E)
+fn count<E: Write>(group: &GroupLine, hearing: &mut Hearing, errors: &mut NoticesTo<E>)
     ensures lines { hearing.new.lines ≡ min (hearing.old.lines + 1) (2 ^ 64 - 1) }
     ensures refused { hearing.new.refused ≡ hearing.old.refused || is_refused group.now }
     ensures receiver { hearing.new.receiver ≡ hearing.old.receiver }
-    ensures said { SaysOf group.now hearing.new.lines (E.contents errors.old) (E.contents errors.new) }
+    ensures said { SaysOf group.now hearing.new.lines errors.old errors.new }
 {
     hearing.lines = hearing.lines.saturating_add(1);
     if let GroupLine::NoGroup = group {
@@ -187,10 +188,10 @@ fn count<E: Write>(group: &GroupLine, hearing: &mut Hearing, errors: &mut E)
 }
 
 /// Says that the line of this number is no group, as far as that can be written.
-fn refuse<E: Write>(number: u64, errors: &mut E)
-    ensures { Begins (E.contents errors.old) (E.contents errors.new) (refusal_line number) }
+fn refuse<E: Write>(number: u64, errors: &mut NoticesTo<E>)
+    ensures { Says errors.old errors.new (refusal_line number) }
 {
     let mut buffer = Buffer::new();
     let digits = buffer.format(number).as_bytes();
-    let _ = write_parts(&[b"uecp: line ", digits, b": no group\n"], errors);
+    errors.say(&[b"uecp: line ", digits, b": no group\n"]);
 }

@@ -1,17 +1,16 @@
 //! Lines are heard as they come (profile).
 ghost use Rattle.std.specs.Prelude.{◌≡◌, ◌&&◌, is_some};
-ghost use Rattle.uecp_text.specs.Faults.{status_of, error_lines};
-ghost use Rattle.uecp_text.specs.Written.{Begins};
 ghost use Rattle.receive_command.specs.Receiving.{Receives, at_first};
 
 use crate::line_input::{Buffers, Hearing, hear_next};
 use commands::{ReceiveOptions, ShownForm};
 use line_feed::Feed;
+use notices::{NoticesTo, fail};
 use rds_groups::Receiver;
 use std::alloc::Global;
 use std::io::Write;
 use std::time::Clock;
-use uecp_text::{Output, RunFault, report};
+use uecp_text::{Output, RunFault};
 
 /// Tells what a receiver shows of the groups that the lines are, as it changes: behind each line what changed is
 /// written and flushed before the next line is waited for. A line that is no group is refused on `errors` by its
@@ -23,11 +22,11 @@ pub fn run_receive<F: Feed, W: Write, E: Write, C: Clock>(
     clock: Option<&C>,
     feed: &mut F,
     writer: &mut W,
-    errors: &mut E,
+    errors: &mut NoticesTo<E>,
 ) -> u8
     ensures { Receives job.now.form (job.now.time && is_some clock.entry) result
-        (at_first (F.remaining feed.old) (W.contents writer.old) (E.contents errors.old))
-        (F.remaining feed.new) (W.contents writer.new) (E.contents errors.new) }
+        (at_first (F.remaining feed.old) (W.contents writer.old) errors.old)
+        (F.remaining feed.new) (W.contents writer.new) errors.new }
 {
     let clock = if job.time { clock } else { None };
     receive(alloc, job.form, clock, feed, writer, errors)
@@ -40,11 +39,11 @@ fn receive<F: Feed, W: Write, E: Write, C: Clock>(
     clock: Option<&C>,
     feed: &mut F,
     writer: &mut W,
-    errors: &mut E,
+    errors: &mut NoticesTo<E>,
 ) -> u8
     ensures { Receives form (is_some clock.entry) result
-        (at_first (F.remaining feed.old) (W.contents writer.old) (E.contents errors.old))
-        (F.remaining feed.new) (W.contents writer.new) (E.contents errors.new) }
+        (at_first (F.remaining feed.old) (W.contents writer.old) errors.old)
+        (F.remaining feed.new) (W.contents writer.new) errors.new }
 {
     let mut buffers = Buffers {
         line: Vec::new(alloc),
@@ -72,13 +71,4 @@ fn receive<F: Feed, W: Write, E: Write, C: Clock>(
         }
     }
     fail(&RunFault::Reading, errors)
-}
-
-/// Says why a run stopped, and answers its status.
-pub(crate) fn fail<E: Write>(fault: &RunFault, errors: &mut E) -> u8
-    ensures status { result ≡ status_of fault.now }
-    ensures said { Begins (E.contents errors.old) (E.contents errors.new) (error_lines fault.now) }
-{
-    let _ = report(fault, errors);
-    fault.status()
 }

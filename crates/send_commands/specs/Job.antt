@@ -3,7 +3,7 @@ use Rattle.std.specs.Prelude.{◌≡◌, ◌⊎◌, ℕ, ◌≤◌, ◌^◌, ◌
 use Rattle.std.specs.String.{string_bytes}
 use Rattle.uecp_text.specs.Faults.{error_lines}
 use Rattle.uecp_text.specs.declared.run_fault.RunFault.TheVariants as run
-use Rattle.uecp_text.specs.Written.{Begins}
+use Rattle.notices.specs.Told.{Told, Says}
 use Rattle.uecp_link.specs.Server.{ServerState, idle_at}
 use Rattle.uecp_jobs.specs.Setups.{IsOneEncoder, address_of}
 use Rattle.uecp_net.specs.declared.saved.keep.Progress.{Progress}
@@ -35,17 +35,17 @@ pub record IsFor (job : SendOptions) (station : List (List ℕ)) (options : Live
   pub form : options.form ≡ job.form
   pub sends_station : options.station.now ≡ station
 
--- The site and the encoder's number are not those of one encoder, and that was said, or begun to be said.
-abbrev pub IsOfNobody : SendOptions → (said said' : Option (List ℕ)) → (status : ℕ) → Type 0
+-- The site and the encoder's number are not those of one encoder, and that was said.
+abbrev pub IsOfNobody : SendOptions → (said said' : Told) → (status : ℕ) → Type 0
 IsOfNobody job said said' status =
-    (IsOneEncoder job.site job.encoder → ⊥) × (status ≡ 2) × Begins said said' (error_lines run.Address)
+    (IsOneEncoder job.site job.encoder → ⊥) × (status ≡ 2) × Says said said' (error_lines run.Address)
 
 module _ {C I O : Type 0} (opens : C → Option (I × O) → C → Type 0) (closes : C → I → O → C → Type 0)
     (remaining : I → Option (List ℕ)) (contents : O → Option (List ℕ)) where
   -- A run was made with no state, by a new server to the encoder, of which nothing was taken and which is not joined.
   -- What it would keep is kept nowhere.
   abbrev pub SendsTo : (address : ℕ) → LiveOptions → (c c' : C)
-      → (unread unread' held held' said said' : Option (List ℕ)) → (status : ℕ) → Type 0
+      → (unread unread' held held' : Option (List ℕ)) → (said said' : Told) → (status : ℕ) → Type 0
   SendsTo address options c c' unread unread' held held' said said' status =
       (keeper : NotSaved) × (keeper' : NotSaved)
       × Lives opens closes remaining contents (λ k left. Unit {0}) (λ k. ⊥) (λ k left k'. k' ≡ k) (λ k left k'. ⊥)
@@ -61,7 +61,7 @@ module _ {C I O : Type 0} (opens : C → Option (I × O) → C → Type 0) (clos
       (leaves : K → KeptServer → Type 0) (is_clean : K → Type 0) (saves fails : K → KeptServer → K → Type 0) where
     -- A run was made from the state in the file of this path; or with no state.
     abbrev pub SendsFrom : (state : Option (List ℕ)) → (address : ℕ) → LiveOptions → (c c' : C)
-        → (unread unread' held held' said said' : Option (List ℕ)) → (status : ℕ) → Type 0
+        → (unread unread' held held' : Option (List ℕ)) → (said said' : Told) → (status : ℕ) → Type 0
     SendsFrom (Some path) address options c c' unread unread' held held' said said' status =
         LivesIn gives ends leaves is_clean saves fails opens closes remaining contents path address options c c' unread
         unread' held held' said said' status
@@ -72,7 +72,7 @@ module _ {C I O : Type 0} (opens : C → Option (I × O) → C → Type 0) (clos
     -- So for the options of the job and its encoder. Or the address is not that of one, and nothing was taken, opened
     -- or written.
     abbrev pub HasSentLive : SendOptions → (station : List (List ℕ)) → (c c' : C)
-        → (unread unread' held held' said said' : Option (List ℕ)) → (status : ℕ) → Type 0
+        → (unread unread' held held' : Option (List ℕ)) → (said said' : Told) → (status : ℕ) → Type 0
     HasSentLive job station c c' unread unread' held held' said said' status =
         ((options : LiveOptions) × IsFor job station options × IsOneEncoder job.site job.encoder
         × SendsFrom (option_map string_bytes job.state) (address_of job.site job.encoder) options c c' unread unread'

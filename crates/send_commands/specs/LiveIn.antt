@@ -1,7 +1,7 @@
 -- A run with its lines as they come whose state is in a file (profile).
 use Rattle.std.specs.Prelude.{◌≡◌, ℕ, List, Option, Result}
 use Rattle.uecp_link.specs.Server.{ServerState}
-use Rattle.uecp_text.specs.Written.{Begins}
+use Rattle.notices.specs.Told.{Told, Says}
 use Rattle.uecp_net.specs.declared.saved.keep.Progress.{Progress}
 use Rattle.uecp_net.specs.Keeping.{KeptServer, IsKept}
 use Rattle.kept_jobs.specs.Stops.{state_line}
@@ -11,13 +11,13 @@ use Rattle.state_jobs.specs.ServerJob.{RefusesServer}
 use Rattle.sending.specs.declared.options.LiveOptions.{LiveOptions}
 use Rattle.sending.specs.Run.{Lives}
 
--- The state at the path could not be opened, and that was said, or begun to be said.
+-- The state at the path could not be opened, and that was said.
 abbrev pub HasNoState : {K : Type 0} → (gives : List ℕ → ServerState → Progress → K → Type 0)
-    → (refuses : List ℕ → StateFault → Type 0) → (path : List ℕ) → (said said' : Option (List ℕ)) → (status : ℕ)
+    → (refuses : List ℕ → StateFault → Type 0) → (path : List ℕ) → (said said' : Told) → (status : ℕ)
     → Type 0
 HasNoState gives refuses path said said' status =
     (fault : StateFault) × RefusesServer gives refuses path fault × (status ≡ 3)
-    × Begins said said' (state_line (state_text fault))
+    × Says said said' (state_line (state_text fault))
 
 module _ {K C I O : Type 0} (gives : (path : List ℕ) → ServerState → Progress → K → Type 0)
     (ends : K → Result (Unit {0}) StateFault → Type 0) (leaves : K → KeptServer → Type 0) (is_clean : K → Type 0)
@@ -27,13 +27,13 @@ module _ {K C I O : Type 0} (gives : (path : List ℕ) → ServerState → Progr
   -- it what is to be kept; the run was made from there, as `run_live` says, and ended with a status; and then the state
   -- was closed.
   pub record LivesIn (path : List ℕ) (address : ℕ) (options : LiveOptions) (c c' : C)
-      (unread unread' held held' said said' : Option (List ℕ)) (status' : ℕ) : Type 0 where
+      (unread unread' held held' : Option (List ℕ)) (said said' : Told) (status' : ℕ) : Type 0 where
     pub server : ServerState
     pub progress : Progress
     pub keeper : K
     pub keeper_after : K
     pub status : ℕ
-    pub between : Option (List ℕ)
+    pub between : Told
     pub closed : Result (Unit {0}) StateFault
     pub given : gives path server progress keeper
     pub address_is : server.address ≡ address

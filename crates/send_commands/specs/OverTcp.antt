@@ -3,7 +3,7 @@ use Rattle.std.specs.Prelude.{◌≡◌, ◌⊎◌, ℕ, ◌≤◌, ◌==◌, Li
 use Rattle.std.specs.String.{string_bytes}
 use Rattle.uecp_text.specs.declared.run_fault.RunFault.TheVariants.{OutOfMemory}
 use Rattle.uecp_text.specs.Faults.{error_lines}
-use Rattle.uecp_text.specs.Written.{Begins}
+use Rattle.notices.specs.Told.{Told, Says}
 use Rattle.uecp_link.specs.Server.{ServerState}
 use Rattle.uecp_net.specs.declared.saved.keep.Progress.{Progress}
 use Rattle.uecp_net.specs.Keeping.{KeptServer}
@@ -45,16 +45,16 @@ DialsLive job told dialled =
     }
 
 -- The messages of the job's station could not be had, or there was no memory for the feed of its lines: nothing was
--- taken, opened or written. Where the job has no file for a station it is memory alone, and that was said, or begun to
--- be said.
-pub record HasNotBegun (job : SendOptions) (held held' said said' : Option (List ℕ)) (status : ℕ) : Type 0 where
+-- taken, opened or written. Where the job has no file for a station it is memory alone, and that was said.
+pub record HasNotBegun (job : SendOptions) (held held' : Option (List ℕ)) (said said' : Told) (status : ℕ) : Type
+    0 where
   pub same : held' ≡ held
   pub at_least : 2 ≤ status
   pub at_most : status ≤ 3
-  pub memory : job.station ≡ None → (status ≡ 3) × Begins said said' (error_lines OutOfMemory)
+  pub memory : job.station ≡ None → (status ≡ 3) × Says said said' (error_lines OutOfMemory)
 
 -- Where the job has no file for a station, no message makes one, and nothing was said yet.
-abbrev pub IsBegun : SendOptions → (station : List (List ℕ)) → (said begun : Option (List ℕ)) → Type 0
+abbrev pub IsBegun : SendOptions → (station : List (List ℕ)) → (said begun : Told) → Type 0
 IsBegun job station said begun = job.station ≡ None → (station ≡ []) × (begun ≡ said)
 
 module _ {I O K : Type 0} (opens : Dialled Dials → Option (I × O) → Dialled Dials → Type 0)
@@ -65,10 +65,11 @@ module _ {I O K : Type 0} (opens : Dialled Dials → Option (I × O) → Dialled
     (saves fails : K → KeptServer → K → Type 0) where
   -- The job was done with the lines of the input, of which so much was left, and with the messages of the station, as
   -- `run_send` says, over connections to the job's host and port, from where this had been said.
-  abbrev pub HasSentOver : SendOptions → (told unread held held' said said' : Option (List ℕ)) → (status : ℕ) → Type 0
+  abbrev pub HasSentOver : SendOptions → (told unread held held' : Option (List ℕ)) → (said said' : Told) → (status : ℕ)
+      → Type 0
   HasSentOver job told unread held held' said said' status =
       ((station : List (List ℕ)) × (dialled : Dialled Dials) × (dialled' : Dialled Dials) × (unread' : Option (List ℕ))
-      × (begun : Option (List ℕ)) × DialsLive job told dialled × IsBegun job station said begun
+      × (begun : Told) × DialsLive job told dialled × IsBegun job station said begun
       × HasSentLive opens closes remaining contents gives refuses ends leaves is_clean saves fails job station dialled
       dialled' unread unread' held held' begun said' status)
       ⊎ HasNotBegun job held held' said said' status
@@ -78,7 +79,8 @@ module _ {J O K : Type 0} (remaining : Heard J → Option (List ℕ)) (contents 
     (gives : (path : List ℕ) → ServerState → Progress → K → Type 0) (refuses : List ℕ → StateFault → Type 0)
     (ends : K → Result (Unit {0}) StateFault → Type 0) (leaves : K → KeptServer → Type 0) (is_clean : K → Type 0)
     (saves fails : K → KeptServer → K → Type 0) where
-  abbrev pub HasSentTcp : SendOptions → (told unread held held' said said' : Option (List ℕ)) → (status : ℕ) → Type 0
+  abbrev pub HasSentTcp : SendOptions → (told unread held held' : Option (List ℕ)) → (said said' : Told) → (status : ℕ)
+      → Type 0
   HasSentTcp =
       HasSentOver {I = Heard J} {O = O} (λ d given d'. OpensAtLast DialsAgain d given d')
       (λ d input output d'. GivesBack (λ c _ _ c'. c' ≡ c) d input output d') remaining contents gives refuses ends

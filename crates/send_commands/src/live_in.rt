@@ -5,6 +5,7 @@ ghost use Rattle.send_commands.specs.LiveIn.{LivesIn, HasNoState};
 
 use kept_jobs::{Start, fail_state};
 use line_feed::Feed;
+use notices::NoticesTo;
 use sending::{LiveOptions, Teller, run_live};
 use state_files::StateFault;
 use state_jobs::{OpenStates, closed_so, state_text};
@@ -27,7 +28,7 @@ pub fn run_live_in<S: OpenStates, F: Feed, W: Write, E: Write, C: Connections, T
     states: &S,
     feed: &mut F,
     teller: &mut Teller<'_, W, T>,
-    errors: &mut E,
+    errors: &mut NoticesTo<E>,
     connect: &mut C,
 ) -> u8
     requires exact { IsTrue (is_exact address) }
@@ -38,10 +39,10 @@ pub fn run_live_in<S: OpenStates, F: Feed, W: Write, E: Write, C: Connections, T
     ensures lives { LivesIn (S.gives_server states.now) (S.closes_server states.now) S.ServerKeeper.leaves
         S.ServerKeeper.is_clean S.ServerKeeper.saves S.ServerKeeper.fails C.opens C.closes C.Input.remaining
         C.Output.contents path.now address options.now connect.old connect.new (F.remaining feed.old)
-        (F.remaining feed.new) teller.old.held teller.new.held (E.contents errors.old)
-        (E.contents errors.new) result
-        ⊎ (HasNoState (S.gives_server states.now) (S.refuses_server states.now) path.now (E.contents errors.old)
-        (E.contents errors.new) result × (feed.new ≡ feed.old) × (teller.new.held ≡ teller.old.held)
+        (F.remaining feed.new) teller.old.held teller.new.held errors.old
+        errors.new result
+        ⊎ (HasNoState (S.gives_server states.now) (S.refuses_server states.now) path.now errors.old
+        errors.new result × (feed.new ≡ feed.old) × (teller.new.held ≡ teller.old.held)
         × (connect.new ≡ connect.old)) }
     ensures writer { teller.new.writer ≡ teller.old.writer }
 {

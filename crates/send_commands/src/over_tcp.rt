@@ -9,6 +9,7 @@ use commands::SendOptions;
 use kept_jobs::fail_state;
 use line_feed::{Arrival, LineFeed};
 use live_edges::{Patience, Patient, ReadMeter, Watch};
+use notices::{NoticesTo, fail};
 use sending::Teller;
 use state_jobs::OpenStates;
 use std::alloc::Global;
@@ -17,7 +18,6 @@ use std::io::{Read, Write};
 use std::net::{Net, TcpStream};
 use std::time::Clock;
 use uecp_frame::Message;
-use uecp_jobs::fail;
 use uecp_net::Dialing;
 use uecp_text::RunFault;
 
@@ -47,7 +47,7 @@ pub fn run_send_over_tcp<
     reader: &mut R,
     arrival: A,
     teller: &mut Teller<'_, W, T>,
-    errors: &mut E,
+    errors: &mut NoticesTo<E>,
     dialling: Dialling<'a, N>,
     notices: &'a mut M,
     states: &S,
@@ -56,8 +56,8 @@ pub fn run_send_over_tcp<
     ensures sent { HasSentTcp ⟦<ReadMeter<TcpStream> as Read>⟧.remaining ⟦<TcpStream as Write>⟧.contents
         (S.gives_server states.now) (S.refuses_server states.now) (S.closes_server states.now)
         S.ServerKeeper.leaves S.ServerKeeper.is_clean S.ServerKeeper.saves S.ServerKeeper.fails job.now
-        (M.contents notices.old) (R.remaining reader.old) teller.old.held teller.new.held (E.contents errors.old)
-        (E.contents errors.new) result }
+        (M.contents notices.old) (R.remaining reader.old) teller.old.held teller.new.held errors.old
+        errors.new result }
     ensures writer { teller.new.writer ≡ teller.old.writer }
 {
     let Dialling { net, watch } = dialling;
@@ -88,7 +88,7 @@ fn station_of<F: Files, E: Write>(
     alloc: Global,
     job: &SendOptions,
     files: &F,
-    errors: &mut E,
+    errors: &mut NoticesTo<E>,
 ) -> Result<Vec<Message>, StationFault>
     ensures { job.now.station ≡ None → IfOk result (λ station. station.items ≡ []) × IfErr result (λ _. ⊥)
         × (errors.new ≡ errors.old) }
@@ -100,7 +100,7 @@ fn station_of<F: Files, E: Write>(
 }
 
 /// Says why there is no station, and answers the exit status.
-fn fail_station<E: Write>(fault: &StationFault, errors: &mut E) -> u8
+fn fail_station<E: Write>(fault: &StationFault, errors: &mut NoticesTo<E>) -> u8
     ensures { (2 ≤ result) × (result ≤ 3) }
 {
     match fault {

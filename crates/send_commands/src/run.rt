@@ -8,13 +8,14 @@ use commands::SendOptions;
 use kept_jobs::Start;
 use line_batches::Reading;
 use line_feed::Feed;
+use notices::{NoticesTo, fail};
 use sending::{LiveOptions, Teller, run_live};
 use state_jobs::OpenStates;
 use std::io::Write;
 use std::time::Clock;
 use uecp_encoder::NotSaved;
 use uecp_frame::{Address, Message};
-use uecp_jobs::{address_of, fail};
+use uecp_jobs::address_of;
 use uecp_link::Server;
 use uecp_net::{Connections, Limits, Progress};
 use uecp_text::RunFault;
@@ -30,14 +31,14 @@ pub fn run_send<S: OpenStates, F: Feed, W: Write, E: Write, C: Connections, T: C
     states: &S,
     feed: &mut F,
     teller: &mut Teller<'_, W, T>,
-    errors: &mut E,
+    errors: &mut NoticesTo<E>,
     connect: &mut C,
 ) -> u8
     requires { IsSendable job.now }
     ensures sent { HasSentLive C.opens C.closes C.Input.remaining C.Output.contents (S.gives_server states.now)
         (S.refuses_server states.now) (S.closes_server states.now) S.ServerKeeper.leaves S.ServerKeeper.is_clean
         S.ServerKeeper.saves S.ServerKeeper.fails job.now station.now connect.old connect.new (F.remaining feed.old)
-        (F.remaining feed.new) teller.old.held teller.new.held (E.contents errors.old) (E.contents errors.new) result }
+        (F.remaining feed.new) teller.old.held teller.new.held errors.old errors.new result }
     ensures writer { teller.new.writer ≡ teller.old.writer }
 {
     let Some(address) = address_of(job.site, job.encoder) else {
@@ -84,7 +85,7 @@ fn run_unkept<F: Feed, W: Write, E: Write, C: Connections, T: Clock>(
     address: Address,
     feed: &mut F,
     teller: &mut Teller<'_, W, T>,
-    errors: &mut E,
+    errors: &mut NoticesTo<E>,
     connect: &mut C,
 ) -> u8
     requires exact { IsTrue (is_exact address) }
@@ -92,7 +93,7 @@ fn run_unkept<F: Feed, W: Write, E: Write, C: Connections, T: Clock>(
     requires most { options.now.reading.size ≤ 8 }
     ensures sends { SendsTo C.opens C.closes C.Input.remaining C.Output.contents address options.now connect.old
         connect.new (F.remaining feed.old) (F.remaining feed.new) teller.old.held teller.new.held
-        (E.contents errors.old) (E.contents errors.new) result }
+        errors.old errors.new result }
     ensures writer { teller.new.writer ≡ teller.old.writer }
 {
     let start = Start {

@@ -3,6 +3,7 @@ ghost use Rattle.std.specs.Prelude.{◌≡◌};
 
 use line_batches::{After, Reading, Tally, take_batch};
 use line_feed::{Arrival, LineFeed};
+use notices::NoticesTo;
 use rds_text::Region;
 use std::alloc::Global;
 use std::fs::{Files, OpenOptions};
@@ -44,7 +45,7 @@ pub(crate) fn read_station<F: Files, E: Write>(
     region: Region,
     path: &str,
     files: &F,
-    errors: &mut E,
+    errors: &mut NoticesTo<E>,
 ) -> Result<Vec<Message>, StationFault> {
     let Ok(file) = OpenOptions::new().read(true).open(files, path) else {
         return Err(StationFault::Unreadable);
@@ -57,7 +58,7 @@ fn messages_of<R: Read + Drop, E: Write>(
     alloc: Global,
     region: Region,
     reader: R,
-    errors: &mut E,
+    errors: &mut NoticesTo<E>,
 ) -> Result<Vec<Message>, StationFault> {
     let Ok(mut feed) = LineFeed::new(alloc, reader, IsThere) else {
         return Err(StationFault::OutOfMemory);

@@ -1,6 +1,7 @@
 -- What was lent to a run (profile).
 use Rattle.std.specs.Prelude.{ℕ, List, Option}
 use Rattle.line_batches.specs.Intake.{Intake}
+use Rattle.notices.specs.Told.{Told}
 
 -- Lines as they come: where their taking stands, and the loans of what they come from and of where it is told of those
 -- that are refused.
@@ -21,5 +22,5 @@ pub record Fed : Type 0 where
 
 -- Where refusals are told, which was lent: what was said there, and its loan.
 pub record Said : Type 0 where
-  pub said : Option (List ℕ)
+  pub said : Told
   pub loan : ℕ

@@ -7,7 +7,6 @@ use Rattle.uecp_elements.specs.declared.code.Code.{Code}
 use Rattle.uecp_elements.specs.declared.code.Code.TheVariants.{Applied}
 use Rattle.uecp_text.specs.declared.run_fault.RunFault.{RunFault}
 use Rattle.uecp_text.specs.declared.run_fault.RunFault.TheVariants as run
-use Rattle.uecp_text.specs.Written.{Begins}
 use Rattle.uecp_link.specs.declared.counts.ServerCounts.{ServerCounts}
 use Rattle.uecp_link.specs.Server.{ServerState, idle_at, counters_waiting}
 use Rattle.uecp_net.specs.declared.sender.Outstanding.TheVariants.{TriesSpent, ConnectionFailed}
@@ -34,6 +33,7 @@ use Rattle.line_batches.specs.declared.taking.After.{After}
 use Rattle.line_batches.specs.declared.taking.After.TheVariants.{GoesOn, Ends}
 use Rattle.line_batches.specs.Intake.{Intake}
 use Rattle.line_batches.specs.Batches.{TakesBatch}
+use Rattle.notices.specs.Told.{Told, Says}
 
 -- ---- Where a run stands: what it sends, and where that is kept and told; what it takes; whether all messages that
 -- were told were applied; how many messages are outstanding, of which nothing was told yet; and what comes behind their
@@ -114,12 +114,12 @@ abbrev pub tally_status : (refused applied : Bool) → ℕ
 tally_status refused applied = if refused then 1 else if applied then 0 else 4
 
 -- So a run is ended that went so, where this was taken: where it came to its end the status tells whether a line was
--- refused, or else a message by the encoder, and nothing is said; where it stopped, why was said, or begun to be said.
-abbrev pub EndsAs : Went → (applied : Bool) → (taken : Intake) → (said' : Option (List ℕ)) → (status : ℕ) → Type 0
+-- refused, or else a message by the encoder, and nothing is said; where it stopped, why was said.
+abbrev pub EndsAs : Went → (applied : Bool) → (taken : Intake) → (said' : Told) → (status : ℕ) → Type 0
 EndsAs went applied taken said' status =
     ((went ≡ Ok tt) × (status ≡ tally_status taken.refused applied) × (said' ≡ taken.said))
     ⊎ ((stop : KeptStop) × (went ≡ Err stop) × (status ≡ stop_status stop)
-    × Begins taken.said said' (stop_lines stop))
+    × Says taken.said said' (stop_lines stop))
 
 -- ---- What is outstanding is given up.
 
@@ -328,7 +328,8 @@ module _ {C I O K : Type 0} (opens : C → Option (I × O) → C → Type 0) (cl
 
   -- It ran so from a server of which no line was taken, and was ended so.
   abbrev pub Lives : LiveOptions → (c c' : C)
-      → (x : Standing ServerState K) → (k' : K) → (held' unread unread' said said' : Option (List ℕ)) → (status : ℕ)
+      → (x : Standing ServerState K) → (k' : K) → (held' unread unread' : Option (List ℕ)) → (said said' : Told)
+      → (status : ℕ)
       → Type 0
   Lives options c c' x k' held' unread unread' said said' status =
       (went : Went) × (taken : Intake) × (applied : Bool)

@@ -7,6 +7,7 @@ ghost use Rattle.sending.specs.Run.{EndsAs, tally_status};
 use kept_jobs::{KeptStop, fail_run};
 use line_batches::{After, Reading, Tally, take_batch};
 use line_feed::Feed;
+use notices::NoticesTo;
 use std::alloc::Global;
 use std::io::Write;
 use std::marker::Model;
@@ -18,7 +19,7 @@ use uecp_frame::Message;
 pub(crate) struct Intake<'f, 'e, F: Feed, E: Write> {
     alloc: Global,
     feed: &'f mut F,
-    errors: &'e mut E,
+    errors: &'e mut NoticesTo<E>,
     tally: Tally,
     line: Vec<u8>,
 }
@@ -34,7 +35,7 @@ impl<'f, 'e, F: Feed, E: Write> Model for Intake<'f, 'e, F, E> {
         unread = F.remaining i.feed.now;
         lines = i.tally.lines;
         refused = i.tally.refused;
-        said = E.contents i.errors.now;
+        said = i.errors.now;
       };
       feed = i.feed.ghost_name;
       errors = i.errors.ghost_name;
@@ -43,13 +44,17 @@ impl<'f, 'e, F: Feed, E: Write> Model for Intake<'f, 'e, F, E> {
 
 impl<'f, 'e, F: Feed, E: Write> Intake<'f, 'e, F, E> {
     /// The lines of this feed, of which none was taken.
-    pub(crate) fn new(alloc: Global, feed: &'f mut F, errors: &'e mut E) -> Intake<'f, 'e, F, E>
+    pub(crate) fn new(
+        alloc: Global,
+        feed: &'f mut F,
+        errors: &'e mut NoticesTo<E>,
+    ) -> Intake<'f, 'e, F, E>
         ensures { result ≡ record {
           at = record {
             unread = F.remaining feed.old;
             lines = 0;
             refused = false;
-            said = E.contents errors.old;
+            said = errors.old;
           };
           feed = feed.entry.ghost_name;
           errors = errors.entry.ghost_name;
@@ -146,7 +151,7 @@ impl<'a, F: Feed> LentFeed<'a, F> {
 /// A writer of errors that was lent. Contracts see it as one value, `Said`.
 #[derive(Drop)]
 pub(crate) struct LentErrors<'a, E: Write> {
-    errors: &'a mut E,
+    errors: &'a mut NoticesTo<E>,
 }
 
 impl<'a, E: Write> Model for LentErrors<'a, E> {
@@ -154,14 +159,14 @@ impl<'a, E: Write> Model for LentErrors<'a, E> {
 
     ghost Value = { Said };
 
-    ghost view = { λ e. record { said = E.contents e.errors.now; loan = e.errors.ghost_name } };
+    ghost view = { λ e. record { said = e.errors.now; loan = e.errors.ghost_name } };
 }
 
 impl<'a, E: Write> LentErrors<'a, E> {
     /// It itself.
-    pub(crate) fn finish(self) -> &'a mut E
+    pub(crate) fn finish(self) -> &'a mut NoticesTo<E>
         ensures same { result.ghost_name ≡ self.entry.loan }
-        ensures said { E.contents result.now ≡ self.entry.said }
+        ensures said { result.now ≡ self.entry.said }
     {
         let LentErrors { errors } = self;
         errors

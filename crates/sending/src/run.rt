@@ -18,6 +18,7 @@ use crate::turn::{send_some, settle_first};
 use kept_jobs::{KeptStop, Start};
 use line_batches::After;
 use line_feed::Feed;
+use notices::NoticesTo;
 use std::io::Write;
 use std::mem::replace;
 use std::time::Clock;
@@ -50,7 +51,7 @@ pub fn run_live<K: Keep<SavedServer>, F: Feed, W: Write, E: Write, C: Connection
     keeper: &mut K,
     feed: &mut F,
     teller: &mut Teller<'_, W, T>,
-    errors: &mut E,
+    errors: &mut NoticesTo<E>,
     connect: &mut C,
 ) -> u8
     requires exact { IsTrue (is_exact start.server.address) }
@@ -63,8 +64,8 @@ pub fn run_live<K: Keep<SavedServer>, F: Feed, W: Write, E: Write, C: Connection
           keeper = keeper.old;
           progress = start.progress;
           held = teller.old.held;
-        }) keeper.new teller.new.held (F.remaining feed.old) (F.remaining feed.new) (E.contents errors.old)
-        (E.contents errors.new) result }
+        }) keeper.new teller.new.held (F.remaining feed.old) (F.remaining feed.new) errors.old
+        errors.new result }
     ensures writer { teller.new.writer ≡ teller.old.writer }
 {
     let mut intake = Intake::new(teller.alloc(), feed, errors);

@@ -1,7 +1,6 @@
 -- What comes of a job with its state in a file, whatever its connections are (profile).
 use Rattle.std.specs.Prelude.{◌≡◌, ◌⊎◌, ℕ, List, Option}
 use Rattle.uecp_link.specs.Server.{ServerState}
-use Rattle.uecp_text.specs.Written.{Begins}
 use Rattle.commands.specs.declared.server_options.ServerOptions.{ServerOptions}
 use Rattle.uecp_jobs.specs.Setups.{address_of}
 use Rattle.uecp_net.specs.declared.saved.keep.Progress.{Progress}
@@ -11,17 +10,18 @@ use Rattle.kept_jobs.specs.Stops.{stop_lines, state_line}
 use Rattle.kept_jobs.specs.ServerKept.{HasTakenInput}
 use Rattle.state_files.specs.declared.fault.StateFault.{StateFault}
 use Rattle.state_jobs.specs.Texts.{state_text, unclosed_line}
+use Rattle.notices.specs.Told.{Told, Says}
 
--- Nothing more was said; or what became of the file at this path, or that was begun to be said.
-abbrev pub SaysMore : (path : List ℕ) → (told told' : Option (List ℕ)) → Type 0
+-- Nothing more was said; or what became of the file at this path was.
+abbrev pub SaysMore : (path : List ℕ) → (told told' : Told) → Type 0
 SaysMore path told told' = (told' ≡ told)
-    ⊎ ((status : ℕ) × (fault : StateFault) × Begins told told' (unclosed_line path status fault))
+    ⊎ ((status : ℕ) × (fault : StateFault) × Says told told' (unclosed_line path status fault))
 
 -- It was said that the state can't be had, and why; or why the run stopped, and then, where the state at the path could
--- not be closed, that too. Or that was begun to be said.
-abbrev pub SaysWhy : (path : List ℕ) → (told told' : Option (List ℕ)) → Type 0
-SaysWhy path told told' = ((fault : StateFault) × Begins told told' (state_line (state_text fault)))
-    ⊎ ((stop : KeptStop) × (between : Option (List ℕ)) × Begins told between (stop_lines stop)
+-- not be closed, that too.
+abbrev pub SaysWhy : (path : List ℕ) → (told told' : Told) → Type 0
+SaysWhy path told told' = ((fault : StateFault) × Says told told' (state_line (state_text fault)))
+    ⊎ ((stop : KeptStop) × (between : Told) × Says told between (stop_lines stop)
     × SaysMore path between told')
 
 -- The messages of the input were sent from where the server in the state at the path had come: whatever a crash leaves

@@ -2,7 +2,6 @@
 use Rattle.std.specs.Prelude.{◌≡◌, ◌⊎◌, ℕ, ◌≤◌, ◌^◌, Bool, List, Option, Ok, Err}
 use Rattle.uecp_link.specs.Server.{ServerState}
 use Rattle.uecp_net.specs.declared.sender.Limits.{Limits}
-use Rattle.uecp_text.specs.Written.{Begins}
 use Rattle.commands.specs.declared.server_options.ServerOptions.{ServerOptions}
 use Rattle.uecp_jobs.specs.ServerRun.{server_setup}
 use Rattle.uecp_jobs.specs.Setups.{IsOneEncoder, address_of}
@@ -14,6 +13,7 @@ use Rattle.kept_jobs.specs.ServerKept.{HasTakenInput, OutlivesRun}
 use Rattle.state_files.specs.declared.fault.StateFault.{StateFault}
 use Rattle.state_files.specs.declared.fault.StateFault.TheVariants.{Damaged}
 use Rattle.state_jobs.specs.Texts.{state_text, Closed, IsClosed}
+use Rattle.notices.specs.Told.{Told, Says}
 
 -- the exit status of a run that went so
 abbrev pub status_so : Went → ℕ
@@ -28,12 +28,12 @@ RefusesServer {K} gives refuses path fault = refuses path fault
     ⊎ ((s : ServerState) × (progress : Progress) × (k : K) × gives path s progress k × (2 ^ 63 ≤ progress.taken)
     × (fault ≡ Damaged))
 
--- The state could not be opened: nothing was read, connected or written, and that was said, or begun to be said.
+-- The state could not be opened: nothing was read, connected or written, and that was said.
 abbrev pub HasLostState : {K C : Type 0} → (gives : List ℕ → ServerState → Progress → K → Type 0)
     → (refuses : List ℕ → StateFault → Type 0) → (path : List ℕ) → (unread unread' : Option (List ℕ)) → (c c' : C)
-    → (held held' told told' : Option (List ℕ)) → Type 0
+    → (held held' : Option (List ℕ)) → (told told' : Told) → Type 0
 HasLostState gives refuses path unread unread' c c' held held' told told' =
-    (fault : StateFault) × Begins told told' (state_line (state_text fault))
+    (fault : StateFault) × Says told told' (state_line (state_text fault))
     × RefusesServer gives refuses path fault × (unread' ≡ unread) × (c' ≡ c) × (held' ≡ held)
 
 module _ {K C I O : Type 0} (gives : (path : List ℕ) → ServerState → Progress → K → Type 0)
@@ -75,8 +75,8 @@ module _ {K C I O : Type 0} (gives : (path : List ℕ) → ServerState → Progr
 
   -- Its messages were sent, and the run went so, and that was told; then the state was closed.
   abbrev pub HasSent : (path : List ℕ) → ServerOptions → (status : ℕ) → (unread unread' : Option (List ℕ)) → (c c' : C)
-      → (held held' told told' : Option (List ℕ)) → Type 0
+      → (held held' : Option (List ℕ)) → (told told' : Told) → Type 0
   HasSent path o status unread unread' c c' held held' told told' =
-      (went : Went) × (closed : Closed) × (before : ℕ) × (between : Option (List ℕ))
-      × SendsJob path o unread unread' c c' held held' went closed × IsTold went before told between
+      (went : Went) × (closed : Closed) × (before : ℕ) × (between : Told)
+      × SendsJob path o unread unread' c c' held held' went closed × IsTold Says went before told between
       × IsClosed path before closed status between told'

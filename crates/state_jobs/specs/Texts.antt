@@ -1,10 +1,10 @@
 -- What is said of a state that can't be had (profile).
-use Rattle.std.specs.Prelude.{◌≡◌, ◌++◌, ◌==◌, if◌then◌else◌, ℕ, List, codes, Option, Result, Ok, Err}
+use Rattle.std.specs.Prelude.{◌≡◌, ◌++◌, ◌==◌, if◌then◌else◌, ℕ, List, codes, Result, Ok, Err}
 use Rattle.rds_store.specs.Fault.{name_of}
-use Rattle.uecp_text.specs.Written.{Begins}
 use Rattle.kept_jobs.specs.Stops.{state_line}
 use Rattle.state_files.specs.declared.fault.StateFault.{StateFault}
 use Rattle.state_files.specs.declared.fault.StateFault.TheVariants as state
+use Rattle.notices.specs.Told.{Told, Says}
 
 -- What is said of a state that can't be had.
 abbrev pub state_text : StateFault → List ℕ
@@ -44,9 +44,9 @@ abbrev pub unclosed_line : (path : List ℕ) → (status : ℕ) → StateFault �
 unclosed_line path status fault = if status == 3 then file_line path (why_text fault) else state_line (state_text fault)
 
 -- A run ended with a status, and its state was then closed so. Where that went well the status stays, and nothing is
--- said; else the status is 3, and that is said, or begun to be said.
-abbrev pub IsClosed : (path : List ℕ) → (status : ℕ) → Closed → (status' : ℕ) → (told told' : Option (List ℕ))
+-- said; else the status is 3, and that is said.
+abbrev pub IsClosed : (path : List ℕ) → (status : ℕ) → Closed → (status' : ℕ) → (told told' : Told)
     → Type 0
 IsClosed path status (Ok done) status' told told' = (status' ≡ status) × (told' ≡ told)
 IsClosed path status (Err fault) status' told told' =
-    (status' ≡ 3) × Begins told told' (unclosed_line path status fault)
+    (status' ≡ 3) × Says told told' (unclosed_line path status fault)

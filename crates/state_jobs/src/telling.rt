@@ -9,15 +9,16 @@ ghost use Rattle.state_files.specs.declared.reading.Found.{Found};
 ghost use Rattle.state_files.specs.declared.fault.StateFault.{StateFault};
 ghost use Rattle.state_jobs.specs.Texts.{state_text};
 ghost use Rattle.state_jobs.specs.StateLines.{found_lines};
+ghost use Rattle.notices.specs.Told.{Says};
 
 use crate::open_states::OpenStates;
 use crate::state_lines::put_found;
 use crate::texts::state_text;
 use kept_jobs::fail_state;
+use notices::{NoticesTo, fail};
 use state_files::Found;
 use std::alloc::Global;
 use std::io::Write;
-use uecp_jobs::fail;
 use uecp_text::{Output, RunFault};
 
 /// Tells what is in the state at this path, and answers the exit status: 0 done, 3 it can't be read, or memory or
@@ -27,7 +28,7 @@ pub fn tell_state<S: OpenStates, W: Write, E: Write>(
     path: &str,
     states: &S,
     writer: &mut W,
-    errors: &mut E,
+    errors: &mut NoticesTo<E>,
 ) -> u8
     ensures status { (result ≡ 0) ⊎ (result ≡ 3) }
     // 0: the lines of what was found were written. Nothing was said on `errors`.
@@ -37,10 +38,10 @@ pub fn tell_state<S: OpenStates, W: Write, E: Write>(
     // lines was.
     ensures failed { result ≡ 3 → ((fault : StateFault) × S.hides states.now path.now fault
         × (writer.new ≡ writer.old)
-        × Begins (E.contents errors.old) (E.contents errors.new) (state_line (state_text fault)))
+        × Says errors.old errors.new (state_line (state_text fault)))
         ⊎ ((found : Found) × (fault : RunFault) × S.finds states.now path.now found × Fails fault
         × Begins (W.contents writer.old) (W.contents writer.new) (found_lines found)
-        × Begins (E.contents errors.old) (E.contents errors.new) (error_lines fault)) }
+        × Says errors.old errors.new (error_lines fault)) }
 {
     match states.read_state(path) {
         Err(fault) => fail_state(state_text(fault), errors),

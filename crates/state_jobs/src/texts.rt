@@ -1,12 +1,12 @@
 //! What is said of a state that can't be had. Source: profile.
 ghost use Rattle.std.specs.Prelude.{◌≡◌, IfOk};
-ghost use Rattle.uecp_text.specs.Written.{Begins};
 ghost use Rattle.state_jobs.specs.Texts.{state_text, why_text, file_line, IsClosed};
+ghost use Rattle.notices.specs.Told.{Says};
 
 use kept_jobs::fail_state;
+use notices::{Notices, NoticesTo};
 use state_files::StateFault;
 use std::io::Write;
-use uecp_text::write_parts;
 
 /// What is said of a state that can't be opened, read or closed, behind `uecp: `.
 pub fn state_text(fault: StateFault) -> &'static str
@@ -41,15 +41,15 @@ fn why_text(fault: StateFault) -> &'static str
 }
 
 /// Says why nothing more is kept in the file at this path. A text that can't be written changes nothing.
-fn tell_file<'a, E: Write>(path: &'a str, why: &'a str, errors: &mut E)
-    ensures { Begins (E.contents errors.old) (E.contents errors.new) (file_line path.now why.now) }
+fn tell_file<'a, E: Write>(path: &'a str, why: &'a str, errors: &mut NoticesTo<E>)
+    ensures { Says errors.old errors.new (file_line path.now why.now) }
 {
     let parts = [b"uecp: ", path.as_bytes(), b": ", why.as_bytes(), b"\n"];
-    let _ = write_parts(&parts, errors);
+    errors.say(&parts);
 }
 
 /// The exit status of a run with its state at this path that ended with this status, and whose state was then closed
-/// so: where that went well the status stays; else it is 3, and that is said, or begun to be said. Behind a run that
+/// so: where that went well the status stays; else it is 3, and that is said. Behind a run that
 /// stopped, with 3, the line names the file and says why nothing more is kept in it.
 ///
 /// ```
@@ -60,9 +60,9 @@ pub fn closed_so<E: Write>(
     path: &str,
     status: u8,
     closed: Result<(), StateFault>,
-    errors: &mut E,
+    errors: &mut NoticesTo<E>,
 ) -> u8
-    ensures closed { IsClosed path.now status closed result (E.contents errors.old) (E.contents errors.new) }
+    ensures closed { IsClosed path.now status closed result errors.old errors.new }
     ensures same { IfOk closed (λ _. errors.new ≡ errors.old) }
 {
     match closed {

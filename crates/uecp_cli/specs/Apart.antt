@@ -1,6 +1,7 @@
 -- What comes of the commands whose values are made of their options: groups on the air, a ladder, an encoder that is a
 -- device, `send`, a display, conformance cases, and a page (profile).
-use Rattle.std.specs.Prelude.{◌≡◌, ◌||◌, ℕ, Bool, true, false, IsTrue, List, Option, None, is_some, MatchOption, Result}
+use Rattle.std.specs.Prelude.{◌≡◌, ◌⊎◌, ◌≤◌, ◌||◌, ℕ, Bool, true, false, IsTrue, List, Option, None, is_some}
+use Rattle.std.specs.Prelude.{MatchOption, Result}
 use Rattle.rds_store.specs.Value.{Store}
 use Rattle.uecp_encoder.specs.State.{EncoderState}
 use Rattle.uecp_encoder.specs.Keeping.{Kept}
@@ -31,9 +32,14 @@ use Rattle.air_jobs.specs.AirJobs as air
 use Rattle.air_jobs.specs.declared.air_job.AirJob.{AirJob}
 use Rattle.ladders.specs.Jobs as ladder
 use Rattle.ladders.specs.declared.ladder_job.LadderJob.{LadderJob}
+use Rattle.commands.specs.declared.receive_options.ReceiveOptions.{ReceiveOptions}
 use Rattle.receive_command.specs.Bits.{ReceivesBits}
+use Rattle.receive_command.specs.Receiving.{Receives, at_first}
+use Rattle.uecp_text.specs.Faults.{error_lines}
+use Rattle.uecp_text.specs.declared.run_fault.RunFault.TheVariants.{OutOfMemory}
 use Rattle.conformance_command.specs.Dialling.{DialsQuietly, DialsQuietlyAgain}
 use Rattle.conformance_command.specs.OverTcp.{RunsBuiltIn}
+use Rattle.notices.specs.Told.{Told, Says}
 
 -- The encoder that these options describe.
 abbrev pub described : (site encoder sets : ℕ) → (services : List ℕ) → Options
@@ -51,68 +57,87 @@ pub record IsLadderOf (o : LineOptions) (form : LadderForm) (job : LadderJob) : 
   pub setup_is : setup.options_of job.setup ≡ described o.site o.encoder o.sets o.services.items
   pub form_is : job.form ≡ form
 
--- The input was answered, up to the line that was refused where one was, and where none was the groups were told.
-pub record AnswersOnAir (o : AnswerOptions) (status : ℕ) (unread unread' held held' told told' : Option (List ℕ))
-    (groups : ℕ) : Type 0 where
+-- The input was answered, up to the line that was refused where one was, and where none was the groups were told; or
+-- the options describe no encoder, or memory, reading or writing failed. Why it came to no end was said.
+pub record AnswersOnAir (o : AnswerOptions) (status : ℕ) (unread unread' held held' : Option (List ℕ))
+    (told told' : Told) (groups : ℕ) : Type 0 where
   pub job : AirJob
   pub is_of : IsAirOf o groups job
   pub done : status ≡ 0 → air.IsDone job unread unread' held held'
-  pub refused : status ≡ 1 → air.IsRefused job unread unread' held held' told told'
+  pub refused : status ≡ 1 → air.IsRefused job unread unread' held held' (Says told told')
+  pub undescribed : status ≡ 2 → air.IsUndescribed job (Says told told') × (unread' ≡ unread) × (held' ≡ held)
+  pub failed : status ≡ 3 → air.HasFailed job unread unread' held held' (Says told told')
+  pub most : status ≤ 3
 
--- The line was drawn; or a line of the input was refused, and nothing was.
-pub record DrawsLadder (o : LineOptions) (status : ℕ) (unread unread' held held' told told' : Option (List ℕ))
+-- The line was drawn; or a line of the input was refused, and nothing was; or the options describe no encoder, or
+-- memory, reading or writing failed. Why it came to no end was said.
+pub record DrawsLadder (o : LineOptions) (status : ℕ) (unread unread' held held' : Option (List ℕ)) (told told' : Told)
     (form : LadderForm) : Type 0 where
   pub job : LadderJob
   pub is_of : IsLadderOf o form job
   pub done : status ≡ 0 → ladder.IsDone job unread unread' held held'
-  pub refused : status ≡ 1 → ladder.IsRefused job unread unread' held held' told told'
+  pub refused : status ≡ 1 → ladder.IsRefused job unread unread' held held' (Says told told')
+  pub undescribed : status ≡ 2 → ladder.IsUndescribed job (Says told told') × (unread' ≡ unread) × (held' ≡ held)
+  pub failed : status ≡ 3 → ladder.HasFailed job unread unread' held held' (Says told told')
+  pub most : status ≤ 3
+
+-- Lines of groups were heard from the front of the input on, as far as they were, and what a receiver shows was told;
+-- or there was no memory to begin with, and that was said.
+abbrev pub ReceivesLines : ReceiveOptions → (status : ℕ) → (unread held held' : Option (List ℕ)) → (told told' : Told)
+    → Type 0
+ReceivesLines o status unread held held' told told' =
+    ((unread' : Option (List ℕ)) × Receives o.form o.time status (at_first unread held told) unread' held' told')
+    ⊎ ((status ≡ 3) × (held' ≡ held) × Says told told' (error_lines OutOfMemory))
 
 -- Of these options of the encoder it is one on the air.
 abbrev pub is_on_air : EncoderOptions → Bool
 is_on_air o = is_some o.air || o.air_bits
 
--- What comes of `send` that ended with status 0 or 1, whatever had been said of its connections before.
+-- What comes of `send`, whatever its status is, and whatever had been said of its connections before.
 module _ {I O K : Type 0} (metered : Heard I → Option (List ℕ)) (contents : O → Option (List ℕ))
     (gives : (path : List ℕ) → ServerState → Progress → K → Type 0) (refuses : List ℕ → StateFault → Type 0)
     (ends : K → Result (Unit {0}) StateFault → Type 0) (leaves : K → KeptServer → Type 0) (is_clean : K → Type 0)
     (saves fails : K → KeptServer → K → Type 0) where
-  abbrev pub ComesOfSend : SendOptions → (unread held held' told told' : Option (List ℕ)) → (status : ℕ) → Type 0
+  abbrev pub ComesOfSend : SendOptions → (unread held held' : Option (List ℕ)) → (told told' : Told) → (status : ℕ)
+      → Type 0
   ComesOfSend o unread held held' told told' status =
       (said : Option (List ℕ)) × HasSentTcp metered contents gives refuses ends leaves is_clean saves fails o said
       unread held held' told told' status
 
   -- So where it is asked for.
-  abbrev pub ComesOfLines : Job → (status : ℕ) → (unread unread' held held' told told' : Option (List ℕ)) → Type 0
+  abbrev pub ComesOfLines : Job → (status : ℕ) → (unread unread' held held' : Option (List ℕ)) → (told told' : Told)
+      → Type 0
   ComesOfLines (Send o) status unread unread' held held' told told' =
       ComesOfSend o unread held held' told told' status
   ComesOfLines job status unread unread' held held' told told' = Unit {0}
 
--- What comes of the others that ended so, over the sockets of the machine, where states are kept so. Of a display of
--- lines this says nothing.
+-- What comes of the others, whatever the status is, over the sockets of the machine, where states are kept so.
 module _ {I J O K : Type 0} (remaining : I → Option (List ℕ)) (screened : Screen J → Option (List ℕ))
     (contents : O → Option (List ℕ)) (gives : List ℕ → EncoderState Store → K → Type 0)
     (refuses : List ℕ → StateFault → Type 0) (ends : K → Result (Unit {0}) StateFault → Type 0) (most room : ℕ)
     (leaves : K → Kept Store → Type 0) (is_clean : K → Type 0) (saves fails : K → Kept Store → K → Type 0) where
   -- The encoder is a device with a good line: it served over connections that came where the options have it listen.
-  abbrev pub ServesDevice : EncoderOptions → (held held' told told' : Option (List ℕ)) → (status : ℕ) → Type 0
+  abbrev pub ServesDevice : EncoderOptions → (held held' : Option (List ℕ)) → (told told' : Told) → (status : ℕ)
+      → Type 0
   ServesDevice o held held' told told' status =
       HasServedTcp (HasServedDevice {C = Screening Listens} {I = Screen J} {O = O} (OpensScreened ComesTo)
       (ClosesScreened GoesFrom) screened contents gives refuses ends most room leaves is_clean saves fails o) o held
       held' told told' status
 
   -- It is on the air there, whatever had been said of those who listen, and of foreign connections, before.
-  abbrev pub IsOnAir : EncoderOptions → (held told told' : Option (List ℕ)) → (status : ℕ) → Type 0
+  abbrev pub IsOnAir : EncoderOptions → (held : Option (List ℕ)) → (told told' : Told) → (status : ℕ) → Type 0
   IsOnAir o held told told' status =
       (said : Option (List ℕ)) × (notice : Notice) × HasAiredTcp screened contents gives refuses ends most room leaves
       is_clean saves fails o said notice held told told' status
 
   -- So of an encoder that is a device: on the air, or with a good line.
-  abbrev pub ComesOfDevice : EncoderOptions → (held held' told told' : Option (List ℕ)) → (status : ℕ) → Type 0
+  abbrev pub ComesOfDevice : EncoderOptions → (held held' : Option (List ℕ)) → (told told' : Told) → (status : ℕ)
+      → Type 0
   ComesOfDevice o held held' told told' status =
       (IsTrue (is_on_air o) → IsOnAir o held told told' status)
       × (is_on_air o ≡ false → o.faults ≡ None → ServesDevice o held held' told told' status)
 
-  abbrev pub ComesOf : Job → (status : ℕ) → (unread unread' held held' told told' : Option (List ℕ)) → Type 0
+  abbrev pub ComesOf : Job → (status : ℕ) → (unread unread' held held' : Option (List ℕ)) → (told told' : Told) → Type 0
   ComesOf (AnswerWith o) status unread unread' held held' told told' =
       MatchOption o.air (Unit {0}) (AnswersOnAir o status unread unread' held held' told told')
   ComesOf (LineWith o) status unread unread' held held' told told' =
@@ -120,9 +145,12 @@ module _ {I J O K : Type 0} (remaining : I → Option (List ℕ)) (screened : Sc
   ComesOf (EncoderWith o) status unread unread' held held' told told' =
       IsTrue (is_device o) → ComesOfDevice o held held' told told' status
   ComesOf (Receive o) status unread unread' held held' told told' =
-      IsTrue o.bits → ReceivesBits o.form o.time status unread unread' held held' told told'
+      (IsTrue o.bits → ReceivesBits o.form o.time status unread unread' held held' told told')
+      × (o.bits ≡ false → ReceivesLines o status unread held held' told told')
   ComesOf (Conformance o) status unread unread' held held' told told' =
-      RunsBuiltIn DialsQuietlyAgain (λ (d : DialsQuietly) (input : I) (output : O) (d' : DialsQuietly). d' ≡ d)
-      remaining contents o held held' status
-  ComesOf (Page o) status unread unread' held held' told told' = EndsWith unread unread' status
+      (status ≤ 1 → RunsBuiltIn DialsQuietlyAgain
+      (λ (d : DialsQuietly) (input : I) (output : O) (d' : DialsQuietly). d' ≡ d) remaining contents o held held' status
+      × (told' ≡ told))
+      × (status ≡ 2 → held' ≡ held)
+  ComesOf (Page o) status unread unread' held held' told told' = status ≤ 1 → EndsWith unread unread' status
   ComesOf job status unread unread' held held' told told' = Unit {0}

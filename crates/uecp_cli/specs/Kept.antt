@@ -1,5 +1,5 @@
 -- What a run of the program does whose end has its state in a file, and what it tells of such a file (profile).
-use Rattle.std.specs.Prelude.{◌≡◌, ◌⊎◌, ℕ, List, length, Option, Some, None, MatchOption}
+use Rattle.std.specs.Prelude.{◌≡◌, ◌⊎◌, ℕ, Bool, true, false, List, length, Option, Some, None, MatchOption}
 use Rattle.std.specs.String.{string_bytes}
 use Rattle.std.specs.Io.KnownBytes.{Appends}
 use Rattle.rds_store.specs.Value.{Store}
@@ -27,7 +27,8 @@ use Rattle.uecp_net.specs.declared.tcp.DialFault.{DialFault}
 use Rattle.commands.specs.declared.encoder_options.EncoderOptions.{EncoderOptions}
 use Rattle.commands.specs.declared.server_options.ServerOptions.{ServerOptions}
 use Rattle.commands.specs.declared.job.Job.TheVariants.{ServerWith}
-use Rattle.uecp_cli.specs.Unreached.{SaysUnreached}
+use Rattle.conformance_command.specs.Dialling.{SaysUnreached}
+use Rattle.notices.specs.Told.{Told, Says}
 
 -- ---- an encoder
 -- Its connections were served, and each has its line.
@@ -35,8 +36,8 @@ abbrev pub HasServedLines : EncoderOptions → (held held' : Option (List ℕ)) 
 HasServedLines o held held' =
     (endings : List Ended) × (length endings ≡ o.connections) × Appends held held' (endings_lines Lines 1 endings)
 
--- Why its run stopped was said, or begun to be said, with what became of the file of its state, if it has one.
-abbrev pub SaysWhyOf : EncoderOptions → (told told' : Option (List ℕ)) → Type 0
+-- Why its run stopped was said, with what became of the file of its state, if it has one.
+abbrev pub SaysWhyOf : EncoderOptions → (told told' : Told) → Type 0
 SaysWhyOf o told told' = MatchOption o.state ⊥ (λ path. SaysWhy (string_bytes path) told told')
 
 -- What is kept of it in the file of its state: what the last connection left.
@@ -47,10 +48,10 @@ ServesKeptAs gives leaves is_clean o held held' = MatchOption o.state (Unit {0})
     (λ path. HasServedKept gives leaves is_clean (string_bytes path) o held held')
 
 -- ---- a server
--- A line was refused, and its number and fault were said, or begun to be said.
-abbrev pub IsKeptRefused : (unread unread' told told' : Option (List ℕ)) → Type 0
+-- A line was refused, and its number and fault were said.
+abbrev pub IsKeptRefused : (unread unread' : Option (List ℕ)) → (told told' : Told) → Type 0
 IsKeptRefused unread unread' told told' =
-    (fault : RunFault) × IsReadWith (Some fault) unread unread' × Begins told told' (error_lines fault)
+    (fault : RunFault) × IsReadWith (Some fault) unread unread' × Says told told' (error_lines fault)
 
 -- Its messages were acknowledged; or, with its state in a file, its input was read to its end, and no line is refused.
 abbrev pub SendsDone : ServerOptions → (unread unread' held held' : Option (List ℕ)) → Type 0
@@ -58,23 +59,28 @@ SendsDone o unread unread' held held' = MatchOption o.state
     (AreAcknowledged (ServerWith o) unread unread' held held') (λ path. IsReadWith None unread unread')
 
 -- A line of its input was refused.
-abbrev pub SendsRefused : ServerOptions → (unread unread' held held' told told' : Option (List ℕ)) → Type 0
+abbrev pub SendsRefused : ServerOptions → (unread unread' held held' : Option (List ℕ)) → (told told' : Told) → Type 0
 SendsRefused o unread unread' held held' told told' = MatchOption o.state
-    (AreAcknowledgedBefore (ServerWith o) unread unread' held held' told told')
+    (AreAcknowledgedBefore (ServerWith o) unread unread' held held' (Says told told'))
     (λ path. IsKeptRefused unread unread' told told')
 
--- It came to no end, and why was said, or begun to be said.
-abbrev pub SendsNotAll : ServerOptions → (unread unread' held held' told told' : Option (List ℕ)) → Type 0
+-- It came to no end, and why was said.
+abbrev pub SendsNotAll : ServerOptions → (unread unread' held held' : Option (List ℕ)) → (told told' : Told) → Type 0
 SendsNotAll o unread unread' held held' told told' = MatchOption o.state
-    (AreNotAcknowledged (ServerWith o) unread unread' held held' told told')
+    (AreNotAcknowledged (ServerWith o) unread unread' held held' (Says told told'))
     (λ path. SaysWhy (string_bytes path) told told')
 
--- So it did, and then, where a connection could not be made and that is asked for, why that could not be was said, or
--- begun to be said.
-abbrev pub SendsStopped : ServerOptions → (unread unread' held held' told told' : Option (List ℕ)) → Type 0
-SendsStopped o unread unread' held held' told told' = (between : Option (List ℕ)) × (failed : Option DialFault)
+-- Where it is asked for, it is said why a connection could not be made, if one could not; else nothing is said.
+abbrev pub SaysWhereUnreached : (verbose : Bool) → (host : List ℕ) (port : ℕ) → Option DialFault → (told told' : Told)
+    → Type 0
+SaysWhereUnreached true host port failed told told' = SaysUnreached host port failed told told'
+SaysWhereUnreached false host port failed told told' = told' ≡ told
+
+-- So it did, and then, where a connection could not be made and that is asked for, why that could not be was said.
+abbrev pub SendsStopped : ServerOptions → (unread unread' held held' : Option (List ℕ)) → (told told' : Told) → Type 0
+SendsStopped o unread unread' held held' told told' = (between : Told) × (failed : Option DialFault)
     × SendsNotAll o unread unread' held held' told between
-    × SaysUnreached o.verbose (string_bytes o.host) o.port failed between told'
+    × SaysWhereUnreached o.verbose (string_bytes o.host) o.port failed between told'
 
 -- What is kept of it in the file of its state: that the messages of its input were taken and that none waits.
 abbrev pub SendsKeptAs : {S : Type 0} → (gives : (path : List ℕ) → ServerState → Progress → S → Type 0)
@@ -90,11 +96,11 @@ abbrev pub HasTold : (finds : (path : List ℕ) → Found → Type 0) → (path 
 HasTold finds path unread unread' held held' =
     ((found : Found) × finds path found × Appends held held' (found_lines found)) × (unread' ≡ unread)
 
--- It could not be told, and that was said, or begun to be said: the state could not be read, and nothing was written;
+-- It could not be told, and that was said: the state could not be read, and nothing was written;
 -- or memory or writing failed, and a beginning of it was.
 abbrev pub HasNotTold : (finds : (path : List ℕ) → Found → Type 0) → (path : List ℕ)
-    → (unread unread' held held' told told' : Option (List ℕ)) → Type 0
+    → (unread unread' held held' : Option (List ℕ)) → (told told' : Told) → Type 0
 HasNotTold finds path unread unread' held held' told told' =
-    (((fault : StateFault) × (held' ≡ held) × Begins told told' (state_line (state_text fault)))
+    (((fault : StateFault) × (held' ≡ held) × Says told told' (state_line (state_text fault)))
     ⊎ ((found : Found) × (fault : RunFault) × finds path found × Fails fault
-    × Begins held held' (found_lines found) × Begins told told' (error_lines fault))) × (unread' ≡ unread)
+    × Begins held held' (found_lines found) × Says told told' (error_lines fault))) × (unread' ≡ unread)

@@ -7,7 +7,6 @@ use Rattle.clap.specs.declared.error.kind.ErrorKind.{ErrorKind}
 use Rattle.clap.specs.declared.error.kind.ErrorKind.TheVariants.{DisplayHelp, DisplayVersion}
 use Rattle.uecp_text.specs.declared.run_fault.RunFault.{RunFault}
 use Rattle.uecp_text.specs.Faults.{Fails, error_lines}
-use Rattle.uecp_text.specs.Written.{Begins}
 use Rattle.uecp_net.specs.Tcp.{Dials}
 use Rattle.commands.specs.Jobs.{in_full, is_device}
 use Rattle.commands.specs.declared.job.Job.{Job}
@@ -21,7 +20,7 @@ use Rattle.uecp_net.specs.declared.saved.keep.Progress.{Progress}
 use Rattle.uecp_net.specs.Keeping as sending
 use Rattle.state_files.specs.declared.reading.Found.{Found}
 use Rattle.command_line.specs.CommandLine.{uecp_app, Asks, GivesNoForm, GivesNoList}
-use Rattle.command_line.specs.Usages.{no_list_line}
+use Rattle.command_line.specs.Usages.{no_list_line, SaysFailure}
 use Rattle.uecp_watch.specs.Watching.{Watches}
 use Rattle.uecp_jobs.specs.Jobs.{IsDone, IsRefused, IsUndescribed, HasFailed}
 use Rattle.uecp_jobs.specs.EncoderRun.{HasServed, HasStopped}
@@ -29,6 +28,7 @@ use Rattle.uecp_jobs.specs.ServerRun.{AreAcknowledged, AreAcknowledgedBefore, Ar
 use Rattle.uecp_cli.specs.Kept.{HasServedLines, SaysWhyOf, ServesKeptAs, SendsDone, SendsRefused, SendsStopped}
 use Rattle.uecp_cli.specs.Kept.{SendsKeptAs, HasTold, HasNotTold}
 use Rattle.uecp_cli.specs.Apart.{ComesOf}
+use Rattle.notices.specs.Told.{Told, Says}
 
 -- ---- where connections come from
 -- Connections are accepted on the port of the job.
@@ -73,39 +73,40 @@ IsJobDone finds (State file) unread unread' held held' = HasTold finds (string_b
 IsJobDone finds job unread unread' held held' = IsDone job unread unread' held held'
 
 -- A line of its input was refused: what the lines before it bring was written, or their messages were acknowledged.
-abbrev pub IsJobRefused : Job → (unread unread' held held' told told' : Option (List ℕ)) → Type 0
+abbrev pub IsJobRefused : Job → (unread unread' held held' : Option (List ℕ)) → (told told' : Told) → Type 0
 IsJobRefused (Encoder site encoder sets services port connections turns) unread unread' held held' told told' = ⊥
 IsJobRefused (EncoderWith o) unread unread' held held' told told' = ⊥
 IsJobRefused (Server site encoder host port tries timeout turns reconnects window) unread unread' held held' told
     told' =
     AreAcknowledgedBefore (Server site encoder host port tries timeout turns reconnects window) unread unread' held
-    held' told told'
+    held' (Says told told')
 IsJobRefused (ServerWith o) unread unread' held held' told told' = SendsRefused o unread unread' held held' told told'
 IsJobRefused (Watch o) unread unread' held held' told told' = ⊥
 IsJobRefused (State file) unread unread' held held' told told' = ⊥
-IsJobRefused job unread unread' held held' told told' = IsRefused job unread unread' held held' told told'
+IsJobRefused job unread unread' held held' told told' = IsRefused job unread unread' held held' (Says told told')
 
 -- It came to no end, and that was said: memory, reading or writing failed, and what was written is a beginning of what
 -- it writes of its input; or not all its messages were sent or told; or connections could not be served, and no input
 -- was read; or watching stopped; or the file could not be told of.
 abbrev pub IsJobStopped : (finds : (path : List ℕ) → Found → Type 0) → Job
-    → (unread unread' held held' told told' : Option (List ℕ)) → Type 0
+    → (unread unread' held held' : Option (List ℕ)) → (told told' : Told) → Type 0
 IsJobStopped finds (Encoder site encoder sets services port connections turns) unread unread' held held' told told' =
-    HasStopped (Encoder site encoder sets services port connections turns) held held' told told' × (unread' ≡ unread)
+    HasStopped (Encoder site encoder sets services port connections turns) held held' (Says told told')
+    × (unread' ≡ unread)
 IsJobStopped finds (EncoderWith o) unread unread' held held' told told' =
     SaysWhyOf o told told' × (unread' ≡ unread)
 IsJobStopped finds (Server site encoder host port tries timeout turns reconnects window) unread unread' held held' told
     told' =
     AreNotAcknowledged (Server site encoder host port tries timeout turns reconnects window) unread unread' held held'
-    told told'
+    (Says told told')
 IsJobStopped finds (ServerWith o) unread unread' held held' told told' =
     SendsStopped o unread unread' held held' told told'
 IsJobStopped finds (Watch o) unread unread' held held' told told' =
     (fault : RunFault) × Fails fault × Watches o.form o.time unread unread' held held' (Err fault)
-    × Begins told told' (error_lines fault)
+    × Says told told' (error_lines fault)
 IsJobStopped finds (State file) unread unread' held held' told told' =
     HasNotTold finds (string_bytes file) unread unread' held held' told told'
-IsJobStopped finds job unread unread' held held' told told' = HasFailed job unread unread' held held' told told'
+IsJobStopped finds job unread unread' held held' told told' = HasFailed job unread unread' held held' (Says told told')
 
 -- What is kept in the file of an end's state, where that is asked for.
 abbrev pub IsJobKept : {E S : Type 0} → (gives_encoder : (path : List ℕ) → EncoderState Store → E → Type 0)
@@ -137,13 +138,14 @@ HasDone finds words unread unread' held held' =
     (job : Job) × Asks words job × IsJobDone finds job unread unread' held held'
 
 -- The words ask for a job, and a line was refused.
-abbrev pub HasRefused : (words : List (List ℕ)) → (unread unread' held held' told told' : Option (List ℕ)) → Type 0
+abbrev pub HasRefused : (words : List (List ℕ)) → (unread unread' held held' : Option (List ℕ)) → (told told' : Told)
+    → Type 0
 HasRefused words unread unread' held held' told told' =
     (job : Job) × Asks words job × IsJobRefused job unread unread' held held' told told'
 
 -- The words ask for a job, and it came to no end.
 abbrev pub HasBrokenOff : (finds : (path : List ℕ) → Found → Type 0) → (words : List (List ℕ))
-    → (unread unread' held held' told told' : Option (List ℕ)) → Type 0
+    → (unread unread' held held' : Option (List ℕ)) → (told told' : Told) → Type 0
 HasBrokenOff finds words unread unread' held held' told told' =
     (job : Job) × Asks words job × IsJobStopped finds job unread unread' held held' told told'
 
@@ -159,15 +161,22 @@ HasKept gives_encoder encoder_leaves encoder_clean gives_server server_leaves se
     held held'
 
 -- The words ask for a job, and this comes of it.
-abbrev pub HasCome : (comes : Job → (status : ℕ) → (unread unread' held held' told told' : Option (List ℕ)) → Type 0)
-    → (words : List (List ℕ)) → (status : ℕ) → (unread unread' held held' told told' : Option (List ℕ)) → Type 0
+abbrev pub HasCome : (comes : Job → (status : ℕ) → (unread unread' held held' : Option (List ℕ)) → (told told' : Told)
+    → Type 0)
+    → (words : List (List ℕ)) → (status : ℕ) → (unread unread' held held' : Option (List ℕ)) → (told told' : Told)
+    → Type 0
 HasCome comes words status unread unread' held held' told told' =
     (job : Job) × Asks words job × comes job status unread unread' held held' told told'
 
 -- The words ask for nothing that can be done: they are mistaken, or give a list of services that is none or a form of a
 -- ladder that is none, or ask for a job whose options describe no encoder. The first and the third are said by clap,
--- and the others were said on standard error, or begun to be said.
-abbrev pub HasRefusedWords : (words : List (List ℕ)) → (told told' : Option (List ℕ)) → Type 0
+-- and the others were said on standard error.
+abbrev pub HasRefusedWords : (words : List (List ℕ)) → (told told' : Told) → Type 0
 HasRefusedWords words told told' =
-    AreMistaken words ⊎ ((GivesNoList words × Begins told told' no_list_line)
-    ⊎ (GivesNoForm words ⊎ ((job : Job) × Asks words job × IsUndescribed job told told')))
+    AreMistaken words ⊎ ((GivesNoList words × Says told told' no_list_line)
+    ⊎ (GivesNoForm words ⊎ ((job : Job) × Asks words job × IsUndescribed job (Says told told'))))
+
+-- The words gave no job: they are refused, and nothing that they ask for can be done; or memory was wanting, or the
+-- text that they ask for could not be written. That was said.
+abbrev pub HasNoJob : (words : List (List ℕ)) → (told told' : Told) → Type 0
+HasNoJob words told told' = HasRefusedWords words told told' ⊎ SaysFailure told told'

@@ -10,11 +10,11 @@
 #![tactic(auto)]
 
 mod program;
-mod unreached;
 
 use crate::program::{Hands, run_words};
 use clap::error;
 use command_line::{Usage, program, refuse, settle};
+use notices::NoticesTo;
 use sqlite_image::{MachineFiles, Wary};
 use state_jobs::{OpenStates, StatesInFiles};
 use std::env;
@@ -27,7 +27,7 @@ const STANDARD_INPUT: i32 = 0;
 fn main(rt: HostRuntime) -> ExitCode {
     let mut reader = rt.stdin().lock();
     let mut writer = rt.stdout().lock();
-    let mut errors = rt.stderr().lock();
+    let mut errors = NoticesTo::new(rt.stderr().lock());
     let status = match settled_words(&rt, &mut writer, &mut errors) {
         Ok(words) => {
             let states = StatesInFiles::new(MachineFiles::new(&rt, Wary));
@@ -51,7 +51,7 @@ fn run<R: Read, W: Write, E: Write, S: OpenStates>(
     words: &[String],
     reader: &mut R,
     writer: &mut W,
-    errors: &mut E,
+    errors: &mut NoticesTo<E>,
     states: &S,
 ) -> u8 {
     let mut losses = rt.stderr().lock();
@@ -71,7 +71,7 @@ fn run<R: Read, W: Write, E: Write, S: OpenStates>(
 fn settled_words<W: Write, E: Write>(
     rt: &HostRuntime,
     writer: &mut W,
-    errors: &mut E,
+    errors: &mut NoticesTo<E>,
 ) -> Result<Vec<String>, u8> {
     match words_of(rt) {
         Ok(words) => settle(rt.alloc(), words, rt, writer, errors),

@@ -1,10 +1,10 @@
 //! The program from its words to its exit status (profile).
 ghost use Rattle.std.specs.Prelude.{◌≡◌, ◌≢◌, ◌⊎◌, ◌≤◌, Some, map, is_some, Ok, Err, None, IfSome, IfNone};
-ghost use Rattle.std.specs.Prelude.{IsTrue};
+ghost use Rattle.std.specs.Prelude.{IsTrue, false};
 ghost use Rattle.std.specs.String.{string_bytes};
 ghost use Rattle.uecp_text.specs.declared.run_fault.RunFault.{RunFault};
 ghost use Rattle.uecp_text.specs.Faults.{Fails, error_lines};
-ghost use Rattle.uecp_text.specs.Written.{Begins};
+ghost use Rattle.notices.specs.Told.{Says};
 ghost use Rattle.uecp_watch.specs.Watching.{Watches};
 ghost use Rattle.uecp_jobs.specs.EncoderRun.{IsEncoder};
 ghost use Rattle.commands.specs.Jobs.{is_device};
@@ -15,26 +15,27 @@ ghost use Rattle.command_line.specs.Ranges.{IsInRange, IsLiveInRange};
 ghost use Rattle.command_line.specs.Usages.{AskForText, SaysFailure};
 ghost use Rattle.receive_command.specs.Bits.{ReceivesBits};
 ghost use Rattle.uecp_cli.specs.Program.{AskApart, HasDone, HasRefused, HasKept, HasRefusedWords, HasBrokenOff};
-ghost use Rattle.uecp_cli.specs.Program.{IsApart, IsJobDone, IsJobRefused, IsJobStopped, IsJobKept, ListensFor};
+ghost use Rattle.uecp_cli.specs.Program.{HasNoJob, IsApart, IsJobDone, IsJobRefused, IsJobStopped, IsJobKept};
+ghost use Rattle.uecp_cli.specs.Program.{ListensFor};
 ghost use Rattle.uecp_cli.specs.Program.{DialsFor, HasCome};
 ghost use Rattle.uecp_cli.specs.Kept.{HasServedLines, SaysWhyOf, ServesKeptAs, SendsDone, SendsRefused, SendsStopped};
 ghost use Rattle.uecp_cli.specs.Kept.{SendsKeptAs, SendsNotAll};
 ghost use Rattle.uecp_cli.specs.Apart.{ComesOf, ComesOfDevice, ComesOfLines, ComesOfSend, AnswersOnAir};
-ghost use Rattle.uecp_cli.specs.Apart.{DrawsLadder};
+ghost use Rattle.uecp_cli.specs.Apart.{DrawsLadder, ReceivesLines};
 
-use crate::unreached::say_unreached;
 use air_jobs::{AirJob, run_answer_on_air};
 use command_line::{parse, refuse};
 use commands::{
     AnswerOptions, EncoderOptions, Job, LadderForm, LineOptions, ReceiveOptions, SendOptions,
     ServerOptions, is_device,
 };
-use conformance_command::run_conformance_over_tcp;
+use conformance_command::{run_conformance_over_tcp, say_unreached};
 use device_edges::{Idle, Screened, Screening};
 use device_jobs::{run_device_over_tcp, run_encoder_in};
 use ladders::{LadderJob, run_ladder};
 use line_feed::{Arrival, LineFeed};
 use live_edges::{Polled, ReadMeter, Watch};
+use notices::{NoticesTo, fail};
 use on_air_jobs::run_on_air_over_tcp;
 use page_server::run_page_over_tcp;
 use receive_command::{run_receive, run_receive_bits};
@@ -46,7 +47,7 @@ use std::io::{Read, Write};
 use std::net::{Net, TcpListener, TcpStream};
 use std::os::fd::RawFd;
 use std::time::Clock;
-use uecp_jobs::{Form, Setup, fail, run_encoder_over, run_job, run_server_over};
+use uecp_jobs::{Form, Setup, run_encoder_over, run_job, run_server_over};
 use uecp_net::{Connections, Dialing, Local};
 use uecp_text::RunFault;
 use uecp_watch::watch;
@@ -80,7 +81,7 @@ pub fn run_words<
     words: &[String],
     reader: &mut R,
     writer: &mut W,
-    errors: &mut E,
+    errors: &mut NoticesTo<E>,
     hands: Hands<'_, M, F>,
     net: &N,
     states: &S,
@@ -94,10 +95,10 @@ pub fn run_words<
     // 1: the words ask for a job, and a line was refused.
     ensures refused { result ≡ 1 → AskApart (map string_bytes words.now)
         ⊎ HasRefused (map string_bytes words.now) (R.remaining reader.old) (R.remaining reader.new)
-        (W.contents writer.old) (W.contents writer.new) (E.contents errors.old) (E.contents errors.new) }
+        (W.contents writer.old) (W.contents writer.new) errors.old errors.new }
     // 2: the words ask for nothing that can be done. Nothing was read or written.
     ensures mistaken { result ≡ 2 → AskApart (map string_bytes words.now)
-        ⊎ (HasRefusedWords (map string_bytes words.now) (E.contents errors.old) (E.contents errors.new)
+        ⊎ (HasRefusedWords (map string_bytes words.now) errors.old errors.new
         × (reader.new ≡ reader.old) × (writer.new ≡ writer.old)) }
     // 3: memory, reading, writing, a connection or a state failed: of what the words ask for, and what was written is a
     // beginning of what it writes; or before there was a job, and nothing was read, and but for the text that was asked
@@ -105,7 +106,7 @@ pub fn run_words<
     ensures failed { result ≡ 3 → AskApart (map string_bytes words.now)
         ⊎ (HasBrokenOff (S.finds states.now) (map string_bytes words.now)
         (R.remaining reader.old) (R.remaining reader.new) (W.contents writer.old) (W.contents writer.new)
-        (E.contents errors.old) (E.contents errors.new) ⊎ (SaysFailure (E.contents errors.old) (E.contents errors.new)
+        errors.old errors.new ⊎ (SaysFailure errors.old errors.new
         × (reader.new ≡ reader.old) × (AskForText (map string_bytes words.now) ⊎ (writer.new ≡ writer.old)))) }
     // 0 or 1: where an end has its state in a file, this is kept there then.
     ensures kept { (result ≡ 0) ⊎ (result ≡ 1) → AskApart (map string_bytes words.now)
@@ -113,23 +114,24 @@ pub fn run_words<
         S.EncoderKeeper.is_clean (S.gives_server states.now) S.ServerKeeper.leaves S.ServerKeeper.is_clean
         (map string_bytes words.now) (R.remaining reader.old) (R.remaining reader.new) (W.contents writer.old)
         (W.contents writer.new)) }
-    // 0 or 1: this comes of groups on the air, a ladder, an encoder that is a device, a display of bits, conformance
-    // cases, and a page.
-    ensures comes { (result ≡ 0) ⊎ (result ≡ 1) → AskForText (map string_bytes words.now)
+    // Whatever the status is, this comes of groups on the air, a ladder, an encoder that is a device, a display,
+    // conformance cases, and a page; or the words gave no job.
+    ensures comes { AskForText (map string_bytes words.now)
+        ⊎ (HasNoJob (map string_bytes words.now) errors.old errors.new
         ⊎ HasCome (ComesOf ⟦<TcpStream as Read>⟧.remaining ⟦<Screened<Idle<TcpStream>> as Read>⟧.remaining
         ⟦<TcpStream as Write>⟧.contents (S.gives_encoder states.now) (S.refuses_encoder states.now)
         (S.closes_encoder states.now) S.EncoderKeeper.TOGETHER_MAX S.EncoderKeeper.READ_MAX S.EncoderKeeper.leaves
         S.EncoderKeeper.is_clean S.EncoderKeeper.saves S.EncoderKeeper.fails) (map string_bytes words.now) result
         (R.remaining reader.old) (R.remaining reader.new) (W.contents writer.old) (W.contents writer.new)
-        (E.contents errors.old) (E.contents errors.new) }
-    // 0 or 1: and this of `send`.
-    ensures sends { (result ≡ 0) ⊎ (result ≡ 1) → AskForText (map string_bytes words.now)
+        errors.old errors.new) }
+    // And this of `send`.
+    ensures sends { AskForText (map string_bytes words.now)
+        ⊎ (HasNoJob (map string_bytes words.now) errors.old errors.new
         ⊎ HasCome (ComesOfLines ⟦<ReadMeter<TcpStream> as Read>⟧.remaining ⟦<TcpStream as Write>⟧.contents
         (S.gives_server states.now) (S.refuses_server states.now) (S.closes_server states.now)
         S.ServerKeeper.leaves S.ServerKeeper.is_clean S.ServerKeeper.saves S.ServerKeeper.fails)
         (map string_bytes words.now) result (R.remaining reader.old)
-        (R.remaining reader.new) (W.contents writer.old) (W.contents writer.new) (E.contents errors.old)
-        (E.contents errors.new) }
+        (R.remaining reader.new) (W.contents writer.old) (W.contents writer.new) errors.old errors.new) }
 {
     match parse(alloc, words) {
         Ok(job) => run_asked(alloc, &job, reader, writer, errors, hands, net, states),
@@ -151,7 +153,7 @@ fn run_asked<
     job: &Job,
     reader: &mut R,
     writer: &mut W,
-    errors: &mut E,
+    errors: &mut NoticesTo<E>,
     hands: Hands<'_, M, F>,
     net: &N,
     states: &S,
@@ -161,33 +163,33 @@ fn run_asked<
     ensures done { result ≡ 0 → IsApart job.now ⊎ (IsJobDone (S.finds states.now) job.now (R.remaining reader.old)
         (R.remaining reader.new) (W.contents writer.old) (W.contents writer.new) × (errors.new ≡ errors.old)) }
     ensures refused { result ≡ 1 → IsApart job.now ⊎ IsJobRefused job.now (R.remaining reader.old)
-        (R.remaining reader.new) (W.contents writer.old) (W.contents writer.new) (E.contents errors.old)
-        (E.contents errors.new) }
-    ensures undescribed { result ≡ 2 → IsApart job.now ⊎ (IsUndescribed job.now (E.contents errors.old)
-        (E.contents errors.new) × (reader.new ≡ reader.old) × (writer.new ≡ writer.old)) }
+        (R.remaining reader.new) (W.contents writer.old) (W.contents writer.new) errors.old
+        errors.new }
+    ensures undescribed { result ≡ 2 → IsApart job.now
+        ⊎ (IsUndescribed job.now (Says errors.old errors.new) × (reader.new ≡ reader.old) × (writer.new ≡ writer.old)) }
     ensures failed { result ≡ 3 → IsApart job.now ⊎ IsJobStopped (S.finds states.now) job.now (R.remaining reader.old)
-        (R.remaining reader.new) (W.contents writer.old) (W.contents writer.new) (E.contents errors.old)
-        (E.contents errors.new) }
+        (R.remaining reader.new) (W.contents writer.old) (W.contents writer.new) errors.old
+        errors.new }
     // 0 or 1: this is kept then.
     ensures kept { (result ≡ 0) ⊎ (result ≡ 1) → IsApart job.now ⊎ IsJobKept (S.gives_encoder states.now)
         S.EncoderKeeper.leaves S.EncoderKeeper.is_clean
         (S.gives_server states.now) S.ServerKeeper.leaves S.ServerKeeper.is_clean job.now (R.remaining reader.old)
         (R.remaining reader.new) (W.contents writer.old) (W.contents writer.new) }
-    // 0 or 1: this comes of what is made of the options of a command.
-    ensures comes { (result ≡ 0) ⊎ (result ≡ 1) → ComesOf ⟦<TcpStream as Read>⟧.remaining
+    // This comes of what is made of the options of a command.
+    ensures comes { ComesOf ⟦<TcpStream as Read>⟧.remaining
         ⟦<Screened<Idle<TcpStream>> as Read>⟧.remaining
         ⟦<TcpStream as Write>⟧.contents (S.gives_encoder states.now) (S.refuses_encoder states.now)
         (S.closes_encoder states.now) S.EncoderKeeper.TOGETHER_MAX S.EncoderKeeper.READ_MAX S.EncoderKeeper.leaves
         S.EncoderKeeper.is_clean S.EncoderKeeper.saves S.EncoderKeeper.fails job.now result (R.remaining reader.old)
         (R.remaining reader.new)
-        (W.contents writer.old) (W.contents writer.new) (E.contents errors.old) (E.contents errors.new) }
-    ensures sends { (result ≡ 0) ⊎ (result ≡ 1) → ComesOfLines ⟦<ReadMeter<TcpStream> as Read>⟧.remaining
+        (W.contents writer.old) (W.contents writer.new) errors.old errors.new }
+    ensures sends { ComesOfLines ⟦<ReadMeter<TcpStream> as Read>⟧.remaining
         ⟦<TcpStream as Write>⟧.contents
         (S.gives_server states.now) (S.refuses_server states.now) (S.closes_server states.now)
         S.ServerKeeper.leaves S.ServerKeeper.is_clean S.ServerKeeper.saves S.ServerKeeper.fails job.now result
         (R.remaining reader.old)
-        (R.remaining reader.new) (W.contents writer.old) (W.contents writer.new) (E.contents errors.old)
-        (E.contents errors.new) }
+        (R.remaining reader.new) (W.contents writer.old) (W.contents writer.new) errors.old
+        errors.new }
 {
     match job {
         Job::AnswerWith(options) => match options.air {
@@ -239,10 +241,10 @@ fn answer_on_air<R: Read, W: Write, E: Write>(
     groups: u32,
     reader: &mut R,
     writer: &mut W,
-    errors: &mut E,
+    errors: &mut NoticesTo<E>,
 ) -> u8
     ensures { AnswersOnAir options.now result (R.remaining reader.old) (R.remaining reader.new) (W.contents writer.old)
-        (W.contents writer.new) (E.contents errors.old) (E.contents errors.new) groups }
+        (W.contents writer.new) errors.old errors.new groups }
 {
     let job = AirJob {
         setup: Setup {
@@ -265,10 +267,10 @@ fn draw<R: Read, W: Write, E: Write>(
     form: LadderForm,
     reader: &mut R,
     writer: &mut W,
-    errors: &mut E,
+    errors: &mut NoticesTo<E>,
 ) -> u8
     ensures { DrawsLadder options.now result (R.remaining reader.old) (R.remaining reader.new) (W.contents writer.old)
-        (W.contents writer.new) (E.contents errors.old) (E.contents errors.new) form }
+        (W.contents writer.new) errors.old errors.new form }
 {
     let job = LadderJob {
         setup: Setup {
@@ -295,7 +297,7 @@ fn serve<
     alloc: Global,
     options: &EncoderOptions,
     writer: &mut W,
-    errors: &mut E,
+    errors: &mut NoticesTo<E>,
     hands: Hands<'_, M, F>,
     net: &N,
     states: &S,
@@ -304,10 +306,10 @@ fn serve<
     ensures done { result ≡ 0 → IsApart (EncoderWith options.now)
         ⊎ (HasServedLines options.now (W.contents writer.old) (W.contents writer.new) × (errors.new ≡ errors.old)) }
     ensures undescribed { result ≡ 2 → IsApart (EncoderWith options.now)
-        ⊎ (IsUndescribed (EncoderWith options.now) (E.contents errors.old) (E.contents errors.new)
+        ⊎ (IsUndescribed (EncoderWith options.now) (Says errors.old errors.new)
         × (writer.new ≡ writer.old)) }
     ensures failed { result ≡ 3 → IsApart (EncoderWith options.now)
-        ⊎ SaysWhyOf options.now (E.contents errors.old) (E.contents errors.new) }
+        ⊎ SaysWhyOf options.now errors.old errors.new }
     ensures kept { result ≡ 0 → IsApart (EncoderWith options.now)
         ⊎ ServesKeptAs (S.gives_encoder states.now) S.EncoderKeeper.leaves S.EncoderKeeper.is_clean options.now
         (W.contents writer.old) (W.contents writer.new) }
@@ -317,7 +319,7 @@ fn serve<
         (S.closes_encoder states.now) S.EncoderKeeper.TOGETHER_MAX S.EncoderKeeper.READ_MAX S.EncoderKeeper.leaves
         S.EncoderKeeper.is_clean S.EncoderKeeper.saves S.EncoderKeeper.fails options.now (W.contents writer.old)
         (W.contents writer.new)
-        (E.contents errors.old) (E.contents errors.new) result }
+        errors.old errors.new result }
 {
     if is_device(options) {
         return be_device(alloc, options, writer, errors, hands, net, states);
@@ -349,7 +351,7 @@ fn be_device<
     alloc: Global,
     options: &EncoderOptions,
     writer: &mut W,
-    errors: &mut E,
+    errors: &mut NoticesTo<E>,
     hands: Hands<'_, M, F>,
     net: &N,
     states: &S,
@@ -359,7 +361,7 @@ fn be_device<
         (S.closes_encoder states.now) S.EncoderKeeper.TOGETHER_MAX S.EncoderKeeper.READ_MAX S.EncoderKeeper.leaves
         S.EncoderKeeper.is_clean S.EncoderKeeper.saves S.EncoderKeeper.fails options.now (W.contents writer.old)
         (W.contents writer.new)
-        (E.contents errors.old) (E.contents errors.new) result }
+        errors.old errors.new result }
 {
     let Hands {
         input: _,
@@ -389,7 +391,7 @@ fn send_input<
     options: &ServerOptions,
     reader: &mut R,
     writer: &mut W,
-    errors: &mut E,
+    errors: &mut NoticesTo<E>,
     net: &N,
     states: &S,
 ) -> u8
@@ -398,11 +400,11 @@ fn send_input<
     ensures done { result ≡ 0 → SendsDone options.now (R.remaining reader.old) (R.remaining reader.new)
         (W.contents writer.old) (W.contents writer.new) × (errors.new ≡ errors.old) }
     ensures refused { result ≡ 1 → SendsRefused options.now (R.remaining reader.old) (R.remaining reader.new)
-        (W.contents writer.old) (W.contents writer.new) (E.contents errors.old) (E.contents errors.new) }
-    ensures undescribed { result ≡ 2 → IsUndescribed (ServerWith options.now) (E.contents errors.old)
-        (E.contents errors.new) × (reader.new ≡ reader.old) × (writer.new ≡ writer.old) }
+        (W.contents writer.old) (W.contents writer.new) errors.old errors.new }
+    ensures undescribed { result ≡ 2 → IsUndescribed (ServerWith options.now) (Says errors.old errors.new)
+        × (reader.new ≡ reader.old) × (writer.new ≡ writer.old) }
     ensures failed { result ≡ 3 → SendsStopped options.now (R.remaining reader.old) (R.remaining reader.new)
-        (W.contents writer.old) (W.contents writer.new) (E.contents errors.old) (E.contents errors.new) }
+        (W.contents writer.old) (W.contents writer.new) errors.old errors.new }
     ensures kept { (result ≡ 0) ⊎ (result ≡ 1) → SendsKeptAs (S.gives_server states.now) S.ServerKeeper.leaves
         S.ServerKeeper.is_clean options.now (R.remaining reader.old) (R.remaining reader.new) }
 {
@@ -417,11 +419,9 @@ fn send_input<
         states,
         &mut dialing,
     );
-    if status == 3 {
-        let host = options.host.as_str();
+    if status == 3 && options.verbose {
         say_unreached(
-            options.verbose,
-            host,
+            options.host.as_str(),
             options.port,
             dialing.failed(),
             errors,
@@ -437,7 +437,7 @@ fn send_over<R: Read, W: Write, E: Write, S: OpenStates, C: Connections>(
     options: &ServerOptions,
     reader: &mut R,
     writer: &mut W,
-    errors: &mut E,
+    errors: &mut NoticesTo<E>,
     states: &S,
     connect: &mut C,
 ) -> u8
@@ -446,11 +446,11 @@ fn send_over<R: Read, W: Write, E: Write, S: OpenStates, C: Connections>(
     ensures done { result ≡ 0 → SendsDone options.now (R.remaining reader.old) (R.remaining reader.new)
         (W.contents writer.old) (W.contents writer.new) × (errors.new ≡ errors.old) }
     ensures refused { result ≡ 1 → SendsRefused options.now (R.remaining reader.old) (R.remaining reader.new)
-        (W.contents writer.old) (W.contents writer.new) (E.contents errors.old) (E.contents errors.new) }
-    ensures undescribed { result ≡ 2 → IsUndescribed (ServerWith options.now) (E.contents errors.old)
-        (E.contents errors.new) × (reader.new ≡ reader.old) × (writer.new ≡ writer.old) }
+        (W.contents writer.old) (W.contents writer.new) errors.old errors.new }
+    ensures undescribed { result ≡ 2 → IsUndescribed (ServerWith options.now) (Says errors.old errors.new)
+        × (reader.new ≡ reader.old) × (writer.new ≡ writer.old) }
     ensures failed { result ≡ 3 → SendsNotAll options.now (R.remaining reader.old) (R.remaining reader.new)
-        (W.contents writer.old) (W.contents writer.new) (E.contents errors.old) (E.contents errors.new) }
+        (W.contents writer.old) (W.contents writer.new) errors.old errors.new }
     ensures kept { (result ≡ 0) ⊎ (result ≡ 1) → SendsKeptAs (S.gives_server states.now) S.ServerKeeper.leaves
         S.ServerKeeper.is_clean options.now (R.remaining reader.old) (R.remaining reader.new) }
 {
@@ -484,7 +484,7 @@ fn send<
     options: &SendOptions,
     reader: &mut R,
     writer: &mut W,
-    errors: &mut E,
+    errors: &mut NoticesTo<E>,
     hands: Hands<'_, M, F>,
     net: &N,
     states: &S,
@@ -494,7 +494,7 @@ fn send<
         (S.gives_server states.now) (S.refuses_server states.now) (S.closes_server states.now)
         S.ServerKeeper.leaves S.ServerKeeper.is_clean S.ServerKeeper.saves S.ServerKeeper.fails options.now
         (R.remaining reader.old) (W.contents writer.old)
-        (W.contents writer.new) (E.contents errors.old) (E.contents errors.new) result }
+        (W.contents writer.new) errors.old errors.new result }
 {
     let Hands {
         input,
@@ -521,20 +521,21 @@ fn send<
     status
 }
 
-/// Tells what a receiver shows for as long as lines or bits come, and answers the exit status, as `run_receive_bits`
-/// says of bits. Of lines it is `run_receive`, or 3 where there is no memory to begin with: that promise is not said
-/// again here.
+/// Tells what a receiver shows for as long as lines or bits come, and answers the exit status, as `run_receive` says of
+/// lines and `run_receive_bits` of bits, or 3 where there is no memory to begin with.
 fn receive<R: Read, W: Write, E: Write, C: Clock>(
     alloc: Global,
     options: &ReceiveOptions,
     clock: &C,
     reader: &mut R,
     writer: &mut W,
-    errors: &mut E,
+    errors: &mut NoticesTo<E>,
 ) -> u8
-    ensures { IsTrue options.now.bits → ReceivesBits options.now.form options.now.time result
+    ensures bits { IsTrue options.now.bits → ReceivesBits options.now.form options.now.time result
         (R.remaining reader.old) (R.remaining reader.new) (W.contents writer.old) (W.contents writer.new)
-        (E.contents errors.old) (E.contents errors.new) }
+        errors.old errors.new }
+    ensures lines { options.now.bits ≡ false → ReceivesLines options.now result (R.remaining reader.old)
+        (W.contents writer.old) (W.contents writer.new) errors.old errors.new }
 {
     if options.bits {
         return run_receive_bits(alloc, options, Some(clock), reader, writer, errors);
@@ -564,14 +565,14 @@ fn run_watch<R: Read, W: Write, E: Write, C: Clock>(
     clock: Option<&C>,
     reader: &mut R,
     writer: &mut W,
-    errors: &mut E,
+    errors: &mut NoticesTo<E>,
 ) -> u8
     ensures status { (result ≡ 0) ⊎ (result ≡ 3) }
     ensures done { result ≡ 0 → Watches form (is_some clock.entry) (R.remaining reader.old) (R.remaining reader.new)
         (W.contents writer.old) (W.contents writer.new) (Ok tt) × (errors.new ≡ errors.old) }
     ensures failed { result ≡ 3 → (fault : RunFault) × Fails fault × Watches form (is_some clock.entry)
         (R.remaining reader.old) (R.remaining reader.new) (W.contents writer.old) (W.contents writer.new) (Err fault)
-        × Begins (E.contents errors.old) (E.contents errors.new) (error_lines fault) }
+        × Says errors.old errors.new (error_lines fault) }
 {
     match watch(alloc, form, clock, reader, writer) {
         Ok(()) => 0,

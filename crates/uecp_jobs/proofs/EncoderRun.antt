@@ -47,7 +47,7 @@ served_none opens closes remaining contents job encodes c c' held held' unopened
 
 module _ {C I O : Type 0} (opens : C → Option (I × O) → C → Type 0) (closes : C → I → O → C → Type 0)
     (remaining : I → Option (List ℕ)) (contents : O → Option (List ℕ)) (job : Job) (encodes : IsEncoder job) (c c' : C)
-    (held held' told told' : Option (List ℕ)) (unwritten unopened : Type 0) (fault : RunFault)
+    (held held' : Option (List ℕ)) (says : List ℕ → Type 0) (unwritten unopened : Type 0) (fault : RunFault)
     (serves : ((f : RunFault) × (stopped fault ≡ stopped f) × RefusesJob job f × unwritten × unopened)
     ⊎ Serves opens closes remaining contents job c c' held held' (stopped fault)) where
   pub encoder_not_one : status_of fault ≢ 1
@@ -69,8 +69,8 @@ module _ {C I O : Type 0} (opens : C → Option (I × O) → C → Type 0) (clos
     | inr (inr (fails, some)) ↦ absurd (let both : 2 ≡ 3 = not_failed fault 2 fails is in omega (arith, both))
   ]
 
-  pub encoder_failed : (unopened → c' ≡ c) → (unwritten → held' ≡ held) → Begins told told' (error_lines fault)
-      → status_of fault ≡ 3 → HasNotServedAll opens closes remaining contents job c c' held held' told told'
+  pub encoder_failed : (unopened → c' ≡ c) → (unwritten → held' ≡ held) → says (error_lines fault)
+      → status_of fault ≡ 3 → HasNotServedAll opens closes remaining contents job c c' held held' says
   encoder_failed stays kept begins is = record {
     fault = fault;
     serves = elim serves [

@@ -8,7 +8,6 @@ use Rattle.uecp_text.specs.Faults.{status_of, error_lines}
 use Rattle.uecp_text.specs.Input.{texts_of}
 use Rattle.std.specs.Io.KnownBytes.{Appends}
 use Rattle.uecp_text.specs.Run.{IsInput, StopsReading}
-use Rattle.uecp_text.specs.Written.{Begins}
 use Rattle.uecp_link.specs.Server.{ServerState, idle_at}
 use Rattle.uecp_net.specs.declared.sender.Limits.{Limits}
 use Rattle.uecp_net.specs.Sending.{SenderState, SenderOver}
@@ -200,10 +199,10 @@ module _ {C I O : Type 0} (opens : C → Option (I × O) → C → Type 0) (clos
           )
       by full sends = absurd sends
 
-  acknowledged_up_to : (told told' : Option (List ℕ))
-      → HasSentBefore opens closes remaining contents job c c' unread unread' held held' told told'
-      → AreAcknowledgedBefore job unread unread' held held' told told'
-  acknowledged_up_to told told' before = by (in_full job) before.sends
+  acknowledged_up_to : (says : List ℕ → Type 0)
+      → HasSentBefore opens closes remaining contents job c c' unread unread' held held' says
+      → AreAcknowledgedBefore job unread unread' held held' says
+  acknowledged_up_to says before = by (in_full job) before.sends
     where
       input : List ℕ
       input = before.input
@@ -214,7 +213,7 @@ module _ {C I O : Type 0} (opens : C → Option (I × O) → C → Type 0) (clos
           × (refusal_in (texts_of input) ≡ Some fault)
           × AreBatches (batch_size s.window) s.limits.tries (length (messages_first (texts_of input))) batches
           × Appends held held' (joined_line s.join ++ lines_of_batches batches)
-          × Begins told told' (error_lines fault)))
+          × says (error_lines fault)))
       by (ServerWith o) (one, is_input, (loan, s', ran, finishes)) =
           let s = server_setup o in
           let (batches, are, appends) = sent_run opens closes remaining contents s.join (batch_size s.window)
@@ -239,17 +238,17 @@ module _ {C I O : Type 0} (opens : C → Option (I × O) → C → Type 0) (clos
           held' fault (some_size s.window) ran)
       by full sends = absurd sends
 
-  not_all : (told told' : Option (List ℕ)) → IsServer job
-      → HasNotSentAll opens closes remaining contents job c c' unread unread' held held' told told'
-      → AreNotAcknowledged job unread unread' held held' told told'
-  not_all told told' serves ended = by (in_full job) serves ended.sends
+  not_all : (says : List ℕ → Type 0) → IsServer job
+      → HasNotSentAll opens closes remaining contents job c c' unread unread' held held' says
+      → AreNotAcknowledged job unread unread' held held' says
+  not_all says serves ended = by (in_full job) serves ended.sends
     where
       fault : RunFault
       fault = ended.fault
 
       by : (full : Job) → OnServer full (λ s. Unit {0}) → (SendsNone unread unread' held held' fault × (c' ≡ c))
           ⊎ ((input : List ℕ) × OnServer full (Sent input (Err fault))) → OnServer full
-          (λ s. (fault : RunFault) × Begins told told' (error_lines fault)
+          (λ s. (fault : RunFault) × says (error_lines fault)
           × (SendsNone unread unread' held held' fault ⊎ ((input : List ℕ) × IsInput unread unread' input
           × BreaksRun s.join (batch_size s.window) s.limits.tries (length (messages_first (texts_of input))) held held'
           fault)))
@@ -270,8 +269,8 @@ module _ {C I O : Type 0} (opens : C → Option (I × O) → C → Type 0) (clos
 
   -- ---- by the status
 
-  module _ (told told' : Option (List ℕ)) (serves : IsServer job) (unmoved unwritten unopened : Type 0)
-      (fault : RunFault) (begins : Begins told told' (error_lines fault))
+  module _ (says : List ℕ → Type 0) (serves : IsServer job) (unmoved unwritten unopened : Type 0)
+      (fault : RunFault) (begins : says (error_lines fault))
       (ran : (RefusesJob job fault × unmoved × unwritten × unopened)
       ⊎ ((SendsNone unread unread' held held' fault × (c' ≡ c))
       ⊎ SendsUpTo opens closes remaining contents job c c' unread unread' held held' fault)) where
@@ -279,15 +278,15 @@ module _ {C I O : Type 0} (opens : C → Option (I × O) → C → Type 0) (clos
     apart a b is_a is_b = sym is_a ∙ is_b
 
     pub sent_before : status_of fault ≡ 1 → HasSentBefore opens closes remaining contents job c c' unread unread' held
-        held' told told' × AreAcknowledgedBefore job unread unread' held held' told told'
+        held' says × AreAcknowledgedBefore job unread unread' held held' says
     sent_before is = elim ran [
       | inl refused ↦ absurd (let no = apart 2 1 (server_refuses job fault serves refused.0) is in omega (arith, no))
       | inr (inl none) ↦ absurd (let no = apart 3 1 (none_status unread unread' held held' fault none.0) is in
           omega (arith, no))
       | inr (inr (input, inl (sends, refused))) ↦ (let before : HasSentBefore opens closes remaining contents job c c'
-          unread unread' held held' told told' =
+          unread unread' held held' says =
           record { input = input; sends = sends; fault = fault; refused = refused; said = begins } in
-          (before, acknowledged_up_to told told' before))
+          (before, acknowledged_up_to says before))
       | inr (inr (input, inr sends)) ↦ absurd (let no = apart 3 1 (stops_three input fault sends) is in
           omega (arith, no))
     ]
@@ -304,17 +303,17 @@ module _ {C I O : Type 0} (opens : C → Option (I × O) → C → Type 0) (clos
     ]
 
     pub not_sent : status_of fault ≡ 3 → HasNotSentAll opens closes remaining contents job c c' unread unread' held
-        held' told told' × AreNotAcknowledged job unread unread' held held' told told'
+        held' says × AreNotAcknowledged job unread unread' held held' says
     not_sent is = elim ran [
       | inl refused ↦ absurd (let no = apart 2 3 (server_refuses job fault serves refused.0) is in omega (arith, no))
       | inr (inl none) ↦ (let all : HasNotSentAll opens closes remaining contents job c c' unread unread' held held'
-          told told' =
+          says =
           record { fault = fault; sends = inl none; said = begins } in
-          (all, not_all told told' serves all))
+          (all, not_all says serves all))
       | inr (inr (input, inl (sends, refused))) ↦ absurd
           (let no = apart 1 3 (refused_status (texts_of input) fault refused) is in omega (arith, no))
       | inr (inr (input, inr sends)) ↦ (let all : HasNotSentAll opens closes remaining contents job c c' unread unread'
-          held held' told told' =
+          held held' says =
           record { fault = fault; sends = inr (input, sends); said = begins } in
-          (all, not_all told told' serves all))
+          (all, not_all says serves all))
     ]

@@ -94,23 +94,23 @@ Serves opens closes remaining contents job c c' held held' result =
 -- Not all connections were served, or not all could be told.
 pub record HasNotServedAll {C I O : Type 0} (opens : C → Option (I × O) → C → Type 0) (closes : C → I → O → C → Type 0)
     (remaining : I → Option (List ℕ)) (contents : O → Option (List ℕ)) (job : Job) (c c' : C)
-    (held held' told told' : Option (List ℕ)) : Type 0 where
+    (held held' : Option (List ℕ)) (says : List ℕ → Type 0) : Type 0 where
   -- why: there was no connection to be had, or memory or writing failed
   pub fault : RunFault
   -- so fewer were served than should be, and each of them has its line; or some were, and the writer got a beginning of
   -- their lines
   pub serves : Serves opens closes remaining contents job c c' held held' (Err fault)
-  -- and the fault was said, or begun to be said
-  pub said : Begins told told' (error_lines fault)
+  -- and the fault was said
+  pub said : says (error_lines fault)
 
 -- What is left to say of connections of which nothing is known, where not all could be served or not all be told: the
 -- writer got a beginning of the lines of as many connections as should be served, or fewer, and why it stopped was
--- said, or begun to be said.
-abbrev pub HasStopped : Job → (held held' told told' : Option (List ℕ)) → Type 0
-HasStopped (Encoder site encoder sets services port connections turns) held held' told told' =
+-- said.
+abbrev pub HasStopped : Job → (held held' : Option (List ℕ)) → (says : List ℕ → Type 0) → Type 0
+HasStopped (Encoder site encoder sets services port connections turns) held held' says =
     (fault : RunFault) × (status_of fault ≡ 3) × ((outcomes : List Outcome) × (length outcomes ≤ connections)
-    × Begins held held' (connection_lines 1 outcomes)) × Begins told told' (error_lines fault)
-HasStopped job held held' told told' = ⊥
+    × Begins held held' (connection_lines 1 outcomes)) × says (error_lines fault)
+HasStopped job held held' says = ⊥
 
 -- What is left to say of connections of which nothing is known: the options describe an encoder, and the writer got the
 -- lines of as many connections as it should serve.

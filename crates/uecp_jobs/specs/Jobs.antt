@@ -9,7 +9,6 @@ use Rattle.commands.specs.declared.job.Job.TheVariants.{ServerWith}
 use Rattle.commands.specs.Jobs.{in_full}
 use Rattle.uecp_text.specs.declared.run_fault.RunFault.{RunFault}
 use Rattle.uecp_text.specs.Faults.{status_of, error_lines}
-use Rattle.uecp_text.specs.Written.{Begins}
 use Rattle.uecp_text.specs.Run.{Meaning, IsInput, Prints, Breaks, RunsWhole}
 use Rattle.uecp_jobs.specs.Setups.{Options, IsOneEncoder, IsSetup, RefusesSetup, RefusesAddress, encoder_at_first}
 use Rattle.uecp_jobs.specs.Setups.{line_at_first}
@@ -119,19 +118,18 @@ DoesJob job unread unread' held held' result = ((fault : RunFault) × (result �
 abbrev pub IsDone : Job → (unread unread' held held' : Option (List ℕ)) → Type 0
 IsDone job unread unread' held held' = IsDescribed job × Wrote job unread unread' (Ok tt) held held'
 
--- A line was refused: what the lines before it bring was written, and what is wrong with it was said on standard error,
--- or begun to be said.
-abbrev pub IsRefused : Job → (unread unread' held held' told told' : Option (List ℕ)) → Type 0
-IsRefused job unread unread' held held' told told' =
+-- A line was refused: what the lines before it bring was written, and what is wrong with it was said on standard error.
+abbrev pub IsRefused : Job → (unread unread' held held' : Option (List ℕ)) → (says : List ℕ → Type 0) → Type 0
+IsRefused job unread unread' held held' says =
     (fault : RunFault) × (status_of fault ≡ 1) × Wrote job unread unread' (Err fault) held held'
-    × Begins told told' (error_lines fault)
+    × says (error_lines fault)
 
--- The options of the job describe no encoder, and that was said, or begun to be said.
-abbrev pub IsUndescribed : Job → (told told' : Option (List ℕ)) → Type 0
-IsUndescribed job told told' = (fault : RunFault) × RefusesJob job fault × Begins told told' (error_lines fault)
+-- The options of the job describe no encoder, and that was said.
+abbrev pub IsUndescribed : Job → (says : List ℕ → Type 0) → Type 0
+IsUndescribed job says = (fault : RunFault) × RefusesJob job fault × says (error_lines fault)
 
--- Memory, reading or writing failed, and that was said, or begun to be said. What was written is a beginning of what
+-- Memory, reading or writing failed, and that was said. What was written is a beginning of what
 -- the job writes of its input, and nothing where that was not read to its end.
-abbrev pub HasFailed : Job → (unread unread' held held' told told' : Option (List ℕ)) → Type 0
-HasFailed job unread unread' held held' told told' =
-    (fault : RunFault) × JobBreaks job unread unread' held held' fault × Begins told told' (error_lines fault)
+abbrev pub HasFailed : Job → (unread unread' held held' : Option (List ℕ)) → (says : List ℕ → Type 0) → Type 0
+HasFailed job unread unread' held held' says =
+    (fault : RunFault) × JobBreaks job unread unread' held held' fault × says (error_lines fault)

@@ -147,28 +147,28 @@ pub record HasSentAll {C I O : Type 0} (opens : C → Option (I × O) → C → 
 -- The messages before the first line that is refused were sent and acknowledged.
 pub record HasSentBefore {C I O : Type 0} (opens : C → Option (I × O) → C → Type 0) (closes : C → I → O → C → Type 0)
     (remaining : I → Option (List ℕ)) (contents : O → Option (List ℕ)) (job : Job) (c c' : C)
-    (unread unread' held held' told told' : Option (List ℕ)) : Type 0 where
+    (unread unread' held held' : Option (List ℕ)) (says : List ℕ → Type 0) : Type 0 where
   pub input : List ℕ
   -- those messages were sent, each once, and acknowledged, and the writer got the lines of that
   pub sends : Sends opens closes remaining contents job input c c' unread unread' held held' (Ok tt)
   -- what is wrong with the line behind them
   pub fault : RunFault
   pub refused : refusal_in (texts_of input) ≡ Some fault
-  -- its number and fault were said, or begun to be said
-  pub said : Begins told told' (error_lines fault)
+  -- its number and fault were said
+  pub said : says (error_lines fault)
 
 -- Not all was sent, or not all could be told.
 pub record HasNotSentAll {C I O : Type 0} (opens : C → Option (I × O) → C → Type 0) (closes : C → I → O → C → Type 0)
     (remaining : I → Option (List ℕ)) (contents : O → Option (List ℕ)) (job : Job) (c c' : C)
-    (unread unread' held held' told told' : Option (List ℕ)) : Type 0 where
+    (unread unread' held held' : Option (List ℕ)) (says : List ℕ → Type 0) : Type 0 where
   -- why
   pub fault : RunFault
   -- so nothing was sent, and no connection opened; or a batch is outstanding, or its lines could not be written whole,
   -- or the encoder could not be joined
   pub sends : (SendsNone unread unread' held held' fault × (c' ≡ c))
       ⊎ ((input : List ℕ) × Sends opens closes remaining contents job input c c' unread unread' held held' (Err fault))
-  -- and the fault was said, or begun to be said; where the tries are spent nothing is said
-  pub said : Begins told told' (error_lines fault)
+  -- and the fault was said; where the tries are spent nothing is said
+  pub said : says (error_lines fault)
 
 -- ---- how it ends, where nothing is known of connections
 -- All messages of the input were acknowledged, and the writer got the lines of that, one for each message, in order,
@@ -182,14 +182,15 @@ AreAcknowledged job unread unread' held held' = OnServer (in_full job) (λ s.
     × Appends held held' (joined_line s.join ++ lines_of_batches batches)))
 
 -- The messages before the first line that is refused were acknowledged, the writer got the lines of that and no other
--- line, and what is wrong with that line was said, or begun to be said.
-abbrev pub AreAcknowledgedBefore : Job → (unread unread' held held' told told' : Option (List ℕ)) → Type 0
-AreAcknowledgedBefore job unread unread' held held' told told' = OnServer (in_full job) (λ s.
+-- line, and what is wrong with that line was said.
+abbrev pub AreAcknowledgedBefore : Job → (unread unread' held held' : Option (List ℕ)) → (says : List ℕ → Type 0)
+    → Type 0
+AreAcknowledgedBefore job unread unread' held held' says = OnServer (in_full job) (λ s.
     IsOneEncoder s.site s.encoder
     × ((input : List ℕ) × (batches : List (List Code × ℕ)) × (fault : RunFault) × IsInput unread unread' input
     × (refusal_in (texts_of input) ≡ Some fault)
     × AreBatches (batch_size s.window) s.limits.tries (length (messages_first (texts_of input))) batches
-    × Appends held held' (joined_line s.join ++ lines_of_batches batches) × Begins told told' (error_lines fault)))
+    × Appends held held' (joined_line s.join ++ lines_of_batches batches) × says (error_lines fault)))
 
 -- Some first of so many messages were acknowledged, in whole batches, and there are more.
 abbrev pub AreFirstBatches : (size tries messages : ℕ) → List (List Code × ℕ) → Type 0
@@ -227,10 +228,10 @@ BreaksRun join size tries messages held held' fault =
     ((between : Option (List ℕ)) × Appends held between (joined_line join)
     × BreaksOff size tries messages between held' fault) ⊎ ((join ≡ true) × StopsJoining held held' fault)
 
--- Not all was sent or told, and that was said, or begun to be said.
-abbrev pub AreNotAcknowledged : Job → (unread unread' held held' told told' : Option (List ℕ)) → Type 0
-AreNotAcknowledged job unread unread' held held' told told' = OnServer (in_full job) (λ s.
-    (fault : RunFault) × Begins told told' (error_lines fault)
+-- Not all was sent or told, and that was said.
+abbrev pub AreNotAcknowledged : Job → (unread unread' held held' : Option (List ℕ)) → (says : List ℕ → Type 0) → Type 0
+AreNotAcknowledged job unread unread' held held' says = OnServer (in_full job) (λ s.
+    (fault : RunFault) × says (error_lines fault)
     × (SendsNone unread unread' held held' fault ⊎ ((input : List ℕ) × IsInput unread unread' input
     × BreaksRun s.join (batch_size s.window) s.limits.tries (length (messages_first (texts_of input))) held held'
     fault)))

@@ -10,9 +10,9 @@ ghost use Rattle.uecp_jobs.specs.Jobs.{RefusesJob, IsUndescribed};
 ghost use Rattle.uecp_jobs.specs.EncoderRun.{IsEncoder, ServedAll, Serves, HasNotServedAll, connection_line};
 ghost use Rattle.uecp_jobs.specs.EncoderRun.{connection_lines, ending_words};
 
-use crate::run::fail;
 use crate::setup::{Setup, new_encoder};
 use commands::Job;
+use notices::{Notices, fail};
 use std::alloc::Global;
 use std::io::Write;
 use uecp_encoder::{Encoder, ServeFault, Served, Target};
@@ -21,7 +21,7 @@ use uecp_text::{Output, RunFault};
 
 /// Does the job of `encoder` and answers the exit status: 0 done, 2 the services were refused, 3 there was no
 /// connection to be had, or memory or writing failed. Each line is written out before the next connection is opened.
-pub fn run_encoder_over<W: Write, E: Write, C: Connections>(
+pub fn run_encoder_over<W: Write, E: Notices, C: Connections>(
     alloc: Global,
     job: &Job,
     writer: &mut W,
@@ -34,13 +34,12 @@ pub fn run_encoder_over<W: Write, E: Write, C: Connections>(
     ensures done { result ≡ 0 → ServedAll C.opens C.closes C.Input.remaining C.Output.contents job.now connect.old
         connect.new (W.contents writer.old) (W.contents writer.new) × (errors.new ≡ errors.old) }
     // 2: the options describe no encoder. No connection was opened, and nothing was written.
-    ensures undescribed { result ≡ 2 → IsUndescribed job.now (E.contents errors.old) (E.contents errors.new)
+    ensures undescribed { result ≡ 2 → IsUndescribed job.now (E.says errors.old errors.new)
         × (writer.new ≡ writer.old) × (connect.new ≡ connect.old) }
     // 3: there was no connection to be had, and each that was served has its line; or memory or writing failed, and a
     // beginning of the lines of those that were served was written.
     ensures failed { result ≡ 3 → HasNotServedAll C.opens C.closes C.Input.remaining C.Output.contents job.now
-        connect.old connect.new (W.contents writer.old) (W.contents writer.new) (E.contents errors.old)
-        (E.contents errors.new) }
+        connect.old connect.new (W.contents writer.old) (W.contents writer.new) (E.says errors.old errors.new) }
 {
     match serve_all(alloc, job, writer, connect) {
         Ok(()) => 0,

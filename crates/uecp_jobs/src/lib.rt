@@ -29,7 +29,7 @@ pub use event_script::{line_event, named_message};
 pub use messages::{Messages, messages_of};
 pub use opened::{run_encoder, run_server};
 pub use output_forms::Form;
-pub use run::{fail, run_job};
+pub use run::run_job;
 pub use server_run::{batch_size, run_server_over};
 pub use server_setup::{ServerSetup, server_setup_of};
 pub use setup::{Setup, address_of, new_encoder, new_line};

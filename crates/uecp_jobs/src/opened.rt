@@ -1,5 +1,6 @@
 //! The jobs `encoder` and `server` over connections that are only opened (profile).
 ghost use Rattle.std.specs.Prelude.{◌≡◌, ◌≢◌, ◌≤◌};
+ghost use Rattle.uecp_text.specs.Written.{Begins};
 ghost use Rattle.uecp_net.specs.Opening.{LetsGo};
 ghost use Rattle.uecp_jobs.specs.Jobs.{IsUndescribed};
 ghost use Rattle.uecp_jobs.specs.EncoderRun.{IsEncoder, ServedAll, HasNotServedAll};
@@ -36,13 +37,13 @@ pub fn run_encoder<W: Write, E: Write, C: Connect>(
     ensures done { result ≡ 0 → ServedAll C.opens LetsGo C.Input.remaining C.Output.contents job.now connect.old
         connect.new (W.contents writer.old) (W.contents writer.new) × (errors.new ≡ errors.old) }
     // 2: the options describe no encoder. No connection was opened, and nothing was written.
-    ensures undescribed { result ≡ 2 → IsUndescribed job.now (E.contents errors.old) (E.contents errors.new)
+    ensures undescribed { result ≡ 2 → IsUndescribed job.now (Begins (E.contents errors.old) (E.contents errors.new))
         × (writer.new ≡ writer.old) × (connect.new ≡ connect.old) }
     // 3: there was no connection to be had, and each that was served has its line; or memory or writing failed, and a
     // beginning of the lines of those that were served was written.
     ensures failed { result ≡ 3 → HasNotServedAll C.opens LetsGo C.Input.remaining C.Output.contents job.now
-        connect.old connect.new (W.contents writer.old) (W.contents writer.new) (E.contents errors.old)
-        (E.contents errors.new) }
+        connect.old connect.new (W.contents writer.old) (W.contents writer.new)
+        (Begins (E.contents errors.old) (E.contents errors.new)) }
 {
     let Ended { status, connect } = encode_lent::<W, E, C, Brand>(
         alloc,
@@ -71,11 +72,12 @@ fn encode_lent<'a, W: Write, E: Write, C: Connect, L: Loan>(
     ensures done { result.status ≡ 0 → ServedAll C.opens LetsGo C.Input.remaining C.Output.contents job.now
         lent.entry.connect.now result.connect.now (W.contents writer.old) (W.contents writer.new)
         × (errors.new ≡ errors.old) }
-    ensures undescribed { result.status ≡ 2 → IsUndescribed job.now (E.contents errors.old) (E.contents errors.new)
+    ensures undescribed { result.status ≡ 2 → IsUndescribed job.now
+        (Begins (E.contents errors.old) (E.contents errors.new))
         × (writer.new ≡ writer.old) × (result.connect.now ≡ lent.entry.connect.now) }
     ensures failed { result.status ≡ 3 → HasNotServedAll C.opens LetsGo C.Input.remaining C.Output.contents job.now
         lent.entry.connect.now result.connect.now (W.contents writer.old) (W.contents writer.new)
-        (E.contents errors.old) (E.contents errors.new) }
+        (Begins (E.contents errors.old) (E.contents errors.new)) }
 {
     let mut opening: Opening<'a, C, L> = Opening::new(lent);
     let status = run_encoder_over(alloc, job, writer, errors, &mut opening);
@@ -109,22 +111,22 @@ pub fn run_server<R: Read, W: Write, E: Write, C: Connect>(
     // fault were said.
     ensures sent_before { result ≡ 1 → HasSentBefore C.opens LetsGo C.Input.remaining C.Output.contents job.now
         connect.old connect.new (R.remaining reader.old) (R.remaining reader.new) (W.contents writer.old)
-        (W.contents writer.new) (E.contents errors.old) (E.contents errors.new) }
+        (W.contents writer.new) (Begins (E.contents errors.old) (E.contents errors.new)) }
     // 1: so there is one line for each of those messages, in order.
     ensures acknowledged_before { result ≡ 1 → AreAcknowledgedBefore job.now (R.remaining reader.old)
-        (R.remaining reader.new) (W.contents writer.old) (W.contents writer.new) (E.contents errors.old)
-        (E.contents errors.new) }
+        (R.remaining reader.new) (W.contents writer.old) (W.contents writer.new)
+        (Begins (E.contents errors.old) (E.contents errors.new)) }
     // 2: the address is not that of one encoder. No connection was opened, and nothing was read or written.
-    ensures undescribed { result ≡ 2 → IsUndescribed job.now (E.contents errors.old) (E.contents errors.new)
+    ensures undescribed { result ≡ 2 → IsUndescribed job.now (Begins (E.contents errors.old) (E.contents errors.new))
         × (reader.new ≡ reader.old) × (writer.new ≡ writer.old) × (connect.new ≡ connect.old) }
     // 3: a batch is outstanding, and not before its tries and its connections are spent; or memory or writing failed
     // behind a batch; or nothing was sent.
     ensures not_sent { result ≡ 3 → HasNotSentAll C.opens LetsGo C.Input.remaining C.Output.contents job.now
         connect.old connect.new (R.remaining reader.old) (R.remaining reader.new) (W.contents writer.old)
-        (W.contents writer.new) (E.contents errors.old) (E.contents errors.new) }
+        (W.contents writer.new) (Begins (E.contents errors.old) (E.contents errors.new)) }
     // 3: so the lines of the batches before that were written, and then that it is outstanding; or a beginning of that.
     ensures not_acknowledged { result ≡ 3 → AreNotAcknowledged job.now (R.remaining reader.old) (R.remaining reader.new)
-        (W.contents writer.old) (W.contents writer.new) (E.contents errors.old) (E.contents errors.new) }
+        (W.contents writer.old) (W.contents writer.new) (Begins (E.contents errors.old) (E.contents errors.new)) }
 {
     let Ended { status, connect } = send_lent::<R, W, E, C, Brand>(
         alloc,
@@ -159,18 +161,19 @@ fn send_lent<'a, R: Read, W: Write, E: Write, C: Connect, L: Loan>(
         (R.remaining reader.new) (W.contents writer.old) (W.contents writer.new) }
     ensures sent_before { result.status ≡ 1 → HasSentBefore C.opens LetsGo C.Input.remaining C.Output.contents job.now
         lent.entry.connect.now result.connect.now (R.remaining reader.old) (R.remaining reader.new)
-        (W.contents writer.old) (W.contents writer.new) (E.contents errors.old) (E.contents errors.new) }
+        (W.contents writer.old) (W.contents writer.new) (Begins (E.contents errors.old) (E.contents errors.new)) }
     ensures acknowledged_before { result.status ≡ 1 → AreAcknowledgedBefore job.now (R.remaining reader.old)
-        (R.remaining reader.new) (W.contents writer.old) (W.contents writer.new) (E.contents errors.old)
-        (E.contents errors.new) }
-    ensures undescribed { result.status ≡ 2 → IsUndescribed job.now (E.contents errors.old) (E.contents errors.new)
+        (R.remaining reader.new) (W.contents writer.old) (W.contents writer.new)
+        (Begins (E.contents errors.old) (E.contents errors.new)) }
+    ensures undescribed { result.status ≡ 2 → IsUndescribed job.now
+        (Begins (E.contents errors.old) (E.contents errors.new))
         × (reader.new ≡ reader.old) × (writer.new ≡ writer.old) × (result.connect.now ≡ lent.entry.connect.now) }
     ensures not_sent { result.status ≡ 3 → HasNotSentAll C.opens LetsGo C.Input.remaining C.Output.contents job.now
         lent.entry.connect.now result.connect.now (R.remaining reader.old) (R.remaining reader.new)
-        (W.contents writer.old) (W.contents writer.new) (E.contents errors.old) (E.contents errors.new) }
+        (W.contents writer.old) (W.contents writer.new) (Begins (E.contents errors.old) (E.contents errors.new)) }
     ensures not_acknowledged { result.status ≡ 3 → AreNotAcknowledged job.now (R.remaining reader.old)
-        (R.remaining reader.new) (W.contents writer.old) (W.contents writer.new) (E.contents errors.old)
-        (E.contents errors.new) }
+        (R.remaining reader.new) (W.contents writer.old) (W.contents writer.new)
+        (Begins (E.contents errors.old) (E.contents errors.new)) }
 {
     let mut opening: Opening<'a, C, L> = Opening::new(lent);
     let status = run_server_over(alloc, job, reader, writer, errors, &mut opening);

@@ -1,8 +1,6 @@
 //! A job from its input to its exit status (profile).
 ghost use Rattle.std.specs.Prelude.{◌≡◌, ◌⊎◌, ◌≤◌, [], Err, IfOk};
 ghost use Rattle.uecp_frame.specs.Findings.{Closed};
-ghost use Rattle.uecp_text.specs.Faults.{status_of, error_lines};
-ghost use Rattle.uecp_text.specs.Written.{Begins};
 ghost use Rattle.uecp_text.specs.Run.{RunsWhole};
 ghost use Rattle.uecp_text.specs.declared.run_fault.RunFault.{RunFault};
 ghost use Rattle.uecp_jobs.specs.Jobs.{IsLocal, IsDescribed, RefusesJob, DoesJob, IsDone, IsRefused, IsUndescribed};
@@ -20,17 +18,18 @@ use crate::phrase_script::MakingWords;
 use crate::setup::Setup;
 use crate::showing::Showing;
 use commands::Job;
+use notices::{Notices, fail};
 use output_forms::Form;
 use rds_text::Region;
 use std::alloc::Global;
 use std::io::{Read, Write};
-use uecp_text::{RunFault, report, run};
+use uecp_text::{RunFault, run};
 
 /// Does the job of a command without a connection and answers the exit status: 0 done, 1 a line was refused, 2 the
 /// services were refused, 3 memory, reading or writing failed. The output of the lines before a refusal is written all
 /// the same. Why a run stopped is said on `errors`, as far as that takes it; nothing is said there of a job that was
 /// done.
-pub fn run_job<R: Read, W: Write, E: Write>(
+pub fn run_job<R: Read, W: Write, E: Notices>(
     alloc: Global,
     job: &Job,
     reader: &mut R,
@@ -46,14 +45,14 @@ pub fn run_job<R: Read, W: Write, E: Write>(
     // 1: a line was refused, what the job writes of the lines before it was written, and the line's number and fault
     // were said.
     ensures refused { result ≡ 1 → IsRefused job.now (R.remaining reader.old) (R.remaining reader.new)
-        (W.contents writer.old) (W.contents writer.new) (E.contents errors.old) (E.contents errors.new) }
+        (W.contents writer.old) (W.contents writer.new) (E.says errors.old errors.new) }
     // 2: the options describe no encoder. Nothing was read or written.
-    ensures undescribed { result ≡ 2 → IsUndescribed job.now (E.contents errors.old) (E.contents errors.new)
+    ensures undescribed { result ≡ 2 → IsUndescribed job.now (E.says errors.old errors.new)
         × (reader.new ≡ reader.old) × (writer.new ≡ writer.old) }
     // 3: memory, reading or writing failed, that was said, and what was written is a beginning of what the job writes
     // of its input.
     ensures failed { result ≡ 3 → HasFailed job.now (R.remaining reader.old) (R.remaining reader.new)
-        (W.contents writer.old) (W.contents writer.new) (E.contents errors.old) (E.contents errors.new) }
+        (W.contents writer.old) (W.contents writer.new) (E.says errors.old errors.new) }
 {
     match do_job(alloc, job, reader, writer) {
         Ok(()) => 0,
@@ -212,14 +211,4 @@ fn play<R: Read, W: Write>(
 {
     let mut playing = Playing::new(alloc, setup, asked)?;
     run(alloc, reader, &mut playing, writer)
-}
-
-/// Says on the writer of errors why a run stopped, and answers its status. A text that can't be written changes
-/// nothing.
-pub fn fail<E: Write>(fault: &RunFault, errors: &mut E) -> u8
-    ensures status { result ≡ status_of fault.now }
-    ensures said { Begins (E.contents errors.old) (E.contents errors.new) (error_lines fault.now) }
-{
-    let _ = report(fault, errors);
-    fault.status()
 }

@@ -13,10 +13,10 @@ ghost use Rattle.uecp_jobs.specs.ServerRun.{AreNotAcknowledged, SendsAs, SendsUp
 
 use crate::batches::{join_first, send_batches};
 use crate::messages::{Messages, messages_of};
-use crate::run::fail;
 use crate::server_setup::{ServerSetup, server_setup_of};
 use crate::setup::address_of;
 use commands::Job;
+use notices::{Notices, fail};
 use std::alloc::Global;
 use std::io::{Read, Write};
 use uecp_frame::{Address, Message};
@@ -30,7 +30,7 @@ const WINDOW_MAX: u8 = 8;
 /// Does the job of `server` and answers the exit status: 0 done, 1 a line was refused, 2 the address was refused, 3 a
 /// batch of messages is outstanding, or memory, reading or writing failed. The input is read to its end before the
 /// first message is sent; what is said of a batch is written out before the next one is sent.
-pub fn run_server_over<R: Read, W: Write, E: Write, C: Connections>(
+pub fn run_server_over<R: Read, W: Write, E: Notices, C: Connections>(
     alloc: Global,
     job: &Job,
     reader: &mut R,
@@ -52,22 +52,21 @@ pub fn run_server_over<R: Read, W: Write, E: Write, C: Connections>(
     // fault were said.
     ensures sent_before { result ≡ 1 → HasSentBefore C.opens C.closes C.Input.remaining C.Output.contents job.now
         connect.old connect.new (R.remaining reader.old) (R.remaining reader.new) (W.contents writer.old)
-        (W.contents writer.new) (E.contents errors.old) (E.contents errors.new) }
+        (W.contents writer.new) (E.says errors.old errors.new) }
     // 1: so there is one line for each of those messages, in order.
     ensures acknowledged_before { result ≡ 1 → AreAcknowledgedBefore job.now (R.remaining reader.old)
-        (R.remaining reader.new) (W.contents writer.old) (W.contents writer.new) (E.contents errors.old)
-        (E.contents errors.new) }
+        (R.remaining reader.new) (W.contents writer.old) (W.contents writer.new) (E.says errors.old errors.new) }
     // 2: the address is not that of one encoder. No connection was opened, and nothing was read or written.
-    ensures undescribed { result ≡ 2 → IsUndescribed job.now (E.contents errors.old) (E.contents errors.new)
+    ensures undescribed { result ≡ 2 → IsUndescribed job.now (E.says errors.old errors.new)
         × (reader.new ≡ reader.old) × (writer.new ≡ writer.old) × (connect.new ≡ connect.old) }
     // 3: a batch is outstanding, and not before its tries on a connection are spent, or its connections; or memory or
     // writing failed behind a batch; or nothing was sent.
     ensures not_sent { result ≡ 3 → HasNotSentAll C.opens C.closes C.Input.remaining C.Output.contents job.now
         connect.old connect.new (R.remaining reader.old) (R.remaining reader.new) (W.contents writer.old)
-        (W.contents writer.new) (E.contents errors.old) (E.contents errors.new) }
+        (W.contents writer.new) (E.says errors.old errors.new) }
     // 3: so the lines of the batches before that were written, and then that it is outstanding; or a beginning of that.
     ensures not_acknowledged { result ≡ 3 → AreNotAcknowledged job.now (R.remaining reader.old) (R.remaining reader.new)
-        (W.contents writer.old) (W.contents writer.new) (E.contents errors.old) (E.contents errors.new) }
+        (W.contents writer.old) (W.contents writer.new) (E.says errors.old errors.new) }
 {
     match send_all(alloc, job, reader, writer, connect) {
         Ok(()) => 0,

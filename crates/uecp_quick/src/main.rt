@@ -5,11 +5,12 @@
 mod asked;
 
 use crate::asked::job_of;
+use notices::fail;
 use std::alloc::Global;
 use std::env;
 use std::io::{Input, Lock, Read, Write};
 use std::process::ExitCode;
-use uecp_jobs::{fail, run_job};
+use uecp_jobs::run_job;
 use uecp_text::{RunFault, write_parts};
 
 fn main(rt: HostRuntime) -> ExitCode {

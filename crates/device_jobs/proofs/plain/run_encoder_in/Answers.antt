@@ -26,7 +26,7 @@ returns-in-Err-clause-serves g c = (
 
 pub returns-in-Err-clause-said : goal.returns-in-Err-clause-said
 returns-in-Err-clause-said g c = λ is.
-    inr (Run c.in-Err.fault, g.E.Write.contents c.fail.new.errors, c.fail.ensures.said, inl refl)
+    inr (Run c.in-Err.fault, c.fail.new.errors, c.fail.ensures.said, inl refl)
 
 pub returns-in-Ok-clause-serves : goal.returns-in-Ok-clause-serves
 returns-in-Ok-clause-serves g c =

@@ -23,7 +23,7 @@ returns-in-Ok-clause-serves g c =
       keeper = run.new.keeper;
       connect = run.new.connect;
       log = run.new.log;
-    }) went) g.E.Write.contents c.args.errors.now run.new.errors run.result run.ensures.status run.ensures.done
+    }) went) c.args.errors.now run.new.errors run.result run.ensures.status run.ensures.done
     run.ensures.failed in
     inl (record {
       encoder = c.in-Ok.encoder;
@@ -31,7 +31,7 @@ returns-in-Ok-clause-serves g c =
       after = run.new.encoder;
       keeper_after = run.new.keeper;
       status = run.result;
-      between = g.E.Write.contents run.new.errors;
+      between = run.new.errors;
       closed = c.close_encoder.result;
       is_opened = record {
         given = c.in-Ok.ensures.given;

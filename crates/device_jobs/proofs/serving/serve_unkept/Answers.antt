@@ -22,7 +22,7 @@ returns-clause-serves g c =
       keeper = run.new.keeper;
       connect = run.new.connect;
       log = run.new.log;
-    }) went) g.E.Write.contents c.args.errors.now run.new.errors run.result run.ensures.status run.ensures.done
+    }) went) c.args.errors.now run.new.errors run.result run.ensures.status run.ensures.done
     run.ensures.failed in (
       _,
       run.new.keeper,
@@ -36,6 +36,6 @@ returns-clause-serves g c =
             keeper = run.new.keeper;
             connect = run.new.connect;
             log = run.new.log;
-          }) (g.E.Write.contents c.args.errors.now) (g.E.Write.contents run.new.errors) run.result) c.requires
+          }) c.args.errors.now run.new.errors run.result) c.requires
           ended,
     )

@@ -43,7 +43,8 @@ returns-in-Err g c =
     k.leaves k.is_clean k.saves k.fails _ _ _ _ _ _ _ _ _ _ stop ran in
     let said = said_so g.C.Connections.opens g.C.Connections.closes g.C.Input.Read.remaining g.C.Output.Write.contents
     k.leaves
-    k.is_clean k.saves k.fails _ _ start _ stop _ _ _ why told.status told.said in
+    k.is_clean k.saves k.fails _ _ start _ stop _
+    (g.E.Notices.says c.args.errors.now c.fail_run.new.errors) why told.status told.said in
     let left = run_survives g.C.Connections.opens g.C.Connections.closes g.C.Input.Read.remaining
     g.C.Output.Write.contents
     k.leaves k.is_clean k.saves k.fails _ _ _ _ _ _ _ _ _ _ _ ran in

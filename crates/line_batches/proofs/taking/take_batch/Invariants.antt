@@ -7,10 +7,10 @@ invariant-loop-line g l = HasTaken l.reading.region l.reading.size l.reading.str
   unread = g.F.Feed.remaining l.fn.feed;
   lines = l.fn.tally.lines;
   refused = l.fn.tally.refused;
-  said = g.E.Write.contents l.fn.errors;
+  said = l.fn.errors;
 }) (record {
   unread = g.F.Feed.remaining l.feed;
   lines = l.tally.lines;
   refused = l.tally.refused;
-  said = g.E.Write.contents l.errors;
+  said = l.errors;
 }) l.batch.items

@@ -1,6 +1,6 @@
 use Rattle.std.proofs.Common.{subst, inl, inr}
 use Rattle.uecp_text.specs.Faults.{error_lines}
-use Rattle.uecp_text.specs.Written.{Begins}
+use Rattle.notices.specs.Told.{Told, Says}
 use Rattle.on_air_jobs.proofs.over_tcp.begin.Goals as goal
 
 pub returns-in-Err : goal.returns-in-Err
@@ -9,6 +9,6 @@ returns-in-Err g c =
       c.in-Err.fault,
       rw c.as_slice.ensures.value at c.in-Err.ensures.refused,
       c.fail.ensures.status,
-      subst (λ (e : g.row.E.Denot). Begins (g.E.Write.contents e) (g.E.Write.contents c.fail.new.errors)
+      subst (λ (e : Told). Says e c.fail.new.errors
           (error_lines c.in-Err.fault)) c.in_ok-places.ensures.1 c.fail.ensures.said,
     ))))

@@ -16,7 +16,7 @@ returns-in-Ok g c =
     k.is_clean k.saves k.fails m.waits m.closes m.sends g.M.Input.Read.remaining g.M.Output.Write.contents
     c.args.limits.turns c.args.limits.store (standing c.in-Ok.encoder c.in-Ok.keeper c.args.log.now c.args.moments.now
     start c.args.limits.connections) (standing run.new.encoder run.new.keeper run.new.log run.new.moments
-    run.new.carousel left) went) g.E.Write.contents c.tell_no_pi.new.errors run.new.errors run.result
+    run.new.carousel left) went) c.tell_no_pi.new.errors run.new.errors run.result
     c.restarted-carousel.result
     c.restarted-carousel.ensures run.ensures.status run.ensures.done run.ensures.failed in
     inl (record {
@@ -25,7 +25,7 @@ returns-in-Ok g c =
       after = run.new.encoder;
       keeper_after = run.new.keeper;
       status = run.result;
-      between = g.E.Write.contents run.new.errors;
+      between = run.new.errors;
       closed = c.close_encoder.result;
       is_opened = record {
         given = c.in-Ok.ensures.given;
@@ -35,7 +35,7 @@ returns-in-Ok g c =
       runs = (
         run.new.carousel,
         ended.0,
-        g.E.Write.contents c.tell_no_pi.new.errors,
+        c.tell_no_pi.new.errors,
         rw c.target.ensures at c.tell_no_pi.ensures,
         ended.1,
       );

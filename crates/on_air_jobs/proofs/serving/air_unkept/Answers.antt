@@ -16,7 +16,7 @@ returns g c =
     (λ k left k'. k' ≡ k) (λ k left k'. ⊥) m.waits m.closes m.sends g.M.Input.Read.remaining
     g.M.Output.Write.contents c.args.limits.turns c.args.limits.store (standing c.args.encoder.now _ c.args.log.now
     c.args.moments.now start c.args.limits.connections) (standing run.new.encoder run.new.keeper run.new.log
-    run.new.moments run.new.carousel left) went) g.E.Write.contents c.tell_no_pi.new.errors run.new.errors run.result
+    run.new.moments run.new.carousel left) went) c.tell_no_pi.new.errors run.new.errors run.result
     c.restarted-carousel.result c.restarted-carousel.ensures run.ensures.status run.ensures.done run.ensures.failed in (
       _,
       run.new.keeper,
@@ -24,11 +24,11 @@ returns g c =
       subst (λ (e : EncoderState Store). EndsOnAir 1 512 (λ k left. Unit {0}) (λ k. ⊥) (λ k left k'. k' ≡ k)
           (λ k left k'. ⊥) m.waits m.closes m.sends g.M.Input.Read.remaining g.M.Output.Write.contents
           c.args.limits.turns c.args.limits.connections c.args.limits.store e run.new.encoder _ run.new.keeper
-          c.args.moments.now run.new.moments c.args.log.now run.new.log (g.E.Write.contents c.args.errors.now)
-          (g.E.Write.contents run.new.errors) run.result) c.requires (
+          c.args.moments.now run.new.moments c.args.log.now run.new.log c.args.errors.now
+          run.new.errors run.result) c.requires (
             run.new.carousel,
             ended.0,
-            g.E.Write.contents c.tell_no_pi.new.errors,
+            c.tell_no_pi.new.errors,
             rw c.target.ensures at c.tell_no_pi.ensures,
             ended.1,
           ),

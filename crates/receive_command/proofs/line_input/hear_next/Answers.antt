@@ -11,7 +11,7 @@ returns-in_err-hear_group-clause-failed g c =
     let left = g.F.Feed.remaining c.next_group.new.feed in
     let held = g.W.Write.contents c.args.writer.now in
     let fault = c.in_err-hear_group.field-0.0 in
-    let x = standing_of c.args.hearing.now unread held (g.E.Write.contents c.args.errors.now) in
+    let x = standing_of c.args.hearing.now unread held c.args.errors.now in
     let takes = subst (λ (o : Option GroupLine). NextIs unread left o) c.in-Some.is c.in_ok-group.ensures.is in
     let err : c.from_residual-in_err-hear_group.result ≡ Err fault = search rules in
     rw err (

@@ -21,17 +21,16 @@ pub loop-turn-preserved : goal.loop-turn-preserved
 loop-turn-preserved g c =
     let left = g.F.Feed.remaining in
     let held = g.W.Write.contents in
-    let told = g.E.Write.contents in
     let next = c.hear_next-next.new in
     let before = c.loop-turn.invariant.0 in
     let hears = c.in-Ok.ensures.heard (ap Ok c.if-not-goes_on.false) in (
       (
         before.0 ++ hears.0 ∷ [],
         hears_on c.args.form (is_some c.args.clock) before.0 hears.0
-            (at_first (left c.args.feed.now) (held c.args.writer.now) (told c.args.errors.now))
+            (at_first (left c.args.feed.now) (held c.args.writer.now) c.args.errors.now)
             (standing_of c.loop-turn.hearing (left c.loop-turn.feed) (held c.loop-turn.writer)
-            (told c.loop-turn.errors))
-            (standing_of next.hearing (left next.feed) (held next.writer) (told next.errors)) before.1 hears.1,
+            c.loop-turn.errors)
+            (standing_of next.hearing (left next.feed) (held next.writer) next.errors) before.1 hears.1,
       ),
       c.in-Ok.ensures.empty,
       c.in-Ok.ensures.whole,
@@ -41,10 +40,9 @@ pub returns : goal.returns
 returns g c =
     let left = g.F.Feed.remaining in
     let held = g.W.Write.contents in
-    let told = g.E.Write.contents in
     let before = c.loop-turn.invariant.0 in (
       before.0,
-      standing_of c.loop-turn.hearing (left c.loop-turn.feed) (held c.loop-turn.writer) (told c.loop-turn.errors),
+      standing_of c.loop-turn.hearing (left c.loop-turn.feed) (held c.loop-turn.writer) c.loop-turn.errors,
       before.1,
       inr (c.fail-2.ensures.status, (Reading, (inl (Keeps-refl (left c.loop-turn.feed)), refl), c.fail-2.ensures.said)),
     )

@@ -8,6 +8,6 @@ use Rattle.receive_command.proofs.run.receive.Given as goal
 abbrev pub invariant-loop-turn : goal.invariant-loop-turn
 invariant-loop-turn g l =
     ((lines : List GroupLine) × HearsEach l.form (is_some l.clock) lines
-    (at_first (g.F.Feed.remaining l.fn.feed) (g.W.Write.contents l.fn.writer) (g.E.Write.contents l.fn.errors))
-    (standing_of l.hearing (g.F.Feed.remaining l.feed) (g.W.Write.contents l.writer) (g.E.Write.contents l.errors)))
+    (at_first (g.F.Feed.remaining l.fn.feed) (g.W.Write.contents l.fn.writer) (l.fn.errors))
+    (standing_of l.hearing (g.F.Feed.remaining l.feed) (g.W.Write.contents l.writer) (l.errors)))
     × (l.buffers.output.bytes ≡ []) × IsTrue l.buffers.output.is_whole

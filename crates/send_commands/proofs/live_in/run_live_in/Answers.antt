@@ -1,5 +1,5 @@
 use Rattle.std.proofs.Common.{rules, refl, subst, inr}
-use Rattle.uecp_text.specs.Written.{Begins}
+use Rattle.notices.specs.Told.{Says}
 use Rattle.kept_jobs.specs.Stops.{state_line}
 use Rattle.state_files.specs.declared.fault.StateFault.TheVariants as state
 use Rattle.send_commands.proofs.live_in.run_live_in.Goals as goal
@@ -12,8 +12,8 @@ returns-then-progress-ge-TAKEN_MAX-clause-lives g c =
         state.Damaged,
         inr (c.in-Ok.server, c.in-Ok.progress, c.in-Ok.keeper, c.in-Ok.ensures.given, search rules, refl),
         said.ensures.status,
-        subst (λ x. Begins (g.E.Write.contents c.args.errors.now)
-            (g.E.Write.contents said.new.errors) (state_line x)) c.state_text-then-progress-ge-TAKEN_MAX.ensures
+        subst (λ x. Says c.args.errors.now
+            said.new.errors (state_line x)) c.state_text-then-progress-ge-TAKEN_MAX.ensures
             said.ensures.said,
       ),
       refl,

@@ -1,4 +1,4 @@
-use Rattle.std.proofs.Common.{inl, ap, ◌∙◌}
+use Rattle.std.proofs.Common.{inl, ◌∙◌}
 use Rattle.send_commands.proofs.over_tcp.run_send_over_tcp.Goals as goal
 
 pub returns-in-Ok-new-clause-sent : goal.returns-in-Ok-new-clause-sent
@@ -8,9 +8,9 @@ returns-in-Ok-new-clause-sent g c =
       c.patient_of-patient.result,
       c.run_send.new.connect,
       _,
-      g.E.Write.contents c.station_of.new.errors,
+      c.station_of.new.errors,
       c.patient_of-patient.ensures,
       λ none. let begun = c.in-Ok.ensures none in
-          (c.as_slice-station.ensures.value ∙ begun.0, ap g.E.Write.contents begun.2),
+          (c.as_slice-station.ensures.value ∙ begun.0, begun.2),
       rw c.in-Ok-new.ensures.left at c.run_send.ensures.sent,
     )

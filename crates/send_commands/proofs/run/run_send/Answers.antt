@@ -15,7 +15,7 @@ returns-in-Some-state-clause-sent g c =
     (Some c.as_str-path.result.now) c.in-Some.address c.options_of-options.result c.args.connect.now
     run.new.connect (g.F.Feed.remaining c.args.feed.now) (g.F.Feed.remaining run.new.feed)
     c.args.teller.now.held run.new.teller.held
-    (g.E.Write.contents c.args.errors.now) (g.E.Write.contents run.new.errors) run.result = elim run.ensures.lives [
+    c.args.errors.now run.new.errors run.result = elim run.ensures.lives [
       | inl lives ↦ inl lives
       | inr none ↦ inr
           (none.0, ap g.F.Feed.remaining none.1, none.2, none.3)
@@ -32,15 +32,15 @@ returns-in-Some-state-clause-sent g c =
           (address_of c.args.job.now.site c.args.job.now.encoder)
           c.options_of-options.result c.args.connect.now run.new.connect (g.F.Feed.remaining c.args.feed.now)
           (g.F.Feed.remaining run.new.feed) c.args.teller.now.held
-          run.new.teller.held (g.E.Write.contents c.args.errors.now)
-          (g.E.Write.contents run.new.errors) run.result) (sym path)
+          run.new.teller.held c.args.errors.now
+          run.new.errors run.result) (sym path)
           (subst (λ address. SendsFrom g.C.Connections.opens g.C.Connections.closes g.C.Input.Read.remaining
           g.C.Output.Write.contents (g.S.OpenStates.gives_server c.args.states.now)
           (g.S.OpenStates.refuses_server c.args.states.now) (g.S.OpenStates.closes_server c.args.states.now) k.leaves
           k.is_clean k.saves k.fails (Some c.as_str-path.result.now) address c.options_of-options.result
           c.args.connect.now run.new.connect (g.F.Feed.remaining c.args.feed.now) (g.F.Feed.remaining run.new.feed)
           c.args.teller.now.held run.new.teller.held
-          (g.E.Write.contents c.args.errors.now) (g.E.Write.contents run.new.errors) run.result)
+          c.args.errors.now run.new.errors run.result)
           c.in-Some.ensures.value sent),
     )
 
@@ -60,14 +60,14 @@ returns-in-None-clause-sent g c =
           (address_of c.args.job.now.site c.args.job.now.encoder)
           c.options_of-options.result c.args.connect.now run.new.connect (g.F.Feed.remaining c.args.feed.now)
           (g.F.Feed.remaining run.new.feed) c.args.teller.now.held
-          run.new.teller.held (g.E.Write.contents c.args.errors.now)
-          (g.E.Write.contents run.new.errors) run.result) (sym none)
+          run.new.teller.held c.args.errors.now
+          run.new.errors run.result) (sym none)
           (subst (λ address. SendsFrom g.C.Connections.opens g.C.Connections.closes g.C.Input.Read.remaining
           g.C.Output.Write.contents (g.S.OpenStates.gives_server c.args.states.now)
           (g.S.OpenStates.refuses_server c.args.states.now) (g.S.OpenStates.closes_server c.args.states.now) k.leaves
           k.is_clean k.saves k.fails None address c.options_of-options.result
           c.args.connect.now run.new.connect (g.F.Feed.remaining c.args.feed.now) (g.F.Feed.remaining run.new.feed)
           c.args.teller.now.held run.new.teller.held
-          (g.E.Write.contents c.args.errors.now) (g.E.Write.contents run.new.errors) run.result)
+          c.args.errors.now run.new.errors run.result)
           c.in-Some.ensures.value run.ensures.sends),
     )

@@ -16,6 +16,6 @@ returns-clause-sends g c =
             progress = record { taken = 0; joined = false };
             held = c.args.teller.now.held;
           }) run.new.keeper run.new.teller.held (g.F.Feed.remaining c.args.feed.now)
-          (g.F.Feed.remaining run.new.feed) (g.E.Write.contents c.args.errors.now)
-          (g.E.Write.contents run.new.errors) run.result) c.new.ensures run.ensures.runs,
+          (g.F.Feed.remaining run.new.feed) c.args.errors.now
+          run.new.errors run.result) c.new.ensures run.ensures.runs,
     )

@@ -37,6 +37,6 @@ returns-clause-runs g c =
           run.ensures.lives,
       ap g.F.Feed.remaining feed ∙ c.finish-feed.ensures.unread ∙ ap (λ f. f.unread) back.feed ∙ end.ensures.unread,
       subst (λ said. EndsAs run.result run.new.applied run.new.intake.at said end.result)
-          (sym (ap g.E.Write.contents errors ∙ c.finish-errors.ensures.said ∙ ap (λ e. e.said) back.errors))
+          (sym (errors ∙ c.finish-errors.ensures.said ∙ ap (λ e. e.said) back.errors))
           end.ensures.ends,
     )

@@ -1,6 +1,6 @@
 use Rattle.std.proofs.Common.{rules, ◌≡◌, refl, sym, ◌∙◌, inl, inr, subst}
 use Rattle.std.specs.Prelude.{IfOk}
-use Rattle.uecp_text.specs.Written.{Begins}
+use Rattle.notices.specs.Told.{Says}
 use Rattle.kept_jobs.specs.Stops.{state_line}
 use Rattle.state_files.specs.declared.fault.StateFault.TheVariants as state
 use Rattle.state_jobs.specs.Texts.{IsClosed}
@@ -17,8 +17,8 @@ returns-then-progress-ge-TAKEN_MAX-clause-sent g c =
       said.ensures.status,
       (
         state.Damaged,
-        subst (λ x. Begins (g.E.Write.contents c.args.errors.now)
-            (g.E.Write.contents said.new.errors) (state_line x)) c.state_text-then-progress-ge-TAKEN_MAX.ensures
+        subst (λ x. Says c.args.errors.now
+            said.new.errors (state_line x)) c.state_text-then-progress-ge-TAKEN_MAX.ensures
             said.ensures.said,
         inr (c.in-Ok.server, c.in-Ok.progress, c.in-Ok.keeper, c.in-Ok.ensures.given, search rules, refl),
         refl,
@@ -39,7 +39,7 @@ returns-else-progress-ge-TAKEN_MAX-clause-sent g c =
       went,
       c.close_server.result,
       run.result,
-      g.E.Write.contents run.new.errors,
+      run.new.errors,
       record {
         server = c.in-Ok.server;
         progress = c.in-Ok.progress;
@@ -87,7 +87,7 @@ pub returns-else-progress-ge-TAKEN_MAX-clause-refused : goal.returns-else-progre
 returns-else-progress-ge-TAKEN_MAX-clause-refused g c = λ is.
     let run = c.run_server_kept-status in
     let k = g.S.ServerKeeper.Keep in
-    let told = g.E.Write.contents c.args.errors.now in
+    let told = c.args.errors.now in
     let well = closed_well _ _ _ _ _ _ (λ three. not_refused _ three is) c.closed_so.ensures.closed in
     let one : run.result ≡ 1 = well.1 ∙ is in
     let sent : SentKept (g.S.OpenStates.gives_server c.args.place.states.now) k.leaves k.is_clean c.args.place.path.now
@@ -104,13 +104,13 @@ returns-else-progress-ge-TAKEN_MAX-clause-refused g c = λ is.
       clean = run.ensures.clean;
     } in
     let refused = run.ensures.refused one in
-    (sent, (refused.0, refused.1, subst (λ x. Begins told x (error_lines refused.0)) (sym well.2) refused.2))
+    (sent, (refused.0, refused.1, subst (λ x. Says told x (error_lines refused.0)) (sym well.2) refused.2))
 
 pub returns-else-progress-ge-TAKEN_MAX-clause-said : goal.returns-else-progress-ge-TAKEN_MAX-clause-said
 returns-else-progress-ge-TAKEN_MAX-clause-said g c = λ is.
     let run = c.run_server_kept-status in
-    let between = g.E.Write.contents run.new.errors in
-    let told' = g.E.Write.contents c.closed_so.new.errors in
+    let between = run.new.errors in
+    let told' = c.closed_so.new.errors in
     says_end c.args.place.path.now run.ensures.runs.0 run.result c.close_server.result _ between told'
     run.ensures.runs.2
     (subst (λ r. IsClosed c.args.place.path.now run.result c.close_server.result r between told') is
@@ -121,7 +121,7 @@ returns-then-progress-ge-TAKEN_MAX-clause-said g c = λ is.
     let said = c.fail_state-then-progress-ge-TAKEN_MAX in
     inl (
       state.Damaged,
-      subst (λ x. Begins (g.E.Write.contents c.args.errors.now)
-          (g.E.Write.contents said.new.errors) (state_line x)) c.state_text-then-progress-ge-TAKEN_MAX.ensures
+      subst (λ x. Says c.args.errors.now
+          said.new.errors (state_line x)) c.state_text-then-progress-ge-TAKEN_MAX.ensures
           said.ensures.said,
     )

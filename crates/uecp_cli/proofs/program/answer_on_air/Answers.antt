@@ -22,4 +22,9 @@ returns g c =
       };
       done = λ zero. (c.run_answer_on_air.ensures.done zero).0;
       refused = c.run_answer_on_air.ensures.refused;
+      undescribed = λ two.
+          let said = c.run_answer_on_air.ensures.undescribed two in
+          (said.0, ap g.R.Read.remaining said.1, ap g.W.Write.contents said.2);
+      failed = c.run_answer_on_air.ensures.failed;
+      most = c.run_answer_on_air.ensures.status;
     }

@@ -18,4 +18,9 @@ returns g c =
       };
       done = λ zero. (c.run_ladder.ensures.done zero).0;
       refused = c.run_ladder.ensures.refused;
+      undescribed = λ two.
+          let said = c.run_ladder.ensures.undescribed two in
+          (said.0, ap g.R.Read.remaining said.1, ap g.W.Write.contents said.2);
+      failed = c.run_ladder.ensures.failed;
+      most = c.run_ladder.ensures.status;
     }

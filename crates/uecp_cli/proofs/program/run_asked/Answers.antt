@@ -1,4 +1,4 @@
-use Rattle.std.proofs.Common.{[], ◌≤◌, refl, sym, ap, inl, inr, arith, append-nil}
+use Rattle.std.proofs.Common.{[], refl, sym, ap, inl, inr, arith, append-nil}
 use Rattle.uecp_text.specs.Faults.{status_of}
 use Rattle.uecp_jobs.specs.EncoderRun.{connection_lines}
 use Rattle.uecp_jobs.proofs.Public.{not_failed}
@@ -28,15 +28,15 @@ returns-in-Encoder-clause-failed g c = λ three.
     ]
 
 pub returns-in-EncoderWith-clause-comes : goal.returns-in-EncoderWith-clause-comes
-returns-in-EncoderWith-clause-comes g c = λ ended. rw c.in-EncoderWith.is c.serve.ensures.comes
+returns-in-EncoderWith-clause-comes g c = rw c.in-EncoderWith.is c.serve.ensures.comes
 
 pub returns-in-Page-clause-comes : goal.returns-in-Page-clause-comes
-returns-in-Page-clause-comes g c = λ ended.
-    let few : c.run_page_over_tcp.result ≤ 1 = elim ended [
-      | inl zero ↦ omega (arith, zero)
-      | inr one ↦ omega (arith, one)
-    ] in
-    rw c.in-Page.is (c.run_page_over_tcp.ensures.ended few)
+returns-in-Page-clause-comes g c = rw c.in-Page.is c.run_page_over_tcp.ensures.ended
 
 pub returns-in-Send-clause-sends : goal.returns-in-Send-clause-sends
-returns-in-Send-clause-sends g c = λ ended. rw c.in-Send.is c.send.ensures
+returns-in-Send-clause-sends g c = rw c.in-Send.is c.send.ensures
+
+pub returns-in-Conformance-clause-comes : goal.returns-in-Conformance-clause-comes
+returns-in-Conformance-clause-comes g c =
+    let run = c.run_conformance_over_tcp in
+    rw c.in-Conformance.is (run.ensures.done, λ two. ap g.W.Write.contents (run.ensures.unknown two))

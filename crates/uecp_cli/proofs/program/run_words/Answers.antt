@@ -1,14 +1,13 @@
 use Rattle.std.proofs.Common.{◌≡◌, map, refl, inl, inr}
 use Rattle.std.specs.String.{string_bytes}
-use Rattle.uecp_cli.proofs.Ending.{mistaken_by, asked_by, or_apart}
+use Rattle.uecp_cli.proofs.Ending.{mistaken_by, asked_by, no_job_by, or_apart}
 use Rattle.uecp_cli.proofs.program.run_words.Goals as goal
 
 pub returns-in-Err-clause-mistaken : goal.returns-in-Err-clause-mistaken
 returns-in-Err-clause-mistaken g c = λ two.
-    let held = g.E.Write.contents in
     let says = c.refuse.ensures.mistaken two in
     inr (
-      mistaken_by (map string_bytes c.args.words.now) c.in-Err.usage (held c.args.errors.now) (held c.refuse.new.errors)
+      mistaken_by (map string_bytes c.args.words.now) c.in-Err.usage c.args.errors.now c.refuse.new.errors
           c.in-Err.ensures.refused says.0,
       refl,
       says.1,
@@ -71,9 +70,29 @@ returns-in-Ok-clause-kept g c = λ either.
     or_apart words job asks (λ kept. inr (job, asks, kept)) (c.run_asked.ensures.kept either)
 
 pub returns-in-Ok-clause-comes : goal.returns-in-Ok-clause-comes
-returns-in-Ok-clause-comes g c = λ either.
-    inr (c.in-Ok.job, c.in-Ok.ensures.asked, c.run_asked.ensures.comes either)
+returns-in-Ok-clause-comes g c =
+    inr (inr (c.in-Ok.job, c.in-Ok.ensures.asked, c.run_asked.ensures.comes))
 
 pub returns-in-Ok-clause-sends : goal.returns-in-Ok-clause-sends
-returns-in-Ok-clause-sends g c = λ either.
-    inr (c.in-Ok.job, c.in-Ok.ensures.asked, c.run_asked.ensures.sends either)
+returns-in-Ok-clause-sends g c =
+    inr (inr (c.in-Ok.job, c.in-Ok.ensures.asked, c.run_asked.ensures.sends))
+
+pub returns-in-Err-clause-comes : goal.returns-in-Err-clause-comes
+returns-in-Err-clause-comes g c =
+    let refused = c.refuse.ensures in
+    elim (no_job_by (map string_bytes c.args.words.now) c.in-Err.usage c.args.errors.now c.refuse.new.errors
+    c.refuse.result c.in-Err.ensures.refused refused.status (λ zero. (refused.text zero).0)
+    (λ two. (refused.mistaken two).0) (λ three. (refused.failed three).0)) [
+      | inl asks ↦ inl asks
+      | inr none ↦ inr (inl none)
+    ]
+
+pub returns-in-Err-clause-sends : goal.returns-in-Err-clause-sends
+returns-in-Err-clause-sends g c =
+    let refused = c.refuse.ensures in
+    elim (no_job_by (map string_bytes c.args.words.now) c.in-Err.usage c.args.errors.now c.refuse.new.errors
+    c.refuse.result c.in-Err.ensures.refused refused.status (λ zero. (refused.text zero).0)
+    (λ two. (refused.mistaken two).0) (λ three. (refused.failed three).0)) [
+      | inl asks ↦ inl asks
+      | inr none ↦ inr (inl none)
+    ]

@@ -15,12 +15,12 @@ pub returns-in-Err-clause-sent_before : goal.returns-in-Err-clause-sent_before
 returns-in-Err-clause-sent_before g c = λ is.
     let left = g.R.Read.remaining in
     let held = g.W.Write.contents in
-    let told = g.E.Write.contents in
+    let says = g.E.Notices.says c.args.errors.now c.fail.new.errors in
     let now = c.send_all.new in
     (sent_before g.C.Connections.opens g.C.Connections.closes g.C.Input.Read.remaining g.C.Output.Write.contents
     c.args.job.now
     c.args.connect.now now.connect (left c.args.reader.now) (left now.reader) (held c.args.writer.now)
-    (held now.writer) (told c.args.errors.now) (told c.fail.new.errors) c.requires
+    (held now.writer) says c.requires
     (◌≡◌ {A = g.row.R.Denot} now.reader c.args.reader.now) (◌≡◌ {A = g.row.W.Denot} now.writer c.args.writer.now)
     (◌≡◌ {A = g.row.C.Denot} now.connect c.args.connect.now) c.in-Err.fault c.fail.ensures.said
     c.in-Err.ensures.some (sym c.fail.ensures.status ∙ is)).0
@@ -29,12 +29,12 @@ pub returns-in-Err-clause-acknowledged_before : goal.returns-in-Err-clause-ackno
 returns-in-Err-clause-acknowledged_before g c = λ is.
     let left = g.R.Read.remaining in
     let held = g.W.Write.contents in
-    let told = g.E.Write.contents in
+    let says = g.E.Notices.says c.args.errors.now c.fail.new.errors in
     let now = c.send_all.new in
     (sent_before g.C.Connections.opens g.C.Connections.closes g.C.Input.Read.remaining g.C.Output.Write.contents
     c.args.job.now
     c.args.connect.now now.connect (left c.args.reader.now) (left now.reader) (held c.args.writer.now)
-    (held now.writer) (told c.args.errors.now) (told c.fail.new.errors) c.requires
+    (held now.writer) says c.requires
     (◌≡◌ {A = g.row.R.Denot} now.reader c.args.reader.now) (◌≡◌ {A = g.row.W.Denot} now.writer c.args.writer.now)
     (◌≡◌ {A = g.row.C.Denot} now.connect c.args.connect.now) c.in-Err.fault c.fail.ensures.said
     c.in-Err.ensures.some (sym c.fail.ensures.status ∙ is)).1
@@ -43,12 +43,12 @@ pub returns-in-Err-clause-not_sent : goal.returns-in-Err-clause-not_sent
 returns-in-Err-clause-not_sent g c = λ is.
     let left = g.R.Read.remaining in
     let held = g.W.Write.contents in
-    let told = g.E.Write.contents in
+    let says = g.E.Notices.says c.args.errors.now c.fail.new.errors in
     let now = c.send_all.new in
     (not_sent g.C.Connections.opens g.C.Connections.closes g.C.Input.Read.remaining g.C.Output.Write.contents
     c.args.job.now
     c.args.connect.now now.connect (left c.args.reader.now) (left now.reader) (held c.args.writer.now)
-    (held now.writer) (told c.args.errors.now) (told c.fail.new.errors) c.requires
+    (held now.writer) says c.requires
     (◌≡◌ {A = g.row.R.Denot} now.reader c.args.reader.now) (◌≡◌ {A = g.row.W.Denot} now.writer c.args.writer.now)
     (◌≡◌ {A = g.row.C.Denot} now.connect c.args.connect.now) c.in-Err.fault c.fail.ensures.said
     c.in-Err.ensures.some (sym c.fail.ensures.status ∙ is)).0
@@ -57,12 +57,12 @@ pub returns-in-Err-clause-not_acknowledged : goal.returns-in-Err-clause-not_ackn
 returns-in-Err-clause-not_acknowledged g c = λ is.
     let left = g.R.Read.remaining in
     let held = g.W.Write.contents in
-    let told = g.E.Write.contents in
+    let says = g.E.Notices.says c.args.errors.now c.fail.new.errors in
     let now = c.send_all.new in
     (not_sent g.C.Connections.opens g.C.Connections.closes g.C.Input.Read.remaining g.C.Output.Write.contents
     c.args.job.now
     c.args.connect.now now.connect (left c.args.reader.now) (left now.reader) (held c.args.writer.now)
-    (held now.writer) (told c.args.errors.now) (told c.fail.new.errors) c.requires
+    (held now.writer) says c.requires
     (◌≡◌ {A = g.row.R.Denot} now.reader c.args.reader.now) (◌≡◌ {A = g.row.W.Denot} now.writer c.args.writer.now)
     (◌≡◌ {A = g.row.C.Denot} now.connect c.args.connect.now) c.in-Err.fault c.fail.ensures.said
     c.in-Err.ensures.some (sym c.fail.ensures.status ∙ is)).1
@@ -71,11 +71,11 @@ pub returns-in-Err-clause-undescribed : goal.returns-in-Err-clause-undescribed
 returns-in-Err-clause-undescribed g c = λ is.
     let left = g.R.Read.remaining in
     let held = g.W.Write.contents in
-    let told = g.E.Write.contents in
+    let says = g.E.Notices.says c.args.errors.now c.fail.new.errors in
     let now = c.send_all.new in
     let by = undescribed g.C.Connections.opens g.C.Connections.closes g.C.Input.Read.remaining g.C.Output.Write.contents
     c.args.job.now c.args.connect.now now.connect (left c.args.reader.now) (left now.reader)
-    (held c.args.writer.now) (held now.writer) (told c.args.errors.now) (told c.fail.new.errors) c.requires
+    (held c.args.writer.now) (held now.writer) says c.requires
     (◌≡◌ {A = g.row.R.Denot} now.reader c.args.reader.now) (◌≡◌ {A = g.row.W.Denot} now.writer c.args.writer.now)
     (◌≡◌ {A = g.row.C.Denot} now.connect c.args.connect.now) c.in-Err.fault c.fail.ensures.said
     c.in-Err.ensures.some (sym c.fail.ensures.status ∙ is) in
