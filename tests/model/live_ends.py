@@ -5,6 +5,7 @@ import os
 import queue
 import random
 import re
+import signal
 import socket
 import string
 import subprocess
@@ -21,6 +22,9 @@ NOTICE = re.compile(r"uecp: \d{4}-\d\d-\d\dT\d\d:\d\d:\d\d\.\d{3}Z (.*)\n")
 ENDS = (4000, 12000)  # bytes after which a connection over a bad line ends at the latest; a pass has 2600
 TRAFFIC = ("none", "eon", "programme", "announcement")
 MEANINGS = {0x03: "unknown element", 0x0B: "the buffer is full"}
+
+# who is started in the background of a shell, as a gate may be, is deaf to SIGINT, and so is what it starts in turn
+signal.signal(signal.SIGINT, signal.default_int_handler)
 
 
 def is_listening(port):
