@@ -214,6 +214,15 @@ fn frames_are_lost_doubled_and_damaged(rt: HostRuntime) -> Result<(), AllocError
     Ok(())
 }
 
+/// Whether the next read gives these bytes.
+fn gives<R: Read>(input: &mut R, wanted: &[u8]) -> bool {
+    let mut buffer = [0u8; 64];
+    match input.read(&mut buffer) {
+        Ok(count) => &buffer[..count] == wanted,
+        Err(_) => false,
+    }
+}
+
 #[test]
 fn what_is_delayed_is_held_side_by_side(rt: HostRuntime) -> Result<(), AllocError> {
     // the clock goes on a second each time it is asked, and the delay is an hour: all is read before any of it is due
@@ -222,11 +231,8 @@ fn what_is_delayed_is_held_side_by_side(rt: HostRuntime) -> Result<(), AllocErro
     let connect = known(&inputs, &[]);
     let mut faulty = Faulty::new(rt.alloc(), connect, &rules, 1, &time, &lines)?;
     if let Some((mut input, output)) = faulty.open() {
-        let mut buffer = [0u8; 64];
-        same!(rt; input.read(&mut buffer).unwrap_or(0), 1);
-        same!(rt; &buffer[..1], b"a".as_slice());
-        same!(rt; input.read(&mut buffer).unwrap_or(0), 4);
-        same!(rt; &buffer[..4], b"\xFE1\xFFb".as_slice());
+        holds!(rt; gives(&mut input, b"a"));
+        holds!(rt; gives(&mut input, b"\xFE1\xFFb"));
         told(&rt, &lines, b"");
         holds!(rt; time.slept.get() == 0);
         let mut all = FaultyWriter::new();
