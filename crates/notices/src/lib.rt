@@ -2,8 +2,8 @@
 //!
 //! - [`Notices`]: where it is said. Any writer is one; of a writer alone no contract can say that a write failed, so it
 //!   is known only that a beginning was written.
-//! - [`NoticesTo`]: a writer that remembers whether a write failed. The program says all by one: where no write failed,
-//!   what was to be said was written whole.
+//! - [`NoticesTo`]: a writer that remembers whether a write failed. The program says by one why a run stops and what it
+//!   refused: where no write failed, that was written whole.
 //!
 //! It opens nothing, and knows no standard stream. What can't be written stops nothing.
 #![tactic(auto)]
