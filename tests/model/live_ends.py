@@ -265,6 +265,95 @@ class Modelled(Listening):
             stream = stream[at:] if at >= 0 and b"\xff" not in stream[at:] else b""
 
 
+class Deaf(Listening):
+    """Somebody who takes connections, and does on each what he is made for, which answers no message: see the functions below."""
+
+    def __init__(self, does):
+        self.does = does
+        super().__init__()
+
+    def run(self):
+        with contextlib.suppress(OSError):
+            while True:
+                threading.Thread(target=self.hold, args=[self.listener.accept()[0]], daemon=True).start()
+
+    def hold(self, near):
+        with near, contextlib.suppress(OSError):
+            self.does(near)
+
+
+def reply_each(near, reply):
+    """Each frame is replied to so."""
+    stream = b""
+    while data := near.recv(4096):
+        stream += data
+        found = [finding for finding in model.findings(stream) if isinstance(finding, model.Frame)]
+        near.sendall(b"".join(model.spelling(reply(frame)) for frame in found))
+        stream = stream[stream.rfind(b"\xff") + 1 :]
+
+
+def another_address(near):
+    """Replies to each frame, as by another encoder."""
+    reply_each(near, lambda frame: model.Frame(frame.address + 1, 0, bytes([model.ACKNOWLEDGEMENT, 0, frame.counter])))
+
+
+def other_counters(near):
+    """Replies to each frame, under a counter that no message has which waits."""
+    reply_each(near, lambda frame: model.Frame(frame.address, 0, bytes([model.ACKNOWLEDGEMENT, 0, 0])))
+
+
+def noise(near):
+    """Random bytes without end."""
+    chance = random.Random("noise")
+    while True:
+        near.sendall(chance.randbytes(300))
+        time.sleep(0.02)
+
+
+def drip(near):
+    """A byte each 200 ms without end."""
+    while True:
+        near.sendall(b"\x00")
+        time.sleep(0.2)
+
+
+class Moody(Modelled):
+    """An encoder that answers as long as it is well, and then does something else on a connection that it has, and on others."""
+
+    def __init__(self, does):
+        self.does, self.is_well = does, True
+        super().__init__()
+
+    def drop(self):
+        with contextlib.suppress(OSError):
+            self.near.shutdown(socket.SHUT_RDWR)
+
+    def answer(self, near):
+        self.near = near
+        with contextlib.suppress(OSError):
+            if self.is_well:
+                near.settimeout(0.05)
+                self.answer_well(near)
+            if not self.is_well:
+                near.settimeout(None)
+                self.does(near)
+
+    def answer_well(self, near):
+        stream = b""
+        while self.is_well:
+            try:
+                data = near.recv(4096)
+            except TimeoutError:
+                continue
+            if not data:
+                return
+            stream += data
+            for found in model.findings(stream):
+                if isinstance(found, model.Frame) and self.is_well and self.encoder.take(found) in ("new", "kept"):
+                    near.sendall(self.encoder.reply(found.counter))
+            stream = stream[stream.rfind(b"\xff") + 1 :]
+
+
 class Relay(Listening):
     """A line to an encoder, which is bad for its first connections (bad_line.py), each of which ends some day, and good after them."""
 

@@ -1,1 +1,5 @@
+pub mod Answering
 pub mod Dialling
+pub mod Pieces
+pub mod Saying
+pub mod Waiting

@@ -1,7 +1,8 @@
 -- A reader, and what is noted of its reads (profile).
 use Rattle.std.specs.Prelude.{Bool, false}
 
--- A reader; whether anything was read of it; and whether it ended, or failed otherwise than by its limit of time.
+-- A reader; whether a reply came that was waited for; and whether it ended, or failed otherwise than by its limit of
+-- time.
 pub record Heard (R : Type 0) : Type 0 where
   pub reader : R
   pub heard : Bool

@@ -1,13 +1,8 @@
 -- How long a line is waited for; and connections that are tried again (profile).
-use Rattle.std.specs.Prelude.{◌≡◌, ◌≢◌, ◌⊎◌, ℕ, zero, suc, ◌*◌, ◌^◌, ◌-◌, max, min, List, Option, Some, None, true}
+use Rattle.std.specs.Prelude.{◌≡◌, ◌≢◌, ◌⊎◌, ℕ, zero, suc, ◌^◌, List, Option, Some, None, true}
 use Rattle.std.specs.Io.KnownBytes.{Appends}
 use Rattle.live_edges.specs.declared.patience.Patience.{Patience}
 use Rattle.live_edges.specs.Heard.{Heard, unheard}
-
--- The pause after a try that fails where there was one of so many seconds before it: it is doubled, and is 1 where
--- there was none, up to the longest. Numbers have 64 bits.
-abbrev pub next_pause : (pause longest : ℕ) → ℕ
-next_pause pause longest = min (max (min (pause * 2) (2 ^ 64 - 1)) 1) longest
 
 -- Where the connections come from, for how long one is waited for, and what was said of it.
 pub record Dialled (C : Type 0) : Type 0 where

@@ -5,22 +5,27 @@
 //!   connection that a [`Watch`] has.
 //! - [`Patient`]: [`Connections`](uecp_net::Connections) over others, a [`Dialler`], which it asks for one again and
 //!   again, with longer and longer pauses; it says when the line is lost, there again, or silent, and [`Patience`] is
-//!   for how long. They are read through [`ReadMeter`], which notes whether anything came.
+//!   for how long. Their ends are a [`ReadMeter`] and a [`WriteMeter`], which note what waits for a reply, and whether
+//!   one came.
 //! - [`keep_alive`]: has the system ask whether somebody is at the other end of a connection.
 #![tactic(auto)]
 
 mod alive;
+mod awaited;
 mod dialler;
 mod heard;
+pub mod laws;
+mod line;
 mod notices;
 mod patience;
 mod patient;
 mod polled;
+mod said;
 mod watch;
 
 pub use alive::keep_alive;
 pub use dialler::Dialler;
-pub use heard::ReadMeter;
+pub use heard::{ReadMeter, WriteMeter};
 pub use patience::Patience;
 pub use patient::Patient;
 pub use polled::Polled;

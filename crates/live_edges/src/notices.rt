@@ -17,19 +17,6 @@ const LINE_MAX: usize = 512;
 /// How many bytes the words for a fault of a connection have at most, with the colon before them.
 const WHY_MAX: usize = 32;
 
-/// What was said last of a line.
-#[derive(Clone, Copy, Debug, PartialEq, Eq)]
-pub(crate) enum Said {
-    /// Nothing yet, or that it was lost.
-    Nothing,
-    /// That it is there.
-    There,
-    /// That there is no connection to be had.
-    Away,
-    /// That it was lost with nothing heard; so it may be again and again.
-    Broken,
-}
-
 /// Says that there is a connection to this host and port.
 pub(crate) fn say_there<C: Clock, W: Write>(clock: &C, host: &str, port: u16, notices: &mut W)
     ensures { (lines : List ℕ) × Appends (W.contents notices.old) (W.contents notices.new) lines }

@@ -3,35 +3,39 @@ ghost use Rattle.std.specs.Prelude.{◌≡◌, ◌≢◌, ◌⊎◌, None, IfNon
 ghost use Rattle.live_edges.specs.Patience.{Dialled, SaysOn, Tries};
 
 use crate::dialler::Dialler;
-use crate::heard::ReadMeter;
-use crate::notices::{Said, say_away, say_given_up, say_lost, say_silent, say_there};
-use crate::patience::{Patience, Wait};
+use crate::heard::{Edge, ReadMeter, WriteMeter};
+use crate::line::now;
+use crate::notices::{say_away, say_given_up, say_lost, say_silent, say_there};
+use crate::patience::Patience;
+use crate::said::{Notice, Said};
 use crate::watch::Watch;
 use std::io::Write;
 use std::marker::Model;
 use std::net::{Net, TcpStream};
 use std::thread;
 use std::time::{Clock, Duration};
+use uecp_frame::Address;
 use uecp_net::{Connections, Dialing};
 
 /// How many tries are made at most for one connection.
 const TRIES_MAX: u64 = 1 << 59;
 
 /// Asks a [`Dialler`] for a connection until there is one: at once, and then after pauses of 1, 2, 4 .. seconds, and
-/// begins with no pause again once something was heard on a connection. It says when a connection is lost, when there
-/// is none to be had and why, and when there is one again, each once and not at every try; and when nothing is heard
-/// for long. Each connection is looked after as the dialler does.
+/// begins with no pause again once a reply came on a connection that was waited for. It says when a connection is lost,
+/// when there is none to be had and why, and when there is one again, each once until such a reply comes; and when none
+/// comes for long. Each connection is looked after as the dialler does.
 #[derive(Drop)]
 pub struct Patient<'a, C, T, W: Write> {
     connect: C,
     clock: &'a T,
     host: &'a str,
     port: u16,
+    address: Option<Address>,
     patience: Patience,
     watch: &'a Watch,
     notices: &'a mut W,
     said: Said,
-    wait: Wait,
+    is_gone: bool,
 }
 
 impl<'a, C, T, W: Write> Model for Patient<'a, C, T, W> {
@@ -46,12 +50,14 @@ impl<'a, C, T, W: Write> Model for Patient<'a, C, T, W> {
 
 impl<'a, N: Net<Stream = TcpStream> + Clock, W: Write> Patient<'a, Dialing<'a, N>, N, W> {
     /// Dials this host and port, as [`Dialing::new`] has them, with a limit of so many milliseconds for each call, as
-    /// long as its patience lasts, and says what comes of it on `notices`. The watch has the connection that is there.
+    /// long as its patience lasts, and says what comes of it on `notices`. The encoder at the address is the one whose
+    /// replies count; with no address none does. The watch has the connection that is there.
     pub fn new(
         net: &'a N,
         host: &'a str,
         port: u16,
         timeout: u64,
+        address: Option<Address>,
         patience: Patience,
         watch: &'a Watch,
         notices: &'a mut W,
@@ -67,34 +73,28 @@ impl<'a, N: Net<Stream = TcpStream> + Clock, W: Write> Patient<'a, Dialing<'a, N
             clock: net,
             host,
             port,
+            address,
             patience,
             watch,
             notices,
-            said: Said::Nothing,
-            wait: Wait::new(),
+            said: Said::new(),
+            is_gone: false,
         }
     }
 }
 
 impl<'a, C, T: Clock, W: Write> Patient<'a, C, T, W> {
-    /// Says that the connection is lost that was there last, if that was not said yet.
+    /// Says that the connection is lost that was there last, if that is news.
     fn tell_lost(&mut self)
         ensures connect { self.new.connect ≡ self.old.connect }
         ensures says { SaysOn self.old self.new }
     {
         if self.watch.was_lost() {
-            self.said = Said::Nothing;
-        }
-        if self.said != Said::There {
-            return;
-        }
-        if self.wait.is_fresh() {
+            let _ = self.said.takes(Notice::Lost);
+        } else if self.is_gone && self.said.takes(Notice::Lost) {
             say_lost(self.clock, self.notices);
-            self.said = Said::Nothing;
-        } else if self.wait.is_broken() {
-            say_lost(self.clock, self.notices);
-            self.said = Said::Broken;
         }
+        self.is_gone = false;
     }
 
     /// The pause before the next try where a connection is wanted now, in seconds. None where the line is given up, or
@@ -106,17 +106,41 @@ impl<'a, C, T: Clock, W: Write> Patient<'a, C, T, W> {
             ((self.old.patience.give_up ≢ None) ⊎ (self.old.patience.stop_when_silent ≡ true)) }
     {
         let now = now(self.clock);
-        let Some(pause) = self.wait.next(&self.patience, now) else {
-            say_given_up(self.clock, self.notices);
-            return None;
-        };
-        if self.wait.turns_silent(&self.patience, now) {
-            say_silent(self.clock, self.notices);
-            if self.patience.stop_when_silent {
-                return None;
-            }
+        let mut wait = self.watch.line().wait();
+        let is_due = wait.is_due(&self.patience, now);
+        let is_news = is_due && !wait.is_told();
+        if is_due {
+            wait.told_silent(&self.patience);
         }
-        Some(pause)
+        let pause = wait.next(&self.patience, now);
+        self.watch.line().stands(wait);
+        self.tell_silent(is_news);
+        if pause.is_none() {
+            self.tell_given_up();
+            return None;
+        }
+        if is_due && self.patience.stop_when_silent && !wait.is_late(&self.patience, now) {
+            return None;
+        }
+        pause
+    }
+
+    /// Says that the encoder is silent, if that is news.
+    fn tell_silent(&mut self, is_news: bool)
+        ensures connect { self.new.connect ≡ self.old.connect }
+        ensures says { SaysOn self.old self.new }
+    {
+        if is_news {
+            say_silent(self.clock, self.notices);
+        }
+    }
+
+    /// Says that the line is given up.
+    fn tell_given_up(&mut self)
+        ensures connect { self.new.connect ≡ self.old.connect }
+        ensures says { SaysOn self.old self.new }
+    {
+        say_given_up(self.clock, self.notices);
     }
 
     /// There is a connection.
@@ -124,17 +148,28 @@ impl<'a, C, T: Clock, W: Write> Patient<'a, C, T, W> {
         ensures connect { self.new.connect ≡ self.old.connect }
         ensures says { SaysOn self.old self.new }
     {
-        if matches!(self.said, Said::Nothing | Said::Away) {
+        if self.said.takes(Notice::There) {
             say_there(self.clock, self.host, self.port, self.notices);
-            self.said = Said::There;
         }
-        self.wait.opened(now(self.clock));
+        self.watch.line().made(self.address, now(self.clock));
+    }
+
+    /// What an end of a connection is metered by.
+    fn edge(&self) -> Edge<'a, T> {
+        Edge {
+            clock: self.clock,
+            watch: self.watch,
+            patience: self.patience,
+        }
     }
 }
 
 impl<'a, C: Dialler, T: Clock, W: Write> Patient<'a, C, T, W> {
     /// Makes one try after a pause, and says what came of it where that is new.
-    fn try_once(&mut self, pause: u64) -> Option<(ReadMeter<C::Input>, C::Output)>
+    fn try_once(
+        &mut self,
+        pause: u64,
+    ) -> Option<(ReadMeter<'a, C::Input, T>, WriteMeter<'a, C::Output, T>)>
         ensures tries { Tries C.opens self.old.connect result self.new.connect }
         ensures says { SaysOn self.old self.new }
     {
@@ -143,7 +178,8 @@ impl<'a, C: Dialler, T: Clock, W: Write> Patient<'a, C, T, W> {
             Some((input, output)) => {
                 self.connect.look_after(&output, self.watch);
                 self.found();
-                Some((ReadMeter::new(input), output))
+                let input = ReadMeter::new(input, self.edge());
+                Some((input, WriteMeter::new(output, self.edge())))
             }
             None => {
                 self.missed();
@@ -157,19 +193,20 @@ impl<'a, C: Dialler, T: Clock, W: Write> Patient<'a, C, T, W> {
         ensures connect { self.new.connect ≡ self.old.connect }
         ensures says { SaysOn self.old self.new }
     {
-        if self.said != Said::Away {
-            let fault = self.connect.failed();
+        let fault = self.connect.failed();
+        if self.said.takes(Notice::Away(fault)) {
             say_away(self.clock, self.host, self.port, fault, self.notices);
-            self.said = Said::Away;
         }
-        self.wait.refused(self.patience.retry_every);
+        let mut wait = self.watch.line().wait();
+        wait.refused(self.patience.retry_every);
+        self.watch.line().stands(wait);
     }
 }
 
 impl<'a, C: Dialler, T: Clock, W: Write> Connections for Patient<'a, C, T, W> {
-    type Input = ReadMeter<C::Input>;
+    type Input = ReadMeter<'a, C::Input, T>;
 
-    type Output = C::Output;
+    type Output = WriteMeter<'a, C::Output, T>;
 
     ghost use Rattle.live_edges.specs.Patience.{OpensAtLast, GivesBack};
 
@@ -191,26 +228,16 @@ impl<'a, C: Dialler, T: Clock, W: Write> Connections for Patient<'a, C, T, W> {
     }
 
     fn close(&mut self, input: Self::Input, output: Self::Output) {
-        if input.is_heard() && self.said == Said::Broken {
-            self.said = Said::There;
+        let is_heard = input.is_heard();
+        let is_broken = input.is_broken() || output.is_broken();
+        if is_heard {
+            self.said = Said::new();
         }
+        self.is_gone = is_heard || is_broken;
         self.watch.closed();
-        self.wait.closed(
-            input.is_heard(),
-            input.is_broken(),
-            self.patience.retry_every,
-        );
-        self.connect.close(input.into_inner(), output);
-    }
-}
-
-/// The milliseconds of a clock that never goes back; 0 where it tells no time.
-fn now<C: Clock>(clock: &C) -> u64 {
-    match clock.monotonic() {
-        Ok(time) => time
-            .as_secs()
-            .saturating_mul(1000)
-            .saturating_add(u64::from(time.subsec_millis())),
-        Err(_) => 0,
+        let mut wait = self.watch.line().wait();
+        wait.closed(is_heard, is_broken, self.patience.retry_every);
+        self.watch.line().stands(wait);
+        self.connect.close(input.into_inner(), output.into_inner());
     }
 }

@@ -1,13 +1,16 @@
 //! A connection that is looked after while no line comes (profile).
 
+use crate::line::Line;
 use std::cell::Cell;
 use std::net::TcpStream;
 
 /// The connection that a [`Patient`](crate::Patient) has given out, for a [`Polled`](crate::Polled) that looks after it
-/// while it waits for a line. Both borrow it, and no contract says what it holds.
+/// while it waits for a line; and what waits on it, which its two ends note. All borrow it, and no contract says what
+/// it holds.
 #[derive(Drop)]
 pub struct Watch {
     state: Cell<Watched>,
+    line: Line,
 }
 
 /// What there is to be looked after.
@@ -27,12 +30,19 @@ impl Watch {
     pub fn new() -> Watch {
         Watch {
             state: Cell::new(Watched::Nothing),
+            line: Line::new(),
         }
     }
 
     /// Nobody looks after a connection any more.
     pub fn finish(self) {
         let _watched = self.state.into_inner();
+        let _awaited = self.line.finish();
+    }
+
+    /// What waits on the connection.
+    pub(crate) fn line(&self) -> &Line {
+        &self.line
     }
 
     /// This connection was made. Where there is no handle to be had nobody looks after it.

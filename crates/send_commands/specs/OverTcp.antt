@@ -75,7 +75,7 @@ module _ {I O K : Type 0} (opens : Dialled Dials → Option (I × O) → Dialled
       ⊎ HasNotBegun job held held' said said' status
 
 -- So over TCP: each connection is dialled as the job says, and nothing more is known of it.
-module _ {J O K : Type 0} (remaining : Heard J → Option (List ℕ)) (contents : O → Option (List ℕ))
+module _ {J O K : Type 0} (remaining : J → Option (List ℕ)) (contents : O → Option (List ℕ))
     (gives : (path : List ℕ) → ServerState → Progress → K → Type 0) (refuses : List ℕ → StateFault → Type 0)
     (ends : K → Result (Unit {0}) StateFault → Type 0) (leaves : K → KeptServer → Type 0) (is_clean : K → Type 0)
     (saves fails : K → KeptServer → K → Type 0) where
@@ -83,5 +83,5 @@ module _ {J O K : Type 0} (remaining : Heard J → Option (List ℕ)) (contents 
       → Type 0
   HasSentTcp =
       HasSentOver {I = Heard J} {O = O} (λ d given d'. OpensAtLast DialsAgain d given d')
-      (λ d input output d'. GivesBack (λ c _ _ c'. c' ≡ c) d input output d') remaining contents gives refuses ends
-      leaves is_clean saves fails
+      (λ d input output d'. GivesBack (λ c _ _ c'. c' ≡ c) d input output d') (λ heard. remaining heard.reader) contents
+      gives refuses ends leaves is_clean saves fails

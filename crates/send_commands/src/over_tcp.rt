@@ -8,7 +8,7 @@ use crate::station::{StationFault, read_station};
 use commands::SendOptions;
 use kept_jobs::fail_state;
 use line_feed::{Arrival, LineFeed};
-use live_edges::{Patience, Patient, ReadMeter, Watch};
+use live_edges::{Patience, Patient, Watch};
 use notices::{NoticesTo, fail};
 use sending::Teller;
 use state_jobs::OpenStates;
@@ -18,6 +18,7 @@ use std::io::{Read, Write};
 use std::net::{Net, TcpStream};
 use std::time::Clock;
 use uecp_frame::Message;
+use uecp_jobs::address_of;
 use uecp_net::Dialing;
 use uecp_text::RunFault;
 
@@ -53,7 +54,7 @@ pub fn run_send_over_tcp<
     states: &S,
 ) -> u8
     requires { IsSendable job.now }
-    ensures sent { HasSentTcp ⟦<ReadMeter<TcpStream> as Read>⟧.remaining ⟦<TcpStream as Write>⟧.contents
+    ensures sent { HasSentTcp ⟦<TcpStream as Read>⟧.remaining ⟦<TcpStream as Write>⟧.contents
         (S.gives_server states.now) (S.refuses_server states.now) (S.closes_server states.now)
         S.ServerKeeper.leaves S.ServerKeeper.is_clean S.ServerKeeper.saves S.ServerKeeper.fails job.now
         (M.contents notices.old) (R.remaining reader.old) teller.old.held teller.new.held errors.old
@@ -137,6 +138,7 @@ fn patient_of<'a, N: Net<Stream = TcpStream> + Clock, M: Write>(
         job.host.as_str(),
         job.port,
         u64::from(job.timeout),
+        address_of(job.site, job.encoder),
         patience,
         watch,
         notices,

@@ -15,7 +15,6 @@ use Rattle.page_server.specs.Serving.{EndsWith}
 use Rattle.uecp_link.specs.Server.{ServerState}
 use Rattle.uecp_net.specs.declared.saved.keep.Progress.{Progress}
 use Rattle.uecp_net.specs.Keeping.{KeptServer}
-use Rattle.live_edges.specs.Heard.{Heard}
 use Rattle.send_commands.specs.OverTcp.{HasSentTcp}
 use Rattle.commands.specs.declared.send_options.SendOptions.{SendOptions}
 use Rattle.commands.specs.Jobs.{is_device}
@@ -94,14 +93,14 @@ abbrev pub is_on_air : EncoderOptions → Bool
 is_on_air o = is_some o.air || o.air_bits
 
 -- What comes of `send`, whatever its status is, and whatever had been said of its connections before.
-module _ {I O K : Type 0} (metered : Heard I → Option (List ℕ)) (contents : O → Option (List ℕ))
+module _ {I O K : Type 0} (remaining : I → Option (List ℕ)) (contents : O → Option (List ℕ))
     (gives : (path : List ℕ) → ServerState → Progress → K → Type 0) (refuses : List ℕ → StateFault → Type 0)
     (ends : K → Result (Unit {0}) StateFault → Type 0) (leaves : K → KeptServer → Type 0) (is_clean : K → Type 0)
     (saves fails : K → KeptServer → K → Type 0) where
   abbrev pub ComesOfSend : SendOptions → (unread held held' : Option (List ℕ)) → (told told' : Told) → (status : ℕ)
       → Type 0
   ComesOfSend o unread held held' told told' status =
-      (said : Option (List ℕ)) × HasSentTcp metered contents gives refuses ends leaves is_clean saves fails o said
+      (said : Option (List ℕ)) × HasSentTcp remaining contents gives refuses ends leaves is_clean saves fails o said
       unread held held' told told' status
 
   -- So where it is asked for.

@@ -34,7 +34,7 @@ use device_edges::{Idle, Screened, Screening};
 use device_jobs::{run_device_over_tcp, run_encoder_in};
 use ladders::{LadderJob, run_ladder};
 use line_feed::{Arrival, LineFeed};
-use live_edges::{Polled, ReadMeter, Watch};
+use live_edges::{Polled, Watch};
 use notices::{NoticesTo, fail};
 use on_air_jobs::run_on_air_over_tcp;
 use page_server::run_page_over_tcp;
@@ -127,7 +127,7 @@ pub fn run_words<
     // And this of `send`.
     ensures sends { AskForText (map string_bytes words.now)
         ⊎ (HasNoJob (map string_bytes words.now) errors.old errors.new
-        ⊎ HasCome (ComesOfLines ⟦<ReadMeter<TcpStream> as Read>⟧.remaining ⟦<TcpStream as Write>⟧.contents
+        ⊎ HasCome (ComesOfLines ⟦<TcpStream as Read>⟧.remaining ⟦<TcpStream as Write>⟧.contents
         (S.gives_server states.now) (S.refuses_server states.now) (S.closes_server states.now)
         S.ServerKeeper.leaves S.ServerKeeper.is_clean S.ServerKeeper.saves S.ServerKeeper.fails)
         (map string_bytes words.now) result (R.remaining reader.old)
@@ -183,7 +183,7 @@ fn run_asked<
         S.EncoderKeeper.is_clean S.EncoderKeeper.saves S.EncoderKeeper.fails job.now result (R.remaining reader.old)
         (R.remaining reader.new)
         (W.contents writer.old) (W.contents writer.new) errors.old errors.new }
-    ensures sends { ComesOfLines ⟦<ReadMeter<TcpStream> as Read>⟧.remaining
+    ensures sends { ComesOfLines ⟦<TcpStream as Read>⟧.remaining
         ⟦<TcpStream as Write>⟧.contents
         (S.gives_server states.now) (S.refuses_server states.now) (S.closes_server states.now)
         S.ServerKeeper.leaves S.ServerKeeper.is_clean S.ServerKeeper.saves S.ServerKeeper.fails job.now result
@@ -490,7 +490,7 @@ fn send<
     states: &S,
 ) -> u8
     requires { IsLiveInRange options.now }
-    ensures { ComesOfSend ⟦<ReadMeter<TcpStream> as Read>⟧.remaining ⟦<TcpStream as Write>⟧.contents
+    ensures { ComesOfSend ⟦<TcpStream as Read>⟧.remaining ⟦<TcpStream as Write>⟧.contents
         (S.gives_server states.now) (S.refuses_server states.now) (S.closes_server states.now)
         S.ServerKeeper.leaves S.ServerKeeper.is_clean S.ServerKeeper.saves S.ServerKeeper.fails options.now
         (R.remaining reader.old) (W.contents writer.old)
