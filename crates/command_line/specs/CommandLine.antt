@@ -206,6 +206,8 @@ pub record IsEncoder (rows : List Row) (job : EncoderOptions) : Type 0 where
   pub is_turns : IsOption (one_of (codes "turns") rows) 1 1000000 job.turns
   pub is_forever : IsFlag (one_of (codes "forever") rows) job.forever
   pub is_idle : IsOption (one_of (codes "idle") rows) 0 86400 job.idle
+  pub is_yield : IsMaybe (one_of (codes "yield") rows) 0 86400 job.yield_after
+  pub is_allow : option_map string_bytes job.allow ≡ first_of (codes "allow") rows
   pub is_log : IsFlag (one_of (codes "log") rows) job.log
   pub is_form : IsForm rows job.form
   pub is_time : IsTimed rows job.time
@@ -442,7 +444,8 @@ abbrev pub serving_options : List Rule
 serving_options = maybe_word (codes "listen") ∷ maybe_number (codes "port") 1 65535
     ∷ number_option (codes "connections") 1 1000 (Some (codes "1"))
     ∷ number_option (codes "turns") 1 1000000 (Some (codes "100000")) ∷ flag (codes "forever")
-    ∷ number_option (codes "idle") 0 86400 (Some (codes "0")) ∷ flag (codes "log") ∷ flag (codes "final-store") ∷ []
+    ∷ number_option (codes "idle") 0 86400 (Some (codes "0")) ∷ maybe_number (codes "yield") 0 86400
+    ∷ maybe_word (codes "allow") ∷ flag (codes "log") ∷ flag (codes "final-store") ∷ []
 
 -- The command `encoder`.
 abbrev pub listening_command : Shape

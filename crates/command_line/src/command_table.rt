@@ -4,7 +4,7 @@ use crate::command_row::CommandRow;
 use crate::numbers::{
     AIR_GROUPS, AIR_PORT, CASE_SILENT, CASE_TIMEOUT, CONNECTIONS, ENCODER, GIVE_UP, IDLE,
     PAGE_PORT, PORT, QUIET, RECONNECTS, RETRY_EVERY, SEED, SERVE_TURNS, SETS, SILENT, SITE,
-    TIMEOUT, TRIES, TRY_TURNS, WINDOW,
+    TIMEOUT, TRIES, TRY_TURNS, WINDOW, YIELD,
 };
 use crate::option_row::OptionRow;
 
@@ -145,6 +145,12 @@ pub(crate) const ENCODER_COMMAND: CommandRow = CommandRow {
         OptionRow::Number(SERVE_TURNS),
         OptionRow::Flag("forever", "Serve one connection after another without end"),
         OptionRow::Number(IDLE),
+        OptionRow::MaybeNumber(YIELD),
+        OptionRow::MaybeWord(
+            "allow",
+            "LIST",
+            "From where connections are taken, addresses and networks, as 192.0.2.7,10.0.0.0/8,2001:db8::/32; from anywhere where it is left out",
+        ),
         OptionRow::Flag(
             "log",
             "Tell what comes and what becomes of it, a line each, behind the time",

@@ -60,6 +60,15 @@ pub const IDLE: NumberOption = NumberOption {
     help: "After how many seconds with nothing read a connection is closed, 0 for never, up to 86400",
 };
 
+/// After how many seconds a connection of `encoder` gives way to one that waits.
+pub const YIELD: NumberOption = NumberOption {
+    name: "yield",
+    least: 0,
+    most: 86_400,
+    default: None,
+    help: "After how many seconds with no good frame, or with no reply taken, a connection gives way to one that waits with a frame, 0 for never, up to 86400; 10 for a device",
+};
+
 /// The port of those who listen to what `encoder` has on the air.
 pub const AIR_PORT: NumberOption = NumberOption {
     name: "air",

@@ -50,6 +50,8 @@ in_full (Encoder site encoder sets services port connections turns) = EncoderWit
   turns = turns;
   forever = false;
   idle = 0;
+  yield_after = None;
+  allow = None;
   log = false;
   form = Lines;
   time = true;
@@ -86,7 +88,8 @@ is_lines Json = false
 abbrev pub is_device : EncoderOptions → Bool
 is_device o = (is_some o.listen || (is_some o.faults || is_some o.air))
     || ((o.air_bits || (o.forever || (o.log || o.store)))
-    || (not (o.idle == 0) || (not (o.seed == 0) || (not o.time || not (is_lines o.form)))))
+    || (not (o.idle == 0) || (not (o.seed == 0) || (not o.time
+    || ((is_some o.yield_after || is_some o.allow) || not (is_lines o.form))))))
 
 -- `answer` with the options that it had first, where no later one is given.
 abbrev pub short_answer : Form → (air : Option ℕ) → AnswerOptions → Job

@@ -29,6 +29,11 @@ pub struct EncoderOptions {
     pub forever: bool,
     /// After how many seconds with nothing read a connection is closed; 0 for never.
     pub idle: u32,
+    /// After how many seconds a connection gives way to one that waits, 0 for never; where it is left out, a device's
+    /// own.
+    pub yield_after: Option<u32>,
+    /// From where connections are taken, addresses and networks; from anywhere where it is left out.
+    pub allow: Option<String>,
     /// Whether it is told what comes and what becomes of it.
     pub log: bool,
     /// In which form it is told.

@@ -120,6 +120,8 @@ fn short_encoder(options: EncoderOptions) -> Job
                 turns,
                 forever: _,
                 idle: _,
+                yield_after: _,
+                allow: _,
                 log: _,
                 form: _,
                 time: _,
@@ -152,6 +154,9 @@ pub fn is_device(options: &EncoderOptions) -> bool
         return true;
     }
     if options.idle != 0 || options.seed != 0 || !options.time {
+        return true;
+    }
+    if options.yield_after.is_some() || options.allow.is_some() {
         return true;
     }
     match options.form {
