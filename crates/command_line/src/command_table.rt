@@ -210,7 +210,7 @@ pub(crate) const SERVER_COMMAND: CommandRow = CommandRow {
 pub(crate) const SEND_COMMAND: CommandRow = CommandRow {
     name: "send",
     about: "Send messages in words, one a line, to an encoder as they come, for as long as they come",
-    after: "A line is phrases between semicolons. Each is answered by a line: its number, and applied, refused or unknown.\nA connection that is lost is made again; standard error says so, with the time.\nExit status 4: the encoder refused a message, or did not tell whether it applied it.\nExample: uecp send --port 4001 --state studio.db",
+    after: "A line is phrases between semicolons. Each is answered by a line: its number, and applied, refused or unknown.\nApplied is on the air where nobody else sends to this encoder: it answers by the counter, also for another's messages.\nA connection that is lost is made again; standard error says so, with the time.\nExit status 4: the encoder refused a message, or did not tell whether it applied it.\nExample: uecp send --port 4001 --state studio.db",
     options: &[
         OptionRow::Number(SITE),
         OptionRow::Number(ENCODER),
