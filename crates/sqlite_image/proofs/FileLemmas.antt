@@ -25,7 +25,7 @@ use Rattle.sqlite.specs.Files.{over_files, file_state, image_of}
 use Rattle.sqlite.specs.Closing.{HoldsAlone, IsCopied}
 use Rattle.sqlite.proofs.Theorems.{opens_again}
 use Rattle.sqlite_image.specs.Kept.{Holds}
-use Rattle.sqlite_image.specs.Keeper.{Keeper, Keeps}
+use Rattle.sqlite_image.specs.Keeper.{Keeper, Keeps, IsClean}
 use Rattle.sqlite_image.specs.Files.{FilesHold, FileHolds, HoldLeft}
 
 images_set : IsSet (Option (List ℕ))
@@ -42,6 +42,11 @@ pub if_ok : {A E : Type 0} (H : Type 0) (P Q R : A → Type 0) (r : Result A E) 
     → ((a : A) → P a → (H → Q a) → R a) → IfOk r R
 if_ok H P Q R (Ok a) p q f = f a p q
 if_ok H P Q R (Err e) p q f = tt
+
+-- what holds of a value that there is, out of what does
+pub ok_then : {A E : Type 0} (P R : A → Type 0) (r : Result A E) → IfOk r P → ((a : A) → P a → R a) → IfOk r R
+ok_then P R (Ok a) p f = f a p
+ok_then P R (Err e) p f = tt
 
 module _ {D : Type 0} {g : Ghosts D} where
   -- the last commit is one of those that a crash may leave
@@ -69,6 +74,12 @@ module _ {D : Type 0} {g : Ghosts D} (was k : Keeper (FileStore D g)) (is : was 
   closed_now stays files copied =
       subst (λ (x : Keeper (FileStore D g)). FileHolds x.version image (image_of g files)) is
       (alone_in was.version image _ _ copied.seen (holds_commit was stays copied.was_open image kept_before))
+
+  pub closed_both : SeenMayStay g → (files : Files D) → IsCopied was.conn files
+      → FilesHold k.version image (image_of g files)
+  closed_both stays files copied =
+      subst (λ (x : Keeper (FileStore D g)). FilesHold x.version image (image_of g files)) is
+      (∥∥₁_map copied.seen.both (λ has. (_, has, holds_commit was stays copied.was_open image kept_before)))
 
   pub closed_left : SeenMayStay g → (files : Files D) → IsCopied was.conn files → (left : Image)
       → outcomes g files.log files.db left → FileHolds k.version image left
@@ -108,3 +119,7 @@ module _ {D : Type 0} {g : Ghosts D} (was k : Keeper (FileStore D g)) (is : was 
       subst (λ (x : Keeper (FileStore D g)). HoldLeft over_files x left) is
       (∥∥₁_map (opens_again back (numbered honest) (sound honest) left left_of)
       (λ (rows, found, has). (rows, before rows found, has)))
+
+module _ {D : Type 0} {g : Ghosts D} (was k : Keeper (FileStore D g)) (is : was ≡ k) where
+  pub closed_clean : (files : Files D) → IsCopied was.conn files → IsClean over_files k
+  closed_clean files copied = subst (λ (x : Keeper (FileStore D g)). IsClean over_files x) is copied.was_clean

@@ -1,3 +1,4 @@
 pub mod FileLemmas
 pub mod KeepLemmas
+pub mod LogLemmas
 pub mod TableLemmas

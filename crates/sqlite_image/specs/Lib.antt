@@ -2,3 +2,5 @@ pub mod Fault
 pub mod Files
 pub mod Keeper
 pub mod Kept
+pub mod Log
+pub mod Place

@@ -10,7 +10,7 @@ use crate::kept::Opened;
 use sqlite::{FileFrom, FileStore, Start};
 use sqlite_disk::Disk;
 use std::alloc::Global;
-use std::fs::File;
+use std::fs;
 use std::rt::HostRuntime;
 
 /// Opens files of one image each by their paths. A path stands for one file as it is when it is opened: of a second
@@ -19,19 +19,23 @@ pub trait OpenFiles<D: Disk + Drop> {
     // Whether the file at a path, with its log, holds this image of this version, or none yet, as it is opened.
     ghost holds: { Self → List ℕ → ℕ → Option (List ℕ) → Type 0 };
 
+    // Whether the log of the file at a path is, as it is opened, as a process that was killed may have left it.
+    ghost unharmed: { Self → List ℕ → Type 0 };
+
     /// Room for what is read of a file.
     fn alloc(&self) -> Global;
 
     /// Whether there is a file at the path.
     fn is_there(&self, path: &str) -> bool;
 
-    /// Opens the file at the path, or makes it. `version` is the number of the caller's format. What is refused is not
-    /// overwritten.
+    /// Opens the file at the path, or makes it. `version` is the number of the caller's format. A log that was changed
+    /// or cut is refused. What is refused is not overwritten.
     fn open_file(&self, path: &str, version: u32) -> Result<Opened<FileStore<D>>, KeepFault>
         ensures kept { IfOk result (λ r. IsClean over_files r.kept → Keeps over_files r.kept (bytes_of r.image)) }
         ensures found { (image : Option (List ℕ)) → holds self.now path.now version image
             → IfOk result (λ r. IsClean over_files r.kept → bytes_of r.image ≡ image) }
-        ensures version { IfOk result (λ r. r.kept.version ≡ version) };
+        ensures version { IfOk result (λ r. r.kept.version ≡ version) }
+        ensures unharmed { IfOk result (λ r. IsClean over_files r.kept → unharmed self.now path.now) };
 }
 
 /// The files of the machine. `S` stands for what the file at the path and its log hold as they are opened; that the
@@ -52,15 +56,18 @@ impl<'a, S> MachineFiles<'a, S> {
 impl<'a, S: Start + Copy> OpenFiles<FileFrom<S>> for MachineFiles<'a, S> {
     ghost use Rattle.sqlite.specs.WalFiles.{image_at};
     ghost use Rattle.sqlite_image.specs.Files.{FilesHold};
+    ghost use Rattle.sqlite_image.specs.Log.{IsUnharmed};
 
     ghost holds = { λ files path version image. FilesHold version image (image_at S.Start) };
+
+    ghost unharmed = { λ files path. IsUnharmed (image_at S.Start) };
 
     fn alloc(&self) -> Global {
         self.rt.alloc()
     }
 
     fn is_there(&self, path: &str) -> bool {
-        File::open(self.rt, path).is_ok()
+        fs::metadata(self.rt, path).is_ok()
     }
 
     fn open_file(

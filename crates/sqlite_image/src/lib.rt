@@ -5,6 +5,7 @@ mod fault;
 mod file;
 mod files;
 mod kept;
+mod log;
 mod ours;
 mod start;
 mod table;

@@ -1,21 +1,30 @@
-use Rattle.std.proofs.Common.{◌≡◌}
-use Rattle.sqlite.specs.WalFiles.{image_at}
-use Rattle.sqlite.specs.State.{HasCleanDisk}
-use Rattle.sqlite.specs.Files.{file_state, over_files}
-use Rattle.sqlite_image.specs.Kept.{Holds, bytes_of}
+use Rattle.std.proofs.Common.{ℕ, Bool, cond, List, sym, ap₂, subst}
+use Rattle.sqlite_disk.specs.Events.{Event, replay}
+use Rattle.sqlite.specs.Recovery.{Image}
+use Rattle.std.specs.Prelude.{IfOk}
+use Rattle.sqlite.specs.Files.{over_files}
 use Rattle.sqlite_image.specs.Keeper.{IsClean}
-use Rattle.sqlite_image.proofs.FileLemmas.{found_in, if_ok}
+use Rattle.sqlite_image.specs.Files.{FilesHold}
+use Rattle.sqlite_image.specs.Log.{IsUnharmed}
 use Rattle.sqlite_image.proofs.file.open_from.Goals as goal
 
-pub opened_over-requires : goal.opened_over-requires
-opened_over-requires g c clean = (c.in-Ok.ensures.opened clean).0
+abbrev image : List ℕ → List ℕ → Image
+image log db = record { log = log; db = db }
+
+abbrev seen : List ℕ → List ℕ → Bool → List Event → List ℕ
+seen log db is_log history = (replay (cond is_log log db) history).seen
 
 pub returns-clause-found : goal.returns-clause-found
-returns-clause-found g c image held =
-    if_ok (Holds c.args.version image (file_state c.in-Ok.conn).now.trees)
-    (λ r. IsClean over_files r.kept → HasCleanDisk (file_state c.in-Ok.conn))
-    (λ r. IsClean over_files r.kept → bytes_of r.image ≡ image)
-    (λ r. IsClean over_files r.kept → bytes_of r.image ≡ image) c.opened_over.result c.opened_over.ensures.clean
-    (λ holds. c.opened_over.ensures.found image holds)
-    (λ r before found clean. found_in c.args.version image _ (image_at g.S.Start) (file_state c.in-Ok.conn) held
-    (c.in-Ok.ensures.opened (before clean)).0 (c.in-Ok.ensures.found (before clean)) (λ holds. found holds clean))
+returns-clause-found g c it held =
+    let (log, db) = c.in-Ok.ensures.fresh in
+    let same = ap₂ image (ap₂ (seen g.S.Start.log g.S.Start.db) log.0 log.1)
+    (ap₂ (seen g.S.Start.log g.S.Start.db) db.0 db.1) in
+    c.opened_whole.ensures.found it (subst (FilesHold c.args.version it) (sym same) held)
+
+pub returns-clause-unharmed : goal.returns-clause-unharmed
+returns-clause-unharmed g c =
+    let (log, db) = c.in-Ok.ensures.fresh in
+    let same = ap₂ image (ap₂ (seen g.S.Start.log g.S.Start.db) log.0 log.1)
+    (ap₂ (seen g.S.Start.log g.S.Start.db) db.0 db.1) in
+    subst (λ (i : Image). IfOk c.opened_whole.result (λ r. IsClean over_files r.kept → IsUnharmed i)) same
+    c.opened_whole.ensures.unharmed
