@@ -16,7 +16,7 @@ use crate::fault::{KeepFault, opening_fault};
 use crate::kept::{Kept, Opened};
 use crate::log::is_unharmed;
 use sqlite::{Alter, Connection, FileFrom, FileStore, Files, Options, Start};
-use sqlite_disk::Disk;
+use sqlite_disk::{Disk, is_no_room};
 use sqlite_std_file::OpenError;
 use std::alloc::Global;
 use std::hash::{BuildHasher, RandomState};
@@ -46,6 +46,7 @@ fn open_pair<S: Start>(
         Err(OpenError::Io(error)) if error.kind() == ErrorKind::OutOfMemory => {
             Err(KeepFault::OutOfMemory)
         }
+        Err(OpenError::Io(error)) if is_no_room(&error) => Err(KeepFault::Full),
         Err(_) => Err(KeepFault::Unreachable),
     }
 }
