@@ -45,8 +45,13 @@ class Device:
         self.log.close()
         self.room.cleanup()
 
-    def connect(self):
-        line = socket.create_connection((self.host, self.port), SECONDS)
+    def connect(self, narrow=False):
+        """A connection to it; a narrow one soon has no room for what comes."""
+        line = socket.socket(socket.AF_INET6 if ":" in self.host else socket.AF_INET)
+        line.settimeout(SECONDS)
+        if narrow:
+            line.setsockopt(socket.SOL_SOCKET, socket.SO_RCVBUF, 4096)
+        line.connect((self.host, self.port))
         line.setsockopt(socket.IPPROTO_TCP, socket.TCP_NODELAY, 1)
         return line
 

@@ -9,7 +9,6 @@
 //!   taken of what is another protocol's.
 #![tactic(auto)]
 
-mod door;
 mod form;
 mod hearers;
 mod hears;

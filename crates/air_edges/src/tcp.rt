@@ -3,10 +3,9 @@
 ghost use Rattle.std.specs.Prelude.{◌≡◌, ◌≤◌, ◌<◌, ◌^◌, IfOk, false};
 ghost use Rattle.air_edges.specs.Hearers.{IsWithin, Gets};
 
-use crate::door::Door;
 use crate::hears::{Hears, Taken};
 use crate::sockets::{Came, Sockets};
-use device_edges::{BindFault, Idle, bind, two_ends};
+use device_edges::{Allowed, BindFault, Entrance, Idle, Yielding, bind};
 use std::alloc::Global;
 use std::io::{Error, ErrorKind, Write};
 use std::marker::Model;
@@ -39,9 +38,8 @@ pub struct Addresses {
 pub struct TcpSockets<'a, N: Net<Listener = TcpListener, Stream = TcpStream> + Clock> {
     net: &'a N,
     places: Addresses,
-    studio: TcpListener,
+    entrance: Entrance,
     air: TcpListener,
-    door: Door,
     begun: Instant,
     line: Option<RawFd>,
 }
@@ -56,26 +54,40 @@ impl<'a, N: Net<Listener = TcpListener, Stream = TcpStream> + Clock> Model for T
 }
 
 impl<'a, N: Net<Listener = TcpListener, Stream = TcpStream> + Clock> TcpSockets<'a, N> {
-    /// Listens at these places from now on, and counts the time from now on.
+    /// Listens at these places from now on, and counts the time from now on. With `yielding` a connection of the studio
+    /// gives way to one that waits; with `allowed` others are closed as they are accepted.
     ///
     /// Errors: as [`BindFault`] has them.
-    pub fn new(alloc: Global, net: &'a N, places: Addresses) -> Result<TcpSockets<'a, N>, BindFault>
+    pub fn new(
+        alloc: Global,
+        net: &'a N,
+        places: Addresses,
+        yielding: Option<Yielding>,
+        allowed: Option<Allowed>,
+    ) -> Result<TcpSockets<'a, N>, BindFault>
         ensures { IfOk result (λ sockets. sockets ≡ record { places = places; is_open = false }) }
     {
-        let studio = listener_at(net, places.studio)?;
+        let entrance = Entrance::new(alloc, net, places.studio, yielding, allowed)?;
         let air = listener_at(net, places.air)?;
-        match (Door::new(alloc, net), Instant::now(net)) {
-            (Ok(door), Ok(begun)) => Ok(TcpSockets {
+        match Instant::now(net) {
+            Ok(begun) => Ok(TcpSockets {
                 net,
                 places,
-                studio,
+                entrance,
                 air,
-                door,
                 begun,
                 line: None,
             }),
-            _ => Err(BindFault::Failed),
+            Err(_) => Err(BindFault::Failed),
         }
+    }
+
+    /// Whether there are descriptors left for a connection of the studio: it takes two, and looks for a third.
+    fn leaves_room(&self) -> bool {
+        let first = self.air.try_clone();
+        let second = self.air.try_clone();
+        let third = self.air.try_clone();
+        first.is_ok() && second.is_ok() && third.is_ok()
     }
 
     /// Rests a moment where the system has no connection to give though it said so, as where no descriptor is left.
@@ -128,35 +140,30 @@ impl<'a, N: Net<Listener = TcpListener, Stream = TcpStream> + Clock> Sockets for
     }
 
     fn wait(&mut self, is_open: bool, milliseconds: u64) -> Option<Came> {
-        let studio = match self.line {
-            Some(line) if is_open => line,
-            _ => self.studio.as_raw_fd(),
+        let line = if is_open { self.line } else { None };
+        let air = Some(self.air.as_raw_fd());
+        let ready = self.entrance.wait(line, air, Some(milliseconds));
+        let asks = ready.listener || self.entrance.is_waited_for();
+        let studio = if line.is_some() {
+            let gives_way = asks && self.entrance.gives_way();
+            gives_way || ready.line
+        } else {
+            asks
         };
-        match self.door.wait(studio, self.air.as_raw_fd(), milliseconds) {
-            Ok(came) => Some(came),
-            Err(error) if error.kind() == ErrorKind::Interrupted => Some(Came {
-                studio: false,
-                air: false,
-            }),
-            Err(_) => None,
-        }
+        Some(Came {
+            studio,
+            air: ready.beside,
+        })
     }
 
     fn open(&mut self) -> Option<(Idle<TcpStream>, TcpStream)> {
-        match self.studio.accept() {
-            Ok((stream, _)) => {
-                let fd = stream.as_raw_fd();
-                let read = Some(Duration::from_millis(READ_MAX));
-                let write = Some(Duration::from_millis(WRITE_MAX));
-                let ends = two_ends(stream, read, write).ok()?;
-                self.line = Some(fd);
-                Some(ends)
-            }
-            Err(error) => {
-                self.rest(&error);
-                None
-            }
-        }
+        let stream = self.entrance.next()?;
+        let line = stream.as_raw_fd();
+        let read = Duration::from_millis(READ_MAX);
+        let write = Duration::from_millis(WRITE_MAX);
+        let ends = self.entrance.ends(stream, read, write).ok()?;
+        self.line = Some(line);
+        Some(ends)
     }
 
     fn close(&mut self, _input: Idle<TcpStream>, _output: TcpStream) {
@@ -166,6 +173,9 @@ impl<'a, N: Net<Listener = TcpListener, Stream = TcpStream> + Clock> Sockets for
     fn join(&mut self) -> Option<TcpStream> {
         match self.air.accept() {
             Ok((stream, _)) => {
+                if !self.leaves_room() {
+                    return None;
+                }
                 let _ = stream.set_nodelay(true);
                 stream.set_nonblocking(true).ok()?;
                 Some(stream)

@@ -1,3 +1,4 @@
 -- The lemmas of the edges of a device.
 pub mod Screens
 pub mod FirstBytes
+pub mod Lobbies

@@ -3,7 +3,6 @@ use Rattle.std.proofs.Common.{◌≡◌, ℕ, Bool, true, false, ◌&&◌, ◌||
 use Rattle.std.proofs.Common.{arith, leb, length, ◌≤◌}
 use Rattle.std.proofs.lemmas.Bool.{and_parts, eqb-true, leb-true, false≢true}
 use Rattle.std.specs.List.{list_any, list_all, starts_with}
-use lib.Pointwise.{pointwise}
 
 -- ---- One beginning.
 

@@ -1,3 +1,5 @@
 -- The definitions that the contracts of the edges of a device cite.
 pub mod Place
 pub mod Screen
+pub mod Lobby
+pub mod Allowed

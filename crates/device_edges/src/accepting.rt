@@ -2,8 +2,11 @@
 ghost use Rattle.std.specs.Prelude.{◌≡◌, IfOk};
 ghost use Rattle.device_edges.specs.Place.{Listens};
 
+use crate::allowed::Allowed;
+use crate::entrance::Entrance;
 use crate::idle::Idle;
-use live_edges::keep_alive;
+use crate::room::Yielding;
+use std::alloc::Global;
 use std::io::{Error, ErrorKind};
 use std::marker::Model;
 use std::net::{Net, SocketAddr, TcpListener, TcpStream};
@@ -33,7 +36,7 @@ pub struct Accepting<'a, N: Net<Listener = TcpListener, Stream = TcpStream> + Cl
     net: &'a N,
     place: SocketAddr,
     idle: Option<u32>,
-    listener: TcpListener,
+    entrance: Entrance,
 }
 
 impl<'a, N: Net<Listener = TcpListener, Stream = TcpStream> + Clock> Model for Accepting<'a, N> {
@@ -45,34 +48,41 @@ impl<'a, N: Net<Listener = TcpListener, Stream = TcpStream> + Clock> Model for A
 impl<'a, N: Net<Listener = TcpListener, Stream = TcpStream> + Clock> Accepting<'a, N> {
     /// Listens there from now on. A read of a connection that brings nothing for `idle` seconds, which is not 0, is
     /// given up, and a write that takes nothing fails; with None there is no limit. Whether the other end is there is
-    /// asked where nothing came for a minute, and a read fails where it is not.
+    /// asked where nothing came for a minute, and a read fails where it is not. With `yielding` a connection gives way
+    /// to one that waits; with `allowed` others are closed as they are accepted.
     ///
     /// Errors: as [`BindFault`] has them.
     pub fn new(
+        alloc: Global,
         net: &'a N,
         place: SocketAddr,
         idle: Option<u32>,
+        yielding: Option<Yielding>,
+        allowed: Option<Allowed>,
     ) -> Result<Accepting<'a, N>, BindFault>
         ensures { IfOk result (λ accepting. accepting ≡ record { place = place; idle = idle }) }
     {
-        match bind(net, place) {
-            Ok(listener) => Ok(Accepting {
+        match Entrance::new(alloc, net, place, yielding, allowed) {
+            Ok(entrance) => Ok(Accepting {
                 net,
                 place,
                 idle,
-                listener,
+                entrance,
             }),
             Err(fault) => Err(fault),
         }
     }
 
-    /// Accepts a connection.
-    fn accept(&self) -> io::Result<(Idle<TcpStream>, TcpStream)> {
-        let (stream, _) = self.listener.accept()?;
-        let limit = self
-            .idle
-            .map(|seconds| Duration::from_secs(u64::from(seconds)));
-        two_ends(stream, limit, limit)
+    /// The two ends of the next connection, if one comes before those who wait are to be looked at.
+    fn accept(&self) -> io::Result<Option<(Idle<TcpStream>, TcpStream)>> {
+        if let Some(stream) = self.entrance.next() {
+            return Ok(Some(self.entrance.waiting_ends(stream, self.idle)?));
+        }
+        if self.entrance.is_resting() {
+            return Err(ErrorKind::OutOfMemory.into());
+        }
+        let _ready = self.entrance.wait(None, None, None);
+        Ok(None)
     }
 }
 
@@ -89,11 +99,19 @@ impl<'a, N: Net<Listener = TcpListener, Stream = TcpStream> + Clock> Connections
     ghost closes = { λ listens input output listens'. GoesFrom listens input output listens' };
 
     fn open(&mut self) -> Option<(Idle<TcpStream>, TcpStream)> {
-        for _try in 0..TRIES_MAX {
+        let mut tries = 0u64;
+        for _wait in 0..u64::MAX {
             match self.accept() {
-                Ok(ends) => return Some(ends),
+                Ok(Some(ends)) => return Some(ends),
+                Ok(None) => {}
                 // one that was taken back, or a machine with no descriptor left for now
-                Err(_) => thread::sleep(self.net, Duration::from_secs(1)),
+                Err(_) => {
+                    tries = tries.saturating_add(1);
+                    if tries >= TRIES_MAX {
+                        return None;
+                    }
+                    thread::sleep(self.net, Duration::from_secs(1));
+                }
             }
         }
         None
@@ -123,20 +141,4 @@ fn fault_of(error: &Error) -> BindFault {
         ErrorKind::PermissionDenied => BindFault::NotAllowed,
         _ => BindFault::Failed,
     }
-}
-
-/// The two ends of a connection that was accepted, with a limit of time for a read and one for a write. The system is
-/// asked to send each reply as soon as it is written; where that is refused the connection is slower, and no more than
-/// that. Whether the other end is there is asked where nothing came for a minute, and a read fails where it is not.
-pub fn two_ends(
-    stream: TcpStream,
-    read: Option<Duration>,
-    write: Option<Duration>,
-) -> io::Result<(Idle<TcpStream>, TcpStream)> {
-    stream.set_read_timeout(read)?;
-    stream.set_write_timeout(write)?;
-    let _ = stream.set_nodelay(true);
-    keep_alive(&stream);
-    let copy = stream.try_clone()?;
-    Ok((Idle::new(stream), copy))
 }

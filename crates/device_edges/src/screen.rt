@@ -221,7 +221,7 @@ fn phase_of(first: &[u8]) -> Phase
 }
 
 /// Whether they begin as another protocol's.
-fn begins_foreign(first: &[u8]) -> bool
+pub(crate) fn begins_foreign(first: &[u8]) -> bool
     ensures { result ≡ is_foreign first.now }
 {
     begins_as_one(first, &OPENINGS)

@@ -10,12 +10,18 @@ use std::marker::Model;
 use std::time::Clock;
 use uecp_net::Connections;
 
-/// Connections that are told of where they are closed since nothing came on them; what is told no contract says.
+/// How many addresses are told at a time from which no connection was taken.
+const STRANGERS_MAX: u32 = 8;
+
+/// Connections that are told of where they are closed since nothing came on them, or gave way to one that waited; what
+/// is told no contract says.
 #[derive(Drop)]
 pub(crate) struct Attended<'t, 'w, C, W: Write, T: Clock> {
     connect: C,
-    /// After how many seconds they are.
-    seconds: u32,
+    /// After how many seconds with nothing they are closed.
+    idle: u32,
+    /// After how many seconds they give way.
+    yielding: u32,
     told: &'t Told<'w, W, T>,
 }
 
@@ -26,17 +32,19 @@ impl<'t, 'w, C, W: Write, T: Clock> Model for Attended<'t, 'w, C, W, T> {
 }
 
 impl<'t, 'w, C, W: Write, T: Clock> Attended<'t, 'w, C, W, T> {
-    /// These connections, which have a limit of so many seconds.
+    /// These connections, which are closed where nothing comes for so many seconds, and give way after so many.
     pub(crate) fn new(
         connect: C,
-        seconds: u32,
+        idle: u32,
+        yielding: u32,
         told: &'t Told<'w, W, T>,
     ) -> Attended<'t, 'w, C, W, T>
         ensures { result ≡ connect }
     {
         Attended {
             connect,
-            seconds,
+            idle,
+            yielding,
             told,
         }
     }
@@ -57,10 +65,21 @@ impl<'t, 'w, R: Read + Drop, C: Connections<Input = Idle<R>>, W: Write, T: Clock
     }
 
     fn close(&mut self, input: Idle<R>, output: Self::Output) {
+        let mut input = input;
+        for _stranger in 0..STRANGERS_MAX {
+            let Some(address) = input.take_stranger() else {
+                break;
+            };
+            self.told.tell_stranger(&address);
+        }
         let is_idle = input.is_idle();
+        let gave_way = input.gave_way();
         self.connect.close(input, output);
         if is_idle {
-            self.told.tell_idle(self.seconds);
+            self.told.tell_idle(self.idle);
+        }
+        if gave_way {
+            self.told.tell_yielding(self.yielding);
         }
     }
 }

@@ -14,7 +14,8 @@ use arrayvec::ArrayVec;
 use bad_line::{Arrivals, Faulty, Rule};
 use commands::EncoderOptions;
 use device_edges::{
-    Accepting, AddressFault, BindFault, HERE, Idle, Screened, Screening, listen_address,
+    Accepting, AddressFault, AllowFault, Allowed, BindFault, HERE, Idle, Screened, Screening,
+    Yielding, listen_address,
 };
 use device_serving::LogLines;
 use kept_jobs::fail_state;
@@ -26,9 +27,13 @@ use std::io;
 use std::io::{Read, Write};
 use std::net::{Net, SocketAddr, TcpListener, TcpStream};
 use std::time::Clock;
+use uecp_frame::Address;
 use uecp_jobs::{Setup, new_encoder};
 use uecp_net::Connections;
 use uecp_text::RunFault;
+
+/// After how many seconds a connection gives way where the job does not say.
+const YIELD_AFTER: u32 = 10;
 
 /// Is the device that the job asks for, over TCP, and answers the exit status: that of
 /// [`run_device_from`](crate::run_device_from), or 2 where the address is none or a line of the file of faults is no
@@ -101,6 +106,10 @@ fn begin<'a, E: Write, N: Net<Listener = TcpListener, Stream = TcpStream> + Cloc
         Ok(rules) => rules,
         Err(fault) => return Err(fail_faults(&fault, errors)),
     };
+    let allowed = match allowed_of(alloc, job) {
+        Ok(allowed) => allowed,
+        Err(fault) => return Err(fail_allow(fault, errors)),
+    };
     let setup = Setup {
         site: job.site,
         encoder: job.encoder,
@@ -110,7 +119,14 @@ fn begin<'a, E: Write, N: Net<Listener = TcpListener, Stream = TcpStream> + Cloc
     if let Err(fault) = new_encoder(alloc, &setup) {
         return Err(fail(&fault, errors));
     }
-    match Accepting::new(net, place, limit_of(job.idle)) {
+    match Accepting::new(
+        alloc,
+        net,
+        place,
+        limit_of(job.idle),
+        yielding_of(job),
+        allowed,
+    ) {
         Ok(accepting) => Ok(Begun {
             net,
             rules,
@@ -128,6 +144,19 @@ pub fn address_of(job: &EncoderOptions) -> Result<SocketAddr, AddressFault>
         Some(text) => listen_address(text.as_str(), job.port),
         None => listen_address(HERE, job.port),
     }
+}
+
+/// When a connection gives way to one that waits: after ten seconds where the job says nothing of it; never where it
+/// says 0.
+pub fn yielding_of(job: &EncoderOptions) -> Option<Yielding> {
+    let seconds = limit_of(yield_seconds(job))?;
+    let address = Address::new(job.site, job.encoder)?;
+    Some(Yielding { seconds, address })
+}
+
+/// After how many seconds it does; 0 for never.
+fn yield_seconds(job: &EncoderOptions) -> u32 {
+    job.yield_after.unwrap_or(YIELD_AFTER)
 }
 
 /// A limit of so many seconds; none where it is 0.
@@ -149,6 +178,27 @@ pub fn fail_address<E: Write>(fault: AddressFault, errors: &mut NoticesTo<E>) ->
     };
     let _ = fail_state(text, errors);
     2
+}
+
+/// From where the job takes connections, if it says so.
+pub fn allowed_of(alloc: Global, job: &EncoderOptions) -> Result<Option<Allowed>, AllowFault> {
+    match &job.allow {
+        Some(text) => Ok(Some(Allowed::of(alloc, text.as_str())?)),
+        None => Ok(None),
+    }
+}
+
+/// Says why the job's list of who may connect is none, and answers the exit status.
+pub fn fail_allow<E: Write>(fault: AllowFault, errors: &mut NoticesTo<E>) -> u8
+    ensures { (2 ≤ result) × (result ≤ 3) }
+{
+    match fault {
+        AllowFault::NotAList => {
+            let _ = fail_state("allow: not a list of addresses and networks", errors);
+            2
+        }
+        AllowFault::OutOfMemory => fail(&RunFault::OutOfMemory, errors),
+    }
 }
 
 /// Says why nobody can listen there, and answers the exit status.
@@ -202,7 +252,10 @@ fn serve_with<
         accepting,
     } = begun;
     let clock = clock_of(job, net);
-    let mut screening = Screening::new(Attended::new(accepting, job.idle, told), &mut *notices);
+    let mut screening = Screening::new(
+        Attended::new(accepting, job.idle, yield_seconds(job), told),
+        &mut *notices,
+    );
     if rules.is_empty() {
         return serve_told(alloc, job, clock, writer, errors, &mut screening, states);
     }

@@ -1,4 +1,4 @@
-//! What a bad line did, and that nothing came on a connection, as it is told (profile).
+//! What a bad line did, and that nothing came on a connection or that it gave way, as it is told (profile).
 
 use arrayvec::ArrayVec;
 use bad_line::{Effect, Effects, write_effect};
@@ -8,6 +8,7 @@ use output_forms::Form;
 use std::cell::RefCell;
 use std::io;
 use std::io::Write;
+use std::net::IpAddr;
 use std::time::Clock;
 use uecp_text::write_parts;
 
@@ -60,6 +61,23 @@ impl<'a, W: Write, C: Clock> Told<'a, W, C> {
         text.put(buffer.format(seconds).as_bytes());
         text.put(b" s\n");
         self.say(b"idle", &text);
+    }
+
+    /// Tells that a connection gave way after so many seconds to one that waited.
+    pub(crate) fn tell_yielding(&self, seconds: u32) {
+        let mut buffer = Buffer::new();
+        let mut text = Line::new();
+        text.put(b"gave way after ");
+        text.put(buffer.format(seconds).as_bytes());
+        text.put(b" s\n");
+        self.say(b"gave_way", &text);
+    }
+
+    /// Tells that no connection is taken from this address.
+    pub(crate) fn tell_stranger(&self, address: &IpAddr) {
+        let mut text = Line::new();
+        let _ = writeln!(&mut text, "not allowed {address}");
+        self.say(b"not_allowed", &text);
     }
 
     /// Tells that the encoder begins anew.

@@ -9,8 +9,10 @@ ghost use Rattle.on_air_jobs.specs.OverTcp.{HasAiredTcp, HasNotAired, IsFoundAt,
 use crate::serving::run_on_air_from;
 use air_edges::{Addresses, AirForm, OnAir, ScreenedSockets, TcpSockets};
 use commands::EncoderOptions;
-use device_edges::{BindFault, Idle, Screened};
-use device_jobs::{address_of, fail_address, fail_bind, limit_of};
+use device_edges::{Allowed, BindFault, Idle, Screened};
+use device_jobs::{
+    address_of, allowed_of, fail_address, fail_allow, fail_bind, limit_of, yielding_of,
+};
 use device_serving::LogLines;
 use kept_jobs::fail_state;
 use notices::{NoticesTo, fail};
@@ -54,7 +56,11 @@ pub fn run_on_air_over_tcp<
         Ok(places) => places,
         Err(status) => return status,
     };
-    match edge_of(alloc, net, job, places, notices, foreign) {
+    let allowed = match allowed_of(alloc, job) {
+        Ok(allowed) => allowed,
+        Err(fault) => return fail_allow(fault, errors),
+    };
+    match edge_of(alloc, net, job, places, allowed, notices, foreign) {
         Err(fault) => fail_bind(fault, errors),
         Ok(mut edge) => {
             let mut log = log_of(alloc, job, net, writer);
@@ -92,6 +98,7 @@ fn edge_of<'a, N: Net<Listener = TcpListener, Stream = TcpStream> + Clock, M: Wr
     net: &'a N,
     job: &EncoderOptions,
     places: Addresses,
+    allowed: Option<Allowed>,
     notices: &'a mut M,
     foreign: &'a mut M,
 ) -> Result<OnAir<'a, ScreenedSockets<TcpSockets<'a, N>, &'a mut M>, TcpStream, M>, BindFault>
@@ -100,7 +107,10 @@ fn edge_of<'a, N: Net<Listener = TcpListener, Stream = TcpStream> + Clock, M: Wr
       notice = unsaid (M.contents foreign.old);
     }) (form_of job.now.air_bits) (limit_of job.now.idle) (M.contents notices.old)) }
 {
-    let sockets = ScreenedSockets::new(TcpSockets::new(alloc, net, places)?, foreign);
+    let sockets = ScreenedSockets::new(
+        TcpSockets::new(alloc, net, places, yielding_of(job), allowed)?,
+        foreign,
+    );
     match OnAir::new(
         alloc,
         sockets,

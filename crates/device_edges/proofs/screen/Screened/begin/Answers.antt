@@ -1,8 +1,7 @@
 use Rattle.std.proofs.Common.{◌≡◌, sym, ap, ◌∙◌, subst, take, []}
 use Rattle.std.proofs.KnownBytes.{Keeps-trans}
-use Rattle.std.specs.Io.KnownBytes.{Keeps, Consumes}
-use Rattle.device_edges.specs.declared.screen.Phase.TheVariants.{Judging, Ours, Foreign}
-use Rattle.device_edges.specs.Screen.{left}
+use Rattle.std.specs.Io.KnownBytes.{Keeps}
+use Rattle.device_edges.specs.declared.screen.Phase.TheVariants.{Judging}
 use Rattle.device_edges.proofs.FirstBytes.{of, begun, untold, read_after, consumes_after, first_ours, first_foreign}
 use Rattle.device_edges.proofs.FirstBytes.{first_held, nothing_left}
 use Rattle.device_edges.proofs.screen.Screened.begin.Goals as goal

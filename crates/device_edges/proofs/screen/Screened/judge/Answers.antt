@@ -1,9 +1,9 @@
-use Rattle.std.proofs.Common.{◌≡◌, refl, sym, ap, ◌∙◌, subst, if◌then◌else◌, Bool, true, false, ℕ, List, [], ◌∷◌, take}
+use Rattle.std.proofs.Common.{sym, ap, ◌∙◌, subst, take}
 use Rattle.std.proofs.Common.{arith}
 use Rattle.std.proofs.KnownBytes.{Keeps-trans}
 use Rattle.std.specs.Io.KnownBytes.{Keeps, Consumes}
 use Rattle.device_edges.specs.declared.screen.Phase.TheVariants.{Judging, Ours, Foreign}
-use Rattle.device_edges.specs.Screen.{judged, left}
+use Rattle.device_edges.specs.Screen.{judged}
 use Rattle.device_edges.proofs.FirstBytes.{of, begun, found, held_more, ended, few, one_byte}
 use Rattle.device_edges.proofs.screen.Screened.judge.Goals as goal
 
