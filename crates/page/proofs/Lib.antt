@@ -11,6 +11,7 @@ pub mod Lives
 pub mod Visiting
 pub mod Visitors
 pub mod Rounds
+pub mod Places
 pub mod Tidings
 pub mod Cutting
 pub mod Handing

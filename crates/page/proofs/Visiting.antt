@@ -1,12 +1,12 @@
 -- Each turn of one who asks is a turn of its life.
-use Rattle.std.proofs.Common.{◌≡◌, ◌≤◌, ◌<◌, ◌⊎◌, ℕ, zero, suc, Bool, true, false, not, List, [], ◌∷◌, ◌++◌}
-use Rattle.std.proofs.Common.{length, take, nat_lt, min, ◌+◌, ◌-◌, ◌^◌, Option, Some, None, Result, Ok, Err, OnOk, refl}
+use Rattle.std.proofs.Common.{◌≡◌, ◌≤◌, ◌⊎◌, ℕ, Bool, true, false, List, [], ◌∷◌, ◌++◌}
+use Rattle.std.proofs.Common.{length, take, Option, Some, None, Result, Ok, Err, OnOk, refl}
 use Rattle.std.proofs.Common.{sym, ap, subst, ◌∙◌, inl, inr, arith}
 use Rattle.std.specs.Io.KnownBytes.{append_known}
 use Rattle.std.specs.List.{AllByRecursion}
 use Rattle.std.specs.Result.{is_ok, is_err}
 use Rattle.std.proofs.lemmas.Bool.{false≢true}
-use Rattle.std.proofs.lemmas.List.{append-nil, append_assoc}
+use Rattle.std.proofs.lemmas.List.{append-nil}
 use Rattle.page.specs.declared.clients.client.Phase.{Phase}
 use Rattle.page.specs.declared.clients.client.Phase.TheVariants.{Asking, Live, Closing}
 use Rattle.page.specs.declared.guests.connection.Passed.{Passed}
@@ -15,7 +15,7 @@ use Rattle.page.specs.declared.guests.guest.Guest.{Guest}
 use Rattle.page.specs.declared.guests.guest.Deed.{Deed}
 use Rattle.page.specs.declared.guests.guest.Deed.TheVariants.{CatchUp, Deliver, Tick, End}
 use Rattle.page.specs.Events.{Event, Past, with_line}
-use Rattle.page.specs.Sending.{Standing, IsLive, Delivers, SaysAlive, Ends, owed}
+use Rattle.page.specs.Sending.{Standing, IsLive, Delivers, owed}
 use Rattle.page.specs.Answers.{Source}
 use Rattle.page.specs.Hearing.{Hears}
 use Rattle.page.specs.ClientView.{standing_of, came_of}
@@ -23,8 +23,8 @@ use Rattle.page.specs.Life.{Life, IsNew, born, Turn, Becomes, Runs, line_comes, 
 use Rattle.page.specs.Life.{is_ended}
 use Rattle.page.specs.Talk.{Talk, IsKnown, IsUnsaid, Gives, Gets, IsShut}
 use Rattle.page.specs.Delivering.{IsSent, IsServed}
-use Rattle.page.specs.Visits.{Lives, GuestLives, HasLived, IsStill, HearsMore, HearsRead, HearsOnce, SendsOn, SendsNow}
-use Rattle.page.specs.Visits.{Ticks, Does, TakesTurn, IsAskedWith, gets_events, MayGo, HearsThen}
+use Rattle.page.specs.Visits.{Lives, GuestLives, HasLived, IsStill, HearsRead, HearsOnce, SendsOn, SendsNow}
+use Rattle.page.specs.Visits.{Ticks, Does, TakesTurn, IsAskedWith, MayGo, HearsThen}
 use Rattle.page.proofs.Delivered.{gets_none, sent_of_caught}
 
 -- ---- one more turn
@@ -215,22 +215,19 @@ module _ {C : Type 0} (talk : C → Talk) where
   lives_ticks : (own_only : Bool) (past : Past) (g : Guest C) (keeps : Bool) (g' : Guest C)
       → GuestLives talk own_only past g
       → Ticks talk g keeps g' → GuestLives talk own_only past g'
-  lives_ticks own_only past g keeps g' l (inl (live, says, came, kept, same)) =
-      let said_is : talk g'.connection ≡ talk g.connection = ap (λ (h : Guest C). talk h.connection) same in
+  lives_ticks own_only past g keeps g' l t =
+      let said_is : talk g'.connection ≡ talk g.connection = ap (λ (h : Guest C). talk h.connection) t.same in
       let x = standing_of g.client in
       let x' = standing_of g'.client in
-      let phase : x'.phase ≡ x.phase = elim says [
+      let phase : x'.phase ≡ x.phase = elim t.says [
         | inl is ↦ ap (λ (s : Standing). s.phase) is
         | inr said ↦ ap (λ (s : Standing). s.phase) said.2
       ] in
       let P : Talk → Type 0 = λ t. Lives own_only past t x' (came_of g'.client) in
       subst P (sym said_is)
       (lives_then own_only past past (talk g.connection) (talk g.connection) x x' (came_of g.client) (came_of g'.client)
-      l.heard l.got l is_assured tt (refl, says) l.heard_is l.got_is
-      (λ asking. came ∙ l.came_is (sym phase ∙ asking)))
-  lives_ticks own_only past g keeps g' l (inr (other, ticks, kept, same)) =
-      let P : Guest C → Type 0 = λ h. GuestLives talk own_only past h in
-      subst P (sym same) l
+      l.heard l.got l is_assured tt (refl, t.says) l.heard_is l.got_is
+      (λ asking. t.came ∙ l.came_is (sym phase ∙ asking)))
 
   -- ---- what all are asked to do
   lives_does : (own_only : Bool) (deed : Deed) (past : Past) (g : Guest C) (keeps : Bool) (g' : Guest C)
@@ -260,34 +257,12 @@ module _ {C : Type 0} (talk : C → Talk) where
   lives_turn own_only deed past g true g' l does = lives_does own_only deed past g true g' l does
   lives_turn own_only deed past g false g' l (keeps, does, may) = lives_does own_only deed past g keeps g' l does
 
-live_of : (p : Phase) → gets_events p ≡ true → p ≡ Live
-live_of Asking h = cc
-live_of Live h = refl
-live_of Closing h = cc
-
-not_live_of : (p : Phase) → gets_events p ≡ false → p ≡ Live → ⊥
-not_live_of p h live =
-    let yes : gets_events p ≡ true = ap gets_events live in
-    cc (yes, h)
-
 -- ---- by what the calls said
 on_ok : {T E : Type 0} (r : Result T E) (P : Type 0) → OnOk r P → is_ok r ≡ true → P
 on_ok (Ok x) P so is = so
 on_ok (Err e) P so is = cc
 
 module _ {C : Type 0} (talk : C → Talk) where
-  pub ticks_live : (g g' : Guest C) (live : Bool) → live ≡ gets_events (standing_of g.client).phase → live ≡ true
-      → SaysAlive (standing_of g.client) (standing_of g'.client) → came_of g'.client ≡ came_of g.client
-      → g' ≡ record g { client = g'.client } → Ticks talk g true g'
-  ticks_live g g' live is so says came same =
-      inl (live_of (standing_of g.client).phase (sym is ∙ so), says, came, refl, same)
-
-  pub ticks_other : (g g' : Guest C) (live : Bool) → live ≡ gets_events (standing_of g.client).phase → live ≡ false
-      → g'.ticks ≡ min (g.ticks + 1) (2 ^ 32 - 1) → g' ≡ record g { ticks = g'.ticks }
-      → Ticks talk g (nat_lt g'.ticks 2) g'
-  ticks_other g g' live is so ticks same =
-      inr (not_live_of (standing_of g.client).phase (sym is ∙ so), ticks, refl, same)
-
   pub does_caught : {T E : Type 0} (past : Past) (g g' : Guest C) (r : Result T E) (keeps : Bool)
       → (IsLive (standing_of g.client) → (events : List Event)
       × Delivers past events [] (standing_of g.client) (standing_of g'.client))

@@ -1,11 +1,9 @@
 -- All who ask, one after another.
-use Rattle.std.proofs.Common.{◌≡◌, ◌≤◌, ◌<◌, ◌+◌, ◌⊎◌, ℕ, suc, Bool, true, false, cond, not, List, [], ◌∷◌, ◌++◌}
+use Rattle.std.proofs.Common.{◌≡◌, ◌≤◌, ◌<◌, ◌+◌, ◌⊎◌, ℕ, Bool, true, false, cond, not, List, [], ◌∷◌, ◌++◌}
 use Rattle.std.proofs.Common.{length}
-use Rattle.std.proofs.Common.{take, drop, refl, sym, ap, subst, ◌∙◌, inl, inr, arith, length-append, append_assoc}
-use Rattle.std.proofs.Common.{get_or, set, leb}
-use Rattle.std.specs.List.{AllByRecursion, count_by}
+use Rattle.std.proofs.Common.{refl, ap, ◌∙◌, inl, inr, arith, length-append}
+use Rattle.std.specs.List.{AllByRecursion}
 use Rattle.std.proofs.lemmas.List.Sums.{sum_by-cons, sum_by-append}
-use Rattle.std.proofs.Math.Seq.{get_or-append_seam, set-append_seam, take-append_seam, drop-append-add}
 use Rattle.page.specs.declared.clients.client.Phase.{Phase}
 use Rattle.page.specs.declared.clients.client.Phase.TheVariants.{Asking, Live, Closing}
 use Rattle.page.specs.declared.clients.request.Route.{Route}
@@ -17,14 +15,14 @@ use Rattle.page.specs.declared.guests.guest.Guest.{Guest}
 use Rattle.page.specs.declared.guests.guest.Deed.{Deed}
 use Rattle.page.specs.declared.guests.guest.Deed.TheVariants.{CatchUp, Deliver, Tick, End}
 use Rattle.page.specs.Events.{Event, Past, with_line}
-use Rattle.page.specs.Sending.{Standing, IsLive}
+use Rattle.page.specs.Sending.{Standing}
 use Rattle.page.specs.Answers.{Source, opens}
 use Rattle.page.specs.Hearing.{Hears}
 use Rattle.page.specs.ClientView.{standing_of, came_of}
 use Rattle.page.specs.Talk.{Talk}
-use Rattle.page.specs.Visits.{GuestLives, HasLived, IsStill, HearsRead, HearsOnce, SendsOn, SendsNow, Ticks, Does}
-use Rattle.page.specs.Visits.{TakesTurn, AllDo, AreServed, gets_events, live_in}
-use Rattle.page.proofs.Visiting.{lives_turn, lives_heard, lives_sent, lives_line}
+use Rattle.page.specs.Visits.{GuestLives, HearsRead, HearsOnce, SendsOn, Does}
+use Rattle.page.specs.Visits.{TakesTurn, AreServed, gets_events, live_in}
+use Rattle.page.proofs.Visiting.{lives_line}
 
 -- ---- how many get events
 abbrev pub one_of : Phase → ℕ
@@ -115,13 +113,11 @@ module _ {C : Type 0} (talk : C → Talk) where
   does_same Deliver past g keeps g' (inl (none, kept, same)) =
       weight_as g g' (ap (λ (h : Guest C). standing_of h.client) same)
   does_same Deliver past g keeps g' (inr now) = sent_same past now.events now.written g g' now.sends
-  does_same Tick past g keeps g' (inl (live, says, came, kept, same)) = elim says [
+  does_same Tick past g keeps g' t = elim t.says [
     | inl is ↦ weight_as g g' is
     | inr said ↦
         one_as (standing_of g.client).phase (standing_of g'.client).phase (ap (λ (s : Standing). s.phase) said.2)
   ]
-  does_same Tick past g keeps g' (inr (other, ticks, kept, same)) =
-      weight_as g g' (ap (λ (h : Guest C). standing_of h.client) same)
   does_same End past g keeps g' (ends, came, kept, same) =
       one_closing (standing_of g.client).phase (standing_of g'.client).phase ends.phase
 

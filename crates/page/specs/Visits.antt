@@ -1,5 +1,5 @@
 -- Those who ask a page, each over a connection (profile).
-use Rattle.std.specs.Prelude.{◌≡◌, ◌≢◌, ◌⊎◌, ◌≤◌, ◌<◌, ◌+◌, ◌^◌, ℕ, ◌-◌, min, nat_lt, leb, Option, if◌then◌else◌, Bool}
+use Rattle.std.specs.Prelude.{◌≡◌, ◌≢◌, ◌⊎◌, ◌≤◌, ◌+◌, ◌%◌, ◌^◌, ℕ, ◌-◌, min, nat_lt, leb, Option, if◌then◌else◌, Bool}
 use Rattle.std.specs.Prelude.{true, false}
 use Rattle.std.specs.Prelude.{List, [], ◌∷◌, ◌++◌, length, take, All, count_by}
 use Rattle.std.specs.List.{AllByRecursion}
@@ -7,6 +7,8 @@ use Rattle.page.specs.declared.clients.client.Phase.{Phase}
 use Rattle.page.specs.declared.clients.client.Phase.TheVariants.{Asking, Live, Closing}
 use Rattle.page.specs.declared.guests.connection.Passed.{Passed}
 use Rattle.page.specs.declared.guests.connection.Passed.TheVariants.{Bytes, NotNow, Gone}
+use Rattle.page.specs.declared.guests.sockets.Accepted.{Accepted}
+use Rattle.page.specs.declared.guests.sockets.Accepted.TheVariants.{One, Nobody, NoRoom}
 use Rattle.page.specs.declared.guests.guest.Guest.{Guest}
 use Rattle.page.specs.declared.guests.all.Guests.{Guests}
 use Rattle.page.specs.declared.guests.guest.Deed.{Deed}
@@ -18,7 +20,7 @@ use Rattle.page.specs.Answers.{Source}
 use Rattle.page.specs.Hearing.{Hears}
 use Rattle.page.specs.ClientView.{standing_of, came_of}
 use Rattle.page.specs.Life.{IsNew, born, Turn, line_comes, bytes_come, is_sent, is_assured, is_ended, Runs}
-use Rattle.page.specs.Talk.{Talk, IsKnown, Gives, Gets}
+use Rattle.page.specs.Talk.{Talk, IsKnown, IsUnsaid, Gives, Gets}
 use Rattle.page.specs.Delivering.{IsSent, IsServed}
 
 -- A request was heard as one where this says whether the machine's own names alone are served.
@@ -49,6 +51,12 @@ abbrev pub HasLived : (said : Talk) → Type 0
 HasLived said =
     (own_only : Bool) × (past : Past) × (x : Standing) × (came : List ℕ) × Lives own_only past said x came
 
+-- Nothing was said yet on the connection of one who was just accepted.
+abbrev pub IsUnsaidOne : {C : Type 0} → (talk : C → Talk) → Accepted C → Type 0
+IsUnsaidOne talk (One connection) = IsUnsaid (talk connection)
+IsUnsaidOne talk Nobody = Unit {0}
+IsUnsaidOne talk NoRoom = Unit {0}
+
 -- It gets events.
 abbrev pub gets_events : Phase → Bool
 gets_events Asking = false
@@ -62,9 +70,12 @@ guests_most = 128
 abbrev pub live_most : ℕ
 live_most = 64
 
--- For how many ticks one that gets no events is kept.
-abbrev pub ticks_most : ℕ
-ticks_most = 2
+-- At which tick, of a second each, one is let go that has not asked: it has five seconds at least. And at which one is
+-- that was answered, whether it took its answer or not. One that gets events is kept.
+abbrev pub stays_at : Phase → (ticks : ℕ) → Bool
+stays_at Asking ticks = nat_lt ticks 6
+stays_at Live ticks = true
+stays_at Closing ticks = nat_lt ticks 20
 
 -- All who ask.
 abbrev pub guests_of : {C : Type 0} → Guests C → List (Guest C)
@@ -128,13 +139,15 @@ module _ {C : Type 0} (talk : C → Talk) where
     pub shut : keeps ≡ true → (standing_of g'.client).phase ≡ Closing → (standing_of g'.client).output ≡ []
         → (g'.is_shut ≡ true) × (g.is_shut ≡ false → (talk g'.connection).is_shut ≡ true)
 
-  -- A tick goes by: one that gets events may be told that all is well, and another is let go at its second tick.
-  abbrev pub Ticks : (g : Guest C) → (keeps : Bool) → (g' : Guest C) → Type 0
-  Ticks g keeps g' =
-      (IsLive (standing_of g.client) × SaysAlive (standing_of g.client) (standing_of g'.client)
-      × (came_of g'.client ≡ came_of g.client) × (keeps ≡ true) × (g' ≡ record g { client = g'.client }))
-      ⊎ ((IsLive (standing_of g.client) → ⊥) × (g'.ticks ≡ min (g.ticks + 1) (2 ^ 32 - 1))
-      × (keeps ≡ nat_lt g'.ticks ticks_most) × (g' ≡ record g { ticks = g'.ticks }))
+  -- A tick goes by: one that gets events may be told that all is well, at each tenth; and another is let go where it is
+  -- time.
+  pub record Ticks (g : Guest C) (keeps : Bool) (g' : Guest C) : Type 0 where
+    pub ticks : g'.ticks ≡ min (g.ticks + 1) (2 ^ 32 - 1)
+    pub keeps_is : keeps ≡ stays_at (standing_of g'.client).phase g'.ticks
+    pub says : SaysAlive (standing_of g.client) (standing_of g'.client)
+    pub quiet : (g'.ticks % 10 ≢ 0) → g'.client ≡ g.client
+    pub came : came_of g'.client ≡ came_of g.client
+    pub same : g' ≡ record g { client = g'.client; ticks = g'.ticks }
 
   -- What becomes of it, of whom this is asked, and whether it is kept.
   --

@@ -8,8 +8,8 @@
 //!   [`GAP`], [`ALIVE`]: the parts of a stream of Server-Sent Events.
 //! - [`Client`]: one connection; [`Site`] is what it is answered from, [`Route`] what a request asks for, [`HTML`] the
 //!   page itself.
-//! - [`Guests`]: all who ask, over any [`Sockets`]; [`Connection`] is the connection of one, [`Passed`] what a call of
-//!   it came to, and [`Deed`] what all are asked to do.
+//! - [`Guests`]: all who ask, over any [`Sockets`]; [`Accepted`] is what an accept came to, [`Connection`] the
+//!   connection of one, [`Passed`] what a call of it came to, and [`Deed`] what all are asked to do.
 //! - [`Intake`]: the bytes of an input cut into lines, and what came of these, each taken once; [`first_number`],
 //!   [`own_only`], [`status_of`]: what a run begins and ends with.
 //! - [`laws`]: a browser takes each line as it was sent; each event is sent once and in order, or the browser is lost;
@@ -27,6 +27,6 @@ pub use clients::{
     Client, EndOfEvents, HTML, Phase, Route, Site, WAITING_MAX, is_own, route_of, served,
 };
 pub use events::{ALIVE, AddFault, GAP, History, KEPT_MAX, number_of, put_event};
-pub use guests::{Connection, Deed, Guests, Passed, Sockets};
+pub use guests::{Accepted, Connection, Deed, Guests, Passed, Sockets};
 pub use intake::{Intake, Taken, first_number, own_only, status_of};
 pub use state::{Counts, Page, SERVICES_MAX, Took, metrics_text, state_text};

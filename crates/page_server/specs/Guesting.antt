@@ -1,12 +1,13 @@
 -- Those who ask while a page is served (profile).
-use Rattle.std.specs.Prelude.{◌≡◌, ◌⊎◌, ◌<◌, ◌≤◌, ◌+◌, ℕ, List}
+use Rattle.std.specs.Prelude.{◌≡◌, ◌⊎◌, ◌<◌, ◌≤◌, ◌+◌, ℕ, List, Option}
 use Rattle.page.specs.Intake.{board_of}
 use Rattle.page.specs.Talk.{Talk}
 use Rattle.page.specs.declared.guests.connection.Passed.{Passed}
 use Rattle.page.specs.declared.guests.connection.Passed.TheVariants.{Bytes, NotNow, Gone}
 use Rattle.page.specs.declared.guests.guest.Guest.{Guest}
 use Rattle.page.specs.declared.guests.guest.Deed.TheVariants.{Deliver, Tick}
-use Rattle.page.specs.Visits.{guests_of, AllServed, AllDo}
+use Rattle.page.specs.Visits.{guests_of, AllServed, AllDo, HasNone, HearsOne}
+use Rattle.page.specs.Places.{ComesIn}
 use Rattle.page_server.specs.declared.server.Serving.{Serving}
 
 -- No bytes passed on a connection.
@@ -20,7 +21,25 @@ module _ {C : Type 0} (talk : C → Talk) where
   abbrev pub IsServing : Serving C → Type 0
   IsServing s = AllServed talk (board_of s.intake).past s.guests
 
-  -- What waits is sent to all, as far as each takes it. Where ten seconds have gone by since the last tick, as the
+  -- Something came on the connection of this number: the one that has it is heard, and sent what waits, as `HearsOne`
+  -- has it, from what is shown and kept now; where none has it all stand as they stood.
+  abbrev pub IsHeard : (numbered : C → ℕ) → (reads : C → List ℕ → Passed → C → Type 0) → (number : ℕ)
+      → (s s' : Serving C) → Type 0
+  IsHeard numbered reads number s s' =
+      (HasNone numbered number (guests_of s.guests) × (s'.guests ≡ s.guests))
+      ⊎ ((seconds : Option ℕ)
+      × HearsOne talk numbered reads number (board_of s.intake).shown (board_of s.intake).past seconds
+      s.guests.own_only (guests_of s.guests) (guests_of s'.guests))
+
+  -- One more comes on this connection, as `ComesIn` has it; and what came on it already is heard at once, before
+  -- another comes who may take its place.
+  abbrev pub Welcomes : (numbered : C → ℕ) → (reads : C → List ℕ → Passed → C → Type 0) → (connection : C)
+      → (s s' : Serving C) → Type 0
+  Welcomes numbered reads connection s s' = (come : Serving C)
+      × ComesIn connection (guests_of s.guests) (guests_of come.guests)
+      × (come ≡ record s { guests = come.guests }) × IsHeard numbered reads (numbered connection) come s'
+
+  -- What waits is sent to all, as far as each takes it. Where a second has gone by since the last tick, as the
   -- clock was read before, there is one then, and what waits is sent once more.
   pub record Settles {S : Type 0} (reads : S → ℕ → S → Type 0) (sockets : S) (s s' : Serving C) : Type 0 where
     pub now : ℕ
@@ -28,7 +47,7 @@ module _ {C : Type 0} (talk : C → Talk) where
     pub reads_so : reads sockets now read
     pub sent : List (Guest C)
     pub sends : AllDo talk Deliver (board_of s.intake).past (guests_of s.guests) sent
-    pub then : ((now < s.ticked + 10000) × (s'.ticked ≡ s.ticked) × (guests_of s'.guests ≡ sent))
-        ⊎ ((s.ticked + 10000 ≤ now) × (s'.ticked ≡ now) × (seen : List (Guest C))
+    pub then : ((now < s.ticked + 1000) × (s'.ticked ≡ s.ticked) × (guests_of s'.guests ≡ sent))
+        ⊎ ((s.ticked + 1000 ≤ now) × (s'.ticked ≡ now) × (seen : List (Guest C))
         × AllDo talk Tick (board_of s.intake).past sent seen
         × AllDo talk Deliver (board_of s.intake).past seen (guests_of s'.guests))

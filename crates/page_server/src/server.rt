@@ -6,13 +6,14 @@ ghost use Rattle.std.specs.Duration.{as_nanos};
 ghost use Rattle.page.specs.Intake.{board_of, IsLoopback, first_number};
 ghost use Rattle.page.specs.Input.{cutting_of, IntakeOf, GoesOn, Ends};
 ghost use Rattle.page_server.specs.Serving.{ReadsAll, Moves};
-ghost use Rattle.page_server.specs.Guesting.{IsServing, Settles};
+ghost use Rattle.page_server.specs.Guesting.{IsServing, IsHeard, Welcomes, Settles};
+ghost use Rattle.page.specs.Talk.{IsUnsaid};
 ghost use Rattle.page.specs.Visits.{guests_of, AllDo};
 
 use crate::stop::Stop;
 use itoa::Buffer;
 use notices::{Notices, NoticesTo};
-use page::{Connection, Deed, Guests, Intake, Sockets, Taken, first_number, own_only};
+use page::{Accepted, Connection, Deed, Guests, Intake, Sockets, Taken, first_number, own_only};
 use std::alloc::Global;
 use std::io::{Read, Write};
 use std::net::SocketAddr;
@@ -24,14 +25,17 @@ const LINES_MAX: u32 = 256;
 /// How many connections are accepted in one turn.
 const ACCEPTS_MAX: u32 = 64;
 
-/// A tick, in milliseconds: so often a connection gets a sign of life, and is looked at for how long it has asked.
-const TICK: u64 = 10_000;
+/// A tick, in milliseconds: so often each who asks is looked at for how long it has been there.
+const TICK: u64 = 1000;
 
 /// For how many milliseconds at most what waits is sent once the input has ended.
 const LAST: u64 = 2000;
 
 /// For how many milliseconds is waited at once meanwhile.
 const LAST_WAIT: u64 = 100;
+
+/// What is said where there is no descriptor or no memory for one more who asks.
+const NO_ROOM: &[u8] = b"uecp: too many files are open: who comes now waits\n";
 
 /// What a run begins with.
 #[derive(Drop)]
@@ -60,6 +64,7 @@ pub(crate) struct Serving<C> {
     intake: Intake,
     heard: Option<u64>,
     ticked: u64,
+    is_out: bool,
 }
 
 impl<C: Connection> Serving<C> {
@@ -82,6 +87,7 @@ impl<C: Connection> Serving<C> {
             intake,
             heard: None,
             ticked: 0,
+            is_out: false,
         })
     }
 
@@ -99,7 +105,7 @@ impl<C: Connection> Serving<C> {
         ensures serving { IsServing C.talk self.new }
     {
         self.take_all(reader, errors, sockets)?;
-        self.send_rest(sockets)?;
+        self.send_rest(errors, sockets)?;
         Ok(self.intake.refused())
     }
 
@@ -119,7 +125,7 @@ impl<C: Connection> Serving<C> {
         let mut at_once = true;
         for _turn in 0..u64::MAX {
             let limit = if at_once { 0 } else { TICK };
-            self.turn(limit, &mut numbers, sockets)?;
+            self.turn(limit, &mut numbers, errors, sockets)?;
             match self.take_lines(reader, errors, sockets)? {
                 Progress::Ended => return Ok(()),
                 progress => at_once = progress == Progress::More,
@@ -131,10 +137,11 @@ impl<C: Connection> Serving<C> {
 
     /// Waits at most so many milliseconds; hears those on whose connections something came, and answers them; and
     /// accepts those who ask.
-    fn turn<S: Sockets<Connection = C>>(
+    fn turn<E: Write, S: Sockets<Connection = C>>(
         &mut self,
         limit: u64,
         numbers: &mut Vec<usize>,
+        errors: &mut NoticesTo<E>,
         sockets: &mut S,
     ) -> Result<(), Stop>
         requires { IsServing C.talk self.old }
@@ -148,7 +155,7 @@ impl<C: Connection> Serving<C> {
             self.hear(*number, sockets);
         }
         if asks {
-            self.accept(sockets);
+            self.accept(errors, sockets);
         }
         Ok(())
     }
@@ -156,6 +163,7 @@ impl<C: Connection> Serving<C> {
     /// Something came on the connection of this number, or it may be written to: it is heard, and sent what waits.
     fn hear<S: Sockets<Connection = C>>(&mut self, number: usize, sockets: &mut S)
         requires { IsServing C.talk self.old }
+        ensures hears { IsHeard C.talk C.numbered C.reads number self.old self.new }
         ensures same { self.new.intake ≡ self.old.intake }
         ensures serving { IsServing C.talk self.new }
     {
@@ -167,21 +175,48 @@ impl<C: Connection> Serving<C> {
             .hear(self.alloc, number, &self.intake, seconds, sockets);
     }
 
-    /// Accepts those who ask.
-    fn accept<S: Sockets<Connection = C>>(&mut self, sockets: &mut S)
+    /// Accepts those who ask. Where there is no descriptor or no memory for one more, that is said once until all who
+    /// asked were accepted.
+    fn accept<E: Write, S: Sockets<Connection = C>>(
+        &mut self,
+        errors: &mut NoticesTo<E>,
+        sockets: &mut S,
+    )
         requires { IsServing C.talk self.old }
         ensures same { self.new.intake ≡ self.old.intake }
         ensures serving { IsServing C.talk self.new }
     {
         for _one in 0..ACCEPTS_MAX {
             match sockets.accept() {
-                Some(connection) => {
-                    self.guests
-                        .add(self.alloc, connection, self.intake.history(), sockets);
+                Accepted::One(connection) => self.welcome(connection, sockets),
+                Accepted::Nobody => {
+                    self.is_out = false;
+                    return;
                 }
-                None => break,
+                Accepted::NoRoom => {
+                    if !self.is_out {
+                        errors.say(&[NO_ROOM]);
+                    }
+                    self.is_out = true;
+                    return;
+                }
             }
         }
+    }
+
+    /// One more asks. What came of it already is heard at once, so that where it has asked it is answered before
+    /// another takes its place.
+    fn welcome<S: Sockets<Connection = C>>(&mut self, connection: C, sockets: &mut S)
+        requires serving { IsServing C.talk self.old }
+        requires unsaid { IsUnsaid (C.talk connection) }
+        ensures welcomes { Welcomes C.talk C.numbered C.reads connection self.old self.new }
+        ensures same { self.new.intake ≡ self.old.intake }
+        ensures serving { IsServing C.talk self.new }
+    {
+        let number = connection.number();
+        self.guests
+            .add(self.alloc, connection, self.intake.history(), sockets);
+        self.hear(number, sockets);
     }
 
     /// All who ask do this.
@@ -213,7 +248,11 @@ impl<C: Connection> Serving<C> {
     }
 
     /// The input has ended, so no more events come: what waits is sent, for so long as that may take.
-    fn send_rest<S: Sockets<Connection = C>>(&mut self, sockets: &mut S) -> Result<(), Stop>
+    fn send_rest<E: Write, S: Sockets<Connection = C>>(
+        &mut self,
+        errors: &mut NoticesTo<E>,
+        sockets: &mut S,
+    ) -> Result<(), Stop>
         requires { IsServing C.talk self.old }
         ensures same { self.new.intake ≡ self.old.intake }
         ensures serving { IsServing C.talk self.new }
@@ -223,7 +262,7 @@ impl<C: Connection> Serving<C> {
         let mut numbers = Vec::new(self.alloc);
         for _turn in 0..u64::MAX {
             self.settle(sockets);
-            self.turn(LAST_WAIT, &mut numbers, sockets)?;
+            self.turn(LAST_WAIT, &mut numbers, errors, sockets)?;
             if !self.guests.is_behind() || sockets.now() >= last {
                 return Ok(());
             }
@@ -241,6 +280,7 @@ impl<C: Connection> Serving<C> {
             intake,
             heard: _,
             ticked: _,
+            is_out: _,
         } = self;
         guests.close(intake.history(), sockets);
     }

@@ -7,7 +7,7 @@ use crate::input::Input;
 use line_feed::Arrival;
 use mio::Token;
 use notices::{Notices, NoticesTo};
-use page::{Connection, Passed, Sockets};
+use page::{Accepted, Connection, Passed, Sockets};
 use std::alloc::Global;
 use std::io::{Error, ErrorKind, Read, Write};
 use std::net::{Net, Shutdown, TcpListener, TcpStream};
@@ -16,6 +16,13 @@ use std::time::{Clock, Instant};
 
 /// The most milliseconds that are counted: some eight million years.
 const TIME_MAX: u64 = (1 << 58) - 1;
+
+/// For how many milliseconds nobody is accepted where the system has nothing for one more.
+const PAUSE: u64 = 1000;
+
+/// The system's codes of that: no memory, too many open files of all or of this process, no buffer (Linux: ENOMEM,
+/// ENFILE, EMFILE, ENOBUFS).
+const OUT_OF_ROOM: [i32; 4] = [12, 23, 24, 105];
 
 /// The connection of a browser, whose calls don't wait. Its number is that of its descriptor.
 #[derive(Drop)]
@@ -31,6 +38,7 @@ pub(crate) struct TcpSockets<'a, N: Net<Listener = TcpListener, Stream = TcpStre
     door: Door,
     listener: TcpListener,
     was_asked: bool,
+    paused: Option<u64>,
     input: Input<'a, N>,
     fd: RawFd,
     begun: Instant,
@@ -60,6 +68,7 @@ impl<'a, N: Net<Listener = TcpListener, Stream = TcpStream> + Clock> TcpSockets<
             door,
             listener,
             was_asked: false,
+            paused: None,
             input,
             fd,
             begun,
@@ -72,6 +81,28 @@ impl<'a, N: Net<Listener = TcpListener, Stream = TcpStream> + Clock> TcpSockets<
             if let Ok(text) = format!(in alloc; "uecp: page at http://{place}/\n") {
                 errors.say(&[text.as_bytes()]);
             }
+        }
+    }
+
+    /// Whether an accept that failed so failed for want of a descriptor or of memory. Where the system refuses one
+    /// more, who asks is still there, and the next accept would fail at once: so nothing is told of who asks until a
+    /// second has gone by, or a connection was closed.
+    fn is_out(&mut self, error: &Error) -> bool {
+        if is_passing(error) {
+            return false;
+        }
+        self.paused = Some(self.now().saturating_add(PAUSE));
+        match error.raw_os_error() {
+            Some(code) => OUT_OF_ROOM.contains(&code),
+            None => false,
+        }
+    }
+
+    /// Whether nothing is to be told now of who asks.
+    fn is_paused(&mut self) -> bool {
+        match self.paused {
+            Some(until) => self.now() < until,
+            None => false,
         }
     }
 
@@ -103,7 +134,7 @@ impl<'a, N: Net<Listener = TcpListener, Stream = TcpStream> + Clock> Sockets for
     }
 
     fn wait(&mut self, milliseconds: u64, numbers: &mut Vec<usize>) -> Option<bool> {
-        if self.was_asked {
+        if self.was_asked && !self.is_paused() {
             self.was_asked = false;
             let _ = self
                 .door
@@ -120,11 +151,20 @@ impl<'a, N: Net<Listener = TcpListener, Stream = TcpStream> + Clock> Sockets for
         false
     }
 
-    fn accept(&mut self) -> Option<Browser> {
+    fn accept(&mut self) -> Accepted<Browser> {
         self.was_asked = true;
         match self.listener.accept() {
-            Ok((stream, _)) => self.browser(stream),
-            Err(_) => None,
+            Ok((stream, _)) => match self.browser(stream) {
+                Some(browser) => Accepted::One(browser),
+                None => Accepted::Nobody,
+            },
+            Err(error) => {
+                if self.is_out(&error) {
+                    Accepted::NoRoom
+                } else {
+                    Accepted::Nobody
+                }
+            }
         }
     }
 
@@ -136,7 +176,9 @@ impl<'a, N: Net<Listener = TcpListener, Stream = TcpStream> + Clock> Sockets for
         )
     }
 
-    fn close(&mut self, _connection: Browser) {}
+    fn close(&mut self, _connection: Browser) {
+        self.paused = None;
+    }
 }
 
 impl Connection for Browser {
@@ -172,6 +214,14 @@ impl Connection for Browser {
             Err(_) => false,
         }
     }
+}
+
+/// Whether an accept that failed so is to be made again at once where somebody asks: nobody did, or who did is gone.
+fn is_passing(error: &Error) -> bool {
+    matches!(
+        error.kind(),
+        ErrorKind::WouldBlock | ErrorKind::Interrupted | ErrorKind::ConnectionAborted
+    )
 }
 
 /// What a call came to that failed so.

@@ -1,9 +1,10 @@
 //! All who ask (profile).
-ghost use Rattle.std.specs.Prelude.{◌≡◌, ◌⊎◌, ◌<◌, [], leb, length, slice_index_or, IfSome, IfNone};
+ghost use Rattle.std.specs.Prelude.{◌≡◌, ◌⊎◌, ◌<◌, [], leb, length, slice_index_or, IfSome, IfNone, IsTrue};
 ghost use Rattle.page.specs.declared.guests.guest.Guest.{Guest as GuestValue};
 ghost use Rattle.page.specs.ClientView.{source_of};
 ghost use Rattle.page.specs.Intake.{board_of};
 ghost use Rattle.page.specs.Talk.{IsUnsaid};
+ghost use Rattle.page.specs.Places.{RestsIn, OfNone, IsFirst, IsGiven, NoneGives, HasPlace, ComesIn, OwedStay};
 ghost use Rattle.page.specs.Visits.{
   guests_of,
   live_in,
@@ -15,7 +16,7 @@ ghost use Rattle.page.specs.Visits.{
   TakesTurn,
 };
 
-use crate::clients::Site;
+use crate::clients::{Phase, Site};
 use crate::events::History;
 use crate::guests::connection::Connection;
 use crate::guests::guest::{Deed, Guest};
@@ -60,7 +61,9 @@ impl<C: Connection> Guests<C> {
         self.guests.iter().any(|guest| guest.is_behind())
     }
 
-    /// One more asks. Where there are too many, or without memory, its connection is closed.
+    /// One more asks. Where all places are taken one gives its own, and is let go: who was answered and took all of
+    /// that, or else who has waited longest of those who have not asked. Where none does, or without memory, the
+    /// connection of the one more is closed.
     pub fn add<S: Sockets<Connection = C>>(
         &mut self,
         alloc: Global,
@@ -70,11 +73,13 @@ impl<C: Connection> Guests<C> {
     )
         requires unsaid { IsUnsaid (C.talk connection) }
         requires served { AllServed C.talk history.now self.old }
+        ensures comes { ComesIn connection (guests_of self.old) (guests_of self.new) }
+        ensures stays { OwedStay (guests_of self.old) (guests_of self.new) }
         ensures served { AllServed C.talk history.now self.new }
         ensures own_only { self.new.own_only ≡ self.old.own_only }
     {
         let guest = Guest::new(alloc, connection);
-        if self.guests.len() >= GUESTS_MAX {
+        if !self.make_place(history, sockets) {
             sockets.close(guest.leave());
             return;
         }
@@ -82,6 +87,49 @@ impl<C: Connection> Guests<C> {
             Ok(()) => {}
             Err(failed) => sockets.close(failed.value.leave()),
         }
+    }
+
+    /// Whether there is a place for one more: where all are taken one gives its own, and is let go.
+    fn make_place<S: Sockets<Connection = C>>(&mut self, history: &History, sockets: &mut S) -> bool
+        requires { AllServed C.talk history.now self.old }
+        ensures place { HasPlace (guests_of self.old) result (guests_of self.new) }
+        ensures free { IsTrue result → length (guests_of self.new) < 128 }
+        ensures served { AllServed C.talk history.now self.new }
+        ensures own_only { self.new.own_only ≡ self.old.own_only }
+    {
+        if self.guests.len() < GUESTS_MAX {
+            return true;
+        }
+        let Some(place) = self.place_given() else {
+            return false;
+        };
+        let guest = self.guests.remove(place);
+        sockets.close(guest.leave());
+        true
+    }
+
+    /// Where the one stands who gives its place.
+    fn place_given(&self) -> Option<usize>
+        ensures some { IfSome result (λ place. IsGiven place (guests_of self.now)) }
+        ensures none { IfNone result (NoneGives (guests_of self.now)) }
+    {
+        match self.first_resting(Phase::Closing) {
+            Some(place) => Some(place),
+            None => self.first_resting(Phase::Asking),
+        }
+    }
+
+    /// Where the first stands who is in this phase, and for whom nothing waits.
+    fn first_resting(&self, phase: Phase) -> Option<usize>
+        ensures some { IfSome result (λ place. IsFirst (RestsIn phase) place (guests_of self.now)) }
+        ensures none { IfNone result (OfNone (RestsIn phase) (guests_of self.now)) }
+    {
+        for (place, guest) in self.guests.iter().enumerate() {
+            if guest.rests_in(phase) {
+                return Some(place);
+            }
+        }
+        None
     }
 
     /// Something came on the connection of this number: it is heard, and answered from what came in; the last message

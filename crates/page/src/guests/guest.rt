@@ -2,7 +2,8 @@
 ghost use Rattle.std.specs.Prelude.{◌≡◌, ◌↔◌, IsTrue, [], length};
 ghost use Rattle.page.specs.ClientView.{standing_of, source_of, came_of};
 ghost use Rattle.page.specs.Life.{IsNew};
-ghost use Rattle.page.specs.Visits.{HearsOnce, Does, SendsNow, Ticks, gets_events};
+ghost use Rattle.page.specs.Places.{RestsIn};
+ghost use Rattle.page.specs.Visits.{HearsOnce, Does, SendsNow, Ticks, gets_events, stays_at};
 
 use crate::clients::{Client, Phase, Site};
 use crate::events::History;
@@ -12,8 +13,14 @@ use std::alloc::Global;
 /// How many bytes are read at once.
 const READ_MAX: usize = 4096;
 
-/// For how many ticks one that gets no events is kept.
-const TICKS_MAX: u32 = 2;
+/// How many ticks go by, of a second each, until one is let go that has not asked.
+const ASKING_TICKS: u32 = 6;
+
+/// The same of one that was answered.
+const CLOSING_TICKS: u32 = 20;
+
+/// After how many ticks one that gets events is told that all is well.
+const ALIVE_TICKS: u32 = 10;
 
 /// One who asks.
 pub struct Guest<C> {
@@ -30,7 +37,7 @@ pub enum Deed {
     CatchUp,
     /// What waits is sent, as far as each takes it.
     Deliver,
-    /// Some time has gone by.
+    /// A second has gone by.
     Tick,
     /// No more events come.
     End,
@@ -42,6 +49,7 @@ impl<C: Connection> Guest<C> {
         ensures connection { result.connection ≡ connection }
         ensures is_new { IsNew (standing_of result.client) }
         ensures came { came_of result.client ≡ [] }
+        ensures ticks { result.ticks ≡ 0 }
     {
         Guest {
             connection,
@@ -123,7 +131,7 @@ impl<C: Connection> Guest<C> {
         {
             return false;
         }
-        if !self.is_answered() {
+        if !self.rests_in(Phase::Closing) {
             return true;
         }
         if self.is_shut {
@@ -133,24 +141,33 @@ impl<C: Connection> Guest<C> {
         self.connection.shut()
     }
 
-    /// Whether it was answered, and no more is to be written to it.
-    fn is_answered(&self) -> bool
-        ensures { IsTrue result
-            ↔ (((standing_of self.now.client).phase ≡ Phase.Closing) × ((standing_of self.now.client).output ≡ [])) }
+    /// Whether it is in this phase, and nothing waits to be sent to it.
+    pub(crate) fn rests_in(&self, phase: Phase) -> bool
+        ensures { IsTrue result ↔ RestsIn phase self.now }
     {
-        self.client.phase() == Phase::Closing && self.client.waiting() == 0
+        self.client.phase() == phase && self.client.waiting() == 0
     }
 
-    /// Some time has gone by. Whether it is to be kept: one that gets no events has so long to ask, and to take its
+    /// A second has gone by. Whether it is to be kept: one that gets no events has so long to ask, and to take its
     /// answer.
     fn tick(&mut self) -> bool
         ensures { Ticks C.talk self.old result self.new }
     {
-        if self.is_live() {
-            self.client.say_alive();
-            return true;
-        }
         self.ticks = self.ticks.saturating_add(1);
-        self.ticks < TICKS_MAX
+        if self.ticks % ALIVE_TICKS == 0 {
+            self.client.say_alive();
+        }
+        self.has_time()
+    }
+
+    /// Whether it has time still, to ask or to take its answer.
+    fn has_time(&self) -> bool
+        ensures { result ≡ stays_at (standing_of self.now.client).phase self.now.ticks }
+    {
+        match self.client.phase() {
+            Phase::Asking => self.ticks < ASKING_TICKS,
+            Phase::Live => true,
+            Phase::Closing => self.ticks < CLOSING_TICKS,
+        }
     }
 }

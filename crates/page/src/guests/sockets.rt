@@ -1,9 +1,18 @@
 //! What the machine gives a page (profile).
-ghost use Rattle.std.specs.Prelude.{◌<◌, ◌^◌, ℕ, IfSome};
-ghost use Rattle.page.specs.Talk.{IsUnsaid};
-ghost use Rattle.page.specs.Visits.{HasLived};
+ghost use Rattle.std.specs.Prelude.{◌<◌, ◌^◌, ℕ};
+ghost use Rattle.page.specs.Visits.{HasLived, IsUnsaidOne};
 
 use crate::guests::connection::Connection;
+
+/// What an accept came to.
+pub enum Accepted<C> {
+    /// One who asks, over this connection.
+    One(C),
+    /// Nobody asks now.
+    Nobody,
+    /// There is no descriptor or no memory for one more.
+    NoRoom,
+}
 
 /// The sockets of a page and its clock: who asks connects to one place, and one wait is for all that may come.
 ///
@@ -30,9 +39,10 @@ pub trait Sockets {
     /// Whether a read of the input would not wait. Where it would the next wait is for it too.
     fn has_input(&mut self) -> bool;
 
-    /// Accepts one who asks: its connection, or None where nobody asks now. It is told of what comes on it.
-    fn accept(&mut self) -> Option<Self::Connection>
-        ensures { IfSome result (λ connection. IsUnsaid (Self.Connection.talk connection)) };
+    /// Accepts one who asks. It is told of what comes on it. Where there is no descriptor or no memory for one more, a
+    /// wait tells of those who ask only once a second has gone by, or a connection was closed.
+    fn accept(&mut self) -> Accepted<Self::Connection>
+        ensures { IsUnsaidOne Self.Connection.talk result };
 
     /// Tells of what comes on a connection; and from now on of when it may be written, or no more. Whether it can be
     /// told of.

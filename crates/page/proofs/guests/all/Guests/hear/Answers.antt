@@ -1,4 +1,4 @@
-use Rattle.std.proofs.Common.{◌≡◌, ◌<◌, ◌∙◌, refl, sym, ap, subst, length, set, get_or, List, Bool, true, false, inr}
+use Rattle.std.proofs.Common.{◌∙◌, refl, sym, ap, subst, set, get_or, List, Bool, true, false, inr}
 use Rattle.page.specs.declared.guests.guest.Guest.{Guest}
 use Rattle.page.specs.ClientView.{source_of}
 use Rattle.page.specs.StateView.{state_of}

@@ -16,8 +16,8 @@ returns-then-is_err g c =
     sends_failed g.C.Connection.talk c.args.history.now c.args.self.now after events written gets sent
     c.deliver.ensures.came refl
 
-pub returns-then-not-is_answered : goal.returns-then-not-is_answered
-returns-then-not-is_answered g c =
+pub returns-then-not-rests_in : goal.returns-then-not-rests_in
+returns-then-not-rests_in g c =
     let (events, written, gets, sent, served) = c.deliver.ensures.sends in
     let after : Guest g.row.C.Denot = record {
       connection = c.deliver.new.connection;
@@ -27,7 +27,7 @@ returns-then-not-is_answered g c =
     } in
     sends_more g.C.Connection.talk c.args.history.now c.args.self.now after c.deliver.result events written gets sent
     served (sym c.is_err.ensures.value ∙ c.if-is_err.false) c.deliver.ensures.came refl
-    (λ closing none. absurd (iff_false c.is_answered.ensures c.if-not-is_answered.true (closing, none)))
+    (λ closing none. absurd (iff_false c.rests_in.ensures c.if-not-rests_in.true (closing, none)))
 
 pub returns-then-self : goal.returns-then-self
 returns-then-self g c =
