@@ -25,7 +25,7 @@ const TRIES_MAX: u64 = 1 << 59;
 /// when there is none to be had and why, and when there is one again, each once until such a reply comes; and when none
 /// comes for long. Each connection is looked after as the dialler does.
 #[derive(Drop)]
-pub struct Patient<'a, C, T, W: Write> {
+pub struct Patient<'a, 'n, C, T, W: Write> {
     connect: C,
     clock: &'a T,
     host: &'a str,
@@ -33,12 +33,12 @@ pub struct Patient<'a, C, T, W: Write> {
     address: Option<Address>,
     patience: Patience,
     watch: &'a Watch,
-    notices: &'a mut W,
+    notices: &'n mut W,
     said: Said,
     is_gone: bool,
 }
 
-impl<'a, C, T, W: Write> Model for Patient<'a, C, T, W> {
+impl<'a, 'n, C, T, W: Write> Model for Patient<'a, 'n, C, T, W> {
     ghost Value = { Dialled C };
 
     ghost view = { λ p. record {
@@ -48,7 +48,7 @@ impl<'a, C, T, W: Write> Model for Patient<'a, C, T, W> {
     } };
 }
 
-impl<'a, N: Net<Stream = TcpStream> + Clock, W: Write> Patient<'a, Dialing<'a, N>, N, W> {
+impl<'a, 'n, N: Net<Stream = TcpStream> + Clock, W: Write> Patient<'a, 'n, Dialing<'a, N>, N, W> {
     /// Dials this host and port, as [`Dialing::new`] has them, with a limit of so many milliseconds for each call, as
     /// long as its patience lasts, and says what comes of it on `notices`. The encoder at the address is the one whose
     /// replies count; with no address none does. The watch has the connection that is there.
@@ -60,8 +60,8 @@ impl<'a, N: Net<Stream = TcpStream> + Clock, W: Write> Patient<'a, Dialing<'a, N
         address: Option<Address>,
         patience: Patience,
         watch: &'a Watch,
-        notices: &'a mut W,
-    ) -> Patient<'a, Dialing<'a, N>, N, W>
+        notices: &'n mut W,
+    ) -> Patient<'a, 'n, Dialing<'a, N>, N, W>
         ensures { result ≡ record {
           connect = record { host = host.now; port = port; timeout = timeout; failed = None };
           patience = patience;
@@ -83,7 +83,7 @@ impl<'a, N: Net<Stream = TcpStream> + Clock, W: Write> Patient<'a, Dialing<'a, N
     }
 }
 
-impl<'a, C, T: Clock, W: Write> Patient<'a, C, T, W> {
+impl<'a, 'n, C, T: Clock, W: Write> Patient<'a, 'n, C, T, W> {
     /// Says that the connection is lost that was there last, if that is news.
     fn tell_lost(&mut self)
         ensures connect { self.new.connect ≡ self.old.connect }
@@ -164,7 +164,7 @@ impl<'a, C, T: Clock, W: Write> Patient<'a, C, T, W> {
     }
 }
 
-impl<'a, C: Dialler, T: Clock, W: Write> Patient<'a, C, T, W> {
+impl<'a, 'n, C: Dialler, T: Clock, W: Write> Patient<'a, 'n, C, T, W> {
     /// Makes one try after a pause, and says what came of it where that is new.
     fn try_once(
         &mut self,
@@ -203,7 +203,7 @@ impl<'a, C: Dialler, T: Clock, W: Write> Patient<'a, C, T, W> {
     }
 }
 
-impl<'a, C: Dialler, T: Clock, W: Write> Connections for Patient<'a, C, T, W> {
+impl<'a, 'n, C: Dialler, T: Clock, W: Write> Connections for Patient<'a, 'n, C, T, W> {
     type Input = ReadMeter<'a, C::Input, T>;
 
     type Output = WriteMeter<'a, C::Output, T>;

@@ -119,12 +119,12 @@ fn fail_station<E: Write>(fault: &StationFault, errors: &mut NoticesTo<E>) -> u8
 }
 
 /// Where the connections come from: the job's host and port, dialled again and again.
-fn patient_of<'a, N: Net<Stream = TcpStream> + Clock, M: Write>(
+fn patient_of<'a, 'n, N: Net<Stream = TcpStream> + Clock, M: Write>(
     net: &'a N,
     job: &'a SendOptions,
     watch: &'a Watch,
-    notices: &'a mut M,
-) -> Patient<'a, Dialing<'a, N>, N, M>
+    notices: &'n mut M,
+) -> Patient<'a, 'n, Dialing<'a, N>, N, M>
     ensures { DialsLive job.now (M.contents notices.old) result }
 {
     let patience = Patience {
