@@ -1,30 +1,22 @@
 -- A batch that grows line by line.
-use Rattle.std.proofs.Common.{◌≡◌, ℕ, Bool, ◌<◌, ◌≤◌, List, [], ◌∷◌, ◌++◌, length, refl, sym, ap, ◌∙◌, subst, inl, inr}
-use Rattle.std.proofs.Common.{append_assoc, append-nil, true, false, ◌||◌}
+use Rattle.std.proofs.Common.{◌≡◌, ℕ, Bool, ◌<◌, ◌≤◌, ◌+◌, ◌-◌, ◌^◌, List, [], ◌∷◌, ◌++◌, length, refl, sym, ap, ◌∙◌}
+use Rattle.std.proofs.Common.{subst, inl, inr, append_assoc, append-nil, length-append, true, false, ◌||◌}
 use Rattle.std.proofs.Math.Nat.{le_of_lt}
-use Rattle.std.specs.Prelude.{Option, Some, None, Ok, Err}
-use Rattle.std.specs.Io.KnownBytes.{Keeps}
+use Rattle.std.specs.Prelude.{Option, Some, None, Result, Ok, Err}
 use Rattle.rds_text.specs.declared.programme_type.Region.{Region}
 use Rattle.uecp_text.specs.declared.run_fault.RunFault.TheVariants as run
+use Rattle.line_feed.specs.declared.feed.Next.{Next}
+use Rattle.line_feed.specs.declared.feed_fault.FeedFault.{FeedFault}
 use Rattle.line_batches.specs.declared.intake.Given.{Given}
+use Rattle.line_batches.specs.declared.intake.Given.TheVariants.{Gives}
 use Rattle.line_batches.specs.declared.taking.After.{After}
 use Rattle.line_batches.specs.declared.taking.After.TheVariants.{GoesOn, Ends}
-use Rattle.line_batches.specs.Intake.{Intake, TakesLine, TakesLines, message_of, messages_in, is_refusal, has_refused}
-use Rattle.line_batches.specs.Batches.{TakesBatch, TakesInto, IsAfter, EndsAt, IsPassed, NoneRefused}
-
-pub keeps_same : (known : Option (List ℕ)) → Keeps known known
-keeps_same None = tt
-keeps_same (Some bytes) = refl
+use Rattle.line_batches.specs.Intake.{FeedIntake, message_of, messages_in, is_refusal, has_refused}
+use Rattle.line_batches.specs.Batches.{TakesBatch, TakesInto, TakesOn, TakesNext, EndsBatch, EndsAt, IsPassed}
+use Rattle.line_batches.specs.Batches.{NoneRefused, ComesToMore, GoesFurther, IsWhole}
 
 some_same : {a b : After} → Some a ≡ Some b → a ≡ b
 some_same is = cc
-
-lines_then : (region : Region) (taken : List (List ℕ × Given)) (x y z : Intake) (line : List ℕ) (given : Given)
-    → TakesLines region taken x y → TakesLine region line given y z
-    → TakesLines region (taken ++ (line, given) ∷ []) x z
-lines_then region [] x y z line given same one = (z, subst (λ u. TakesLine region line given u z) same one, refl)
-lines_then region ((l, g) ∷ more) x y z line given (w, first, rest) one =
-    (w, first, lines_then region more w y z line given rest one)
 
 messages_then : (taken : List (List ℕ × Given)) (line : List ℕ) (given : Given)
     → messages_in (taken ++ (line, given) ∷ []) ≡ messages_in taken ++ message_of given
@@ -46,108 +38,151 @@ refused_then ((l, g) ∷ more) line given none is =
     by true wrong rest = wrong
     by false none_more rest = rest none_more
 
--- Lines that were taken so far give the messages of a batch, which has room for another; and none was refused where
--- that would end the run.
-pub record HasTaken (region : Region) (size : ℕ) (strict : Bool) (x x' : Intake) (batch : List (List ℕ)) : Type 0 where
-  pub taken : List (List ℕ × Given)
-  pub lines : TakesLines region taken x x'
-  pub messages : batch ≡ messages_in taken
-  pub room : length batch < size
-  pub passed : NoneRefused strict taken
-
-module _ (region : Region) (size : ℕ) (strict : Bool) (x : Intake) where
-  pub none_taken : (batch : List (List ℕ)) → batch ≡ [] → 1 ≤ size → HasTaken region size strict x x batch
-  none_taken batch empty some = record {
-    taken = [];
-    lines = refl;
-    messages = empty;
-    room = subst (λ b. length b < size) (sym empty) some;
-    passed = λ is_strict. refl;
-  }
-
-  module _ (y : Intake) (batch : List (List ℕ)) (has : HasTaken region size strict x y batch) (z : Intake)
-      (batch' : List (List ℕ)) where
-    one_more : (line : List ℕ) (given : Given) → batch' ≡ batch ++ message_of given
-        → batch' ≡ messages_in (has.taken ++ (line, given) ∷ [])
-    one_more line given put =
-        put ∙ ap (λ b. b ++ message_of given) has.messages ∙ sym (messages_then has.taken line given)
-
-    none_more : (line : List ℕ) (given : Given) → IsPassed strict given
-        → NoneRefused strict (has.taken ++ (line, given) ∷ [])
-    none_more line given passed = λ is_strict.
-        refused_then has.taken line given (has.passed is_strict) (passed is_strict)
-
-    pub grows : TakesInto region size strict y z batch batch' None → HasTaken region size strict x z batch'
-    grows (inl (line, given, takes, inl (put, room))) = record {
-      taken = has.taken ++ (line, given) ∷ [];
-      lines = lines_then region has.taken x y z line given has.lines takes;
-      messages = one_more line given put;
-      room = room.0;
-      passed = none_more line given room.1;
-    }
-    grows (inl (line, given, takes, inr (same, is, message))) = cc
-    grows (inr (same, inl (one, is))) = cc
-    grows (inr (same, inr (fault, is, fails))) = cc
-
-    ends_so : (line : List ℕ) (given : Given) (after : After) → EndsAt strict given batch' after
-        → batch' ≡ messages_in (has.taken ++ (line, given) ∷ [])
-        → IsAfter region strict (has.taken ++ (line, given) ∷ []) z z after
-    ends_so line given GoesOn (some, passed) are = (λ none. some (are ∙ none), none_more line given passed, refl)
-    ends_so line given (Ends (Ok done)) ends are =
-        inr (
-          ends.0,
-          (has.taken, line, ends.1.0, ap (λ g. has.taken ++ (line, g) ∷ []) ends.1.1, has.passed ends.0),
-          refl,
-        )
-    ends_so line given (Ends (Err fault)) never are = absurd never
-
-    pub is_done : (after : After) → TakesInto region size strict y z batch batch' (Some after)
-        → TakesBatch region size strict batch' after x z
-    is_done after (inl (line, given, takes, inl (put, ends))) = (
-      has.taken ++ (line, given) ∷ [],
-      z,
-      lines_then region has.taken x y z line given has.lines takes,
-      one_more line given put,
-      ends.0,
-      inl (ends_so line given after ends.1 (one_more line given put)),
-    )
-    is_done after (inl (line, given, takes, inr (same, is, lost))) = (
-      has.taken,
-      y,
-      has.lines,
-      same ∙ has.messages,
-      subst (λ b. length b ≤ size) (sym same) (le_of_lt has.room),
-      inr (
-        run.OutOfMemory,
-        some_same is,
-        inr (refl, (line, lost.0, subst (λ g. TakesLine region line g y z) lost.1 takes)),
-        has.passed,
-      ),
-    )
-    is_done after (inr (same, inl (one, is))) = (
-      has.taken,
-      y,
-      has.lines,
-      same ∙ has.messages,
-      (subst (λ b. length b ≤ size) (sym same) (le_of_lt has.room)),
-      inl (subst (λ a. IsAfter region strict has.taken y z a) (sym (some_same is)) (inl (one, has.passed))),
-    )
-    is_done after (inr (same, inr (fault, is, fails))) = (
-      has.taken,
-      y,
-      has.lines,
-      same ∙ has.messages,
-      (subst (λ b. length b ≤ size) (sym same) (le_of_lt has.room)),
-      inr (fault, some_same is, inl fails, has.passed),
-    )
-
-  pub gives_up : (y : Intake) (batch : List (List ℕ)) → HasTaken region size strict x y batch
-      → TakesBatch region size strict batch (Ends (Err run.Reading)) x y
-  gives_up y batch has = (
-    has.taken,
-    y,
-    has.lines,
-    has.messages,
-    le_of_lt has.room,
-    inr (run.Reading, refl, inl (refl, inl (keeps_same y.unread)), has.passed),
+module _ {D : Type 0} (remaining : D → Option (List ℕ)) (takes : D → Result Next FeedFault → List ℕ → D → Type 0)
+    (says : D → Bool → D → Type 0) where
+  lines_then : (region : Region) (size : ℕ) (messages : List (List ℕ)) (taken : List (List ℕ × Given))
+      (x y z w : FeedIntake D) (line : List ℕ) (given : Given)
+      → TakesOn remaining takes says region size messages taken x y
+      → ComesToMore remaining takes says size (messages ++ messages_in taken) y z
+      → TakesNext remaining takes says region line given z w
+      → TakesOn remaining takes says region size messages (taken ++ (line, given) ∷ []) x w
+  lines_then region size messages [] x y z w line given same more one = (
+    z,
+    w,
+    subst (λ (u : FeedIntake D). ComesToMore remaining takes says size messages u z) same
+        (subst (λ ms. ComesToMore remaining takes says size ms y z) (append-nil messages) more),
+    one,
+    refl,
   )
+  lines_then region size messages ((l, g) ∷ rest) x y z w line given (u, v, comes, next, on) more one = (
+    u,
+    v,
+    comes,
+    next,
+    lines_then region size (messages ++ message_of g) rest v y z w line given on
+        (subst (λ ms. ComesToMore remaining takes says size ms y z)
+        (sym (append_assoc messages (message_of g) (messages_in rest))) more) one,
+  )
+
+  -- So many lines that were taken so far give the messages of a batch, which has room for another, and comes to a
+  -- further line; and none was refused where that would end the run.
+  pub record HasTaken (region : Region) (size : ℕ) (strict : Bool) (count : ℕ) (x x' : FeedIntake D)
+      (batch : List (List ℕ)) : Type 0 where
+    pub taken : List (List ℕ × Given)
+    pub last : FeedIntake D
+    pub lines : TakesOn remaining takes says region size [] taken x last
+    pub more : ComesToMore remaining takes says size (messages_in taken) last x'
+    pub messages : batch ≡ messages_in taken
+    pub room : length batch < size
+    pub passed : NoneRefused strict taken
+    pub number : length taken ≡ count
+
+  module _ (region : Region) (size : ℕ) (strict : Bool) (x : FeedIntake D) where
+    pub none_taken : (batch : List (List ℕ)) → batch ≡ [] → 1 ≤ size → HasTaken region size strict 0 x x batch
+    none_taken batch empty some = record {
+      taken = [];
+      last = x;
+      lines = refl;
+      more = (inl (refl, refl), refl);
+      messages = empty;
+      room = subst (λ b. length b < size) (sym empty) some;
+      passed = λ is_strict. refl;
+      number = refl;
+    }
+
+    module _ (count : ℕ) (y : FeedIntake D) (batch : List (List ℕ)) (has : HasTaken region size strict count x y batch)
+        (z : FeedIntake D) (batch' : List (List ℕ)) where
+      one_more : (line : List ℕ) (given : Given) → batch' ≡ batch ++ message_of given
+          → batch' ≡ messages_in (has.taken ++ (line, given) ∷ [])
+      one_more line given put =
+          put ∙ ap (λ b. b ++ message_of given) has.messages ∙ sym (messages_then has.taken line given)
+
+      none_more : (line : List ℕ) (given : Given) → IsPassed remaining takes says strict given
+          → NoneRefused strict (has.taken ++ (line, given) ∷ [])
+      none_more line given passed = λ is_strict.
+          refused_then has.taken line given (has.passed is_strict) (passed is_strict)
+
+      pub grows : TakesInto remaining takes says region size strict y z batch batch' None
+          → HasTaken region size strict (count + 1) x z batch'
+      grows (inl (line, given, u, one, inl (put, (goes, room, passed)), same)) = record {
+        taken = has.taken ++ (line, given) ∷ [];
+        last = u;
+        lines = lines_then region size [] has.taken x has.last y u line given has.lines has.more one;
+        more = (
+          subst (λ ms. GoesFurther remaining takes says size ms u.feed z.feed) (one_more line given put) goes,
+          same,
+        );
+        messages = one_more line given put;
+        room = room;
+        passed = none_more line given passed;
+        number = length-append has.taken ((line, given) ∷ []) ∙ ap (λ n. n + 1) has.number;
+      }
+      grows (inl (line, given, u, one, inr (same, is, message, stays), so)) = cc
+      grows (inr (same, inl (found, is))) = cc
+      grows (inr (same, inr (fault, is, fails))) = cc
+
+      ends_so : (line : List ℕ) (given : Given) (u : FeedIntake D) (after : After)
+          → EndsAt remaining takes says size strict given batch' after u.feed z.feed
+          → z ≡ record u { feed = z.feed } → batch' ≡ messages_in (has.taken ++ (line, given) ∷ [])
+          → EndsBatch remaining takes says region size strict (has.taken ++ (line, given) ∷ []) u z after
+      ends_so line given u GoesOn (whole, passed) same are = (
+        subst (λ ms. IsWhole remaining takes says size ms u.feed z.feed) are whole,
+        same,
+        none_more line given passed,
+      )
+      ends_so line given u (Ends (Ok done)) (is_strict, refused, stays) same are =
+          inr (
+            is_strict,
+            (has.taken, line, refused.0, ap (λ g. has.taken ++ (line, g) ∷ []) refused.1, has.passed is_strict),
+            same ∙ ap (λ f. record u { feed = f }) stays,
+          )
+      ends_so line given u (Ends (Err fault)) never same are = absurd never
+
+      abbrev Ended : After → Type 0
+      Ended after = EndsBatch remaining takes says region size strict has.taken has.last z after
+
+      -- behind the lines of before
+      stops : (after why : After) → after ≡ why → batch' ≡ batch → Ended why
+          → TakesBatch remaining takes says region size strict batch' after x z
+      stops after why is same ended = (
+        has.taken,
+        has.last,
+        has.lines,
+        same ∙ has.messages,
+        subst (λ b. length b ≤ size) (sym same) (le_of_lt has.room),
+        subst Ended (sym is) ended,
+      )
+
+      pub is_done : (after : After) → TakesInto remaining takes says region size strict y z batch batch' (Some after)
+          → TakesBatch remaining takes says region size strict batch' after x z
+      is_done after (inl (line, given, u, one, inl (put, ends), same)) = (
+        has.taken ++ (line, given) ∷ [],
+        u,
+        lines_then region size [] has.taken x has.last y u line given has.lines has.more one,
+        one_more line given put,
+        ends.0,
+        ends_so line given u after ends.1 same (one_more line given put),
+      )
+      is_done after (inl (line, given, u, one, inr (same, is, (message, gives), stays), so)) =
+          let there : u ≡ z = sym (so ∙ ap (λ f. record u { feed = f }) stays) in
+          let lost : TakesNext remaining takes says region line (Gives message) y z =
+          subst (λ g. TakesNext remaining takes says region line g y z) gives
+          (subst (λ (v : FeedIntake D). TakesNext remaining takes says region line given y v) there one) in
+          stops after (Ends (Err run.OutOfMemory)) (some_same is) same
+          (y, has.more, inr (inl (refl, (line, message, lost))), has.passed)
+      is_done after (inr (same, inl (found, is))) =
+          stops after (Ends (Ok tt)) (some_same is) same (inl (y, has.more, found, has.passed))
+      is_done after (inr (same, inr (fault, is, fails))) =
+          stops after (Ends (Err fault)) (some_same is) same (y, has.more, inl fails, has.passed)
+
+    pub gives_up : (count : ℕ) (y : FeedIntake D) (batch : List (List ℕ)) → HasTaken region size strict count x y batch
+        → count ≡ 2 ^ 64 - 1
+        → TakesBatch remaining takes says region size strict batch (Ends (Err run.Reading)) x y
+    gives_up count y batch has all = (
+      has.taken,
+      has.last,
+      has.lines,
+      has.messages,
+      le_of_lt has.room,
+      (y, has.more, inr (inr (refl, has.number ∙ all, refl)), has.passed),
+    )

@@ -1,2 +1,4 @@
 -- What the proofs of batches use.
 pub mod Growing
+pub mod Seeing
+pub mod Public

@@ -1,15 +1,20 @@
 -- Which lines make a batch (profile).
-use Rattle.std.specs.Prelude.{◌≡◌, ◌≢◌, ◌⊎◌, ℕ, ◌≤◌, ◌<◌, Bool, true, false, List, [], ◌∷◌, ◌++◌, length, Option}
-use Rattle.std.specs.Prelude.{Some, None, Ok, Err}
+use Rattle.std.specs.Prelude.{◌≡◌, ◌≢◌, ◌⊎◌, ℕ, ◌≤◌, ◌<◌, ◌-◌, ◌^◌, Bool, true, false, List, [], ◌∷◌, ◌++◌, length}
+use Rattle.std.specs.Prelude.{Option, Some, None, Result, Ok, Err}
+use Rattle.std.specs.Io.KnownBytes.{Keeps}
 use Rattle.rds_text.specs.declared.programme_type.Region.{Region}
 use Rattle.uecp_text.specs.declared.text_fault.TextFault.{TextFault}
 use Rattle.uecp_text.specs.declared.run_fault.RunFault.{RunFault}
-use Rattle.uecp_text.specs.declared.run_fault.RunFault.TheVariants.{OutOfMemory}
+use Rattle.uecp_text.specs.declared.run_fault.RunFault.TheVariants.{OutOfMemory, Reading}
+use Rattle.line_feed.specs.declared.feed.Next.{Next}
+use Rattle.line_feed.specs.declared.feed.Next.TheVariants.{End}
+use Rattle.line_feed.specs.declared.feed_fault.FeedFault.{FeedFault}
 use Rattle.line_batches.specs.declared.intake.Given.{Given}
 use Rattle.line_batches.specs.declared.intake.Given.TheVariants.{Gives, Refused}
 use Rattle.line_batches.specs.declared.taking.After.{After}
 use Rattle.line_batches.specs.declared.taking.After.TheVariants.{GoesOn, Ends}
-use Rattle.line_batches.specs.Intake.{Intake, TakesLine, TakesLines, TakesOne, FailsToTake, message_of, messages_in}
+use Rattle.line_batches.specs.Intake.{Intake, FeedIntake, TakesLine, TakesOne, FailsToTake, message_of, messages_in}
+use Rattle.line_batches.specs.Intake.{seen}
 use Rattle.line_batches.specs.Intake.{is_refusal, has_refused}
 
 -- none of these was refused, where that would end the run
@@ -21,63 +26,136 @@ abbrev pub EndsRefused : List (List ℕ × Given) → Type 0
 EndsRefused taken = (before : List (List ℕ × Given)) × (line : List ℕ) × (fault : TextFault)
     × (taken ≡ before ++ (line, Refused fault) ∷ []) × (has_refused before ≡ false)
 
--- Why a batch ends there: the run goes on, and the batch has a message; or the input is at its end, or a line was
--- refused where that ends the run.
-abbrev pub IsAfter : Region → (strict : Bool) → List (List ℕ × Given) → (y x' : Intake) → After → Type 0
-IsAfter region strict taken y x' GoesOn = (messages_in taken ≢ []) × NoneRefused strict taken × (x' ≡ y)
-IsAfter region strict taken y x' (Ends (Ok done)) =
-    (TakesOne region y x' None × NoneRefused strict taken)
-    ⊎ ((strict ≡ true) × EndsRefused taken × (x' ≡ y))
-IsAfter region strict taken y x' (Ends (Err fault)) = ⊥
-
 -- The next line was taken and counted, and there was no memory to hold its message, which is lost.
 abbrev pub LosesMessage : Region → (x x' : Intake) → RunFault → Type 0
 LosesMessage region x x' fault = (fault ≡ OutOfMemory)
     × ((line : List ℕ) × (message : List ℕ) × TakesLine region line (Gives message) x x')
 
--- Lines were taken that give these messages, at most so many, and then this comes. Or the next line could not be read,
--- or memory was wanting for it or for its message, and the run ends for that.
-abbrev pub TakesBatch : Region → (size : ℕ) → (strict : Bool) → (messages : List (List ℕ)) → After → (x x' : Intake)
-    → Type 0
-TakesBatch region size strict messages after x x' =
-    (taken : List (List ℕ × Given)) × (y : Intake) × TakesLines region taken x y × (messages ≡ messages_in taken)
-    × (length messages ≤ size)
-    × ((IsAfter region strict taken y x' after)
-    ⊎ ((fault : RunFault) × (after ≡ Ends (Err fault)) × (FailsToTake y x' fault ⊎ LosesMessage region y x' fault)
-    × NoneRefused strict taken))
+-- ---- When a further line is taken. A feed stands somewhere, and has calls that tell whether a line is there, and that
+-- take one.
+module _ {D : Type 0} (remaining : D → Option (List ℕ)) (takes : D → Result Next FeedFault → List ℕ → D → Type 0)
+    (says : D → Bool → D → Type 0) where
+  -- It was asked whether a line is there, once, and answered so.
+  abbrev pub Answers : (there : Bool) → (d d' : D) → Type 0
+  Answers there d d' = says d there d' × Keeps (remaining d) (remaining d')
 
--- ---- One line of it.
+  -- A batch of these messages comes to a further line. As long as it has none it waits for one, and asks nothing; once
+  -- it has one, there is room for another, and the feed was asked, and said that a line is there.
+  abbrev pub GoesFurther : (size : ℕ) → (messages : List (List ℕ)) → (d d' : D) → Type 0
+  GoesFurther size messages d d' =
+      ((messages ≡ []) × (d' ≡ d)) ⊎ ((messages ≢ []) × (length messages < size) × Answers true d d')
 
--- the run does not end at a line that gives this (private)
-abbrev pub IsPassed : (strict : Bool) → Given → Type 0
-IsPassed strict given = strict ≡ true → is_refusal given ≡ false
+  -- A batch of these messages is whole: it has one at least; and it has as many as it may have, and nothing was asked,
+  -- or the feed was asked, and said that no line is there.
+  abbrev pub IsWhole : (size : ℕ) → (messages : List (List ℕ)) → (d d' : D) → Type 0
+  IsWhole size messages d d' =
+      (messages ≢ []) × (((length messages ≡ size) × (d' ≡ d)) ⊎ Answers false d d')
 
--- why a batch ends behind a line that gives this (private)
-abbrev pub EndsAt : (strict : Bool) → Given → (batch : List (List ℕ)) → After → Type 0
-EndsAt strict given batch GoesOn = (batch ≢ []) × IsPassed strict given
-EndsAt strict given batch (Ends (Ok done)) = (strict ≡ true) × ((fault : TextFault) × (given ≡ Refused fault))
-EndsAt strict given batch (Ends (Err fault)) = ⊥
+  -- A batch of these messages comes to a further line, and nothing is counted or said.
+  abbrev pub ComesToMore : (size : ℕ) → (messages : List (List ℕ)) → (x x' : FeedIntake D) → Type 0
+  ComesToMore size messages x x' =
+      GoesFurther size messages x.feed x'.feed × (x' ≡ record x { feed = x'.feed })
 
--- what comes after a line that gives this, by what the batch has then: the batch goes on, and has room for another
--- message; or it ends there (private)
-abbrev pub IsAfterLine : (size : ℕ) → (strict : Bool) → Given → (batch : List (List ℕ)) → Option After → Type 0
-IsAfterLine size strict given batch None = (length batch < size) × IsPassed strict given
-IsAfterLine size strict given batch (Some after) = (length batch ≤ size) × EndsAt strict given batch after
+  -- ---- One call for the next line.
 
--- The message that a line gives was put into a batch, and this comes after it; or there was no memory to hold it.
--- (private)
-abbrev pub PutsGiven : (size : ℕ) → (strict : Bool) → Given → (batch batch' : List (List ℕ)) → Option After → Type 0
-PutsGiven size strict given batch batch' after =
-    ((batch' ≡ batch ++ message_of given) × IsAfterLine size strict given batch' after)
-    ⊎ ((batch' ≡ batch) × (after ≡ Some (Ends (Err OutOfMemory)))
-    × ((message : List ℕ) × (given ≡ Gives message)))
+  -- The next line was taken, which gives this.
+  abbrev pub TakesNext : Region → (line : List ℕ) → Given → (x x' : FeedIntake D) → Type 0
+  TakesNext region line given x x' = TakesLine region line given (seen remaining x) (seen remaining x')
+      × ((next : Next) × (held : List ℕ) × takes x.feed (Ok next) held x'.feed)
 
--- The next line was taken into a batch that has room for its message, and this comes after it. Or no line was taken,
--- since the input is at its end, or for this fault. (private)
-abbrev pub TakesInto : Region → (size : ℕ) → (strict : Bool) → (x x' : Intake) → (batch batch' : List (List ℕ))
-    → Option After → Type 0
-TakesInto region size strict x x' batch batch' after =
-    ((line : List ℕ) × (given : Given) × TakesLine region line given x x'
-    × PutsGiven size strict given batch batch' after)
-    ⊎ ((batch' ≡ batch) × ((TakesOne region x x' None × (after ≡ Some (Ends (Ok tt))))
-    ⊎ ((fault : RunFault) × (after ≡ Some (Ends (Err fault))) × FailsToTake x x' fault)))
+  -- None was, and the input is at its end.
+  abbrev pub FindsEnd : Region → (x x' : FeedIntake D) → Type 0
+  FindsEnd region x x' = TakesOne region (seen remaining x) (seen remaining x') None
+      × ((held : List ℕ) × takes x.feed (Ok End) held x'.feed)
+
+  -- One of the two. (private)
+  abbrev pub TakesGiven : Region → (x x' : FeedIntake D) → Option Given → Type 0
+  TakesGiven region x x' None = FindsEnd region x x'
+  TakesGiven region x x' (Some given) = (line : List ℕ) × TakesNext region line given x x'
+
+  -- No line gives anything, for this.
+  abbrev pub FailsNext : (x x' : FeedIntake D) → RunFault → Type 0
+  FailsNext x x' fault = FailsToTake (seen remaining x) (seen remaining x') fault
+      × ((answer : Result Next FeedFault) × (held : List ℕ) × takes x.feed answer held x'.feed)
+
+  -- The next line was taken, and there was no memory to hold its message, which is lost.
+  abbrev pub LosesNext : Region → (x x' : FeedIntake D) → RunFault → Type 0
+  LosesNext region x x' fault = (fault ≡ OutOfMemory)
+      × ((line : List ℕ) × (message : List ℕ) × TakesNext region line (Gives message) x x')
+
+  -- ---- A batch.
+
+  -- Lines were taken one after another into a batch that has these messages, each where the batch came to a further
+  -- one; and nothing else was taken or asked.
+  abbrev pub TakesOn : Region → (size : ℕ) → (messages : List (List ℕ)) → List (List ℕ × Given) → (x x' : FeedIntake D)
+      → Type 0
+  TakesOn region size messages [] x x' = x' ≡ x
+  TakesOn region size messages ((line, given) ∷ more) x x' =
+      (y : FeedIntake D) × (z : FeedIntake D) × ComesToMore size messages x y × TakesNext region line given y z
+      × TakesOn region size (messages ++ message_of given) more z x'
+
+  -- Why a batch ends there: it is whole, and the run goes on; or the input is at its end, or a line was refused where
+  -- that ends the run; or the next line could not be read, or memory was wanting for it or for its message, or 2^64 - 1
+  -- lines were taken, and the run ends for that.
+  abbrev pub EndsBatch : Region → (size : ℕ) → (strict : Bool) → List (List ℕ × Given) → (x x' : FeedIntake D) → After
+      → Type 0
+  EndsBatch region size strict taken x x' GoesOn =
+      IsWhole size (messages_in taken) x.feed x'.feed × (x' ≡ record x { feed = x'.feed }) × NoneRefused strict taken
+  EndsBatch region size strict taken x x' (Ends (Ok done)) =
+      ((y : FeedIntake D) × ComesToMore size (messages_in taken) x y × FindsEnd region y x' × NoneRefused strict taken)
+      ⊎ ((strict ≡ true) × EndsRefused taken × (x' ≡ x))
+  EndsBatch region size strict taken x x' (Ends (Err fault)) =
+      (y : FeedIntake D) × ComesToMore size (messages_in taken) x y
+      × (FailsNext y x' fault ⊎ LosesNext region y x' fault
+      ⊎ ((fault ≡ Reading) × (length taken ≡ 2 ^ 64 - 1) × (x' ≡ y)))
+      × NoneRefused strict taken
+
+  -- Lines were taken that give these messages, at most so many, and then this comes: while the batch has no message it
+  -- waits for a line; behind that it takes a further line only where the feed says that one is there, and ends short of
+  -- as many only where the feed says that none is, or where no line is to be taken any more.
+  abbrev pub TakesBatch : Region → (size : ℕ) → (strict : Bool) → (messages : List (List ℕ)) → After
+      → (x x' : FeedIntake D) → Type 0
+  TakesBatch region size strict messages after x x' =
+      (taken : List (List ℕ × Given)) × (y : FeedIntake D) × TakesOn region size [] taken x y
+      × (messages ≡ messages_in taken) × (length messages ≤ size) × EndsBatch region size strict taken y x' after
+
+  -- ---- One line of it.
+
+  -- the run does not end at a line that gives this (private)
+  abbrev pub IsPassed : (strict : Bool) → Given → Type 0
+  IsPassed strict given = strict ≡ true → is_refusal given ≡ false
+
+  -- why a batch ends behind a line that gives this (private)
+  abbrev pub EndsAt : (size : ℕ) → (strict : Bool) → Given → (batch : List (List ℕ)) → After → (d d' : D) → Type 0
+  EndsAt size strict given batch GoesOn d d' = IsWhole size batch d d' × IsPassed strict given
+  EndsAt size strict given batch (Ends (Ok done)) d d' =
+      (strict ≡ true) × ((fault : TextFault) × (given ≡ Refused fault)) × (d' ≡ d)
+  EndsAt size strict given batch (Ends (Err fault)) d d' = ⊥
+
+  -- what comes after a line that gives this, by what the batch has then: the batch goes on, and has room for another
+  -- message; or it ends there (private)
+  abbrev pub IsAfterLine : (size : ℕ) → (strict : Bool) → Given → (batch : List (List ℕ)) → Option After → (d d' : D)
+      → Type 0
+  IsAfterLine size strict given batch None d d' =
+      GoesFurther size batch d d' × (length batch < size) × IsPassed strict given
+  IsAfterLine size strict given batch (Some after) d d' =
+      (length batch ≤ size) × EndsAt size strict given batch after d d'
+
+  -- The message that a line gives was put into a batch, and this comes after it; or there was no memory to hold it.
+  -- (private)
+  abbrev pub PutsGiven : (size : ℕ) → (strict : Bool) → Given → (batch batch' : List (List ℕ)) → Option After
+      → (d d' : D) → Type 0
+  PutsGiven size strict given batch batch' after d d' =
+      ((batch' ≡ batch ++ message_of given) × IsAfterLine size strict given batch' after d d')
+      ⊎ ((batch' ≡ batch) × (after ≡ Some (Ends (Err OutOfMemory)))
+      × ((message : List ℕ) × (given ≡ Gives message)) × (d' ≡ d))
+
+  -- The next line was taken into a batch that has room for its message, and this comes after it. Or no line was taken,
+  -- since the input is at its end, or for this fault. (private)
+  abbrev pub TakesInto : Region → (size : ℕ) → (strict : Bool) → (x x' : FeedIntake D) → (batch batch' : List (List ℕ))
+      → Option After → Type 0
+  TakesInto region size strict x x' batch batch' after =
+      ((line : List ℕ) × (given : Given) × (y : FeedIntake D) × TakesNext region line given x y
+      × PutsGiven size strict given batch batch' after y.feed x'.feed × (x' ≡ record y { feed = x'.feed }))
+      ⊎ ((batch' ≡ batch) × ((FindsEnd region x x' × (after ≡ Some (Ends (Ok tt))))
+      ⊎ ((fault : RunFault) × (after ≡ Some (Ends (Err fault))) × FailsNext x x' fault)))

@@ -61,6 +61,17 @@ pub record Intake : Type 0 where
   pub refused : Bool
   pub said : Told
 
+-- So of a feed: where the feed stands, in place of what of the input was not taken.
+pub record FeedIntake (D : Type 0) : Type 0 where
+  pub feed : D
+  pub lines : ℕ
+  pub refused : Bool
+  pub said : Told
+
+-- what is seen of that, by what of the input was not taken
+abbrev pub seen : {D : Type 0} → (remaining : D → Option (List ℕ)) → FeedIntake D → Intake
+seen remaining x = record { unread = remaining x.feed; lines = x.lines; refused = x.refused; said = x.said }
+
 -- What is said of a line that gives this: of one that is refused its number and its fault, as far as that could be
 -- written, and of another nothing.
 abbrev pub SaysOf : Given → (number : ℕ) → (said said' : Told) → Type 0

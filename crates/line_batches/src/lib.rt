@@ -5,6 +5,7 @@
 #![tactic(auto)]
 
 mod intake;
+pub mod laws;
 mod taking;
 
 pub use intake::Given;

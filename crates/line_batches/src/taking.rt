@@ -1,10 +1,13 @@
 //! Lines are taken as they come, and make a batch. Source: profile.
-ghost use Rattle.std.specs.Prelude.{◌≡◌, ◌⊎◌, ◌≤◌, ◌+◌, ◌-◌, ◌^◌, ◌||◌, ◌≢◌, ◌<◌, false, length, min, ℕ, List, []};
-ghost use Rattle.std.specs.Prelude.{◌++◌, IfOk, IfErr, IfSome, IfNone, IsTrue};
-ghost use Rattle.std.specs.Io.KnownBytes.{Keeps};
-ghost use Rattle.line_batches.specs.Intake.{TakesOne, FailsToTake, NextGives, NextFails, SaysOf, is_refusal};
+ghost use Rattle.std.specs.Prelude.{◌≡◌, ◌≤◌, ◌+◌, ◌-◌, ◌^◌, ◌||◌, ◌<◌, true, false, length, min, ℕ, List, []};
+ghost use Rattle.std.specs.Prelude.{Result, Ok, None, IfOk, IfErr, IfSome, IfNone};
+ghost use Rattle.line_feed.specs.declared.feed.Next.{Next as Came};
+ghost use Rattle.line_feed.specs.declared.feed.Next.TheVariants.{End};
+ghost use Rattle.line_feed.specs.declared.feed_fault.FeedFault.{FeedFault as Fault};
+ghost use Rattle.line_batches.specs.Intake.{NextGives, NextFails, SaysOf, is_refusal};
 ghost use Rattle.line_batches.specs.declared.taking.After.TheVariants.{GoesOn};
-ghost use Rattle.line_batches.specs.Batches.{TakesBatch, TakesInto, PutsGiven};
+ghost use Rattle.line_batches.specs.Batches.{TakesBatch, TakesInto, TakesGiven, FailsNext, PutsGiven, GoesFurther};
+ghost use Rattle.line_batches.specs.Batches.{IsWhole};
 
 use crate::intake::{Given, read_line};
 use line_feed::{Feed, FeedFault, Next};
@@ -57,17 +60,18 @@ pub fn take_batch<F: Feed, E: Write>(
 ) -> After
     requires empty { batch.old.items ≡ [] }
     requires some { 1 ≤ reading.now.size }
-    ensures { TakesBatch reading.now.region reading.now.size reading.now.strict batch.new.items result (record {
-      unread = F.remaining feed.old;
-      lines = tally.old.lines;
-      refused = tally.old.refused;
-      said = errors.old;
-    }) (record {
-      unread = F.remaining feed.new;
-      lines = tally.new.lines;
-      refused = tally.new.refused;
-      said = errors.new;
-    }) }
+    ensures { TakesBatch F.remaining F.takes F.says reading.now.region reading.now.size reading.now.strict
+        batch.new.items result (record {
+          feed = feed.old;
+          lines = tally.old.lines;
+          refused = tally.old.refused;
+          said = errors.old;
+        }) (record {
+          feed = feed.new;
+          lines = tally.new.lines;
+          refused = tally.new.refused;
+          said = errors.new;
+        }) }
 {
     for _line in 0..u64::MAX {
         if let Some(after) = take_one(alloc, reading, feed, line, errors, tally, batch) {
@@ -88,13 +92,13 @@ fn take_one<F: Feed, E: Write>(
     batch: &mut Vec<Message>,
 ) -> Option<After>
     requires room { length batch.old.items < reading.now.size }
-    ensures { TakesInto reading.now.region reading.now.size reading.now.strict (record {
-      unread = F.remaining feed.old;
+    ensures { TakesInto F.remaining F.takes F.says reading.now.region reading.now.size reading.now.strict (record {
+      feed = feed.old;
       lines = tally.old.lines;
       refused = tally.old.refused;
       said = errors.old;
     }) (record {
-      unread = F.remaining feed.new;
+      feed = feed.new;
       lines = tally.new.lines;
       refused = tally.new.refused;
       said = errors.new;
@@ -115,8 +119,8 @@ fn put_given<F: Feed>(
     batch: &mut Vec<Message>,
 ) -> Option<After>
     requires room { length batch.old.items < reading.now.size }
-    ensures puts { PutsGiven reading.now.size reading.now.strict given batch.old.items batch.new.items result }
-    ensures keeps { Keeps (F.remaining feed.old) (F.remaining feed.new) }
+    ensures { PutsGiven F.remaining F.takes F.says reading.now.size reading.now.strict given batch.old.items
+        batch.new.items result feed.old feed.new }
 {
     match given {
         Given::Nothing => go_on(reading.size, batch, feed),
@@ -138,9 +142,10 @@ fn put_given<F: Feed>(
 fn go_on<F: Feed>(size: usize, batch: &Vec<Message>, feed: &mut F) -> Option<After>
     requires some { 1 ≤ size }
     requires most { length batch.now.items ≤ size }
-    ensures none { IfNone result (length batch.now.items < size) }
-    ensures some { IfSome result (λ after. (after ≡ GoesOn) × (batch.now.items ≢ [])) }
-    ensures keeps { Keeps (F.remaining feed.old) (F.remaining feed.new) }
+    ensures none { IfNone result (GoesFurther F.remaining F.takes F.says size batch.now.items feed.old feed.new) }
+    ensures room { IfNone result (length batch.now.items < size) }
+    ensures some { IfSome result (λ after. (after ≡ GoesOn)
+        × IsWhole F.remaining F.takes F.says size batch.now.items feed.old feed.new) }
 {
     if is_whole(size, batch, feed) {
         Some(After::GoesOn)
@@ -153,9 +158,9 @@ fn go_on<F: Feed>(size: usize, batch: &Vec<Message>, feed: &mut F) -> Option<Aft
 fn is_whole<F: Feed>(size: usize, batch: &Vec<Message>, feed: &mut F) -> bool
     requires some { 1 ≤ size }
     requires most { length batch.now.items ≤ size }
-    ensures some { IsTrue result → batch.now.items ≢ [] }
+    ensures whole { result ≡ true → IsWhole F.remaining F.takes F.says size batch.now.items feed.old feed.new }
+    ensures further { result ≡ false → GoesFurther F.remaining F.takes F.says size batch.now.items feed.old feed.new }
     ensures room { result ≡ false → length batch.now.items < size }
-    ensures keeps { Keeps (F.remaining feed.old) (F.remaining feed.new) }
 {
     if batch.is_empty() {
         return false;
@@ -174,24 +179,24 @@ fn take_line<F: Feed, E: Write>(
     errors: &mut NoticesTo<E>,
     tally: &mut Tally,
 ) -> Result<Option<Given>, RunFault>
-    ensures taken { IfOk result (TakesOne region (record {
-      unread = F.remaining feed.old;
+    ensures taken { IfOk result (TakesGiven F.remaining F.takes F.says region (record {
+      feed = feed.old;
       lines = tally.old.lines;
       refused = tally.old.refused;
       said = errors.old;
     }) (record {
-      unread = F.remaining feed.new;
+      feed = feed.new;
       lines = tally.new.lines;
       refused = tally.new.refused;
       said = errors.new;
     })) }
-    ensures failed { IfErr result (FailsToTake (record {
-      unread = F.remaining feed.old;
+    ensures failed { IfErr result (FailsNext F.remaining F.takes F.says (record {
+      feed = feed.old;
       lines = tally.old.lines;
       refused = tally.old.refused;
       said = errors.old;
     }) (record {
-      unread = F.remaining feed.new;
+      feed = feed.new;
       lines = tally.new.lines;
       refused = tally.new.refused;
       said = errors.new;
@@ -215,6 +220,10 @@ fn next_given<F: Feed>(
 ) -> Result<Option<Given>, RunFault>
     ensures gives { IfOk result (NextGives region (F.remaining feed.old) (F.remaining feed.new)) }
     ensures failed { IfErr result (NextFails (F.remaining feed.old) (F.remaining feed.new)) }
+    ensures took { IfOk result (λ given. (next : Came) × (held : List ℕ) × F.takes feed.old (Ok next) held feed.new
+        × (given ≡ None → next ≡ End)) }
+    ensures asked { IfErr result (λ _. (answer : Result Came Fault) × (held : List ℕ)
+        × F.takes feed.old answer held feed.new) }
 {
     match feed.next(line) {
         Err(FeedFault::Reading) => Err(RunFault::Reading),

@@ -1,10 +1,11 @@
 -- Lines that are taken one after another.
 use Rattle.std.proofs.Common.{◌≡◌, ℕ, List, [], ◌∷◌, ◌++◌, refl, ◌∙◌, ap, sym, inl, inr, append-nil, None}
-use Rattle.std.proofs.Common.{Some, Option}
+use Rattle.std.proofs.Common.{Some, Option, Result, Ok, Err, IfOk, IfErr}
 use Rattle.std.specs.Io.KnownBytes.{Consumes, Keeps, IsAtEnd}
 use Rattle.std.proofs.KnownBytes.{Keeps-refl, Keeps-trans}
 use Rattle.uecp_text.specs.Input.{lines_of}
-use Rattle.line_feed.specs.Lines.{IsFirstLine, IsNext}
+use Rattle.line_feed.specs.Lines.{IsFirstLine, IsNext, IsUntaken}
+use Rattle.line_feed.specs.declared.feed_fault.FeedFault.{FeedFault}
 use Rattle.line_feed.specs.declared.feed.Next.{Next}
 use Rattle.line_feed.specs.declared.feed.Next.TheVariants.{Line, TooLong, End}
 use Rattle.line_feed.specs.Laws.{AreTaken}
@@ -15,6 +16,33 @@ kept_then None b c bytes kept taken = tt
 kept_then (Some all) None c bytes kept taken = absurd kept
 kept_then (Some all) (Some same) None bytes kept taken = absurd taken
 kept_then (Some all) (Some same) (Some rest) bytes kept taken = sym kept ∙ taken
+
+-- the first line of what was left is that of what was left before, where all was left
+pub kept_line : (a b c : Option (List ℕ)) (line : List ℕ) → Keeps a b → IsFirstLine b c line → IsFirstLine a c line
+kept_line a b c line kept first =
+    record { taken = kept_then a b c line kept first.taken; one = first.one; ended = first.ended }
+
+pub kept_next : (a b c : Option (List ℕ)) (held : List ℕ) (next : Next) → Keeps a b → IsNext b c held next
+    → IsNext a c held next
+kept_next a b c held Line kept (first, short) = (kept_line a b c held kept first, short)
+kept_next a b c held TooLong kept (line, first, long, none) = (line, kept_line a b c line kept first, long, none)
+kept_next a b c held End kept (same, over, none) = (Keeps-trans a b c kept same, over, none)
+
+pub kept_untaken : (a b c : Option (List ℕ)) (fault : FeedFault) → Keeps a b → IsUntaken b c fault
+    → IsUntaken a c fault
+kept_untaken a b c fault kept (inl same) = inl (Keeps-trans a b c kept same)
+kept_untaken a b c fault kept (inr (is, (gone, read, none, long))) =
+    inr (is, (gone, kept_then a b c gone kept read, none, long))
+
+pub next_of_result : (a b c : Option (List ℕ)) (held : List ℕ) (r : Result Next FeedFault) → Keeps a b
+    → IfOk r (IsNext b c held) → IfOk r (IsNext a c held)
+next_of_result a b c held (Ok next) kept came = kept_next a b c held next kept came
+next_of_result a b c held (Err fault) kept came = tt
+
+pub fault_of_result : (a b c : Option (List ℕ)) (r : Result Next FeedFault) → Keeps a b → IfErr r (IsUntaken b c)
+    → IfErr r (IsUntaken a c)
+fault_of_result a b c (Ok next) kept failed = tt
+fault_of_result a b c (Err fault) kept failed = kept_untaken a b c fault kept failed
 
 kept_first : (left between left' : Option (List ℕ)) (later : List (List ℕ)) → Keeps left between
     → AreTaken between left' later → AreTaken left left' later

@@ -1,3 +1,4 @@
 pub mod Splitting
 pub mod Passing
 pub mod Following
+pub mod Public

@@ -2,7 +2,7 @@
 use Rattle.std.proofs.Common.{◌≡◌, ◌≢◌, ℕ, ◌+◌, ◌<◌, ◌==◌, true, false, cond, List, [], ◌∷◌, ◌++◌}
 use Rattle.std.proofs.Common.{length}
 use Rattle.std.proofs.Common.{take, get_or, refl, ◌∙◌, ap, sym, subst, arith, inl, inr, length-append, append_assoc}
-use Rattle.std.proofs.Common.{length-take-le, get_or-take}
+use Rattle.std.proofs.Common.{length-take-le, get_or-take, drop, take-append-drop}
 use Rattle.std.specs.List.{onto_first}
 use Rattle.std.proofs.lemmas.List.{take_more}
 use Rattle.std.proofs.lemmas.Bool.{cases_Bool, eqb-true}
@@ -10,6 +10,7 @@ use Rattle.std.proofs.lemmas.List.Elements.{All-nil, All-cons, All-head, All-tai
 use Rattle.memchr.specs.Find.{is_byte, Passes, Nowhere, NoneBefore}
 use Rattle.uecp_text.specs.Input.{lines_of}
 use Rattle.line_feed.specs.Lines.{HasEnd, HasNoEnd}
+use Rattle.line_feed.specs.Reading.{HasLine}
 use Rattle.line_feed.specs.Parts.{EndsFirst}
 
 abbrev is_other : ℕ → Type 0
@@ -105,3 +106,20 @@ first_end bytes place first at =
       front = take_more bytes place 0 within ∙ ap (λ b. take place bytes ++ b ∷ []) (eqb-true _ _ at);
       within = omega arith;
     }
+
+-- up to and with the first line feed there is a line
+pub has_line : (bytes : List ℕ) (count : ℕ) → EndsFirst bytes count → HasLine bytes
+has_line bytes count first = (
+  first.text,
+  drop count bytes,
+  sym (take-append-drop count bytes) ∙ ap (λ l. l ++ drop count bytes) first.front
+      ∙ append_assoc first.text (0x0A ∷ []) (drop count bytes),
+)
+
+no_line_in : (text rest : List ℕ) → HasNoEnd (text ++ 0x0A ∷ rest) → ⊥
+no_line_in [] rest none = All-head is_other 0x0A rest none refl
+no_line_in (byte ∷ text) rest none = no_line_in text rest (All-tail is_other byte (text ++ 0x0A ∷ rest) none)
+
+-- where there is no line feed there is none
+pub no_line : (bytes : List ℕ) → HasNoEnd bytes → HasLine bytes → ⊥
+no_line bytes none (text, rest, is) = no_line_in text rest (subst HasNoEnd is none)

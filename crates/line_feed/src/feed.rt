@@ -1,7 +1,9 @@
 //! Where lines come from (profile).
-ghost use Rattle.std.specs.Prelude.{◌≡◌, ℕ, List, [], Option, IfOk, IfErr};
+ghost use Rattle.std.specs.Prelude.{◌≡◌, ℕ, List, [], Option, Result, Bool, IfOk, IfErr};
 ghost use Rattle.std.specs.Io.KnownBytes.{Keeps};
 ghost use Rattle.line_feed.specs.Lines.{IsNext, IsUntaken};
+ghost use Rattle.line_feed.specs.declared.feed.Next.{Next as Came};
+ghost use Rattle.line_feed.specs.declared.feed_fault.FeedFault.{FeedFault as Fault};
 
 use crate::feed_fault::FeedFault;
 
@@ -24,6 +26,12 @@ pub trait Feed {
     // What of the input was not taken yet, with what waits in a buffer at its front. None where that is not known.
     ghost remaining: { Self → Option (List ℕ) };
 
+    // What a call of `next` does: what came or why nothing did, what the line holds then, and how the feed stands then.
+    ghost takes: { Self → Result Came Fault → List ℕ → Self → Type 0 };
+
+    // What a call of `is_there` does: what it answers, and how the feed stands then.
+    ghost says: { Self → Bool → Self → Type 0 };
+
     /// Waits for the next line, and puts it, with its line feed, in place of what `line` held. A line of more than
     /// [`LINE_MAX`] bytes is passed over, up to and with its line feed, and `line` is left empty; at the end too.
     ///
@@ -34,13 +42,15 @@ pub trait Feed {
     fn next(&mut self, line: &mut Vec<u8>) -> Result<Next, FeedFault>
         ensures next { IfOk result (IsNext (remaining self.old) (remaining self.new) line.new.items) }
         ensures fault { IfErr result (IsUntaken (remaining self.old) (remaining self.new)) }
-        ensures emptied { IfErr result (λ _. line.new.items ≡ []) };
+        ensures emptied { IfErr result (λ _. line.new.items ≡ []) }
+        ensures takes { takes self.old result line.new.items self.new };
 
     /// Whether a whole line or the end is there, or a failed read to be told of, so that [`next`](Feed::next) would not
     /// wait. A line of more than [`LINE_MAX`] bytes is not there while its end has not come. It may read, where that
     /// does not wait.
     fn is_there(&mut self) -> bool
-        ensures { Keeps (remaining self.old) (remaining self.new) };
+        ensures keeps { Keeps (remaining self.old) (remaining self.new) }
+        ensures says { says self.old result self.new };
 
     /// Waits so many milliseconds.
     fn pause(&mut self, milliseconds: u64)

@@ -1,6 +1,6 @@
 //! The lines of a reader (profile).
-ghost use Rattle.std.specs.Prelude.{◌≡◌, ℕ, List, Option, IfOk, IfErr};
-ghost use Rattle.std.specs.Io.KnownBytes.{prepend_known};
+ghost use Rattle.std.specs.Prelude.{◌≡◌, [], true, false, IfOk, IfErr};
+ghost use Rattle.line_feed.specs.Reading.{Looks, IsReady, IsNotReady, ReadsNoMore, unread};
 ghost use Rattle.line_feed.specs.declared.feed_fault.FeedFault.TheVariants.{OutOfMemory};
 
 use crate::arrival::Arrival;
@@ -8,15 +8,15 @@ use crate::feed::{Feed, Next};
 use crate::feed_fault::FeedFault;
 use crate::held::Held;
 use crate::source::Source;
-use crate::taking::{first_line, read_on, take_next};
+use crate::taking::{has_line, read_on, take_next};
 use std::alloc::Global;
 use std::io::Read;
 use std::marker::Model;
 
 /// The lines of a reader. It takes memory for one line when it is made, and none after that. It reads at most 4096
 /// bytes at a time, and only where no whole line is held. Before a read that may wait it waits by its arrival. Once the
-/// reader was at its end it is not read again; a read that was interrupted is made again. Contracts see what is left:
-/// what is held, and then what the reader has left.
+/// reader was at its end it is not read again; a read that was interrupted is made again. Contracts see it as one
+/// value, `Reads`.
 #[derive(Drop)]
 pub struct LineFeed<R: Read, A: Arrival> {
     held: Held,
@@ -25,9 +25,11 @@ pub struct LineFeed<R: Read, A: Arrival> {
 }
 
 impl<R: Read, A: Arrival> Model for LineFeed<R, A> {
-    ghost Value = { Option (List ℕ) };
+    ghost use Rattle.line_feed.specs.Reading.{Reads};
 
-    ghost view = { λ f. prepend_known f.held f.source };
+    ghost Value = { Reads A };
+
+    ghost view = { λ f. record { held = f.held; reader = f.source; arrival = f.arrival } };
 }
 
 impl<R: Read + Drop, A: Arrival + Drop> LineFeed<R, A> {
@@ -35,7 +37,12 @@ impl<R: Read + Drop, A: Arrival + Drop> LineFeed<R, A> {
     ///
     /// Errors: `OutOfMemory`.
     pub fn new(alloc: Global, reader: R, arrival: A) -> Result<LineFeed<R, A>, FeedFault>
-        ensures left { IfOk result (λ feed. feed ≡ R.remaining reader) }
+        ensures left { IfOk result (λ feed. unread feed ≡ R.remaining reader) }
+        ensures begun { IfOk result (λ feed. feed ≡ record {
+          held = [];
+          reader = record { left = R.remaining reader; ended = false; failed = false };
+          arrival = arrival;
+        }) }
         ensures fault { IfErr result (λ fault. fault ≡ OutOfMemory) }
     {
         let held = Held::new(alloc)?;
@@ -49,13 +56,20 @@ impl<R: Read + Drop, A: Arrival + Drop> LineFeed<R, A> {
 
 impl<R: Read, A: Arrival> LineFeed<R, A> {
     /// Whether the next line can be told without a read.
-    fn is_held(&self) -> bool {
-        self.source.is_done() || first_line(self.held.as_slice()).is_some()
+    fn is_held(&self) -> bool
+        ensures ready { result ≡ true → IsReady self.now }
+        ensures else_not { result ≡ false → IsNotReady self.now }
+    {
+        self.source.is_done() || has_line(self.held.as_slice())
     }
 }
 
 impl<R: Read, A: Arrival> Feed for LineFeed<R, A> {
-    ghost remaining = { λ f. f };
+    ghost remaining = { λ f. unread f };
+
+    ghost takes = { λ f answer line f'. ReadsNoMore f f' };
+
+    ghost says = { λ f there f'. Looks A.answers f there f' };
 
     fn next(&mut self, line: &mut Vec<u8>) -> Result<Next, FeedFault> {
         take_next(&mut self.held, &mut self.source, &mut self.arrival, line)

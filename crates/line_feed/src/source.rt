@@ -1,5 +1,5 @@
 //! A reader up to its end (profile).
-ghost use Rattle.std.specs.Prelude.{◌≡◌, ℕ, ◌<◌, ◌++◌, List, Option, length, true, false, Ok, IfErr};
+ghost use Rattle.std.specs.Prelude.{◌≡◌, ℕ, ◌<◌, ◌++◌, ◌||◌, List, length, true, false, Ok, IfErr};
 ghost use Rattle.std.specs.Io.KnownBytes.{Consumes, Keeps, IsAtEnd};
 ghost use Rattle.line_feed.specs.declared.feed_fault.FeedFault.TheVariants.{Reading};
 
@@ -12,7 +12,7 @@ use std::marker::Model;
 /// The most bytes that one read asks for.
 const READ_MAX: usize = 4096;
 
-/// A reader, which is not read again once it was at its end. Contracts see what it has left.
+/// A reader, which is not read again once it was at its end. Contracts see it as one value, `Reader`.
 #[derive(Drop)]
 pub(crate) struct Source<R: Read> {
     reader: R,
@@ -23,9 +23,13 @@ pub(crate) struct Source<R: Read> {
 }
 
 impl<R: Read> Model for Source<R> {
-    ghost Value = { Option (List ℕ) };
+    ghost use Rattle.std.specs.Prelude.{◌≡◌, true};
+    ghost use Rattle.std.specs.Io.KnownBytes.{IsAtEnd};
+    ghost use Rattle.line_feed.specs.Reading.{Reader};
 
-    ghost view = { λ s. R.remaining s.reader };
+    ghost Value = { Reader };
+
+    ghost view = { λ s. record { left = R.remaining s.reader; ended = s.ended; failed = s.failed } };
 
     ghost invariant = { λ s. s.ended ≡ true → IsAtEnd (R.remaining s.reader) };
 }
@@ -33,7 +37,7 @@ impl<R: Read> Model for Source<R> {
 impl<R: Read> Source<R> {
     /// This reader, which was not read yet.
     pub(crate) fn new(reader: R) -> Source<R>
-        ensures { result ≡ R.remaining reader }
+        ensures { result ≡ record { left = R.remaining reader; ended = false; failed = false } }
     {
         Source {
             reader,
@@ -43,13 +47,15 @@ impl<R: Read> Source<R> {
     }
 
     /// Whether the next call of `read_into` reads nothing: the reader was at its end, or a failed read is to be told.
-    pub(crate) fn is_done(&self) -> bool {
+    pub(crate) fn is_done(&self) -> bool
+        ensures { result ≡ self.now.ended || self.now.failed }
+    {
         self.ended || self.failed
     }
 
     /// The next call of `read_into` tells that a read failed.
     pub(crate) fn fail(&mut self)
-        ensures { self.new ≡ self.old }
+        ensures { self.new ≡ record self.old { failed = true } }
     {
         self.failed = true;
     }
@@ -62,9 +68,10 @@ impl<R: Read> Source<R> {
         held: &mut Held,
     ) -> Result<bool, FeedFault>
         requires room { length held.old < 65537 }
-        ensures read { (bytes : List ℕ) × (held.new ≡ held.old ++ bytes) × Consumes self.old self.new bytes }
-        ensures ended { result ≡ Ok false → Keeps self.old self.new × IsAtEnd self.new × (held.new ≡ held.old) }
-        ensures failed { IfErr result (λ fault. (fault ≡ Reading) × Keeps self.old self.new
+        ensures read { (bytes : List ℕ) × (held.new ≡ held.old ++ bytes) × Consumes self.old.left self.new.left bytes }
+        ensures ended { result ≡ Ok false → Keeps self.old.left self.new.left × IsAtEnd self.new.left
+            × (held.new ≡ held.old) }
+        ensures failed { IfErr result (λ fault. (fault ≡ Reading) × Keeps self.old.left self.new.left
             × (held.new ≡ held.old)) }
     {
         if !self.is_done() {
@@ -78,9 +85,10 @@ impl<R: Read> Source<R> {
     /// Errors: `Reading` where the read failed, and nothing was read.
     pub(crate) fn read_into(&mut self, held: &mut Held) -> Result<bool, FeedFault>
         requires room { length held.old < 65537 }
-        ensures read { (bytes : List ℕ) × (held.new ≡ held.old ++ bytes) × Consumes self.old self.new bytes }
-        ensures ended { result ≡ Ok false → Keeps self.old self.new × IsAtEnd self.new × (held.new ≡ held.old) }
-        ensures failed { IfErr result (λ fault. (fault ≡ Reading) × Keeps self.old self.new
+        ensures read { (bytes : List ℕ) × (held.new ≡ held.old ++ bytes) × Consumes self.old.left self.new.left bytes }
+        ensures ended { result ≡ Ok false → Keeps self.old.left self.new.left × IsAtEnd self.new.left
+            × (held.new ≡ held.old) }
+        ensures failed { IfErr result (λ fault. (fault ≡ Reading) × Keeps self.old.left self.new.left
             × (held.new ≡ held.old)) }
     {
         if self.failed {

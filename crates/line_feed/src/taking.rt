@@ -1,7 +1,9 @@
 //! The first line of what is left (profile).
-ghost use Rattle.std.specs.Prelude.{◌≡◌, ◌<◌, ◌≤◌, [], length, take, drop, Ok, IfOk, IfErr, MatchOption};
-ghost use Rattle.std.specs.Io.KnownBytes.{Keeps, prepend_known};
+ghost use Rattle.std.specs.Prelude.{◌≡◌, ◌<◌, ◌≤◌, ◌++◌, ℕ, List, [], length, take, drop, Ok, IfOk, IfErr};
+ghost use Rattle.std.specs.Prelude.{MatchOption, true, false};
+ghost use Rattle.std.specs.Io.KnownBytes.{Consumes, Keeps, prepend_known};
 ghost use Rattle.line_feed.specs.Lines.{HasNoEnd, IsNext, IsUntaken};
+ghost use Rattle.line_feed.specs.Reading.{HasLine};
 ghost use Rattle.line_feed.specs.Parts.{EndsFirst, IsPut};
 ghost use Rattle.line_feed.specs.declared.feed.Next.TheVariants.{End};
 
@@ -23,30 +25,63 @@ pub(crate) fn first_line(bytes: &[u8]) -> Option<usize>
     }
 }
 
-/// The next line of what is held and of what the source has left, as [`Feed::next`](crate::Feed::next) says. It is the
-/// arrival that waits.
+/// Whether a line feed is among these bytes.
+pub(crate) fn has_line(bytes: &[u8]) -> bool
+    ensures line { result ≡ true → HasLine bytes.now }
+    ensures none { result ≡ false → HasNoEnd bytes.now }
+{
+    match first_line(bytes) {
+        Some(_) => true,
+        None => false,
+    }
+}
+
+/// The next line of what is held and of what the source has left, as [`Feed::next`](crate::Feed::next) says. Where its
+/// line feed is held, nothing is read. It is the arrival that waits.
 pub(crate) fn take_next<R: Read, A: Arrival>(
     held: &mut Held,
     source: &mut Source<R>,
     arrival: &mut A,
     line: &mut Vec<u8>,
 ) -> Result<Next, FeedFault>
-    ensures next { IfOk result (IsNext (prepend_known held.old source.old) (prepend_known held.new source.new)
+    ensures next { IfOk result (IsNext (prepend_known held.old source.old.left) (prepend_known held.new source.new.left)
         line.new.items) }
-    ensures fault { IfErr result (IsUntaken (prepend_known held.old source.old)
-        (prepend_known held.new source.new)) }
+    ensures fault { IfErr result (IsUntaken (prepend_known held.old source.old.left)
+        (prepend_known held.new source.new.left)) }
     ensures emptied { IfErr result (λ _. line.new.items ≡ []) }
+    ensures early { HasLine held.old → (source.new ≡ source.old) × (arrival.new ≡ arrival.old) }
 {
     line.clear();
+    match first_line(held.as_slice()) {
+        Some(count) => take_first(held, count, line),
+        None => read_next(held, source, arrival, line),
+    }
+}
+
+/// The next line of what is held, which has no line feed, and of what the source has left.
+fn read_next<R: Read, A: Arrival>(
+    held: &mut Held,
+    source: &mut Source<R>,
+    arrival: &mut A,
+    line: &mut Vec<u8>,
+) -> Result<Next, FeedFault>
+    requires no_end { HasNoEnd held.old }
+    requires empty { line.old.items ≡ [] }
+    ensures next { IfOk result (IsNext (prepend_known held.old source.old.left) (prepend_known held.new source.new.left)
+        line.new.items) }
+    ensures fault { IfErr result (IsUntaken (prepend_known held.old source.old.left)
+        (prepend_known held.new source.new.left)) }
+    ensures emptied { IfErr result (λ _. line.new.items ≡ []) }
+{
     for _turn in 0..u64::MAX {
-        if let Some(count) = first_line(held.as_slice()) {
-            return take_first(held, count, line);
-        }
         if held.room() == 0 {
             return pass_over(held, source, arrival);
         }
         if !source.wait_into(arrival, held)? {
             return take_last(held, line);
+        }
+        if let Some(count) = first_line(held.as_slice()) {
+            return take_first(held, count, line);
         }
     }
     Err(FeedFault::Reading)
@@ -91,9 +126,10 @@ fn pass_over<R: Read, A: Arrival>(
 ) -> Result<Next, FeedFault>
     requires no_end { HasNoEnd held.old }
     requires long { 65536 < length held.old }
-    ensures next { IfOk result (IsNext (prepend_known held.old source.old) (prepend_known held.new source.new) []) }
-    ensures fault { IfErr result (IsUntaken (prepend_known held.old source.old)
-        (prepend_known held.new source.new)) }
+    ensures next { IfOk result (IsNext (prepend_known held.old source.old.left) (prepend_known held.new source.new.left)
+        []) }
+    ensures fault { IfErr result (IsUntaken (prepend_known held.old source.old.left)
+        (prepend_known held.new source.new.left)) }
 {
     for _turn in 0..u64::MAX {
         held.clear();
@@ -110,7 +146,9 @@ fn pass_over<R: Read, A: Arrival>(
 
 /// Makes one read where that does not wait and there is room, so that a line that has come is found.
 pub(crate) fn read_on<R: Read>(held: &mut Held, source: &mut Source<R>)
-    ensures { Keeps (prepend_known held.old source.old) (prepend_known held.new source.new) }
+    ensures keeps { Keeps (prepend_known held.old source.old.left) (prepend_known held.new source.new.left) }
+    ensures read { (bytes : List ℕ) × Consumes source.old.left source.new.left bytes
+        × (held.new ≡ held.old ++ bytes) }
 {
     if held.room() == 0 {
         return;

@@ -7,6 +7,7 @@ use mio::unix::SourceFd;
 use mio::{Events, Interest, Poll, Token};
 use std::alloc::Global;
 use std::io::Write;
+use std::marker::Model;
 use std::net::{Net, TcpStream};
 use std::os::fd::{AsRawFd, RawFd};
 use std::time::{Clock, Duration};
@@ -29,6 +30,13 @@ pub struct Polled<'a, N: Net + Clock, W: Write> {
     watch: &'a Watch,
     notices: &'a mut W,
     waiting: Option<Waiting>,
+}
+
+impl<'a, N: Net + Clock, W: Write> Model for Polled<'a, N, W> {
+    // Nothing is known of what a poll will tell.
+    ghost Value = { Unit {0} };
+
+    ghost view = { λ _. tt };
 }
 
 /// A poll with places for the events of the descriptor and of the connection.

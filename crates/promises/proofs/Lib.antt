@@ -46,3 +46,5 @@ pub mod StationHearing
 pub mod StationAnswering
 pub mod Sending
 pub mod Happening
+pub mod OverLines
+pub mod BatchRuns

@@ -1,5 +1,5 @@
 -- What a whole run took, and what a crash leaves of it.
-use Rattle.std.proofs.Common.{arith, ◌≡◌, ◌⊎◌, ℕ, Bool, true, List, Option, refl, sym, ◌∙◌, inl, inr}
+use Rattle.std.proofs.Common.{arith, ◌≡◌, ◌⊎◌, ℕ, Bool, true, false, List, Option, Result, ap, refl, sym, ◌∙◌, inl, inr}
 use Rattle.std.specs.List.{list_all}
 use Rattle.uecp_elements.specs.declared.code.Code.{Code}
 use Rattle.uecp_link.specs.Server.{ServerState}
@@ -10,12 +10,19 @@ use Rattle.kept_jobs.specs.ServerRun.{Standing}
 use Rattle.kept_jobs.proofs.Public.{goes, stopped, goes_not_stopped}
 use Rattle.line_batches.specs.declared.intake.Given.{Given}
 use Rattle.line_batches.specs.declared.taking.After.TheVariants.{GoesOn}
-use Rattle.line_batches.specs.Intake.{Intake}
-use Rattle.sending.specs.Run.{Live, tally_status}
+use Rattle.line_feed.specs.declared.feed.Next.{Next}
+use Rattle.line_feed.specs.declared.feed_fault.FeedFault.{FeedFault}
+use Rattle.line_batches.specs.Intake.{Intake, FeedIntake, seen}
+use Rattle.line_batches.proofs.Public.{is_seen}
+use Rattle.sending.specs.Run.{tally_status}
+use Rattle.sending.specs.Run as over
+use Rattle.promises.proofs.OverLines.{Live, LivesFrom, InSight, from_seen}
+use Rattle.promises.proofs.BatchRuns.{in_all}
+use Rattle.sending.specs.declared.options.LiveOptions.{LiveOptions}
 use Rattle.promises.specs.Taken.{at_start}
 use Rattle.line_batches.specs.Intake.{has_refused}
 use Rattle.promises.specs.LiveTold.{was_applied, IsStatusOf}
-use Rattle.promises.specs.LiveLaws.{IsDone, DoneIsKept, WhatACrashLeaves, ToldIsTaken}
+use Rattle.promises.specs.LiveLaws.{IsDone, DoneIsKept, WhatACrashLeaves, ToldIsTaken, TakenInBatches}
 use Rattle.promises.proofs.Refusing.{refused_in_all, status_so}
 use Rattle.promises.proofs.Runs.{whole}
 use Rattle.promises.proofs.TellingRuns.{whole_told}
@@ -51,78 +58,112 @@ status_where_done went taken applied said' status lines answers on refused all (
 status_where_done went taken applied said' status lines answers on refused all (inr (stop, is, status_is, begins)) =
     absurd (goes_not_stopped stop (on ∙ is))
 
-module _ {C I O K : Type 0} (opens : C → Option (I × O) → C → Type 0) (closes : C → I → O → C → Type 0)
+module _ {D C I O K : Type 0} (unread : D → Option (List ℕ))
+    (takes : D → Result Next FeedFault → List ℕ → D → Type 0) (says : D → Bool → D → Type 0)
+    (opens : C → Option (I × O) → C → Type 0) (closes : C → I → O → C → Type 0)
     (remaining : I → Option (List ℕ)) (contents : O → Option (List ℕ)) (leaves : K → KeptServer → Type 0)
     (is_clean : K → Type 0) (saves fails : K → KeptServer → K → Type 0) where
   -- where a run stands at its start
-  abbrev begins_at : Standing ServerState K → (unread : Option (List ℕ)) → (said : Told) → Live ServerState K
-  begins_at x unread said = record {
+  abbrev begins_at : Standing ServerState K → (left : Option (List ℕ)) → (said : Told) → Live ServerState K
+  begins_at x left said = record {
     sends = x;
-    takes = at_start unread said;
+    takes = at_start left said;
     applied = true;
     unknown = 0;
     behind = GoesOn;
   }
 
-  pub done_is_kept_lem : DoneIsKept opens closes remaining contents leaves is_clean saves fails
-  done_is_kept_lem options c c' x k' held' unread unread' said said' status
-      (went, end, applied, lives, unread_is, ended) done =
-      let w = whole opens closes remaining contents leaves is_clean saves fails options c c' (begins_at x unread said)
-      k' held'
-      end applied went lives in
-      let on : goes ≡ went = on_where_done went end applied said' status done w.status ended in (
+  -- so, with its feed
+  abbrev fed_at : Standing ServerState K → (feed : D) → (said : Told) → over.Live (FeedIntake D) ServerState K
+  fed_at x feed said = record {
+    sends = x;
+    takes = record { feed = feed; lines = 0; refused = false; said = said };
+    applied = true;
+    unknown = 0;
+    behind = GoesOn;
+  }
+
+  -- what is seen of a run
+  by_sight : (options : LiveOptions) (c c' : C) (x : Standing ServerState K) (k' : K) (held' : Option (List ℕ))
+      (feed : D) (said : Told) (end : FeedIntake D) (applied : Bool) (went : Went)
+      → over.LivesFrom (over.FromFeed unread takes says) opens closes remaining contents leaves is_clean saves fails
+      options c c' (fed_at x feed said) k' held' end applied went
+      → LivesFrom opens closes remaining contents leaves is_clean saves fails options c c'
+      (begins_at x (unread feed) said) k' held' (seen unread end) applied went
+  by_sight options c c' x k' held' feed said end applied went lives =
+      from_seen opens closes remaining contents leaves is_clean saves fails (seen unread)
+      (over.FromFeed unread takes says) InSight
+      (λ reading messages after i i'. is_seen unread takes says reading.region reading.size reading.strict messages
+      after i i') options c c' (fed_at x feed said) k' held' end applied went lives
+
+  pub done_is_kept_lem : DoneIsKept unread takes says opens closes remaining contents leaves is_clean saves fails
+  done_is_kept_lem options c c' x k' held' feed feed' said said' status
+      (went, end, applied, lives, feed_is, ended) done =
+      let run = by_sight options c c' x k' held' feed said end applied went lives in
+      let w = whole opens closes remaining contents leaves is_clean saves fails options c c'
+      (begins_at x (unread feed) said) k' held' (seen unread end) applied went run in
+      let on : goes ≡ went = on_where_done went (seen unread end) applied said' status done w.status ended in (
         w.lines,
         record {
           last = w.mid;
-          end = end;
+          end = seen unread end;
           taken = w.takes;
           ends = w.done on;
-          is_unread = unread_is;
+          is_unread = ap unread feed_is;
         },
         w.has_taken on,
       )
 
-  pub what_a_crash_leaves_lem : WhatACrashLeaves opens closes remaining contents leaves is_clean saves fails
-  what_a_crash_leaves_lem options c c' x k' held' unread unread' said said' status
-      (went, end, applied, lives, unread_is, ended) =
-      let w = whole opens closes remaining contents leaves is_clean saves fails options c c' (begins_at x unread said)
-      k' held'
-      end applied went lives in (
+  pub what_a_crash_leaves_lem : WhatACrashLeaves unread takes says opens closes remaining contents leaves is_clean saves
+      fails
+  what_a_crash_leaves_lem options c c' x k' held' feed feed' said said' status
+      (went, end, applied, lives, feed_is, ended) =
+      let run = by_sight options c c' x k' held' feed said end applied went lives in
+      let w = whole opens closes remaining contents leaves is_clean saves fails options c c'
+      (begins_at x (unread feed) said) k' held' (seen unread end) applied went run in (
         w.lines,
         record {
           last = w.mid;
-          end = end;
+          end = seen unread end;
           taken = w.takes;
           passes = w.passes;
           pauses = w.pauses;
-          is_unread = unread_is;
+          is_unread = ap unread feed_is;
         },
         w.outlives,
       )
 
-  pub told_is_taken_lem : ToldIsTaken opens closes remaining contents leaves is_clean saves fails
-  told_is_taken_lem options c c' x k' held' unread unread' said said' status
-      (went, end, applied, lives, unread_is, ended) done =
-      let w = whole opens closes remaining contents leaves is_clean saves fails options c c' (begins_at x unread said)
-      k'
-      held' end applied went lives in
-      let on : goes ≡ went = on_where_done went end applied said' status done w.status ended in
+  pub told_is_taken_lem : ToldIsTaken unread takes says opens closes remaining contents leaves is_clean saves fails
+  told_is_taken_lem options c c' x k' held' feed feed' said said' status
+      (went, end, applied, lives, feed_is, ended) done =
+      let run = by_sight options c c' x k' held' feed said end applied went lives in
+      let w = whole opens closes remaining contents leaves is_clean saves fails options c c'
+      (begins_at x (unread feed) said) k' held' (seen unread end) applied went run in
+      let on : goes ≡ went = on_where_done went (seen unread end) applied said' status done w.status ended in
       let t = whole_told opens closes remaining contents leaves is_clean saves fails options c c'
-      (begins_at x unread said) k' held' end applied went lives on in (
+      (begins_at x (unread feed) said) k' held' (seen unread end) applied went run on in (
         t.lines,
         record {
           last = t.mid;
-          end = end;
+          end = seen unread end;
           taken = t.takes;
           ends = t.ends;
-          is_unread = unread_is;
+          is_unread = ap unread feed_is;
         },
         t.answers,
         t.text,
         t.number,
         (t.again, t.once, t.tells),
         t.appended,
-        status_where_done went end applied said' status t.lines t.answers on
-            (refused_in_all options.reading.region options.reading.strict t.lines (at_start unread said) t.mid
-            end refl t.takes t.ends) t.applied ended,
+        status_where_done went (seen unread end) applied said' status t.lines t.answers on
+            (refused_in_all options.reading.region options.reading.strict t.lines (at_start (unread feed) said) t.mid
+            (seen unread end) refl t.takes t.ends) t.applied ended,
       )
+
+  pub taken_in_batches_lem : TakenInBatches unread takes says opens closes remaining contents leaves is_clean saves
+      fails
+  taken_in_batches_lem options c c' x k' held' feed feed' said said' status
+      (went, end, applied, lives, feed_is, ended) =
+      let (batches, are) = in_all (over.FromFeed unread takes says) opens closes remaining contents leaves is_clean
+      saves fails options c c' (fed_at x feed said) k' held' end applied went lives in
+      (batches, end, are, feed_is)

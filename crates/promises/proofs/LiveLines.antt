@@ -9,7 +9,8 @@ use Rattle.line_batches.specs.declared.taking.After.{After}
 use Rattle.line_batches.specs.declared.taking.After.TheVariants.{GoesOn, Ends}
 use Rattle.line_batches.specs.Intake.{Intake, TakesLines, FailsToTake, message_of, messages_in, is_refusal}
 use Rattle.line_batches.specs.Intake.{has_refused}
-use Rattle.line_batches.specs.Batches.{IsAfter, EndsRefused, LosesMessage, NoneRefused}
+use Rattle.line_batches.specs.Batches.{EndsRefused, LosesMessage, NoneRefused}
+use Rattle.line_batches.specs.Laws.{IsAfter}
 use Rattle.promises.specs.Taken.{Pauses, ComesToEnd, Passes}
 
 pub messages_append : (a b : List (List ℕ × Given)) → messages_in (a ++ b) ≡ messages_in a ++ messages_in b

@@ -28,8 +28,8 @@ use Rattle.line_batches.specs.declared.taking.After.{After}
 use Rattle.line_batches.specs.declared.taking.After.TheVariants.{GoesOn, Ends}
 use Rattle.output_forms.specs.declared.form.Form.{Form}
 use Rattle.sending.specs.Lines.{is_applied}
-use Rattle.sending.specs.Run.{Live, AnswersTold, RepliesOf, SendsSome, Turn, GoesOnFor, RunsTurns, unknown_of}
-use Rattle.sending.specs.Run.{are_applied}
+use Rattle.sending.specs.Run.{AnswersTold, RepliesOf, SendsSome, unknown_of, are_applied}
+use Rattle.promises.proofs.OverLines.{Live, Turn, GoesOnFor, RunsTurns}
 use Rattle.promises.specs.LiveTold.{AreAnswers}
 use Rattle.promises.proofs.LiveAnswering.{replied, replied_count, replied_append, replies_told, answers_append}
 use Rattle.promises.proofs.LiveTurns.{turn_part}

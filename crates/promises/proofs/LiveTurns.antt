@@ -16,9 +16,11 @@ use Rattle.line_batches.specs.declared.intake.Given.{Given}
 use Rattle.line_batches.specs.declared.taking.After.{After}
 use Rattle.line_batches.specs.declared.taking.After.TheVariants.{GoesOn, Ends}
 use Rattle.line_batches.specs.Intake.{Intake, TakesLines, FailsToTake, messages_in}
-use Rattle.line_batches.specs.Batches.{IsAfter, LosesMessage, NoneRefused}
+use Rattle.line_batches.specs.Batches.{LosesMessage, NoneRefused}
+use Rattle.line_batches.specs.Laws.{IsAfter}
 use Rattle.output_forms.specs.declared.form.Form.{Form}
-use Rattle.sending.specs.Run.{Live, Turn, GoesOnFor, RunsTurns, ended_as}
+use Rattle.sending.specs.Run.{ended_as}
+use Rattle.promises.proofs.OverLines.{Live, Turn, GoesOnFor, RunsTurns}
 use Rattle.promises.specs.Taken.{Pauses, ComesToEnd, Passes}
 use Rattle.promises.proofs.LiveLines.{same_fault, messages_count, lines_on, pauses_after, goes_on_after, ends_on}
 use Rattle.promises.proofs.LiveLines.{comes_to_end, none_on, passes_on, passes_after, Stands, stands_after, stands_on}
@@ -82,7 +84,7 @@ module _ {C I O K : Type 0} (opens : C → Option (I × O) → C → Type 0) (cl
         → (lines : List (List ℕ × Given)) × (mid : Intake) × Part lines x mid x'.sends went
         × Next lines mid x'.takes after
     turn_part x x' after went turn =
-        let (taken, mid, takes, is, few, next) = turn.takes in (
+        let (taken, mid, takes, is, few, next) = turn.taken in (
           taken,
           mid,
           record {

@@ -21,7 +21,8 @@ use Rattle.sending.specs.declared.options.LiveOptions.{LiveOptions}
 use Rattle.output_forms.specs.declared.form.Form.{Form}
 use Rattle.sending.specs.Beginning.{TellsTaken, BeginsAnew, BeginsAnewIf}
 use Rattle.sending.specs.Forms.{given_up_in, unknown_in}
-use Rattle.sending.specs.Run.{Live, Renews, RunsOne, RunsAgain, RunsFor, LivesFrom, ended_as}
+use Rattle.sending.specs.Run.{Renews, ended_as}
+use Rattle.promises.proofs.OverLines.{Live, RunsOne, RunsAgain, RunsFor, LivesFrom}
 use Rattle.promises.specs.Taken.{Pauses, ComesToEnd, Passes}
 use Rattle.promises.specs.Left.{new_kept, OutlivesLive}
 use Rattle.promises.proofs.LiveLines.{messages_count, lines_on, ends_on, passes_on, Stands, stands_on, stands_pausing}

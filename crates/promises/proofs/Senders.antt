@@ -13,7 +13,8 @@ use Rattle.line_batches.specs.declared.intake.Given.{Given}
 use Rattle.line_batches.specs.declared.taking.After.TheVariants.{GoesOn, Ends}
 use Rattle.line_batches.specs.Intake.{Intake, TakesLines, messages_in}
 use Rattle.sending.specs.declared.options.LiveOptions.{LiveOptions}
-use Rattle.sending.specs.Run.{Live, MakesOnce, RunsOn, RunsLive, ended_as}
+use Rattle.sending.specs.Run.{MakesOnce, ended_as}
+use Rattle.promises.proofs.OverLines.{Live, RunsOn, RunsLive}
 use Rattle.promises.specs.Taken.{Pauses, ComesToEnd, Passes}
 use Rattle.promises.proofs.LiveLines.{Stands}
 use Rattle.promises.proofs.Unknown.{none_unsettled}

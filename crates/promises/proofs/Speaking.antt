@@ -1,23 +1,21 @@
 -- What one sender tells, from its first line on.
-use Rattle.std.proofs.Common.{arith, ◌≡◌, ◌≢◌, ◌⊎◌, ℕ, zero, suc, ◌+◌, ◌-◌, ◌≤◌, Bool, true, false, List, [], ◌++◌}
+use Rattle.std.proofs.Common.{arith, ◌≡◌, ◌≢◌, ◌⊎◌, ℕ, ◌+◌, ◌-◌, ◌≤◌, Bool, true, false, List, [], ◌++◌}
 use Rattle.std.proofs.Common.{length}
 use Rattle.std.proofs.Common.{Option, Ok, Err, refl, sym, ap, subst, ◌∙◌, inl, inr, append-nil}
 use Rattle.std.specs.Io.KnownBytes.{Appends}
 use Rattle.std.specs.List.{list_all}
 use Rattle.uecp_elements.specs.declared.code.Code.{Code}
 use Rattle.uecp_text.proofs.Public.{appends_nothing, appends_then}
-use Rattle.uecp_link.specs.Server.{ServerState, counters_waiting}
-use Rattle.uecp_net.specs.declared.sender.Outstanding.{Outstanding}
+use Rattle.uecp_link.specs.Server.{counters_waiting}
 use Rattle.uecp_net.specs.declared.sender.Outstanding.TheVariants.{TriesSpent, ConnectionFailed}
 use Rattle.uecp_net.specs.declared.sender.Settled.{Settled as SettledSo}
 use Rattle.uecp_net.specs.Sending.{SenderOver}
 use Rattle.uecp_jobs.specs.Batches.{fault_of}
 use Rattle.uecp_net.specs.declared.saved.keep.Progress.{Progress}
 use Rattle.uecp_net.specs.declared.saved.batch.KeptOutstanding.TheVariants as kept
-use Rattle.uecp_net.specs.Keeping.{KeptServer, kept_of}
+use Rattle.uecp_net.specs.Keeping.{KeptServer}
 use Rattle.uecp_net.specs.SavedSending.{Ended}
-use Rattle.uecp_net.specs.SavedJoining.{Joined, Joins}
-use Rattle.uecp_net.proofs.Public.{begins_anew_lem}
+use Rattle.uecp_net.specs.SavedJoining.{Joined}
 use Rattle.kept_jobs.specs.declared.stop.KeptStop.{KeptStop}
 use Rattle.kept_jobs.specs.declared.stop.KeptStop.TheVariants.{Run, StateFailed}
 use Rattle.kept_jobs.specs.Stops.{Went, stop_for}
@@ -29,9 +27,9 @@ use Rattle.line_batches.specs.declared.taking.After.TheVariants.{GoesOn, Ends}
 use Rattle.output_forms.specs.declared.form.Form.{Form}
 use Rattle.sending.specs.Lines.{is_applied}
 use Rattle.sending.specs.Forms.{AreHeld, station_in, not_joined_in}
-use Rattle.sending.specs.Station.{SentFor, MakesStation, MakesOne, MakesIf, JoinedTold}
-use Rattle.sending.specs.Run.{Live, AnswersTold, SettlesLive, MakesOnce, SettlesOnce, RunsLive, marks_in}
-use Rattle.sending.specs.Run.{RunsOn, are_applied, unknown_of}
+use Rattle.sending.specs.Station.{MakesOne, MakesIf, JoinedTold}
+use Rattle.sending.specs.Run.{AnswersTold, SettlesLive, MakesOnce, SettlesOnce, marks_in, are_applied, unknown_of}
+use Rattle.promises.proofs.OverLines.{Live, RunsLive, RunsOn}
 use Rattle.promises.specs.LiveTold.{AreAnswers}
 use Rattle.promises.proofs.LiveAnswering.{replied}
 use Rattle.promises.proofs.Calls.{settles_idle}

@@ -19,7 +19,8 @@ use Rattle.sending.specs.declared.options.LiveOptions.{LiveOptions}
 use Rattle.output_forms.specs.declared.form.Form.{Form}
 use Rattle.sending.specs.Beginning.{TellsTaken, BeginsAnew, BeginsAnewIf}
 use Rattle.sending.specs.Forms.{AreHeld, taken_in, given_up_in, unknown_in}
-use Rattle.sending.specs.Run.{Live, Renews, RunsOne, RunsAgain, RunsFor, LivesFrom, marks_in}
+use Rattle.sending.specs.Run.{Renews, marks_in}
+use Rattle.promises.proofs.OverLines.{Live, RunsOne, RunsAgain, RunsFor, LivesFrom}
 use Rattle.promises.specs.Taken.{ComesToEnd}
 use Rattle.promises.specs.LiveTold.{was_applied, AreAnswers, anew_lines, IsToldFirst, IsToldBetween, TellsFor, TellsAll}
 use Rattle.promises.proofs.Begun.{has_begun}

@@ -1,5 +1,5 @@
 -- What is outstanding where a run goes on.
-use Rattle.std.proofs.Common.{◌≡◌, ℕ, zero, suc, Bool, List, Ok, Err, refl, sym, ap, ◌∙◌, inl, inr}
+use Rattle.std.proofs.Common.{◌≡◌, ℕ, zero, suc, Bool, List, Ok, Err, refl, ap, ◌∙◌, inl, inr}
 use Rattle.std.specs.Prelude.{Option, length, ◌+◌, ◌-◌}
 use Rattle.rds_text.specs.declared.programme_type.Region.{Region}
 use Rattle.uecp_link.specs.Server.{counters_waiting}
@@ -15,8 +15,8 @@ use Rattle.line_batches.specs.declared.taking.After.{After}
 use Rattle.line_batches.specs.declared.taking.After.TheVariants.{GoesOn}
 use Rattle.output_forms.specs.declared.form.Form.{Form}
 use Rattle.sending.specs.Forms.{AreHeld}
-use Rattle.sending.specs.Run.{Live, AnswersTold, RepliesOf, SendsSome, SettlesLive, Turn, GoesOnFor, marks_in}
-use Rattle.sending.specs.Run.{unknown_of}
+use Rattle.sending.specs.Run.{AnswersTold, RepliesOf, SendsSome, SettlesLive, marks_in, unknown_of}
+use Rattle.promises.proofs.OverLines.{Live, Turn, GoesOnFor}
 
 module _ {C I O K : Type 0} (opens : C → Option (I × O) → C → Type 0) (closes : C → I → O → C → Type 0)
     (remaining : I → Option (List ℕ)) (contents : O → Option (List ℕ)) (leaves : K → KeptServer → Type 0)

@@ -1,17 +1,19 @@
 -- What holds of whole runs of a server whose lines come as they like: which lines it took, and what a crash leaves of
 -- it (profile).
-use Rattle.std.specs.Prelude.{◌≡◌, ◌⊎◌, ℕ, false, List, length, Option}
+use Rattle.std.specs.Prelude.{◌≡◌, ◌⊎◌, ℕ, Bool, false, List, length, Option, Result}
 use Rattle.std.specs.Io.KnownBytes.{Appends}
 use Rattle.uecp_elements.specs.declared.code.Code.{Code}
 use Rattle.uecp_link.specs.Server.{ServerState}
 use Rattle.uecp_net.specs.Keeping.{KeptServer, IsKept}
 use Rattle.kept_jobs.specs.ServerRun.{Standing}
 use Rattle.kept_jobs.specs.ServerKept.{HasTaken}
+use Rattle.line_feed.specs.declared.feed.Next.{Next}
+use Rattle.line_feed.specs.declared.feed_fault.FeedFault.{FeedFault}
 use Rattle.line_batches.specs.declared.intake.Given.{Given}
-use Rattle.line_batches.specs.Intake.{messages_in}
+use Rattle.line_batches.specs.Intake.{FeedIntake, messages_in}
 use Rattle.sending.specs.declared.options.LiveOptions.{LiveOptions}
-use Rattle.sending.specs.Run.{Lives}
-use Rattle.promises.specs.Taken.{TakesSome, TakesAll}
+use Rattle.sending.specs.Run.{Lives, FromFeed}
+use Rattle.promises.specs.Taken.{TakesSome, TakesAll, AreBatches}
 use Rattle.promises.specs.Left.{OutlivesLive}
 use Rattle.promises.specs.LiveTold.{TellsAll, IsStatusOf}
 use Rattle.notices.specs.Told.{Told}
@@ -20,7 +22,11 @@ use Rattle.notices.specs.Told.{Told}
 abbrev pub IsDone : (status : ℕ) → Type 0
 IsDone status = (status ≡ 0) ⊎ (status ≡ 1) ⊎ (status ≡ 4)
 
-module _ {C I O K : Type 0} (opens : C → Option (I × O) → C → Type 0) (closes : C → I → O → C → Type 0)
+-- what a run takes its batches from: a feed of which so much is not taken, that is asked for lines and whether one is
+-- there
+module _ {D C I O K : Type 0} (unread : D → Option (List ℕ))
+    (takes : D → Result Next FeedFault → List ℕ → D → Type 0) (says : D → Bool → D → Type 0)
+    (opens : C → Option (I × O) → C → Type 0) (closes : C → I → O → C → Type 0)
     (remaining : I → Option (List ℕ)) (contents : O → Option (List ℕ)) (leaves : K → KeptServer → Type 0)
     (is_clean : K → Type 0) (saves fails : K → KeptServer → K → Type 0) where
   -- A run that came to its end took all lines up to that of its input, and what they gave is kept: of what was kept as
@@ -29,10 +35,10 @@ module _ {C I O K : Type 0} (opens : C → Option (I × O) → C → Type 0) (cl
   abbrev pub DoneIsKept : Type 0
   DoneIsKept =
       (options : LiveOptions) (c c' : C) (x : Standing ServerState K) (k' : K)
-      (held' unread unread' : Option (List ℕ)) (said said' : Told) (status : ℕ) →
-      Lives opens closes remaining contents leaves is_clean saves fails options c c' x k' held' unread unread' said
-      said' status → IsDone status →
-      (lines : List (List ℕ × Given)) × TakesAll options unread unread' said lines
+      (held' : Option (List ℕ)) (feed feed' : D) (said said' : Told) (status : ℕ) →
+      Lives unread takes says opens closes remaining contents leaves is_clean saves fails options c c' x k' held' feed
+      feed' said said' status → IsDone status →
+      (lines : List (List ℕ × Given)) × TakesAll options (unread feed) (unread feed') said lines
       × (IsKept (leaves x.keeper) x.progress x.runs → is_clean k' → (left : KeptServer) → leaves k' left →
       HasTaken x.progress (length (messages_in lines)) left)
 
@@ -41,10 +47,10 @@ module _ {C I O K : Type 0} (opens : C → Option (I × O) → C → Type 0) (cl
   abbrev pub WhatACrashLeaves : Type 0
   WhatACrashLeaves =
       (options : LiveOptions) (c c' : C) (x : Standing ServerState K) (k' : K)
-      (held' unread unread' : Option (List ℕ)) (said said' : Told) (status : ℕ) →
-      Lives opens closes remaining contents leaves is_clean saves fails options c c' x k' held' unread unread' said
-      said' status →
-      (lines : List (List ℕ × Given)) × TakesSome options unread unread' said lines
+      (held' : Option (List ℕ)) (feed feed' : D) (said said' : Told) (status : ℕ) →
+      Lives unread takes says opens closes remaining contents leaves is_clean saves fails options c c' x k' held' feed
+      feed' said said' status →
+      (lines : List (List ℕ × Given)) × TakesSome options (unread feed) (unread feed') said lines
       × (IsKept (leaves x.keeper) x.progress x.runs → is_clean k' → (left : KeptServer) → leaves k' left →
       OutlivesLive opens closes remaining contents saves fails options x.progress x.runs (length (messages_in lines))
       left)
@@ -55,11 +61,24 @@ module _ {C I O K : Type 0} (opens : C → Option (I × O) → C → Type 0) (cl
   abbrev pub ToldIsTaken : Type 0
   ToldIsTaken =
       (options : LiveOptions) (c c' : C) (x : Standing ServerState K) (k' : K)
-      (held' unread unread' : Option (List ℕ)) (said said' : Told) (status : ℕ) →
-      Lives opens closes remaining contents leaves is_clean saves fails options c c' x k' held' unread unread' said
-      said' status → IsDone status →
-      (lines : List (List ℕ × Given)) × TakesAll options unread unread' said lines
+      (held' : Option (List ℕ)) (feed feed' : D) (said said' : Told) (status : ℕ) →
+      Lives unread takes says opens closes remaining contents leaves is_clean saves fails options c c' x k' held' feed
+      feed' said said' status → IsDone status →
+      (lines : List (List ℕ × Given)) × TakesAll options (unread feed) (unread feed') said lines
       × (answers : List (Option Code)) × (text : List ℕ) × (length answers ≡ length (messages_in lines))
       × ((again : ℕ) × (options.rejoin ≡ false → again ≡ 0) × TellsAll options x.progress x.runs again answers text)
       × Appends x.held held' text
       × IsStatusOf lines answers status
+
+  -- However a run ended it took its lines batch by batch, one after another, and between two batches nothing was taken
+  -- of the feed, and nothing asked of it.
+  abbrev pub TakenInBatches : Type 0
+  TakenInBatches =
+      (options : LiveOptions) (c c' : C) (x : Standing ServerState K) (k' : K)
+      (held' : Option (List ℕ)) (feed feed' : D) (said said' : Told) (status : ℕ) →
+      Lives unread takes says opens closes remaining contents leaves is_clean saves fails options c c' x k' held' feed
+      feed' said said' status →
+      (batches : List (List (List ℕ))) × (last : FeedIntake D)
+      × AreBatches (FromFeed unread takes says options.reading) batches
+      (record { feed = feed; lines = 0; refused = false; said = said }) last
+      × (feed' ≡ last.feed)

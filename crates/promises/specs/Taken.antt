@@ -1,8 +1,9 @@
 -- Which lines a whole run took from its input (profile).
-use Rattle.std.specs.Prelude.{◌≡◌, ◌⊎◌, ℕ, Bool, true, false, List, Option, None}
+use Rattle.std.specs.Prelude.{◌≡◌, ◌⊎◌, ℕ, Bool, true, false, List, [], ◌∷◌, Option, None}
 use Rattle.rds_text.specs.declared.programme_type.Region.{Region}
 use Rattle.uecp_text.specs.declared.run_fault.RunFault.{RunFault}
 use Rattle.line_batches.specs.declared.intake.Given.{Given}
+use Rattle.line_batches.specs.declared.taking.After.{After}
 use Rattle.line_batches.specs.Intake.{Intake, TakesLines, TakesOne, FailsToTake}
 use Rattle.line_batches.specs.Batches.{EndsRefused, LosesMessage, NoneRefused}
 use Rattle.sending.specs.declared.options.LiveOptions.{LiveOptions}
@@ -28,6 +29,14 @@ Passes strict lines = NoneRefused strict lines ⊎ ((strict ≡ true) × EndsRef
 -- where the taking of lines stands at the start of a run
 abbrev pub at_start : (unread : Option (List ℕ)) → (said : Told) → Intake
 at_start unread said = record { unread = unread; lines = 0; refused = false; said = said }
+
+-- Batches of these messages were taken one after another, each where the one before ended, and nothing else was taken
+-- or asked between them.
+abbrev pub AreBatches : {T : Type 0} → (takes : (messages : List (List ℕ)) → After → T → T → Type 0)
+    → (batches : List (List (List ℕ))) → (x x' : T) → Type 0
+AreBatches takes [] x x' = x' ≡ x
+AreBatches {T} takes (messages ∷ batches) x x' =
+    (after : After) × (y : T) × takes messages after x y × AreBatches takes batches y x'
 
 -- A run took these lines of its input, one after another, and nothing else, and then it took no more; with `strict`
 -- none

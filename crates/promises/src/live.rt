@@ -1,7 +1,8 @@
 //! What a whole run leaves of a server whose lines come as they like, with its state kept: which lines were taken, and
 //! what a crash leaves of the server.
-ghost use Rattle.promises.specs.LiveLaws.{DoneIsKept, WhatACrashLeaves, ToldIsTaken};
+ghost use Rattle.promises.specs.LiveLaws.{DoneIsKept, WhatACrashLeaves, ToldIsTaken, TakenInBatches};
 
+use line_feed::Feed;
 use uecp_encoder::Keep;
 use uecp_net::{Connections, SavedServer};
 
@@ -10,8 +11,10 @@ use uecp_net::{Connections, SavedServer};
 /// these lines and those that were taken before, and no other, and none waits.
 ///
 /// Its premises: what was kept at the start is the server, and that of the keeper holds up to the end.
-pub fn done_is_kept<K: Keep<SavedServer>, C: Connections>()
-    ensures { DoneIsKept C.opens C.closes C.Input.remaining C.Output.contents K.leaves K.is_clean K.saves K.fails }
+pub fn done_is_kept<F: Feed, K: Keep<SavedServer>, C: Connections>()
+    ensures { DoneIsKept F.remaining F.takes F.says C.opens C.closes C.Input.remaining C.Output.contents K.leaves
+        K.is_clean
+        K.saves K.fails }
 {}
 
 /// However a run ended, or was cut within, a crash leaves the server as it was; or a new one that is not joined and
@@ -20,9 +23,10 @@ pub fn done_is_kept<K: Keep<SavedServer>, C: Connections>()
 /// messages of the lines that were taken, besides those that were taken before.
 ///
 /// Its premises: what was kept at the start is the server, and that of the keeper holds up to the end.
-pub fn what_a_crash_leaves<K: Keep<SavedServer>, C: Connections>()
-    ensures { WhatACrashLeaves C.opens C.closes C.Input.remaining C.Output.contents K.leaves K.is_clean K.saves
-        K.fails }
+pub fn what_a_crash_leaves<F: Feed, K: Keep<SavedServer>, C: Connections>()
+    ensures { WhatACrashLeaves F.remaining F.takes F.says C.opens C.closes C.Input.remaining C.Output.contents K.leaves
+        K.is_clean
+        K.saves K.fails }
 {}
 
 /// A run that ended with status 0, 1 or 4 took all lines of its input, or with `strict` all up to one that was refused:
@@ -33,6 +37,20 @@ pub fn what_a_crash_leaves<K: Keep<SavedServer>, C: Connections>()
 /// or 4.
 ///
 /// It has no premise of the keeper.
-pub fn told_is_taken<K: Keep<SavedServer>, C: Connections>()
-    ensures { ToldIsTaken C.opens C.closes C.Input.remaining C.Output.contents K.leaves K.is_clean K.saves K.fails }
+pub fn told_is_taken<F: Feed, K: Keep<SavedServer>, C: Connections>()
+    ensures { ToldIsTaken F.remaining F.takes F.says C.opens C.closes C.Input.remaining C.Output.contents K.leaves
+        K.is_clean
+        K.saves K.fails }
+{}
+
+/// However a run ended it took its lines batch by batch, and between two batches nothing was taken of the feed, and
+/// nothing asked of it. So no line waits while a batch that has a message could have gone, and no message waits for a
+/// line that has not come: a batch takes a further line behind its first message only where the feed had just said that
+/// one is there, and one that goes on short of as many messages as it may have went where the feed had just said that
+/// none is.
+///
+/// It has no premise.
+pub fn taken_in_batches<F: Feed, K: Keep<SavedServer>, C: Connections>()
+    ensures { TakenInBatches F.remaining F.takes F.says C.opens C.closes C.Input.remaining C.Output.contents K.leaves
+        K.is_clean K.saves K.fails }
 {}

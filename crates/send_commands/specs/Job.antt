@@ -1,5 +1,6 @@
 -- What the job `send` does, and how it ends (profile).
-use Rattle.std.specs.Prelude.{◌≡◌, ◌⊎◌, ℕ, ◌≤◌, ◌^◌, ◌-◌, List, Option, Some, None, Result, true, false, option_map}
+use Rattle.std.specs.Prelude.{◌≡◌, ◌⊎◌, ℕ, ◌≤◌, ◌^◌, ◌-◌, List, Option, Some, None, Result, Bool, true, false}
+use Rattle.std.specs.Prelude.{option_map}
 use Rattle.std.specs.String.{string_bytes}
 use Rattle.uecp_text.specs.Faults.{error_lines}
 use Rattle.uecp_text.specs.declared.run_fault.RunFault.TheVariants as run
@@ -11,6 +12,8 @@ use Rattle.uecp_net.specs.Keeping.{KeptServer}
 use Rattle.state_files.specs.declared.fault.StateFault.{StateFault}
 use Rattle.uecp_encoder.specs.declared.keep.NotSaved.{NotSaved}
 use Rattle.sending.specs.declared.options.LiveOptions.{LiveOptions}
+use Rattle.line_feed.specs.declared.feed.Next.{Next}
+use Rattle.line_feed.specs.declared.feed_fault.FeedFault.{FeedFault}
 use Rattle.sending.specs.Run.{Lives}
 use Rattle.commands.specs.declared.send_options.SendOptions.{SendOptions}
 use Rattle.send_commands.specs.LiveIn.{LivesIn, HasNoState}
@@ -40,41 +43,45 @@ abbrev pub IsOfNobody : SendOptions → (said said' : Told) → (status : ℕ) �
 IsOfNobody job said said' status =
     (IsOneEncoder job.site job.encoder → ⊥) × (status ≡ 2) × Says said said' (error_lines run.Address)
 
-module _ {C I O : Type 0} (opens : C → Option (I × O) → C → Type 0) (closes : C → I → O → C → Type 0)
+module _ {D C I O : Type 0} (unread : D → Option (List ℕ))
+    (takes : D → Result Next FeedFault → List ℕ → D → Type 0) (says : D → Bool → D → Type 0)
+    (opens : C → Option (I × O) → C → Type 0) (closes : C → I → O → C → Type 0)
     (remaining : I → Option (List ℕ)) (contents : O → Option (List ℕ)) where
   -- A run was made with no state, by a new server to the encoder, of which nothing was taken and which is not joined.
   -- What it would keep is kept nowhere.
   abbrev pub SendsTo : (address : ℕ) → LiveOptions → (c c' : C)
-      → (unread unread' held held' : Option (List ℕ)) → (said said' : Told) → (status : ℕ) → Type 0
-  SendsTo address options c c' unread unread' held held' said said' status =
+      → (feed feed' : D) → (held held' : Option (List ℕ)) → (said said' : Told) → (status : ℕ) → Type 0
+  SendsTo address options c c' feed feed' held held' said said' status =
       (keeper : NotSaved) × (keeper' : NotSaved)
-      × Lives opens closes remaining contents (λ k left. Unit {0}) (λ k. ⊥) (λ k left k'. k' ≡ k) (λ k left k'. ⊥)
+      × Lives unread takes says opens closes remaining contents (λ k left. Unit {0}) (λ k. ⊥) (λ k left k'. k' ≡ k)
+      (λ k left k'. ⊥)
       options c c' (record {
         runs = idle_at address;
         keeper = keeper;
         progress = record { taken = 0; joined = false };
         held = held;
-      }) keeper' held' unread unread' said said' status
+      }) keeper' held' feed feed' said said' status
 
   module _ {K : Type 0} (gives : (path : List ℕ) → ServerState → Progress → K → Type 0)
       (refuses : List ℕ → StateFault → Type 0) (ends : K → Result (Unit {0}) StateFault → Type 0)
       (leaves : K → KeptServer → Type 0) (is_clean : K → Type 0) (saves fails : K → KeptServer → K → Type 0) where
     -- A run was made from the state in the file of this path; or with no state.
     abbrev pub SendsFrom : (state : Option (List ℕ)) → (address : ℕ) → LiveOptions → (c c' : C)
-        → (unread unread' held held' : Option (List ℕ)) → (said said' : Told) → (status : ℕ) → Type 0
-    SendsFrom (Some path) address options c c' unread unread' held held' said said' status =
-        LivesIn gives ends leaves is_clean saves fails opens closes remaining contents path address options c c' unread
-        unread' held held' said said' status
-        ⊎ (HasNoState gives refuses path said said' status × (unread' ≡ unread) × (held' ≡ held) × (c' ≡ c))
-    SendsFrom None address options c c' unread unread' held held' said said' status =
-        SendsTo address options c c' unread unread' held held' said said' status
+        → (feed feed' : D) → (held held' : Option (List ℕ)) → (said said' : Told) → (status : ℕ) → Type 0
+    SendsFrom (Some path) address options c c' feed feed' held held' said said' status =
+        LivesIn unread takes says gives ends leaves is_clean saves fails opens closes remaining contents path address
+        options c c' feed
+        feed' held held' said said' status
+        ⊎ (HasNoState gives refuses path said said' status × (feed' ≡ feed) × (held' ≡ held) × (c' ≡ c))
+    SendsFrom None address options c c' feed feed' held held' said said' status =
+        SendsTo address options c c' feed feed' held held' said said' status
 
     -- So for the options of the job and its encoder. Or the address is not that of one, and nothing was taken, opened
     -- or written.
     abbrev pub HasSentLive : SendOptions → (station : List (List ℕ)) → (c c' : C)
-        → (unread unread' held held' : Option (List ℕ)) → (said said' : Told) → (status : ℕ) → Type 0
-    HasSentLive job station c c' unread unread' held held' said said' status =
+        → (feed feed' : D) → (held held' : Option (List ℕ)) → (said said' : Told) → (status : ℕ) → Type 0
+    HasSentLive job station c c' feed feed' held held' said said' status =
         ((options : LiveOptions) × IsFor job station options × IsOneEncoder job.site job.encoder
-        × SendsFrom (option_map string_bytes job.state) (address_of job.site job.encoder) options c c' unread unread'
+        × SendsFrom (option_map string_bytes job.state) (address_of job.site job.encoder) options c c' feed feed'
         held held' said said' status)
-        ⊎ (IsOfNobody job said said' status × (unread' ≡ unread) × (held' ≡ held) × (c' ≡ c))
+        ⊎ (IsOfNobody job said said' status × (feed' ≡ feed) × (held' ≡ held) × (c' ≡ c))

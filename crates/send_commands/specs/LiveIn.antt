@@ -1,5 +1,5 @@
 -- A run with its lines as they come whose state is in a file (profile).
-use Rattle.std.specs.Prelude.{◌≡◌, ℕ, List, Option, Result}
+use Rattle.std.specs.Prelude.{◌≡◌, ℕ, Bool, List, Option, Result}
 use Rattle.uecp_link.specs.Server.{ServerState}
 use Rattle.notices.specs.Told.{Told, Says}
 use Rattle.uecp_net.specs.declared.saved.keep.Progress.{Progress}
@@ -9,6 +9,8 @@ use Rattle.state_files.specs.declared.fault.StateFault.{StateFault}
 use Rattle.state_jobs.specs.Texts.{state_text, IsClosed}
 use Rattle.state_jobs.specs.ServerJob.{RefusesServer}
 use Rattle.sending.specs.declared.options.LiveOptions.{LiveOptions}
+use Rattle.line_feed.specs.declared.feed.Next.{Next}
+use Rattle.line_feed.specs.declared.feed_fault.FeedFault.{FeedFault}
 use Rattle.sending.specs.Run.{Lives}
 
 -- The state at the path could not be opened, and that was said.
@@ -19,7 +21,9 @@ HasNoState gives refuses path said said' status =
     (fault : StateFault) × RefusesServer gives refuses path fault × (status ≡ 3)
     × Says said said' (state_line (state_text fault))
 
-module _ {K C I O : Type 0} (gives : (path : List ℕ) → ServerState → Progress → K → Type 0)
+module _ {D K C I O : Type 0} (unread : D → Option (List ℕ))
+    (takes : D → Result Next FeedFault → List ℕ → D → Type 0) (says : D → Bool → D → Type 0)
+    (gives : (path : List ℕ) → ServerState → Progress → K → Type 0)
     (ends : K → Result (Unit {0}) StateFault → Type 0) (leaves : K → KeptServer → Type 0) (is_clean : K → Type 0)
     (saves fails : K → KeptServer → K → Type 0) (opens : C → Option (I × O) → C → Type 0)
     (closes : C → I → O → C → Type 0) (remaining : I → Option (List ℕ)) (contents : O → Option (List ℕ)) where
@@ -27,7 +31,7 @@ module _ {K C I O : Type 0} (gives : (path : List ℕ) → ServerState → Progr
   -- it what is to be kept; the run was made from there, as `run_live` says, and ended with a status; and then the state
   -- was closed.
   pub record LivesIn (path : List ℕ) (address : ℕ) (options : LiveOptions) (c c' : C)
-      (unread unread' held held' : Option (List ℕ)) (said said' : Told) (status' : ℕ) : Type 0 where
+      (feed feed' : D) (held held' : Option (List ℕ)) (said said' : Told) (status' : ℕ) : Type 0 where
     pub server : ServerState
     pub progress : Progress
     pub keeper : K
@@ -38,8 +42,8 @@ module _ {K C I O : Type 0} (gives : (path : List ℕ) → ServerState → Progr
     pub given : gives path server progress keeper
     pub address_is : server.address ≡ address
     pub settled : is_clean keeper → IsKept (leaves keeper) progress server
-    pub lives : Lives opens closes remaining contents leaves is_clean saves fails options c c'
-        (record { runs = server; keeper = keeper; progress = progress; held = held }) keeper_after held' unread unread'
+    pub lives : Lives unread takes says opens closes remaining contents leaves is_clean saves fails options c c'
+        (record { runs = server; keeper = keeper; progress = progress; held = held }) keeper_after held' feed feed'
         said between status
     pub closes_so : ends keeper_after closed
     pub is_closed : IsClosed path status closed status' between said'

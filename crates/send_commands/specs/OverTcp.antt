@@ -1,5 +1,5 @@
 -- The job `send` over TCP (profile).
-use Rattle.std.specs.Prelude.{◌≡◌, ◌⊎◌, ℕ, ◌≤◌, ◌==◌, List, [], Option, Some, None, Result, if◌then◌else◌}
+use Rattle.std.specs.Prelude.{◌≡◌, ◌⊎◌, ℕ, ◌≤◌, ◌==◌, List, [], Option, Some, None, Result, Bool, false, if◌then◌else◌}
 use Rattle.std.specs.String.{string_bytes}
 use Rattle.uecp_text.specs.declared.run_fault.RunFault.TheVariants.{OutOfMemory}
 use Rattle.uecp_text.specs.Faults.{error_lines}
@@ -9,6 +9,8 @@ use Rattle.uecp_net.specs.declared.saved.keep.Progress.{Progress}
 use Rattle.uecp_net.specs.Keeping.{KeptServer}
 use Rattle.uecp_net.specs.Tcp.{Dials, DialsAgain}
 use Rattle.state_files.specs.declared.fault.StateFault.{StateFault}
+use Rattle.line_feed.specs.Reading.{Reads, Looks, ReadsNoMore}
+use Rattle.line_feed.specs.Reading.{unread as feed_unread}
 use Rattle.live_edges.specs.Heard.{Heard}
 use Rattle.live_edges.specs.Patience.{Dialled, OpensAtLast, GivesBack}
 use Rattle.live_edges.specs.declared.patience.Patience.{Patience}
@@ -57,31 +59,42 @@ pub record HasNotBegun (job : SendOptions) (held held' : Option (List ℕ)) (sai
 abbrev pub IsBegun : SendOptions → (station : List (List ℕ)) → (said begun : Told) → Type 0
 IsBegun job station said begun = job.station ≡ None → (station ≡ []) × (begun ≡ said)
 
-module _ {I O K : Type 0} (opens : Dialled Dials → Option (I × O) → Dialled Dials → Type 0)
+-- a feed over an input of which so much is left, that was not read yet
+abbrev pub begun_with : {A : Type 0} → (arrival : A) → (left : Option (List ℕ)) → Reads A
+begun_with arrival left =
+    record { held = []; reader = record { left = left; ended = false; failed = false }; arrival = arrival }
+
+module _ {A I O K : Type 0} (answers : A → (milliseconds : Option ℕ) → Bool → A → Type 0)
+    (opens : Dialled Dials → Option (I × O) → Dialled Dials → Type 0)
     (closes : Dialled Dials → I → O → Dialled Dials → Type 0) (remaining : I → Option (List ℕ))
     (contents : O → Option (List ℕ))
     (gives : (path : List ℕ) → ServerState → Progress → K → Type 0) (refuses : List ℕ → StateFault → Type 0)
     (ends : K → Result (Unit {0}) StateFault → Type 0) (leaves : K → KeptServer → Type 0) (is_clean : K → Type 0)
     (saves fails : K → KeptServer → K → Type 0) where
-  -- The job was done with the lines of the input, of which so much was left, and with the messages of the station, as
-  -- `run_send` says, over connections to the job's host and port, from where this had been said.
-  abbrev pub HasSentOver : SendOptions → (told unread held held' : Option (List ℕ)) → (said said' : Told) → (status : ℕ)
+  -- The job was done with the lines of the input, of which so much was left, in a feed over it that was begun with
+  -- this arrival, and with the messages of the station, as `run_send` says, over connections to the job's host and
+  -- port, from where this had been said.
+  abbrev pub HasSentOver : SendOptions → (arrival : A) → (told unread held held' : Option (List ℕ))
+      → (said said' : Told) → (status : ℕ)
       → Type 0
-  HasSentOver job told unread held held' said said' status =
-      ((station : List (List ℕ)) × (dialled : Dialled Dials) × (dialled' : Dialled Dials) × (unread' : Option (List ℕ))
+  HasSentOver job arrival told unread held held' said said' status =
+      ((station : List (List ℕ)) × (dialled : Dialled Dials) × (dialled' : Dialled Dials) × (feed' : Reads A)
       × (begun : Told) × DialsLive job told dialled × IsBegun job station said begun
-      × HasSentLive opens closes remaining contents gives refuses ends leaves is_clean saves fails job station dialled
-      dialled' unread unread' held held' begun said' status)
+      × HasSentLive feed_unread (λ f answer line f'. ReadsNoMore f f') (Looks answers) opens closes remaining contents
+      gives refuses ends leaves is_clean saves fails job station dialled
+      dialled' (begun_with arrival unread) feed' held held' begun said' status)
       ⊎ HasNotBegun job held held' said said' status
 
 -- So over TCP: each connection is dialled as the job says, and nothing more is known of it.
-module _ {J O K : Type 0} (remaining : J → Option (List ℕ)) (contents : O → Option (List ℕ))
+module _ {A J O K : Type 0} (answers : A → (milliseconds : Option ℕ) → Bool → A → Type 0)
+    (remaining : J → Option (List ℕ)) (contents : O → Option (List ℕ))
     (gives : (path : List ℕ) → ServerState → Progress → K → Type 0) (refuses : List ℕ → StateFault → Type 0)
     (ends : K → Result (Unit {0}) StateFault → Type 0) (leaves : K → KeptServer → Type 0) (is_clean : K → Type 0)
     (saves fails : K → KeptServer → K → Type 0) where
-  abbrev pub HasSentTcp : SendOptions → (told unread held held' : Option (List ℕ)) → (said said' : Told) → (status : ℕ)
+  abbrev pub HasSentTcp : SendOptions → (arrival : A) → (told unread held held' : Option (List ℕ)) → (said said' : Told)
+      → (status : ℕ)
       → Type 0
   HasSentTcp =
-      HasSentOver {I = Heard J} {O = O} (λ d given d'. OpensAtLast DialsAgain d given d')
+      HasSentOver {I = Heard J} {O = O} answers (λ d given d'. OpensAtLast DialsAgain d given d')
       (λ d input output d'. GivesBack (λ c _ _ c'. c' ≡ c) d input output d') (λ heard. remaining heard.reader) contents
       gives refuses ends leaves is_clean saves fails

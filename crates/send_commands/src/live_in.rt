@@ -36,10 +36,11 @@ pub fn run_live_in<S: OpenStates, F: Feed, W: Write, E: Write, C: Connections, T
     requires most { options.now.reading.size ≤ 8 }
     // The state was opened, the run was made from there, and the state closed; or it could not be opened, and nothing
     // was taken, opened or written.
-    ensures lives { LivesIn (S.gives_server states.now) (S.closes_server states.now) S.ServerKeeper.leaves
+    ensures lives { LivesIn F.remaining F.takes F.says (S.gives_server states.now) (S.closes_server states.now)
+        S.ServerKeeper.leaves
         S.ServerKeeper.is_clean S.ServerKeeper.saves S.ServerKeeper.fails C.opens C.closes C.Input.remaining
-        C.Output.contents path.now address options.now connect.old connect.new (F.remaining feed.old)
-        (F.remaining feed.new) teller.old.held teller.new.held errors.old
+        C.Output.contents path.now address options.now connect.old connect.new feed.old feed.new teller.old.held
+        teller.new.held errors.old
         errors.new result
         ⊎ (HasNoState (S.gives_server states.now) (S.refuses_server states.now) path.now errors.old
         errors.new result × (feed.new ≡ feed.old) × (teller.new.held ≡ teller.old.held)

@@ -54,10 +54,10 @@ pub fn run_send_over_tcp<
     states: &S,
 ) -> u8
     requires { IsSendable job.now }
-    ensures sent { HasSentTcp ⟦<TcpStream as Read>⟧.remaining ⟦<TcpStream as Write>⟧.contents
+    ensures sent { HasSentTcp A.answers ⟦<TcpStream as Read>⟧.remaining ⟦<TcpStream as Write>⟧.contents
         (S.gives_server states.now) (S.refuses_server states.now) (S.closes_server states.now)
         S.ServerKeeper.leaves S.ServerKeeper.is_clean S.ServerKeeper.saves S.ServerKeeper.fails job.now
-        (M.contents notices.old) (R.remaining reader.old) teller.old.held teller.new.held errors.old
+        arrival (M.contents notices.old) (R.remaining reader.old) teller.old.held teller.new.held errors.old
         errors.new result }
     ensures writer { teller.new.writer ≡ teller.old.writer }
 {

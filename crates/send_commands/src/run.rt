@@ -35,10 +35,11 @@ pub fn run_send<S: OpenStates, F: Feed, W: Write, E: Write, C: Connections, T: C
     connect: &mut C,
 ) -> u8
     requires { IsSendable job.now }
-    ensures sent { HasSentLive C.opens C.closes C.Input.remaining C.Output.contents (S.gives_server states.now)
+    ensures sent { HasSentLive F.remaining F.takes F.says C.opens C.closes C.Input.remaining C.Output.contents
+        (S.gives_server states.now)
         (S.refuses_server states.now) (S.closes_server states.now) S.ServerKeeper.leaves S.ServerKeeper.is_clean
-        S.ServerKeeper.saves S.ServerKeeper.fails job.now station.now connect.old connect.new (F.remaining feed.old)
-        (F.remaining feed.new) teller.old.held teller.new.held errors.old errors.new result }
+        S.ServerKeeper.saves S.ServerKeeper.fails job.now station.now connect.old connect.new feed.old feed.new
+        teller.old.held teller.new.held errors.old errors.new result }
     ensures writer { teller.new.writer ≡ teller.old.writer }
 {
     let Some(address) = address_of(job.site, job.encoder) else {
@@ -91,8 +92,9 @@ fn run_unkept<F: Feed, W: Write, E: Write, C: Connections, T: Clock>(
     requires exact { IsTrue (is_exact address) }
     requires some { 1 ≤ options.now.reading.size }
     requires most { options.now.reading.size ≤ 8 }
-    ensures sends { SendsTo C.opens C.closes C.Input.remaining C.Output.contents address options.now connect.old
-        connect.new (F.remaining feed.old) (F.remaining feed.new) teller.old.held teller.new.held
+    ensures sends { SendsTo F.remaining F.takes F.says C.opens C.closes C.Input.remaining C.Output.contents address
+        options.now connect.old
+        connect.new feed.old feed.new teller.old.held teller.new.held
         errors.old errors.new result }
     ensures writer { teller.new.writer ≡ teller.old.writer }
 {

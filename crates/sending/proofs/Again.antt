@@ -1,11 +1,12 @@
 -- One sender after another.
 use Rattle.std.proofs.Common.{◌≡◌, ℕ, zero, suc, arith, ◌+◌, ◌-◌, ◌^◌, ◌≤◌, ◌⊎◌, Bool, true, false, List, ◌++◌, ap}
 use Rattle.std.proofs.Common.{subst, inl, inr}
-use Rattle.std.specs.Prelude.{Option, Result, Ok, Err}
+use Rattle.std.specs.Prelude.{Option}
 use Rattle.uecp_link.specs.Server.{ServerState}
-use Rattle.uecp_net.specs.Sending.{SenderOver}
 use Rattle.uecp_net.specs.Keeping.{KeptServer}
 use Rattle.kept_jobs.specs.Stops.{Went}
+use Rattle.line_batches.specs.declared.taking.After.{After}
+use Rattle.line_batches.specs.declared.taking.Reading.{Reading}
 use Rattle.sending.specs.declared.options.LiveOptions.{LiveOptions}
 use Rattle.sending.specs.Run.{Live, RunsAgain, RunsFor, IsLast}
 use Rattle.sending.specs.Lines.{unknown_line, unknown_lines}
@@ -17,16 +18,17 @@ unknown_on first zero some = absurd (omega (arith, some))
 unknown_on first (suc n) some =
     ap (λ m. unknown_line first ++ unknown_lines (first + 1) m) (let same : n ≡ suc n - 1 = omega arith in same)
 
-module _ {C I O K : Type 0} (opens : C → Option (I × O) → C → Type 0) (closes : C → I → O → C → Type 0)
+module _ {T C I O K : Type 0} (takes : Reading → List (List ℕ) → After → T → T → Type 0)
+    (opens : C → Option (I × O) → C → Type 0) (closes : C → I → O → C → Type 0)
     (remaining : I → Option (List ℕ)) (contents : O → Option (List ℕ)) (leaves : K → KeptServer → Type 0)
     (is_clean : K → Type 0) (saves fails : K → KeptServer → K → Type 0) (options : LiveOptions) (n : ℕ) where
-  abbrev All : (due : Bool) → (n : ℕ) → (c c' : C) → (x x' : Live ServerState K) → Went → Type 0
-  All = RunsFor opens closes remaining contents leaves is_clean saves fails options
+  abbrev All : (due : Bool) → (n : ℕ) → (c c' : C) → (x x' : Live T ServerState K) → Went → Type 0
+  All = RunsFor takes opens closes remaining contents leaves is_clean saves fails options
 
-  pub one_more : (due : Bool) (c d e : C) (x y z : Live ServerState K) (stopped went : Went)
+  pub one_more : (due : Bool) (c d e : C) (x y z : Live T ServerState K) (stopped went : Went)
       → All due n c d x y stopped → options.rejoin ≡ true → 1 ≤ y.unknown
       → (address : ℕ) → address ≡ x.sends.runs.address
-      → RunsAgain opens closes remaining contents leaves is_clean saves fails options address d e y z went
+      → RunsAgain takes opens closes remaining contents leaves is_clean saves fails options address d e y z went
       → All due (n + 1) c e x z went
   one_more due c d e x y z stopped went so rejoin some address is again =
       let step : suc n ≡ n + 1 = search arith in
@@ -37,11 +39,12 @@ module _ {C I O K : Type 0} (opens : C → Option (I × O) → C → Type 0) (cl
         so,
         rejoin,
         some,
-        subst (λ a. RunsAgain opens closes remaining contents leaves is_clean saves fails options a d e y z went) is
+        subst (λ a. RunsAgain takes opens closes remaining contents leaves is_clean saves fails options a d e y z went)
+            is
             again,
       )
 
-  pub is_last : (x : Live ServerState K)
+  pub is_last : (x : Live T ServerState K)
       → (x.unknown ≡ 0) ⊎ (options.rejoin ≡ false) ⊎ (2 ^ 63 ≤ x.sends.progress.taken)
       → IsLast opens closes remaining contents leaves is_clean saves fails options n x
   is_last x (inl none) = inl none

@@ -1,7 +1,6 @@
 -- A run that makes turn after turn.
-use Rattle.std.proofs.Common.{◌≡◌, ℕ, suc, arith, ◌+◌, ◌^◌, Bool, List, refl, subst, inl, inr}
+use Rattle.std.proofs.Common.{◌≡◌, ℕ, suc, arith, ◌+◌, ◌^◌, List, refl, subst, inl, inr}
 use Rattle.std.specs.Prelude.{Option, Result, Ok, Err}
-use Rattle.rds_text.specs.declared.programme_type.Region.{Region}
 use Rattle.uecp_text.specs.declared.run_fault.RunFault.{RunFault}
 use Rattle.uecp_text.specs.declared.run_fault.RunFault.TheVariants as run
 use Rattle.uecp_net.specs.Sending.{SenderOver}
@@ -14,29 +13,30 @@ use Rattle.line_batches.specs.declared.taking.After.TheVariants.{GoesOn, Ends}
 use Rattle.output_forms.specs.declared.form.Form.{Form}
 use Rattle.sending.specs.Run.{Live, Turn, GoesOnFor, RunsTurns, ended_as}
 
-module _ {C I O K : Type 0} (opens : C → Option (I × O) → C → Type 0) (closes : C → I → O → C → Type 0)
+module _ {T C I O K : Type 0} (takes : List (List ℕ) → After → T → T → Type 0) (opens : C → Option (I × O) → C → Type 0)
+    (closes : C → I → O → C → Type 0)
     (remaining : I → Option (List ℕ)) (contents : O → Option (List ℕ)) (leaves : K → KeptServer → Type 0)
-    (is_clean : K → Type 0) (saves fails : K → KeptServer → K → Type 0) (form : Form) (region : Region) (size : ℕ)
-    (strict : Bool) (x : Live (SenderOver C I O) K) (n : ℕ) (y : Live (SenderOver C I O) K) where
-  abbrev One : (y z : Live (SenderOver C I O) K) → After → Went → Type 0
-  One = Turn opens closes remaining contents leaves is_clean saves fails form region size strict
+    (is_clean : K → Type 0) (saves fails : K → KeptServer → K → Type 0) (form : Form)
+    (x : Live T (SenderOver C I O) K) (n : ℕ) (y : Live T (SenderOver C I O) K) where
+  abbrev One : (y z : Live T (SenderOver C I O) K) → After → Went → Type 0
+  One = Turn takes opens closes remaining contents leaves is_clean saves fails form
 
-  abbrev So : (n : ℕ) → (y : Live (SenderOver C I O) K) → Type 0
-  So n y = GoesOnFor opens closes remaining contents leaves is_clean saves fails form region size strict n x y
+  abbrev So : (n : ℕ) → (y : Live T (SenderOver C I O) K) → Type 0
+  So n y = GoesOnFor takes opens closes remaining contents leaves is_clean saves fails form n x y
 
-  abbrev All : (z : Live (SenderOver C I O) K) → Went → Type 0
-  All z went = RunsTurns opens closes remaining contents leaves is_clean saves fails form region size strict x z went
+  abbrev All : (z : Live T (SenderOver C I O) K) → Went → Type 0
+  All z went = RunsTurns takes opens closes remaining contents leaves is_clean saves fails form x z went
 
-  pub one_more : So n y → (z : Live (SenderOver C I O) K) → One y z GoesOn (Ok tt) → So (n + 1) z
+  pub one_more : So n y → (z : Live T (SenderOver C I O) K) → One y z GoesOn (Ok tt) → So (n + 1) z
   one_more so z turn =
       let is : suc n ≡ n + 1 = search arith in
       subst (λ k. So k z) is (y, so, turn)
 
-  pub ends : So n y → (z : Live (SenderOver C I O) K) (end : Result (Unit {0}) RunFault) → One y z (Ends end) (Ok tt)
+  pub ends : So n y → (z : Live T (SenderOver C I O) K) (end : Result (Unit {0}) RunFault) → One y z (Ends end) (Ok tt)
       → (went : Went) → went ≡ ended_as end → All z went
   ends so z end turn went is = (n, y, so, inl (inl (end, turn, is)))
 
-  pub stops : So n y → (z : Live (SenderOver C I O) K) (after : After) (stop : KeptStop) → One y z after (Err stop)
+  pub stops : So n y → (z : Live T (SenderOver C I O) K) (after : After) (stop : KeptStop) → One y z after (Err stop)
       → All z (Err stop)
   stops so z after stop turn = (n, y, so, inl (inr (after, stop, turn, refl)))
 

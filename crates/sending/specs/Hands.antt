@@ -1,12 +1,12 @@
 -- What was lent to a run (profile).
 use Rattle.std.specs.Prelude.{ℕ, List, Option}
-use Rattle.line_batches.specs.Intake.{Intake}
+use Rattle.line_batches.specs.Intake.{FeedIntake}
 use Rattle.notices.specs.Told.{Told}
 
--- Lines as they come: where their taking stands, and the loans of what they come from and of where it is told of those
--- that are refused.
-pub record Taking : Type 0 where
-  pub at : Intake
+-- Lines as they come: where their taking stands, and the loans of the feed that they come from and of where it is told
+-- of those that are refused.
+pub record Taking (D : Type 0) : Type 0 where
+  pub at : FeedIntake D
   pub feed : ℕ
   pub errors : ℕ
 
@@ -15,9 +15,9 @@ pub record Telling : Type 0 where
   pub held : Option (List ℕ)
   pub writer : ℕ
 
--- A feed that was lent: what of it is not taken, and its loan.
-pub record Fed : Type 0 where
-  pub unread : Option (List ℕ)
+-- A feed that was lent: where it stands, and its loan.
+pub record Fed (D : Type 0) : Type 0 where
+  pub feed : D
   pub loan : ℕ
 
 -- Where refusals are told, which was lent: what was said there, and its loan.

@@ -2,9 +2,6 @@
 use Rattle.std.specs.Prelude.{◌≡◌, ◌≢◌, ◌⊎◌, ℕ, zero, suc, ◌+◌, ◌-◌, ◌^◌, ◌≤◌, Bool, true, false, ◌&&◌, List, []}
 use Rattle.std.specs.Prelude.{length, map, Option, Result, Ok, Err, if◌then◌else◌}
 use Rattle.std.specs.List.{list_all}
-use Rattle.rds_text.specs.declared.programme_type.Region.{Region}
-use Rattle.uecp_elements.specs.declared.code.Code.{Code}
-use Rattle.uecp_elements.specs.declared.code.Code.TheVariants.{Applied}
 use Rattle.uecp_text.specs.declared.run_fault.RunFault.{RunFault}
 use Rattle.uecp_text.specs.declared.run_fault.RunFault.TheVariants as run
 use Rattle.uecp_link.specs.declared.counts.ServerCounts.{ServerCounts}
@@ -31,16 +28,19 @@ use Rattle.sending.specs.Beginning.{TellsTaken, BeginsAnewIf}
 use Rattle.sending.specs.Station.{MakesIf}
 use Rattle.line_batches.specs.declared.taking.After.{After}
 use Rattle.line_batches.specs.declared.taking.After.TheVariants.{GoesOn, Ends}
-use Rattle.line_batches.specs.Intake.{Intake}
+use Rattle.line_feed.specs.declared.feed.Next.{Next}
+use Rattle.line_feed.specs.declared.feed_fault.FeedFault.{FeedFault}
+use Rattle.line_batches.specs.declared.taking.Reading.{Reading}
+use Rattle.line_batches.specs.Intake.{FeedIntake}
 use Rattle.line_batches.specs.Batches.{TakesBatch}
 use Rattle.notices.specs.Told.{Told, Says}
 
--- ---- Where a run stands: what it sends, and where that is kept and told; what it takes; whether all messages that
--- were told were applied; how many messages are outstanding, of which nothing was told yet; and what comes behind their
--- batch, where they are one.
-pub record Live (S K : Type 0) : Type 0 where
+-- ---- Where a run stands: what it sends, and where that is kept and told; where the taking of its batches stands;
+-- whether all messages that were told were applied; how many messages are outstanding, of which nothing was told yet;
+-- and what comes behind their batch, where they are one.
+pub record Live (T S K : Type 0) : Type 0 where
   pub sends : Standing S K
-  pub takes : Intake
+  pub takes : T
   pub applied : Bool
   pub unknown : ℕ
   pub behind : After
@@ -54,7 +54,7 @@ stands runs keeper course telling = record {
   held = telling.held;
 }
 
-abbrev pub live : {S K : Type 0} → S → K → Taking → Telling → Course → Live S K
+abbrev pub live : {D S K : Type 0} → S → K → Taking D → Telling → Course → Live (FeedIntake D) S K
 live runs keeper taking telling course = record {
   sends = stands runs keeper course telling;
   takes = taking.at;
@@ -113,13 +113,18 @@ unknown_of count (Err kept.StateFailed) = 0
 abbrev pub tally_status : (refused applied : Bool) → ℕ
 tally_status refused applied = if refused then 1 else if applied then 0 else 4
 
--- So a run is ended that went so, where this was taken: where it came to its end the status tells whether a line was
--- refused, or else a message by the encoder, and nothing is said; where it stopped, why was said.
-abbrev pub EndsAs : Went → (applied : Bool) → (taken : Intake) → (said' : Told) → (status : ℕ) → Type 0
-EndsAs went applied taken said' status =
-    ((went ≡ Ok tt) × (status ≡ tally_status taken.refused applied) × (said' ≡ taken.said))
-    ⊎ ((stop : KeptStop) × (went ≡ Err stop) × (status ≡ stop_status stop)
-    × Says taken.said said' (stop_lines stop))
+-- So a run is ended that went so, where a line was refused or none: where it came to its end the status tells that, or
+-- else whether a message was refused by the encoder, and nothing is said; where it stopped, why was said.
+abbrev pub EndsAs : Went → (applied refused : Bool) → (said said' : Told) → (status : ℕ) → Type 0
+EndsAs went applied refused said said' status =
+    ((went ≡ Ok tt) × (status ≡ tally_status refused applied) × (said' ≡ said))
+    ⊎ ((stop : KeptStop) × (went ≡ Err stop) × (status ≡ stop_status stop) × Says said said' (stop_lines stop))
+
+-- ---- Where batches come from: what is taken, and what comes after it. So from a feed of lines.
+abbrev pub FromFeed : {D : Type 0} → (unread : D → Option (List ℕ))
+    → (takes : D → Result Next FeedFault → List ℕ → D → Type 0) → (says : D → Bool → D → Type 0) → Reading
+    → (messages : List (List ℕ)) → After → (x x' : FeedIntake D) → Type 0
+FromFeed unread takes says reading = TakesBatch unread takes says reading.region reading.size reading.strict
 
 -- ---- What is outstanding is given up.
 
@@ -169,89 +174,116 @@ module _ {C I O K : Type 0} (opens : C → Option (I × O) → C → Type 0) (cl
       × (applied' ≡ applied && are_applied ended)
       × (unknown' ≡ unknown_of (length (marks_in x.runs.sender.server)) ended)))
 
+-- ---- Turns, of batches that are taken so.
+module _ {T C I O K : Type 0} (takes : (messages : List (List ℕ)) → After → T → T → Type 0)
+    (opens : C → Option (I × O) → C → Type 0) (closes : C → I → O → C → Type 0)
+    (remaining : I → Option (List ℕ)) (contents : O → Option (List ℕ)) (leaves : K → KeptServer → Type 0)
+    (is_clean : K → Type 0) (saves fails : K → KeptServer → K → Type 0) (form : Form) where
   -- One turn: a batch was taken, and then sent where it has a message; and this comes after it. Where the run stops
   -- there, it is what comes behind what is outstanding.
-  pub record Turn (region : Region) (size : ℕ) (strict : Bool) (x x' : Live (SenderOver C I O) K) (after : After)
-      (went : Went) : Type 0 where
+  pub record Turn (x x' : Live T (SenderOver C I O) K) (after : After) (went : Went) : Type 0 where
     pub messages : List (List ℕ)
-    pub takes : TakesBatch region size strict messages after x.takes x'.takes
-    pub sends : SendsSome messages x.sends x'.sends x.applied x'.applied x.unknown x'.unknown went
+    pub taken : takes messages after x.takes x'.takes
+    pub sends : SendsSome opens closes remaining contents leaves is_clean saves fails form messages x.sends x'.sends
+        x.applied x'.applied x.unknown x'.unknown went
     pub behind : x'.behind ≡ behind_of went after x.behind
 
   -- So many turns were made, one after another, each from where the one before ended, and the run goes on.
-  abbrev pub GoesOnFor : Region → (size : ℕ) → (strict : Bool) → (turns : ℕ) → (x x' : Live (SenderOver C I O) K)
-      → Type 0
-  GoesOnFor region size strict zero x x' = x' ≡ x
-  GoesOnFor region size strict (suc n) x x' =
-      (y : Live (SenderOver C I O) K) × GoesOnFor region size strict n x y × Turn region size strict y x' GoesOn (Ok tt)
+  abbrev pub GoesOnFor : (turns : ℕ) → (x x' : Live T (SenderOver C I O) K) → Type 0
+  GoesOnFor zero x x' = x' ≡ x
+  GoesOnFor (suc n) x x' = (y : Live T (SenderOver C I O) K) × GoesOnFor n x y × Turn y x' GoesOn (Ok tt)
 
   -- The last turn, after which the run ends so: for what comes after its batch; or the batch could not be sent, or what
   -- came of it not be told.
-  abbrev pub LastTurn : Region → (size : ℕ) → (strict : Bool) → (x x' : Live (SenderOver C I O) K) → Went → Type 0
-  LastTurn region size strict x x' went =
-      ((end : Result (Unit {0}) RunFault) × Turn region size strict x x' (Ends end) (Ok tt) × (went ≡ ended_as end))
-      ⊎ ((after : After) × (stop : KeptStop) × Turn region size strict x x' after (Err stop) × (went ≡ Err stop))
+  abbrev pub LastTurn : (x x' : Live T (SenderOver C I O) K) → Went → Type 0
+  LastTurn x x' went =
+      ((end : Result (Unit {0}) RunFault) × Turn x x' (Ends end) (Ok tt) × (went ≡ ended_as end))
+      ⊎ ((after : After) × (stop : KeptStop) × Turn x x' after (Err stop) × (went ≡ Err stop))
 
   -- Turns were made up to the last one. Or 2^59 were made, and no more are.
-  abbrev pub RunsTurns : Region → (size : ℕ) → (strict : Bool) → (x x' : Live (SenderOver C I O) K) → Went → Type 0
-  RunsTurns region size strict x x' went =
-      (turns : ℕ) × (y : Live (SenderOver C I O) K) × GoesOnFor region size strict turns x y
-      × (LastTurn region size strict y x' went
+  abbrev pub RunsTurns : (x x' : Live T (SenderOver C I O) K) → Went → Type 0
+  RunsTurns x x' went =
+      (turns : ℕ) × (y : Live T (SenderOver C I O) K) × GoesOnFor turns x y
+      × (LastTurn y x' went
       ⊎ ((turns ≡ 2 ^ 59) × (x' ≡ y) × (went ≡ Err (Run run.Reading))))
 
 -- ---- One sender.
 
-module _ {C I O K : Type 0} (opens : C → Option (I × O) → C → Type 0) (closes : C → I → O → C → Type 0)
+-- what is left of a sender that hangs up
+abbrev pub ended_of : {T C I O K : Type 0} → Live T (SenderOver C I O) K → Live T ServerState K
+ended_of z = record {
+  sends = record {
+    runs = z.sends.runs.sender.server;
+    keeper = z.sends.keeper;
+    progress = z.sends.progress;
+    held = z.sends.held;
+  };
+  takes = z.takes;
+  applied = z.applied;
+  unknown = z.unknown;
+  behind = z.behind;
+}
+
+-- where a run stands with a new server: its messages that were outstanding count as not applied, and what comes
+-- behind them comes still
+abbrev pub from_anew : {T K : Type 0} → Live T ServerState K → Standing ServerState K → Live T ServerState K
+from_anew x y = record {
+  sends = y;
+  takes = x.takes;
+  applied = false;
+  unknown = 0;
+  behind = x.behind;
+}
+
+module _ {T C I O K : Type 0} (opens : C → Option (I × O) → C → Type 0) (closes : C → I → O → C → Type 0)
     (remaining : I → Option (List ℕ)) (contents : O → Option (List ℕ)) (leaves : K → KeptServer → Type 0)
     (is_clean : K → Type 0) (saves fails : K → KeptServer → K → Type 0) where
   -- The encoder was joined and the station made, where the encoder is to be joined.
-  abbrev pub MakesOnce : LiveOptions → (due : Bool) → (x x' : Live (SenderOver C I O) K) → Went → Type 0
+  abbrev pub MakesOnce : LiveOptions → (due : Bool) → (x x' : Live T (SenderOver C I O) K) → Went → Type 0
   MakesOnce options due x x' went =
       MakesIf opens closes remaining contents leaves is_clean saves fails options.form options.reading.size
       options.station.now due x.sends x'.sends x.applied x'.applied went
       × (x'.takes ≡ x.takes) × (x'.unknown ≡ x.unknown) × (x'.behind ≡ x.behind)
 
   -- What waits was settled.
-  abbrev pub SettlesOnce : LiveOptions → (x x' : Live (SenderOver C I O) K) → Went → Type 0
+  abbrev pub SettlesOnce : LiveOptions → (x x' : Live T (SenderOver C I O) K) → Went → Type 0
   SettlesOnce options x x' went =
       SettlesLive opens closes remaining contents leaves is_clean saves fails options.form x.sends x'.sends x.applied
       x'.applied x.unknown x'.unknown went
       × (x'.takes ≡ x.takes) × (x'.behind ≡ x.behind)
 
+  -- No sender runs after these: no message is outstanding with each try spent, or an encoder is not taken for a new
+  -- one, or 2^63 messages were taken, or 2^59 ran.
+  abbrev pub IsLast : LiveOptions → (again : ℕ) → Live T ServerState K → Type 0
+  IsLast options again x =
+      (x.unknown ≡ 0) ⊎ (options.rejoin ≡ false) ⊎ (2 ^ 63 ≤ x.sends.progress.taken) ⊎ (again ≡ 2 ^ 59)
+
+-- ---- One sender, of batches that are taken so for what is to be read.
+module _ {T C I O K : Type 0} (takes : Reading → (messages : List (List ℕ)) → After → T → T → Type 0)
+    (opens : C → Option (I × O) → C → Type 0) (closes : C → I → O → C → Type 0)
+    (remaining : I → Option (List ℕ)) (contents : O → Option (List ℕ)) (leaves : K → KeptServer → Type 0)
+    (is_clean : K → Type 0) (saves fails : K → KeptServer → K → Type 0) where
   -- What a sender does once its encoder is joined: it settles what waits, and then makes its turns. Or the run ends so,
   -- which was found behind messages that were outstanding: nothing is settled, and no line is taken.
-  abbrev pub RunsOn : LiveOptions → (behind : After) → (x x' : Live (SenderOver C I O) K) → Went → Type 0
+  abbrev pub RunsOn : LiveOptions → (behind : After) → (x x' : Live T (SenderOver C I O) K) → Went → Type 0
   RunsOn options GoesOn x x' went =
-      Then (SettlesOnce options) (RunsTurns opens closes remaining contents leaves is_clean saves fails options.form
-      options.reading.region options.reading.size options.reading.strict) x x' went
+      Then (SettlesOnce opens closes remaining contents leaves is_clean saves fails options)
+      (RunsTurns (takes options.reading) opens closes remaining contents leaves is_clean saves fails options.form) x x'
+      went
   RunsOn options (Ends end) x x' went = (x' ≡ record x { behind = GoesOn }) × (went ≡ ended_as end)
 
   -- what a sender does that was given a server so: it joins its encoder and makes the station where that is due, and
   -- then goes on by what comes behind what was outstanding
-  abbrev pub RunsLive : LiveOptions → (due : Bool) → (x x' : Live (SenderOver C I O) K) → Went → Type 0
-  RunsLive options due = Then (MakesOnce options due) (λ x x' went. RunsOn options x.behind x x' went)
+  abbrev pub RunsLive : LiveOptions → (due : Bool) → (x x' : Live T (SenderOver C I O) K) → Went → Type 0
+  RunsLive options due = Then (MakesOnce opens closes remaining contents leaves is_clean saves fails options due)
+      (λ x x' went. RunsOn options x.behind x x' went)
 
   -- ---- A whole run.
 
-  -- what is left of a sender that hangs up
-  abbrev pub ended_of : Live (SenderOver C I O) K → Live ServerState K
-  ended_of z = record {
-    sends = record {
-      runs = z.sends.runs.sender.server;
-      keeper = z.sends.keeper;
-      progress = z.sends.progress;
-      held = z.sends.held;
-    };
-    takes = z.takes;
-    applied = z.applied;
-    unknown = z.unknown;
-    behind = z.behind;
-  }
-
   -- One sender ran so with a server, over connections that came from there, and hung up; and this is left.
-  abbrev pub RunsOne : LiveOptions → (due : Bool) → (c c' : C) → (x x' : Live ServerState K) → Went → Type 0
+  abbrev pub RunsOne : LiveOptions → (due : Bool) → (c c' : C) → (x x' : Live T ServerState K) → Went → Type 0
   RunsOne options due c c' x x' went =
-      (loan : ℕ) × (z : Live (SenderOver C I O) K)
+      (loan : ℕ) × (z : Live T (SenderOver C I O) K)
       × RunsLive options due (record {
         sends = sending opens closes remaining contents leaves is_clean saves fails c loan options.limits x.sends;
         takes = x.takes;
@@ -261,21 +293,10 @@ module _ {C I O K : Type 0} (opens : C → Option (I × O) → C → Type 0) (cl
       }) z went
       × Finishes closes c' z.sends.runs × (x' ≡ ended_of z)
 
-  -- where a run stands with a new server: its messages that were outstanding count as not applied, and what comes
-  -- behind them comes still
-  abbrev pub from_anew : Live ServerState K → Standing ServerState K → Live ServerState K
-  from_anew x y = record {
-    sends = y;
-    takes = x.takes;
-    applied = false;
-    unknown = 0;
-    behind = x.behind;
-  }
-
   -- It did so with a server to the encoder at this address that holds nothing, and then another sender ran with that,
   -- which joins its encoder and makes the station first. Or the save failed, or a line could not be written, and no
   -- sender ran.
-  abbrev pub RunsAgain : LiveOptions → (address : ℕ) → (c c' : C) → (x x' : Live ServerState K) → Went → Type 0
+  abbrev pub RunsAgain : LiveOptions → (address : ℕ) → (c c' : C) → (x x' : Live T ServerState K) → Went → Type 0
   RunsAgain options address c c' x x' went =
       (y : Standing ServerState K) × (y.runs ≡ idle_at address)
       × ((Renews leaves is_clean saves fails options.form x.unknown x.sends y (Ok tt)
@@ -287,26 +308,20 @@ module _ {C I O K : Type 0} (opens : C → Option (I × O) → C → Type 0) (cl
 
   -- One sender ran so, and after it so many more, one after another, each from where the one before stopped: there
   -- messages were outstanding, and the encoder is taken for a new one.
-  abbrev pub RunsFor : LiveOptions → (due : Bool) → (again : ℕ) → (c c' : C) → (x x' : Live ServerState K) → Went
+  abbrev pub RunsFor : LiveOptions → (due : Bool) → (again : ℕ) → (c c' : C) → (x x' : Live T ServerState K) → Went
       → Type 0
   RunsFor options due zero c c' x x' went = RunsOne options due c c' x x' went
   RunsFor options due (suc n) c c' x x' went =
-      (d : C) × (y : Live ServerState K) × (stopped : Went) × RunsFor options due n c d x y stopped
+      (d : C) × (y : Live T ServerState K) × (stopped : Went) × RunsFor options due n c d x y stopped
       × (options.rejoin ≡ true) × (1 ≤ y.unknown) × RunsAgain options x.sends.runs.address d c' y x' went
-
-  -- No sender runs after these: no message is outstanding with each try spent, or an encoder is not taken for a new
-  -- one, or 2^63 messages were taken, or 2^59 ran.
-  abbrev pub IsLast : LiveOptions → (again : ℕ) → Live ServerState K → Type 0
-  IsLast options again x =
-      (x.unknown ≡ 0) ⊎ (options.rejoin ≡ false) ⊎ (2 ^ 63 ≤ x.sends.progress.taken) ⊎ (again ≡ 2 ^ 59)
 
   -- The writer got the line of how far the server has come; it began anew where its encoder is to be joined; and then
   -- one sender after another ran so, over connections that came from there, and this is left of that. Or the run
   -- stopped before a connection was opened and a line taken.
-  abbrev pub LivesFrom : LiveOptions → (c c' : C) → (x : Live ServerState K) → (k' : K) → (held' : Option (List ℕ))
-      → (taken : Intake) → (applied : Bool) → Went → Type 0
+  abbrev pub LivesFrom : LiveOptions → (c c' : C) → (x : Live T ServerState K) → (k' : K) → (held' : Option (List ℕ))
+      → (taken : T) → (applied : Bool) → Went → Type 0
   LivesFrom options c c' x k' held' taken applied went =
-      ((y : Standing ServerState K) × (again : ℕ) × (z : Live ServerState K)
+      ((y : Standing ServerState K) × (again : ℕ) × (z : Live T ServerState K)
       × Then (TellsTaken options.form)
       (BeginsAnewIf leaves is_clean saves fails options.form (is_due options.join x.sends.progress)) x.sends y
       (Ok tt)
@@ -317,7 +332,7 @@ module _ {C I O K : Type 0} (opens : C → Option (I × O) → C → Type 0) (cl
         unknown = 0;
         behind = GoesOn;
       }) z went
-      × IsLast options again z
+      × IsLast opens closes remaining contents leaves is_clean saves fails options again z
       × (k' ≡ z.sends.keeper) × (held' ≡ z.sends.held) × (taken ≡ z.takes) × (applied ≡ z.applied))
       ⊎ ((y : Standing ServerState K) × (stop : KeptStop)
       × Then (TellsTaken options.form)
@@ -326,19 +341,26 @@ module _ {C I O K : Type 0} (opens : C → Option (I × O) → C → Type 0) (cl
       × (went ≡ Err stop) × (c' ≡ c) × (k' ≡ y.keeper) × (held' ≡ y.held) × (taken ≡ x.takes)
       × (applied ≡ x.applied))
 
+-- ---- A whole run whose batches are taken from a feed.
+module _ {D C I O K : Type 0} (unread : D → Option (List ℕ))
+    (takes : D → Result Next FeedFault → List ℕ → D → Type 0) (says : D → Bool → D → Type 0)
+    (opens : C → Option (I × O) → C → Type 0) (closes : C → I → O → C → Type 0)
+    (remaining : I → Option (List ℕ)) (contents : O → Option (List ℕ)) (leaves : K → KeptServer → Type 0)
+    (is_clean : K → Type 0) (saves fails : K → KeptServer → K → Type 0) where
   -- It ran so from a server of which no line was taken, and was ended so.
   abbrev pub Lives : LiveOptions → (c c' : C)
-      → (x : Standing ServerState K) → (k' : K) → (held' unread unread' : Option (List ℕ)) → (said said' : Told)
+      → (x : Standing ServerState K) → (k' : K) → (held' : Option (List ℕ)) → (feed feed' : D) → (said said' : Told)
       → (status : ℕ)
       → Type 0
-  Lives options c c' x k' held' unread unread' said said' status =
-      (went : Went) × (taken : Intake) × (applied : Bool)
-      × LivesFrom options c c' (record {
+  Lives options c c' x k' held' feed feed' said said' status =
+      (went : Went) × (taken : FeedIntake D) × (applied : Bool)
+      × LivesFrom (FromFeed unread takes says) opens closes remaining contents leaves is_clean saves fails
+      options c c' (record {
         sends = x;
-        takes = record { unread = unread; lines = 0; refused = false; said = said };
+        takes = record { feed = feed; lines = 0; refused = false; said = said };
         applied = true;
         unknown = 0;
         behind = GoesOn;
       }) k' held' taken applied went
-      × (unread' ≡ taken.unread)
-      × EndsAs went applied taken said' status
+      × (feed' ≡ taken.feed)
+      × EndsAs went applied taken.refused taken.said said' status

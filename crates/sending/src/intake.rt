@@ -1,8 +1,7 @@
 //! Lines as they come, and what was taken of them. Source: profile.
 ghost use Rattle.std.specs.Prelude.{◌≡◌, ◌≤◌, [], false};
-ghost use Rattle.line_batches.specs.Batches.{TakesBatch};
 ghost use Rattle.sending.specs.Hands.{Taking};
-ghost use Rattle.sending.specs.Run.{EndsAs, tally_status};
+ghost use Rattle.sending.specs.Run.{EndsAs, FromFeed, tally_status};
 
 use kept_jobs::{KeptStop, fail_run};
 use line_batches::{After, Reading, Tally, take_batch};
@@ -26,13 +25,12 @@ pub(crate) struct Intake<'f, 'e, F: Feed, E: Write> {
 
 impl<'f, 'e, F: Feed, E: Write> Model for Intake<'f, 'e, F, E> {
     ghost use Rattle.sending.specs.Hands.{Taking};
-    ghost use Rattle.sending.specs.Run.{EndsAs, tally_status};
 
-    ghost Value = { Taking };
+    ghost Value = { Taking F };
 
     ghost view = { λ i. record {
       at = record {
-        unread = F.remaining i.feed.now;
+        feed = i.feed.now;
         lines = i.tally.lines;
         refused = i.tally.refused;
         said = i.errors.now;
@@ -51,7 +49,7 @@ impl<'f, 'e, F: Feed, E: Write> Intake<'f, 'e, F, E> {
     ) -> Intake<'f, 'e, F, E>
         ensures { result ≡ record {
           at = record {
-            unread = F.remaining feed.old;
+            feed = feed.old;
             lines = 0;
             refused = false;
             said = errors.old;
@@ -77,8 +75,7 @@ impl<'f, 'e, F: Feed, E: Write> Intake<'f, 'e, F, E> {
     pub(crate) fn take(&mut self, reading: &Reading, batch: &mut Vec<Message>) -> After
         requires empty { batch.old.items ≡ [] }
         requires some { 1 ≤ reading.now.size }
-        ensures takes { TakesBatch reading.now.region reading.now.size reading.now.strict batch.new.items result
-            self.old.at self.new.at }
+        ensures takes { FromFeed F.remaining F.takes F.says reading.now batch.new.items result self.old.at self.new.at }
         ensures feed { self.new.feed ≡ self.old.feed }
         ensures errors { self.new.errors ≡ self.old.errors }
     {
@@ -96,8 +93,8 @@ impl<'f, 'e, F: Feed, E: Write> Intake<'f, 'e, F, E> {
     /// Answers the exit status of a run that went so, of whose messages all that were told were applied or not: 0 they
     /// were, 1 a line was refused, 4 they were not; or 3 or 2 where it stopped, and why is told.
     pub(crate) fn end(&mut self, ran: Result<(), KeptStop>, applied: bool) -> u8
-        ensures ends { EndsAs ran applied self.old.at self.new.at.said result }
-        ensures unread { self.new.at.unread ≡ self.old.at.unread }
+        ensures ends { EndsAs ran applied self.old.at.refused self.old.at.said self.new.at.said result }
+        ensures stands { self.new.at.feed ≡ self.old.at.feed }
         ensures feed { self.new.feed ≡ self.old.feed }
         ensures errors { self.new.errors ≡ self.old.errors }
     {
@@ -109,7 +106,7 @@ impl<'f, 'e, F: Feed, E: Write> Intake<'f, 'e, F, E> {
 
     /// What was lent, apart: the feed, and where refused lines are told.
     pub(crate) fn finish(self) -> (LentFeed<'f, F>, LentErrors<'e, E>)
-        ensures feed { result.0 ≡ record { unread = self.entry.at.unread; loan = self.entry.feed } }
+        ensures feed { result.0 ≡ record { feed = self.entry.at.feed; loan = self.entry.feed } }
         ensures errors { result.1 ≡ record { said = self.entry.at.said; loan = self.entry.errors } }
     {
         let Intake {
@@ -132,16 +129,16 @@ pub(crate) struct LentFeed<'a, F: Feed> {
 impl<'a, F: Feed> Model for LentFeed<'a, F> {
     ghost use Rattle.sending.specs.Hands.{Fed};
 
-    ghost Value = { Fed };
+    ghost Value = { Fed F };
 
-    ghost view = { λ f. record { unread = F.remaining f.feed.now; loan = f.feed.ghost_name } };
+    ghost view = { λ f. record { feed = f.feed.now; loan = f.feed.ghost_name } };
 }
 
 impl<'a, F: Feed> LentFeed<'a, F> {
     /// It itself.
     pub(crate) fn finish(self) -> &'a mut F
         ensures same { result.ghost_name ≡ self.entry.loan }
-        ensures unread { F.remaining result.now ≡ self.entry.unread }
+        ensures stands { result.now ≡ self.entry.feed }
     {
         let LentFeed { feed } = self;
         feed

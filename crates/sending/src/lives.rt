@@ -2,7 +2,7 @@
 ghost use Rattle.std.specs.Prelude.{◌≡◌, ◌⊎◌, ◌≤◌, ◌<◌, ◌-◌, ◌^◌, [], ℕ, true, false, IsTrue};
 ghost use Rattle.uecp_frame.specs.Address.{is_exact};
 ghost use Rattle.uecp_link.specs.Server.{ServerState};
-ghost use Rattle.sending.specs.Run.{live, Renews, RunsOne, RunsAgain, RunsFor, IsLast};
+ghost use Rattle.sending.specs.Run.{live, FromFeed, Renews, RunsOne, RunsAgain, RunsFor, IsLast};
 
 use crate::course::Course;
 use crate::intake::Intake;
@@ -44,7 +44,8 @@ pub(crate) fn run_all<K: Keep<SavedServer>, F: Feed, W: Write, E: Write, C: Conn
     requires not_joined { IsTrue due → course.old.progress.joined ≡ false }
     requires countable { course.old.progress.taken < 2 ^ 63 }
     ensures runs { (again : ℕ) × (last : ServerState)
-        × RunsFor C.opens C.closes C.Input.remaining C.Output.contents K.leaves K.is_clean K.saves K.fails
+        × RunsFor (FromFeed F.remaining F.takes F.says) C.opens C.closes C.Input.remaining C.Output.contents K.leaves
+        K.is_clean K.saves K.fails
         options.now due again connect.old connect.new (live server keeper.old intake.old teller.old course.old)
         (live last keeper.new intake.new teller.new course.new) result
         × IsLast C.opens C.closes C.Input.remaining C.Output.contents K.leaves K.is_clean K.saves K.fails options.now
@@ -90,7 +91,8 @@ fn run_again<K: Keep<SavedServer>, F: Feed, W: Write, E: Write, C: Connections, 
     requires exact { IsTrue (is_exact address) }
     requires countable { course.old.progress.taken < 2 ^ 63 }
     ensures runs { (before : ServerState) → (last : ServerState)
-        × RunsAgain C.opens C.closes C.Input.remaining C.Output.contents K.leaves K.is_clean K.saves K.fails
+        × RunsAgain (FromFeed F.remaining F.takes F.says) C.opens C.closes C.Input.remaining C.Output.contents K.leaves
+        K.is_clean K.saves K.fails
         options.now address connect.old connect.new (live before keeper.old intake.old teller.old course.old)
         (live last keeper.new intake.new teller.new course.new) result }
     ensures feed { intake.new.feed ≡ intake.old.feed }
@@ -159,7 +161,8 @@ fn run_one<K: Keep<SavedServer>, F: Feed, W: Write, E: Write, C: Connections, T:
     requires not_joined { IsTrue due → course.old.progress.joined ≡ false }
     requires countable { course.old.progress.taken < 2 ^ 63 }
     ensures runs { (last : ServerState)
-        × RunsOne C.opens C.closes C.Input.remaining C.Output.contents K.leaves K.is_clean K.saves K.fails
+        × RunsOne (FromFeed F.remaining F.takes F.says) C.opens C.closes C.Input.remaining C.Output.contents K.leaves
+        K.is_clean K.saves K.fails
         options.now due connect.old connect.new (live server keeper.old intake.old teller.old course.old)
         (live last keeper.new intake.new teller.new course.new) result }
     ensures feed { intake.new.feed ≡ intake.old.feed }

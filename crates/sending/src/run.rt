@@ -5,7 +5,7 @@ ghost use Rattle.kept_jobs.specs.Stops.{Went};
 ghost use Rattle.kept_jobs.specs.ServerRun.{is_due};
 ghost use Rattle.line_batches.specs.declared.taking.After.{After as Next};
 ghost use Rattle.line_batches.specs.declared.taking.After.TheVariants.{GoesOn};
-ghost use Rattle.sending.specs.Run.{live, Turn, ended_as, RunsTurns, RunsOn, RunsLive, LivesFrom, Lives};
+ghost use Rattle.sending.specs.Run.{live, FromFeed, Turn, ended_as, RunsTurns, RunsOn, RunsLive, LivesFrom, Lives};
 
 use crate::beginning::begin;
 use crate::course::Course;
@@ -58,13 +58,14 @@ pub fn run_live<K: Keep<SavedServer>, F: Feed, W: Write, E: Write, C: Connection
     requires countable { start.progress.taken < 2 ^ 63 }
     requires some { 1 ≤ options.now.reading.size }
     requires most { options.now.reading.size ≤ 8 }
-    ensures runs { Lives C.opens C.closes C.Input.remaining C.Output.contents K.leaves K.is_clean K.saves K.fails
+    ensures runs { Lives F.remaining F.takes F.says C.opens C.closes C.Input.remaining C.Output.contents K.leaves
+        K.is_clean K.saves K.fails
         options.now connect.old connect.new (record {
           runs = start.server;
           keeper = keeper.old;
           progress = start.progress;
           held = teller.old.held;
-        }) keeper.new teller.new.held (F.remaining feed.old) (F.remaining feed.new) errors.old
+        }) keeper.new teller.new.held feed.old feed.new errors.old
         errors.new result }
     ensures writer { teller.new.writer ≡ teller.old.writer }
 {
@@ -108,7 +109,8 @@ fn run_from<K: Keep<SavedServer>, F: Feed, W: Write, E: Write, C: Connections, T
     requires countable { start.progress.taken < 2 ^ 63 }
     requires some { 1 ≤ options.now.reading.size }
     requires most { options.now.reading.size ≤ 8 }
-    ensures lives { LivesFrom C.opens C.closes C.Input.remaining C.Output.contents K.leaves K.is_clean K.saves K.fails
+    ensures lives { LivesFrom (FromFeed F.remaining F.takes F.says) C.opens C.closes C.Input.remaining C.Output.contents
+        K.leaves K.is_clean K.saves K.fails
         options.now connect.old connect.new (record {
           sends = record {
             runs = start.server;
@@ -183,7 +185,8 @@ pub(crate) fn run_sender<
     requires idle { IsTrue due → sender.old.sender.server.held ≡ [] }
     requires not_joined { IsTrue due → course.old.progress.joined ≡ false }
     requires countable { course.old.progress.taken < 2 ^ 63 }
-    ensures runs { RunsLive C.opens C.closes C.Input.remaining C.Output.contents K.leaves K.is_clean K.saves K.fails
+    ensures runs { RunsLive (FromFeed F.remaining F.takes F.says) C.opens C.closes C.Input.remaining C.Output.contents
+        K.leaves K.is_clean K.saves K.fails
         options.now due (live sender.old keeper.old intake.old teller.old course.old)
         (live sender.new keeper.new intake.new teller.new course.new) result }
     ensures loan { sender.new.loan ≡ sender.old.loan }
@@ -210,7 +213,8 @@ fn go_on<K: Keep<SavedServer>, F: Feed, W: Write, E: Write, C: Connections, T: C
     requires some { 1 ≤ options.now.reading.size }
     requires most { options.now.reading.size ≤ 8 }
     requires countable { course.old.progress.taken < 2 ^ 63 }
-    ensures runs { RunsOn C.opens C.closes C.Input.remaining C.Output.contents K.leaves K.is_clean K.saves K.fails
+    ensures runs { RunsOn (FromFeed F.remaining F.takes F.says) C.opens C.closes C.Input.remaining C.Output.contents
+        K.leaves K.is_clean K.saves K.fails
         options.now GoesOn (live sender.old keeper.old intake.old teller.old course.old)
         (live sender.new keeper.new intake.new teller.new course.new) result }
     ensures loan { sender.new.loan ≡ sender.old.loan }
@@ -235,8 +239,9 @@ fn run_turns<K: Keep<SavedServer>, F: Feed, W: Write, E: Write, C: Connections, 
     requires most { options.now.reading.size ≤ 8 }
     requires idle { sender.old.sender.server.held ≡ [] }
     requires countable { course.old.progress.taken < 2 ^ 63 }
-    ensures runs { RunsTurns C.opens C.closes C.Input.remaining C.Output.contents K.leaves K.is_clean K.saves K.fails
-        options.now.form options.now.reading.region options.now.reading.size options.now.reading.strict
+    ensures runs { RunsTurns (FromFeed F.remaining F.takes F.says options.now.reading) C.opens C.closes
+        C.Input.remaining C.Output.contents K.leaves K.is_clean K.saves K.fails
+        options.now.form
         (live sender.old keeper.old intake.old teller.old course.old)
         (live sender.new keeper.new intake.new teller.new course.new) result }
     ensures loan { sender.new.loan ≡ sender.old.loan }
@@ -278,13 +283,15 @@ fn make_turn<K: Keep<SavedServer>, F: Feed, W: Write, E: Write, C: Connections, 
     requires most { options.now.reading.size ≤ 8 }
     requires idle { sender.old.sender.server.held ≡ [] }
     requires countable { course.old.progress.taken + 8 < 2 ^ 64 - 1 }
-    ensures made { IfOk result (λ after. Turn C.opens C.closes C.Input.remaining C.Output.contents K.leaves K.is_clean
-        K.saves K.fails options.now.form options.now.reading.region options.now.reading.size options.now.reading.strict
+    ensures made { IfOk result (λ after. Turn (FromFeed F.remaining F.takes F.says options.now.reading) C.opens C.closes
+        C.Input.remaining C.Output.contents K.leaves K.is_clean
+        K.saves K.fails options.now.form
         (live sender.old keeper.old intake.old teller.old course.old)
         (live sender.new keeper.new intake.new teller.new course.new) after (Ok tt)) }
     ensures stopped { IfErr result (λ stop. (after : Next)
-        × Turn C.opens C.closes C.Input.remaining C.Output.contents K.leaves K.is_clean
-        K.saves K.fails options.now.form options.now.reading.region options.now.reading.size options.now.reading.strict
+        × Turn (FromFeed F.remaining F.takes F.says options.now.reading) C.opens C.closes C.Input.remaining
+        C.Output.contents K.leaves K.is_clean
+        K.saves K.fails options.now.form
         (live sender.old keeper.old intake.old teller.old course.old)
         (live sender.new keeper.new intake.new teller.new course.new) after (Err stop)) }
     ensures taken { course.new.progress.taken ≤ course.old.progress.taken + 8 }

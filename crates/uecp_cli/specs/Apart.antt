@@ -92,7 +92,8 @@ ReceivesLines o status unread held held' told told' =
 abbrev pub is_on_air : EncoderOptions → Bool
 is_on_air o = is_some o.air || o.air_bits
 
--- What comes of `send`, whatever its status is, and whatever had been said of its connections before.
+-- What comes of `send`, whatever its status is, whatever had been said of its connections before, and whatever a poll
+-- tells of the lines that are there.
 module _ {I O K : Type 0} (remaining : I → Option (List ℕ)) (contents : O → Option (List ℕ))
     (gives : (path : List ℕ) → ServerState → Progress → K → Type 0) (refuses : List ℕ → StateFault → Type 0)
     (ends : K → Result (Unit {0}) StateFault → Type 0) (leaves : K → KeptServer → Type 0) (is_clean : K → Type 0)
@@ -100,8 +101,8 @@ module _ {I O K : Type 0} (remaining : I → Option (List ℕ)) (contents : O �
   abbrev pub ComesOfSend : SendOptions → (unread held held' : Option (List ℕ)) → (told told' : Told) → (status : ℕ)
       → Type 0
   ComesOfSend o unread held held' told told' status =
-      (said : Option (List ℕ)) × HasSentTcp remaining contents gives refuses ends leaves is_clean saves fails o said
-      unread held held' told told' status
+      (said : Option (List ℕ)) × HasSentTcp (λ poll milliseconds there poll'. Unit {0}) remaining contents gives refuses
+      ends leaves is_clean saves fails o tt said unread held held' told told' status
 
   -- So where it is asked for.
   abbrev pub ComesOfLines : Job → (status : ℕ) → (unread unread' held held' : Option (List ℕ)) → (told told' : Told)

@@ -12,5 +12,5 @@ returns-in-Ok-new-clause-sent g c =
       c.patient_of-patient.ensures,
       λ none. let begun = c.in-Ok.ensures none in
           (c.as_slice-station.ensures.value ∙ begun.0, begun.2),
-      rw c.in-Ok-new.ensures.left at c.run_send.ensures.sent,
+      rw c.in-Ok-new.ensures.begun at c.run_send.ensures.sent,
     )

@@ -1,6 +1,6 @@
 use Rattle.std.proofs.Common.{◌≡◌}
 use Rattle.uecp_link.specs.Server.{ServerState}
-use Rattle.sending.specs.Run.{RunsFor, live}
+use Rattle.sending.specs.Run.{FromFeed, RunsFor, live}
 use Rattle.sending.proofs.lives.run_all.Given as goal
 
 -- one sender ran, and so many more after it; and what is lent stays so
@@ -8,7 +8,8 @@ abbrev pub invariant-loop-again : goal.invariant-loop-again
 invariant-loop-again g l =
     let k = g.K.Keep in
     record {
-      so : (last : ServerState) × RunsFor g.C.Connections.opens g.C.Connections.closes g.C.Input.Read.remaining
+      so : (last : ServerState) × RunsFor (FromFeed g.F.Feed.remaining g.F.Feed.takes g.F.Feed.says)
+          g.C.Connections.opens g.C.Connections.closes g.C.Input.Read.remaining
           g.C.Output.Write.contents k.leaves k.is_clean k.saves
           k.fails l.options l.due l._again l.fn.connect l.connect
           (live l.fn.server l.fn.keeper l.fn.intake l.fn.teller l.fn.course)

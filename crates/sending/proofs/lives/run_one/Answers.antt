@@ -1,7 +1,7 @@
 use Rattle.std.proofs.Common.{◌≡◌, refl, sym, ap, subst, ◌∙◌}
 use Rattle.uecp_net.specs.Sending.{SenderState}
 use Rattle.kept_jobs.proofs.Public.{starts_so}
-use Rattle.sending.specs.Run.{RunsLive, live}
+use Rattle.sending.specs.Run.{FromFeed, RunsLive, live}
 use Rattle.sending.proofs.lives.run_one.Goals as goal
 
 pub returns-clause-runs : goal.returns-clause-runs
@@ -24,7 +24,8 @@ returns-clause-runs g c =
       (
         start.loan,
         live sent.new.sender sent.new.keeper sent.new.intake sent.new.teller sent.new.course,
-        subst (λ s. RunsLive g.C.Connections.opens g.C.Connections.closes g.C.Input.Read.remaining
+        subst (λ s. RunsLive (FromFeed g.F.Feed.remaining g.F.Feed.takes g.F.Feed.says) g.C.Connections.opens
+            g.C.Connections.closes g.C.Input.Read.remaining
             g.C.Output.Write.contents
             k.leaves k.is_clean k.saves
             k.fails c.args.options.now c.args.due

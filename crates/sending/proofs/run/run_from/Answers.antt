@@ -2,7 +2,7 @@ use Rattle.std.proofs.Common.{Ok, Err, refl, subst, inl, inr}
 use Rattle.kept_jobs.specs.Stops.{Then}
 use Rattle.line_batches.specs.declared.taking.After.TheVariants.{GoesOn}
 use Rattle.sending.specs.Beginning.{TellsTaken, BeginsAnewIf}
-use Rattle.sending.specs.Run.{RunsFor, live}
+use Rattle.sending.specs.Run.{FromFeed, RunsFor, live}
 use Rattle.sending.proofs.run.run_from.Goals as goal
 
 pub returns-in-Err-clause-lives : goal.returns-in-Err-clause-lives
@@ -46,7 +46,8 @@ returns-in-Ok-clause-lives g c =
             held = c.args.teller.now.held;
           }) (record { runs = now.server; keeper = now.keeper; progress = now.progress; held = now.teller.held }) (Ok
           tt)) c.is_due-due.ensures c.in-Ok.ensures.begins,
-      subst (λ due. RunsFor g.C.Connections.opens g.C.Connections.closes g.C.Input.Read.remaining
+      subst (λ due. RunsFor (FromFeed g.F.Feed.remaining g.F.Feed.takes g.F.Feed.says) g.C.Connections.opens
+          g.C.Connections.closes g.C.Input.Read.remaining
           g.C.Output.Write.contents
           k.leaves k.is_clean k.saves
           k.fails c.args.options.now due again c.args.connect.now ran.new.connect (record {

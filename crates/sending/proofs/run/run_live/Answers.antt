@@ -1,7 +1,7 @@
-use Rattle.std.proofs.Common.{true, false, sym, ap, subst, ◌∙◌}
-use Rattle.line_batches.specs.Intake.{Intake}
+use Rattle.std.proofs.Common.{true, sym, ap, subst, ◌∙◌}
+use Rattle.line_batches.specs.Intake.{FeedIntake}
 use Rattle.line_batches.specs.declared.taking.After.TheVariants.{GoesOn}
-use Rattle.sending.specs.Run.{LivesFrom, EndsAs}
+use Rattle.sending.specs.Run.{FromFeed, LivesFrom, EndsAs}
 use Rattle.sending.proofs.run.run_live.Goals as goal
 
 pub returns-clause-runs : goal.returns-clause-runs
@@ -20,7 +20,8 @@ returns-clause-runs g c =
       run.result,
       run.new.intake.at,
       run.new.applied,
-      subst (λ (at : Intake). LivesFrom g.C.Connections.opens g.C.Connections.closes g.C.Input.Read.remaining
+      subst (λ (at : FeedIntake g.row.F.Denot). LivesFrom (FromFeed g.F.Feed.remaining g.F.Feed.takes g.F.Feed.says)
+          g.C.Connections.opens g.C.Connections.closes g.C.Input.Read.remaining
           g.C.Output.Write.contents k.leaves k.is_clean k.saves k.fails c.args.options.now c.args.connect.now
           run.new.connect (record {
             sends = record {
@@ -35,8 +36,8 @@ returns-clause-runs g c =
             behind = GoesOn;
           }) run.new.keeper run.new.teller.held run.new.intake.at run.new.applied run.result) (ap (λ t. t.at) new)
           run.ensures.lives,
-      ap g.F.Feed.remaining feed ∙ c.finish-feed.ensures.unread ∙ ap (λ f. f.unread) back.feed ∙ end.ensures.unread,
-      subst (λ said. EndsAs run.result run.new.applied run.new.intake.at said end.result)
+      feed ∙ c.finish-feed.ensures.stands ∙ ap (λ f. f.feed) back.feed ∙ end.ensures.stands,
+      subst (λ said. EndsAs run.result run.new.applied run.new.intake.at.refused run.new.intake.at.said said end.result)
           (sym (errors ∙ c.finish-errors.ensures.said ∙ ap (λ e. e.said) back.errors))
           end.ensures.ends,
     )

@@ -1,4 +1,5 @@
 use Rattle.std.proofs.Common.{rules, arith}
+use Rattle.sending.specs.Run.{FromFeed}
 use Rattle.sending.proofs.Turning.{one_more, ends, stops, gives_up}
 use Rattle.sending.proofs.run.run_turns.Goals as goal
 
@@ -7,9 +8,10 @@ returns-in-Err-clause-runs g c =
     let k = g.K.Keep in
     let o = c.args.options.now in
     let turn = c.in-Err.ensures.stopped in
-    stops g.C.Connections.opens g.C.Connections.closes g.C.Input.Read.remaining g.C.Output.Write.contents k.leaves
+    stops (FromFeed g.F.Feed.remaining g.F.Feed.takes g.F.Feed.says o.reading) g.C.Connections.opens
+    g.C.Connections.closes g.C.Input.Read.remaining g.C.Output.Write.contents k.leaves
     k.is_clean
-    k.saves k.fails o.form o.reading.region o.reading.size o.reading.strict _
+    k.saves k.fails o.form _
     c.loop-turn._turn _
     c.loop-turn.invariant.on _ turn.0 c.in-Err.stop turn.1
 
@@ -17,9 +19,10 @@ pub returns-in-Ok-Ends-clause-runs : goal.returns-in-Ok-Ends-clause-runs
 returns-in-Ok-Ends-clause-runs g c =
     let k = g.K.Keep in
     let o = c.args.options.now in
-    ends g.C.Connections.opens g.C.Connections.closes g.C.Input.Read.remaining g.C.Output.Write.contents k.leaves
+    ends (FromFeed g.F.Feed.remaining g.F.Feed.takes g.F.Feed.says o.reading) g.C.Connections.opens
+    g.C.Connections.closes g.C.Input.Read.remaining g.C.Output.Write.contents k.leaves
     k.is_clean
-    k.saves k.fails o.form o.reading.region o.reading.size o.reading.strict _
+    k.saves k.fails o.form _
     c.loop-turn._turn _
     c.loop-turn.invariant.on _ c.in-Ok-Ends.ended (search rules) _ c.ended_as.ensures
 
@@ -36,9 +39,10 @@ loop-turn-preserved g c =
       errors = search rules;
       writer = search rules;
       countable = omega (arith, before, taken);
-      on = one_more g.C.Connections.opens g.C.Connections.closes g.C.Input.Read.remaining g.C.Output.Write.contents
+      on = one_more (FromFeed g.F.Feed.remaining g.F.Feed.takes g.F.Feed.says o.reading) g.C.Connections.opens
+          g.C.Connections.closes g.C.Input.Read.remaining g.C.Output.Write.contents
           k.leaves
-          k.is_clean k.saves k.fails o.form o.reading.region o.reading.size o.reading.strict _
+          k.is_clean k.saves k.fails o.form _
           c.loop-turn._turn _ c.loop-turn.invariant.on _ (search rules);
     }
 
@@ -48,8 +52,9 @@ returns-clause-runs g c =
     let o = c.args.options.now in
     let most = c.loop-turn.auto._turn-end in
     let least = c.loop-turn-test.false in
-    gives_up g.C.Connections.opens g.C.Connections.closes g.C.Input.Read.remaining g.C.Output.Write.contents k.leaves
+    gives_up (FromFeed g.F.Feed.remaining g.F.Feed.takes g.F.Feed.says o.reading) g.C.Connections.opens
+    g.C.Connections.closes g.C.Input.Read.remaining g.C.Output.Write.contents k.leaves
     k.is_clean
-    k.saves k.fails o.form o.reading.region o.reading.size o.reading.strict _
+    k.saves k.fails o.form _
     c.loop-turn._turn _
     c.loop-turn.invariant.on (omega (arith, most, least))

@@ -1,5 +1,5 @@
 use Rattle.std.proofs.Common.{◌≡◌, ◌+◌, ◌*◌, ◌≤◌, []}
-use Rattle.sending.specs.Run.{GoesOnFor, live}
+use Rattle.sending.specs.Run.{FromFeed, GoesOnFor, live}
 use Rattle.sending.proofs.run.run_turns.Given as goal
 
 -- so many turns were made and the run goes on; each took at most eight messages, none waits, and what is lent stays so
@@ -13,10 +13,10 @@ invariant-loop-turn g l =
       errors : l.intake.errors ≡ l.fn.intake.errors;
       writer : l.teller.writer ≡ l.fn.teller.writer;
       countable : l.course.progress.taken ≤ l.fn.course.progress.taken + 8 * l._turn;
-      on : GoesOnFor g.C.Connections.opens g.C.Connections.closes g.C.Input.Read.remaining g.C.Output.Write.contents
+      on : GoesOnFor (FromFeed g.F.Feed.remaining g.F.Feed.takes g.F.Feed.says l.options.reading) g.C.Connections.opens
+          g.C.Connections.closes g.C.Input.Read.remaining g.C.Output.Write.contents
           k.leaves
-          k.is_clean k.saves k.fails l.options.form l.options.reading.region l.options.reading.size
-          l.options.reading.strict l._turn
+          k.is_clean k.saves k.fails l.options.form l._turn
           (live l.fn.sender l.fn.keeper l.fn.intake l.fn.teller l.fn.course)
           (live l.sender l.keeper l.intake l.teller l.course);
     }

@@ -1,8 +1,0 @@
-use Rattle.std.proofs.Common.{◌≡◌, []}
-use Rattle.std.specs.Io.KnownBytes.{Keeps, prepend_known}
-use Rattle.line_feed.proofs.taking.take_next.Given as goal
-
--- all is left, and the line is empty
-abbrev pub invariant-loop-turn : goal.invariant-loop-turn
-invariant-loop-turn g l =
-    Keeps (prepend_known l.fn.held l.fn.source) (prepend_known l.held l.source) × (l.line.items ≡ [])
