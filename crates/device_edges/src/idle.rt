@@ -55,8 +55,8 @@ impl<R> Idle<R> {
     }
 
     /// One more address from which no connection was taken while this one had the seat.
-    pub fn take_stranger(&mut self) -> Option<IpAddr> {
-        match &mut self.seat {
+    pub fn take_stranger(&self) -> Option<IpAddr> {
+        match &self.seat {
             Some(seat) => seat.take_stranger(),
             None => None,
         }

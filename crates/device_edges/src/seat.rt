@@ -40,7 +40,7 @@ impl Seat {
     }
 
     /// One more address from which no connection was taken.
-    pub(crate) fn take_stranger(&mut self) -> Option<IpAddr> {
+    pub(crate) fn take_stranger(&self) -> Option<IpAddr> {
         match self.room.try_borrow_mut() {
             Ok(mut room) => room.take_stranger(),
             Err(_) => None,

@@ -65,13 +65,7 @@ impl<'t, 'w, R: Read + Drop, C: Connections<Input = Idle<R>>, W: Write, T: Clock
     }
 
     fn close(&mut self, input: Idle<R>, output: Self::Output) {
-        let mut input = input;
-        for _stranger in 0..STRANGERS_MAX {
-            let Some(address) = input.take_stranger() else {
-                break;
-            };
-            self.told.tell_stranger(&address);
-        }
+        tell_strangers(&input, self.told);
         let is_idle = input.is_idle();
         let gave_way = input.gave_way();
         self.connect.close(input, output);
@@ -81,6 +75,16 @@ impl<'t, 'w, R: Read + Drop, C: Connections<Input = Idle<R>>, W: Write, T: Clock
         if gave_way {
             self.told.tell_yielding(self.yielding);
         }
+    }
+}
+
+/// Tells from which addresses no connection was taken while this one was served.
+fn tell_strangers<R, W: Write, T: Clock>(input: &Idle<R>, told: &Told<'_, W, T>) {
+    for _stranger in 0..STRANGERS_MAX {
+        let Some(address) = input.take_stranger() else {
+            return;
+        };
+        told.tell_stranger(&address);
     }
 }
 
