@@ -101,8 +101,9 @@ module _ {I O K : Type 0} (remaining : I → Option (List ℕ)) (contents : O �
   abbrev pub ComesOfSend : SendOptions → (unread held held' : Option (List ℕ)) → (told told' : Told) → (status : ℕ)
       → Type 0
   ComesOfSend o unread held held' told told' status =
-      (said : Option (List ℕ)) × HasSentTcp (λ poll milliseconds there poll'. Unit {0}) remaining contents gives refuses
-      ends leaves is_clean saves fails o tt said unread held held' told told' status
+      (said : Option (List ℕ)) × (poll : Unit {0})
+      × HasSentTcp (λ poll milliseconds there poll'. Unit {0}) remaining contents gives refuses ends leaves is_clean
+      saves fails o poll said unread held held' told told' status
 
   -- So where it is asked for.
   abbrev pub ComesOfLines : Job → (status : ℕ) → (unread unread' held held' : Option (List ℕ)) → (told told' : Told)

@@ -7,4 +7,4 @@ returns g c =
     let back = c.writer-1.given.1 (sym (ap (λ t. t.writer) told) ∙ sym c.run_send_over_tcp-status.ensures.writer
     ∙ sym c.finish-writer.ensures.same) in
     let now = sym c.finish-writer.ensures.held ∙ sym (ap g.W.Write.contents back) in
-    (_, rw (told, now) at c.run_send_over_tcp-status.ensures.sent)
+    (_, _, rw (told, now) at c.run_send_over_tcp-status.ensures.sent)
