@@ -343,9 +343,20 @@ class Encoder:
 # Joining
 
 
-def pass_to(address):
-    """The frames of a pass: an empty message under each counter, in order, each once."""
-    return [Frame(address, counter, b"") for counter in range(0x01, 0x100)]
+def counters_behind(behind):
+    """The counters of a pass that goes on behind this one, or from 01 behind 00, as they are sent: so that 81 comes, and then FF."""
+    return [*range(behind + 1, 0x100)] if behind < 0x81 else [*range(behind + 1, 0xFF), 0x81, 0xFF]
+
+
+def goes_on_behind(behind, counters):
+    """Behind which counter the next part of a pass goes on, where on one connection those replies to one behind this counter were read."""
+    highest = max(counters, default=0)
+    return 0 if highest in (0x00, 0xFF) else max(behind, highest)
+
+
+def pass_to(address, behind=0):
+    """The frames of a pass, an empty message under each counter, whole or from behind one."""
+    return [Frame(address, counter, b"") for counter in counters_behind(behind)]
 
 
 def counters_answered(address, found):

@@ -1,4 +1,5 @@
-"""Passes of joining, tried on tests/model/model.py from each state of an encoder: whole ones, cut ones, and ones with frames or replies lost.
+"""Passes of joining, tried on tests/model/model.py from each state of an encoder: whole ones, parts, cut ones, and ones with frames or
+replies lost.
 
 Whatever was lost, where the replies that were read tell that the encoder is joined it has its value, keeps FF down to 81 and no other, and
 expects 01. What an encoder makes of an empty message hangs on the counters that it keeps, so the model is asked once for each state and
@@ -14,6 +15,7 @@ COUNTERS = range(0x01, 0x100)
 MOST_APPLIED = 510  # after so many messages the newest counter has been each of 01 to FF twice, and 127 were kept before it the second time
 JOINED = tuple(range(0x81, 0x100))  # the counters that a joined encoder keeps, the newest last
 RANDOM_LOSSES = 12
+BEHIND = (0x01, 0x40, 0x7F, 0x80, 0x81, 0x82, 0xC0, 0xFC, 0xFD, 0xFE)  # counters behind which a part of a pass goes on
 
 
 def programme(number):
@@ -54,10 +56,10 @@ class States:
                 answered.append(counter)
         return answered, state
 
-    def turns(self, state):
+    def turns(self, state, counters=COUNTERS):
         """A pass frame by frame: the counter, which were answered before its turn, and the state at it."""
         answered = []
-        for counter in COUNTERS:
+        for counter in counters:
             yield counter, answered, state
             more, state = self.after(state, [counter])
             answered = answered + more
@@ -117,6 +119,39 @@ def passes_after(states, count):
     assert told and set(told) == {states.joined}, "told joined by a pass that did not join"
 
 
+def parts_after(states, behind):
+    """A part of a pass behind this counter, from every encoder, cut anywhere: whatever came before and between, it tells the truth."""
+    counters, told = model.counters_behind(behind), 0
+    for state in states.first:
+        ends = [(answered, at) for _, answered, at in states.turns(state, counters)] + [states.after(state, counters)]
+        joined = [at for answered, at in ends if model.tell_joined(answered)]
+        assert set(joined) <= {states.joined}, "told joined by a part that did not join"
+        told += len(joined)
+    assert told, "no part joined"
+
+
+def joins_in_parts(states, replies, most):
+    """Where each connection brings so many replies and is then reset, it takes so many connections at most, from every encoder."""
+    for state in states.first:
+        behind = 0
+        for _ in range(most):
+            answered, state = states.after(state, model.counters_behind(behind))
+            read = answered[:replies]
+            if model.tell_joined(read):
+                break
+            behind = model.goes_on_behind(behind, read)
+        assert model.tell_joined(read) and state == states.joined, "not joined"
+
+
+def parts_without_81_once_more(states):
+    """Where a part behind 81 sends no more than the counters above, a studio that came between makes a false joining of two connections."""
+    for state in states.first:
+        answered, _ = states.after(state, range(0x82, 0x100))
+        if 0xFF in answered and states.after(state, range(0x82, 0x100))[1] != states.joined:
+            return
+    raise AssertionError("nothing went wrong")
+
+
 def new_messages(states):
     """The state that is called joined takes new messages from 01 on, past FF."""
     encoder = model.Encoder(SETUP)
@@ -145,6 +180,10 @@ def trials():
     """A name and a call for each."""
     states = States()
     yield from ((f"passes after {count} messages", lambda count=count: passes_after(states, count)) for count in range(MOST_APPLIED + 1))
+    yield from ((f"parts behind {behind:02X}", lambda behind=behind: parts_after(states, behind)) for behind in BEHIND)
+    yield "parts of 20 replies", lambda: joins_in_parts(states, 20, 14)
+    yield "parts of 3 replies", lambda: joins_in_parts(states, 3, 130)
+    yield "81 and FF of two parts", lambda: parts_without_81_once_more(states)
     yield "new messages to a joined encoder", lambda: new_messages(states)
     yield "joined by FF alone", lambda: a_wrong_telling(states, lambda read: 0xFF in read)
     yield "joined by 82 and FF", lambda: a_wrong_telling(states, lambda read: {0x82, 0xFF}.issubset(read))

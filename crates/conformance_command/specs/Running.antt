@@ -126,9 +126,10 @@ pub record RunsCase {C I O : Type 0} (opens : C → Option (I × O) → C → Ty
   pub opened : opens old (Some (input, output)) between
   pub server : ServerState
   pub pass : Result Joining DriveFault
+  pub behind : ℕ
   pub input_joined : Metered I
   pub output_joined : Metered O
-  pub joined : MakesPass remaining contents (idle_at own) server (unused input) input_joined (unused output)
+  pub joined : MakesPass remaining contents 0 behind (idle_at own) server (unused input) input_joined (unused output)
       output_joined most_reads pass
   pub input_left : Metered I
   pub output_left : Metered O

@@ -63,7 +63,8 @@ pub fn run_case<C: Connections>(
     let mut waiting = Meter::new(Waiting::new(input, first, way.patience));
     let mut output = Meter::new(output);
     let mut server = Server::new(way.own);
-    let pass = join(&mut server, &mut waiting, &mut output, READS_MAX);
+    let mut behind = 0;
+    let pass = join(&mut server, &mut waiting, &mut output, READS_MAX, &mut behind);
     let unheard = is_unheard(pass, waiting.calls(), waiting.failures());
     let mut input = Meter::new(waiting.into_inner().into_inner());
     let exchange = Exchange {

@@ -9,7 +9,7 @@ use Rattle.uecp_encoder.specs.Target.{Step, Taken}
 use Rattle.uecp_encoder.specs.State.{EncoderState, opening, fed}
 use Rattle.uecp_encoder.specs.Answering.{answers}
 use Rattle.uecp_encoder.specs.Laws.{Happening, after_happenings}
-use Rattle.uecp_link.specs.Joining.{pass_sent, BringsBoth}
+use Rattle.uecp_link.specs.Joining.{sent_behind, BringsBoth}
 use Rattle.uecp_frame.specs.Findings.{Closed}
 use Rattle.uecp_link.specs.Once.{Event, Once, at_first, refusal_of, answer_of}
 use Rattle.uecp_link.specs.History.{history}
@@ -60,9 +60,9 @@ SaidStationIsApplied =
 -- both; then a line begins, and the store that is told is the encoder's, whatever that was before the pass.
 abbrev pub JoinedThenTold : Type 0
 JoinedThenTold =
-    (address : ℕ) (first : Store) (before : List (Happening Store)) (got coming read unread : List ℕ) →
+    (address behind : ℕ) (first : Store) (before : List (Happening Store)) (got coming read unread : List ℕ) →
     let e : EncoderState Store = after_happenings store_step (opening address first) before in
-    e.part ≡ Closed → got ++ coming ≡ pass_sent address → read ++ unread ≡ answers store_step e got
+    e.part ≡ Closed → behind ≤ 0xFE → got ++ coming ≡ sent_behind address behind → read ++ unread ≡ answers store_step e got
     → BringsBoth address read
     → (v : Store) → AreAlike v e.value → (events : List Event) (outcomes : List Outcome) (line : LineState Store)
     → IsAcknowledged store_step group_taken (fed store_step e got) (messages_of v) events outcomes line

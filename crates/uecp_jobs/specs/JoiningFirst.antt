@@ -37,7 +37,7 @@ pub record Joins {C I O : Type 0} (opens : C → Option (I × O) → C → Type 
   pub first : SenderOver C I O
   pub ended : ℕ
   pub hangs_up : HangsUp closes s first
-  pub joins : JoinsOver opens closes remaining contents ended ConnectionFailed first s' result
+  pub joins : JoinsOver opens closes remaining contents ended ConnectionFailed 0 first s' result
   pub tries : s'.sender.tries ≡ s.sender.tries
   pub idle : s'.sender.server.held ≡ []
 

@@ -1,26 +1,33 @@
 -- A pass over one line: what of it has come is so many of its frames and a beginning of the next, and what of the
 -- replies was read is so many of them and a beginning of the next.
-use Rattle.std.proofs.Common.{◌≡◌, ℕ, List, [], ◌∷◌, ◌++◌, map, Contains, refl, ◌∙◌, ap, sym, subst, arith}
-use Rattle.std.proofs.Common.{append_assoc}
-use Rattle.std.specs.Prelude.{filter_map, flat_map}
+use Rattle.std.proofs.Common.{◌≡◌, ℕ, zero, suc, ◌+◌, ◌-◌, ◌<◌, ◌≤◌, Bool, true, false, List, [], ◌∷◌, ◌++◌, map}
+use Rattle.std.proofs.Common.{Contains, Ok, refl, ◌∙◌, ap, sym, subst, arith, inl, inr, ◌⊎◌, append_assoc, append-nil}
+use Rattle.std.specs.Prelude.{filter_map, flat_map, nat_lt}
 use Rattle.std.specs.List.{concat}
+use Rattle.std.proofs.lemmas.Bool.{ltb-false}
 use Rattle.std.proofs.lemmas.List.{map-append}
-use Rattle.std.proofs.lemmas.List.Elements.{Contains-append_right}
+use Rattle.std.proofs.lemmas.List.Elements.{Contains-append_cases, Contains-append_right}
 use Rattle.uecp_elements.specs.declared.code.Code.{Code}
+use Rattle.uecp_frame.specs.declared.frame.Frame.{Frame}
 use Rattle.uecp_frame.specs.Findings.{Closed}
 use Rattle.uecp_frame.specs.Beyond.{found_beyond, open_beyond}
 use Rattle.reply_ring.specs.Ring.{newest}
 use Rattle.uecp_encoder.specs.Target.{Step}
 use Rattle.uecp_encoder.specs.State.{EncoderState, opening, next_after, after_findings, fed}
 use Rattle.uecp_encoder.specs.Answering.{responses, bytes_sent}
-use Rattle.uecp_encoder.specs.Laws.{after_happenings}
-use Rattle.uecp_encoder.specs.Joining.{rising, HasJoined}
+use Rattle.uecp_encoder.specs.Laws.{Happening, Finds, after_happenings}
+use Rattle.uecp_encoder.specs.Joining.{counters_replied, falling, rising, HasJoined}
 use Rattle.uecp_encoder.proofs.Public.{joins_lem, findings_open, fed-part}
-use Rattle.uecp_link.specs.Joining.{reply_counter, reply_counters, IsJoinedBy, BringsBoth, JoinsOverALine}
+use Rattle.uecp_link.specs.Frames.{frame_under}
+use Rattle.uecp_link.specs.Joining.{counters_behind, reply_counter, reply_counters, IsJoinedBy, BringsBoth}
+use Rattle.uecp_link.specs.Joining.{JoinsOverALine}
 use Rattle.uecp_link.proofs.Beginnings.{spelled, found_as, Begins, second_empty, begins}
 use Rattle.uecp_link.proofs.Replying.{Rises, no_more, not_there, reply_as, firsts, taken, Replies, replies, after_taken}
-use Rattle.uecp_link.proofs.Replying.{without_taken, address_is}
-use Rattle.uecp_link.proofs.PassComes.{empties, pass_is, empties_small, Passing, passing, replies_small, counters_of}
+use Rattle.uecp_link.proofs.Replying.{without_taken, address_is, Low, LastHigh, low_not, last_no_more, low_before}
+use Rattle.uecp_link.proofs.Replying.{among_low, among_last, after_more, replied_more, empties_keep}
+use Rattle.uecp_link.proofs.Passing.{whole_behind, part_behind}
+use Rattle.uecp_link.proofs.PassComes.{empties, sent_is, ends_pass, empties_small, Passing, passing, replies_small}
+use Rattle.uecp_link.proofs.PassComes.{counters_of}
 use Rattle.uecp_link.proofs.PassComes.{IsCut, cut_map, none_of, is_none}
 
 -- What was read is some of the replies, and their counters are those that rise.
@@ -65,40 +72,184 @@ read_of address made read unread is brought =
       closed = λ e. h.closed (none e);
     }
 
+-- What there is to know of a part of a pass that came so far: the replies to it, and that it came to its end, with which
+-- the encoder has joined.
+record Over {V : Type 0} (step : Step V) (e : EncoderState V) (made : List (ℕ × Code)) (come to_come : List Frame)
+    (later : List ℕ) : Type 0 where
+  pub all_come : to_come ≡ []
+  pub no_later : later ≡ []
+  pub value : (after_happenings step e (taken come)).value ≡ e.value
+  pub kept : map (λ pair. pair.0) (after_happenings step e (taken come)).ring ≡ falling 0xFF 127
+  pub next : next_after (newest (after_happenings step e (taken come)).ring) ≡ 1
+
+-- of what joins, whether the first replies are those to other frames, and not to these
+later_has : (xs ys : List ℕ) (c : ℕ) → (Contains xs c → ⊥) → Contains (xs ++ ys) c → Contains ys c
+later_has xs ys c not has = elim (Contains-append_cases xs ys c has) [
+  | inl early ↦ absurd (not early)
+  | inr late ↦ late
+]
+
+not_among : (least most : ℕ) (xs : List ℕ) (c : ℕ) → Rises least most xs → (c < least) ⊎ (most < c) → Contains xs c → ⊥
+not_among least most [] c r out (k, lt, is) = omega arith
+not_among least most (x ∷ xs) c r out (zero, lt, is) = go out
+  where
+    go : (c < least) ⊎ (most < c) → ⊥
+    go (inl below) = let a = r.0 in let same : x ≡ c = is in omega arith
+    go (inr above) = let a = r.1 in let same : x ≡ c = is in omega arith
+not_among least most (x ∷ xs) c r out (suc k, lt, is) = not_among (x + 1) most xs c r.2 (wider out) (k, omega arith, is)
+  where
+    wider : (c < least) ⊎ (most < c) → (c < x + 1) ⊎ (most < c)
+    wider (inl below) = let a = r.0 in inl (omega arith)
+    wider (inr above) = inr above
+
+rises_rising : (first many most : ℕ) → first + many ≡ most + 1 → Rises first most (rising first many)
+rises_rising first zero most whole = tt
+rises_rising first (suc many) most whole = (omega arith, omega arith, rises_rising (first + 1) many most (omega arith))
+
+counters_are : (address : ℕ) (cs : List ℕ) → map (λ f. f.counter) (empties address cs) ≡ cs
+counters_are address [] = refl
+counters_are address (c ∷ cs) = ap (λ l. c ∷ l) (counters_are address cs)
+
+last_rising : (first many : ℕ) → first + many ≡ 255 → LastHigh (rising first many ++ 0x81 ∷ 0xFF ∷ [])
+last_rising first zero whole = inl (omega arith, inr refl)
+last_rising first (suc many) whole = inl (omega arith, last_rising (first + 1) many (omega arith))
+
+-- behind a counter below 81: the counters rise up to FF
+over_whole : {V : Type 0} (step : Step V) → ((v : V) → (step v []).0 ≡ v)
+    → (address behind : ℕ) (value : V) (before : List (Happening V)) →
+    let e : EncoderState V = after_happenings step (opening address value) before in
+    (come to_come : List Frame) (r : Replies step e come) (first later : List ℕ)
+    → behind ≤ 254 → empties address (rising (behind + 1) (255 - behind)) ≡ come ++ to_come
+    → Contains (firsts r.made) 0x81 → Contains (firsts r.made) 0xFF → firsts r.made ≡ first ++ 0xFF ∷ later
+    → Over step e r.made come to_come later
+over_whole {V} step same address behind value before come to_come r first later most all low high at =
+    let e : EncoderState V = after_happenings step (opening address value) before in
+    let p : Passing V address (behind + 1) 1 come to_come =
+    passing V address (behind + 1) (255 - behind) 1 come to_come (omega arith) (omega arith) (omega arith) all in
+    let j : HasJoined step e (taken come) =
+    joins_lem step same address value before (taken come) p.pass
+    (subst (λ cs. Contains cs 0x81) (sym r.counters) low)
+    (subst (λ cs. Contains cs 0xFF) (sym r.counters) high) in
+    record {
+      all_come = is_none to_come (λ more. not_there (behind + 1) first later
+          (subst (Rises (behind + 1) 254) at (r.rise (behind + 1) 254 (p.fewer more))));
+      no_later = no_more (behind + 1) first later
+          (subst (Rises (behind + 1) 255) at (r.rise (behind + 1) 255 p.rise));
+      value = j.value ∙ without_taken step e.value come;
+      kept = j.kept;
+      next = j.next;
+    }
+
+-- behind one of 81 .. FE: those up to FE, and then 81 and FF
+over_part : {V : Type 0} (step : Step V) → ((v : V) → (step v []).0 ≡ v)
+    → (address behind : ℕ) (value : V) (before : List (Happening V)) →
+    let e : EncoderState V = after_happenings step (opening address value) before in
+    (come to_come : List Frame) (r : Replies step e come) (first later : List ℕ)
+    → 0x81 ≤ behind → behind ≤ 254
+    → empties address (rising (behind + 1) (254 - behind) ++ 0x81 ∷ 0xFF ∷ []) ≡ come ++ to_come
+    → Contains (firsts r.made) 0x81 → Contains (firsts r.made) 0xFF → firsts r.made ≡ first ++ 0xFF ∷ later
+    → Over step e r.made come to_come later
+over_part {V} step same address behind value before come to_come r first later least most all low high at =
+    let e : EncoderState V = after_happenings step (opening address value) before in
+    let cs : List ℕ = rising (behind + 1) (254 - behind) in
+    let last : LastHigh (cs ++ 0x81 ∷ 0xFF ∷ []) = last_rising (behind + 1) (254 - behind) (omega arith) in
+    let counted : cs ++ 0x81 ∷ 0xFF ∷ [] ≡ map (λ f. f.counter) come ++ map (λ f. f.counter) to_come =
+    sym (counters_are address (cs ++ 0x81 ∷ 0xFF ∷ [])) ∙ ap (map (λ f. f.counter)) all
+    ∙ map-append (λ (f : Frame). f.counter) come to_come in
+    let all_come : to_come ≡ [] = is_none to_come (λ more.
+    low_not first later (subst Low at (among_low (firsts r.made) (map (λ f. f.counter) come) r.among
+    (low_before (map (λ f. f.counter) come) (map (λ f. f.counter) to_come) (cs ++ 0x81 ∷ 0xFF ∷ []) counted
+    (λ none. more (no_frames to_come none)) last)))) in
+    let come_is : come ≡ empties address cs ++ empties address (0x81 ∷ 0xFF ∷ []) =
+    sym (all ∙ ap (λ fs. come ++ fs) all_come ∙ append-nil come)
+    ∙ map-append (λ counter. frame_under address (counter, [])) cs (0x81 ∷ 0xFF ∷ []) in
+    let here : map (λ f. f.counter) come ≡ cs ++ 0x81 ∷ 0xFF ∷ [] =
+    ap (map (λ f. f.counter)) (sym (all ∙ ap (λ fs. come ++ fs) all_come ∙ append-nil come))
+    ∙ counters_are address (cs ++ 0x81 ∷ 0xFF ∷ []) in
+    let mid : List (Happening V) = taken (empties address cs) in
+    let end : List (Happening V) = taken (empties address (0x81 ∷ 0xFF ∷ [])) in
+    let parts : taken {V = V} come ≡ mid ++ end = ap (λ fs. taken {V = V} fs) come_is
+    ∙ map-append (λ f. Finds (Ok f)) (empties address cs) (empties address (0x81 ∷ 0xFF ∷ [])) in
+    let e2 : EncoderState V = after_happenings step e mid in
+    let q : Replies step e (empties address cs) = replies step e (empties address cs) in
+    let few : Rises (behind + 1) 254 (firsts q.made) = q.rise (behind + 1) 254
+    (subst (Rises (behind + 1) 254) (sym (counters_are address cs))
+    (rises_rising (behind + 1) (254 - behind) 254 (omega arith))) in
+    let has : (c : ℕ) → (c < behind + 1) ⊎ (254 < c) → Contains (firsts r.made) c
+    → Contains (counters_replied step e2 end) c =
+    λ (c : ℕ) out there. later_has (counters_replied step e mid) (counters_replied step e2 end) c
+    (λ early. not_among (behind + 1) 254 (firsts q.made) c few out (subst (λ xs. Contains xs c) q.counters early))
+    (subst (λ xs. Contains xs c) (sym r.counters ∙ ap (counters_replied step e) parts
+    ∙ replied_more step e mid end) there) in
+    let whole : after_happenings step (opening address value) (before ++ mid) ≡ e2 =
+    after_more step (opening address value) before mid in
+    let j : HasJoined step e2 end = subst (λ (d : EncoderState V). HasJoined step d end) whole
+    (joins_lem step same address value (before ++ mid) end (ends_pass V address)
+    (subst (λ (d : EncoderState V). Contains (counters_replied step d end) 0x81) (sym whole)
+    (has 0x81 (inl (omega arith)) low))
+    (subst (λ (d : EncoderState V). Contains (counters_replied step d end) 0xFF) (sym whole)
+    (has 0xFF (inr (omega arith)) high))) in
+    let after : after_happenings step e (taken come) ≡ after_happenings step e2 end =
+    ap (after_happenings step e) parts ∙ after_more step e mid end in
+    record {
+      all_come = all_come;
+      no_later = last_no_more first later (subst LastHigh at (among_last (firsts r.made) (map (λ f. f.counter) come)
+          r.among (subst LastHigh (sym here) last)));
+      value = ap (λ (d : EncoderState V). d.value) after ∙ j.value
+          ∙ without_taken step e2.value (empties address (0x81 ∷ 0xFF ∷ [])) ∙ empties_keep step same address e cs;
+      kept = ap (λ (d : EncoderState V). map (λ pair. pair.0) d.ring) after ∙ j.kept;
+      next = ap (λ (d : EncoderState V). next_after (newest d.ring)) after ∙ j.next;
+    }
+  where
+    no_frames : (fs : List Frame) → map (λ f. f.counter) fs ≡ [] → fs ≡ []
+    no_frames [] h = refl
+    no_frames (f ∷ fs) h = absurd (cc)
+
+over_any : {V : Type 0} (step : Step V) → ((v : V) → (step v []).0 ≡ v)
+    → (address behind : ℕ) (value : V) (before : List (Happening V)) →
+    let e : EncoderState V = after_happenings step (opening address value) before in
+    (come to_come : List Frame) (r : Replies step e come) (first later : List ℕ)
+    → behind ≤ 254 → empties address (counters_behind behind) ≡ come ++ to_come
+    → Contains (firsts r.made) 0x81 → Contains (firsts r.made) 0xFF → firsts r.made ≡ first ++ 0xFF ∷ later
+    → Over step e r.made come to_come later
+over_any {V} step same address behind value before come to_come r first later most all low high at =
+    go (nat_lt behind 0x81) refl
+  where
+    go : (early : Bool) → nat_lt behind 0x81 ≡ early
+        → Over step (after_happenings step (opening address value) before) r.made come to_come later
+    go true early = over_whole step same address behind value before come to_come r first later most
+        (ap (empties address) (sym (whole_behind behind early)) ∙ all) low high at
+    go false late = over_part step same address behind value before come to_come r first later
+        (ltb-false behind 0x81 late) most (ap (empties address) (sym (part_behind behind late)) ∙ all) low high at
+
 pub joins_over_a_line_lem : {V : Type 0} (step : Step V) → JoinsOverALine step
-joins_over_a_line_lem {V} step same address value before got coming read unread closed whole answered brought =
+joins_over_a_line_lem {V} step same address behind value before got coming read unread closed most whole answered
+    brought =
     let e : EncoderState V = after_happenings step (opening address value) before in
     let own : e.address ≡ address = address_is step (opening address value) before in
-    let g : Begins (empties address (rising 1 255)) got coming =
-    begins (empties address (rising 1 255)) got coming (empties_small address (rising 1 255))
-    (whole ∙ pass_is address) in
-    let p : Passing V address 1 1 g.come g.to_come =
-    passing V address 1 255 1 g.come g.to_come refl (omega arith) (omega arith) g.all in
+    let cs : List ℕ = counters_behind behind in
+    let g : Begins (empties address cs) got coming =
+    begins (empties address cs) got coming (empties_small address cs) (whole ∙ sent_is address behind) in
     let r : Replies step e g.come = replies step e g.come in
     let finds : found_beyond e.part got ≡ found_as g.come = ap (λ o. found_beyond o got) closed ∙ g.finds in
     let sent : read ++ unread ≡ concat (spelled (map (reply_as address) r.made)) =
     answered ∙ ap (λ fs. flat_map bytes_sent (responses step e fs)) finds ∙ r.sent
     ∙ ap (λ (a : ℕ). concat (spelled (map (reply_as a) r.made))) own in
     let d : Read address r.made read unread = read_of address r.made read unread sent brought in
-    let over : d.later ≡ [] = no_more 1 d.first d.later (subst (Rises 1 255) d.at (r.rise 1 255 p.rise)) in
-    let all_come : g.to_come ≡ [] = is_none g.to_come
-    (λ more. not_there 1 d.first d.later (subst (Rises 1 254) d.at (r.rise 1 254 (p.fewer more)))) in
-    let j : HasJoined step e (taken g.come) =
-    joins_lem step same address value before (taken g.come) p.pass
-    (subst (λ cs. Contains cs 0x81) (sym r.counters) d.low)
-    (subst (λ cs. Contains cs 0xFF) (sym r.counters) d.high) in
+    let o : Over step e r.made g.come g.to_come d.later =
+    over_any step same address behind value before g.come g.to_come r d.first d.later most g.all d.low d.high d.at in
     let state : fed step e got ≡ record (after_happenings step e (taken g.come)) { part = open_beyond e.part got } =
     ap (after_findings step (record e { part = open_beyond e.part got })) finds
     ∙ findings_open step e (open_beyond e.part got) (found_as g.come)
     ∙ ap (λ (d : EncoderState V). record d { part = open_beyond e.part got }) (sym (after_taken step e g.come)) in
     record {
-      pass = g.none_left all_come;
-      replies = d.over over;
+      pass = g.none_left o.all_come;
+      replies = d.over o.no_later;
       encoder = record {
-        value_is = ap (λ (d : EncoderState V). d.value) state ∙ j.value ∙ without_taken step e.value g.come;
-        kept = ap (λ (d : EncoderState V). map (λ pair. pair.0) d.ring) state ∙ j.kept;
-        next = ap (λ (d : EncoderState V). next_after (newest d.ring)) state ∙ j.next;
-        closed = fed-part step e got ∙ ap (λ o. open_beyond o got) closed ∙ g.closed all_come;
+        value_is = ap (λ (d : EncoderState V). d.value) state ∙ o.value;
+        kept = ap (λ (d : EncoderState V). map (λ pair. pair.0) d.ring) state ∙ o.kept;
+        next = ap (λ (d : EncoderState V). next_after (newest d.ring)) state ∙ o.next;
+        closed = fed-part step e got ∙ ap (λ o. open_beyond o got) closed ∙ g.closed o.all_come;
       };
-      server = d.closed over;
+      server = d.closed o.no_later;
     }

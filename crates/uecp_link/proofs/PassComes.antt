@@ -9,7 +9,7 @@ use Rattle.uecp_frame.specs.declared.frame.Frame.{Frame}
 use Rattle.uecp_frame.specs.Frame.{spelling}
 use Rattle.uecp_encoder.specs.Joining.{is_message_to, messages_to, IsPass, rising}
 use Rattle.uecp_link.specs.Frames.{frame_under}
-use Rattle.uecp_link.specs.Joining.{frames_of_pass, pass_sent, reply_counter}
+use Rattle.uecp_link.specs.Joining.{counters_behind, frames_behind, sent_behind, pass_sent, reply_counter}
 use Rattle.uecp_link.proofs.Hearing.{reaches_self, code_of_byte-byte_of}
 use Rattle.uecp_link.proofs.Beginnings.{Small, spelled, found_as, second_empty}
 use Rattle.uecp_link.proofs.Replying.{Rises, reply_as, firsts, taken}
@@ -19,13 +19,17 @@ use Rattle.uecp_link.proofs.Replying.{Rises, reply_as, firsts, taken}
 abbrev pub empties : ℕ → List ℕ → List Frame
 empties address cs = map (λ counter. frame_under address (counter, [])) cs
 
-pub pass_is : (address : ℕ) → pass_sent address ≡ concat (spelled (empties address (rising 1 255)))
-unfolding frames_of_pass
-pass_is address = ap concat (go (rising 1 255))
+pub sent_is : (address behind : ℕ)
+    → sent_behind address behind ≡ concat (spelled (empties address (counters_behind behind)))
+unfolding frames_behind
+sent_is address behind = ap concat (go (counters_behind behind))
   where
     go : (cs : List ℕ) → map (λ counter. spelling (frame_under address (counter, []))) cs ≡ spelled (empties address cs)
     go [] = refl
     go (c ∷ cs) = ap (λ l. spelling (frame_under address (c, [])) ∷ l) (go cs)
+
+pub pass_is : (address : ℕ) → pass_sent address ≡ concat (spelled (empties address (rising 1 255)))
+pass_is address = sent_is address 0
 
 pub empties_small : (address : ℕ) (cs : List ℕ) → Small (empties address cs)
 empties_small address [] = tt
@@ -33,6 +37,11 @@ empties_small address (c ∷ cs) = (omega arith, empties_small address cs)
 
 pub is_message : (address counter : ℕ) → 1 ≤ counter → is_message_to address (frame_under address (counter, [])) ≡ true
 is_message address counter some = rw (reaches_self address, ne_eqb counter 0 (λ e. omega arith)) refl
+
+-- the two last frames of a part are a pass by themselves
+pub ends_pass : (V : Type 0) (address : ℕ)
+    → IsPass 1 (messages_to address (taken {V = V} (empties address (0x81 ∷ 0xFF ∷ []))))
+ends_pass V address = rw (is_message address 0x81 (omega arith)) (refl, omega arith, (refl, omega arith, tt))
 
 -- What a beginning of a pass is.
 pub record Passing (V : Type 0) (address first least : ℕ) (come to_come : List Frame) : Type 0 where

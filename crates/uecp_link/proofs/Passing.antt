@@ -1,8 +1,8 @@
 -- A pass: its frames, and the reads that end with both replies.
-use Rattle.std.proofs.Common.{◌≡◌, ◌≢◌, ℕ, zero, suc, ◌+◌, ◌-◌, ◌<◌, ◌≤◌, false, List, [], ◌∷◌, ◌++◌, length, map, take}
+use Rattle.std.proofs.Common.{◌≡◌, ◌≢◌, ℕ, zero, suc, ◌+◌, ◌-◌, ◌<◌, ◌≤◌, true, false, List, [], ◌∷◌, ◌++◌, length, map, take}
 use Rattle.std.proofs.Common.{drop, Option, Some, None, Result, Ok, Err, refl, ◌∙◌, ap, sym, subst, arith}
 use Rattle.std.proofs.Common.{length-append, append-nil, take-append-drop}
-use Rattle.std.specs.Prelude.{slice_get}
+use Rattle.std.specs.Prelude.{slice_get, nat_lt}
 use Rattle.std.proofs.lemmas.List.{take-append-le, take_all}
 use Rattle.std.specs.Io.KnownBytes.{Appends}
 use Rattle.uecp_frame.specs.Frame.{spelling}
@@ -16,17 +16,19 @@ use Rattle.uecp_link.specs.declared.driving.DriveFault.{DriveFault}
 use Rattle.uecp_link.specs.declared.driving.DriveFault.TheVariants.{WriteFailed, Closed, TriesSpent}
 use Rattle.uecp_link.specs.declared.joining.Joining.{Joining}
 use Rattle.uecp_link.specs.declared.joining.Joining.TheVariants.{Joined}
-use Rattle.uecp_link.specs.declared.joining.Seen.{Seen}
+use Rattle.uecp_link.specs.declared.joining.Replies.{Replies}
 use Rattle.uecp_link.specs.declared.joining.Seen.TheVariants.{Neither, Both}
 use Rattle.uecp_link.specs.Frames.{frame_under}
 use Rattle.uecp_link.specs.Server.{ServerState, waiting_among, freed, heard_finding, heard_findings, heard}
 use Rattle.uecp_link.specs.Reading.{Reads, is_closed, write_failures}
-use Rattle.uecp_link.specs.Joining.{frames_of_pass, pass_sent, reply_counters, IsJoinedBy, BringsBoth, anew, IsStillNew}
-use Rattle.uecp_link.specs.Joining.{RepliesEnd, PassEnds, MakesPass, seen_after, ReadsReplies, ReadSoFar}
+use Rattle.uecp_link.specs.Joining.{counters_behind, frames_behind, sent_behind, reply_counters, IsJoinedBy, BringsBoth}
+use Rattle.uecp_link.specs.Joining.{goes_on_behind, highest_of, anew, IsStillNew, RepliesEnd, PassEnds, MakesPass}
+use Rattle.uecp_link.specs.Joining.{replies_after, no_replies, ReadsReplies, ReadSoFar}
 use Rattle.uecp_link.proofs.Answered.{idle_hears}
 use Rattle.uecp_link.proofs.FeedingLemmas.{heard_none, heard_on}
 use Rattle.uecp_link.proofs.Reading.{no_read, reads_on, reads_end}
 use Rattle.uecp_link.proofs.SeenReplies.{neither_finds, joined_seen, counters_none, brought_later, seen_on}
+use Rattle.uecp_link.proofs.SeenReplies.{replies-seen, replies-highest}
 use Rattle.uecp_link.proofs.Waiting.{none_acknowledged}
 
 -- ---- the frames of a pass
@@ -39,25 +41,78 @@ length-map_of : {A B : Type 0} (g : A → B) (xs : List A) → length (map g xs)
 length-map_of g [] = refl
 length-map_of g (x ∷ xs) = ap (λ n. suc n) (length-map_of g xs)
 
-risen : {A : Type 0} (g : ℕ → A) (first many place : ℕ) → place < many
-    → slice_get (map g (rising first many)) place ≡ Some (g (first + place))
-risen g first zero place below = absurd (omega arith)
-risen g first (suc many) zero below = ap (λ n. Some (g n)) (let e : first ≡ first + 0 = omega arith in e)
-risen g first (suc many) (suc place) below = risen g (first + 1) many place (omega arith)
-    ∙ ap (λ n. Some (g n)) (let e : first + 1 + place ≡ first + suc place = omega arith in e)
+risen_front : (first many place : ℕ) (ys : List ℕ) → place < many
+    → slice_get (rising first many ++ ys) place ≡ Some (first + place)
+risen_front first zero place ys below = absurd (omega arith)
+risen_front first (suc many) zero ys below = ap (λ n. Some n) (let e : first ≡ first + 0 = omega arith in e)
+risen_front first (suc many) (suc place) ys below = risen_front (first + 1) many place ys (omega arith)
+    ∙ ap (λ n. Some n) (let e : first + 1 + place ≡ first + suc place = omega arith in e)
 
-pub frame_there : (address place : ℕ) → place < 255
-    → slice_get (frames_of_pass address) place ≡ Some (spelling (frame_under address (place + 1, [])))
-unfolding frames_of_pass
-frame_there address place below =
-    risen (λ counter. spelling (frame_under address (counter, []))) 1 255 place below
-    ∙ ap (λ n. Some (spelling (frame_under address (n, [])))) (let e : 1 + place ≡ place + 1 = omega arith in e)
+risen_past : (first many j : ℕ) (ys : List ℕ) → slice_get (rising first many ++ ys) (many + j) ≡ slice_get ys j
+risen_past first zero j ys = ap (slice_get ys) (let e : 0 + j ≡ j = omega arith in e)
+risen_past first (suc many) j ys =
+    ap (slice_get (rising first (suc many) ++ ys)) (let e : suc many + j ≡ suc (many + j) = omega arith in e)
+    ∙ risen_past (first + 1) many j ys
 
-pub frames_all : (address : ℕ) → take 255 (frames_of_pass address) ≡ frames_of_pass address
-unfolding frames_of_pass
-frames_all address =
+length-risen : (first many : ℕ) (ys : List ℕ) → length (rising first many ++ ys) ≡ many + length ys
+length-risen first zero ys = omega arith
+length-risen first (suc many) ys = let rest = length-risen (first + 1) many ys in omega (arith, rest)
+
+-- where 81 comes once
+pub whole_behind : (behind : ℕ) → nat_lt behind 0x81 ≡ true → counters_behind behind ≡ rising (behind + 1) (255 - behind)
+whole_behind behind early = rw early refl
+
+-- where it comes once more
+pub part_behind : (behind : ℕ) → nat_lt behind 0x81 ≡ false
+    → counters_behind behind ≡ rising (behind + 1) (254 - behind) ++ 0x81 ∷ 0xFF ∷ []
+part_behind behind late = rw late refl
+
+pub length-early : (behind : ℕ) → nat_lt behind 0x81 ≡ true → length (counters_behind behind) ≡ 255 - behind
+length-early behind early = ap length (whole_behind behind early) ∙ length-rising (behind + 1) (255 - behind)
+
+pub length-late : (behind : ℕ) → nat_lt behind 0x81 ≡ false → behind ≤ 254
+    → length (counters_behind behind) ≡ 256 - behind
+length-late behind late most =
+    let long = length-risen (behind + 1) (254 - behind) (0x81 ∷ 0xFF ∷ []) in
+    ap length (part_behind behind late) ∙ (let e : length (rising (behind + 1) (254 - behind) ++ 0x81 ∷ 0xFF ∷ [])
+    ≡ 256 - behind = omega (arith, long) in e)
+
+pub early_there : (behind place : ℕ) → nat_lt behind 0x81 ≡ true → place < 255 - behind
+    → slice_get (counters_behind behind) place ≡ Some (behind + 1 + place)
+early_there behind place early below = ap (λ cs. slice_get cs place) (whole_behind behind early
+    ∙ sym (append-nil (rising (behind + 1) (255 - behind))))
+    ∙ risen_front (behind + 1) (255 - behind) place [] below
+
+pub late_there : (behind place : ℕ) → nat_lt behind 0x81 ≡ false → place < 254 - behind
+    → slice_get (counters_behind behind) place ≡ Some (behind + 1 + place)
+late_there behind place late below = ap (λ cs. slice_get cs place) (part_behind behind late)
+    ∙ risen_front (behind + 1) (254 - behind) place (0x81 ∷ 0xFF ∷ []) below
+
+pub last_there : (behind j place : ℕ) → nat_lt behind 0x81 ≡ false → place ≡ 254 - behind + j
+    → slice_get (counters_behind behind) place ≡ slice_get (0x81 ∷ 0xFF ∷ []) j
+last_there behind j place late at = ap (λ cs. slice_get cs place) (part_behind behind late)
+    ∙ ap (slice_get (rising (behind + 1) (254 - behind) ++ 0x81 ∷ 0xFF ∷ [])) at
+    ∙ risen_past (behind + 1) (254 - behind) j (0x81 ∷ 0xFF ∷ [])
+
+got_map : {A : Type 0} (g : ℕ → A) (xs : List ℕ) (place x : ℕ) → slice_get xs place ≡ Some x
+    → slice_get (map g xs) place ≡ Some (g x)
+got_map g [] place x is = absurd (cc)
+got_map g (y ∷ ys) zero x is = let same : y ≡ x = cc in ap (λ n. Some (g n)) same
+got_map g (y ∷ ys) (suc place) x is = got_map g ys place x is
+
+pub frame_there : (address behind place counter : ℕ) → slice_get (counters_behind behind) place ≡ Some counter
+    → slice_get (frames_behind address behind) place ≡ Some (spelling (frame_under address (counter, [])))
+unfolding frames_behind
+frame_there address behind place counter at =
+    got_map (λ counter. spelling (frame_under address (counter, []))) (counters_behind behind) place counter at
+
+pub frames_all : (address behind : ℕ)
+    → take (length (counters_behind behind)) (frames_behind address behind) ≡ frames_behind address behind
+unfolding frames_behind
+frames_all address behind =
     let g : ℕ → List ℕ = λ counter. spelling (frame_under address (counter, [])) in
-    take_all 255 (map g (rising 1 255)) (omega (arith, length-map_of g (rising 1 255), length-rising 1 255))
+    take_all (length (counters_behind behind)) (map g (counters_behind behind))
+    (omega (arith, length-map_of g (counters_behind behind)))
 
 pub frame_is_short : (address counter : ℕ) → length (spelling (frame_under address (counter, []))) ≤ 524
 frame_is_short address counter = length-spelling-le (frame_under address (counter, [])) (omega arith)
@@ -65,33 +120,39 @@ frame_is_short address counter = length-spelling-le (frame_under address (counte
 -- ---- reads
 
 pub read_none : {R : Type 0} (remaining : R → Option (List ℕ)) (s : ServerState) (reader : Metered R) → s.held ≡ []
-    → ReadSoFar remaining s s reader reader Neither 0
-read_none remaining s reader idle = record {
+    → (replies : Replies) → replies ≡ no_replies → ReadSoFar remaining s s reader reader replies 0
+read_none remaining s reader idle replies none = record {
   read = [];
   reading = no_read remaining reader;
   state = sym (heard_none s);
   idle = idle;
-  seen_is = sym (ap (seen_after Neither) (counters_none s.address s.part));
-  waits = λ h. cc;
+  replies_are = none ∙ sym (ap (replies_after no_replies) (counters_none s.address s.part));
+  waits = λ h. go replies none h;
 }
+  where
+    go : (replies : Replies) → replies ≡ no_replies → replies.seen ≢ Both
+    go replies none h = cc
 
-module _ {R : Type 0} (remaining : R → Option (List ℕ)) (s0 s1 : ServerState) (r0 r1 : Metered R) (seen : Seen)
-    (reads : ℕ) (so_far : ReadSoFar remaining s0 s1 r0 r1 seen reads) where
-  more_seen : (piece : List ℕ) (seen' : Seen) → seen' ≡ seen_after seen (reply_counters s1.address s1.part piece)
-      → seen' ≡ seen_after Neither (reply_counters s0.address s0.part (so_far.read ++ piece))
-  more_seen piece seen' is = is ∙ seen_on s0 s1 so_far.read piece Neither seen so_far.state so_far.seen_is
+module _ {R : Type 0} (remaining : R → Option (List ℕ)) (s0 s1 : ServerState) (r0 r1 : Metered R) (replies : Replies)
+    (reads : ℕ) (so_far : ReadSoFar remaining s0 s1 r0 r1 replies reads) where
+  more_replies : (piece : List ℕ) (replies' : Replies)
+      → replies' ≡ replies_after replies (reply_counters s1.address s1.part piece)
+      → replies' ≡ replies_after no_replies (reply_counters s0.address s0.part (so_far.read ++ piece))
+  more_replies piece replies' is =
+      is ∙ seen_on s0 s1 so_far.read piece no_replies replies so_far.state so_far.replies_are
 
   -- one read more, after which not both were read
-  pub read_on : (s2 : ServerState) (r2 : Metered R) (seen' : Seen) (piece : List ℕ)
+  pub read_on : (s2 : ServerState) (r2 : Metered R) (replies' : Replies) (piece : List ℕ)
       → Reads remaining r1 r2 piece 1 0 false
-      → s2 ≡ heard s1 piece → seen' ≡ seen_after seen (reply_counters s1.address s1.part piece) → seen' ≢ Both
-      → ReadSoFar remaining s0 s2 r0 r2 seen' (reads + 1)
-  read_on s2 r2 seen' piece brought state is waits = record {
+      → s2 ≡ heard s1 piece → replies' ≡ replies_after replies (reply_counters s1.address s1.part piece)
+      → replies'.seen ≢ Both
+      → ReadSoFar remaining s0 s2 r0 r2 replies' (reads + 1)
+  read_on s2 r2 replies' piece brought state is waits = record {
     read = so_far.read ++ piece;
     reading = reads_on remaining r0 r1 r2 so_far.read reads 0 so_far.reading piece 1 0 false brought;
     state = heard_on s0 s1 s2 so_far.read piece so_far.state state;
     idle = ap (λ (t : ServerState). t.held) state ∙ idle_hears s1 piece so_far.idle;
-    seen_is = more_seen piece seen' is;
+    replies_are = more_replies piece replies' is;
     waits = waits;
   }
 
@@ -103,24 +164,28 @@ module _ {R : Type 0} (remaining : R → Option (List ℕ)) (s0 s1 : ServerState
       let all : IsJoinedBy (reply_counters s0.address s0.part so_far.read) =
       subst (λ bs. IsJoinedBy (reply_counters s0.address s0.part bs)) whole
       (brought_later s0.address s0.part x y there) in
-      so_far.waits (so_far.seen_is ∙ joined_seen Neither (reply_counters s0.address s0.part so_far.read) all)
+      so_far.waits (ap (λ (r : Replies). r.seen) so_far.replies_are
+      ∙ replies-seen no_replies (reply_counters s0.address s0.part so_far.read)
+      ∙ joined_seen Neither (reply_counters s0.address s0.part so_far.read) all)
 
   pub not_brought : s0.part ≡ NothingOpen → BringsBoth s0.address so_far.read → ⊥
   not_brought closed = not_yet so_far.read [] closed (append-nil so_far.read)
 
   -- the reads end with one more, with which both were read
-  pub replies_both : (s2 : ServerState) (r2 : Metered R) (seen' : Seen) (piece : List ℕ) (turns : ℕ)
+  pub replies_both : (s2 : ServerState) (r2 : Metered R) (replies' : Replies) (piece : List ℕ) (turns : ℕ)
       → s0.part ≡ NothingOpen
       → Reads remaining r1 r2 piece 1 0 false → s2 ≡ heard s1 piece
-      → seen' ≡ seen_after seen (reply_counters s1.address s1.part piece) → seen' ≡ Both → reads < turns
-      → ReadsReplies remaining s0 s2 r0 r2 turns (Ok Joined)
-  replies_both s2 r2 seen' piece turns closed brought state is both below =
+      → replies' ≡ replies_after replies (reply_counters s1.address s1.part piece) → replies'.seen ≡ Both
+      → reads < turns
+      → ReadsReplies remaining s0 s2 r0 r2 turns replies' (Ok Joined)
+  replies_both s2 r2 replies' piece turns closed brought state is both below =
       let n : ℕ = length (so_far.read ++ piece) - 64 in
       let within : n ≤ length so_far.read = omega (arith, length-append so_far.read piece, brought.few_bytes) in
       let front : take n (so_far.read ++ piece) ≡ take n so_far.read = take-append-le n so_far.read piece within in
       let joined : IsJoinedBy (reply_counters s0.address s0.part (so_far.read ++ piece)) =
       neither_finds (reply_counters s0.address s0.part (so_far.read ++ piece))
-      (sym (more_seen piece seen' is) ∙ both) in
+      (sym (replies-seen no_replies (reply_counters s0.address s0.part (so_far.read ++ piece)))
+      ∙ sym (ap (λ (r : Replies). r.seen) (more_replies piece replies' is)) ∙ both) in
       record {
         read = so_far.read ++ piece;
         reads = reads + 1;
@@ -134,6 +199,7 @@ module _ {R : Type 0} (remaining : R → Option (List ℕ)) (s0 s1 : ServerState
           refl,
           omega arith,
         );
+        replies_are = more_replies piece replies' is;
         few_reads = omega (arith, below);
       }
 
@@ -141,7 +207,7 @@ module _ {R : Type 0} (remaining : R → Option (List ℕ)) (s0 s1 : ServerState
   pub replies_quiet : (s2 : ServerState) (r2 : Metered R) (turns more failed : ℕ) (result : Result Joining DriveFault)
       → Reads remaining r1 r2 [] more failed (is_closed result) → s2 ≡ s1 → reads + more ≤ turns
       → RepliesEnd s0.address so_far.read (remaining r2.device) turns (reads + more) failed result
-      → ReadsReplies remaining s0 s2 r0 r2 turns result
+      → ReadsReplies remaining s0 s2 r0 r2 turns replies result
   replies_quiet s2 r2 turns more failed result quiet stays below ends = record {
     read = so_far.read;
     reads = reads + more;
@@ -149,17 +215,20 @@ module _ {R : Type 0} (remaining : R → Option (List ℕ)) (s0 s1 : ServerState
     reading = reads_end remaining r0 r1 r2 so_far.read reads so_far.reading more failed (is_closed result) quiet;
     state = stays ∙ so_far.state;
     ends = ends;
+    replies_are = so_far.replies_are;
     few_reads = below;
   }
 
 -- ---- a whole pass
 
-pub pass_unread : {R W : Type 0} (remaining : R → Option (List ℕ)) (contents : W → Option (List ℕ)) (s s' : ServerState)
+pub pass_unread : {R W : Type 0} (remaining : R → Option (List ℕ)) (contents : W → Option (List ℕ)) (behind : ℕ)
+    (s s' : ServerState)
     (r : Metered R) (w0 w1 : Metered W) (turns : ℕ) (sent : List ℕ) (result : Result Joining DriveFault) → s' ≡ anew s
     → Appends (contents w0.device) (contents w1.device) sent
-    → PassEnds s.address [] sent (remaining r.device) turns 0 0 result → w1.failures ≡ write_failures result w0.failures
-    → is_closed result ≡ false → MakesPass remaining contents s s' r r w0 w1 turns result
-pass_unread remaining contents s s' r w0 w1 turns sent result begins wrote ends failures goes_on = record {
+    → PassEnds s.address behind [] sent (remaining r.device) turns 0 0 result
+    → w1.failures ≡ write_failures result w0.failures
+    → is_closed result ≡ false → MakesPass remaining contents behind 0 s s' r r w0 w1 turns result
+pass_unread remaining contents behind s s' r w0 w1 turns sent result begins wrote ends failures goes_on = record {
   read = [];
   sent = sent;
   reads = 0;
@@ -168,35 +237,42 @@ pass_unread remaining contents s s' r w0 w1 turns sent result begins wrote ends 
   appended = wrote;
   state = begins ∙ sym (heard_none (anew s));
   ends = ends;
+  goes_on = sym (ap (λ cs. goes_on_behind behind (highest_of 0 cs)) (counters_none s.address NothingOpen));
   few_reads = omega arith;
   write_failures = failures;
 }
 
-pub pass_read : {R W : Type 0} (remaining : R → Option (List ℕ)) (contents : W → Option (List ℕ))
+pub pass_read : {R W : Type 0} (remaining : R → Option (List ℕ)) (contents : W → Option (List ℕ)) (behind behind' : ℕ)
     (s0 s1 s2 : ServerState)
-    (r0 r1 : Metered R) (w0 w1 : Metered W) (turns : ℕ) (result : Result Joining DriveFault) → s1 ≡ anew s0
-    → Appends (contents w0.device) (contents w1.device) (pass_sent s0.address) → w1.failures ≡ w0.failures
-    → ReadsReplies remaining s1 s2 r0 r1 turns result → MakesPass remaining contents s0 s2 r0 r1 w0 w1 turns result
-pass_read remaining contents s0 s1 s2 r0 r1 w0 w1 turns result begins wrote failures reads = record {
-  read = reads.read;
-  sent = pass_sent s0.address;
-  reads = reads.reads;
-  failed = reads.failed;
-  reading = reads.reading;
-  appended = wrote;
-  state = reads.state ∙ ap (λ (s : ServerState). heard s reads.read) begins;
-  ends = go result ends;
-  few_reads = reads.few_reads;
-  write_failures = kept result ends;
-}
+    (r0 r1 : Metered R) (w0 w1 : Metered W) (turns : ℕ) (replies : Replies) (result : Result Joining DriveFault)
+    → s1 ≡ anew s0
+    → Appends (contents w0.device) (contents w1.device) (sent_behind s0.address behind) → w1.failures ≡ w0.failures
+    → ReadsReplies remaining s1 s2 r0 r1 turns replies result → behind' ≡ goes_on_behind behind replies.highest
+    → MakesPass remaining contents behind behind' s0 s2 r0 r1 w0 w1 turns result
+pass_read remaining contents behind behind' s0 s1 s2 r0 r1 w0 w1 turns replies result begins wrote failures reads on =
+    record {
+      read = reads.read;
+      sent = sent_behind s0.address behind;
+      reads = reads.reads;
+      failed = reads.failed;
+      reading = reads.reading;
+      appended = wrote;
+      state = reads.state ∙ ap (λ (s : ServerState). heard s reads.read) begins;
+      ends = go result ends;
+      goes_on = on ∙ ap (goes_on_behind behind) (ap (λ (r : Replies). r.highest) reads.replies_are
+          ∙ replies-highest no_replies (reply_counters s1.address s1.part reads.read)
+          ∙ ap (λ (s : ServerState). highest_of 0 (reply_counters s.address s.part reads.read)) begins);
+      few_reads = reads.few_reads;
+      write_failures = kept result ends;
+    }
   where
     ends : RepliesEnd s0.address reads.read (remaining r1.device) turns reads.reads reads.failed result
     ends = subst (λ (s : ServerState). RepliesEnd s.address reads.read (remaining r1.device) turns reads.reads
         reads.failed result) begins reads.ends
 
     go : (result : Result Joining DriveFault) → RepliesEnd s0.address reads.read (remaining r1.device) turns reads.reads
-        reads.failed result → PassEnds s0.address reads.read (pass_sent s0.address) (remaining r1.device) turns
-        reads.reads reads.failed result
+        reads.failed result → PassEnds s0.address behind reads.read (sent_behind s0.address behind)
+        (remaining r1.device) turns reads.reads reads.failed result
     go (Ok joining) ends = (refl, ends)
     go (Err Closed) ends = (refl, ends)
     go (Err (WriteFailed w)) ends = absurd ends

@@ -1,6 +1,6 @@
 -- Frames of which the counters rise, and the replies to them.
 use Rattle.std.proofs.Common.{◌≡◌, ℕ, ◌+◌, ◌≤◌, ◌==◌, Bool, true, false, List, [], ◌∷◌, ◌++◌, map, Option, Some, None}
-use Rattle.std.proofs.Common.{Ok, Err, refl, ◌∙◌, ap, sym, subst, arith, inl, inr, ◌⊎◌, append-nil}
+use Rattle.std.proofs.Common.{Ok, Err, refl, ◌∙◌, ap, sym, subst, arith, inl, inr, ◌⊎◌, append-nil, append_assoc}
 use Rattle.std.specs.Prelude.{flat_map}
 use Rattle.std.specs.List.{concat}
 use Rattle.std.proofs.lemmas.List.{map-append}
@@ -15,6 +15,7 @@ use Rattle.uecp_encoder.specs.State.{EncoderState, is_next, after_finding, after
 use Rattle.uecp_encoder.specs.Answering.{reply_of, response_to, responses, bytes_sent}
 use Rattle.uecp_encoder.specs.Laws.{Happening, Finds, Becomes, after_happening, after_happenings}
 use Rattle.uecp_encoder.specs.Joining.{replied_in, counters_replied, value_without}
+use Rattle.uecp_link.specs.Frames.{frame_under}
 use Rattle.uecp_link.proofs.Beginnings.{spelled, found_as}
 
 -- ---- counters that rise
@@ -31,6 +32,71 @@ no_more least (x ∷ xs) ys r = no_more (x + 1) xs ys r.2
 pub not_there : (least : ℕ) (xs ys : List ℕ) → Rises least 254 (xs ++ 255 ∷ ys) → ⊥
 not_there least [] ys r = let a = r.1 in omega arith
 not_there least (x ∷ xs) ys r = not_there (x + 1) xs ys r.2
+
+-- ---- counters of which only the last may be FF
+
+abbrev pub Low : List ℕ → Type 0
+Low [] = Unit {0}
+Low (c ∷ cs) = (c ≤ 254) × Low cs
+
+abbrev pub LastHigh : List ℕ → Type 0
+LastHigh [] = Unit {0}
+LastHigh (c ∷ cs) = ((c ≤ 254) × LastHigh cs) ⊎ (cs ≡ [])
+
+pub low_not : (xs ys : List ℕ) → Low (xs ++ 255 ∷ ys) → ⊥
+low_not [] ys l = let a = l.0 in omega arith
+low_not (x ∷ xs) ys l = low_not xs ys l.1
+
+pub last_no_more : (xs ys : List ℕ) → LastHigh (xs ++ 255 ∷ ys) → ys ≡ []
+last_no_more [] ys (inl (low, l)) = absurd (omega arith)
+last_no_more [] ys (inr none) = none
+last_no_more (x ∷ xs) ys (inl (low, l)) = last_no_more xs ys l
+last_no_more (x ∷ []) ys (inr none) = absurd (cc)
+last_no_more (x ∷ y ∷ xs) ys (inr none) = absurd (cc)
+
+-- all before an end that is not empty
+pub low_before : (xs ys cs : List ℕ) → cs ≡ xs ++ ys → (ys ≡ [] → ⊥) → LastHigh cs → Low xs
+low_before [] ys cs is some l = tt
+low_before (x ∷ xs) ys [] is some l = absurd (cc)
+low_before (x ∷ xs) ys (c ∷ cs) is some (inl (low, l)) =
+    let head : c ≡ x = cc in
+    (omega (arith, low, head), low_before xs ys cs (let tail : cs ≡ xs ++ ys = cc in tail) some l)
+low_before (x ∷ xs) ys (c ∷ cs) is some (inr none) =
+    absurd (some (go xs (let tail : cs ≡ xs ++ ys = cc in sym tail ∙ none)))
+  where
+    go : (xs : List ℕ) → xs ++ ys ≡ [] → ys ≡ []
+    go [] h = h
+    go (x ∷ xs) h = absurd (cc)
+
+-- Some of these, in their order.
+abbrev pub Among : (some all : List ℕ) → Type 0
+Among [] ys = Unit {0}
+Among (x ∷ xs) [] = ⊥
+Among (x ∷ xs) (y ∷ ys) = ((x ≡ y) × Among xs ys) ⊎ Among (x ∷ xs) ys
+
+among_more : (xs : List ℕ) (y : ℕ) (ys : List ℕ) → Among xs ys → Among xs (y ∷ ys)
+among_more [] y ys a = tt
+among_more (x ∷ xs) y ys a = inr a
+
+among_none : (xs : List ℕ) → Among xs [] → xs ≡ []
+among_none [] a = refl
+among_none (x ∷ xs) a = absurd a
+
+pub among_low : (xs ys : List ℕ) → Among xs ys → Low ys → Low xs
+among_low [] ys a l = tt
+among_low (x ∷ xs) [] a l = absurd a
+among_low (x ∷ xs) (y ∷ ys) (inl (same, a)) l = let low = l.0 in
+    (omega (arith, low, same), among_low xs ys a l.1)
+among_low (x ∷ xs) (y ∷ ys) (inr a) l = among_low (x ∷ xs) ys a l.1
+
+pub among_last : (xs ys : List ℕ) → Among xs ys → LastHigh ys → LastHigh xs
+among_last [] ys a l = tt
+among_last (x ∷ xs) [] a l = absurd a
+among_last (x ∷ xs) (y ∷ ys) (inl (same, a)) (inl (low, l)) =
+    inl (omega (arith, low, same), among_last xs ys a l)
+among_last (x ∷ xs) (y ∷ ys) (inl (same, a)) (inr none) = inr (among_none xs (subst (Among xs) none a))
+among_last (x ∷ xs) (y ∷ ys) (inr a) (inl (low, l)) = among_last (x ∷ xs) ys a l
+among_last (x ∷ xs) (y ∷ ys) (inr a) (inr none) = absurd (subst (Among (x ∷ xs)) none a)
 
 -- ---- replies to frames
 
@@ -97,6 +163,7 @@ module _ {V : Type 0} (step : Step V) where
     pub sent : flat_map bytes_sent (responses step e (found_as fs)) ≡ concat (spelled (map (reply_as e.address) made))
     pub counters : counters_replied step e (taken fs) ≡ firsts made
     pub rise : (least most : ℕ) → Rises least most (map (λ f. f.counter) fs) → Rises least most (firsts made)
+    pub among : Among (firsts made) (map (λ f. f.counter) fs)
 
   less : (low least most : ℕ) (cs : List ℕ) → low ≤ least → Rises least most cs → Rises low most cs
   less low least most [] le r = r
@@ -112,8 +179,18 @@ module _ {V : Type 0} (step : Step V) where
       subst (Rises least most) (sym (map-append (λ (r : ℕ × Code). r.0) now later ∙ ap (λ cs. cs ++ firsts later) one))
       (low, high, rest)
 
+  among_on : (f : Frame) (now later : List (ℕ × Code)) (cs : List ℕ)
+      → (now ≡ []) ⊎ (firsts now ≡ f.counter ∷ []) → Among (firsts later) cs
+      → Among (firsts (now ++ later)) (f.counter ∷ cs)
+  among_on f now later cs (inl none) rest =
+      subst (λ (rs : List (ℕ × Code)). Among (firsts (rs ++ later)) (f.counter ∷ cs)) (sym none)
+      (among_more (firsts later) f.counter cs rest)
+  among_on f now later cs (inr one) rest =
+      subst (λ xs. Among xs (f.counter ∷ cs))
+      (sym (map-append (λ (r : ℕ × Code). r.0) now later ∙ ap (λ xs. xs ++ firsts later) one)) (inl (refl, rest))
+
   pub replies : (e : EncoderState V) (fs : List Frame) → Replies e fs
-  replies e [] = record { made = []; sent = refl; counters = refl; rise = λ least most r. r }
+  replies e [] = record { made = []; sent = refl; counters = refl; rise = λ least most r. r; among = tt }
   replies e (f ∷ fs) =
       let e1 : EncoderState V = after_finding step e (Ok f) in
       let here : OneReply e f = one_reply e f in
@@ -135,9 +212,44 @@ module _ {V : Type 0} (step : Step V) where
             ∙ sym (map-append (λ (r : ℕ × Code). r.0) here.made rest.made);
         rise = λ least most r. rise_on f least most here.made rest.made here.one r.0 r.1
             (rest.rise (f.counter + 1) most r.2);
+        among = among_on f here.made rest.made (map (λ f. f.counter) fs) here.one rest.among;
       }
 
   -- ---- an encoder that takes frames
+
+  pub after_more : (e : EncoderState V) (xs ys : List (Happening V))
+      → after_happenings step e (xs ++ ys) ≡ after_happenings step (after_happenings step e xs) ys
+  after_more e [] ys = refl
+  after_more e (x ∷ xs) ys = after_more (after_happening step e x) xs ys
+
+  pub replied_more : (e : EncoderState V) (xs ys : List (Happening V)) → counters_replied step e (xs ++ ys)
+      ≡ counters_replied step e xs ++ counters_replied step (after_happenings step e xs) ys
+  replied_more e [] ys = refl
+  replied_more e (x ∷ xs) ys = ap (λ cs. replied_in step e x ++ cs) (replied_more (after_happening step e x) xs ys)
+      ∙ sym (append_assoc (replied_in step e x) (counters_replied step (after_happening step e x) xs)
+      (counters_replied step (after_happenings step (after_happening step e x) xs) ys))
+
+  -- an empty message changes no value
+  empty_keeps : ((v : V) → (step v []).0 ≡ v) → (e : EncoderState V) (f : Frame) → f.message ≡ []
+      → (after_finding step e (Ok f)).value ≡ e.value
+  empty_keeps same e f empty = go (reaches f.address e.address) (f.counter == 0) (kept_code e.ring f.counter)
+      (is_next e.ring f.counter) refl refl refl refl
+    where
+      go : (r z : Bool) (k : Option Code) (n : Bool) → reaches f.address e.address ≡ r → (f.counter == 0) ≡ z
+          → kept_code e.ring f.counter ≡ k → is_next e.ring f.counter ≡ n
+          → (after_finding step e (Ok f)).value ≡ e.value
+      go false z k n a b c d = rw a refl
+      go true true k n a b c d = rw (a, b) refl
+      go true false (Some code) n a b c d = rw (a, b, c) refl
+      go true false None true a b c d = rw (a, b, c, d) (ap (λ m. (step e.value m).0) empty ∙ same e.value)
+      go true false None false a b c d = rw (a, b, c, d) refl
+
+  pub empties_keep : ((v : V) → (step v []).0 ≡ v) → (address : ℕ) (e : EncoderState V) (cs : List ℕ)
+      → (after_happenings step e (taken (map (λ counter. frame_under address (counter, [])) cs))).value ≡ e.value
+  empties_keep same address e [] = refl
+  empties_keep same address e (c ∷ cs) =
+      empties_keep same address (after_finding step e (Ok (frame_under address (c, [])))) cs
+      ∙ empty_keeps same e (frame_under address (c, [])) refl
 
   pub after_taken : (e : EncoderState V) (fs : List Frame)
       → after_happenings step e (taken fs) ≡ after_findings step e (found_as fs)

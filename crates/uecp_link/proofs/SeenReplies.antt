@@ -1,4 +1,4 @@
--- Which of the two replies of a pass were seen, piece by piece.
+-- What was read of the replies of a pass, piece by piece.
 use Rattle.std.proofs.Common.{◌≡◌, ℕ, ◌==◌, Bool, true, false, List, [], ◌∷◌, ◌++◌, take, drop, Option, Some, None, Ok}
 use Rattle.std.proofs.Common.{Err, refl, ◌∙◌, ap, sym, subst, inl, inr, ◌⊎◌, append_assoc, take-append-drop}
 use Rattle.std.specs.Prelude.{filter_map}
@@ -8,10 +8,12 @@ use Rattle.uecp_frame.specs.Findings.{Finding, OpenPart}
 use Rattle.uecp_frame.specs.Beyond.{found_beyond, open_beyond}
 use Rattle.uecp_frame.proofs.Public.{in_pieces_lem, new_start_lem}
 use Rattle.uecp_elements.specs.declared.code.Code.{Code}
+use Rattle.uecp_link.specs.declared.joining.Replies.{Replies}
 use Rattle.uecp_link.specs.declared.joining.Seen.{Seen}
 use Rattle.uecp_link.specs.declared.joining.Seen.TheVariants.{Neither, First, Both}
 use Rattle.uecp_link.specs.Server.{ServerState, acknowledges, freed, heard_finding, heard_findings, heard}
-use Rattle.uecp_link.specs.Joining.{reply_counter, reply_counters, IsJoinedBy, seen_with, seen_after, HearsOn}
+use Rattle.uecp_link.specs.Joining.{reply_counter, reply_counters, IsJoinedBy, highest_of, seen_with, seen_after}
+use Rattle.uecp_link.specs.Joining.{replies_with, replies_after, HearsOn}
 use Rattle.uecp_link.proofs.Answered.{idle_hears}
 use Rattle.uecp_link.proofs.FeedingLemmas.{server_in_pieces}
 use Rattle.uecp_link.proofs.Hearing.{heard-part}
@@ -137,25 +139,37 @@ pub brought_later : (address : ℕ) (o : OpenPart) (x y : List ℕ) → IsJoined
 brought_later address o x y j = subst IsJoinedBy (sym (counters-append address o x y))
     (joined_more (reply_counters address o x) (reply_counters address (open_beyond o x) y) j)
 
--- what a server after some bytes sees in more is what it sees in both
-pub seen_on : (s0 s : ServerState) (x y : List ℕ) (seen0 seen : Seen) → s ≡ heard s0 x
-    → seen ≡ seen_after seen0 (reply_counters s0.address s0.part x)
-    → seen_after seen (reply_counters s.address s.part y)
-    ≡ seen_after seen0 (reply_counters s0.address s0.part (x ++ y))
-seen_on s0 s x y seen0 seen state is =
-    ap (λ (t : ServerState). seen_after seen (reply_counters t.address t.part y)) state
-    ∙ ap (λ a. seen_after seen (reply_counters a (heard s0 x).part y)) (heard-address s0 x)
-    ∙ ap (λ o. seen_after seen (reply_counters s0.address o y)) (heard-part s0 x)
-    ∙ ap (λ t. seen_after t (reply_counters s0.address (open_beyond s0.part x) y)) is
-    ∙ sym (seen-append seen0 (reply_counters s0.address s0.part x)
+replies-append : (r : Replies) (xs ys : List ℕ) → replies_after r (xs ++ ys) ≡ replies_after (replies_after r xs) ys
+replies-append r [] ys = refl
+replies-append r (x ∷ xs) ys = replies-append (replies_with r x) xs ys
+
+pub replies-seen : (r : Replies) (cs : List ℕ) → (replies_after r cs).seen ≡ seen_after r.seen cs
+replies-seen r [] = refl
+replies-seen r (c ∷ cs) = replies-seen (replies_with r c) cs
+
+pub replies-highest : (r : Replies) (cs : List ℕ) → (replies_after r cs).highest ≡ highest_of r.highest cs
+replies-highest r [] = refl
+replies-highest r (c ∷ cs) = replies-highest (replies_with r c) cs
+
+-- what a server after some bytes reads in more is what it reads in both
+pub seen_on : (s0 s : ServerState) (x y : List ℕ) (replies0 replies : Replies) → s ≡ heard s0 x
+    → replies ≡ replies_after replies0 (reply_counters s0.address s0.part x)
+    → replies_after replies (reply_counters s.address s.part y)
+    ≡ replies_after replies0 (reply_counters s0.address s0.part (x ++ y))
+seen_on s0 s x y replies0 replies state is =
+    ap (λ (t : ServerState). replies_after replies (reply_counters t.address t.part y)) state
+    ∙ ap (λ a. replies_after replies (reply_counters a (heard s0 x).part y)) (heard-address s0 x)
+    ∙ ap (λ o. replies_after replies (reply_counters s0.address o y)) (heard-part s0 x)
+    ∙ ap (λ t. replies_after t (reply_counters s0.address (open_beyond s0.part x) y)) is
+    ∙ sym (replies-append replies0 (reply_counters s0.address s0.part x)
     (reply_counters s0.address (open_beyond s0.part x) y))
-    ∙ ap (seen_after seen0) (sym (counters-append s0.address s0.part x y))
+    ∙ ap (replies_after replies0) (sym (counters-append s0.address s0.part x y))
 
 -- one call of `hear_reply` more
-pub hears_more : (s0 s s' : ServerState) (n : ℕ) (piece rest rest' : List ℕ) (seen0 seen seen' : Seen)
-    → HearsOn s0 s piece rest seen0 seen → s' ≡ heard s (take n rest) → rest' ≡ drop n rest
-    → seen' ≡ seen_after seen (reply_counters s.address s.part (take n rest)) → HearsOn s0 s' piece rest' seen0 seen'
-hears_more s0 s s' n piece rest rest' seen0 seen seen' so_far state left is =
+pub hears_more : (s0 s s' : ServerState) (n : ℕ) (piece rest rest' : List ℕ) (replies0 replies replies' : Replies)
+    → HearsOn s0 s piece rest replies0 replies → s' ≡ heard s (take n rest) → rest' ≡ drop n rest
+    → replies' ≡ replies_after replies (reply_counters s.address s.part (take n rest)) → HearsOn s0 s' piece rest' replies0 replies'
+hears_more s0 s s' n piece rest rest' replies0 replies replies' so_far state left is =
     let x : List ℕ = take n rest in
     let y : List ℕ = drop n rest in
     let whole : x ++ y ≡ rest = take-append-drop n rest in
@@ -163,7 +177,8 @@ hears_more s0 s s' n piece rest rest' seen0 seen seen' so_far state left is =
       state = ap (λ (t : ServerState). heard t rest') state ∙ ap (heard (heard s x)) left
           ∙ sym (server_in_pieces s x y).state ∙ ap (heard s) whole ∙ so_far.state;
       idle = ap (λ (t : ServerState). t.held) state ∙ idle_hears s x so_far.idle;
-      seen_is =
-          ap (λ bs. seen_after seen' (reply_counters s'.address s'.part bs)) left ∙ seen_on s s' x y seen seen' state is
-          ∙ ap (λ bs. seen_after seen (reply_counters s.address s.part bs)) whole ∙ so_far.seen_is;
+      replies_are =
+          ap (λ bs. replies_after replies' (reply_counters s'.address s'.part bs)) left
+          ∙ seen_on s s' x y replies replies' state is
+          ∙ ap (λ bs. replies_after replies (reply_counters s.address s.part bs)) whole ∙ so_far.replies_are;
     }

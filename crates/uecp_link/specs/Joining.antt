@@ -1,7 +1,7 @@
 -- How a server that knows nothing of an encoder joins it: by a pass of empty messages, and the replies to two of them;
 -- a reader has to believe it, but for what is marked private. Source: profile.
-use Rattle.std.specs.Prelude.{◌≡◌, ◌≢◌, ℕ, ◌-◌, ◌<◌, ◌≤◌, ◌==◌, ◌⊎◌, List, [], ◌∷◌, ◌++◌, length, map, take, filter_map}
-use Rattle.std.specs.Prelude.{false, Option, None, Result, Ok, Err, if◌then◌else◌}
+use Rattle.std.specs.Prelude.{◌≡◌, ◌≢◌, ℕ, ◌+◌, ◌-◌, ◌<◌, ◌≤◌, ◌==◌, nat_lt, max, ◌||◌, ◌⊎◌, List, [], ◌∷◌, ◌++◌}
+use Rattle.std.specs.Prelude.{length, map, take, filter_map, false, Option, None, Result, Ok, Err, if◌then◌else◌}
 use Rattle.std.specs.List.{concat}
 use Rattle.std.specs.Option.{option_map}
 use Rattle.std.specs.Io.KnownBytes.{Appends, IsAtEnd}
@@ -19,6 +19,7 @@ use Rattle.uecp_link.specs.declared.driving.DriveFault.{DriveFault}
 use Rattle.uecp_link.specs.declared.driving.DriveFault.TheVariants.{WriteFailed, Closed, TriesSpent}
 use Rattle.uecp_link.specs.declared.joining.Joining.{Joining}
 use Rattle.uecp_link.specs.declared.joining.Joining.TheVariants.{Joined, Spent}
+use Rattle.uecp_link.specs.declared.joining.Replies.{Replies}
 use Rattle.uecp_link.specs.declared.joining.Seen.{Seen}
 use Rattle.uecp_link.specs.declared.joining.Seen.TheVariants.{Neither, First, Both}
 use Rattle.uecp_link.specs.Frames.{frame_under}
@@ -27,14 +28,26 @@ use Rattle.uecp_link.specs.Server.{ServerState, reply_from, heard}
 
 -- ---- What is sent.
 
--- The frames of a pass as they are sent: an empty message under each of 01, 02 .. FF, in this order. (profile; SPB 490,
--- frame format)
-unfoldable pub frames_of_pass : (address : ℕ) → List (List ℕ)
-frames_of_pass address = map (λ counter. spelling (frame_under address (counter, []))) (rising 0x01 255)
+-- The counters of a pass that goes on behind this one, in the order in which their frames are sent: those above it, up
+-- to FF; behind 00 all, 01, 02 .. FF. Behind one of 81 .. FE the counter 81 comes once more, before FF: whoever has
+-- joined has the replies to both from one connection. (profile; SPB 490, sequence counter)
+abbrev pub counters_behind : (behind : ℕ) → List ℕ
+counters_behind behind =
+    if nat_lt behind 0x81 then rising (behind + 1) (255 - behind)
+    else rising (behind + 1) (254 - behind) ++ 0x81 ∷ 0xFF ∷ []
 
--- A pass: its frames, one after another.
+-- The frames of such a pass: an empty message under each of these counters. (profile; SPB 490, frame format)
+unfoldable pub frames_behind : (address behind : ℕ) → List (List ℕ)
+frames_behind address behind =
+    map (λ counter. spelling (frame_under address (counter, []))) (counters_behind behind)
+
+-- What is sent of it: its frames, one after another.
+abbrev pub sent_behind : (address behind : ℕ) → List ℕ
+sent_behind address behind = concat (frames_behind address behind)
+
+-- A whole pass.
 abbrev pub pass_sent : (address : ℕ) → List ℕ
-pass_sent address = concat (frames_of_pass address)
+pass_sent address = sent_behind address 0
 
 -- ---- What is read.
 
@@ -57,6 +70,18 @@ pub record IsJoinedBy (counters : List ℕ) : Type 0 where
 -- Some bytes of a new connection bring the reply to 81 and, after it, the reply to FF.
 abbrev pub BringsBoth : (address : ℕ) → List ℕ → Type 0
 BringsBoth address bytes = IsJoinedBy (reply_counters address NothingOpen bytes)
+
+-- ---- Where a pass goes on.
+
+-- The highest of these counters, and of this one.
+abbrev pub highest_of : (so_far : ℕ) → List ℕ → ℕ
+highest_of so_far [] = so_far
+highest_of so_far (counter ∷ counters) = highest_of (max so_far counter) counters
+
+-- Behind which counter the next part of a pass goes on, where one behind this counter got replies, the highest of them
+-- to this one, or to none (0): behind the highest so far; from 01 again where none came, or one to FF.
+abbrev pub goes_on_behind : (behind highest : ℕ) → ℕ
+goes_on_behind behind highest = if highest == 0 || highest == 0xFF then 0 else max behind highest
 
 -- ---- What a call does.
 
@@ -86,23 +111,25 @@ RepliesEnd address read unread turns reads failed (Err Closed) =
 RepliesEnd address read unread turns reads failed (Err (WriteFailed w)) = ⊥
 RepliesEnd address read unread turns reads failed (Err TriesSpent) = ⊥
 
--- How a pass ended. A write failed: the first w bytes of the pass were sent, not all, and no read was made. Else the
--- pass was sent whole, and the reads ended.
-abbrev pub PassEnds : (address : ℕ) → (read sent : List ℕ) → (unread : Option (List ℕ)) → (turns reads failed : ℕ)
-    → Result Joining DriveFault → Type 0
-PassEnds address read sent unread turns reads failed (Err (WriteFailed w)) =
-    (sent ≡ take w (pass_sent address)) × (w < length (pass_sent address)) × (read ≡ []) × (reads ≡ 0) × (failed ≡ 0)
-PassEnds address read sent unread turns reads failed (Err Closed) =
-    (sent ≡ pass_sent address) × RepliesEnd address read unread turns reads failed (Err Closed)
-PassEnds address read sent unread turns reads failed (Err TriesSpent) = ⊥
-PassEnds address read sent unread turns reads failed (Ok joining) =
-    (sent ≡ pass_sent address) × RepliesEnd address read unread turns reads failed (Ok joining)
+-- How a pass ended that went on behind this counter. A write failed: the first w bytes of it were sent, not all, and no
+-- read was made. Else it was sent to its end, and the reads ended.
+abbrev pub PassEnds : (address behind : ℕ) → (read sent : List ℕ) → (unread : Option (List ℕ))
+    → (turns reads failed : ℕ) → Result Joining DriveFault → Type 0
+PassEnds address behind read sent unread turns reads failed (Err (WriteFailed w)) =
+    (sent ≡ take w (sent_behind address behind)) × (w < length (sent_behind address behind)) × (read ≡ [])
+    × (reads ≡ 0) × (failed ≡ 0)
+PassEnds address behind read sent unread turns reads failed (Err Closed) =
+    (sent ≡ sent_behind address behind) × RepliesEnd address read unread turns reads failed (Err Closed)
+PassEnds address behind read sent unread turns reads failed (Err TriesSpent) = ⊥
+PassEnds address behind read sent unread turns reads failed (Ok joining) =
+    (sent ≡ sent_behind address behind) × RepliesEnd address read unread turns reads failed (Ok joining)
 
--- A pass from one state of the server to another, over a reader and a writer before and after it: what was sent and
--- read, by how many reads, and how it ended. The server begins anew and hears all that was read; as it holds nothing,
--- each reply counts as stray. But for `Closed`, no read brought nothing; there one did.
+-- A pass that goes on behind a counter, and behind which the next goes on, from one state of the server to another, over
+-- a reader and a writer before and after it: what was sent and read, by how many reads, and how it ended. The server
+-- begins anew and hears all that was read; as it holds nothing, each reply counts as stray. But for `Closed`, no read
+-- brought nothing; there one did.
 pub record MakesPass {R W : Type 0} (remaining : R → Option (List ℕ)) (contents : W → Option (List ℕ))
-    (old new : ServerState) (reader reader' : Metered R) (writer writer' : Metered W) (turns : ℕ)
+    (behind behind' : ℕ) (old new : ServerState) (reader reader' : Metered R) (writer writer' : Metered W) (turns : ℕ)
     (result : Result Joining DriveFault) : Type 0 where
   pub read : List ℕ
   pub sent : List ℕ
@@ -111,7 +138,8 @@ pub record MakesPass {R W : Type 0} (remaining : R → Option (List ℕ)) (conte
   pub reading : Reads remaining reader reader' read reads failed (is_closed result)
   pub appended : Appends (contents writer.device) (contents writer'.device) sent
   pub state : new ≡ heard (anew old) read
-  pub ends : PassEnds old.address read sent (remaining reader'.device) turns reads failed result
+  pub ends : PassEnds old.address behind read sent (remaining reader'.device) turns reads failed result
+  pub goes_on : behind' ≡ goes_on_behind behind (highest_of 0 (reply_counters old.address NothingOpen read))
   pub few_reads : reads ≤ turns
   pub write_failures : writer'.failures ≡ write_failures result writer.failures
 
@@ -136,14 +164,16 @@ pub record IsOver {V : Type 0} (step : Step V) (e : EncoderState V) (got coming 
 
 -- On a line that keeps the order of each direction and loses nothing but its end: where an empty message leaves the
 -- target as it is, and whatever happened to an encoder since it was new, if nothing is open at it, a pass is sent to
--- it, and what was read of its replies brings both, then all is over.
+-- it, whole or behind whatever counter, and what was read of its replies brings both, then all is over. So nothing of
+-- what was answered on other connections counts, nor what came to the encoder between them.
 abbrev pub JoinsOverALine : {V : Type 0} → Step V → Type 0
 JoinsOverALine {V} step =
     ((v : V) → (step v []).0 ≡ v) →
-    (address : ℕ) (value : V) (before : List (Happening V)) (got coming read unread : List ℕ) →
+    (address behind : ℕ) (value : V) (before : List (Happening V)) (got coming read unread : List ℕ) →
     let e : EncoderState V = after_happenings step (opening address value) before in
     e.part ≡ NothingOpen →
-    got ++ coming ≡ pass_sent address →
+    behind ≤ 0xFE →
+    got ++ coming ≡ sent_behind address behind →
     read ++ unread ≡ answers step e got →
     BringsBoth address read →
     IsOver step e got coming read unread
@@ -170,30 +200,45 @@ abbrev pub seen_after : Seen → List ℕ → Seen
 seen_after seen [] = seen
 seen_after seen (counter ∷ counters) = seen_after (seen_with seen counter) counters
 
+-- What was read of the replies, after one to this counter more.
+abbrev pub replies_with : Replies → ℕ → Replies
+replies_with replies counter =
+    record { seen = seen_with replies.seen counter; highest = max replies.highest counter }
+
+-- And after counters, one after another.
+abbrev pub replies_after : Replies → List ℕ → Replies
+replies_after replies [] = replies
+replies_after replies (counter ∷ counters) = replies_after (replies_with replies counter) counters
+
+-- No reply.
+abbrev pub no_replies : Replies
+no_replies = record { seen = Neither; highest = 0 }
+
 -- The reads of a pass from a server with nothing open and nothing held (private).
 pub record ReadsReplies {R : Type 0} (remaining : R → Option (List ℕ)) (old new : ServerState)
-    (reader reader' : Metered R) (turns : ℕ) (result : Result Joining DriveFault) : Type 0 where
+    (reader reader' : Metered R) (turns : ℕ) (replies : Replies) (result : Result Joining DriveFault) : Type 0 where
   pub read : List ℕ
   pub reads : ℕ
   pub failed : ℕ
   pub reading : Reads remaining reader reader' read reads failed (is_closed result)
   pub state : new ≡ heard old read
   pub ends : RepliesEnd old.address read (remaining reader'.device) turns reads failed result
+  pub replies_are : replies ≡ replies_after no_replies (reply_counters old.address old.part read)
   pub few_reads : reads ≤ turns
 
 -- So many reads, none of which failed or brought nothing, after which the two replies were not both read (private).
 pub record ReadSoFar {R : Type 0} (remaining : R → Option (List ℕ)) (old new : ServerState) (reader reader' : Metered R)
-    (seen : Seen) (reads : ℕ) : Type 0 where
+    (replies : Replies) (reads : ℕ) : Type 0 where
   pub read : List ℕ
   pub reading : Reads remaining reader reader' read reads 0 false
   pub state : new ≡ heard old read
   pub idle : new.held ≡ []
-  pub seen_is : seen ≡ seen_after Neither (reply_counters old.address old.part read)
-  pub waits : seen ≢ Both
+  pub replies_are : replies ≡ replies_after no_replies (reply_counters old.address old.part read)
+  pub waits : replies.seen ≢ Both
 
 -- A piece is heard up to its rest, which brings what is left of the replies (private).
-pub record HearsOn (old new : ServerState) (piece rest : List ℕ) (seen seen' : Seen) : Type 0 where
+pub record HearsOn (old new : ServerState) (piece rest : List ℕ) (replies replies' : Replies) : Type 0 where
   pub state : heard new rest ≡ heard old piece
   pub idle : new.held ≡ []
-  pub seen_is : seen_after seen' (reply_counters new.address new.part rest)
-      ≡ seen_after seen (reply_counters old.address old.part piece)
+  pub replies_are : replies_after replies' (reply_counters new.address new.part rest)
+      ≡ replies_after replies (reply_counters old.address old.part piece)

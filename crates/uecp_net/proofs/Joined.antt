@@ -12,11 +12,11 @@ use Rattle.uecp_net.specs.Laws.{BeginsAnewOrIsJoined}
 module _ {C I O : Type 0} (opens : C → Option (I × O) → C → Type 0) (closes : C → I → O → C → Type 0)
     (remaining : I → Option (List ℕ)) (contents : O → Option (List ℕ)) where
   -- a server that has joined is as a new one
-  joined_new : (ended : ℕ) (before : Outstanding) (s s' : SenderOver C I O) → JoinsOver opens closes remaining contents
-      ended before s s' (Ok tt) → (s'.sender.server.last ≡ 0) × (s'.sender.server.held ≡ [])
-  joined_new (suc n) before s s' (went, reason, last, next, passes, end_is, hangs_up, left, more) =
-      joined_new n reason (reconnecting next) s' more
-  joined_new zero before s s' passes =
+  joined_new : (ended : ℕ) (before : Outstanding) (behind : ℕ) (s s' : SenderOver C I O)
+      → JoinsOver opens closes remaining contents ended before behind s s' (Ok tt) → (s'.sender.server.last ≡ 0) × (s'.sender.server.held ≡ [])
+  joined_new (suc n) before behind s s' (went, reason, behind', last, next, passes, end_is, hangs_up, left, more) =
+      joined_new n reason behind' (reconnecting next) s' more
+  joined_new zero before behind s s' (behind', passes) =
       let still = still_new passes.start.sender.server s'.sender.server passes.went.read passes.went.state in (
         ap (λ (d : ServerState). d.last) still,
         ap (λ (d : ServerState). d.held) still,
@@ -29,7 +29,7 @@ module _ {C I O : Type 0} (opens : C → Option (I × O) → C → Type 0) (clos
   )
   begins_anew_lem before after old new ended left not_joined idle joins (inr (is, has)) =
       let (first, many, hangs_up, over) = joins has in
-      let fresh = joined_new many ConnectionFailed first new over in inr (
+      let fresh = joined_new many ConnectionFailed 0 first new over in inr (
         has,
         ap (λ (l : KeptServer). l.held) is ∙ fresh.1,
         ap (λ (l : KeptServer). l.last) is ∙ fresh.0,

@@ -20,7 +20,7 @@ abbrev pub Joins : {C I O : Type 0} → (opens : C → Option (I × O) → C →
     → Result (Unit {0}) Reason → Type 0
 Joins {C} {I} {O} opens closes remaining contents s s' result =
     (first : SenderOver C I O) × (ended : ℕ) × HangsUp closes s first
-    × JoinsOver opens closes remaining contents ended ConnectionFailed first s' result
+    × JoinsOver opens closes remaining contents ended ConnectionFailed 0 first s' result
 
 -- A pass was complete, and then the server was saved, as joined; or none was, and nothing was saved; or one was, and
 -- then that save failed.

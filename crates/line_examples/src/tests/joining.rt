@@ -107,7 +107,8 @@ fn joins(rt: &impl Abort, server: &mut Server, pass: &[u8], replies: &[u8]) {
     let mut reader = Meter::new(FaultyReader::new(replies));
     let mut writer = Meter::new(FaultyWriter::new());
     holds!(rt; server.is_idle());
-    let joined = join(server, &mut reader, &mut writer, 4096);
+    let mut behind = 0;
+    let joined = join(server, &mut reader, &mut writer, 4096, &mut behind);
     same!(rt; joined, Ok(Joining::Joined));
     holds!(rt; writer.into_inner().taken() == pass);
 }
@@ -129,7 +130,8 @@ fn is_joined(rt: &impl Abort, encoder: &mut Encoder<BytesTarget>, pass: &[u8], c
 fn write_pass(rt: &impl Abort, writer: &mut Meter<FaultyWriter<'_>>) {
     let mut server = Server::new(own_address());
     let mut reader = Meter::new(FaultyReader::new(b""));
-    let joined = join(&mut server, &mut reader, writer, 0);
+    let mut behind = 0;
+    let joined = join(&mut server, &mut reader, writer, 0, &mut behind);
     same!(rt; joined, Ok(Joining::Spent));
 }
 

@@ -15,6 +15,7 @@ returns-clause-runs g c = record {
   pass = c.join-pass.result;
   input_joined = c.join-pass.new.reader;
   output_joined = c.join-pass.new.writer;
+  behind = c.join-pass.new.behind;
   joined = search rules;
   input_left = c.go_on-outcome.new.input;
   output_left = c.go_on-outcome.new.output;

@@ -1,6 +1,4 @@
-use Rattle.std.proofs.Common.{rules, arith, ◌≡◌, ◌≢◌, ◌≤◌, refl, length, take, subst, inl, inr}
-use Rattle.std.specs.Io.KnownBytes.{Consumes}
-use Rattle.uecp_encoder.specs.Metered.{counted}
+use Rattle.std.proofs.Common.{rules, arith, ◌≡◌, ◌≢◌, ◌≤◌, refl, length, take, inl, inr}
 use Rattle.uecp_link.specs.declared.joining.Seen.TheVariants.{Both}
 use Rattle.uecp_link.proofs.Reading.{no_read, one_read, failed_read, last_read}
 use Rattle.uecp_link.proofs.Passing.{read_none, read_on, not_brought, replies_both, replies_quiet}
@@ -8,6 +6,7 @@ use Rattle.uecp_link.proofs.joining.read_replies.Goals as goal
 
 pub loop-turn-init : goal.loop-turn-init
 loop-turn-init g c = read_none g.R.Read.remaining c.args.server.now c.args.reader.now c.requires.idle
+    c.args.replies.now c.requires.none
 
 pub returns : goal.returns
 returns g c =
@@ -44,9 +43,9 @@ returns-then-eq g c =
     let stays : c.read.new.self.empty ≡ c.loop-turn.reader.empty = search rules in
     let brought = one_read g.R.Read.remaining c.loop-turn.reader _ piece c.in-Ok.ensures.bytes.0 room
     c.read.ensures.calls c.in-Ok.ensures.failures stays in
-    let both : c.hear_replies-seen.result ≡ Both = search rules in
+    let both : c.hear_replies.result.seen ≡ Both = search rules in
     replies_both g.R.Read.remaining _ _ _ c.loop-turn.reader _ c.loop-turn._turn c.loop-turn.invariant _ _
-    c.hear_replies-seen.result piece
+    c.hear_replies.result piece
     c.args.turns c.requires.closed brought (search rules) (search rules) both (omega arith)
 
 pub loop-turn-preserved : goal.loop-turn-preserved
@@ -56,7 +55,7 @@ loop-turn-preserved g c =
     let stays : c.read.new.self.empty ≡ c.loop-turn.reader.empty = search rules in
     let brought = one_read g.R.Read.remaining c.loop-turn.reader _ piece c.in-Ok.ensures.bytes.0 room
     c.read.ensures.calls c.in-Ok.ensures.failures stays in
-    let waits : c.hear_replies-seen.result ≢ Both = search rules in
+    let waits : c.hear_replies.result.seen ≢ Both = search rules in
     read_on g.R.Read.remaining _ _ _ c.loop-turn.reader _ c.loop-turn._turn c.loop-turn.invariant _ _
-    c.hear_replies-seen.result piece
+    c.hear_replies.result piece
     brought (search rules) (search rules) waits

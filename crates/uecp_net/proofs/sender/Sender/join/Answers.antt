@@ -12,6 +12,7 @@ connections-init g c =
     c.args.self.now c.hang_up.new.self c.hang_up.ensures in
     record {
       idle = ap (λ s. s.server.held) same ∙ c.requires.idle;
+      part = omega arith;
       none = hung_none g.C.Input.Read.remaining g.C.Output.Write.contents g.C.Connections.opens g.C.Connections.closes
           c.args.self.now c.hang_up.new.self c.hang_up.ensures;
       loan = hung_loan g.C.Input.Read.remaining g.C.Output.Write.contents g.C.Connections.opens g.C.Connections.closes
@@ -30,18 +31,18 @@ returns-in-None-clause-joins g c = c.connections.invariant.on c.pass.new.self _ 
 pub returns-in-Some-Ok-clause-joins : goal.returns-in-Some-Ok-clause-joins
 returns-in-Some-Ok-clause-joins g c = c.connections.invariant.on c.pass.new.self _ 0
     (joined_by g.C.Input.Read.remaining g.C.Output.Write.contents g.C.Connections.opens g.C.Connections.closes
-    c.connections.self c.pass.new.self c.connections.reason
-    (subst (PassesTo g.C.Connections.opens g.C.Input.Read.remaining g.C.Output.Write.contents c.connections.self
-    c.pass.new.self) c.in-Some-Ok.field-0-is c.in-Some-Ok.ensures.passes))
+    c.connections.self c.pass.new.self c.connections.reason c.connections.behind c.pass.new.behind
+    (subst (PassesTo g.C.Connections.opens g.C.Input.Read.remaining g.C.Output.Write.contents c.connections.behind
+    c.pass.new.behind c.connections.self c.pass.new.self) c.in-Some-Ok.field-0-is c.in-Some-Ok.ensures.passes))
 
 pub returns-then-self-eq0-clause-joins : goal.returns-then-self-eq0-clause-joins
 returns-then-self-eq0-clause-joins g c =
     let (went, passes, end_is) = subst (PassesTo g.C.Connections.opens g.C.Input.Read.remaining
-    g.C.Output.Write.contents
+    g.C.Output.Write.contents c.connections.behind c.pass.new.behind
     c.connections.self c.pass.new.self) c.in-Some-Err.field-0-is c.in-Some-Err.ensures.passes in
     let none : c.hang_up-in-connections.new.self.sender.left ≡ 0 = search rules in
     rw (← c.in-Some-Err.why-is) at (c.connections.invariant.on c.hang_up-in-connections.new.self (Err c.in-Some-Err.why)
-    0 (inr (went, c.pass.new.self, passes, end_is, c.hang_up-in-connections.ensures, none)))
+    0 (inr (went, c.pass.new.behind, c.pass.new.self, passes, end_is, c.hang_up-in-connections.ensures, none)))
 
 pub connections-preserved : goal.connections-preserved
 connections-preserved g c =
@@ -57,6 +58,7 @@ connections-preserved g c =
     hung.new.self c.self.view_is in
     record {
       idle = ap (λ s. s.sender.server.held) c.self.view_is ∙ ap (λ s. s.server.held) same ∙ c.pass.ensures.idle;
+      part = c.pass.ensures.part;
       none = ap (λ s. s.ends) c.self.view_is ∙ hung_none g.C.Input.Read.remaining g.C.Output.Write.contents
           g.C.Connections.opens g.C.Connections.closes c.pass.new.self hung.new.self hung.ensures;
       loan = ap (λ s. s.loan) c.self.view_is ∙ hung_loan g.C.Input.Read.remaining g.C.Output.Write.contents
@@ -67,7 +69,8 @@ connections-preserved g c =
           c.connections.invariant.on end result (n + 1)
           (joins_on g.C.Input.Read.remaining g.C.Output.Write.contents g.C.Connections.opens g.C.Connections.closes
           c.connections.self c.pass.new.self hung.new.self _ end result n c.connections.reason c.in-Some-Err.why
-          (subst (PassesTo g.C.Connections.opens g.C.Input.Read.remaining g.C.Output.Write.contents c.connections.self
-          c.pass.new.self) c.in-Some-Err.field-0-is c.in-Some-Err.ensures.passes) hung.ensures
+          c.connections.behind c.pass.new.behind
+          (subst (PassesTo g.C.Connections.opens g.C.Input.Read.remaining g.C.Output.Write.contents
+          c.connections.behind c.pass.new.behind c.connections.self c.pass.new.self) c.in-Some-Err.field-0-is c.in-Some-Err.ensures.passes) hung.ensures
           (omega (arith, some, left_same)) next_is (rw (← c.in-Some-Err.why-is) joins));
     }
