@@ -64,7 +64,13 @@ pub fn run_case<C: Connections>(
     let mut output = Meter::new(output);
     let mut server = Server::new(way.own);
     let mut behind = 0;
-    let pass = join(&mut server, &mut waiting, &mut output, READS_MAX, &mut behind);
+    let pass = join(
+        &mut server,
+        &mut waiting,
+        &mut output,
+        READS_MAX,
+        &mut behind,
+    );
     let unheard = is_unheard(pass, waiting.calls(), waiting.failures());
     let mut input = Meter::new(waiting.into_inner().into_inner());
     let exchange = Exchange {

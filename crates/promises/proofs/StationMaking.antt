@@ -155,7 +155,8 @@ said_station_made_lem v e ready shut alike events outcomes line a =
 
 -- and over a connection
 pub joined_then_told_lem : JoinedThenTold
-joined_then_told_lem address behind first before got coming read unread shut most all said brings v alike events outcomes line a =
+joined_then_told_lem address behind first before got coming read unread shut most all said brings v alike events
+    outcomes line a =
     let e : EncoderState Store = after_happenings store_step (opening address first) before in
     let j : HasJoinedWith (fed store_step e got) e.value =
     (joins_over_a_line_lem store_step (λ w. ap (λ (r : Store × Code). r.0) (empty_message_changes_nothing w)) address

@@ -62,7 +62,8 @@ abbrev pub JoinedThenTold : Type 0
 JoinedThenTold =
     (address behind : ℕ) (first : Store) (before : List (Happening Store)) (got coming read unread : List ℕ) →
     let e : EncoderState Store = after_happenings store_step (opening address first) before in
-    e.part ≡ Closed → behind ≤ 0xFE → got ++ coming ≡ sent_behind address behind → read ++ unread ≡ answers store_step e got
+    e.part ≡ Closed → behind ≤ 0xFE → got ++ coming ≡ sent_behind address behind
+    → read ++ unread ≡ answers store_step e got
     → BringsBoth address read
     → (v : Store) → AreAlike v e.value → (events : List Event) (outcomes : List Outcome) (line : LineState Store)
     → IsAcknowledged store_step group_taken (fed store_step e got) (messages_of v) events outcomes line

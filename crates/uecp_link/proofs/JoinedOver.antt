@@ -72,8 +72,8 @@ read_of address made read unread is brought =
       closed = λ e. h.closed (none e);
     }
 
--- What there is to know of a part of a pass that came so far: the replies to it, and that it came to its end, with which
--- the encoder has joined.
+-- What there is to know of a part of a pass that came so far: the replies to it, and that it came to its end, with
+-- which the encoder has joined.
 record Over {V : Type 0} (step : Step V) (e : EncoderState V) (made : List (ℕ × Code)) (come to_come : List Frame)
     (later : List ℕ) : Type 0 where
   pub all_come : to_come ≡ []

@@ -1,5 +1,6 @@
 -- A pass: its frames, and the reads that end with both replies.
-use Rattle.std.proofs.Common.{◌≡◌, ◌≢◌, ℕ, zero, suc, ◌+◌, ◌-◌, ◌<◌, ◌≤◌, true, false, List, [], ◌∷◌, ◌++◌, length, map, take}
+use Rattle.std.proofs.Common.{◌≡◌, ◌≢◌, ℕ, zero, suc, ◌+◌, ◌-◌, ◌<◌, ◌≤◌, true, false, List, [], ◌∷◌, ◌++◌, length, map}
+use Rattle.std.proofs.Common.{take}
 use Rattle.std.proofs.Common.{drop, Option, Some, None, Result, Ok, Err, refl, ◌∙◌, ap, sym, subst, arith}
 use Rattle.std.proofs.Common.{length-append, append-nil, take-append-drop}
 use Rattle.std.specs.Prelude.{slice_get, nat_lt}
@@ -59,7 +60,8 @@ length-risen first zero ys = omega arith
 length-risen first (suc many) ys = let rest = length-risen (first + 1) many ys in omega (arith, rest)
 
 -- where 81 comes once
-pub whole_behind : (behind : ℕ) → nat_lt behind 0x81 ≡ true → counters_behind behind ≡ rising (behind + 1) (255 - behind)
+pub whole_behind : (behind : ℕ) → nat_lt behind 0x81 ≡ true
+    → counters_behind behind ≡ rising (behind + 1) (255 - behind)
 whole_behind behind early = rw early refl
 
 -- where it comes once more

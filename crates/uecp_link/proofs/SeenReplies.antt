@@ -168,7 +168,8 @@ seen_on s0 s x y replies0 replies state is =
 -- one call of `hear_reply` more
 pub hears_more : (s0 s s' : ServerState) (n : ℕ) (piece rest rest' : List ℕ) (replies0 replies replies' : Replies)
     → HearsOn s0 s piece rest replies0 replies → s' ≡ heard s (take n rest) → rest' ≡ drop n rest
-    → replies' ≡ replies_after replies (reply_counters s.address s.part (take n rest)) → HearsOn s0 s' piece rest' replies0 replies'
+    → replies' ≡ replies_after replies (reply_counters s.address s.part (take n rest))
+    → HearsOn s0 s' piece rest' replies0 replies'
 hears_more s0 s s' n piece rest rest' replies0 replies replies' so_far state left is =
     let x : List ℕ = take n rest in
     let y : List ℕ = drop n rest in

@@ -124,10 +124,10 @@ PassEnds address behind read sent unread turns reads failed (Err TriesSpent) = �
 PassEnds address behind read sent unread turns reads failed (Ok joining) =
     (sent ≡ sent_behind address behind) × RepliesEnd address read unread turns reads failed (Ok joining)
 
--- A pass that goes on behind a counter, and behind which the next goes on, from one state of the server to another, over
--- a reader and a writer before and after it: what was sent and read, by how many reads, and how it ended. The server
--- begins anew and hears all that was read; as it holds nothing, each reply counts as stray. But for `Closed`, no read
--- brought nothing; there one did.
+-- A pass that goes on behind the one counter, and behind the other of which the next goes on, from one state of the
+-- server to another, over a reader and a writer before and after it: what was sent and read, by how many reads, and how
+-- it ended. The server begins anew and hears all that was read; as it holds nothing, each reply counts as stray. But
+-- for `Closed`, no read brought nothing; there one did.
 pub record MakesPass {R W : Type 0} (remaining : R → Option (List ℕ)) (contents : W → Option (List ℕ))
     (behind behind' : ℕ) (old new : ServerState) (reader reader' : Metered R) (writer writer' : Metered W) (turns : ℕ)
     (result : Result Joining DriveFault) : Type 0 where

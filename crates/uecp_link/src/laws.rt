@@ -54,9 +54,9 @@ pub fn once_and_in_order_from<T: Target>()
 
 /// Both directions of one connection, each of which keeps its order and loses nothing but its end. A pass, whole or
 /// behind whatever counter, comes to an encoder that has nothing open and at whose target an empty message changes
-/// nothing, whatever happened to it before, and its replies come back, each as far as it may. Once the reply to 81 was read and after it the reply to FF, no frame of the pass and no reply is
-/// still to come, nothing is open at either end, and the encoder has its target as it was, keeps the replies to 81 ..
-/// FF and no other, and expects 01.
+/// nothing, whatever happened to it before, and its replies come back, each as far as it may. Once the reply to 81 was
+/// read and after it the reply to FF, no frame of the pass and no reply is still to come, nothing is open at either
+/// end, and the encoder has its target as it was, keeps the replies to 81 .. FF and no other, and expects 01.
 pub fn joined_over_a_line<T: Target>()
     ensures { JoinsOverALine T.step }
 {}

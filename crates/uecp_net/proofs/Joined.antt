@@ -13,7 +13,8 @@ module _ {C I O : Type 0} (opens : C → Option (I × O) → C → Type 0) (clos
     (remaining : I → Option (List ℕ)) (contents : O → Option (List ℕ)) where
   -- a server that has joined is as a new one
   joined_new : (ended : ℕ) (before : Outstanding) (behind : ℕ) (s s' : SenderOver C I O)
-      → JoinsOver opens closes remaining contents ended before behind s s' (Ok tt) → (s'.sender.server.last ≡ 0) × (s'.sender.server.held ≡ [])
+      → JoinsOver opens closes remaining contents ended before behind s s' (Ok tt)
+      → (s'.sender.server.last ≡ 0) × (s'.sender.server.held ≡ [])
   joined_new (suc n) before behind s s' (went, reason, behind', last, next, passes, end_is, hangs_up, left, more) =
       joined_new n reason behind' (reconnecting next) s' more
   joined_new zero before behind s s' (behind', passes) =

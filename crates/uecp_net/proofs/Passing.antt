@@ -13,7 +13,8 @@ use Rattle.uecp_net.specs.declared.sender.Outstanding.{Outstanding}
 module _ {C I O : Type 0} (remaining : I → Option (List ℕ)) (contents : O → Option (List ℕ))
     (opens : C → Option (I × O) → C → Type 0) (closes : C → I → O → C → Type 0) where
   -- the sender opened a connection, took its ends out, and put them back after the pass
-  pub passed : (behind behind' : ℕ) (old start now : SenderOver C I O) (server : ServerState) (ends ends' : TwoEnds I O) (turns : ℕ)
+  pub passed : (behind behind' : ℕ) (old start now : SenderOver C I O) (server : ServerState) (ends ends' : TwoEnds I O)
+      (turns : ℕ)
       (result : Result Joining DriveFault) → old.ends ≡ None → Opens opens old start → start.ends ≡ Some ends
       → now ≡ without_ends start →
       turns ≡ pass_turns now.sender.turns → MakesPass remaining contents behind behind' now.sender.server server

@@ -45,8 +45,8 @@ impl<'a, C: Connections> Sender<'a, C> {
         }
     }
 
-    /// Makes a pass over a new connection, which goes on behind a counter, and says what it came to; or None where there
-    /// is no connection to be had.
+    /// Makes a pass over a new connection, which goes on behind a counter, and says what it came to; or None where
+    /// there is no connection to be had.
     fn pass(&mut self, behind: &mut u8) -> Option<Result<(), Outstanding>>
         requires idle { self.old.sender.server.held ≡ [] }
         requires none { self.old.ends ≡ None }

@@ -9,7 +9,8 @@ use Rattle.uecp_link.proofs.joining.join.Goals as goal
 pub returns-in-Err-clause-passes : goal.returns-in-Err-clause-passes
 returns-in-Err-clause-passes g c =
     let (below, wrote) = c.in-Err.ensures.err in
-    pass_unread g.R.Read.remaining g.W.Write.contents c.args.behind.now c.args.server.now c.begin_anew.new.self c.args.reader.now
+    pass_unread g.R.Read.remaining g.W.Write.contents c.args.behind.now c.args.server.now c.begin_anew.new.self
+    c.args.reader.now
     c.args.writer.now c.write_pass.new.writer c.args.turns
     (take c.in-Err.written (sent_behind c.args.server.now.address c.args.behind.now)) _
     c.begin_anew.ensures (search rules) (search rules) (search rules) refl
@@ -19,7 +20,8 @@ returns-clause-passes g c =
     pass_read g.R.Read.remaining g.W.Write.contents c.args.behind.now _ c.args.server.now c.begin_anew.new.self
     c.read_replies-ended.new.server
     c.args.reader.now c.read_replies-ended.new.reader c.args.writer.now c.write_pass.new.writer c.args.turns _
-    c.read_replies-ended.result c.begin_anew.ensures (search rules) c.in_default.ensures.failures c.read_replies-ended.ensures
+    c.read_replies-ended.result c.begin_anew.ensures (search rules) c.in_default.ensures.failures
+    c.read_replies-ended.ensures
     (search rules)
 
 pub returns-clause-idle : goal.returns-clause-idle

@@ -53,7 +53,9 @@ loop-place-preserved g c =
 
 pub returns-clause-ok : goal.returns-clause-ok
 returns-clause-ok g c =
-    let all : c.loop-place.place ≡ length (counters_behind c.args.behind) = omega (arith, c.count_behind-place-end.ensures) in
+    let all : c.loop-place.place ≡ length (counters_behind c.args.behind) =
+    omega (arith, c.count_behind-place-end.ensures) in
     subst (λ (fs : List (List ℕ)). Appends (g.W.Write.contents c.args.writer.now.device)
     (g.W.Write.contents c.loop-place.writer.device) (concat fs))
-    (ap (λ n. take n (frames_behind c.args.address c.args.behind)) all ∙ frames_all c.args.address c.args.behind) c.loop-place.invariant.appended
+    (ap (λ n. take n (frames_behind c.args.address c.args.behind)) all ∙ frames_all c.args.address c.args.behind)
+    c.loop-place.invariant.appended

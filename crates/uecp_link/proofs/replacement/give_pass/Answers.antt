@@ -17,7 +17,8 @@ loop-before-preserved g c =
     let place : ℕ = c.loop-before.before in
     let f : List ℕ = spelling (frame_under c.args.address (place + 1, [])) in
     let here : slice_get fs place ≡ Some f = frame_there c.args.address 0 place (place + 1)
-    (early_there 0 place refl (omega arith) ∙ ap (λ n. Some n) (let e : 0 + 1 + place ≡ place + 1 = omega arith in e)) in
+    (early_there 0 place refl (omega arith) ∙ ap (λ n. Some n)
+    (let e : 0 + 1 + place ≡ place + 1 = omega arith in e)) in
     let sent : c.as_slice.result.now ≡ f = search rules in
     let more : concat (take (place + 1) fs) ≡ concat (take place fs) ++ f = frames_more fs place f here in
     c.give_cut.ensures.state ∙ ap (λ bs. fed g.T.Target.step c.loop-before.encoder bs) sent

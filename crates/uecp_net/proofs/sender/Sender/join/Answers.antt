@@ -71,6 +71,7 @@ connections-preserved g c =
           c.connections.self c.pass.new.self hung.new.self _ end result n c.connections.reason c.in-Some-Err.why
           c.connections.behind c.pass.new.behind
           (subst (PassesTo g.C.Connections.opens g.C.Input.Read.remaining g.C.Output.Write.contents
-          c.connections.behind c.pass.new.behind c.connections.self c.pass.new.self) c.in-Some-Err.field-0-is c.in-Some-Err.ensures.passes) hung.ensures
+          c.connections.behind c.pass.new.behind c.connections.self c.pass.new.self) c.in-Some-Err.field-0-is
+          c.in-Some-Err.ensures.passes) hung.ensures
           (omega (arith, some, left_same)) next_is (rw (← c.in-Some-Err.why-is) joins));
     }
