@@ -190,6 +190,7 @@ full_in_range name rows (EncoderWith o) is = let has = is.1 in (
   in_range _ _ _ _ has.is_turns,
   in_range _ _ _ _ has.is_idle,
   some_in_range _ _ _ _ has.is_yield,
+  some_in_range _ _ _ _ has.is_log_wait,
   in_range _ _ _ _ has.is_seed,
 )
 full_in_range name rows (ServerWith o) is = let has = is.1 in (

@@ -209,6 +209,7 @@ pub record IsEncoder (rows : List Row) (job : EncoderOptions) : Type 0 where
   pub is_yield : IsMaybe (one_of (codes "yield") rows) 0 86400 job.yield_after
   pub is_allow : option_map string_bytes job.allow ≡ first_of (codes "allow") rows
   pub is_log : IsFlag (one_of (codes "log") rows) job.log
+  pub is_log_wait : IsMaybe (one_of (codes "log-wait") rows) 0 86400 job.log_wait
   pub is_form : IsForm rows job.form
   pub is_time : IsTimed rows job.time
   pub is_store : IsFinalStore rows job.store
@@ -445,7 +446,8 @@ serving_options = maybe_word (codes "listen") ∷ maybe_number (codes "port") 1 
     ∷ number_option (codes "connections") 1 1000 (Some (codes "1"))
     ∷ number_option (codes "turns") 1 1000000 (Some (codes "100000")) ∷ flag (codes "forever")
     ∷ number_option (codes "idle") 0 86400 (Some (codes "0")) ∷ maybe_number (codes "yield") 0 86400
-    ∷ maybe_word (codes "allow") ∷ flag (codes "log") ∷ flag (codes "final-store") ∷ []
+    ∷ maybe_word (codes "allow") ∷ flag (codes "log") ∷ maybe_number (codes "log-wait") 0 86400
+    ∷ flag (codes "final-store") ∷ []
 
 -- The command `encoder`.
 abbrev pub listening_command : Shape

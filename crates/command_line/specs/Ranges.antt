@@ -32,7 +32,7 @@ abbrev pub IsEncoderInRange : EncoderOptions → Type 0
 IsEncoderInRange o = IsSetupInRange o.site o.encoder o.sets × IfSome o.port (Lies 1 65535)
     × IfSome o.air (Lies 1 65535)
     × Lies 1 1000 o.connections × Lies 1 1000000 o.turns × Lies 0 86400 o.idle × IfSome o.yield_after (Lies 0 86400)
-    × Lies 0 1000000000 o.seed
+    × IfSome o.log_wait (Lies 0 86400) × Lies 0 1000000000 o.seed
 
 -- Each number of what a server sends.
 abbrev pub IsServerInRange : ServerOptions → Type 0

@@ -2,7 +2,7 @@
 
 use crate::command_row::CommandRow;
 use crate::numbers::{
-    AIR_GROUPS, AIR_PORT, CASE_SILENT, CASE_TIMEOUT, CONNECTIONS, ENCODER, GIVE_UP, IDLE,
+    AIR_GROUPS, AIR_PORT, CASE_SILENT, CASE_TIMEOUT, CONNECTIONS, ENCODER, GIVE_UP, IDLE, LOG_WAIT,
     PAGE_PORT, PORT, QUIET, RECONNECTS, RETRY_EVERY, SEED, SERVE_TURNS, SETS, SILENT, SITE,
     TIMEOUT, TRIES, TRY_TURNS, WINDOW, YIELD,
 };
@@ -155,6 +155,7 @@ pub(crate) const ENCODER_COMMAND: CommandRow = CommandRow {
             "log",
             "Tell what comes and what becomes of it, a line each, behind the time",
         ),
+        OptionRow::MaybeNumber(LOG_WAIT),
         OptionRow::Flag("final-store", "Write the encoder's store at the end"),
         WORDS,
         RBDS,

@@ -7,7 +7,7 @@ ghost use Rattle.command_line.specs.CommandLine.{IsEncoder, IsFullOf, IsList, Re
 use crate::forms::{flag_of, form_of};
 use crate::matched::{given_of, is_timed, list_of, maybe_of, number_of, short_of, small_of};
 use crate::numbers::{
-    AIR_PORT, CONNECTIONS, ENCODER, IDLE, PORT, SEED, SERVE_TURNS, SETS, SITE, YIELD,
+    AIR_PORT, CONNECTIONS, ENCODER, IDLE, LOG_WAIT, PORT, SEED, SERVE_TURNS, SETS, SITE, YIELD,
 };
 use crate::send_options::word_of;
 use crate::usage::Usage;
@@ -60,6 +60,7 @@ fn with_words(
         yield_after: maybe_of(found, &YIELD),
         allow,
         log: flag_of(found, "log"),
+        log_wait: maybe_of(found, &LOG_WAIT),
         form: form_of(found),
         time: is_timed(found),
         store: flag_of(found, "final-store"),

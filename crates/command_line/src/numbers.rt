@@ -69,6 +69,15 @@ pub const YIELD: NumberOption = NumberOption {
     help: "After how many seconds with no good frame, or with no reply taken, a connection gives way to one that waits with a frame, 0 for never, up to 86400; 10 for a device",
 };
 
+/// For how many seconds `encoder` waits for whoever reads its log.
+pub const LOG_WAIT: NumberOption = NumberOption {
+    name: "log-wait",
+    least: 0,
+    most: 86_400,
+    default: None,
+    help: "For how many seconds a line of the log waits for whoever reads it, before it is left out and counted, 0 for not at all, up to 86400; 1 for a device",
+};
+
 /// The port of those who listen to what `encoder` has on the air.
 pub const AIR_PORT: NumberOption = NumberOption {
     name: "air",

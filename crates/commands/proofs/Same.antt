@@ -10,11 +10,11 @@ use Rattle.commands.specs.Jobs.{is_lines, is_device, in_full, short_encoder}
 
 -- ---- an encoder of which nothing later is asked
 full_encoder : (site encoder sets : ℕ) (services listen : _) (port : ℕ) (given air : Option ℕ) (air_bits : Bool)
-    (connections turns : ℕ) (forever : Bool) (idle : ℕ) (yield_after : Option ℕ) (allow : _) (log : Bool) (form : Form)
-    (time store : Bool) (faults : _) (seed : ℕ) (state : _) → listen ≡ None → given ≡ Some port → air ≡ None
-    → air_bits ≡ false → forever ≡ false
-    → idle ≡ 0 → yield_after ≡ None → allow ≡ None → log ≡ false → form ≡ Lines → time ≡ true → store ≡ false
-    → faults ≡ None → seed ≡ 0 → state ≡ None
+    (connections turns : ℕ) (forever : Bool) (idle : ℕ) (yield_after : Option ℕ) (allow : _) (log : Bool)
+    (log_wait : Option ℕ) (form : Form) (time store : Bool) (faults : _) (seed : ℕ) (state : _)
+    → listen ≡ None → given ≡ Some port → air ≡ None → air_bits ≡ false → forever ≡ false
+    → idle ≡ 0 → yield_after ≡ None → allow ≡ None → log ≡ false → log_wait ≡ None → form ≡ Lines → time ≡ true
+    → store ≡ false → faults ≡ None → seed ≡ 0 → state ≡ None
     → in_full (Encoder site encoder sets services port connections turns)
     ≡ EncoderWith (record {
       site = site;
@@ -32,6 +32,7 @@ full_encoder : (site encoder sets : ℕ) (services listen : _) (port : ℕ) (giv
       yield_after = yield_after;
       allow = allow;
       log = log;
+      log_wait = log_wait;
       form = form;
       time = time;
       store = store;
@@ -40,7 +41,7 @@ full_encoder : (site encoder sets : ℕ) (services listen : _) (port : ℕ) (giv
       state = state;
     })
 full_encoder site encoder sets services listen port given air air_bits connections turns forever idle yield_after allow
-    log form time store faults seed state a b c d e f y z g h i j k l m = cc
+    log log_wait form time store faults seed state a b c d e f y z g w h i j k l m = cc
 
 -- ---- what is asked of it
 none_of : {X : Type 0} (o : Option X) → is_some o ≡ false → o ≡ None
@@ -78,10 +79,11 @@ encoder_same false (Some port) o is given =
     let (seed, last) = neither _ _ numbers' in
     let (time, last') = neither _ _ last in
     let (who, form) = neither _ _ last' in
-    let (yield_after, allow) = neither _ _ who in
+    let (yield_after, who') = neither _ _ who in
+    let (allow, log_wait) = neither _ _ who' in
     full_encoder o.site o.encoder o.sets o.services o.listen port o.port o.air o.air_bits o.connections o.turns
-    o.forever o.idle o.yield_after o.allow o.log o.form o.time o.store o.faults o.seed o.state (none_of _ listen) given
-    (none_of _ air)
+    o.forever o.idle o.yield_after o.allow o.log o.log_wait o.form o.time o.store o.faults o.seed o.state
+    (none_of _ listen) given (none_of _ air)
     air_bits forever (eqb-true o.idle 0 (holds _ idle)) (none_of _ yield_after) (none_of _ allow) log
-    (lines_of o.form (holds _ form)) (holds _ time) store
+    (none_of _ log_wait) (lines_of o.form (holds _ form)) (holds _ time) store
     (none_of _ faults) (eqb-true o.seed 0 (holds _ seed)) (none_of _ state)

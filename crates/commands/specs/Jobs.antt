@@ -53,6 +53,7 @@ in_full (Encoder site encoder sets services port connections turns) = EncoderWit
   yield_after = None;
   allow = None;
   log = false;
+  log_wait = None;
   form = Lines;
   time = true;
   store = false;
@@ -89,7 +90,7 @@ abbrev pub is_device : EncoderOptions → Bool
 is_device o = (is_some o.listen || (is_some o.faults || is_some o.air))
     || ((o.air_bits || (o.forever || (o.log || o.store)))
     || (not (o.idle == 0) || (not (o.seed == 0) || (not o.time
-    || ((is_some o.yield_after || is_some o.allow) || not (is_lines o.form))))))
+    || ((is_some o.yield_after || (is_some o.allow || is_some o.log_wait)) || not (is_lines o.form))))))
 
 -- `answer` with the options that it had first, where no later one is given.
 abbrev pub short_answer : Form → (air : Option ℕ) → AnswerOptions → Job

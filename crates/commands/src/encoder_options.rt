@@ -36,6 +36,8 @@ pub struct EncoderOptions {
     pub allow: Option<String>,
     /// Whether it is told what comes and what becomes of it.
     pub log: bool,
+    /// For how many seconds it waits for whoever reads that, 0 for not at all; where it is left out, a device's own.
+    pub log_wait: Option<u32>,
     /// In which form it is told.
     pub form: Form,
     /// Whether it is told behind the time.

@@ -123,6 +123,7 @@ fn short_encoder(options: EncoderOptions) -> Job
                 yield_after: _,
                 allow: _,
                 log: _,
+                log_wait: _,
                 form: _,
                 time: _,
                 store: _,
@@ -156,7 +157,7 @@ pub fn is_device(options: &EncoderOptions) -> bool
     if options.idle != 0 || options.seed != 0 || !options.time {
         return true;
     }
-    if options.yield_after.is_some() || options.allow.is_some() {
+    if options.yield_after.is_some() || options.allow.is_some() || options.log_wait.is_some() {
         return true;
     }
     match options.form {
