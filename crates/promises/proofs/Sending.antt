@@ -151,13 +151,13 @@ module _ {C I O : Type 0} (opens : C → Option (I × O) → C → Type 0) (clos
       }
 
   -- ---- From a pass on.
-  new_over : (ended : ℕ) (before : Reason) (s y : SenderOver C I O)
-      → JoinsOver opens closes remaining contents ended before s y (Ok tt)
+  new_over : (ended : ℕ) (before : Reason) (behind : ℕ) (s y : SenderOver C I O)
+      → JoinsOver opens closes remaining contents ended before behind s y (Ok tt)
       → (y.sender.server.held ≡ []) × (y.sender.server.last ≡ 0)
-  new_over zero before s y p =
+  new_over zero before behind s y (behind', p) =
       let new = still_new p.start.sender.server y.sender.server p.went.read p.went.state in
       (ap (λ (x : ServerState). x.held) new, ap (λ (x : ServerState). x.last) new)
-  new_over (suc n) before s y p = new_over n p.1 _ y p.8
+  new_over (suc n) before behind s y p = new_over n p.1 p.2 _ y p.9
 
 all_applied : (told : List Code) → list_all is_applied told ≡ true → (k : ℕ) → k < length told
     → slice_get told k ≡ Some Applied
@@ -190,7 +190,7 @@ station_is_out_lem {C} {I} {O} opens closes remaining contents size station told
     bad_result reason h = cc
 station_is_out_lem {C} {I} {O} opens closes remaining contents size station told s s' (inl made) =
     let y : SenderOver C I O = made.0 in
-    let new = new_over opens closes remaining contents made.1.1 _ made.1.0 y made.1.3 in
+    let new = new_over opens closes remaining contents made.1.1 _ 0 made.1.0 y made.1.3 in
     let w = went_out opens closes remaining contents size made.2.0 station told [] y s' new.0 new.1 made.2.1 in
     let all : station ≡ w.before = w.all ∙ append-nil w.before in
     let count : length station ≡ length w.before = ap length all in
