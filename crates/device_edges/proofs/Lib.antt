@@ -2,3 +2,4 @@
 pub mod Screens
 pub mod FirstBytes
 pub mod Lobbies
+pub mod Readings

@@ -3,3 +3,5 @@ pub mod Place
 pub mod Screen
 pub mod Lobby
 pub mod Allowed
+pub mod Outlet
+pub mod Readings

@@ -11,17 +11,24 @@
 //!   through [`Screened`], and [`ForeignNotice`] says it once.
 //! - [`Entrance`]: the same for whoever waits for more than connections: those who wait for the one seat, and whom the
 //!   connection that has it gives way to ([`Yielding`]); [`Ready`] is what came. [`bind`]: a listener alone.
+//! - [`Outlet`]: where whole lines go out to a reader that is waited for no longer than so long: each [`Fate`], and how
+//!   a gap is told ([`Wording`]). [`Taker`] says whether the reader takes more, as a [`Descriptor`] does by a poll. To
+//!   one outlet several [`LinesOut`] write, each with its [`Voice`], under one [`Patience`].
 #![tactic(auto)]
 
 mod accepting;
 mod address;
 mod allowed;
 mod clock;
+mod descriptor;
 mod entrance;
 mod frames;
 mod idle;
+pub mod laws;
+mod lines_out;
 mod lobby;
 mod notice;
+mod outlet;
 mod room;
 mod screen;
 mod screening;
@@ -30,9 +37,12 @@ mod seat;
 pub use accepting::{Accepting, BindFault, bind};
 pub use address::{AddressFault, HERE, listen_address};
 pub use allowed::{AllowFault, Allowed, Network};
+pub use descriptor::Descriptor;
 pub use entrance::Entrance;
 pub use idle::Idle;
+pub use lines_out::{LinesOut, Patience, Voice};
 pub use notice::ForeignNotice;
+pub use outlet::{Fate, Outlet, Taker, Wording};
 pub use room::{Ready, Yielding};
 pub use screen::Screened;
 pub use screening::Screening;
