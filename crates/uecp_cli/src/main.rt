@@ -14,9 +14,12 @@ mod program;
 use crate::program::{Hands, run_words};
 use clap::error;
 use command_line::{Usage, program, refuse, settle};
-use notices::NoticesTo;
+use device_edges::{Descriptor, LinesOut, Outlet, Patience, Voice};
+use itoa::Buffer;
+use notices::{Notices, NoticesTo};
 use sqlite_image::{MachineFiles, Wary};
 use state_jobs::{OpenStates, StatesInFiles};
+use std::cell::RefCell;
 use std::env;
 use std::io::{ErrorKind, Input, Lock, Read, Write};
 use std::process::ExitCode;
@@ -24,46 +27,90 @@ use std::process::ExitCode;
 /// The descriptor of standard input.
 const STANDARD_INPUT: i32 = 0;
 
-fn main(rt: HostRuntime) -> ExitCode {
-    let mut reader = rt.stdin().lock();
-    let mut writer = rt.stdout().lock();
-    let mut errors = NoticesTo::new(rt.stderr().lock());
-    let status = match settled_words(&rt, &mut writer, &mut errors) {
-        Ok(words) => {
-            let states = StatesInFiles::new(MachineFiles::new(&rt, Wary));
-            run(
-                &rt,
-                words.as_slice(),
-                &mut reader,
-                &mut writer,
-                &mut errors,
-                &states,
-            )
-        }
-        Err(status) => status,
-    };
-    ExitCode::from(status)
-}
+/// The descriptor of standard output.
+const STANDARD_OUTPUT: i32 = 1;
 
-/// Does what the words ask for, with the hands that the machine gives, and answers the exit status.
-fn run<R: Read, W: Write, E: Write, S: OpenStates>(
-    rt: &HostRuntime,
-    words: &[String],
-    reader: &mut R,
-    writer: &mut W,
-    errors: &mut NoticesTo<E>,
-    states: &S,
-) -> u8 {
-    let mut losses = rt.stderr().lock();
-    let mut notices = rt.stderr().lock();
-    let mut effects = rt.stdout().lock();
+/// The descriptor of standard error.
+const STANDARD_ERROR: i32 = 2;
+
+fn main(rt: HostRuntime) -> ExitCode {
+    let alloc = rt.alloc();
+    let patience = Patience::endless();
+    let output = RefCell::new(Outlet::new(
+        alloc,
+        rt.stdout().lock(),
+        Descriptor::new(STANDARD_OUTPUT),
+    ));
+    let beside = RefCell::new(Outlet::new(
+        alloc,
+        rt.stderr().lock(),
+        Descriptor::new(STANDARD_ERROR),
+    ));
+    let mut writer = LinesOut::new(alloc, &output, &patience, Voice::Log);
+    let mut effects = LinesOut::new(alloc, &output, &patience, Voice::Log);
+    let mut losses = LinesOut::new(alloc, &beside, &patience, Voice::Notices);
+    let mut notices = LinesOut::new(alloc, &beside, &patience, Voice::Notices);
+    let mut errors = NoticesTo::new(LinesOut::new(alloc, &beside, &patience, Voice::Reasons));
     let hands = Hands {
         input: STANDARD_INPUT,
         losses: &mut losses,
         notices: &mut notices,
         effects: &mut effects,
+        patience: &patience,
     };
+    let status = run(&rt, &mut writer, &mut errors, hands);
+    say_untold(writer.close(), &mut errors);
+    let _untold = errors.into_inner().close();
+    ExitCode::from(status)
+}
+
+/// Does what the words of the command line ask for, with the hands that the machine gives, and answers the exit status.
+fn run<W: Write, E: Write, M: Write, F: Write>(
+    rt: &HostRuntime,
+    writer: &mut W,
+    errors: &mut NoticesTo<E>,
+    hands: Hands<'_, M, F>,
+) -> u8 {
+    match settled_words(rt, writer, errors) {
+        Ok(words) => {
+            let states = StatesInFiles::new(MachineFiles::new(rt, Wary));
+            let mut reader = rt.stdin().lock();
+            run_asked(
+                rt,
+                words.as_slice(),
+                &mut reader,
+                writer,
+                errors,
+                hands,
+                &states,
+            )
+        }
+        Err(status) => status,
+    }
+}
+
+/// Does what these words ask for, with its states in whatever opens them.
+fn run_asked<R: Read, W: Write, E: Write, M: Write, F: Write, S: OpenStates>(
+    rt: &HostRuntime,
+    words: &[String],
+    reader: &mut R,
+    writer: &mut W,
+    errors: &mut NoticesTo<E>,
+    hands: Hands<'_, M, F>,
+    states: &S,
+) -> u8 {
     run_words(rt.alloc(), words, reader, writer, errors, hands, rt, states)
+}
+
+/// Says how many lines of standard output were not told in the end, if any.
+fn say_untold<E: Write>(count: u64, errors: &mut NoticesTo<E>) {
+    if count > 0 {
+        errors.say(&[
+            b"uecp: ",
+            Buffer::new().format(count).as_bytes(),
+            b" lines of the output were not told\n",
+        ]);
+    }
 }
 
 /// The words of the command line, with the options of the file that they name; or the exit status where they are none,

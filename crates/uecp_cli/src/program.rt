@@ -30,7 +30,7 @@ use commands::{
     ServerOptions, is_device,
 };
 use conformance_command::{run_conformance_over_tcp, say_unreached};
-use device_edges::{Idle, Screened, Screening};
+use device_edges::{Idle, Patience, Screened, Screening};
 use device_jobs::{run_device_over_tcp, run_encoder_in};
 use ladders::{LadderJob, run_ladder};
 use line_feed::{Arrival, LineFeed};
@@ -63,7 +63,12 @@ pub struct Hands<'a, M: Write, F: Write> {
     pub notices: &'a mut M,
     /// Where it is told what a bad line does.
     pub effects: &'a mut F,
+    /// For how long those are waited for who read what is written and said.
+    pub patience: &'a Patience,
 }
+
+/// For how many seconds a device waits for whoever reads its log, where the job does not say.
+const LOG_WAIT: u32 = 1;
 
 /// Does what the words of a command line ask for, the first being the program's name, and answers the exit status: 0
 /// done, 1 a line of input was refused, 2 the words or the services were refused, 3 memory, reading, writing, a
@@ -368,13 +373,26 @@ fn be_device<
         losses,
         notices,
         effects,
+        patience,
     } = hands;
+    patience.limit(
+        options.log_wait.unwrap_or(LOG_WAIT),
+        is_objects(options.form),
+    );
     if options.air.is_some() || options.air_bits {
         return run_on_air_over_tcp(alloc, options, writer, errors, notices, losses, net, states);
     }
     run_device_over_tcp(
         alloc, options, writer, errors, effects, notices, net, states,
     )
+}
+
+/// Whether what is told is told in objects.
+fn is_objects(form: Form) -> bool {
+    match form {
+        Form::Json => true,
+        Form::Lines | Form::Words(_) => false,
+    }
 }
 
 /// Sends the messages of the input, with the server's state in a file where one is given, over TCP, and answers the
@@ -501,6 +519,7 @@ fn send<
         losses,
         notices,
         effects: _,
+        patience: _,
     } = hands;
     let watch = Watch::new();
     let arrival = Polled::new(alloc, net, input, &watch, &mut *losses);
