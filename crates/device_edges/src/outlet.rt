@@ -97,6 +97,7 @@ impl<W: Write, T: Taker> Outlet<W, T> {
             return Ok(Fate::LeftOut);
         }
         self.owe(text, wording)?;
+        self.write_piece()?;
         self.pay(milliseconds)?;
         Ok(Fate::Told)
     }
@@ -186,11 +187,14 @@ impl<W: Write, T: Taker> Outlet<W, T> {
         Err(ErrorKind::TimedOut.into())
     }
 
-    /// Makes one write of what is owed.
+    /// Makes one write of what is owed, if anything is.
     fn write_piece(&mut self) -> io::Result<()>
         ensures same { Keeps (standing self.old) (standing self.new) }
         ensures left_out { self.new.left_out ≡ self.old.left_out }
     {
+        if self.owed.is_empty() {
+            return Ok(());
+        }
         let most = self.owed.len().min(PIECE);
         match self.writer.write(&self.owed[..most]) {
             Ok(0) => Err(ErrorKind::WriteZero.into()),
