@@ -1,5 +1,6 @@
 -- The lemmas of the edges of a device.
-pub mod Screens
+pub mod AllowLists
 pub mod FirstBytes
 pub mod Lobbies
 pub mod Readings
+pub mod Screens

@@ -5,3 +5,4 @@ pub mod Lobby
 pub mod Allowed
 pub mod Outlet
 pub mod Readings
+pub mod Door

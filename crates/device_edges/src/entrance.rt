@@ -16,8 +16,8 @@ use std::os::fd::{AsRawFd, RawFd};
 use std::rc::Rc;
 use std::time::Duration;
 
-/// How many bytes of replies the system holds at most for one that does not take them, before a write waits.
-const REPLIES_MAX: u32 = 16_384;
+/// How many bytes the system holds at most for one that does not take them, before a write waits.
+const HELD_MAX: u32 = 16_384;
 
 /// A listener, with those who wait for the one seat, and what the one that has it is told. With a [`Yielding`] a
 /// connection gives way to one that waits; without it nobody is accepted while one is served.
@@ -173,7 +173,7 @@ fn two_ends(
 /// Has the system hold few bytes that the other end does not take, so that a write soon waits where it takes none.
 fn hold_few(stream: &TcpStream) {
     let mut value = [0u8; 16];
-    value[..4].copy_from_slice(&REPLIES_MAX.to_ne_bytes());
+    value[..4].copy_from_slice(&HELD_MAX.to_ne_bytes());
     unsafe {
         c::setsockopt(stream.as_raw_fd(), c::SOL_SOCKET, c::SO_SNDBUF, &value, 4);
     }

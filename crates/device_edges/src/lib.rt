@@ -21,6 +21,7 @@ mod address;
 mod allowed;
 mod clock;
 mod descriptor;
+mod door;
 mod entrance;
 mod frames;
 mod idle;

@@ -1,10 +1,13 @@
 //! Where connections are accepted, and wait for the seat that one of them has. Nothing is claimed of what a socket
 //! gives or takes, nor of the clock (profile).
+ghost use Rattle.std.specs.Prelude.{◌≡◌};
+ghost use Rattle.device_edges.specs.Allowed.{IsTaken};
 
 use crate::allowed::Allowed;
 use crate::clock::now;
+use crate::door::Door;
 use crate::frames::brings_frame;
-use crate::lobby::{GUESTS_MAX, Lobby, Look};
+use crate::lobby::{GUESTS_MAX, Look};
 use crate::screen::begins_foreign;
 use libc::net::{POLLIN, poll};
 use libc::types::pollfd;
@@ -78,7 +81,7 @@ pub(crate) enum Attention {
 #[derive(Drop)]
 pub(crate) struct Room {
     listener: TcpListener,
-    lobby: Lobby<TcpStream>,
+    door: Door<TcpStream>,
     yielding: Option<Yielding>,
     /// When the one that has the seat brought a good frame last, or got it.
     good: u64,
@@ -86,9 +89,7 @@ pub(crate) struct Room {
     is_given: bool,
     /// Until when no connection is asked for.
     rest: u64,
-    /// From where connections are taken; from anywhere where that is not said.
-    allowed: Option<Allowed>,
-    /// The first addresses from which they were not, and how many of these were told.
+    /// The first addresses from which no connection was taken, and how many of these were told.
     strangers: Vec<IpAddr>,
     told: usize,
 }
@@ -103,12 +104,11 @@ impl Room {
     ) -> Result<Room, AllocError> {
         Ok(Room {
             listener,
-            lobby: Lobby::new(alloc)?,
+            door: Door::new(alloc, allowed)?,
             yielding,
             good: 0,
             is_given: false,
             rest: 0,
-            allowed,
             strangers: Vec::new(alloc),
             told: 0,
         })
@@ -126,7 +126,7 @@ impl Room {
 
     /// Whether somebody waits.
     pub(crate) fn is_waited_for(&self) -> bool {
-        self.lobby.len() > 0
+        self.door.lobby().len() > 0
     }
 
     /// The connection that has the seat next, if there is one now.
@@ -134,7 +134,7 @@ impl Room {
         let time = now();
         self.accept(time);
         self.look(time, false);
-        let stream = self.lobby.take_next()?;
+        let stream = self.door.take_next()?;
         stream.set_nonblocking(false).ok()?;
         self.good = time;
         self.is_given = false;
@@ -155,7 +155,7 @@ impl Room {
         let time = now();
         self.accept(time);
         self.look(time, true);
-        self.is_given = self.is_quiet(time) && self.lobby.ready_place().is_some();
+        self.is_given = self.is_quiet(time) && self.door.lobby().ready_place().is_some();
         self.is_given
     }
 
@@ -191,7 +191,7 @@ impl Room {
         let time = now();
         let mut listener = None;
         if (line.is_none() || self.yielding.is_some())
-            && self.lobby.has_place()
+            && self.door.lobby().has_place()
             && time >= self.rest
         {
             listener = Some(self.listener.as_raw_fd());
@@ -207,10 +207,10 @@ impl Room {
             limit = least(limit, self.rest - time);
         }
         if is_taken && self.yielding.is_some() {
-            if self.lobby.silent_place().is_some() {
+            if self.door.lobby().silent_place().is_some() {
                 limit = least(limit, LOOK_EVERY);
             }
-            if self.lobby.ready_place().is_some() {
+            if self.door.lobby().ready_place().is_some() {
                 limit = least(limit, self.quiet_at().saturating_sub(time));
             }
         }
@@ -235,13 +235,13 @@ impl Room {
     /// Accepts those who came.
     fn accept(&mut self, time: u64) {
         for _one in 0..ACCEPTS_MAX {
-            if self.lobby.len() >= GUESTS_MAX {
+            if self.door.lobby().len() >= GUESTS_MAX {
                 self.look(time, false);
             }
-            if time < self.rest || !self.lobby.has_place() {
+            if time < self.rest || !self.door.lobby().has_place() {
                 return;
             }
-            if self.yielding.is_none() && self.lobby.len() > 0 {
+            if self.yielding.is_none() && self.door.lobby().len() > 0 {
                 return;
             }
             match self.listener.accept() {
@@ -256,20 +256,29 @@ impl Room {
         }
     }
 
-    /// A connection from this address: it waits, or is closed.
-    fn meet(&mut self, stream: TcpStream, from: IpAddr, time: u64) {
-        if self.is_allowed(from) {
-            self.welcome(stream, time);
-        } else if self.strangers.len() < STRANGERS_MAX && !self.strangers.contains(&from) {
-            let _ = self.strangers.push(from);
+    /// A connection from this address: it waits, or is closed. Where the system would give no second end of it, it is
+    /// let go.
+    fn meet(&mut self, stream: TcpStream, from: IpAddr, time: u64)
+        ensures { ¬ (IsTaken self.old.door.allowed from) → self.new.door ≡ self.old.door }
+    {
+        if stream.try_clone().is_err() {
+            self.rest = time.saturating_add(REST);
+            return;
+        }
+        if stream.set_nonblocking(true).is_err() {
+            return;
+        }
+        if !self.door.meet(stream, from, time) {
+            self.note(from);
         }
     }
 
-    /// Whether a connection from this address is taken.
-    fn is_allowed(&self, from: IpAddr) -> bool {
-        match &self.allowed {
-            Some(allowed) => allowed.has(from),
-            None => true,
+    /// No connection is taken from this address.
+    fn note(&mut self, from: IpAddr)
+        ensures { self.new.door ≡ self.old.door }
+    {
+        if self.strangers.len() < STRANGERS_MAX && !self.strangers.contains(&from) {
+            let _ = self.strangers.push(from);
         }
     }
 
@@ -280,23 +289,12 @@ impl Room {
         Some(address)
     }
 
-    /// This connection waits from now on; where the system would give no second end of it, it is let go.
-    fn welcome(&mut self, stream: TcpStream, time: u64) {
-        if stream.try_clone().is_err() {
-            self.rest = time.saturating_add(REST);
-            return;
-        }
-        if stream.set_nonblocking(true).is_ok() && self.lobby.has_place() {
-            let _gone = self.lobby.join(stream, time);
-        }
-    }
-
     /// Looks at those who wait. Where `lets_go` holds those that are gone, or have brought no frame for too long, wait
     /// no longer.
     fn look(&mut self, time: u64, lets_go: bool) {
         let mut place = 0;
         for _guest in 0..GUESTS_MAX {
-            let Some(stream) = self.lobby.line_at(place) else {
+            let Some(stream) = self.door.lobby().line_at(place) else {
                 return;
             };
             let look = look_at(stream, self.yielding);
@@ -305,7 +303,7 @@ impl Room {
                 look if lets_go => look,
                 _ => Look::Kept,
             };
-            if !self.lobby.settle(place, look, time) {
+            if !self.door.settle(place, look, time) {
                 place = place.saturating_add(1);
             }
         }
