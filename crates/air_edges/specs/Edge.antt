@@ -10,7 +10,7 @@ use Rattle.air_edges.specs.declared.hears.Taken.{Taken}
 use Rattle.air_edges.specs.declared.sockets.Came.{Came}
 use Rattle.air_edges.specs.Pace as pace
 use Rattle.air_edges.specs.AirBytes.{air_bytes}
-use Rattle.air_edges.specs.Hearers.{Hearing, joined, hearers_most, GoesOut}
+use Rattle.air_edges.specs.Hearers.{Hearing, joined, hearers_most, behind_place, replaced, GoesOut}
 
 -- The edge of an encoder on the air: its sockets and clock; the form in which groups go out; after how many seconds
 -- without a byte a connection is given up, if so; when the next group is due; when something came on the connection
@@ -63,10 +63,10 @@ full_line = codes "uecp: air: too many listen, and one more is not taken\n"
 abbrev pub slow_line : List ℕ
 slow_line = codes "uecp: air: one who listens does not keep up, and is closed\n"
 
--- It is said once until one of those who listen is let go.
-abbrev pub TellsFull : (told_before : Bool) → (told told' : Option (List ℕ)) → Type 0
-TellsFull true told told' = told' ≡ told
-TellsFull false told told' = Begins told told' full_line
+-- It is said once until there is room.
+abbrev pub TellsOnce : (line : List ℕ) → (told_before : Bool) → (told told' : Option (List ℕ)) → Type 0
+TellsOnce line true told told' = told' ≡ told
+TellsOnce line false told told' = Begins told told' line
 
 -- It is said of so many, or begun to be said.
 abbrev pub TellsSlow : (count : ℕ) → (told told' : Option (List ℕ)) → Type 0
@@ -74,12 +74,20 @@ TellsSlow zero told told' = told' ≡ told
 TellsSlow (suc count) told told' =
     (between : Option (List ℕ)) × TellsSlow count told between × Begins between told' slow_line
 
--- One who was accepted listens from the next group on, behind the others; where as many listen as may it is not taken.
+-- One who was accepted listens where as many do as may: in the place of the one at this place, who is let go as slow;
+-- or where none gives its place it is not taken. That is said.
+abbrev pub JoinsFull : {S H : Type 0} → H → (place : Option ℕ) → (e e' : Edge S H) → Type 0
+JoinsFull output None e e' =
+    TellsOnce full_line e.is_full_told e.told e'.told × (e' ≡ record e { is_full_told = true; told = e'.told })
+JoinsFull output (Some place) e e' = TellsOnce slow_line e.is_full_told e.told e'.told
+    × (e' ≡ record e { hearers = replaced place output e.hearers; is_full_told = true; told = e'.told })
+
+-- One who was accepted listens from the next group on, behind the others. Nobody is let go for it while there is room;
+-- else the first of those who have not taken all that went out is, if there is one.
 abbrev pub Joins : {S H : Type 0} → H → (e e' : Edge S H) → Type 0
 Joins output e e' =
     ((length e.hearers < hearers_most) × (e' ≡ record e { hearers = e.hearers ++ joined output ∷ [] }))
-    ⊎ ((hearers_most ≤ length e.hearers) × TellsFull e.is_full_told e.told e'.told
-    × (e' ≡ record e { is_full_told = true; told = e'.told }))
+    ⊎ ((hearers_most ≤ length e.hearers) × JoinsFull output (behind_place e.hearers) e e')
 
 -- A group goes out, in the form that was asked for, to all who listen.
 abbrev pub SendsGroup : {S H : Type 0} → (takes : H → List ℕ → Taken → H → Type 0)

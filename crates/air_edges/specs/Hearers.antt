@@ -1,5 +1,7 @@
 -- Who listens to the air, and what becomes of them as a group goes out (profile).
-use Rattle.std.specs.Prelude.{◌≡◌, ◌⊎◌, ◌+◌, ◌<◌, ◌≤◌, ℕ, suc, List, [], ◌∷◌, ◌++◌, length, take, Option}
+use Rattle.std.specs.Prelude.{◌≡◌, ◌⊎◌, ◌+◌, ◌<◌, ◌≤◌, ℕ, suc, Bool, ltb}
+use Rattle.std.specs.Prelude.{List, [], ◌∷◌, ◌++◌, length, take, remove, Option}
+use Rattle.std.specs.List.{position_from}
 use Rattle.std.specs.Io.KnownBytes.{Appends, Keeps}
 use Rattle.air_edges.specs.declared.hears.Taken.{Taken}
 use Rattle.air_edges.specs.declared.hears.Taken.TheVariants.{First, NotNow, Gone}
@@ -23,6 +25,20 @@ hearers_most = 64
 -- How many bytes wait for one at most.
 abbrev pub waiting_most : ℕ
 waiting_most = 4096
+
+-- ---- Who gives its place to one more.
+
+-- It has not taken all that went out: something waits for it.
+abbrev pub is_behind : {H : Type 0} → Hearing H → Bool
+is_behind h = ltb 0 (length h.waiting)
+
+-- The place of the first of those who are behind, who has listened for longest of them.
+abbrev pub behind_place : {H : Type 0} → List (Hearing H) → Option ℕ
+behind_place hearers = position_from is_behind 0 hearers
+
+-- One more listens in the place of the one at this place, who is let go; the others do as they did, in their order.
+abbrev pub replaced : {H : Type 0} → (place : ℕ) → H → List (Hearing H) → List (Hearing H)
+replaced place output hearers = remove hearers place ++ joined output ∷ []
 
 -- ---- One who is offered bytes.
 

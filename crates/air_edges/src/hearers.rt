@@ -1,6 +1,7 @@
 //! Who listens to the air (profile).
-ghost use Rattle.std.specs.Prelude.{◌≡◌, ◌<◌, ◌≤◌, ◌++◌, ◌∷◌, ℕ, [], length, IsTrue, IfOk, ◌↔◌, ltb};
+ghost use Rattle.std.specs.Prelude.{◌≡◌, ◌<◌, ◌≤◌, ◌++◌, ◌∷◌, ℕ, [], length, IsTrue, IfOk, IfSome, ◌↔◌, ltb};
 ghost use Rattle.air_edges.specs.Hearers.{GoesOut, GetsGroup, IsGone, IsSlow, HasFate, joined};
+ghost use Rattle.air_edges.specs.Hearers.{is_behind, behind_place, replaced};
 
 use crate::hears::{Hears, Taken};
 use arrayvec::ArrayVec;
@@ -80,6 +81,34 @@ impl<H> Hearers<H> {
             output,
             waiting: ArrayVec::new(),
         });
+    }
+}
+
+impl<H: Drop> Hearers<H> {
+    /// The place of the first that has not taken all that went out.
+    pub(crate) fn behind_place(&self) -> Option<usize>
+        ensures value { result ≡ behind_place self.now }
+        ensures bound { IfSome result (λ place. place < length self.now) }
+    {
+        self.hearers.iter().position(|hearer| hearer.is_behind())
+    }
+
+    /// One more listens, from the next group on, by this connection; the one at the place is let go.
+    pub(crate) fn replace(&mut self, place: usize, output: H)
+        requires { place < length self.old }
+        ensures { self.new ≡ replaced place output self.old }
+    {
+        self.hearers.remove(place);
+        self.add(output);
+    }
+}
+
+impl<H> Hearer<H> {
+    /// Whether something waits for it.
+    fn is_behind(&self) -> bool
+        ensures { result ≡ is_behind self.now }
+    {
+        !self.waiting.is_empty()
     }
 }
 

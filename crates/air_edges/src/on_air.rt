@@ -5,7 +5,7 @@ ghost use Rattle.air_edges.specs.Edge.{
   edge_at_first,
   Accepts,
   Joins,
-  TellsFull,
+  TellsOnce,
   TellsSlow,
   LookBrings,
   LookPasses,
@@ -34,8 +34,9 @@ const FULL: &[u8] = b"uecp: air: too many listen, and one more is not taken\n";
 const SLOW: &[u8] = b"uecp: air: one who listens does not keep up, and is closed\n";
 
 /// The edge of an encoder on the air: connections of the studio are accepted, one at a time, and those who listen get
-/// the groups as they go out, from the next on, at most 64. Who does not take them in time is let go, which is said;
-/// and so it is said that there are 64 and more want to listen, once until one of them is let go.
+/// the groups as they go out, from the next on, at most 64. Who does not take them in time is let go, which is said.
+/// Where there are 64 one more gets the place of the first that is behind, or is not taken; which is said once until
+/// there is room.
 #[derive(Drop)]
 pub struct OnAir<'a, S, H, W: Write> {
     sockets: S,
@@ -154,25 +155,32 @@ impl<'a, S: Sockets<Hearer = H>, H: Hears, W: Write> OnAir<'a, S, H, W> {
         }
     }
 
-    /// One more listens; or there is no room for it, which is said.
+    /// One more listens. Where as many do as may it is in the place of the first that does not keep up, if one does
+    /// not, and else it is not taken; which is said.
     fn add(&mut self, output: H)
         ensures { Joins output self.old self.new }
     {
         if self.hearers.has_room() {
             self.hearers.add(output);
-        } else {
-            self.tell_full();
+            return;
+        }
+        match self.hearers.behind_place() {
+            Some(place) => {
+                self.hearers.replace(place, output);
+                self.tell_once(SLOW);
+            }
+            None => self.tell_once(FULL),
         }
     }
 
-    /// Says that one more is not taken, once until one of those who listen is let go: who comes again and again would
-    /// fill what takes the notices, and hold the encoder.
-    fn tell_full(&mut self)
-        ensures tells { TellsFull self.old.is_full_told self.old.told self.new.told }
+    /// Says why one more is not taken, or in whose place it is, once until there is room again: who comes again and
+    /// again would fill what takes the notices, and hold the encoder.
+    fn tell_once(&mut self, line: &[u8])
+        ensures tells { TellsOnce line.now self.old.is_full_told self.old.told self.new.told }
         ensures same { self.new ≡ record self.old { is_full_told = true; told = self.new.told } }
     {
         if !self.is_full_told {
-            let _ = write_parts(&[FULL], self.notices);
+            let _ = write_parts(&[line], self.notices);
             self.is_full_told = true;
         }
     }

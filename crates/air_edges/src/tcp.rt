@@ -5,7 +5,7 @@ ghost use Rattle.air_edges.specs.Hearers.{IsWithin, Gets};
 
 use crate::hears::{Hears, Taken};
 use crate::sockets::{Came, Sockets};
-use device_edges::{Allowed, BindFault, Entrance, Idle, Yielding, bind};
+use device_edges::{Allowed, BindFault, Entrance, Idle, Yielding, bind, hold_few};
 use std::alloc::Global;
 use std::io::{Error, ErrorKind, Write};
 use std::marker::Model;
@@ -177,6 +177,7 @@ impl<'a, N: Net<Listener = TcpListener, Stream = TcpStream> + Clock> Sockets for
                     return None;
                 }
                 let _ = stream.set_nodelay(true);
+                hold_few(&stream);
                 stream.set_nonblocking(true).ok()?;
                 Some(stream)
             }

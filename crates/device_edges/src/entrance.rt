@@ -171,7 +171,7 @@ fn two_ends(
 }
 
 /// Has the system hold few bytes that the other end does not take, so that a write soon waits where it takes none.
-fn hold_few(stream: &TcpStream) {
+pub fn hold_few(stream: &TcpStream) {
     let mut value = [0u8; 16];
     value[..4].copy_from_slice(&HELD_MAX.to_ne_bytes());
     unsafe {

@@ -10,7 +10,8 @@
 //! - [`Screening`]: connections over others, of which nothing is taken where they are another protocol's: each is read
 //!   through [`Screened`], and [`ForeignNotice`] says it once.
 //! - [`Entrance`]: the same for whoever waits for more than connections: those who wait for the one seat, and whom the
-//!   connection that has it gives way to ([`Yielding`]); [`Ready`] is what came. [`bind`]: a listener alone.
+//!   connection that has it gives way to ([`Yielding`]); [`Ready`] is what came. [`bind`]: a listener alone;
+//!   [`hold_few`]: what the system holds for one that takes nothing.
 //! - [`Outlet`]: where whole lines go out to a reader that is waited for no longer than so long: each [`Fate`], and how
 //!   a gap is told ([`Wording`]). [`Taker`] says whether the reader takes more, as a [`Descriptor`] does by a poll. To
 //!   one outlet several [`LinesOut`] write, each with its [`Voice`], under one [`Patience`].
@@ -39,7 +40,7 @@ pub use accepting::{Accepting, BindFault, bind};
 pub use address::{AddressFault, HERE, listen_address};
 pub use allowed::{AllowFault, Allowed, Network};
 pub use descriptor::Descriptor;
-pub use entrance::Entrance;
+pub use entrance::{Entrance, hold_few};
 pub use idle::Idle;
 pub use lines_out::{LinesOut, Patience, Voice};
 pub use notice::ForeignNotice;
