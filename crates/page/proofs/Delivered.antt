@@ -1,6 +1,6 @@
 -- Events that were put behind what waits, and bytes that were written of it.
 use Rattle.std.proofs.Common.{◌≡◌, ℕ, ◌+◌, List, [], ◌∷◌, ◌++◌, length, take, drop, flat_map, ◌∙◌, ap, sym, refl, arith}
-use Rattle.std.proofs.Common.{Option, Some, None, Result, Err, OnOk, subst, false, ◌≤◌, ◌⊎◌, inl, inr}
+use Rattle.std.proofs.Common.{Option, Some, None, Result, Err, OnOk, subst, false, ◌<◌, ◌≤◌, ◌⊎◌, inl, inr}
 use Rattle.std.specs.Io.KnownBytes.{append_known}
 use Rattle.std.proofs.lemmas.List.{append-nil, append_assoc, take-append-drop, length-append, length_push}
 use Rattle.std.proofs.lemmas.List.{length-take-le}
@@ -9,7 +9,7 @@ use Rattle.page.specs.declared.clients.client.Phase.{Phase}
 use Rattle.page.specs.declared.clients.client.Phase.TheVariants.{Asking, Live, Closing}
 use Rattle.page.specs.declared.guests.connection.Passed.TheVariants.{Bytes, NotNow, Gone}
 use Rattle.page.specs.Events.{Event, Past, kept, from}
-use Rattle.page.specs.Sending.{Standing, IsLive, Delivers, Writes, owed, event_bytes}
+use Rattle.page.specs.Sending.{Standing, FewWait, IsLive, Delivers, Writes, owed, event_bytes}
 use Rattle.page.specs.Talk.{Talk, Gets}
 use Rattle.page.specs.Delivering.{IsSent, IsServed, WritesOnce}
 
@@ -237,9 +237,15 @@ told_gone past a b c x y z count h once =
     let P : Standing → Type 0 = λ s. IsSent past h.events h.written x s in
     (h.events, h.written, gets_kept h.written a b c h.gets once.0, subst P (sym once.1) h.sent, tt)
 
+-- one more event waits
+pub more_wait : (x y : Standing) (e : Event) → y.output ≡ x.output ++ event_bytes x.writing e → y.writing ≡ x.writing
+    → length x.output < 65536 → FewWait y
+more_wait x y e output writing few =
+    (x.output, e, output ∙ ap (λ w. x.output ++ event_bytes w e) (sym writing), few)
+
 -- nothing waits, and nothing is owed
 pub told_all : (past : Past) (a b : Talk) (x y : Standing) (count : ℕ) → Since past a b x y count
-    → length y.output ≡ 0 → (IsLive y → (owed past y ≡ []) ⊎ (1048576 ≤ length y.output))
+    → length y.output ≡ 0 → (IsLive y → (owed past y ≡ []) ⊎ (65536 ≤ length y.output))
     → Told past a b x y (λ written. IsServed past written b y)
 told_all past a b x y count h none all = (
   h.events,

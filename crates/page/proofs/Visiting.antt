@@ -270,7 +270,7 @@ module _ {C : Type 0} (talk : C → Talk) where
       → ((IsLive (standing_of g.client) → ⊥) → standing_of g'.client ≡ standing_of g.client)
       → came_of g'.client ≡ came_of g.client
       → OnOk r (IsLive (standing_of g'.client) → (owed past (standing_of g'.client) ≡ [])
-      ⊎ (1048576 ≤ length (standing_of g'.client).output))
+      ⊎ (65536 ≤ length (standing_of g'.client).output))
       → keeps ≡ is_ok r → g' ≡ record g { client = g'.client } → Does talk CatchUp past g keeps g'
   does_caught past g g' r keeps sends phase idle came all kept same =
       let caught = sent_of_caught past (standing_of g.client) (standing_of g'.client) sends phase idle in

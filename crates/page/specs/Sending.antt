@@ -1,5 +1,5 @@
 -- The stream of events of one connection, and where it stands (profile).
-use Rattle.std.specs.Prelude.{◌≡◌, ℕ, ◌+◌, ◌⊎◌, List, [], ◌++◌, length, flat_map}
+use Rattle.std.specs.Prelude.{◌≡◌, ℕ, ◌+◌, ◌<◌, ◌⊎◌, List, [], ◌++◌, length, flat_map}
 use Rattle.http1.specs.declared.conn.Writing.{Writing}
 use Rattle.http1.specs.Conn.{data_text, finish_text}
 use Rattle.page.specs.declared.clients.client.Phase.{Phase}
@@ -30,6 +30,11 @@ pub record Delivers (past : Past) (events : List Event) (written : List ℕ) (x 
   pub due : x'.due ≡ x.due + length events
   pub output : written ++ x'.output ≡ x.output ++ flat_map (event_bytes x.writing) events
   pub writing : x'.writing ≡ x.writing
+
+-- Fewer than 64 KiB wait, and behind them one event.
+abbrev pub FewWait : Standing → Type 0
+FewWait x = (bytes : List ℕ) × (event : Event) × (x.output ≡ bytes ++ event_bytes x.writing event)
+    × (length bytes < 65536)
 
 -- These bytes were written of what waited, and nothing else changed.
 pub record Writes (written : List ℕ) (x x' : Standing) : Type 0 where

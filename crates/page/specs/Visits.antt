@@ -151,13 +151,13 @@ module _ {C : Type 0} (talk : C → Talk) where
 
   -- What becomes of it, of whom this is asked, and whether it is kept.
   --
-  -- The events that it is owed are put behind what waits, until none is left or 1 MiB waits. What waits is sent, where
+  -- The events that it is owed are put behind what waits, until none is left or 64 KiB waits. What waits is sent, where
   -- anything does. A tick goes by. No more events come.
   abbrev pub Does : Deed → Past → (g : Guest C) → (keeps : Bool) → (g' : Guest C) → Type 0
   Does CatchUp past g keeps g' = (events : List Event) × SendsOn past events [] g g'
       × (g' ≡ record g { client = g'.client })
       × (keeps ≡ true → IsLive (standing_of g'.client) → (owed past (standing_of g'.client) ≡ [])
-      ⊎ (1048576 ≤ length (standing_of g'.client).output))
+      ⊎ (65536 ≤ length (standing_of g'.client).output))
   Does Deliver past g keeps g' = (((standing_of g.client).output ≡ []) × (keeps ≡ true) × (g' ≡ g))
       ⊎ SendsNow past g keeps g'
   Does Tick past g keeps g' = Ticks g keeps g'

@@ -5,7 +5,7 @@ ghost use Rattle.http1.specs.Server.{writing};
 ghost use Rattle.page.specs.Events.{Event};
 ghost use Rattle.page.specs.Stream.{part_text, carries};
 ghost use Rattle.page.specs.declared.clients.event_stream.EndOfEvents.TheVariants.{Lost};
-ghost use Rattle.page.specs.Sending.{Delivers, IsLive, SaysAlive, Ends, owed};
+ghost use Rattle.page.specs.Sending.{Delivers, FewWait, IsLive, SaysAlive, Ends, owed};
 ghost use Rattle.page.specs.Talk.{Gets};
 ghost use Rattle.page.specs.Delivering.{IsSent, IsServed};
 ghost use Rattle.page.specs.ClientView.{standing_of, came_of};
@@ -16,7 +16,7 @@ use crate::guests::{Connection, Passed};
 use std::alloc::Global;
 
 /// From how many bytes on no more events are put behind what waits.
-pub const WAITING_MAX: usize = 1024 * 1024;
+pub const WAITING_MAX: usize = 64 * 1024;
 
 /// How often is written at most in one turn, so that no connection holds the others.
 const WRITES_MAX: u32 = 16;
@@ -33,7 +33,7 @@ pub enum EndOfEvents {
 }
 
 impl Client {
-    /// Puts the events that it is owed behind what waits, until none is left or 1 MiB waits. Where it gets no events
+    /// Puts the events that it is owed behind what waits, until none is left or 64 KiB waits. Where it gets no events
     /// nothing changes.
     ///
     /// Errors: `Lost`, and `OutOfMemory`; the events so far stand there whole.
@@ -43,7 +43,8 @@ impl Client {
         ensures phase { (standing_of self.new).phase ≡ (standing_of self.old).phase }
         ensures lost { result ≡ Err Lost → (standing_of self.new).due < history.now.first }
         ensures all { OnOk result (IsLive (standing_of self.new)
-            → (owed history.now (standing_of self.new) ≡ []) ⊎ (1048576 ≤ length (standing_of self.new).output)) }
+            → (owed history.now (standing_of self.new) ≡ []) ⊎ (65536 ≤ length (standing_of self.new).output)) }
+        ensures few { ((standing_of self.new).output ≡ (standing_of self.old).output) ⊎ FewWait (standing_of self.new) }
         ensures idle { (IsLive (standing_of self.old) → ⊥) → standing_of self.new ≡ standing_of self.old }
         ensures came { came_of self.new ≡ came_of self.old }
     {

@@ -1,7 +1,8 @@
-use Rattle.std.proofs.Common.{refl, [], ◌∷◌, ◌++◌, ◌∙◌}
+use Rattle.std.proofs.Common.{rules, arith, ◌≡◌, ◌⊎◌, refl, sym, subst, [], ◌∷◌, ◌++◌, ◌∙◌, inl, inr}
 use Rattle.page.specs.Events.{Event}
+use Rattle.page.specs.Sending.{Standing, FewWait}
 use Rattle.page.specs.ClientView.{standing_of}
-use Rattle.page.proofs.Delivered.{nothing_sent, one_more}
+use Rattle.page.proofs.Delivered.{nothing_sent, one_more, more_wait}
 use Rattle.page.proofs.clients.client.Client.catch_up.Goals as goal
 
 pub loop-event-init : goal.loop-event-init
@@ -9,6 +10,7 @@ loop-event-init c = record {
   sends = λ live. ([], nothing_sent c.args.history.now (standing_of c.args.self.now));
   phase = refl;
   came = refl;
+  few = inl refl;
 }
 
 pub loop-event-preserved : goal.loop-event-preserved
@@ -25,4 +27,12 @@ loop-event-preserved c =
           );
       phase = c.in_ok-send.ensures.phase ∙ c.loop-event.invariant.phase;
       came = c.in_ok-send.ensures.came ∙ c.loop-event.invariant.came;
+      few = inr (more_wait (standing_of c.loop-event.self) (standing_of c.send.new.self) e c.in_ok-send.ensures.output
+          c.in_ok-send.ensures.writing (search (rules, arith)));
     }
+
+pub returns-in_err-send-clause-few : goal.returns-in_err-send-clause-few
+returns-in_err-send-clause-few c =
+    let same : standing_of c.send.new.self ≡ standing_of c.loop-event.self = c.in_err-send.ensures.err in
+    subst (λ (s : Standing). (s.output ≡ (standing_of c.args.self.now).output) ⊎ FewWait s) (sym same)
+    c.loop-event.invariant.few
