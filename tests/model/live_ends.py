@@ -84,7 +84,7 @@ def state_of(program, file):
     end = time.monotonic() + SECONDS
     while True:
         ran = subprocess.run([program, "state", file], capture_output=True, text=True, timeout=SECONDS, check=False)
-        if ran.stderr != "uecp: state in use\n" or time.monotonic() > end:
+        if ran.stderr != f"uecp: state in use: {file}\n" or time.monotonic() > end:
             break
         time.sleep(0.02)
     same((ran.returncode, ran.stderr), (0, ""))

@@ -22,7 +22,7 @@ from live_ends import MEMORY, NOTICE, folded, spoken, state_of, told
 
 TOP = os.path.dirname(os.path.dirname(os.path.dirname(os.path.abspath(__file__))))
 LIMITS = "--tries 100 --retry-every 1"
-IN_USE = "uecp: state in use\n"
+IN_USE = "uecp: state in use: "
 SECONDS = 200  # after which no end is killed any more
 LEAST_GONE_ON = 5  # runs, or nothing was tried
 ALL_APPLIED, SOME_REFUSED, STOPPED = 0, 4, 3
@@ -114,7 +114,7 @@ class Spool(kept_state.Seed):
         if self.is_over:
             return status
         # the run before may not be gone yet as the script looks at the state, or as it begins
-        is_early = status == STOPPED and not lines and said == [IN_USE]
+        is_early = status == STOPPED and not lines and len(said) == 1 and said[0].startswith(IN_USE)
         assert is_early or status in (ALL_APPLIED, SOME_REFUSED, -signal.SIGKILL), f"status {status}, {lines[-1:]}, {said}"
         assert is_early or all(NOTICE.fullmatch(line) for line in said), said
         return ALL_APPLIED if status == SOME_REFUSED else status

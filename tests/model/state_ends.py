@@ -14,7 +14,7 @@ from ports import free_port
 ADDRESS = 0x0041
 SECONDS = 120  # of one run
 
-# what is said of a file that is refused, each behind `uecp: `
+# what is said of a file that is refused, each behind `uecp: ` and before the file
 REFUSALS = """
 state in use
 state is not ours
@@ -31,6 +31,23 @@ out of memory
 state failed
 """.strip().split("\n")
 
+# and behind the file, where there is more to say
+UNREACHABLE = """
+no such folder
+no such file
+not permitted
+read-only
+it is a folder
+it is no file
+it has a second name
+its log is no file, or has a second name
+it has a rollback journal
+it is no name of a file
+it can't be opened
+""".strip().split("\n")
+REPLACED = "it was removed, moved or replaced"
+WHY = {"state out of reach": UNREACHABLE, "state failed": ["the disk failed", REPLACED]}
+
 # each shows in the store whether it acted twice: the texts and the groups are added to those that are there
 MESSAGES = [bytes.fromhex(digits) for digits in """
 010000C201 0A0000034048490100001002 240042123456780100001003 0A00000340484A0100001004 030000030100001005 2400401234567A0100001006
@@ -38,10 +55,23 @@ MESSAGES = [bytes.fromhex(digits) for digits in """
 """.split()]
 
 
+def line_of(text, path, why=""):
+    """What is said of the state in a file."""
+    return f"uecp: {text}: {path}{f': {why}' if why else ''}\n"
+
+
+def refusal_in(fault):
+    """The text, the file and the reason of the one line that says why a state can't be had; or None where it is none."""
+    reasons = "|".join(why for whys in WHY.values() for why in whys)
+    said = re.fullmatch(f"uecp: ({'|'.join(REFUSALS)}): (.*?)(?:: ({reasons}))?\n", fault)
+    return said.groups("") if said and (said[3] or "") in WHY.get(said[1], [""]) else None
+
+
 def failed_so(fault, path, reasons):
-    """Whether this is what is said of a save that failed in the midst of a run: that it did, in which file, whose path ends so, and why."""
-    said = re.fullmatch(r"uecp: state failed\nuecp: (.*): (.*)\n", fault)
-    return bool(said) and said[1].endswith(path) and said[2] in reasons
+    """Whether this is what is said of a save that failed in the midst of a run: that it did, and then in which file, whose path ends so, and why."""
+    first, *others = fault.splitlines(True) or [""]
+    said = refusal_in("".join(others))
+    return first == "uecp: state failed\n" and bool(said) and said[1].endswith(path) and (said[0], said[2]) in reasons
 
 
 def frames_of(messages, first=0):

@@ -7,9 +7,8 @@ use Rattle.commands.specs.Jobs.{is_device}
 use Rattle.rds_store.specs.Value.{Store}
 use Rattle.uecp_encoder.specs.State.{EncoderState}
 use Rattle.uecp_encoder.specs.Keeping.{Kept}
-use Rattle.kept_jobs.specs.Stops.{state_line}
 use Rattle.state_files.specs.declared.fault.StateFault.{StateFault}
-use Rattle.state_jobs.specs.Texts.{Closed, IsClosed, state_text, unclosed_line}
+use Rattle.state_jobs.specs.Texts.{Closed, IsClosed, fault_line}
 use Rattle.state_jobs.specs.Kept.{SaysWhy}
 use Rattle.state_jobs.proofs.Public.{closed_well, says_more}
 use Rattle.device_serving.specs.Logging.{Log}
@@ -43,11 +42,8 @@ plain_limits o plain =
 unclosed : (path : List ℕ) (status : ℕ) (closed : Closed) (told between told' : Told) → status ≡ 0
     → between ≡ told → IsClosed path status closed 3 between told' → SaysWhy path told told'
 unclosed path status (Ok well) told between told' zero same is = absurd (let three : 3 ≡ 0 = is.0 ∙ zero in cc)
-unclosed path status (Err fault) told between told' zero same is = inl (
-  fault,
-  subst (λ x. Says x told' (state_line (state_text fault))) same
-      (subst (λ s. Says between told' (unclosed_line path s fault)) zero is.1),
-)
+unclosed path status (Err fault) told between told' zero same is =
+    inl (fault, subst (λ x. Says x told' (fault_line path fault)) same is.1)
 
 module _ {K C I O : Type 0} (gives : List ℕ → EncoderState Store → K → Type 0)
     (refuses : List ℕ → StateFault → Type 0) (ends : K → Result (Unit {0}) StateFault → Type 0) (most room : ℕ)

@@ -10,10 +10,10 @@ use Rattle.uecp_text.specs.Faults.{error_lines, status_of}
 use Rattle.uecp_jobs.specs.Setups.{Options, IsSetup, RefusesSetup, address_of, encoder_at_first}
 use Rattle.uecp_encoder.specs.Keeping.{Kept, Settled}
 use Rattle.kept_jobs.specs.declared.stop.KeptStop.{KeptStop}
-use Rattle.kept_jobs.specs.Stops.{stop_lines, state_line}
+use Rattle.kept_jobs.specs.Stops.{stop_lines}
 use Rattle.state_files.specs.declared.fault.StateFault.{StateFault}
 use Rattle.state_jobs.specs.Opened.{IsOpened}
-use Rattle.state_jobs.specs.Texts.{IsClosed, state_text}
+use Rattle.state_jobs.specs.Texts.{IsClosed, fault_line}
 use Rattle.device_serving.specs.Logging.{Log}
 use Rattle.device_serving.specs.DeviceRun.{RunsDevice, OutlivesRun, Standing}
 use Rattle.uecp_encoder.specs.declared.keep.NotSaved.{NotSaved}
@@ -25,7 +25,7 @@ use Rattle.notices.specs.Told.{Told, Says}
 abbrev pub HasNoState : (refuses : List ℕ → StateFault → Type 0) → (path : List ℕ) → (said said' : Told)
     → (status : ℕ) → Type 0
 HasNoState refuses path said said' status =
-    (fault : StateFault) × refuses path fault × (status ≡ 3) × Says said said' (state_line (state_text fault))
+    (fault : StateFault) × refuses path fault × (status ≡ 3) × Says said said' (fault_line path fault)
 
 -- The options describe no encoder, or there was no memory for one, and that was said.
 abbrev pub IsNoEncoder : Options → (said said' : Told) → (status : ℕ) → Type 0

@@ -7,10 +7,9 @@ ghost use Rattle.device_jobs.specs.Serving.{HasServedDevice, HasNoState, ServesI
 use crate::limits::limits_of;
 use commands::EncoderOptions;
 use device_serving::{Limits, LogLines, run_device};
-use kept_jobs::fail_state;
 use notices::{NoticesTo, fail};
 use rds_store::RdsStore;
-use state_jobs::{OpenStates, closed_so, state_text};
+use state_jobs::{OpenStates, closed_so, fail_file};
 use std::alloc::Global;
 use std::io::Write;
 use std::time::Clock;
@@ -83,7 +82,7 @@ pub(crate) fn serve_in<S: OpenStates, W: Write, T: Clock, E: Write, C: Connectio
     ensures loan { log.new.loan ≡ log.old.loan }
 {
     match states.open_encoder(path, address, setup.sets, setup.services) {
-        Err(fault) => fail_state(state_text(fault), errors),
+        Err(fault) => fail_file(path, fault, errors),
         Ok((mut encoder, mut keeper)) => {
             let status = run_device(limits, &mut encoder, &mut keeper, log, errors, connect);
             closed_so(path, status, states.close_encoder(keeper), errors)

@@ -14,7 +14,7 @@ use device_serving::LogLines;
 use kept_jobs::fail_state;
 use notices::{NoticesTo, fail};
 use rds_store::RdsStore;
-use state_jobs::{OpenStates, closed_so, state_text};
+use state_jobs::{OpenStates, closed_so, fail_file};
 use std::alloc::Global;
 use std::io::Write;
 use std::time::Clock;
@@ -84,7 +84,7 @@ fn air_in<S: OpenStates, W: Write, T: Clock, E: Write, M: Moments>(
         × (moments.new ≡ moments.old) × (log.new ≡ log.old)) }
 {
     match states.open_encoder(path, address, setup.sets, setup.services) {
-        Err(fault) => fail_state(state_text(fault), errors),
+        Err(fault) => fail_file(path, fault, errors),
         Ok((mut encoder, mut keeper)) => {
             tell_no_pi(encoder.target(), errors);
             let mut carousel = Carousel::restarted();

@@ -4,9 +4,8 @@ use Rattle.uecp_link.specs.Server.{ServerState}
 use Rattle.notices.specs.Told.{Told, Says}
 use Rattle.uecp_net.specs.declared.saved.keep.Progress.{Progress}
 use Rattle.uecp_net.specs.Keeping.{KeptServer, IsKept}
-use Rattle.kept_jobs.specs.Stops.{state_line}
 use Rattle.state_files.specs.declared.fault.StateFault.{StateFault}
-use Rattle.state_jobs.specs.Texts.{state_text, IsClosed}
+use Rattle.state_jobs.specs.Texts.{fault_line, IsClosed}
 use Rattle.state_jobs.specs.ServerJob.{RefusesServer}
 use Rattle.sending.specs.declared.options.LiveOptions.{LiveOptions}
 use Rattle.line_feed.specs.declared.feed.Next.{Next}
@@ -19,7 +18,7 @@ abbrev pub HasNoState : {K : Type 0} → (gives : List ℕ → ServerState → P
     → Type 0
 HasNoState gives refuses path said said' status =
     (fault : StateFault) × RefusesServer gives refuses path fault × (status ≡ 3)
-    × Says said said' (state_line (state_text fault))
+    × Says said said' (fault_line path fault)
 
 module _ {D K C I O : Type 0} (unread : D → Option (List ℕ))
     (takes : D → Result Next FeedFault → List ℕ → D → Type 0) (says : D → Bool → D → Type 0)

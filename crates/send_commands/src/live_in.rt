@@ -3,12 +3,12 @@ ghost use Rattle.std.specs.Prelude.{◌≡◌, ◌⊎◌, ◌≤◌, IsTrue};
 ghost use Rattle.uecp_frame.specs.Address.{is_exact};
 ghost use Rattle.send_commands.specs.LiveIn.{LivesIn, HasNoState};
 
-use kept_jobs::{Start, fail_state};
+use kept_jobs::Start;
 use line_feed::Feed;
 use notices::NoticesTo;
 use sending::{LiveOptions, Teller, run_live};
 use state_files::StateFault;
-use state_jobs::{OpenStates, closed_so, state_text};
+use state_jobs::{OpenStates, closed_so, fail_file};
 use std::io::Write;
 use std::time::Clock;
 use uecp_frame::Address;
@@ -48,10 +48,10 @@ pub fn run_live_in<S: OpenStates, F: Feed, W: Write, E: Write, C: Connections, T
     ensures writer { teller.new.writer ≡ teller.old.writer }
 {
     match states.open_server(path, address) {
-        Err(fault) => fail_state(state_text(fault), errors),
+        Err(fault) => fail_file(path, fault, errors),
         Ok((server, progress, mut keeper)) => {
             if progress.taken >= TAKEN_MAX {
-                return fail_state(state_text(StateFault::Damaged), errors);
+                return fail_file(path, StateFault::Damaged, errors);
             }
             let start = Start { server, progress };
             let status = run_live(options, start, &mut keeper, feed, teller, errors, connect);

@@ -520,7 +520,7 @@ rows_refused version db rows (fault.Older found) is (row, same, numbered, less) 
 rows_refused version db rows fault.InUse is never = never
 rows_refused version db rows fault.NotOurs is never = absurd never
 rows_refused version db rows fault.Damaged is why = tt
-rows_refused version db rows fault.Unreachable is never = never
+rows_refused version db rows (fault.Unreachable why) is never = never
 rows_refused version db rows fault.Full is why = tt
 rows_refused version db rows fault.OutOfMemory is why = tt
 rows_refused version db rows fault.Failed is why = tt
@@ -535,7 +535,7 @@ none_refused version db other (fault.Older found) none (has, less) =
 none_refused version db other fault.InUse none never = never
 none_refused version db other fault.NotOurs none why = absurd (why.1 none.ours.schema)
 none_refused version db other fault.Damaged none why = tt
-none_refused version db other fault.Unreachable none never = never
+none_refused version db other (fault.Unreachable why) none never = never
 none_refused version db other fault.Full none why = tt
 none_refused version db other fault.OutOfMemory none why = tt
 none_refused version db other fault.Failed none why = tt

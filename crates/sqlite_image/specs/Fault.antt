@@ -7,6 +7,7 @@ use Rattle.sqlite_image.specs.Kept.{kept_schema, no_schema}
 use Rattle.sqlite.specs.declared.error.Error.{Error}
 use Rattle.sqlite.specs.declared.error.Error.TheVariants.{SqliteFailure}
 use Rattle.sqlite.specs.declared.error.ErrorCode.TheVariants as code
+use Rattle.sqlite_image.specs.declared.path_fault.PathFault.TheVariants as path
 use Rattle.sqlite_image.specs.declared.fault.KeepFault.{KeepFault}
 use Rattle.sqlite_image.specs.declared.fault.KeepFault.TheVariants.{InUse, NotOurs, Newer, Older, Damaged, Unreachable}
 use Rattle.sqlite_image.specs.declared.fault.KeepFault.TheVariants.{Full, OutOfMemory, Failed}
@@ -15,7 +16,7 @@ abbrev pub opening_fault : Error → KeepFault
 opening_fault (SqliteFailure code.DatabaseBusy) = InUse
 opening_fault (SqliteFailure code.NotADatabase) = NotOurs
 opening_fault (SqliteFailure code.DatabaseCorrupt) = Damaged
-opening_fault (SqliteFailure code.CannotOpen) = Unreachable
+opening_fault (SqliteFailure code.CannotOpen) = Unreachable path.Other
 opening_fault (SqliteFailure code.DiskFull) = Full
 opening_fault (SqliteFailure code.OutOfMemory) = OutOfMemory
 opening_fault _ = Failed
@@ -39,7 +40,7 @@ IsRefused version db NotOurs = (db.schema ≢ no_schema) × (db.schema ≢ kept_
 IsRefused version db (Newer found) = HasVersion found db × (version < found)
 IsRefused version db (Older found) = HasVersion found db × (found < version)
 IsRefused version db Damaged = ⊤
-IsRefused version db Unreachable = ⊥
+IsRefused version db (Unreachable why) = ⊥
 IsRefused version db Full = ⊤
 IsRefused version db OutOfMemory = ⊤
 IsRefused version db Failed = ⊤
@@ -53,7 +54,7 @@ AreRefused version rows (Newer found) = (row : Row) × (rows ≡ row ∷ []) × 
 AreRefused version rows (Older found) = (row : Row) × (rows ≡ row ∷ []) × (column row 1 ≡ Int (pos found))
     × (found < version)
 AreRefused version rows Damaged = ⊤
-AreRefused version rows Unreachable = ⊥
+AreRefused version rows (Unreachable why) = ⊥
 AreRefused version rows Full = ⊥
 AreRefused version rows OutOfMemory = ⊤
 AreRefused version rows Failed = ⊥

@@ -3,6 +3,7 @@ ghost use Rattle.std.specs.Prelude.{◌≡◌, ℕ};
 ghost use Rattle.sqlite.specs.Effect.{Database};
 ghost use Rattle.sqlite_image.specs.Fault.{opening_fault, calling_fault, IsRefused};
 
+use crate::path_fault::PathFault;
 use sqlite::ErrorCode;
 use thiserror::Error;
 
@@ -25,9 +26,9 @@ pub enum KeepFault {
     /// what was never written.
     #[error("state damaged")]
     Damaged,
-    /// The path can't be opened: no such folder, no leave to write, a folder.
+    /// The path can't be opened, for this.
     #[error("state out of reach")]
-    Unreachable,
+    Unreachable(PathFault),
     /// The disk is full.
     #[error("no room for the state")]
     Full,
@@ -48,7 +49,9 @@ pub(crate) fn opening_fault(error: sqlite::Error) -> KeepFault
         sqlite::Error::SqliteFailure(ErrorCode::DatabaseBusy) => KeepFault::InUse,
         sqlite::Error::SqliteFailure(ErrorCode::NotADatabase) => KeepFault::NotOurs,
         sqlite::Error::SqliteFailure(ErrorCode::DatabaseCorrupt) => KeepFault::Damaged,
-        sqlite::Error::SqliteFailure(ErrorCode::CannotOpen) => KeepFault::Unreachable,
+        sqlite::Error::SqliteFailure(ErrorCode::CannotOpen) => KeepFault::Unreachable(
+            PathFault::Other,
+        ),
         sqlite::Error::SqliteFailure(ErrorCode::DiskFull) => KeepFault::Full,
         sqlite::Error::SqliteFailure(ErrorCode::OutOfMemory) => KeepFault::OutOfMemory,
         _ => KeepFault::Failed,

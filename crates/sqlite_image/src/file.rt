@@ -15,6 +15,7 @@ ghost use Rattle.sqlite_image.specs.Log.{IsUnharmed};
 use crate::fault::{KeepFault, opening_fault};
 use crate::kept::{Kept, Opened};
 use crate::log::is_unharmed;
+use crate::path_fault::{PathFault, path_fault};
 use sqlite::{Alter, Connection, FileFrom, FileStore, Files, Options, Start};
 use sqlite_disk::{Disk, is_no_room};
 use sqlite_std_file::OpenError;
@@ -37,7 +38,7 @@ fn open_pair<S: Start>(
     ensures fresh { IfOk result (λ files. IsFresh true files.log × IsFresh false files.db) }
 {
     if path == ":memory:" || path.starts_with("file:") {
-        return Err(KeepFault::Unreachable);
+        return Err(KeepFault::Unreachable(PathFault::NoName));
     }
     match sqlite_std_file::open(rt, path, start) {
         Ok(files) => Ok(files),
@@ -47,7 +48,10 @@ fn open_pair<S: Start>(
             Err(KeepFault::OutOfMemory)
         }
         Err(OpenError::Io(error)) if is_no_room(&error) => Err(KeepFault::Full),
-        Err(_) => Err(KeepFault::Unreachable),
+        Err(OpenError::HotJournal) => Err(KeepFault::Unreachable(PathFault::Journal)),
+        Err(OpenError::Io(error)) => {
+            Err(KeepFault::Unreachable(path_fault(rt, path, error.kind())))
+        }
     }
 }
 
@@ -55,7 +59,7 @@ fn open_pair<S: Start>(
 fn options(rt: &HostRuntime) -> Result<Options, KeepFault> {
     match RandomState::new(rt) {
         Ok(state) => Ok(Options::new(state.hash_one(&0u8))),
-        Err(_) => Err(KeepFault::Unreachable),
+        Err(_) => Err(KeepFault::Unreachable(PathFault::Other)),
     }
 }
 

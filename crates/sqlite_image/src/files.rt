@@ -7,6 +7,7 @@ ghost use Rattle.sqlite_image.specs.Keeper.{IsClean, Keeps};
 use crate::fault::KeepFault;
 use crate::file::open_from;
 use crate::kept::Opened;
+use crate::names::{MachineNames, Names};
 use sqlite::{FileFrom, FileStore, Start};
 use sqlite_disk::Disk;
 use std::alloc::Global;
@@ -16,6 +17,9 @@ use std::rt::HostRuntime;
 /// Opens files of one image each by their paths. A path stands for one file as it is when it is opened: of a second
 /// open of the same path nothing is said by what was there at the first.
 pub trait OpenFiles<D: Disk + Drop> {
+    /// The names of a file that was opened, and of its log.
+    type FileNames: Names + Drop;
+
     // Whether the file at a path, with its log, holds this image of this version, or none yet, as it is opened.
     ghost holds: { Self → List ℕ → ℕ → Option (List ℕ) → Type 0 };
 
@@ -36,6 +40,9 @@ pub trait OpenFiles<D: Disk + Drop> {
             → IfOk result (λ r. IsClean over_files r.kept → bytes_of r.image ≡ image) }
         ensures version { IfOk result (λ r. r.kept.version ≡ version) }
         ensures unharmed { IfOk result (λ r. IsClean over_files r.kept → unharmed self.now path.now) };
+
+    /// The names of the file at the path, which was just opened; none where one of them leads nowhere any more.
+    fn names_of(&self, path: &str) -> Option<Self::FileNames>;
 }
 
 /// The files of the machine. `S` stands for what the file at the path and its log hold as they are opened; that the
@@ -58,6 +65,8 @@ impl<'a, S: Start + Copy> OpenFiles<FileFrom<S>> for MachineFiles<'a, S> {
     ghost use Rattle.sqlite_image.specs.Files.{FilesHold};
     ghost use Rattle.sqlite_image.specs.Log.{IsUnharmed};
 
+    type FileNames = MachineNames<'a>;
+
     ghost holds = { λ files path version image. FilesHold version image (image_at S.Start) };
 
     ghost unharmed = { λ files path. IsUnharmed (image_at S.Start) };
@@ -76,6 +85,10 @@ impl<'a, S: Start + Copy> OpenFiles<FileFrom<S>> for MachineFiles<'a, S> {
         version: u32,
     ) -> Result<Opened<FileStore<FileFrom<S>>>, KeepFault> {
         open_from(self.rt, path, version, self.start)
+    }
+
+    fn names_of(&self, path: &str) -> Option<MachineNames<'a>> {
+        MachineNames::new(self.rt, path)
     }
 }
 

@@ -6,10 +6,14 @@ mod file;
 mod files;
 mod kept;
 mod log;
+mod names;
 mod ours;
+mod path_fault;
 mod start;
 mod table;
 
 pub use fault::KeepFault;
 pub use files::{MachineFiles, OpenFiles, Wary};
 pub use kept::{Kept, Opened};
+pub use names::{MachineNames, Names, Sight};
+pub use path_fault::PathFault;

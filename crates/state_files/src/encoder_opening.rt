@@ -38,7 +38,8 @@ const SERVICES_MAX: usize = 8;
 /// new encoder over the opening store, whose image is saved at once.
 ///
 /// Refused is a file that is not ours, is of another version or in use, and the image of another end, of another
-/// address, of another number of sets or of other services, in this order. What is refused is not overwritten.
+/// address, of another number of sets or of other services, in this order. What is refused is not overwritten. Each
+/// encoder that is given was saved, also one that goes on, so a disk with no room for it is found here.
 ///
 /// The caller knows that the address is one encoder's own, as for [`Encoder::new`].
 ///
@@ -55,6 +56,33 @@ pub fn open_encoder<D: Disk + Drop, F: OpenFiles<D>>(
     requires { IsTrue (is_exact address) }
     ensures given { IfOk result (λ r. GivesEncoder F.OpenFiles.holds files.now path.now r.0 r.1) }
     ensures settled { IfOk result (λ r. IsClean over_files r.1 → Settled (LeavesEncoder over_files r.1) r.0) }
+    ensures described { IfOk result (λ r. IsDescribed address sets services.now r.0) }
+{
+    match opened_encoder(files, path, address, sets, services) {
+        Err(fault) => Err(fault),
+        Ok((encoder, mut saved)) => match saved.put(&encoder, ()) {
+            Ok(()) => {
+                settled(&encoder, (), &saved);
+                Ok((encoder, saved))
+            }
+            Err(fault) => {
+                let_go(saved.into_kept());
+                Err(keep_fault(fault))
+            }
+        },
+    }
+}
+
+/// The same, with no further save of an encoder that was there.
+fn opened_encoder<D: Disk + Drop, F: OpenFiles<D>>(
+    files: &F,
+    path: &str,
+    address: Address,
+    sets: u8,
+    services: &[u8],
+) -> Result<(Encoder<RdsStore>, EncoderFile<FileStore<D>>), StateFault>
+    requires { IsTrue (is_exact address) }
+    ensures given { IfOk result (λ r. GivesEncoder F.OpenFiles.holds files.now path.now r.0 r.1) }
     ensures described { IfOk result (λ r. IsDescribed address sets services.now r.0) }
 {
     match files.open_file(path, VERSION) {

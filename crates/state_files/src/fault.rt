@@ -4,7 +4,7 @@ ghost use Rattle.state_files.specs.Faults.{keep_fault, image_fault};
 
 use end_images::ImageFault;
 use rds_store::StoreFault;
-use sqlite_image::KeepFault;
+use sqlite_image::{KeepFault, PathFault};
 use thiserror::Error;
 
 /// Why there is no end with this state file, or why a state was not saved. No refusal overwrites what the file has. Its
@@ -41,15 +41,18 @@ pub enum StateFault {
     /// No store has these data sets and services.
     #[error("{0}")]
     Store(StoreFault),
-    /// The path can't be opened.
+    /// The path can't be opened, for this.
     #[error("state out of reach")]
-    Unreachable,
+    Unreachable(PathFault),
     /// The disk is full.
     #[error("no room for the state")]
     Full,
     /// There was no memory.
     #[error("out of memory")]
     OutOfMemory,
+    /// A save was made, and the file's name or that of its log led elsewhere then, or nowhere.
+    #[error("state failed")]
+    Replaced,
     /// Any other failure of the disk, and each save after one that failed.
     #[error("state failed")]
     Failed,
@@ -65,7 +68,7 @@ pub(crate) fn keep_fault(fault: KeepFault) -> StateFault
         KeepFault::Newer(version) => StateFault::Newer(version),
         KeepFault::Older(version) => StateFault::Older(version),
         KeepFault::Damaged => StateFault::Damaged,
-        KeepFault::Unreachable => StateFault::Unreachable,
+        KeepFault::Unreachable(why) => StateFault::Unreachable(why),
         KeepFault::Full => StateFault::Full,
         KeepFault::OutOfMemory => StateFault::OutOfMemory,
         KeepFault::Failed => StateFault::Failed,

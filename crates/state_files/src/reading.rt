@@ -10,7 +10,7 @@ use crate::saved::let_go;
 use end_images::{ImageFault, KeptServer, read_encoder, read_server};
 use rds_store::RdsStore;
 use sqlite_disk::Disk;
-use sqlite_image::{OpenFiles, Opened};
+use sqlite_image::{OpenFiles, Opened, PathFault};
 use std::alloc::Global;
 use uecp_encoder::Encoder;
 use uecp_link::Server;
@@ -27,8 +27,8 @@ pub enum Found {
     Empty,
 }
 
-/// Reads the end that a state file has. `Unreachable` where there is no file. A database with nothing in it gets our
-/// table, with no image.
+/// Reads the end that a state file has. `Unreachable` for `NoFile` where there is no file. A database with nothing in
+/// it gets our table, with no image.
 ///
 /// ```
 /// if let Found::Encoder(encoder) = read_state(&files, "encoder.db")? {
@@ -42,7 +42,7 @@ pub fn read_state<D: Disk + Drop, F: OpenFiles<D>>(
     ensures found { IfOk result (λ found. Finds F.OpenFiles.holds files.now path.now D D.Disk found) }
 {
     if !files.is_there(path) {
-        return Err(StateFault::Unreachable);
+        return Err(StateFault::Unreachable(PathFault::NoFile));
     }
     let Opened { kept, image } = match files.open_file(path, VERSION) {
         Ok(opened) => opened,

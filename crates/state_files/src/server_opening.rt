@@ -30,7 +30,8 @@ use uecp_net::Progress;
 /// has come; a new file a new server, which has taken nothing and not joined, and whose image is saved at once.
 ///
 /// Refused is a file that is not ours, is of another version or in use, and the image of another end or of another
-/// address, in this order. What is refused is not overwritten.
+/// address, in this order. What is refused is not overwritten. Each server that is given was saved, also one that goes
+/// on, so a disk with no room for it is found here.
 ///
 /// The caller knows that the address is one encoder's own, as for [`Server::new`].
 ///
@@ -45,6 +46,31 @@ pub fn open_server<D: Disk + Drop, F: OpenFiles<D>>(
     requires { IsTrue (is_exact address) }
     ensures given { IfOk result (λ r. GivesServer F.OpenFiles.holds files.now path.now r.0 r.1 r.2) }
     ensures settled { IfOk result (λ r. IsClean over_files r.2 → IsKept (LeavesServer over_files r.2) r.1 r.0) }
+    ensures described { IfOk result (λ r. r.0.address ≡ address) }
+{
+    match opened_server(files, path, address) {
+        Err(fault) => Err(fault),
+        Ok((server, progress, mut saved)) => match saved.put(&server, progress) {
+            Ok(()) => {
+                settled(&server, progress, &saved);
+                Ok((server, progress, saved))
+            }
+            Err(fault) => {
+                let_go(saved.into_kept());
+                Err(keep_fault(fault))
+            }
+        },
+    }
+}
+
+/// The same, with no further save of a server that was there.
+fn opened_server<D: Disk + Drop, F: OpenFiles<D>>(
+    files: &F,
+    path: &str,
+    address: Address,
+) -> Result<(Server, Progress, ServerFile<FileStore<D>>), StateFault>
+    requires { IsTrue (is_exact address) }
+    ensures given { IfOk result (λ r. GivesServer F.OpenFiles.holds files.now path.now r.0 r.1 r.2) }
     ensures described { IfOk result (λ r. r.0.address ≡ address) }
 {
     match files.open_file(path, VERSION) {

@@ -1,9 +1,9 @@
 -- How a run whose state was then closed ended.
 use Rattle.std.proofs.Common.{◌≡◌, ◌⊎◌, ℕ, List, refl, sym, ◌∙◌, inl, inr, subst}
 use Rattle.std.specs.Prelude.{Ok, Err}
-use Rattle.kept_jobs.specs.Stops.{Went, state_line}
+use Rattle.kept_jobs.specs.Stops.{Went}
 use Rattle.kept_jobs.specs.ServerRun.{IsTold}
-use Rattle.state_jobs.specs.Texts.{state_text, Closed, IsClosed, unclosed_line}
+use Rattle.state_jobs.specs.Texts.{fault_line, Closed, IsClosed}
 use Rattle.state_jobs.specs.Kept.{SaysMore, SaysWhy}
 use Rattle.state_jobs.specs.ServerJob.{status_so}
 use Rattle.notices.specs.Told.{Told, Says}
@@ -26,7 +26,7 @@ closed_well path status (Err fault) status' told told' never is = absurd (never 
 pub says_more : (path : List ℕ) (status : ℕ) (closed : Closed) (status' : ℕ) (told told' : Told)
     → IsClosed path status closed status' told told' → SaysMore path told told'
 says_more path status (Ok done) status' told told' is = inl is.1
-says_more path status (Err fault) status' told told' is = inr (status, fault, is.1)
+says_more path status (Err fault) status' told told' is = inr (fault, is.1)
 
 -- what was said of a run whose state was then closed, where the status is 3
 pub says_end : (path : List ℕ) (went : Went) (status : ℕ) (closed : Closed) (told between told' : Told)
@@ -35,11 +35,8 @@ says_end path (Err stop) status closed told between told' is closes =
     inr (stop, between, is.1, says_more path status closed 3 between told' closes)
 says_end path (Ok done) status (Ok well) told between told' is closes =
     absurd (let three : 3 ≡ 0 = closes.0 ∙ is.0 in cc)
-says_end path (Ok done) status (Err fault) told between told' is closes = inl (
-  fault,
-  subst (λ x. Says x told' (state_line (state_text fault))) is.1
-      (subst (λ s. Says between told' (unclosed_line path s fault)) is.0 closes.1),
-)
+says_end path (Ok done) status (Err fault) told between told' is closes =
+    inl (fault, subst (λ x. Says x told' (fault_line path fault)) is.1 closes.1)
 
 -- the status of a run that was told is that of how it went
 told_status : (went : Went) (status : ℕ) (told told' : Told) → IsTold Says went status told told'

@@ -6,21 +6,20 @@ use Rattle.uecp_jobs.specs.Setups.{address_of}
 use Rattle.uecp_net.specs.declared.saved.keep.Progress.{Progress}
 use Rattle.uecp_net.specs.Keeping as sending
 use Rattle.kept_jobs.specs.declared.stop.KeptStop.{KeptStop}
-use Rattle.kept_jobs.specs.Stops.{stop_lines, state_line}
+use Rattle.kept_jobs.specs.Stops.{stop_lines}
 use Rattle.kept_jobs.specs.ServerKept.{HasTakenInput}
 use Rattle.state_files.specs.declared.fault.StateFault.{StateFault}
-use Rattle.state_jobs.specs.Texts.{state_text, unclosed_line}
+use Rattle.state_jobs.specs.Texts.{fault_line}
 use Rattle.notices.specs.Told.{Told, Says}
 
 -- Nothing more was said; or what became of the file at this path was.
 abbrev pub SaysMore : (path : List ℕ) → (told told' : Told) → Type 0
-SaysMore path told told' = (told' ≡ told)
-    ⊎ ((status : ℕ) × (fault : StateFault) × Says told told' (unclosed_line path status fault))
+SaysMore path told told' = (told' ≡ told) ⊎ ((fault : StateFault) × Says told told' (fault_line path fault))
 
--- It was said that the state can't be had, and why; or why the run stopped, and then, where the state at the path could
--- not be closed, that too.
+-- It was said that the state at the path can't be had, and why; or why the run stopped, and then, where the state at
+-- the path could not be closed, that too.
 abbrev pub SaysWhy : (path : List ℕ) → (told told' : Told) → Type 0
-SaysWhy path told told' = ((fault : StateFault) × Says told told' (state_line (state_text fault)))
+SaysWhy path told told' = ((fault : StateFault) × Says told told' (fault_line path fault))
     ⊎ ((stop : KeptStop) × (between : Told) × Says told between (stop_lines stop)
     × SaysMore path between told')
 

@@ -7,12 +7,12 @@ use Rattle.uecp_jobs.specs.ServerRun.{server_setup}
 use Rattle.uecp_jobs.specs.Setups.{IsOneEncoder, address_of}
 use Rattle.uecp_net.specs.declared.saved.keep.Progress.{Progress}
 use Rattle.uecp_net.specs.Keeping.{KeptServer, IsKept}
-use Rattle.kept_jobs.specs.Stops.{Went, stop_status, state_line}
+use Rattle.kept_jobs.specs.Stops.{Went, stop_status}
 use Rattle.kept_jobs.specs.ServerRun.{RunsServer, IsTold}
 use Rattle.kept_jobs.specs.ServerKept.{HasTakenInput, OutlivesRun}
 use Rattle.state_files.specs.declared.fault.StateFault.{StateFault}
 use Rattle.state_files.specs.declared.fault.StateFault.TheVariants.{Damaged}
-use Rattle.state_jobs.specs.Texts.{state_text, Closed, IsClosed}
+use Rattle.state_jobs.specs.Texts.{fault_line, Closed, IsClosed}
 use Rattle.notices.specs.Told.{Told, Says}
 
 -- the exit status of a run that went so
@@ -33,7 +33,7 @@ abbrev pub HasLostState : {K C : Type 0} → (gives : List ℕ → ServerState �
     → (refuses : List ℕ → StateFault → Type 0) → (path : List ℕ) → (unread unread' : Option (List ℕ)) → (c c' : C)
     → (held held' : Option (List ℕ)) → (told told' : Told) → Type 0
 HasLostState gives refuses path unread unread' c c' held held' told told' =
-    (fault : StateFault) × Says told told' (state_line (state_text fault))
+    (fault : StateFault) × Says told told' (fault_line path fault)
     × RefusesServer gives refuses path fault × (unread' ≡ unread) × (c' ≡ c) × (held' ≡ held)
 
 module _ {K C I O : Type 0} (gives : (path : List ℕ) → ServerState → Progress → K → Type 0)

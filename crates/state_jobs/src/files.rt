@@ -1,13 +1,15 @@
 //! States in files, each at its path. Source: profile.
+ghost use Rattle.std.specs.Prelude.{◌≡◌, true, false, None, is_some, IfOk, IsTrue};
+ghost use Rattle.state_files.specs.Opening.{Closes};
 
 use crate::open_states::OpenStates;
 use rds_store::RdsStore;
 use sqlite::FileStore;
 use sqlite_disk::Disk;
-use sqlite_image::OpenFiles;
+use sqlite_image::{Names, OpenFiles};
 use state_files::{
-    EncoderFile, Found, READ_MAX, ServerFile, StateFault, TOGETHER_MAX, open_encoder, open_server,
-    read_state,
+    EncoderFile, Found, READ_MAX, Saved, ServerFile, StateFault, TOGETHER_MAX, open_encoder,
+    open_server, read_state,
 };
 use std::marker::PhantomData;
 use uecp_encoder::{BatchLimits, Encoder, Keep, SaveFailed, SavedEncoder};
@@ -15,13 +17,17 @@ use uecp_frame::Address;
 use uecp_link::Server;
 use uecp_net::{Progress, SavedServer};
 
-/// Keeps the state of an encoder in a file.
+/// Keeps the state of an encoder in a file, as long as the file's name and that of its log lead to what was opened.
+/// Once a save failed none is made any more.
 #[derive(Drop)]
-pub struct StoredEncoder<D: Disk> {
+pub struct StoredEncoder<D: Disk, N> {
     file: EncoderFile<FileStore<D>>,
+    names: N,
+    /// Why a save failed, if one did, as far as it is known here.
+    fault: Option<StateFault>,
 }
 
-impl<D: Disk> BatchLimits for StoredEncoder<D> {
+impl<D: Disk, N> BatchLimits for StoredEncoder<D, N> {
     const READ_MAX: usize = READ_MAX;
 
     const TOGETHER_MAX: usize = TOGETHER_MAX;
@@ -39,37 +45,124 @@ impl<D: Disk> BatchLimits for StoredEncoder<D> {
     ghost answers_few = { ⟦<EncoderFile<FileStore<D>> as BatchLimits>⟧.answers_few };
 }
 
-impl<D: Disk> Keep<SavedEncoder<RdsStore>> for StoredEncoder<D> {
+impl<D: Disk, N: Names> Keep<SavedEncoder<RdsStore>> for StoredEncoder<D, N> {
+    ghost use Rattle.std.specs.Prelude.{◌≡◌, ◌⊎◌, true, is_some};
+
     ghost leaves = { λ m. ⟦<EncoderFile<FileStore<D>> as Keep<SavedEncoder<RdsStore>>>⟧.leaves m.file };
 
     ghost is_clean = { λ m. ⟦<EncoderFile<FileStore<D>> as Keep<SavedEncoder<RdsStore>>>⟧.is_clean m.file };
 
-    ghost saves = { λ m v n. ⟦<EncoderFile<FileStore<D>> as Keep<SavedEncoder<RdsStore>>>⟧.saves m.file v n.file };
+    // the file was saved, and then the names led to it
+    ghost saves = { λ m v n. ⟦<EncoderFile<FileStore<D>> as Keep<SavedEncoder<RdsStore>>>⟧.saves m.file v n.file
+        × N.Names.lead m.names n.names };
 
-    ghost fails = { λ m v n. ⟦<EncoderFile<FileStore<D>> as Keep<SavedEncoder<RdsStore>>>⟧.fails m.file v n.file };
+    // it could not be saved; or it was, and the names led elsewhere: no other save is made
+    ghost fails = { λ m v n. (⟦<EncoderFile<FileStore<D>> as Keep<SavedEncoder<RdsStore>>>⟧.fails m.file v n.file
+        ⊎ ⟦<EncoderFile<FileStore<D>> as Keep<SavedEncoder<RdsStore>>>⟧.saves m.file v n.file)
+        × (is_some n.fault ≡ true) };
 
     fn save(&mut self, encoder: &Encoder<RdsStore>, _progress: ()) -> Result<(), SaveFailed> {
-        self.file.save(encoder, ())
+        if self.fault.is_some() {
+            return Err(SaveFailed);
+        }
+        match self.file.save(encoder, ()) {
+            Ok(()) => {
+                if lead_there(&mut self.names, &mut self.fault) {
+                    Ok(())
+                } else {
+                    Err(SaveFailed)
+                }
+            }
+            Err(SaveFailed) => {
+                self.fault = Some(StateFault::Failed);
+                Err(SaveFailed)
+            }
+        }
     }
 }
 
-/// Keeps the state of a server in a file.
+/// Keeps the state of a server in a file, in the same way.
 #[derive(Drop)]
-pub struct StoredServer<D: Disk> {
+pub struct StoredServer<D: Disk, N> {
     file: ServerFile<FileStore<D>>,
+    names: N,
+    /// Why a save failed, if one did, as far as it is known here.
+    fault: Option<StateFault>,
 }
 
-impl<D: Disk> Keep<SavedServer> for StoredServer<D> {
+impl<D: Disk, N: Names> Keep<SavedServer> for StoredServer<D, N> {
+    ghost use Rattle.std.specs.Prelude.{◌≡◌, ◌⊎◌, true, is_some};
+
     ghost leaves = { λ m. ⟦<ServerFile<FileStore<D>> as Keep<SavedServer>>⟧.leaves m.file };
 
     ghost is_clean = { λ m. ⟦<ServerFile<FileStore<D>> as Keep<SavedServer>>⟧.is_clean m.file };
 
-    ghost saves = { λ m v n. ⟦<ServerFile<FileStore<D>> as Keep<SavedServer>>⟧.saves m.file v n.file };
+    ghost saves = { λ m v n. ⟦<ServerFile<FileStore<D>> as Keep<SavedServer>>⟧.saves m.file v n.file
+        × N.Names.lead m.names n.names };
 
-    ghost fails = { λ m v n. ⟦<ServerFile<FileStore<D>> as Keep<SavedServer>>⟧.fails m.file v n.file };
+    ghost fails = { λ m v n. (⟦<ServerFile<FileStore<D>> as Keep<SavedServer>>⟧.fails m.file v n.file
+        ⊎ ⟦<ServerFile<FileStore<D>> as Keep<SavedServer>>⟧.saves m.file v n.file) × (is_some n.fault ≡ true) };
 
     fn save(&mut self, server: &Server, progress: Progress) -> Result<(), SaveFailed> {
-        self.file.save(server, progress)
+        if self.fault.is_some() {
+            return Err(SaveFailed);
+        }
+        match self.file.save(server, progress) {
+            Ok(()) => {
+                if lead_there(&mut self.names, &mut self.fault) {
+                    Ok(())
+                } else {
+                    Err(SaveFailed)
+                }
+            }
+            Err(SaveFailed) => {
+                self.fault = Some(StateFault::Failed);
+                Err(SaveFailed)
+            }
+        }
+    }
+}
+
+/// Whether the names lead to the file, now. That they don't is noted.
+fn lead_there<N: Names>(names: &mut N, fault: &mut Option<StateFault>) -> bool
+    ensures lead { IsTrue result → N.Names.lead names.old names.new }
+    ensures noted { result ≡ false → is_some fault.new ≡ true }
+{
+    if names.lead() {
+        return true;
+    }
+    *fault = Some(StateFault::Replaced);
+    false
+}
+
+/// A clean end, where no save had failed and the names lead to the file; else why not, and nothing more is written.
+fn closed<D: Disk + Drop, N: Names + Drop, V>(
+    file: Saved<FileStore<D>, V>,
+    mut names: N,
+    fault: Option<StateFault>,
+) -> Result<(), StateFault>
+    ensures { IfOk result (λ _. Closes file × (fault ≡ None) × ((after : N) × N.Names.lead names after)) }
+{
+    if let Some(fault) = fault {
+        return Err(why_failed(file, fault));
+    }
+    if !names.lead() {
+        return Err(StateFault::Replaced);
+    }
+    match file.close() {
+        Ok(_files) => Ok(()),
+        Err(fault) => Err(fault),
+    }
+}
+
+/// Why a save failed: the file knows more of it, where that could not be saved.
+fn why_failed<D: Disk + Drop, V>(file: Saved<FileStore<D>, V>, fault: StateFault) -> StateFault {
+    match fault {
+        StateFault::Replaced => fault,
+        _ => match file.close() {
+            Ok(_files) => fault,
+            Err(fault) => fault,
+        },
     }
 }
 
@@ -93,11 +186,11 @@ impl<D: Disk + Drop, F: OpenFiles<D>> StatesInFiles<D, F> {
 
 impl<D: Disk + Drop, F: OpenFiles<D>> OpenStates for StatesInFiles<D, F> {
     ghost use Rattle.state_files.specs.Opening.{GivesEncoder, GivesServer, Finds, Closes};
-    ghost use Rattle.std.specs.Prelude.{IfOk};
+    ghost use Rattle.std.specs.Prelude.{◌≡◌, None, IfOk};
 
-    type EncoderKeeper = StoredEncoder<D>;
+    type EncoderKeeper = StoredEncoder<D, F::FileNames>;
 
-    type ServerKeeper = StoredServer<D>;
+    type ServerKeeper = StoredServer<D, F::FileNames>;
 
     ghost gives_encoder = { λ states path e k. GivesEncoder F.OpenFiles.holds states.files path e k.file };
 
@@ -109,9 +202,12 @@ impl<D: Disk + Drop, F: OpenFiles<D>> OpenStates for StatesInFiles<D, F> {
 
     ghost refuses_server = { λ states path fault. Unit {0} };
 
-    ghost closes_encoder = { λ states k closed. IfOk closed (λ _. Closes k.file) };
+    // no save had failed, the names led to the file, and it was closed
+    ghost closes_encoder = { λ states k closed. IfOk closed (λ _. Closes k.file × (k.fault ≡ None)
+        × ((names : F.FileNames) × F.FileNames.lead k.names names)) };
 
-    ghost closes_server = { λ states k closed. IfOk closed (λ _. Closes k.file) };
+    ghost closes_server = { λ states k closed. IfOk closed (λ _. Closes k.file × (k.fault ≡ None)
+        × ((names : F.FileNames) × F.FileNames.lead k.names names)) };
 
     ghost finds = { λ states path found. Finds F.OpenFiles.holds states.files path D D.Disk found };
 
@@ -123,10 +219,16 @@ impl<D: Disk + Drop, F: OpenFiles<D>> OpenStates for StatesInFiles<D, F> {
         address: Address,
         sets: u8,
         services: &[u8],
-    ) -> Result<(Encoder<RdsStore>, StoredEncoder<D>), StateFault> {
+    ) -> Result<(Encoder<RdsStore>, StoredEncoder<D, F::FileNames>), StateFault> {
         match open_encoder(&self.files, path, address, sets, services) {
-            Ok((encoder, file)) => Ok((encoder, StoredEncoder { file })),
             Err(fault) => Err(fault),
+            Ok((encoder, file)) => match self.files.names_of(path) {
+                None => Err(StateFault::Replaced),
+                Some(names) => {
+                    let fault = None;
+                    Ok((encoder, StoredEncoder { file, names, fault }))
+                }
+            },
         }
     }
 
@@ -134,27 +236,27 @@ impl<D: Disk + Drop, F: OpenFiles<D>> OpenStates for StatesInFiles<D, F> {
         &self,
         path: &str,
         address: Address,
-    ) -> Result<(Server, Progress, StoredServer<D>), StateFault> {
+    ) -> Result<(Server, Progress, StoredServer<D, F::FileNames>), StateFault> {
         match open_server(&self.files, path, address) {
-            Ok((server, progress, file)) => Ok((server, progress, StoredServer { file })),
             Err(fault) => Err(fault),
+            Ok((server, progress, file)) => match self.files.names_of(path) {
+                None => Err(StateFault::Replaced),
+                Some(names) => {
+                    let fault = None;
+                    Ok((server, progress, StoredServer { file, names, fault }))
+                }
+            },
         }
     }
 
-    fn close_encoder(&self, encoder: StoredEncoder<D>) -> Result<(), StateFault> {
-        let StoredEncoder { file } = encoder;
-        match file.close() {
-            Ok(_files) => Ok(()),
-            Err(fault) => Err(fault),
-        }
+    fn close_encoder(&self, encoder: StoredEncoder<D, F::FileNames>) -> Result<(), StateFault> {
+        let StoredEncoder { file, names, fault } = encoder;
+        closed(file, names, fault)
     }
 
-    fn close_server(&self, server: StoredServer<D>) -> Result<(), StateFault> {
-        let StoredServer { file } = server;
-        match file.close() {
-            Ok(_files) => Ok(()),
-            Err(fault) => Err(fault),
-        }
+    fn close_server(&self, server: StoredServer<D, F::FileNames>) -> Result<(), StateFault> {
+        let StoredServer { file, names, fault } = server;
+        closed(file, names, fault)
     }
 
     fn read_state(&self, path: &str) -> Result<Found, StateFault> {

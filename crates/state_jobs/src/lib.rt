@@ -18,4 +18,4 @@ pub use files::{StatesInFiles, StoredEncoder, StoredServer};
 pub use open_states::OpenStates;
 pub use server_job::run_server_in;
 pub use telling::tell_state;
-pub use texts::{closed_so, state_text};
+pub use texts::{closed_so, fail_file, state_text};

@@ -87,7 +87,7 @@ pub trait OpenStates {
     fn close_server(&self, keeper: Self::ServerKeeper) -> Result<(), StateFault>
         ensures { closes_server self.now keeper result };
 
-    /// What is kept there. `Unreachable` where there is no file.
+    /// What is kept there. `Unreachable` for `NoFile` where there is no file.
     fn read_state(&self, path: &str) -> Result<Found, StateFault>
         ensures found { IfOk result (finds self.now path.now) }
         ensures hidden { IfErr result (hides self.now path.now) };

@@ -14,9 +14,9 @@ ghost use Rattle.state_jobs.specs.ServerJob.{Sends, HasLostState, HasSent};
 ghost use Rattle.notices.specs.Told.{Told, Says};
 
 use crate::open_states::OpenStates;
-use crate::texts::{closed_so, state_text};
+use crate::texts::{closed_so, fail_file};
 use commands::ServerOptions;
-use kept_jobs::{Start, fail_state, run_server_kept};
+use kept_jobs::{Start, run_server_kept};
 use notices::{NoticesTo, fail};
 use state_files::StateFault;
 use std::alloc::Global;
@@ -129,10 +129,10 @@ fn send_in<S: OpenStates, R: Read, W: Write, E: Write, C: Connections>(
 {
     let Place { states, path } = place;
     match states.open_server(path, address) {
-        Err(fault) => fail_state(state_text(fault), errors),
+        Err(fault) => fail_file(path, fault, errors),
         Ok((server, progress, mut keeper)) => {
             if progress.taken >= TAKEN_MAX {
-                return fail_state(state_text(StateFault::Damaged), errors);
+                return fail_file(path, StateFault::Damaged, errors);
             }
             let start = Start { server, progress };
             let status = run_server_kept(

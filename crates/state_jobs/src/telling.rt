@@ -4,17 +4,15 @@ ghost use Rattle.std.specs.Io.KnownBytes.{Appends};
 ghost use Rattle.uecp_text.specs.declared.run_fault.RunFault.{RunFault};
 ghost use Rattle.uecp_text.specs.Faults.{Fails, error_lines};
 ghost use Rattle.uecp_text.specs.Written.{Begins};
-ghost use Rattle.kept_jobs.specs.Stops.{state_line};
 ghost use Rattle.state_files.specs.declared.reading.Found.{Found};
 ghost use Rattle.state_files.specs.declared.fault.StateFault.{StateFault};
-ghost use Rattle.state_jobs.specs.Texts.{state_text};
+ghost use Rattle.state_jobs.specs.Texts.{fault_line};
 ghost use Rattle.state_jobs.specs.StateLines.{found_lines};
 ghost use Rattle.notices.specs.Told.{Says};
 
 use crate::open_states::OpenStates;
 use crate::state_lines::put_found;
-use crate::texts::state_text;
-use kept_jobs::fail_state;
+use crate::texts::fail_file;
 use notices::{NoticesTo, fail};
 use state_files::Found;
 use std::alloc::Global;
@@ -38,13 +36,13 @@ pub fn tell_state<S: OpenStates, W: Write, E: Write>(
     // lines was.
     ensures failed { result ≡ 3 → ((fault : StateFault) × S.hides states.now path.now fault
         × (writer.new ≡ writer.old)
-        × Says errors.old errors.new (state_line (state_text fault)))
+        × Says errors.old errors.new (fault_line path.now fault))
         ⊎ ((found : Found) × (fault : RunFault) × S.finds states.now path.now found × Fails fault
         × Begins (W.contents writer.old) (W.contents writer.new) (found_lines found)
         × Says errors.old errors.new (error_lines fault)) }
 {
     match states.read_state(path) {
-        Err(fault) => fail_state(state_text(fault), errors),
+        Err(fault) => fail_file(path, fault, errors),
         Ok(found) => match write_found(alloc, &found, writer) {
             Ok(()) => 0,
             Err(fault) => fail(&fault, errors),

@@ -11,11 +11,10 @@ use Rattle.uecp_text.specs.Written.{Begins}
 use Rattle.uecp_encoder.specs.Keeping as serving
 use Rattle.uecp_net.specs.declared.saved.keep.Progress.{Progress}
 use Rattle.uecp_net.specs.Keeping as sending
-use Rattle.kept_jobs.specs.Stops.{state_line}
 use Rattle.kept_jobs.specs.ServerKept.{IsReadWith}
 use Rattle.state_files.specs.declared.fault.StateFault.{StateFault}
 use Rattle.state_files.specs.declared.reading.Found.{Found}
-use Rattle.state_jobs.specs.Texts.{state_text}
+use Rattle.state_jobs.specs.Texts.{fault_line}
 use Rattle.state_jobs.specs.StateLines.{found_lines}
 use Rattle.state_jobs.specs.Kept.{HasSentKept, SaysWhy}
 use Rattle.device_serving.specs.ConnectionLines.{endings_lines}
@@ -101,6 +100,6 @@ HasTold finds path unread unread' held held' =
 abbrev pub HasNotTold : (finds : (path : List ℕ) → Found → Type 0) → (path : List ℕ)
     → (unread unread' held held' : Option (List ℕ)) → (told told' : Told) → Type 0
 HasNotTold finds path unread unread' held held' told told' =
-    (((fault : StateFault) × (held' ≡ held) × Says told told' (state_line (state_text fault)))
+    (((fault : StateFault) × (held' ≡ held) × Says told told' (fault_line path fault))
     ⊎ ((found : Found) × (fault : RunFault) × finds path found × Fails fault
     × Begins held held' (found_lines found) × Says told told' (error_lines fault))) × (unread' ≡ unread)

@@ -4,7 +4,7 @@ use faulty_io::FaultyWriter;
 use kept_jobs::fail_state;
 use option_files::{EntriesFault, entries_of};
 use rds_store::StoreFault;
-use sqlite_image::KeepFault;
+use sqlite_image::{KeepFault, PathFault};
 use state_files::StateFault;
 use state_jobs::state_text;
 use std::alloc::Global;
@@ -171,10 +171,11 @@ fn state_number_of(fault: &StateFault) -> usize {
         StateFault::OtherSets => 7,
         StateFault::OtherServices => 8,
         StateFault::Store(_) => 9,
-        StateFault::Unreachable => 10,
+        StateFault::Unreachable(_) => 10,
         StateFault::Full => 11,
         StateFault::OutOfMemory => 12,
-        StateFault::Failed => 13,
+        StateFault::Replaced => 13,
+        StateFault::Failed => 14,
     }
 }
 
@@ -191,9 +192,10 @@ fn what_is_said_of_a_state_is_the_text_of_its_fault(rt: HostRuntime) -> Result<(
         StateFault::OtherSets,
         StateFault::OtherServices,
         StateFault::Store(StoreFault::ServiceTwice),
-        StateFault::Unreachable,
+        StateFault::Unreachable(PathFault::Folder),
         StateFault::Full,
         StateFault::OutOfMemory,
+        StateFault::Replaced,
         StateFault::Failed,
     ];
     for (place, fault) in faults.iter().enumerate() {
@@ -213,7 +215,7 @@ fn told_as(fault: &KeepFault) -> StateFault {
         KeepFault::Newer(version) => StateFault::Newer(*version),
         KeepFault::Older(version) => StateFault::Older(*version),
         KeepFault::Damaged => StateFault::Damaged,
-        KeepFault::Unreachable => StateFault::Unreachable,
+        KeepFault::Unreachable(why) => StateFault::Unreachable(*why),
         KeepFault::Full => StateFault::Full,
         KeepFault::OutOfMemory => StateFault::OutOfMemory,
         KeepFault::Failed => StateFault::Failed,
@@ -228,7 +230,7 @@ fn the_text_of_a_file_s_fault_is_that_of_the_state_s(rt: HostRuntime) -> Result<
         KeepFault::Newer(2),
         KeepFault::Older(1),
         KeepFault::Damaged,
-        KeepFault::Unreachable,
+        KeepFault::Unreachable(PathFault::Folder),
         KeepFault::Full,
         KeepFault::OutOfMemory,
         KeepFault::Failed,

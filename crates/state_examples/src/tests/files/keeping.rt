@@ -2,7 +2,7 @@
 
 use crate::tests::asserting::same;
 use sqlite::{Connection, MemStore};
-use sqlite_image::{KeepFault, Kept, Opened};
+use sqlite_image::{KeepFault, Kept, Opened, PathFault};
 use std::alloc::Global;
 use std::test::Fail;
 
@@ -38,7 +38,10 @@ fn faults_are_told(rt: HostRuntime) -> Result<(), Fail> {
         (KeepFault::Newer(2), "state is of a later version"),
         (KeepFault::Older(0), "state is of an earlier version"),
         (KeepFault::Damaged, "state damaged"),
-        (KeepFault::Unreachable, "state out of reach"),
+        (
+            KeepFault::Unreachable(PathFault::Folder),
+            "state out of reach",
+        ),
         (KeepFault::Full, "no room for the state"),
         (KeepFault::OutOfMemory, "out of memory"),
         (KeepFault::Failed, "state failed"),

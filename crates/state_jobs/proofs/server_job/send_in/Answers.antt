@@ -1,7 +1,6 @@
 use Rattle.std.proofs.Common.{rules, ◌≡◌, refl, sym, ◌∙◌, inl, inr, subst}
 use Rattle.std.specs.Prelude.{IfOk}
 use Rattle.notices.specs.Told.{Says}
-use Rattle.kept_jobs.specs.Stops.{state_line}
 use Rattle.state_files.specs.declared.fault.StateFault.TheVariants as state
 use Rattle.state_jobs.specs.Texts.{IsClosed}
 use Rattle.state_jobs.proofs.Stopping.{not_done, not_refused}
@@ -12,14 +11,12 @@ use Rattle.state_jobs.proofs.server_job.send_in.Goals as goal
 
 pub returns-then-progress-ge-TAKEN_MAX-clause-sent : goal.returns-then-progress-ge-TAKEN_MAX-clause-sent
 returns-then-progress-ge-TAKEN_MAX-clause-sent g c =
-    let said = c.fail_state-then-progress-ge-TAKEN_MAX in
+    let said = c.fail_file-then-progress-ge-TAKEN_MAX in
     inr (
       said.ensures.status,
       (
         state.Damaged,
-        subst (λ x. Says c.args.errors.now
-            said.new.errors (state_line x)) c.state_text-then-progress-ge-TAKEN_MAX.ensures
-            said.ensures.said,
+        said.ensures.said,
         inr (c.in-Ok.server, c.in-Ok.progress, c.in-Ok.keeper, c.in-Ok.ensures.given, search rules, refl),
         refl,
         refl,
@@ -118,10 +115,5 @@ returns-else-progress-ge-TAKEN_MAX-clause-said g c = λ is.
 
 pub returns-then-progress-ge-TAKEN_MAX-clause-said : goal.returns-then-progress-ge-TAKEN_MAX-clause-said
 returns-then-progress-ge-TAKEN_MAX-clause-said g c = λ is.
-    let said = c.fail_state-then-progress-ge-TAKEN_MAX in
-    inl (
-      state.Damaged,
-      subst (λ x. Says c.args.errors.now
-          said.new.errors (state_line x)) c.state_text-then-progress-ge-TAKEN_MAX.ensures
-          said.ensures.said,
-    )
+    let said = c.fail_file-then-progress-ge-TAKEN_MAX in
+    inl (state.Damaged, said.ensures.said)
