@@ -344,8 +344,12 @@ class Encoder:
 
 
 def counters_behind(behind):
-    """The counters of a pass that goes on behind this one, or from 01 behind 00, as they are sent: so that 81 comes, and then FF."""
-    return [*range(behind + 1, 0x100)] if behind < 0x81 else [*range(behind + 1, 0xFF), 0x81, 0xFF]
+    """The counters of a pass that goes on behind this one, or from 01 behind 00, as they are sent: so that 81 comes, and then FF. Where
+    it goes on those above come twice, up to FE."""
+    if behind == 0x00:
+        return [*range(0x01, 0x100)]
+    twice = [counter for counter in range(behind + 1, 0xFF) for _ in range(2)]
+    return twice + ([0xFF] if behind < 0x81 else [0x81, 0xFF])
 
 
 def goes_on_behind(behind, counters):

@@ -176,13 +176,12 @@ def two_passes_taken_for_one(states):
     raise AssertionError("nothing went wrong")
 
 
-def trials():
+def trials(states):
     """A name and a call for each."""
-    states = States()
     yield from ((f"passes after {count} messages", lambda count=count: passes_after(states, count)) for count in range(MOST_APPLIED + 1))
     yield from ((f"parts behind {behind:02X}", lambda behind=behind: parts_after(states, behind)) for behind in BEHIND)
     yield "parts of 20 replies", lambda: joins_in_parts(states, 20, 14)
-    yield "parts of 3 replies", lambda: joins_in_parts(states, 3, 130)
+    yield "parts of 2 replies", lambda: joins_in_parts(states, 2, 129)
     yield "81 and FF of two parts", lambda: parts_without_81_once_more(states)
     yield "new messages to a joined encoder", lambda: new_messages(states)
     yield "joined by FF alone", lambda: a_wrong_telling(states, lambda read: 0xFF in read)

@@ -13,11 +13,13 @@ use Rattle.air_edges.specs.Hearers.{Hearing, GetsGroup, IsGone, IsSlow, GoesOut}
 module _ {H : Type 0} (takes : H → List ℕ → Taken → H → Type 0) where
   -- by what its connection took of what it was offered
   pub gets_first : (contents : H → Option (List ℕ)) (bytes offered : List ℕ) (h h' : Hearing H) (count : ℕ)
-      → offered ≡ h.waiting ++ bytes → length h.waiting + length bytes ≤ 4096 → h'.waiting ≡ drop count offered
+      → h'.origin ≡ h.origin → offered ≡ h.waiting ++ bytes → length h.waiting + length bytes ≤ 4096
+      → h'.waiting ≡ drop count offered
       → count ≤ length offered → takes h.output offered (First count) h'.output
       → Appends (contents h.output) (contents h'.output) (take count offered) → GetsGroup takes contents bytes h h'
-  gets_first contents bytes offered h h' count is room rest few took got = record {
+  gets_first contents bytes offered h h' count from is room rest few took got = record {
     written = take count offered;
+    same_origin = from;
     room = room;
     whole = ap (λ ys. take count offered ++ ys) rest ∙ take-append-drop count offered ∙ is;
     got = got;

@@ -6,7 +6,8 @@ use Rattle.std.proofs.lemmas.Bool.{false≢true}
 use Rattle.std.proofs.Math.Numerals.{add-one}
 use Rattle.air_edges.specs.declared.sockets.Came.{Came}
 use Rattle.air_edges.specs.Pace as pace
-use Rattle.air_edges.specs.Edge.{Edge, IsEarly, Accepts, Looks, LookBrings, LookPasses, Brings, Passes, PassesFor}
+use Rattle.air_edges.specs.Edge.{Edge, IsEarly, TellsOut, Accepts, Looks, LookBrings, LookPasses, Brings, Passes}
+use Rattle.air_edges.specs.Edge.{PassesFor}
 use Rattle.air_edges.specs.Edge.{wait_limit, is_silent}
 use Rattle.air_serving.specs.declared.moments.Moment.{Moment}
 use Rattle.air_serving.specs.declared.moments.Moment.TheVariants.{Readable, Due, Over}
@@ -16,7 +17,7 @@ both true b is = (refl, is)
 both false b is = absurd (false≢true is)
 
 -- one was told of, and none was there
-pub accepts_none : {S H : Type 0} (joins : S → Option H → S → Type 0) (came : Bool) (e0 e e' : Edge S H)
+pub accepts_none : {S H : Type 0} (joins : S → Option (H × ℕ) → S → Type 0) (came : Bool) (e0 e e' : Edge S H)
     (sockets : S) → came ≡ true → e0 ≡ e → joins e0.sockets None sockets → e' ≡ record e0 { sockets = sockets }
     → Accepts joins came e e'
 accepts_none {S} {H} joins came e0 e e' sockets is same none after =
@@ -24,18 +25,20 @@ accepts_none {S} {H} joins came e0 e e' sockets is same none after =
     (subst (λ (x : Edge S H). Accepts joins true x e') same (sockets, inl (none, after)))
 
 module _ {S H I O : Type 0} (reads : S → ℕ → S → Type 0) (waits : S → Bool → ℕ → Option Came → S → Type 0)
-    (opens : S → Option (I × O) → S → Type 0) (joins : S → Option H → S → Type 0) where
+    (opens : S → Option (I × O) → S → Type 0) (joins : S → Option (H × ℕ) → S → Type 0) where
   -- by what the calls of a look said
-  pub looks : (is_open : Bool) (now limit : ℕ) (e0 e y : Edge S H) (came : Came) (waited : S) → e0 ≡ e
+  pub looks : (is_open : Bool) (now limit : ℕ) (e0 e told y : Edge S H) (came : Came) (waited : S) → e0 ≡ e
       → IsEarly is_open e now → limit ≡ wait_limit is_open e0.idle e0.heard e0.next now
-      → waits e0.sockets is_open limit (Some came) waited → Accepts joins came.air (record e0 { sockets = waited }) y
-      → Looks reads waits opens joins is_open e now came y
-  looks is_open now limit e0 e y came waited is early limit_is waited_so accepted =
+      → waits e0.sockets is_open limit (Some came) waited → TellsOut came.is_out (record e0 { sockets = waited }) told
+      → Accepts joins came.air told y → Looks reads waits opens joins is_open e now came y
+  looks is_open now limit e0 e told y came waited is early limit_is waited_so tells accepted =
       let from : Edge S H → Type 0 = λ x. IsEarly is_open x now → Looks reads waits opens joins is_open x now came y in
       subst from is (λ early0. record {
         waited = waited;
+        told = told;
         early = early0;
         waits_so = subst (λ (n : ℕ). waits e0.sockets is_open n (Some came) waited) limit_is waited_so;
+        tells = tells;
         accepts = accepted;
       }) early
 

@@ -1,8 +1,11 @@
 -- What the edge of an encoder on the air does; a reader has to believe it (profile).
 use Rattle.std.specs.Prelude.{◌≡◌, ◌⊎◌, ◌-◌, ◌*◌, ◌^◌, ◌<◌, ◌≤◌, ℕ, zero, suc, min, leb, Bool, true, false, ◌&&◌}
 use Rattle.std.specs.Prelude.{List, [], ◌∷◌, ◌++◌, length, codes, Option, Some, None}
+use Rattle.std.specs.List.{list_any}
 use Rattle.rds_groups.specs.declared.group.Group.{Group}
 use Rattle.uecp_text.specs.Written.{Begins}
+use Rattle.device_edges.specs.Place.{room_line}
+use Rattle.seats.specs.Seats.{IsSeatGiven, NoSeatGiven}
 use Rattle.air_serving.specs.declared.moments.Moment.{Moment}
 use Rattle.air_serving.specs.declared.moments.Moment.TheVariants.{Connected, Readable, Due, Over}
 use Rattle.air_edges.specs.declared.form.AirForm.{AirForm}
@@ -10,12 +13,12 @@ use Rattle.air_edges.specs.declared.hears.Taken.{Taken}
 use Rattle.air_edges.specs.declared.sockets.Came.{Came}
 use Rattle.air_edges.specs.Pace as pace
 use Rattle.air_edges.specs.AirBytes.{air_bytes}
-use Rattle.air_edges.specs.Hearers.{Hearing, joined, hearers_most, behind_place, replaced, GoesOut}
+use Rattle.air_edges.specs.Hearers.{Hearing, joined, hearers_most, is_behind, seats_of, replaced, GoesOut}
 
 -- The edge of an encoder on the air: its sockets and clock; the form in which groups go out; after how many seconds
 -- without a byte a connection is given up, if so; when the next group is due; when something came on the connection
 -- last, in milliseconds; who listens, in the order in which they came; and what was said, with whether it was said that
--- too many listen.
+-- too many listen, that too many do from one address, and that the system has no room for one more connection.
 pub record Edge (S H : Type 0) : Type 0 where
   pub sockets : S
   pub form : AirForm
@@ -24,6 +27,8 @@ pub record Edge (S H : Type 0) : Type 0 where
   pub heard : ℕ
   pub hearers : List (Hearing H)
   pub is_full_told : Bool
+  pub is_crowd_told : Bool
+  pub is_out_told : Bool
   pub told : Option (List ℕ)
 
 -- At first: the first group is due at once, nobody listens, and nothing was said.
@@ -36,6 +41,8 @@ edge_at_first sockets form idle told = record {
   heard = 0;
   hearers = [];
   is_full_told = false;
+  is_crowd_told = false;
+  is_out_told = false;
   told = told;
 }
 
@@ -63,10 +70,20 @@ full_line = codes "uecp: air: too many listen, and one more is not taken\n"
 abbrev pub slow_line : List ℕ
 slow_line = codes "uecp: air: one who listens does not keep up, and is closed\n"
 
+-- What is said of one who is let go since more listen from where it comes than from where another does.
+abbrev pub crowd_line : List ℕ
+crowd_line = codes "uecp: air: too many listen from one address, and one of them is closed\n"
+
 -- It is said once until there is room.
 abbrev pub TellsOnce : (line : List ℕ) → (told_before : Bool) → (told told' : Option (List ℕ)) → Type 0
 TellsOnce line true told told' = told' ≡ told
 TellsOnce line false told told' = Begins told told' line
+
+-- The system had no room for one more connection, or had: that it had none is said once until it has.
+abbrev pub TellsOut : {S H : Type 0} → (is_out : Bool) → (e e' : Edge S H) → Type 0
+TellsOut true e e' = TellsOnce room_line e.is_out_told e.told e'.told
+    × (e' ≡ record e { is_out_told = true; told = e'.told })
+TellsOut false e e' = e' ≡ record e { is_out_told = false }
 
 -- It is said of so many, or begun to be said.
 abbrev pub TellsSlow : (count : ℕ) → (told told' : Option (List ℕ)) → Type 0
@@ -74,20 +91,31 @@ TellsSlow zero told told' = told' ≡ told
 TellsSlow (suc count) told told' =
     (between : Option (List ℕ)) × TellsSlow count told between × Begins between told' slow_line
 
--- One who was accepted listens where as many do as may: in the place of the one at this place, who is let go as slow;
--- or where none gives its place it is not taken. That is said.
-abbrev pub JoinsFull : {S H : Type 0} → H → (place : Option ℕ) → (e e' : Edge S H) → Type 0
-JoinsFull output None e e' =
-    TellsOnce full_line e.is_full_told e.told e'.told × (e' ≡ record e { is_full_told = true; told = e'.told })
-JoinsFull output (Some place) e e' = TellsOnce slow_line e.is_full_told e.told e'.told
-    × (e' ≡ record e { hearers = replaced place output e.hearers; is_full_told = true; told = e'.told })
+-- One more listens in the place of the one at this place, who is let go. Who is behind is let go as slow, and another
+-- for the crowd that it is of; that is said.
+abbrev pub TakesPlace : {S H : Type 0} → (is_slow : Bool) → (place : ℕ) → H → (origin : ℕ) → (e e' : Edge S H)
+    → Type 0
+TakesPlace true place output origin e e' = TellsOnce slow_line e.is_full_told e.told e'.told
+    × (e' ≡ record e { hearers = replaced place output origin e.hearers; is_full_told = true; told = e'.told })
+TakesPlace false place output origin e e' = TellsOnce crowd_line e.is_crowd_told e.told e'.told
+    × (e' ≡ record e { hearers = replaced place output origin e.hearers; is_crowd_told = true; told = e'.told })
 
--- One who was accepted listens from the next group on, behind the others. Nobody is let go for it while there is room;
--- else the first of those who have not taken all that went out is, if there is one.
-abbrev pub Joins : {S H : Type 0} → H → (e e' : Edge S H) → Type 0
-Joins output e e' =
-    ((length e.hearers < hearers_most) × (e' ≡ record e { hearers = e.hearers ++ joined output ∷ [] }))
-    ⊎ ((hearers_most ≤ length e.hearers) × JoinsFull output (behind_place e.hearers) e e')
+-- One who was accepted, and comes from there, listens where as many do as may: in the place of the one that gives it.
+-- That is the first that is behind; where none is, the first of those from whose origin most listen, where from there
+-- fewer do. Or none gives its place, and it is not taken, which is said.
+abbrev pub JoinsFull : {S H : Type 0} → H → (origin : ℕ) → (e e' : Edge S H) → Type 0
+JoinsFull output origin e e' =
+    ((place : ℕ) × IsSeatGiven origin place (seats_of e.hearers)
+    × TakesPlace (list_any is_behind e.hearers) place output origin e e')
+    ⊎ (NoSeatGiven origin (seats_of e.hearers) × TellsOnce full_line e.is_full_told e.told e'.told
+    × (e' ≡ record e { is_full_told = true; told = e'.told }))
+
+-- One who was accepted, and comes from there, listens from the next group on, behind the others. Nobody is let go for
+-- it while there is room.
+abbrev pub Joins : {S H : Type 0} → H → (origin : ℕ) → (e e' : Edge S H) → Type 0
+Joins output origin e e' =
+    ((length e.hearers < hearers_most) × (e' ≡ record e { hearers = e.hearers ++ joined output origin ∷ [] }))
+    ⊎ ((hearers_most ≤ length e.hearers) × JoinsFull output origin e e')
 
 -- A group goes out, in the form that was asked for, to all who listen.
 abbrev pub SendsGroup : {S H : Type 0} → (takes : H → List ℕ → Taken → H → Type 0)
@@ -98,6 +126,7 @@ SendsGroup takes contents e group e' =
     × (e' ≡ record e {
       hearers = e'.hearers;
       is_full_told = e.is_full_told && leb hearers_most (length e'.hearers);
+      is_crowd_told = e.is_crowd_told && leb hearers_most (length e'.hearers);
       told = e'.told;
     })
 
@@ -114,22 +143,25 @@ IsEarly is_open e now =
     (pace.is_due e.next now ≡ false) × ((is_open && is_silent e.idle e.heard now) ≡ false)
 
 -- Where one came who wants to listen it is accepted, if it is there still.
-abbrev pub Accepts : {S H : Type 0} → (joins : S → Option H → S → Type 0) → (came : Bool) → (e e' : Edge S H)
-    → Type 0
+abbrev pub Accepts : {S H : Type 0} → (joins : S → Option (H × ℕ) → S → Type 0) → (came : Bool)
+    → (e e' : Edge S H) → Type 0
 Accepts joins false e e' = e' ≡ e
 Accepts {S} {H} joins true e e' = (sockets : S)
     × ((joins e.sockets None sockets × (e' ≡ record e { sockets = sockets }))
-    ⊎ ((output : H) × joins e.sockets (Some output) sockets × Joins output (record e { sockets = sockets }) e'))
+    ⊎ ((output : H) × (origin : ℕ) × joins e.sockets (Some (output, origin)) sockets
+    × Joins output origin (record e { sockets = sockets }) e'))
 
 module _ {S H I O : Type 0} (reads : S → ℕ → S → Type 0) (waits : S → Bool → ℕ → Option Came → S → Type 0)
-    (opens : S → Option (I × O) → S → Type 0) (joins : S → Option H → S → Type 0) where
+    (opens : S → Option (I × O) → S → Type 0) (joins : S → Option (H × ℕ) → S → Type 0) where
   -- The sockets were waited for at a time at which nothing was to be done, and for no longer than until something is;
-  -- this came, and one who wants to listen was accepted.
+  -- this came, what there is to say of room was said, and one who wants to listen was accepted.
   pub record Looks (is_open : Bool) (e : Edge S H) (now : ℕ) (came : Came) (e' : Edge S H) : Type 0 where
     pub waited : S
+    pub told : Edge S H
     pub early : IsEarly is_open e now
     pub waits_so : waits e.sockets is_open (wait_limit is_open e.idle e.heard e.next now) (Some came) waited
-    pub accepts : Accepts joins came.air (record e { sockets = waited }) e'
+    pub tells : TellsOut came.is_out (record e { sockets = waited }) told
+    pub accepts : Accepts joins came.air told e'
 
   -- What a look at this time brings.
   --

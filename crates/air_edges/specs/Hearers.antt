@@ -1,22 +1,23 @@
 -- Who listens to the air, and what becomes of them as a group goes out (profile).
-use Rattle.std.specs.Prelude.{◌≡◌, ◌⊎◌, ◌+◌, ◌<◌, ◌≤◌, ℕ, suc, Bool, ltb}
-use Rattle.std.specs.Prelude.{List, [], ◌∷◌, ◌++◌, length, take, remove, Option}
-use Rattle.std.specs.List.{position_from}
+use Rattle.std.specs.Prelude.{◌≡◌, ◌⊎◌, ◌+◌, ◌<◌, ◌≤◌, ℕ, suc, Bool, true, ltb}
+use Rattle.std.specs.Prelude.{List, [], ◌∷◌, ◌++◌, length, take, map, remove, Option}
 use Rattle.std.specs.Io.KnownBytes.{Appends, Keeps}
+use Rattle.seats.specs.declared.seat.Seat.{Seat}
 use Rattle.air_edges.specs.declared.hears.Taken.{Taken}
 use Rattle.air_edges.specs.declared.hears.Taken.TheVariants.{First, NotNow, Gone}
 use Rattle.air_edges.specs.declared.hearers.Fate.{Fate}
 use Rattle.air_edges.specs.declared.hearers.Fate.TheVariants.{Stays, Slow}
 use Rattle.air_edges.specs.declared.hearers.Fate.TheVariants as fate
 
--- One who listens: the connection to it, and the bytes that it has not taken yet.
+-- One who listens: the connection to it, from where that comes, and the bytes that it has not taken yet.
 pub record Hearing (H : Type 0) : Type 0 where
   pub output : H
+  pub origin : ℕ
   pub waiting : List ℕ
 
 -- One who listens from now on: nothing waits for it.
-abbrev pub joined : {H : Type 0} → H → Hearing H
-joined output = record { output = output; waiting = [] }
+abbrev pub joined : {H : Type 0} → H → (origin : ℕ) → Hearing H
+joined output origin = record { output = output; origin = origin; waiting = [] }
 
 -- How many may listen at a time.
 abbrev pub hearers_most : ℕ
@@ -32,13 +33,16 @@ waiting_most = 4096
 abbrev pub is_behind : {H : Type 0} → Hearing H → Bool
 is_behind h = ltb 0 (length h.waiting)
 
--- The place of the first of those who are behind, who has listened for longest of them.
-abbrev pub behind_place : {H : Type 0} → List (Hearing H) → Option ℕ
-behind_place hearers = position_from is_behind 0 hearers
+-- Those who listen as those of whom one may give its place: each has one.
+abbrev pub seat_of : {H : Type 0} → Hearing H → Seat
+seat_of h = record { origin = h.origin; is_taken = true; is_behind = is_behind h }
+
+abbrev pub seats_of : {H : Type 0} → List (Hearing H) → List Seat
+seats_of hearers = map seat_of hearers
 
 -- One more listens in the place of the one at this place, who is let go; the others do as they did, in their order.
-abbrev pub replaced : {H : Type 0} → (place : ℕ) → H → List (Hearing H) → List (Hearing H)
-replaced place output hearers = remove hearers place ++ joined output ∷ []
+abbrev pub replaced : {H : Type 0} → (place : ℕ) → H → (origin : ℕ) → List (Hearing H) → List (Hearing H)
+replaced place output origin hearers = remove hearers place ++ joined output origin ∷ []
 
 -- ---- One who is offered bytes.
 
@@ -66,6 +70,7 @@ module _ {H : Type 0} (takes : H → List ℕ → Taken → H → Type 0) where
   -- no byte is left out, none comes twice, and each is in its place.
   pub record GetsGroup (contents : H → Option (List ℕ)) (bytes : List ℕ) (h h' : Hearing H) : Type 0 where
     pub written : List ℕ
+    pub same_origin : h'.origin ≡ h.origin
     pub room : length h.waiting + length bytes ≤ waiting_most
     pub whole : written ++ h'.waiting ≡ h.waiting ++ bytes
     pub got : Appends (contents h.output) (contents h'.output) written

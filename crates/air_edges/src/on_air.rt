@@ -1,10 +1,16 @@
 //! The edge of an encoder on the air, over the sockets that the machine gives it (profile).
-ghost use Rattle.std.specs.Prelude.{◌≡◌, ◌<◌, ◌≤◌, ◌^◌, ◌++◌, ◌∷◌, [], MatchOption, IfOk, true};
+ghost use Rattle.std.specs.Prelude.{◌≡◌, ◌<◌, ◌≤◌, ◌^◌, ◌++◌, ◌∷◌, [], length, MatchOption, IfOk, true};
+ghost use Rattle.std.specs.List.{list_any};
 ghost use Rattle.uecp_text.specs.Written.{Begins};
+ghost use Rattle.device_edges.specs.Place.{room_line};
+ghost use Rattle.air_edges.specs.Hearers.{is_behind};
 ghost use Rattle.air_edges.specs.Edge.{
   edge_at_first,
   Accepts,
   Joins,
+  TakesPlace,
+  crowd_line,
+  TellsOut,
   TellsOnce,
   TellsSlow,
   LookBrings,
@@ -21,6 +27,7 @@ use crate::pace::Pace;
 use crate::silence::{is_silent, wait_limit};
 use crate::sockets::Sockets;
 use air_serving::{Moment, Moments};
+use device_edges::NO_ROOM;
 use rds_groups::Group;
 use std::alloc::{AllocError, Global};
 use std::io::Write;
@@ -33,10 +40,14 @@ const FULL: &[u8] = b"uecp: air: too many listen, and one more is not taken\n";
 /// What is said of one who is let go as slow.
 const SLOW: &[u8] = b"uecp: air: one who listens does not keep up, and is closed\n";
 
+/// What is said of one who is let go since more listen from where it comes than from where another does.
+const CROWD: &[u8] = b"uecp: air: too many listen from one address, and one of them is closed\n";
+
 /// The edge of an encoder on the air: connections of the studio are accepted, one at a time, and those who listen get
 /// the groups as they go out, from the next on, at most 64. Who does not take them in time is let go, which is said.
-/// Where there are 64 one more gets the place of the first that is behind, or is not taken; which is said once until
-/// there is room.
+/// Where there are 64 one more gets the place of the first that is behind; or where none is, of the first of those from
+/// whose address most listen, where from its own fewer do; or is not taken. That is said once until there is room. That
+/// the system has no room for one more connection is said once until it has.
 #[derive(Drop)]
 pub struct OnAir<'a, S, H, W: Write> {
     sockets: S,
@@ -47,6 +58,8 @@ pub struct OnAir<'a, S, H, W: Write> {
     heard: u64,
     hearers: Hearers<H>,
     is_full_told: bool,
+    is_crowd_told: bool,
+    is_out_told: bool,
 }
 
 impl<'a, S, H, W: Write> Model for OnAir<'a, S, H, W> {
@@ -62,6 +75,8 @@ impl<'a, S, H, W: Write> Model for OnAir<'a, S, H, W> {
       heard = a.heard;
       hearers = a.hearers;
       is_full_told = a.is_full_told;
+      is_crowd_told = a.is_crowd_told;
+      is_out_told = a.is_out_told;
       told = W.contents a.notices.now;
     } };
 }
@@ -90,6 +105,8 @@ impl<'a, S: Drop, H: Drop, W: Write> OnAir<'a, S, H, W> {
             heard: 0,
             hearers,
             is_full_told: false,
+            is_crowd_told: false,
+            is_out_told: false,
         })
     }
 }
@@ -125,6 +142,7 @@ impl<'a, S: Sockets<Hearer = H>, H: Hears, W: Write> OnAir<'a, S, H, W> {
             Some(came) => came,
             None => return Some(Moment::Over),
         };
+        self.tell_out(came.is_out);
         self.accept(came.air);
         if !came.studio {
             return None;
@@ -150,26 +168,38 @@ impl<'a, S: Sockets<Hearer = H>, H: Hears, W: Write> OnAir<'a, S, H, W> {
             return;
         }
         match self.sockets.join() {
-            Some(output) => self.add(output),
+            Some((output, origin)) => self.add(output, origin),
             None => {}
         }
     }
 
-    /// One more listens. Where as many do as may it is in the place of the first that does not keep up, if one does
-    /// not, and else it is not taken; which is said.
-    fn add(&mut self, output: H)
-        ensures { Joins output self.old self.new }
+    /// One more that comes from there listens. Where as many do as may it is in the place of the one that gives it, and
+    /// where none does it is not taken, which is said.
+    fn add(&mut self, output: H, origin: u128)
+        ensures { Joins output origin self.old self.new }
     {
         if self.hearers.has_room() {
-            self.hearers.add(output);
+            self.hearers.add(output, origin);
             return;
         }
-        match self.hearers.behind_place() {
-            Some(place) => {
-                self.hearers.replace(place, output);
-                self.tell_once(SLOW);
-            }
+        match self.hearers.given_place(origin) {
+            Some(place) => self.replace(place, output, origin),
             None => self.tell_once(FULL),
+        }
+    }
+
+    /// One more listens in the place of the one at this place, who is let go, as slow or for the crowd that it is of;
+    /// which is said.
+    fn replace(&mut self, place: usize, output: H, origin: u128)
+        requires { place < length self.old.hearers }
+        ensures { TakesPlace (list_any is_behind self.old.hearers) place output origin self.old self.new }
+    {
+        let is_slow = self.hearers.is_behind();
+        self.hearers.replace(place, output, origin);
+        if is_slow {
+            self.tell_once(SLOW);
+        } else {
+            self.tell_crowd();
         }
     }
 
@@ -182,6 +212,39 @@ impl<'a, S: Sockets<Hearer = H>, H: Hears, W: Write> OnAir<'a, S, H, W> {
         if !self.is_full_told {
             let _ = write_parts(&[line], self.notices);
             self.is_full_told = true;
+        }
+    }
+
+    /// Says that one is let go for the crowd that it is of, once until there is room again.
+    fn tell_crowd(&mut self)
+        ensures tells { TellsOnce crowd_line self.old.is_crowd_told self.old.told self.new.told }
+        ensures same { self.new ≡ record self.old { is_crowd_told = true; told = self.new.told } }
+    {
+        if !self.is_crowd_told {
+            let _ = write_parts(&[CROWD], self.notices);
+            self.is_crowd_told = true;
+        }
+    }
+
+    /// Says that there is no room for one more connection, where there is none, once until there is again.
+    fn tell_out(&mut self, is_out: bool)
+        ensures { TellsOut is_out self.old self.new }
+    {
+        if is_out {
+            self.tell_no_room();
+        } else {
+            self.is_out_told = false;
+        }
+    }
+
+    /// Says so, where it was not said.
+    fn tell_no_room(&mut self)
+        ensures tells { TellsOnce room_line self.old.is_out_told self.old.told self.new.told }
+        ensures same { self.new ≡ record self.old { is_out_told = true; told = self.new.told } }
+    {
+        if !self.is_out_told {
+            let _ = write_parts(&[NO_ROOM], self.notices);
+            self.is_out_told = true;
         }
     }
 
@@ -228,6 +291,7 @@ impl<'a, S: Sockets<Hearer = H>, H: Hears, W: Write> Moments for OnAir<'a, S, H,
         let slow = self.hearers.send(bytes.as_slice());
         if self.hearers.has_room() {
             self.is_full_told = false;
+            self.is_crowd_told = false;
         }
         self.tell_slow(slow);
     }

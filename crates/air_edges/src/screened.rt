@@ -3,7 +3,7 @@ ghost use Rattle.std.specs.Prelude.{◌≡◌};
 ghost use Rattle.device_edges.specs.Screen.{unsaid};
 
 use crate::sockets::{Came, Sockets};
-use device_edges::{ForeignNotice, Screened};
+use device_edges::{OnceNotice, Screened};
 use std::io::Write;
 use std::marker::Model;
 
@@ -12,7 +12,7 @@ use std::marker::Model;
 #[derive(Drop)]
 pub struct ScreenedSockets<S, W: Write> {
     sockets: S,
-    notice: ForeignNotice<W>,
+    notice: OnceNotice<W>,
 }
 
 impl<S, W: Write> Model for ScreenedSockets<S, W> {
@@ -30,7 +30,7 @@ impl<S, W: Write> ScreenedSockets<S, W> {
     {
         ScreenedSockets {
             sockets,
-            notice: ForeignNotice::new(notices),
+            notice: OnceNotice::new(notices),
         }
     }
 }
@@ -77,7 +77,7 @@ impl<S: Sockets, W: Write> Sockets for ScreenedSockets<S, W> {
         self.notice.done(is_foreign);
     }
 
-    fn join(&mut self) -> Option<S::Hearer> {
+    fn join(&mut self) -> Option<(S::Hearer, u128)> {
         self.sockets.join()
     }
 }

@@ -12,6 +12,8 @@ pub struct Came {
     pub studio: bool,
     /// One who wants to listen to the air.
     pub air: bool,
+    /// Whether the system had no descriptor or no memory for one more connection as it was asked last.
+    pub is_out: bool,
 }
 
 /// The sockets of an encoder on the air and its clock: one place where a studio connects, and one where those connect
@@ -38,8 +40,8 @@ pub trait Sockets {
     // Whether this may be left where the two ends of one are given back, as they are then.
     ghost closes: { Self → Self.Input → Self.Output → Self → Type 0 };
 
-    // Whether one who wants to listen may be accepted so, or none.
-    ghost joins: { Self → Option Self.Hearer → Self → Type 0 };
+    // Whether one who wants to listen may be accepted so, with its origin, or none.
+    ghost joins: { Self → Option (Self.Hearer × ℕ) → Self → Type 0 };
 
     /// How many milliseconds have gone by since the air began.
     fn now(&mut self) -> u64
@@ -59,7 +61,8 @@ pub trait Sockets {
     fn close(&mut self, input: Self::Input, output: Self::Output)
         ensures { closes self.old input output self.new };
 
-    /// Accepts one who wants to listen: its connection, or None where there is none to be had.
-    fn join(&mut self) -> Option<Self::Hearer>
+    /// Accepts one who wants to listen: its connection, and from where that comes, as `origin_of` of `seats` has it; or
+    /// None where there is none to be had.
+    fn join(&mut self) -> Option<(Self::Hearer, u128)>
         ensures { joins self.old result self.new };
 }

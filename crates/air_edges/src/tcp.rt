@@ -5,7 +5,8 @@ ghost use Rattle.air_edges.specs.Hearers.{IsWithin, Gets};
 
 use crate::hears::{Hears, Taken};
 use crate::sockets::{Came, Sockets};
-use device_edges::{Allowed, BindFault, Entrance, Idle, Yielding, bind, hold_few};
+use device_edges::{Allowed, BindFault, Entrance, Idle, Yielding, bind, hold_few, lacks_room};
+use seats::origin_of;
 use std::alloc::Global;
 use std::io::{Error, ErrorKind, Write};
 use std::marker::Model;
@@ -42,6 +43,8 @@ pub struct TcpSockets<'a, N: Net<Listener = TcpListener, Stream = TcpStream> + C
     air: TcpListener,
     begun: Instant,
     line: Option<RawFd>,
+    /// Whether the system had no descriptor or no memory for one more connection as it was asked last.
+    is_out: bool,
 }
 
 impl<'a, N: Net<Listener = TcpListener, Stream = TcpStream> + Clock> Model for TcpSockets<'a, N> {
@@ -77,6 +80,7 @@ impl<'a, N: Net<Listener = TcpListener, Stream = TcpStream> + Clock> TcpSockets<
                 air,
                 begun,
                 line: None,
+                is_out: false,
             }),
             Err(_) => Err(BindFault::Failed),
         }
@@ -91,10 +95,25 @@ impl<'a, N: Net<Listener = TcpListener, Stream = TcpStream> + Clock> TcpSockets<
     }
 
     /// Rests a moment where the system has no connection to give though it said so, as where no descriptor is left.
-    fn rest(&self, error: &Error) {
+    fn rest(&mut self, error: &Error)
+        ensures { self.new ≡ self.old }
+    {
+        self.is_out = lacks_room(error);
         if error.kind() != ErrorKind::WouldBlock {
             thread::sleep(self.net, Duration::from_millis(10));
         }
+    }
+
+    /// Whether there is no room for one more connection, as the system said of the studio's last, where it was asked
+    /// for one since, or of those who listen.
+    fn is_out_now(&mut self) -> bool
+        ensures { self.new ≡ self.old }
+    {
+        match self.entrance.take_lacked() {
+            Some(lacks) => self.is_out = lacks,
+            None => {}
+        }
+        self.is_out
     }
 }
 
@@ -153,6 +172,7 @@ impl<'a, N: Net<Listener = TcpListener, Stream = TcpStream> + Clock> Sockets for
         Some(Came {
             studio,
             air: ready.beside,
+            is_out: self.is_out_now(),
         })
     }
 
@@ -170,16 +190,17 @@ impl<'a, N: Net<Listener = TcpListener, Stream = TcpStream> + Clock> Sockets for
         self.line = None;
     }
 
-    fn join(&mut self) -> Option<TcpStream> {
+    fn join(&mut self) -> Option<(TcpStream, u128)> {
         match self.air.accept() {
-            Ok((stream, _)) => {
-                if !self.leaves_room() {
+            Ok((stream, from)) => {
+                self.is_out = !self.leaves_room();
+                if self.is_out {
                     return None;
                 }
                 let _ = stream.set_nodelay(true);
                 hold_few(&stream);
                 stream.set_nonblocking(true).ok()?;
-                Some(stream)
+                Some((stream, origin_of(from.ip())))
             }
             Err(error) => {
                 self.rest(&error);

@@ -15,6 +15,7 @@ use Rattle.clap.specs.declared.error.Error.{Error}
 use Rattle.clap.specs.declared.error.kind.ErrorKind.TheVariants.{InvalidValue}
 use Rattle.clap.specs.declared.builder.action.ArgAction.TheVariants.{Set, SetTrue}
 use Rattle.clap.specs.declared.builder.value_parser.ValueParser.TheVariants.{Signed}
+use Rattle.commands.specs.Host.{NamesHost}
 use Rattle.commands.specs.declared.job.Job.{Job}
 use Rattle.commands.specs.declared.job.Job.TheVariants.{AnswerWith, ShowWith, MakeWith, LineWith, EncoderWith}
 use Rattle.commands.specs.declared.job.Job.TheVariants.{ServerWith, Send, Watch, State, Receive, Conformance, Page}
@@ -148,7 +149,7 @@ words_of (Some region) = Words region
 -- connection, and the file of its state, are those that the matches of the command `server` have.
 pub record IsServer (rows : List Row) (o : ServerOptions) : Type 0 where
   pub is_place : IsPlace rows o.site o.encoder
-  pub is_host : string_bytes o.host ≡ host_text rows
+  pub is_host : NamesHost (host_text rows) (string_bytes o.host)
   pub is_port : IsPort rows o.port
   pub is_tries : IsOption (one_of (codes "tries") rows) 1 100 o.tries
   pub is_timeout : IsOption (one_of (codes "timeout") rows) 1 60000 o.timeout
@@ -178,7 +179,7 @@ IsRejoin rows rejoin = (asked : Bool) × IsFlag (one_of (codes "rejoin") rows) a
 -- What is sent for as long as lines come is sent as the matches of the command have it.
 pub record IsLive (rows : List Row) (job : SendOptions) : Type 0 where
   pub is_place : IsPlace rows job.site job.encoder
-  pub is_host : string_bytes job.host ≡ host_text rows
+  pub is_host : NamesHost (host_text rows) (string_bytes job.host)
   pub is_port : IsPort rows job.port
   pub is_tries : IsOption (one_of (codes "tries") rows) 1 100 job.tries
   pub is_timeout : IsOption (one_of (codes "timeout") rows) 1 60000 job.timeout

@@ -5,6 +5,7 @@ ghost use Rattle.clap.specs.Values.{kind_of};
 ghost use Rattle.clap.specs.Words.{first_of, found_of, one_of, rows_of};
 ghost use Rattle.clap.specs.declared.error.Error.{Error};
 ghost use Rattle.clap.specs.declared.error.kind.ErrorKind.TheVariants.{InvalidValue};
+ghost use Rattle.commands.specs.Host.{NamesHost};
 ghost use Rattle.command_line.specs.CommandLine.{IsOption, IsList, IsFullOf, RefusesList, services_text, host_text};
 ghost use Rattle.command_line.specs.CommandLine.{HasNoForm, IsMaybe, IsServer, IsTimed, RefusesLine, ladder_word};
 ghost use Rattle.command_line.specs.CommandLine.{word_text};
@@ -23,7 +24,7 @@ use clap::ArgMatches;
 use clap::error::ErrorKind;
 use commands::{
     AnswerOptions, Job, LadderForm, LineOptions, MakeOptions, ServerOptions, ShowOptions,
-    WatchOptions,
+    WatchOptions, host_named,
 };
 use std::alloc::{AllocError, Global};
 use uecp_jobs::Form;
@@ -96,9 +97,10 @@ pub(crate) fn list_of(alloc: Global, found: &ArgMatches<'_>) -> Result<Vec<u8>, 
 
 /// The host, `127.0.0.1` where it is not given.
 pub(crate) fn host_of(alloc: Global, found: &ArgMatches<'_>) -> Result<String, AllocError>
-    ensures { IfOk result (λ host. string_bytes host ≡ host_text (rows_of (found_of found.now))) }
+    ensures { IfOk result (λ host. NamesHost (host_text (rows_of (found_of found.now))) (string_bytes host)) }
 {
-    String::from_str(alloc, found.get_str("host").unwrap_or("127.0.0.1"))
+    let text = found.get_str("host").unwrap_or("127.0.0.1");
+    String::from_str(alloc, host_named(text))
 }
 
 /// What the command `answer` asks for.
@@ -203,7 +205,7 @@ pub fn server_of(alloc: Global, found: &ArgMatches<'_>) -> Result<Job, Usage>
 
 /// The options of the command `server`, with its words.
 fn server_with(found: &ArgMatches<'_>, host: String, state: Option<String>) -> ServerOptions
-    requires host { string_bytes host ≡ host_text (rows_of (found_of found.now)) }
+    requires host { NamesHost (host_text (rows_of (found_of found.now))) (string_bytes host) }
     requires state { option_map string_bytes state ≡ first_of (codes "state") (rows_of (found_of found.now)) }
     ensures { IsServer (rows_of (found_of found.now)) result }
 {

@@ -3,6 +3,7 @@ ghost use Rattle.std.specs.Prelude.{◌≡◌, codes, IfOk, IfErr, option_map};
 ghost use Rattle.std.specs.String.{string_bytes};
 ghost use Rattle.clap.specs.Walk.{first_of};
 ghost use Rattle.clap.specs.Words.{found_of, rows_of};
+ghost use Rattle.commands.specs.Host.{NamesHost};
 ghost use Rattle.command_line.specs.CommandLine.{IsFullOf, IsLive, IsRegion, IsRejoin, IsToldIn, host_text};
 ghost use Rattle.command_line.specs.declared.usage.Usage.TheVariants.{OutOfMemory};
 
@@ -36,7 +37,7 @@ fn with_words(
     state: Option<String>,
     station: Option<String>,
 ) -> SendOptions
-    requires host { string_bytes host ≡ host_text (rows_of (found_of found.now)) }
+    requires host { NamesHost (host_text (rows_of (found_of found.now))) (string_bytes host) }
     requires state { option_map string_bytes state ≡ first_of (codes "state") (rows_of (found_of found.now)) }
     requires station { option_map string_bytes station ≡ first_of (codes "station") (rows_of (found_of found.now)) }
     ensures { IsLive (rows_of (found_of found.now)) result }

@@ -1,2 +1,3 @@
 -- The definitions that contracts on jobs cite.
 pub mod Jobs
+pub mod Host

@@ -7,6 +7,7 @@
 mod answer_options;
 mod conformance_options;
 mod encoder_options;
+mod host;
 mod job;
 mod line_options;
 mod page_options;
@@ -19,6 +20,7 @@ mod short;
 pub use answer_options::AnswerOptions;
 pub use conformance_options::ConformanceOptions;
 pub use encoder_options::EncoderOptions;
+pub use host::host_named;
 pub use job::Job;
 pub use line_options::{LadderForm, LineOptions};
 pub use page_options::PageOptions;

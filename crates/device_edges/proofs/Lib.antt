@@ -1,5 +1,6 @@
 -- The lemmas of the edges of a device.
 pub mod AllowLists
+pub mod Asking
 pub mod FirstBytes
 pub mod Lobbies
 pub mod Readings

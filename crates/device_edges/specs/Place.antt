@@ -1,23 +1,50 @@
 -- Where a device listens (profile).
-use Rattle.std.specs.Prelude.{◌≡◌, ◌≢◌, ℕ, List, Option, Some, None}
+use Rattle.std.specs.Prelude.{◌≡◌, ◌≢◌, ◌⊎◌, ℕ, zero, suc, Bool, true, false, List, codes, Option, Some, None}
 use Rattle.std.specs.declared.net.ip_addr.IpAddr.{IpAddr}
 use Rattle.std.specs.declared.net.socket_addr.SocketAddr.{SocketAddr}
 use Rattle.std.specs.Net.Grammar.{IsIpText, IsSocketText}
 use Rattle.std.specs.Net.Socket.{socket_ip, socket_port, IsPlainSocket}
 use Rattle.device_edges.specs.declared.address.AddressFault.{AddressFault}
 use Rattle.device_edges.specs.declared.address.AddressFault.TheVariants.{NoAddress, NoPort, TwoPorts, PortZero}
+use Rattle.device_edges.specs.Screen.{Notice, SaysFirst}
 
--- What is listened on, and the limit of a connection on which nothing comes, in seconds, if there is one.
+-- ---- What is said where the system has no descriptor or no memory for one more connection.
+
+abbrev pub room_line : List ℕ
+room_line = codes "uecp: too many files are open: who connects now waits\n"
+
+-- The system was asked for one more, and lacked room for it, or not: that it did is said, once until it did not.
+abbrev pub TellsRoom : (lacks : Bool) → (n n' : Notice) → Type 0
+TellsRoom true n n' = SaysFirst room_line n.is_told n n'
+TellsRoom false n n' = n' ≡ record n { is_told = false }
+
+-- ---- Where connections come from.
+
+-- What is listened on; the limit of a connection on which nothing comes, in seconds, if there is one; and what was said
+-- of no room for one more.
 pub record Listens : Type 0 where
   pub place : SocketAddr
   pub idle : Option ℕ
+  pub notice : Notice
 
--- Connections come and go, and that stays.
+-- The system was asked for one more connection at most once: that is told of, and nothing else is changed.
+abbrev pub Asks : (l l' : Listens) → Type 0
+Asks l l' =
+    (l' ≡ l) ⊎ ((lacks : Bool) × TellsRoom lacks l.notice l'.notice × (l' ≡ record l { notice = l'.notice }))
+
+-- So often, one time after another.
+abbrev pub AsksTimes : (times : ℕ) → (l l' : Listens) → Type 0
+AsksTimes zero l l' = l' ≡ l
+AsksTimes (suc times) l l' = (between : Listens) × AsksTimes times l between × Asks between l'
+
+-- Connections come and go, and nothing is changed but what is told of that.
 abbrev pub ComesTo : {I O : Type 0} → Listens → Option (I × O) → Listens → Type 0
-ComesTo listens ends listens' = listens' ≡ listens
+ComesTo l ends l' = (times : ℕ) × AsksTimes times l l'
 
 abbrev pub GoesFrom : {I O : Type 0} → Listens → I → O → Listens → Type 0
-GoesFrom listens input output listens' = listens' ≡ listens
+GoesFrom l input output l' = Asks l l'
+
+-- ---- The address and port that are asked for.
 
 -- The text writes an IP address with no port (RFC 4291, 2.2, for version 6).
 abbrev pub IsAddress : List ℕ → Type 0

@@ -56,7 +56,7 @@ was_foreign Judging = false
 was_foreign Ours = false
 was_foreign Foreign = true
 
--- ---- What is said of one that is foreign.
+-- ---- What is said once, and what is said of one that is foreign.
 
 -- What was said of it, how often a write of that failed, and whether it was said.
 pub record Notice : Type 0 where
@@ -68,24 +68,24 @@ pub record Notice : Type 0 where
 abbrev pub unsaid : (said : Option (List ℕ)) → Notice
 unsaid said = record { said = said; failures = 0; is_told = false }
 
+-- A line was said; or a write failed, and a beginning of it was said.
+abbrev pub SaysLine : (line : List ℕ) → (n n' : Notice) → Type 0
+SaysLine line n n' =
+    (Appends n.said n'.said line × (n'.is_told ≡ true) × (n'.failures ≡ n.failures))
+    ⊎ ((written : ℕ) × (written < length line) × Appends n.said n'.said (take written line) × (n'.is_told ≡ false)
+    × (n'.failures ≡ counted n.failures))
+
+-- So where it was not said before; once it was nothing is.
+abbrev pub SaysFirst : (line : List ℕ) → (is_told : Bool) → (n n' : Notice) → Type 0
+SaysFirst line true n n' = n' ≡ n
+SaysFirst line false n n' = SaysLine line n n'
+
 abbrev pub foreign_line : List ℕ
 foreign_line = codes "uecp: HTTP or TLS, not UECP: a connection is closed, and nothing of it is taken\n"
 
--- It was said; or a write failed, and a beginning was said.
-abbrev pub SaysForeign : (n n' : Notice) → Type 0
-SaysForeign n n' =
-    (Appends n.said n'.said foreign_line × (n'.is_told ≡ true) × (n'.failures ≡ n.failures))
-    ⊎ ((written : ℕ) × (written < length foreign_line) × Appends n.said n'.said (take written foreign_line)
-    × (n'.is_told ≡ false) × (n'.failures ≡ counted n.failures))
-
--- So where it was not said before; once it was nothing is.
-abbrev pub SaysFirst : (is_told : Bool) → (n n' : Notice) → Type 0
-SaysFirst true n n' = n' ≡ n
-SaysFirst false n n' = SaysForeign n n'
-
 -- So of a connection that was foreign, and of another nothing is said.
 abbrev pub SaysOnce : (foreign : Bool) → (n n' : Notice) → Type 0
-SaysOnce true n n' = SaysFirst n.is_told n n'
+SaysOnce true n n' = SaysFirst foreign_line n.is_told n n'
 SaysOnce false n n' = n' ≡ n
 
 -- ---- Connections that are screened.

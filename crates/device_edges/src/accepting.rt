@@ -1,13 +1,15 @@
 //! Connections that are accepted where a device listens. Nothing is claimed of what a socket gives or takes (profile).
 ghost use Rattle.std.specs.Prelude.{◌≡◌, IfOk};
-ghost use Rattle.device_edges.specs.Place.{Listens};
+ghost use Rattle.device_edges.specs.Place.{Listens, Asks};
+ghost use Rattle.device_edges.specs.Screen.{unsaid};
 
 use crate::allowed::Allowed;
 use crate::entrance::Entrance;
 use crate::idle::Idle;
+use crate::notice::OnceNotice;
 use crate::room::Yielding;
 use std::alloc::Global;
-use std::io::{Error, ErrorKind};
+use std::io::{Error, ErrorKind, Write};
 use std::marker::Model;
 use std::net::{Net, SocketAddr, TcpListener, TcpStream};
 use std::time::{Clock, Duration};
@@ -30,26 +32,34 @@ pub enum BindFault {
     Failed,
 }
 
-/// Listens at an address and a port, and accepts one connection after another.
+/// Listens at an address and a port, and accepts one connection after another. That there is no descriptor or no memory
+/// for one more is said once until there is.
 #[derive(Drop)]
-pub struct Accepting<'a, N: Net<Listener = TcpListener, Stream = TcpStream> + Clock> {
+pub struct Accepting<'a, N: Net<Listener = TcpListener, Stream = TcpStream> + Clock, W: Write> {
     net: &'a N,
     place: SocketAddr,
     idle: Option<u32>,
     entrance: Entrance,
+    notice: OnceNotice<W>,
 }
 
-impl<'a, N: Net<Listener = TcpListener, Stream = TcpStream> + Clock> Model for Accepting<'a, N> {
+impl<'a, N: Net<Listener = TcpListener, Stream = TcpStream> + Clock, W: Write> Model
+    for Accepting<'a, N, W> {
     ghost Value = { Listens };
 
-    ghost view = { λ a. record { place = a.place; idle = a.idle } };
+    ghost view = { λ a. record { place = a.place; idle = a.idle; notice = a.notice } };
 }
 
-impl<'a, N: Net<Listener = TcpListener, Stream = TcpStream> + Clock> Accepting<'a, N> {
+impl<'a, N: Net<Listener = TcpListener, Stream = TcpStream> + Clock, W: Write + Drop> Accepting<
+    'a,
+    N,
+    W,
+> {
     /// Listens there from now on. A read of a connection that brings nothing for `idle` seconds, which is not 0, is
     /// given up, and a write that takes nothing fails; with None there is no limit. Whether the other end is there is
     /// asked where nothing came for a minute, and a read fails where it is not. With `yielding` a connection gives way
-    /// to one that waits; with `allowed` others are closed as they are accepted.
+    /// to one that waits; with `allowed` others are closed as they are accepted. That there is no room for one more is
+    /// said on `notices`.
     ///
     /// Errors: as [`BindFault`] has them.
     pub fn new(
@@ -59,8 +69,13 @@ impl<'a, N: Net<Listener = TcpListener, Stream = TcpStream> + Clock> Accepting<'
         idle: Option<u32>,
         yielding: Option<Yielding>,
         allowed: Option<Allowed>,
-    ) -> Result<Accepting<'a, N>, BindFault>
-        ensures { IfOk result (λ accepting. accepting ≡ record { place = place; idle = idle }) }
+        notices: W,
+    ) -> Result<Accepting<'a, N, W>, BindFault>
+        ensures { IfOk result (λ accepting. accepting ≡ record {
+          place = place;
+          idle = idle;
+          notice = unsaid (W.contents notices);
+        }) }
     {
         match Entrance::new(alloc, net, place, yielding, allowed) {
             Ok(entrance) => Ok(Accepting {
@@ -68,9 +83,36 @@ impl<'a, N: Net<Listener = TcpListener, Stream = TcpStream> + Clock> Accepting<'
                 place,
                 idle,
                 entrance,
+                notice: OnceNotice::new(notices),
             }),
             Err(fault) => Err(fault),
         }
+    }
+}
+
+impl<'a, N: Net<Listener = TcpListener, Stream = TcpStream> + Clock, W: Write> Accepting<'a, N, W> {
+    /// Says that there was no room for one more, where there was none and that was not said.
+    fn tell(&mut self)
+        ensures { Asks self.old self.new }
+    {
+        match self.entrance.take_lacked() {
+            Some(lacks) => self.notice.asked(lacks),
+            None => {}
+        }
+    }
+
+    /// The two ends of the next connection, if one comes now, and what is to be said of that.
+    fn turn(&mut self) -> io::Result<Option<(Idle<TcpStream>, TcpStream)>>
+        ensures { Asks self.old self.new }
+    {
+        let accepted = self.accept();
+        self.tell();
+        accepted
+    }
+
+    /// Waits a second.
+    fn rest(&self) {
+        thread::sleep(self.net, Duration::from_secs(1));
     }
 
     /// The two ends of the next connection, if one comes before those who wait are to be looked at.
@@ -86,8 +128,8 @@ impl<'a, N: Net<Listener = TcpListener, Stream = TcpStream> + Clock> Accepting<'
     }
 }
 
-impl<'a, N: Net<Listener = TcpListener, Stream = TcpStream> + Clock> Connections
-    for Accepting<'a, N> {
+impl<'a, N: Net<Listener = TcpListener, Stream = TcpStream> + Clock, W: Write> Connections
+    for Accepting<'a, N, W> {
     type Input = Idle<TcpStream>;
 
     type Output = TcpStream;
@@ -101,7 +143,7 @@ impl<'a, N: Net<Listener = TcpListener, Stream = TcpStream> + Clock> Connections
     fn open(&mut self) -> Option<(Idle<TcpStream>, TcpStream)> {
         let mut tries = 0u64;
         for _wait in 0..u64::MAX {
-            match self.accept() {
+            match self.turn() {
                 Ok(Some(ends)) => return Some(ends),
                 Ok(None) => {}
                 // one that was taken back, or a machine with no descriptor left for now
@@ -110,14 +152,16 @@ impl<'a, N: Net<Listener = TcpListener, Stream = TcpStream> + Clock> Connections
                     if tries >= TRIES_MAX {
                         return None;
                     }
-                    thread::sleep(self.net, Duration::from_secs(1));
+                    self.rest();
                 }
             }
         }
         None
     }
 
-    fn close(&mut self, _input: Idle<TcpStream>, _output: TcpStream) {}
+    fn close(&mut self, _input: Idle<TcpStream>, _output: TcpStream) {
+        self.tell();
+    }
 }
 
 /// Listens at an address and a port from now on.

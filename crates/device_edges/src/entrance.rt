@@ -4,7 +4,7 @@
 use crate::accepting::{BindFault, bind};
 use crate::allowed::Allowed;
 use crate::idle::Idle;
-use crate::room::{Ready, Room, Yielding};
+use crate::room::{Ready, Room, Yielding, lacks_room};
 use crate::seat::Seat;
 use libc::net as c;
 use live_edges::keep_alive;
@@ -99,6 +99,27 @@ impl Entrance {
         }
     }
 
+    /// Whether the system lacked a descriptor or memory for one more connection since this was asked last; None where
+    /// it was not asked for one since.
+    pub fn take_lacked(&self) -> Option<bool> {
+        match self.room.try_borrow_mut() {
+            Ok(mut room) => room.take_lacked(),
+            Err(_) => None,
+        }
+    }
+
+    /// What came of a call for a connection, noted where it failed for want of a descriptor or of memory.
+    fn noted<T>(&self, came: io::Result<T>) -> io::Result<T> {
+        if let Err(error) = &came {
+            if lacks_room(error) {
+                if let Ok(mut room) = self.room.try_borrow_mut() {
+                    room.note_lack();
+                }
+            }
+        }
+        came
+    }
+
     /// The connection that has the seat next, if there is one now.
     pub fn next(&self) -> Option<TcpStream> {
         match self.room.try_borrow_mut() {
@@ -116,13 +137,13 @@ impl Entrance {
     ) -> io::Result<(Idle<TcpStream>, TcpStream)> {
         let Some(yielding) = self.yielding else {
             let limit = idle.map(seconds);
-            return two_ends(stream, limit, limit);
+            return self.noted(two_ends(stream, limit, limit));
         };
         let write = match idle {
             Some(idle) => idle.min(yielding.seconds),
             None => yielding.seconds,
         };
-        let copy = prepared(&stream, None, Some(seconds(write)))?;
+        let copy = self.noted(prepared(&stream, None, Some(seconds(write))))?;
         hold_few(&stream);
         let line = Some(stream.as_raw_fd());
         let idle = idle.map(|idle| u64::from(idle) * 1000);
@@ -139,9 +160,9 @@ impl Entrance {
         write: Duration,
     ) -> io::Result<(Idle<TcpStream>, TcpStream)> {
         let Some(yielding) = self.yielding else {
-            return two_ends(stream, Some(read), Some(write));
+            return self.noted(two_ends(stream, Some(read), Some(write)));
         };
-        let copy = prepared(&stream, Some(read), Some(write))?;
+        let copy = self.noted(prepared(&stream, Some(read), Some(write)))?;
         let seat = Seat::new(self.room.clone()?, yielding.address, None, None);
         Ok((Idle::seated(stream, seat), copy))
     }

@@ -8,7 +8,7 @@
 //! - [`Allowed`]: the addresses and [`Network`]s from which connections are taken; [`AllowFault`] says why a text is no
 //!   list of them.
 //! - [`Screening`]: connections over others, of which nothing is taken where they are another protocol's: each is read
-//!   through [`Screened`], and [`ForeignNotice`] says it once.
+//!   through [`Screened`]. [`OnceNotice`] says that once, and that there was no room for one more ([`lacks_room`]).
 //! - [`Entrance`]: the same for whoever waits for more than connections: those who wait for the one seat, and whom the
 //!   connection that has it gives way to ([`Yielding`]); [`Ready`] is what came. [`bind`]: a listener alone;
 //!   [`hold_few`]: what the system holds for one that takes nothing.
@@ -43,8 +43,8 @@ pub use descriptor::Descriptor;
 pub use entrance::{Entrance, hold_few};
 pub use idle::Idle;
 pub use lines_out::{LinesOut, Patience, Voice};
-pub use notice::ForeignNotice;
+pub use notice::{NO_ROOM, OnceNotice};
 pub use outlet::{Fate, Outlet, Taker, Wording};
-pub use room::{Ready, Yielding};
+pub use room::{Ready, Yielding, lacks_room};
 pub use screen::Screened;
 pub use screening::Screening;

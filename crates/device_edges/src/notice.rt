@@ -1,24 +1,27 @@
-//! What is said of connections that are another protocol's (profile).
+//! What is said once, however often it is so (profile).
 ghost use Rattle.std.specs.Prelude.{◌≡◌, false};
-ghost use Rattle.device_edges.specs.Screen.{SaysForeign, SaysOnce, unsaid};
+ghost use Rattle.device_edges.specs.Screen.{SaysFirst, SaysLine, SaysOnce, unsaid};
+ghost use Rattle.device_edges.specs.Place.{TellsRoom};
 
 use std::io::Write;
 use std::marker::Model;
 use uecp_encoder::Meter;
 
-/// What is said of such a connection.
+/// What is said of a connection that is another protocol's.
 const FOREIGN: &[u8] =
     b"uecp: HTTP or TLS, not UECP: a connection is closed, and nothing of it is taken\n";
 
-/// Says once that a connection was another protocol's, however many are: who comes again and again would fill what
-/// takes it.
+/// What is said where there is no descriptor or no memory for one more connection.
+pub const NO_ROOM: &[u8] = b"uecp: too many files are open: who connects now waits\n";
+
+/// Says something once, however often it is so: who comes again and again would fill what takes it.
 #[derive(Drop)]
-pub struct ForeignNotice<W: Write> {
+pub struct OnceNotice<W: Write> {
     writer: Meter<W>,
     is_told: bool,
 }
 
-impl<W: Write> Model for ForeignNotice<W> {
+impl<W: Write> Model for OnceNotice<W> {
     ghost use Rattle.device_edges.specs.Screen.{Notice};
 
     ghost Value = { Notice };
@@ -30,31 +33,52 @@ impl<W: Write> Model for ForeignNotice<W> {
     } };
 }
 
-impl<W: Write> ForeignNotice<W> {
+impl<W: Write> OnceNotice<W> {
     /// Will say it on this writer.
-    pub fn new(writer: W) -> ForeignNotice<W>
+    pub fn new(writer: W) -> OnceNotice<W>
         ensures { result ≡ unsaid (W.contents writer) }
     {
-        ForeignNotice {
+        OnceNotice {
             writer: Meter::new(writer),
             is_told: false,
         }
     }
 
-    /// A connection is done with that was another protocol's, or not.
+    /// A connection is done with that was another protocol's, or not: that one was is said, once of all.
     pub fn done(&mut self, is_foreign: bool)
         ensures { SaysOnce is_foreign self.old self.new }
     {
-        if is_foreign && !self.is_told {
-            self.say();
+        if is_foreign {
+            self.say_first(FOREIGN);
         }
     }
 
-    /// Says it.
-    fn say(&mut self)
-        requires { self.old.is_told ≡ false }
-        ensures { SaysForeign self.old self.new }
+    /// The system was asked for one more connection, and lacked a descriptor or memory for it, or not: that it did is
+    /// said, once until it did not.
+    pub fn asked(&mut self, lacks: bool)
+        ensures { TellsRoom lacks self.old self.new }
     {
-        self.is_told = self.writer.write_whole(FOREIGN).is_ok();
+        if lacks {
+            self.say_first(NO_ROOM);
+        } else {
+            self.is_told = false;
+        }
+    }
+
+    /// Says this line where it was not said before.
+    fn say_first(&mut self, line: &[u8])
+        ensures { SaysFirst line.now self.old.is_told self.old self.new }
+    {
+        if !self.is_told {
+            self.say(line);
+        }
+    }
+
+    /// Says this line.
+    fn say(&mut self, line: &[u8])
+        requires { self.old.is_told ≡ false }
+        ensures { SaysLine line.now self.old self.new }
+    {
+        self.is_told = self.writer.write_whole(line).is_ok();
     }
 }

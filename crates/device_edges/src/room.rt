@@ -1,6 +1,6 @@
 //! Where connections are accepted, and wait for the seat that one of them has. Nothing is claimed of what a socket
 //! gives or takes, nor of the clock (profile).
-ghost use Rattle.std.specs.Prelude.{◌≡◌};
+ghost use Rattle.std.specs.Prelude.{◌≡◌, ◌||◌, Some, unwrap_or, false};
 ghost use Rattle.device_edges.specs.Allowed.{IsTaken};
 
 use crate::allowed::Allowed;
@@ -12,7 +12,7 @@ use crate::screen::begins_foreign;
 use libc::net::{POLLIN, poll};
 use libc::types::pollfd;
 use std::alloc::{AllocError, Global};
-use std::io::ErrorKind;
+use std::io::{Error, ErrorKind};
 use std::net::{IpAddr, TcpListener, TcpStream};
 use std::os::fd::{AsRawFd, RawFd};
 use uecp_frame::{Address, Deframer};
@@ -31,6 +31,10 @@ const ACCEPTS_MAX: u32 = 64;
 
 /// How many addresses are told from which no connection is taken.
 const STRANGERS_MAX: usize = 8;
+
+/// The system's codes of no room for one more connection: no memory, too many open files of all or of this process, no
+/// buffer (Linux: ENOMEM, ENFILE, EMFILE, ENOBUFS).
+const OUT_OF_ROOM: [i32; 4] = [12, 23, 24, 105];
 
 /// The longest wait of one poll, in milliseconds.
 const POLL_MAX: u64 = 1_000_000_000;
@@ -89,6 +93,8 @@ pub(crate) struct Room {
     is_given: bool,
     /// Until when no connection is asked for.
     rest: u64,
+    /// Whether the system lacked room for one more since that was taken last; None where it was not asked since.
+    lacked: Option<bool>,
     /// The first addresses from which no connection was taken, and how many of these were told.
     strangers: Vec<IpAddr>,
     told: usize,
@@ -109,6 +115,7 @@ impl Room {
             good: 0,
             is_given: false,
             rest: 0,
+            lacked: None,
             strangers: Vec::new(alloc),
             told: 0,
         })
@@ -122,6 +129,19 @@ impl Room {
     /// Whether no connection is asked for now, since the system gave none.
     pub(crate) fn is_resting(&self) -> bool {
         now() < self.rest
+    }
+
+    /// Whether the system lacked a descriptor or memory for one more connection since this was asked last; None where
+    /// it was not asked for one since.
+    pub(crate) fn take_lacked(&mut self) -> Option<bool> {
+        let lacked = self.lacked;
+        self.lacked = None;
+        lacked
+    }
+
+    /// The system was asked for one, and lacked a descriptor or memory for it.
+    pub(crate) fn note_lack(&mut self) {
+        self.lacked = Some(true);
     }
 
     /// Whether somebody waits.
@@ -250,6 +270,7 @@ impl Room {
                     if error.kind() != ErrorKind::WouldBlock {
                         self.rest = time.saturating_add(REST);
                     }
+                    self.lacked = known(self.lacked, lacks_room(&error));
                     return;
                 }
             }
@@ -261,7 +282,9 @@ impl Room {
     fn meet(&mut self, stream: TcpStream, from: IpAddr, time: u64)
         ensures { ¬ (IsTaken self.old.door.allowed from) → self.new.door ≡ self.old.door }
     {
-        if stream.try_clone().is_err() {
+        let lacks = stream.try_clone().is_err();
+        self.lacked = known(self.lacked, lacks);
+        if lacks {
             self.rest = time.saturating_add(REST);
             return;
         }
@@ -307,6 +330,21 @@ impl Room {
                 place = place.saturating_add(1);
             }
         }
+    }
+}
+
+/// Whether the system lacked room since that was taken last, where it did now, or not.
+fn known(lacked: Option<bool>, lacks: bool) -> Option<bool>
+    ensures { result ≡ Some (lacks || unwrap_or lacked false) }
+{
+    Some(lacks || lacked.unwrap_or(false))
+}
+
+/// Whether a call that failed so failed for want of a descriptor or of memory.
+pub fn lacks_room(error: &Error) -> bool {
+    match error.raw_os_error() {
+        Some(code) => OUT_OF_ROOM.contains(&code),
+        None => false,
     }
 }
 

@@ -2,7 +2,7 @@
 ghost use Rattle.std.specs.Prelude.{◌≡◌};
 ghost use Rattle.device_edges.specs.Screen.{unsaid};
 
-use crate::notice::ForeignNotice;
+use crate::notice::OnceNotice;
 use crate::screen::Screened;
 use std::io::Write;
 use std::marker::Model;
@@ -13,7 +13,7 @@ use uecp_net::Connections;
 #[derive(Drop)]
 pub struct Screening<C, W: Write> {
     connect: C,
-    notice: ForeignNotice<W>,
+    notice: OnceNotice<W>,
 }
 
 impl<C, W: Write> Model for Screening<C, W> {
@@ -31,7 +31,7 @@ impl<C, W: Write> Screening<C, W> {
     {
         Screening {
             connect,
-            notice: ForeignNotice::new(notices),
+            notice: OnceNotice::new(notices),
         }
     }
 }

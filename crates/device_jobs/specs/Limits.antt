@@ -1,5 +1,5 @@
 -- The limits of a device (profile).
-use Rattle.std.specs.Prelude.{ℕ, ◌^◌, ◌-◌, ◌==◌, Option, None, Some, if◌then◌else◌}
+use Rattle.std.specs.Prelude.{ℕ, ◌^◌, ◌-◌, ◌==◌, Option, None, Some, unwrap_or, if◌then◌else◌}
 use Rattle.commands.specs.declared.encoder_options.EncoderOptions.{EncoderOptions}
 use Rattle.uecp_jobs.specs.Setups.{Options}
 
@@ -19,3 +19,7 @@ options_of job =
 -- A limit of so many seconds; none where that is 0.
 abbrev pub limit_of : (seconds : ℕ) → Option ℕ
 limit_of seconds = if seconds == 0 then None else Some seconds
+
+-- After how many seconds a connection gives way to one that waits, 0 for never: ten where the job doesn't say.
+abbrev pub yield_seconds : EncoderOptions → ℕ
+yield_seconds job = unwrap_or job.yield_after 10

@@ -4,6 +4,8 @@ use Rattle.std.specs.String.{string_bytes}
 use Rattle.std.specs.declared.net.socket_addr.SocketAddr.{SocketAddr}
 use Rattle.commands.specs.declared.encoder_options.EncoderOptions.{EncoderOptions}
 use Rattle.device_edges.specs.declared.address.AddressFault.{AddressFault}
+use Rattle.device_edges.specs.declared.allowed.Network.{Network}
+use Rattle.device_edges.specs.Allowed.{IsListText}
 use Rattle.device_edges.specs.Place.{Listens, IsPlace, IsNoPlace}
 use Rattle.device_edges.specs.Screen.{Screening}
 use Rattle.device_serving.specs.Logging.{Log}
@@ -23,10 +25,23 @@ IsPlaceOf job place = IsPlace (listen_text (option_map string_bytes job.listen))
 abbrev pub IsNoPlaceOf : EncoderOptions → AddressFault → Type 0
 IsNoPlaceOf job fault = IsNoPlace (listen_text (option_map string_bytes job.listen)) job.port fault
 
--- Connections come where the job has it listen, with its limit; and that one is another protocol's was not said yet.
+-- A list of addresses and networks is that of this text, and none where there is none.
+abbrev pub IsListOf : Option (List ℕ) → Option (List Network) → Type 0
+IsListOf None None = Unit {0}
+IsListOf None (Some networks) = ⊥
+IsListOf (Some text) None = ⊥
+IsListOf (Some text) (Some networks) = IsListText text networks
+
+-- The job has connections taken from these addresses and networks alone; from anywhere where it has no list.
+abbrev pub IsAllowedOf : EncoderOptions → Option (List Network) → Type 0
+IsAllowedOf job allowed = IsListOf (option_map string_bytes job.allow) allowed
+
+-- Connections come where the job has it listen, with its limit; and neither that one is another protocol's nor that
+-- there is no room for one more was said yet.
 abbrev pub ListensFor : EncoderOptions → Screening Listens → Type 0
 ListensFor job s =
-    IsPlaceOf job s.connect.place × (s.connect.idle ≡ limit_of job.idle) × (s.notice.is_told ≡ false)
+    IsPlaceOf job s.connect.place × (s.connect.idle ≡ limit_of job.idle) × (s.connect.notice.is_told ≡ false)
+    × (s.notice.is_told ≡ false)
 
 -- The log that the job asks for, of which nothing was told yet.
 abbrev pub log_of : EncoderOptions → (loan : ℕ) → (held : Option (List ℕ)) → Log

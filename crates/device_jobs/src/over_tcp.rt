@@ -1,9 +1,11 @@
 //! A device over TCP. Source: profile.
-ghost use Rattle.std.specs.Prelude.{◌≡◌, ◌≢◌, ◌≤◌, ◌&&◌, [], None, is_some, IfOk, IfErr, OnOk, MatchResult};
+ghost use Rattle.std.specs.Prelude.{◌≡◌, ◌≢◌, ◌≤◌, ◌<◌, ◌&&◌, [], None, false, is_some, IfOk, IfErr, OnOk};
+ghost use Rattle.std.specs.Prelude.{IfSome, IfNone, MatchResult};
 ghost use Rattle.device_edges.specs.Place.{ComesTo, GoesFrom};
 ghost use Rattle.device_edges.specs.Screen.{OpensScreened, ClosesScreened};
-ghost use Rattle.device_jobs.specs.Limits.{limit_of};
-ghost use Rattle.device_jobs.specs.OverTcp.{IsPlaceOf, IsNoPlaceOf, HasServedTcp, ServesTold};
+ghost use Rattle.uecp_jobs.specs.Setups.{address_of};
+ghost use Rattle.device_jobs.specs.Limits.{limit_of, yield_seconds};
+ghost use Rattle.device_jobs.specs.OverTcp.{IsPlaceOf, IsNoPlaceOf, IsAllowedOf, HasServedTcp, ServesTold};
 ghost use Rattle.device_jobs.specs.Serving.{HasServedDevice};
 
 use crate::connections::{Attended, Restarting};
@@ -37,8 +39,7 @@ const YIELD_AFTER: u32 = 10;
 
 /// Is the device that the job asks for, over TCP, and answers the exit status: that of
 /// [`run_device_from`](crate::run_device_from), or 2 where the address is none or a line of the file of faults is no
-/// rule, and 3 where that file can't be read, or nobody can listen there. What a bad line does goes to `effects`; that
-/// a connection is another protocol's, of which nothing is taken, to `notices`.
+/// rule, and 3 where that file can't be read, or nobody can listen there. What is said beside the log goes to `beside`.
 pub fn run_device_over_tcp<
     W: Write,
     E: Write,
@@ -51,8 +52,7 @@ pub fn run_device_over_tcp<
     job: &EncoderOptions,
     writer: &mut W,
     errors: &mut NoticesTo<E>,
-    effects: &mut M,
-    notices: &mut Q,
+    beside: Beside<'_, M, Q>,
     net: &N,
     states: &S,
 ) -> u8
@@ -68,32 +68,56 @@ pub fn run_device_over_tcp<
         S.EncoderKeeper.fails job.now) job.now (W.contents writer.old) (W.contents writer.new)
         errors.old errors.new result }
 {
-    match begin(alloc, job, net, errors) {
+    let Beside {
+        effects,
+        foreign,
+        notices,
+    } = beside;
+    match begin(alloc, job, net, notices, errors) {
         Err(status) => status,
         Ok(begun) => {
             let told = Told::new(job.log, job.form, clock_of(job, net), effects);
-            serve_with(alloc, job, begun, writer, errors, notices, &told, states)
+            serve_with(alloc, job, begun, writer, errors, foreign, &told, states)
         }
     }
 }
 
+/// Where a device says what stands in no log of its encoder.
+#[derive(Drop)]
+pub struct Beside<'a, M: Write, Q: Write> {
+    /// What a bad line does.
+    pub effects: &'a mut M,
+    /// That a connection was another protocol's, of which nothing is taken.
+    pub foreign: &'a mut Q,
+    /// That there is no descriptor or no memory for one more connection.
+    pub notices: &'a mut Q,
+}
+
 /// What a device begins with: its clock, the rules of its line, and where it listens.
 #[derive(Drop)]
-struct Begun<'a, N: Net<Listener = TcpListener, Stream = TcpStream> + Clock> {
+struct Begun<'a, 'q, N: Net<Listener = TcpListener, Stream = TcpStream> + Clock, Q: Write> {
     net: &'a N,
     rules: Vec<Rule>,
-    accepting: Accepting<'a, N>,
+    accepting: Accepting<'a, N, &'q mut Q>,
 }
 
 /// The rules of the job's line, and a listener at its address; or the exit status, and why was said.
-fn begin<'a, E: Write, N: Net<Listener = TcpListener, Stream = TcpStream> + Clock + Files>(
+fn begin<
+    'a,
+    'q,
+    E: Write,
+    Q: Write,
+    N: Net<Listener = TcpListener, Stream = TcpStream> + Clock + Files,
+>(
     alloc: Global,
     job: &EncoderOptions,
     net: &'a N,
+    notices: &'q mut Q,
     errors: &mut NoticesTo<E>,
-) -> Result<Begun<'a, N>, u8>
+) -> Result<Begun<'a, 'q, N, Q>, u8>
     ensures place { IfOk result (λ begun. IsPlaceOf job.now begun.accepting.place) }
     ensures idle { IfOk result (λ begun. begun.accepting.idle ≡ limit_of job.now.idle) }
+    ensures unsaid { IfOk result (λ begun. begun.accepting.notice.is_told ≡ false) }
     ensures rules { job.now.faults ≡ None → IfOk result (λ begun. begun.rules.items ≡ []) }
     ensures same { OnOk result (errors.new ≡ errors.old) }
     ensures status { IfErr result (λ status. (2 ≤ status) × (status ≤ 3)) }
@@ -126,6 +150,7 @@ fn begin<'a, E: Write, N: Net<Listener = TcpListener, Stream = TcpStream> + Cloc
         limit_of(job.idle),
         yielding_of(job),
         allowed,
+        notices,
     ) {
         Ok(accepting) => Ok(Begun {
             net,
@@ -148,14 +173,20 @@ pub fn address_of(job: &EncoderOptions) -> Result<SocketAddr, AddressFault>
 
 /// When a connection gives way to one that waits: after ten seconds where the job says nothing of it; never where it
 /// says 0.
-pub fn yielding_of(job: &EncoderOptions) -> Option<Yielding> {
+pub fn yielding_of(job: &EncoderOptions) -> Option<Yielding>
+    ensures some { IfSome result (λ yielding. (yielding.seconds ≡ yield_seconds job.now)
+        × (yielding.address ≡ address_of job.now.site job.now.encoder)) }
+    ensures none { IfNone result (job.now.site < 1024 → job.now.encoder < 64 → yield_seconds job.now ≡ 0) }
+{
     let seconds = limit_of(yield_seconds(job))?;
     let address = Address::new(job.site, job.encoder)?;
     Some(Yielding { seconds, address })
 }
 
 /// After how many seconds it does; 0 for never.
-fn yield_seconds(job: &EncoderOptions) -> u32 {
+fn yield_seconds(job: &EncoderOptions) -> u32
+    ensures { result ≡ yield_seconds job.now }
+{
     job.yield_after.unwrap_or(YIELD_AFTER)
 }
 
@@ -181,7 +212,9 @@ pub fn fail_address<E: Write>(fault: AddressFault, errors: &mut NoticesTo<E>) ->
 }
 
 /// From where the job takes connections, if it says so.
-pub fn allowed_of(alloc: Global, job: &EncoderOptions) -> Result<Option<Allowed>, AllowFault> {
+pub fn allowed_of(alloc: Global, job: &EncoderOptions) -> Result<Option<Allowed>, AllowFault>
+    ensures { IfOk result (IsAllowedOf job.now) }
+{
     match &job.allow {
         Some(text) => Ok(Some(Allowed::of(alloc, text.as_str())?)),
         None => Ok(None),
@@ -227,15 +260,16 @@ fn serve_with<
 >(
     alloc: Global,
     job: &EncoderOptions,
-    begun: Begun<'_, N>,
+    begun: Begun<'_, '_, N, Q>,
     writer: &mut W,
     errors: &mut NoticesTo<E>,
-    notices: &mut Q,
+    foreign: &mut Q,
     told: &Told<'_, M, N>,
     states: &S,
 ) -> u8
     requires place { IsPlaceOf job.now begun.accepting.place }
     requires idle { begun.accepting.idle ≡ limit_of job.now.idle }
+    requires unsaid { begun.accepting.notice.is_told ≡ false }
     ensures status { (result ≤ 3) × (result ≢ 1) }
     ensures serves { begun.entry.rules.items ≡ [] → HasServedTcp (HasServedDevice
         (OpensScreened ComesTo)
@@ -254,7 +288,7 @@ fn serve_with<
     let clock = clock_of(job, net);
     let mut screening = Screening::new(
         Attended::new(accepting, job.idle, yield_seconds(job), told),
-        &mut *notices,
+        &mut *foreign,
     );
     if rules.is_empty() {
         return serve_told(alloc, job, clock, writer, errors, &mut screening, states);

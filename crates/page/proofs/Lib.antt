@@ -12,6 +12,7 @@ pub mod Visiting
 pub mod Visitors
 pub mod Rounds
 pub mod Places
+pub mod Seating
 pub mod Tidings
 pub mod Cutting
 pub mod Handing

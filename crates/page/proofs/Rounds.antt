@@ -1,23 +1,33 @@
 -- One place in the list of all who ask, and a round through it.
 use Rattle.std.proofs.Common.{◌≡◌, ◌≤◌, ◌<◌, ◌+◌, ◌⊎◌, ℕ, zero, suc, Bool, true, false, List, [], ◌∷◌, ◌++◌, length}
 use Rattle.std.proofs.Common.{take, drop}
-use Rattle.std.proofs.Common.{refl, sym, ap, subst, ◌∙◌, inl, inr, arith, length-append, append_assoc, get_or, set, leb}
-use Rattle.std.proofs.Common.{if◌then◌else◌, Option}
-use Rattle.std.proofs.lemmas.Bool.{leb-false}
-use Rattle.std.proofs.lemmas.List.{append-nil}
+use Rattle.std.proofs.Common.{refl, sym, ap, subst, ◌∙◌, inl, inr, arith, length-append, append_assoc, get_or, set}
+use Rattle.std.proofs.Common.{cond}
+use Rattle.std.proofs.Common.{Option}
+use Rattle.std.specs.List.{AllByRecursion}
+use Rattle.std.proofs.lemmas.Bool.{cases_lt}
+use Rattle.std.proofs.lemmas.List.{append-nil, get_or-map, get_or-set_other, get_or_read, length-map, length-set}
 use Rattle.std.proofs.Math.Seq.{get_or-append_seam, set-append_seam, take-append_seam, drop-append-add}
 use Rattle.page.specs.declared.guests.connection.Passed.{Passed}
 use Rattle.page.specs.declared.guests.guest.Guest.{Guest}
 use Rattle.page.specs.declared.guests.guest.Deed.{Deed}
-use Rattle.page.specs.Events.{Event, Past}
+use Rattle.page.specs.Events.{Past}
 use Rattle.page.specs.State.{State}
 use Rattle.page.specs.Answers.{Source}
-use Rattle.page.specs.ClientView.{standing_of, came_of}
+use Rattle.page.specs.ClientView.{standing_of}
 use Rattle.page.specs.Talk.{Talk}
-use Rattle.page.specs.Visits.{GuestLives, HasLived, HearsOnce, SendsNow, HearsThen, HearsOne, TakesTurn, AllDo}
-use Rattle.page.specs.Visits.{AreServed, live_in}
+use Rattle.page.specs.Visits.{GuestLives, HearsThen, TakesTurn, AllDo}
+use Rattle.page.specs.Visits.{AreServed, gets_events, live_in}
+use Rattle.seats.specs.declared.seat.Seat.{Seat}
+use Rattle.seats.specs.Seats.{IsSeatGiven}
+use Rattle.page.specs.declared.guests.room.Kind.{Kind}
+use Rattle.page.specs.declared.guests.room.Kind.TheVariants.{Events}
+use Rattle.page.specs.declared.guests.room.Room.{Room}
+use Rattle.page.specs.declared.guests.room.Room.TheVariants.{Free, Given, Full}
+use Rattle.page.specs.EventPlaces.{is_full, seat_of, seats_of, HasRoom, IsOver, AreHeard, GivesEvents, HearsOne}
 use Rattle.page.proofs.Visiting.{lives_turn, lives_heard, lives_sent}
 use Rattle.page.proofs.Visitors.{served_set, served_gone, turn_same, heard_free, sent_same, all_seam, weight}
+use Rattle.page.proofs.Visitors.{lives_set, live_set, one_most}
 
 module _ {X : Type 0} where
   -- the one at a place among others
@@ -93,6 +103,16 @@ module _ {X : Type 0} where
       ap (λ xs. get_or xs place d) (set_among now place (get_or now place d) x a)
       ∙ ap (λ n. get_or (a.kept ++ x ∷ a.rest) n d) a.place_is ∙ get_or-append_seam a.kept x a.rest d
 
+-- ---- the one who gives its place has one
+given_taken : (from place : ℕ) (seats : List Seat) (e : Seat) → IsSeatGiven from place seats
+    → (get_or seats place e).is_taken ≡ true
+given_taken from place seats e (inl first) = (first.1 e).0
+given_taken from place seats e (inr (none, first)) = (first.1 e).0
+
+pub given_few : (from place : ℕ) (seats : List Seat) → IsSeatGiven from place seats → place < length seats
+given_few from place seats (inl first) = first.0
+given_few from place seats (inr (none, first)) = first.0
+
 module _ {C : Type 0} (talk : C → Talk) (reads : C → List ℕ → Passed → C → Type 0) where
   -- ---- one that is heard, and then sent what waits
   then_lives : (source : Source) (own_only : Bool) (g : Guest C) (stays : Bool) (g' : Guest C)
@@ -115,59 +135,135 @@ module _ {C : Type 0} (talk : C → Talk) (reads : C → List ℕ → Passed →
         | inr free ↦ inr free
       ]
 
-  -- the source of one that is heard among these
-  abbrev pub source_in : State → Past → (seconds : Option ℕ) → List (Guest C) → Source
-  source_in shown past seconds guests = record {
+  -- the source of one that is heard, where there is this place of events
+  abbrev pub source_in : State → Past → (seconds : Option ℕ) → Room → Source
+  source_in shown past seconds room = record {
     shown = shown;
     past = past;
     seconds = seconds;
-    is_full = leb 64 (live_in guests);
+    is_full = is_full room;
   }
 
   -- by what the calls said
-  pub heard_from : (shown : State) (past : Past) (seconds : Option ℕ) (own_only own_only' full : Bool)
+  pub heard_from : (shown : State) (past : Past) (seconds : Option ℕ) (own_only own_only' full : Bool) (room : Room)
       (now : List (Guest C)) (place : ℕ) (g g' : Guest C) (stays : Bool) (source : Source)
       → source ≡ record { shown = shown; past = past; seconds = seconds; is_full = full }
-      → full ≡ leb 64 (live_in now) → own_only' ≡ own_only → g ≡ get_or now place g
+      → full ≡ is_full room → own_only' ≡ own_only → g ≡ get_or now place g
       → HearsThen talk reads source own_only' g stays g'
-      → HearsThen talk reads (source_in shown past seconds now) own_only (get_or now place g) stays g'
-  heard_from shown past seconds own_only own_only' full now place g g' stays source source_is full_is own_is is hears =
-      let all : source ≡ source_in shown past seconds now = source_is
+      → HearsThen talk reads (source_in shown past seconds room) own_only (get_or now place g) stays g'
+  heard_from shown past seconds own_only own_only' full room now place g g' stays source source_is full_is own_is is
+      hears =
+      let all : source ≡ source_in shown past seconds room = source_is
       ∙ ap (λ (b : Bool). let s : Source = record { shown = shown; past = past; seconds = seconds; is_full = b } in s)
       full_is in
       let P : Source → Type 0 = λ s. HearsThen talk reads s own_only' g stays g' in
-      let Q : Bool → Type 0 = λ b. HearsThen talk reads (source_in shown past seconds now) b g stays g' in
-      let R : Guest C → Type 0 = λ h. HearsThen talk reads (source_in shown past seconds now) own_only h stays g' in
+      let Q : Bool → Type 0 = λ b. HearsThen talk reads (source_in shown past seconds room) b g stays g' in
+      let R : Guest C → Type 0 = λ h. HearsThen talk reads (source_in shown past seconds room) own_only h stays g' in
       subst R is (subst Q own_is (subst P all hears))
 
-  pub heard_lived : (shown : State) (past : Past) (seconds : Option ℕ) (own_only : Bool) (now : List (Guest C))
-      (place : ℕ) (d g' : Guest C) (stays : Bool) → AreServed talk own_only past now → place < length now
-      → HearsThen talk reads (source_in shown past seconds now) own_only (get_or now place d) stays g'
+  pub heard_lived : (shown : State) (past : Past) (seconds : Option ℕ) (own_only : Bool) (room : Room)
+      (now : List (Guest C)) (place : ℕ) (d g' : Guest C) (stays : Bool) → AreServed talk own_only past now
+      → place < length now
+      → HearsThen talk reads (source_in shown past seconds room) own_only (get_or now place d) stays g'
       → GuestLives talk own_only past g'
-  heard_lived shown past seconds own_only now place d g' stays served more hears =
+  heard_lived shown past seconds own_only room now place d g' stays served more hears =
       let a = among_at now place d more in
       let P : List (Guest C) → Type 0 = λ xs. AreServed talk own_only past xs in
       let parts = all_seam talk (GuestLives talk own_only past) a.kept a.rest (get_or now place d)
       (subst P a.now_is served).lives in
-      then_lives (source_in shown past seconds now) own_only (get_or now place d) stays g' parts.1 hears
+      then_lives (source_in shown past seconds room) own_only (get_or now place d) stays g' parts.1 hears
 
-  pub heard_stays : (shown : State) (past : Past) (seconds : Option ℕ) (own_only : Bool) (now : List (Guest C))
-      (place : ℕ) (d g' : Guest C) → AreServed talk own_only past now → place < length now
-      → HearsThen talk reads (source_in shown past seconds now) own_only (get_or now place d) true g'
-      → AreServed talk own_only past (set now place g')
-  heard_stays shown past seconds own_only now place d g' served more hears =
+  given_live : (origin : C → ℕ) (from place : ℕ) (now : List (Guest C)) (d : Guest C) → place < length now
+      → IsSeatGiven from place (seats_of origin Events now)
+      → gets_events (standing_of (get_or now place d).client).phase ≡ true
+  given_live origin from place now d more given =
+      let e = seat_of origin Events d in
+      let is : get_or (seats_of origin Events now) place e ≡ seat_of origin Events (get_or now place d) =
+      get_or-map (seat_of origin Events) now place d e more in
+      ap (λ (s : Seat). s.is_taken) (sym is) ∙ given_taken from place (seats_of origin Events now) e given
+
+  given_among : (origin : C → ℕ) (kind : Kind) (from place : ℕ) (now : List (Guest C))
+      → IsSeatGiven from place (seats_of origin kind now) → place < length now
+  given_among origin kind from place now given =
+      let few = given_few from place (seats_of origin kind now) given in
+      let same : length (seats_of origin kind now) ≡ length now = length-map now (seat_of origin kind) in
+      omega (arith, few, same)
+
+  -- ---- one that was heard may be one more that gets events
+  live_among : (now : List (Guest C)) (place : ℕ) (d g' : Guest C) → place < length now
+      → live_in (set now place g') + weight talk (get_or now place d) ≡ live_in now + weight talk g'
+  live_among now place d g' more =
       let g = get_or now place d in
       let a = among_at now place d more in
-      let P : List (Guest C) → Type 0 = λ xs. AreServed talk own_only past xs in
-      let lives = heard_lived shown past seconds own_only now place d g' true served more hears in
-      let F : List (Guest C) → Type 0 = λ xs. (weight talk g' ≤ weight talk g) ⊎ (live_in xs < 64) in
-      let fewer : (weight talk g' ≤ weight talk g) ⊎ (live_in now < 64) =
-      elim (then_free (source_in shown past seconds now) own_only g g' hears) [
-        | inl less ↦ inl less
-        | inr free ↦ inr (leb-false 64 (live_in now) free)
-      ] in
-      subst P (sym (set_among now place g g' a))
-      (served_set talk own_only past a.kept a.rest g g' (subst P a.now_is served) lives (subst F a.now_is fewer))
+      let then = ap (λ (xs : List (Guest C)). live_in xs) (set_among now place g g' a) in
+      let before = ap (λ (xs : List (Guest C)). live_in xs) a.now_is in
+      let both = live_set talk a.kept a.rest g g' in
+      omega (arith, then, before, both)
+
+  over_given : (origin : C → ℕ) (from there : ℕ) (now : List (Guest C)) (place : ℕ) (d g' : Guest C)
+      → live_in now ≤ 64 → place < length now → IsSeatGiven from there (seats_of origin Events now)
+      → 64 < live_in (set now place g') → IsOver (Given there) (set now place g')
+  over_given origin from there now place d g' few more given over =
+      let g = get_or now place d in
+      let both = live_among now place d g' more in
+      let most : weight talk g' ≤ 1 = one_most (standing_of g'.client).phase in
+      let within = given_among origin Events from there now given in
+      let other : there ≡ place → ⊥ = λ same.
+      let live = given_live origin from there now d within given in
+      let f : Bool → ℕ = λ b. cond b 1 0 in
+      let here : weight talk (get_or now there d) ≡ 1 = ap f live in
+      let one : weight talk g ≡ 1 = ap (λ i. weight talk (get_or now i d)) (sym same) ∙ here in
+      omega (arith, few, both, most, over, one) in
+      let long : length (set now place g') ≡ length now = length-set now place g' in (
+        omega (arith, few, both, most, over),
+        omega (arith, within, long),
+        (λ e.
+            let read : get_or (set now place g') there e ≡ get_or now there e =
+            get_or-set_other now place there g' e other in
+            ap (λ (h : Guest C). gets_events (standing_of h.client).phase) read
+            ∙ given_live origin from there now e within given),
+      )
+
+  over_or_not : (origin : C → ℕ) (from : ℕ) (room : Room) (now : List (Guest C)) (place : ℕ) (d g' : Guest C)
+      → live_in now ≤ 64 → place < length now → HasRoom origin from now room
+      → ((weight talk g' ≤ weight talk (get_or now place d)) ⊎ (is_full room ≡ false))
+      → (live_in (set now place g') ≤ 64) ⊎ IsOver room (set now place g')
+  over_or_not origin from Free now place d g' few more has fewer =
+      let both = live_among now place d g' more in
+      let most : weight talk g' ≤ 1 = one_most (standing_of g'.client).phase in
+      inl (omega (arith, has, both, most))
+  over_or_not origin from (Given there) now place d g' few more has fewer =
+      elim (cases_lt 64 (live_in (set now place g'))) [
+        | inl over ↦ inr (over_given origin from there now place d g' few more has.1 over)
+        | inr less ↦ inl less
+      ]
+  over_or_not origin from Full now place d g' few more has (inl less) =
+      let both = live_among now place d g' more in
+      inl (omega (arith, few, both, less))
+  over_or_not origin from Full now place d g' few more has (inr free) = cc
+
+  pub heard_stays : (origin : C → ℕ) (from : ℕ) (shown : State) (past : Past) (seconds : Option ℕ) (own_only : Bool)
+      (room : Room) (now : List (Guest C)) (place : ℕ) (d g' : Guest C) → AreServed talk own_only past now
+      → place < length now → HasRoom origin from now room
+      → HearsThen talk reads (source_in shown past seconds room) own_only (get_or now place d) true g'
+      → AreHeard talk room own_only past (set now place g')
+  heard_stays origin from shown past seconds own_only room now place d g' served more has hears =
+      let g = get_or now place d in
+      let a = among_at now place d more in
+      let is = set_among now place g g' a in
+      let L : Guest C → Type 0 = λ h. GuestLives talk own_only past h in
+      let P : List (Guest C) → Type 0 = λ xs. AllByRecursion L xs in
+      let lives = heard_lived shown past seconds own_only room now place d g' true served more hears in
+      let long : length (set now place g') ≡ length now = length-set now place g' in
+      let few = served.few in
+      record {
+        lives =
+            subst P (sym is) (lives_set talk own_only past a.kept a.rest g g' (subst P a.now_is served.lives) lives);
+        few = omega (arith, few, long);
+        live_few =
+            over_or_not origin from room now place d g' served.live_few more has
+            (then_free (source_in shown past seconds room) own_only g g' hears);
+      }
 
   pub heard_goes : (past : Past) (own_only : Bool) (now : List (Guest C)) (place : ℕ) (d g' : Guest C)
       → AreServed talk own_only past now → place < length now
@@ -179,15 +275,25 @@ module _ {C : Type 0} (talk : C → Talk) (reads : C → List ℕ → Passed →
       subst P (sym (gone_among now place g g' a))
       (served_gone talk own_only past a.kept a.rest g (subst P a.now_is served))
 
+  -- the place of events is for one that comes from where the one comes that is heard
+  pub room_here : (origin : C → ℕ) (from : ℕ) (room : Room) (now : List (Guest C)) (place : ℕ) (d h : Guest C)
+      → place < length now → h ≡ get_or now place h → from ≡ origin h.connection → HasRoom origin from now room
+      → HasRoom origin (origin (get_or now place d).connection) now room
+  room_here origin from room now place d h more is from_is has =
+      let here : h ≡ get_or now place d = get_or_read now place h more is d in
+      let same : from ≡ origin (get_or now place d).connection =
+      from_is ∙ ap (λ (k : Guest C). origin k.connection) here in
+      subst (λ n. HasRoom origin n now room) same has
+
   -- what became of the one, and that the others stand as they stood
-  pub heard_one : (numbered : C → ℕ) (number : ℕ) (shown : State) (past : Past) (seconds : Option ℕ) (own_only : Bool)
-      (now : List (Guest C)) (place : ℕ) (d g' : Guest C) (stays : Bool) (now' : List (Guest C)) → place < length now
-      → numbered (get_or now place d).connection ≡ number
-      → HearsThen talk reads (source_in shown past seconds now) own_only (get_or now place d) stays g'
-      → now' ≡ (if stays then set now place g'
-      else take place (set now place g') ++ drop (place + 1) (set now place g'))
-      → HearsOne talk numbered reads number shown past seconds own_only now now'
-  heard_one numbered number shown past seconds own_only now place d g' true now' more named hears is =
+  pub heard_one : (origin numbered : C → ℕ) (number : ℕ) (shown : State) (past : Past) (seconds : Option ℕ)
+      (own_only : Bool) (room : Room) (now : List (Guest C)) (place : ℕ) (d g' : Guest C) (now' : List (Guest C))
+      → place < length now → numbered (get_or now place d).connection ≡ number
+      → HasRoom origin (origin (get_or now place d).connection) now room
+      → HearsThen talk reads (source_in shown past seconds room) own_only (get_or now place d) true g'
+      → GivesEvents room (set now place g') now'
+      → HearsOne talk origin numbered reads number shown past seconds own_only now now'
+  heard_one origin numbered number shown past seconds own_only room now place d g' now' more named has hears gives =
       let a = among_at now place d more in
       record {
         before = a.kept;
@@ -195,23 +301,42 @@ module _ {C : Type 0} (talk : C → Talk) (reads : C → List ℕ → Passed →
         behind = a.rest;
         among = a.now_is;
         number_is = named;
+        room = room;
+        has_room = has;
         one' = g';
         stays = true;
         hears = hears;
-        after = is ∙ set_among now place (get_or now place d) g' a;
+        heard = set now place g';
+        heard_are = set_among now place (get_or now place d) g' a;
+        gives = gives;
       }
-  heard_one numbered number shown past seconds own_only now place d g' false now' more named hears is =
+
+  pub heard_gone : (origin numbered : C → ℕ) (number : ℕ) (shown : State) (past : Past) (seconds : Option ℕ)
+      (own_only : Bool) (room : Room) (now : List (Guest C)) (place : ℕ) (d g' : Guest C) (now' : List (Guest C))
+      → AreServed talk own_only past now
+      → place < length now → numbered (get_or now place d).connection ≡ number
+      → HasRoom origin (origin (get_or now place d).connection) now room
+      → HearsThen talk reads (source_in shown past seconds room) own_only (get_or now place d) false g'
+      → now' ≡ take place (set now place g') ++ drop (place + 1) (set now place g')
+      → HearsOne talk origin numbered reads number shown past seconds own_only now now'
+  heard_gone origin numbered number shown past seconds own_only room now place d g' now' served more named has hears
+      is =
       let a = among_at now place d more in
+      let left = take place (set now place g') ++ drop (place + 1) (set now place g') in
       record {
         before = a.kept;
         one = get_or now place d;
         behind = a.rest;
         among = a.now_is;
         number_is = named;
+        room = room;
+        has_room = has;
         one' = g';
         stays = false;
         hears = hears;
-        after = is ∙ gone_among now place (get_or now place d) g' a;
+        heard = left;
+        heard_are = gone_among now place (get_or now place d) g' a;
+        gives = inl ((heard_goes past own_only now place d g' served more).live_few, is);
       }
 
 module _ {C : Type 0} (talk : C → Talk) (own_only : Bool) (deed : Deed) (past : Past) where

@@ -198,15 +198,38 @@ module _ {C : Type 0} (talk : C → Talk) where
         ];
       }
 
-  pub served_gone : (own_only : Bool) (past : Past) (kept rest : List (Guest C)) (g : Guest C)
-      → AreServed talk own_only past (kept ++ g ∷ rest)
-      → AreServed talk own_only past (kept ++ rest)
-  served_gone own_only past kept rest g h =
-      let parts = all_seam (GuestLives talk own_only past) kept rest g h.lives in
+  pub served_without : (own_only : Bool) (past : Past) (kept rest : List (Guest C)) (g : Guest C)
+      → AllByRecursion (GuestLives talk own_only past) (kept ++ g ∷ rest) → length (kept ++ g ∷ rest) ≤ 128
+      → live_in (kept ++ g ∷ rest) ≤ 64 + weight g → AreServed talk own_only past (kept ++ rest)
+  served_without own_only past kept rest g lives few live_few =
+      let parts = all_seam (GuestLives talk own_only past) kept rest g lives in
       let now : live_in (kept ++ g ∷ rest) ≡ live_in kept + (weight g + live_in rest) = live_seam kept rest g in
       let then : live_in (kept ++ rest) ≡ live_in kept + live_in rest = sum_by-append weight kept rest in
       record {
         lives = all_join (GuestLives talk own_only past) kept rest parts.0 parts.2;
-        few = omega (arith, h.few, length-append kept (g ∷ rest), length-append kept rest);
-        live_few = omega (arith, now, then, h.live_few);
+        few = omega (arith, few, length-append kept (g ∷ rest), length-append kept rest);
+        live_few = omega (arith, now, then, live_few);
       }
+
+  pub served_gone : (own_only : Bool) (past : Past) (kept rest : List (Guest C)) (g : Guest C)
+      → AreServed talk own_only past (kept ++ g ∷ rest)
+      → AreServed talk own_only past (kept ++ rest)
+  served_gone own_only past kept rest g h =
+      let few = h.live_few in
+      let less : live_in (kept ++ g ∷ rest) ≤ 64 + weight g = omega (arith, few) in
+      served_without own_only past kept rest g h.lives h.few less
+
+  -- the same lists, with one of them heard
+  pub lives_set : (own_only : Bool) (past : Past) (kept rest : List (Guest C)) (g g' : Guest C)
+      → AllByRecursion (GuestLives talk own_only past) (kept ++ g ∷ rest) → GuestLives talk own_only past g'
+      → AllByRecursion (GuestLives talk own_only past) (kept ++ g' ∷ rest)
+  lives_set own_only past kept rest g g' all lives =
+      let parts = all_seam (GuestLives talk own_only past) kept rest g all in
+      all_join (GuestLives talk own_only past) kept (g' ∷ rest) parts.0 (lives, parts.2)
+
+  pub live_set : (kept rest : List (Guest C)) (g g' : Guest C)
+      → live_in (kept ++ g' ∷ rest) + weight g ≡ live_in (kept ++ g ∷ rest) + weight g'
+  live_set kept rest g g' =
+      let now : live_in (kept ++ g ∷ rest) ≡ live_in kept + (weight g + live_in rest) = live_seam kept rest g in
+      let then : live_in (kept ++ g' ∷ rest) ≡ live_in kept + (weight g' + live_in rest) = live_seam kept rest g' in
+      omega (arith, now, then)

@@ -36,11 +36,11 @@ pub each_service : {X : Type 0} (f : X → Service) (xs : List X)
 each_service f [] = refl
 each_service f (x ∷ xs) = ap (item (service_data (f x))) (each_service f xs)
 
-pub eight : (t0 t1 t2 t3 t4 t5 t6 t7 t8 p1 p2 p3 p4 p5 p6 p7 p8 : List ℕ) → t0 ≡ [] → t1 ≡ t0 ++ p1 → t2 ≡ t1 ++ p2
-    → t3 ≡ t2 ++ p3 → t4 ≡ t3 ++ p4 → t5 ≡ t4 ++ p5 → t6 ≡ t5 ++ p6 → t7 ≡ t6 ++ p7 → t8 ≡ t7 ++ p8
-    → t8 ≡ p1 ++ (p2 ++ (p3 ++ (p4 ++ (p5 ++ (p6 ++ (p7 ++ p8))))))
-eight t0 t1 t2 t3 t4 t5 t6 t7 t8 p1 p2 p3 p4 p5 p6 p7 p8 h0 h1 h2 h3 h4 h5 h6 h7 h8 =
-    h8 ∙ ap (λ t. t ++ p8) (h7 ∙ ap (λ t. t ++ p7) (h6
+pub nine : (t0 t1 t2 t3 t4 t5 t6 t7 t8 t9 p1 p2 p3 p4 p5 p6 p7 p8 p9 : List ℕ) → t0 ≡ [] → t1 ≡ t0 ++ p1
+    → t2 ≡ t1 ++ p2 → t3 ≡ t2 ++ p3 → t4 ≡ t3 ++ p4 → t5 ≡ t4 ++ p5 → t6 ≡ t5 ++ p6 → t7 ≡ t6 ++ p7 → t8 ≡ t7 ++ p8
+    → t9 ≡ t8 ++ p9 → t9 ≡ p1 ++ (p2 ++ (p3 ++ (p4 ++ (p5 ++ (p6 ++ (p7 ++ (p8 ++ p9)))))))
+nine t0 t1 t2 t3 t4 t5 t6 t7 t8 t9 p1 p2 p3 p4 p5 p6 p7 p8 p9 h0 h1 h2 h3 h4 h5 h6 h7 h8 h9 =
+    h9 ∙ ap (λ t. t ++ p9) (h8 ∙ ap (λ t. t ++ p8) (h7 ∙ ap (λ t. t ++ p7) (h6
     ∙ ap (λ t. t ++ p6) (h5 ∙ ap (λ t. t ++ p5) (h4 ∙ ap (λ t. t ++ p4)
-    (h3 ∙ ap (λ t. t ++ p3) (h2 ∙ ap (λ t. t ++ p2) (h1 ∙ ap (λ t. t ++ p1) h0)))))))
+    (h3 ∙ ap (λ t. t ++ p3) (h2 ∙ ap (λ t. t ++ p2) (h1 ∙ ap (λ t. t ++ p1) h0))))))))
     ∙ simp append_assoc

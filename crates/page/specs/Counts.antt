@@ -1,10 +1,10 @@
 -- What is counted of lines of JSON (profile).
 use Rattle.std.specs.Prelude.{ℕ, ◌+◌, ◌-◌, ◌^◌, min, Bool, true, List, ◌&&◌, ◌||◌, not, codes, if◌then◌else◌}
 use Rattle.serde_json.specs.Data.{Data}
-use Rattle.page.specs.Members.{flag_at, says, is_flag}
+use Rattle.page.specs.Members.{flag_at, number_or_0, says, is_flag}
 
 -- Lines that are objects of ours, and others; messages, those that came again, those that were refused; segments that
--- were no frame; connections.
+-- were no frame; connections; lines that an end could not tell.
 pub record Counts : Type 0 where
   pub lines : ℕ
   pub others : ℕ
@@ -13,9 +13,19 @@ pub record Counts : Type 0 where
   pub refusals : ℕ
   pub dropped : ℕ
   pub connections : ℕ
+  pub not_told : ℕ
 
 abbrev pub no_counts : Counts
-no_counts = record { lines = 0; others = 0; messages = 0; repeats = 0; refusals = 0; dropped = 0; connections = 0 }
+no_counts = record {
+  lines = 0;
+  others = 0;
+  messages = 0;
+  repeats = 0;
+  refusals = 0;
+  dropped = 0;
+  connections = 0;
+  not_told = 0;
+}
 
 -- One more, where something holds; no more are counted than 2^64 - 1.
 abbrev pub one_more : Bool → ℕ → ℕ
@@ -40,6 +50,11 @@ is_refusal d =
     (is_kind (codes "answered") d && says (codes "answer") (codes "new") d || is_kind (codes "answer") d)
     && not (says (codes "code") (codes "00") d)
 
+-- How many lines an end could not tell, as nobody read them: it says so by its member `lines`; 0 where that is no whole
+-- number below 2^64, and for another object.
+abbrev pub lines_not_told : Data → ℕ
+lines_not_told d = if is_kind (codes "not_told") d then number_or_0 (codes "lines") d else 0
+
 -- The counts behind an object of ours.
 abbrev pub counted : Data → Counts → Counts
 counted d c = record {
@@ -50,4 +65,5 @@ counted d c = record {
   refusals = one_more (is_refusal d) c.refusals;
   dropped = one_more (is_kind (codes "dropped") d) c.dropped;
   connections = one_more (is_kind (codes "connection") d) c.connections;
+  not_told = min (c.not_told + lines_not_told d) (2 ^ 64 - 1);
 }

@@ -24,6 +24,7 @@ pub mod Life
 pub mod Talk
 pub mod Delivering
 pub mod Visits
+pub mod EventPlaces
 pub mod Places
 pub mod Lines
 pub mod Intake

@@ -29,6 +29,7 @@ counts_of c = record {
   refusals = c.refusals;
   dropped = c.dropped;
   connections = c.connections;
+  not_told = c.not_told;
 }
 
 abbrev pub state_of : Page → State

@@ -32,9 +32,10 @@ services_data (s ∷ ss) = item (service_data s) (services_data ss)
 abbrev pub counts_data : Counts → Data
 counts_data c = object (member (codes "connections") (number (unsigned c.connections))
     (member (codes "dropped") (number (unsigned c.dropped)) (member (codes "lines") (number (unsigned c.lines))
-    (member (codes "messages") (number (unsigned c.messages)) (member (codes "others") (number (unsigned c.others))
+    (member (codes "messages") (number (unsigned c.messages))
+    (member (codes "not_told") (number (unsigned c.not_told)) (member (codes "others") (number (unsigned c.others))
     (member (codes "refusals") (number (unsigned c.refusals)) (member (codes "repeats") (number (unsigned c.repeats))
-    no_members)))))))
+    no_members))))))))
 
 -- The state as an object of the kind `state`.
 abbrev pub state_data : State → Data
@@ -65,4 +66,5 @@ metrics c seconds =
     counter (codes "uecp_lines_total") c.lines ++ (counter (codes "uecp_other_lines_total") c.others
     ++ (counter (codes "uecp_messages_total") c.messages ++ (counter (codes "uecp_repeats_total") c.repeats
     ++ (counter (codes "uecp_refusals_total") c.refusals ++ (counter (codes "uecp_dropped_segments_total") c.dropped
-    ++ (counter (codes "uecp_connections_total") c.connections ++ since seconds))))))
+    ++ (counter (codes "uecp_connections_total") c.connections
+    ++ (counter (codes "uecp_not_told_lines_total") c.not_told ++ since seconds)))))))

@@ -1,6 +1,5 @@
 -- Those who ask a page, each over a connection (profile).
-use Rattle.std.specs.Prelude.{◌≡◌, ◌≢◌, ◌⊎◌, ◌≤◌, ◌+◌, ◌%◌, ◌^◌, ℕ, ◌-◌, min, nat_lt, leb, Option, if◌then◌else◌, Bool}
-use Rattle.std.specs.Prelude.{true, false}
+use Rattle.std.specs.Prelude.{◌≡◌, ◌≢◌, ◌⊎◌, ◌≤◌, ◌+◌, ◌%◌, ◌^◌, ℕ, ◌-◌, min, nat_lt, Bool, true, false}
 use Rattle.std.specs.Prelude.{List, [], ◌∷◌, ◌++◌, length, take, All, count_by}
 use Rattle.std.specs.List.{AllByRecursion}
 use Rattle.page.specs.declared.clients.client.Phase.{Phase}
@@ -14,7 +13,6 @@ use Rattle.page.specs.declared.guests.all.Guests.{Guests}
 use Rattle.page.specs.declared.guests.guest.Deed.{Deed}
 use Rattle.page.specs.declared.guests.guest.Deed.TheVariants.{CatchUp, Deliver, Tick, End}
 use Rattle.page.specs.Events.{Event, Past}
-use Rattle.page.specs.State.{State}
 use Rattle.page.specs.Sending.{Standing, IsLive, SaysAlive, Ends, owed}
 use Rattle.page.specs.Answers.{Source}
 use Rattle.page.specs.Hearing.{Hears}
@@ -201,23 +199,3 @@ module _ {C : Type 0} (talk : C → Talk) where
   HearsThen reads source own_only g false g' = HearsOnce reads source own_only g false g'
       ⊎ ((heard : Guest C) × (keeps : Bool) × HearsOnce reads source own_only g true heard
       × SendsNow source.past heard keeps g')
-
-  -- Something came on the connection of this number: that one is heard, from what is shown and kept then, and whether
-  -- no more may get events, which depends on all; and it is sent what waits, and kept or let go. The others stand as
-  -- they stood.
-  pub record HearsOne (numbered : C → ℕ) (reads : C → List ℕ → Passed → C → Type 0) (number : ℕ) (shown : State)
-      (past : Past) (seconds : Option ℕ) (own_only : Bool) (guests guests' : List (Guest C)) : Type 0 where
-    pub before : List (Guest C)
-    pub one : Guest C
-    pub behind : List (Guest C)
-    pub among : guests ≡ before ++ one ∷ behind
-    pub number_is : numbered one.connection ≡ number
-    pub one' : Guest C
-    pub stays : Bool
-    pub hears : HearsThen reads (record {
-      shown = shown;
-      past = past;
-      seconds = seconds;
-      is_full = leb live_most (live_in guests);
-    }) own_only one stays one'
-    pub after : guests' ≡ (if stays then before ++ one' ∷ behind else before ++ behind)

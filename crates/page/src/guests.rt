@@ -7,6 +7,7 @@
 mod all;
 mod connection;
 mod guest;
+mod room;
 mod sockets;
 
 pub use all::Guests;

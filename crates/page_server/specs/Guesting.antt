@@ -6,7 +6,8 @@ use Rattle.page.specs.declared.guests.connection.Passed.{Passed}
 use Rattle.page.specs.declared.guests.connection.Passed.TheVariants.{Bytes, NotNow, Gone}
 use Rattle.page.specs.declared.guests.guest.Guest.{Guest}
 use Rattle.page.specs.declared.guests.guest.Deed.TheVariants.{Deliver, Tick}
-use Rattle.page.specs.Visits.{guests_of, AllServed, AllDo, HasNone, HearsOne}
+use Rattle.page.specs.Visits.{guests_of, AllServed, AllDo, HasNone}
+use Rattle.page.specs.EventPlaces.{HearsOne}
 use Rattle.page.specs.Places.{ComesIn}
 use Rattle.page_server.specs.declared.server.Serving.{Serving}
 
@@ -23,21 +24,21 @@ module _ {C : Type 0} (talk : C → Talk) where
 
   -- Something came on the connection of this number: the one that has it is heard, and sent what waits, as `HearsOne`
   -- has it, from what is shown and kept now; where none has it all stand as they stood.
-  abbrev pub IsHeard : (numbered : C → ℕ) → (reads : C → List ℕ → Passed → C → Type 0) → (number : ℕ)
+  abbrev pub IsHeard : (origin numbered : C → ℕ) → (reads : C → List ℕ → Passed → C → Type 0) → (number : ℕ)
       → (s s' : Serving C) → Type 0
-  IsHeard numbered reads number s s' =
+  IsHeard origin numbered reads number s s' =
       (HasNone numbered number (guests_of s.guests) × (s'.guests ≡ s.guests))
       ⊎ ((seconds : Option ℕ)
-      × HearsOne talk numbered reads number (board_of s.intake).shown (board_of s.intake).past seconds
+      × HearsOne talk origin numbered reads number (board_of s.intake).shown (board_of s.intake).past seconds
       s.guests.own_only (guests_of s.guests) (guests_of s'.guests))
 
   -- One more comes on this connection, as `ComesIn` has it; and what came on it already is heard at once, before
   -- another comes who may take its place.
-  abbrev pub Welcomes : (numbered : C → ℕ) → (reads : C → List ℕ → Passed → C → Type 0) → (connection : C)
+  abbrev pub Welcomes : (origin numbered : C → ℕ) → (reads : C → List ℕ → Passed → C → Type 0) → (connection : C)
       → (s s' : Serving C) → Type 0
-  Welcomes numbered reads connection s s' = (come : Serving C)
-      × ComesIn connection (guests_of s.guests) (guests_of come.guests)
-      × (come ≡ record s { guests = come.guests }) × IsHeard numbered reads (numbered connection) come s'
+  Welcomes origin numbered reads connection s s' = (come : Serving C)
+      × ComesIn origin connection (guests_of s.guests) (guests_of come.guests)
+      × (come ≡ record s { guests = come.guests }) × IsHeard origin numbered reads (numbered connection) come s'
 
   -- What waits is sent to all, as far as each takes it. Where a second has gone by since the last tick, as the
   -- clock was read before, there is one then, and what waits is sent once more.

@@ -1,5 +1,5 @@
 -- What a run of a page reads, takes and answers (profile).
-use Rattle.std.specs.Prelude.{◌≡◌, ℕ, Bool, List, Option}
+use Rattle.std.specs.Prelude.{◌≡◌, ℕ, Bool, List, ◌++◌, codes, decimal, Option}
 use Rattle.std.specs.Io.KnownBytes.{Consumes, IsAtEnd}
 use Rattle.page.specs.declared.intake.taking.Intake.{Intake}
 use Rattle.page.specs.Lines.{AreAll}
@@ -21,6 +21,10 @@ abbrev pub Moves : (old new : Option (List ℕ)) → (before behind : Intake) �
 Moves old new before behind More = ReadsOn old new before behind
 Moves old new before behind Waits = ReadsOn old new before behind
 Moves old new before behind Ended = ReadsAll old new before behind
+
+-- what is said of a line that is no object of ours
+unfoldable pub other_line : (number : ℕ) → List ℕ
+other_line number = codes "uecp: line " ++ (decimal number ++ codes ": no object of uecp\n")
 
 -- A run came to the end of its input: these are all bytes that there were, and the status is 1 where a line among
 -- theirs was no object of ours, and 0 where each was one.

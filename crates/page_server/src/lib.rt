@@ -7,8 +7,8 @@
 mod door;
 mod input;
 mod over_tcp;
-mod place;
 mod server;
+mod start;
 mod stop;
 mod tcp;
 

@@ -3,8 +3,8 @@ ghost use Rattle.std.specs.Prelude.{◌≡◌, ◌≤◌, ◌⊎◌, IfOk, OnErr
 ghost use Rattle.page.specs.Intake.{status_of};
 ghost use Rattle.page_server.specs.Serving.{EndsWith};
 
-use crate::place::place_of;
-use crate::server::{Serving, Start};
+use crate::server::Serving;
+use crate::start::Start;
 use crate::stop::Stop;
 use crate::tcp::TcpSockets;
 use commands::PageOptions;
@@ -15,7 +15,7 @@ use std::alloc::Global;
 use std::io::{Read, Write};
 use std::net::{Net, SocketAddr, TcpListener, TcpStream};
 use std::os::fd::RawFd;
-use std::time::{Clock, Duration, SystemTime};
+use std::time::Clock;
 use uecp_text::RunFault;
 
 /// Serves the page of the lines that a reader gives, whose descriptor is told, until it is at its end and what waits is
@@ -40,16 +40,15 @@ pub fn run_page_over_tcp<
     // 2: nothing was read.
     ensures unread { result ≡ 2 → reader.new ≡ reader.old }
 {
-    let place = match place_of(options) {
-        Ok(place) => place,
+    let start = match Start::of(options, net) {
+        Ok(start) => start,
         Err(fault) => return fail_place(fault, errors),
     };
-    match listener_at(net, place) {
+    match listener_at(net, start.place()) {
         Ok(listener) => match TcpSockets::new(alloc, net, fd, listener) {
             Some(mut sockets) => {
                 sockets.say_place(alloc, errors);
-                let since = since_1970(net);
-                serve(alloc, reader, &Start { place, since }, errors, &mut sockets)
+                serve(alloc, reader, &start, errors, &mut sockets)
             }
             None => fail(&RunFault::Listening, errors),
         },
@@ -90,14 +89,6 @@ fn end<E: Write>(served: Result<bool, Stop>, errors: &mut NoticesTo<E>) -> u8
         Err(Stop::OutOfMemory) => fail(&RunFault::OutOfMemory, errors),
         Err(Stop::Reading) => fail(&RunFault::Reading, errors),
         Err(Stop::Listening) => fail(&RunFault::Listening, errors),
-    }
-}
-
-/// How long ago 1970 began; None where the machine has no clock.
-fn since_1970<C: Clock>(clock: &C) -> Option<Duration> {
-    match SystemTime::now(clock) {
-        Ok(now) => now.duration_since(SystemTime::UNIX_EPOCH).ok(),
-        Err(_) => None,
     }
 }
 

@@ -5,19 +5,19 @@ ghost use Rattle.std.specs.Prelude.{◌≡◌, false, [], IfOk, IsTrue, ◌↔�
 ghost use Rattle.std.specs.Duration.{as_nanos};
 ghost use Rattle.page.specs.Intake.{board_of, IsLoopback, first_number};
 ghost use Rattle.page.specs.Input.{cutting_of, IntakeOf, GoesOn, Ends};
-ghost use Rattle.page_server.specs.Serving.{ReadsAll, Moves};
+ghost use Rattle.page_server.specs.Serving.{ReadsAll, Moves, other_line};
+ghost use Rattle.notices.specs.Told.{Says};
 ghost use Rattle.page_server.specs.Guesting.{IsServing, IsHeard, Welcomes, Settles};
 ghost use Rattle.page.specs.Talk.{IsUnsaid};
 ghost use Rattle.page.specs.Visits.{guests_of, AllDo};
 
+use crate::start::Start;
 use crate::stop::Stop;
 use itoa::Buffer;
 use notices::{Notices, NoticesTo};
 use page::{Accepted, Connection, Deed, Guests, Intake, Sockets, Taken, first_number, own_only};
 use std::alloc::Global;
 use std::io::{Read, Write};
-use std::net::SocketAddr;
-use std::time::Duration;
 
 /// How many lines are taken before those who ask are looked after again.
 const LINES_MAX: u32 = 256;
@@ -36,15 +36,6 @@ const LAST_WAIT: u64 = 100;
 
 /// What is said where there is no descriptor or no memory for one more who asks.
 const NO_ROOM: &[u8] = b"uecp: too many files are open: who comes now waits\n";
-
-/// What a run begins with.
-#[derive(Drop)]
-pub(crate) struct Start {
-    /// Where is listened for those who ask.
-    pub(crate) place: SocketAddr,
-    /// How long ago 1970 began; None where the machine has no clock.
-    pub(crate) since: Option<Duration>,
-}
 
 /// How far a turn came with the input.
 #[derive(Clone, Copy, Debug, PartialEq, Eq)]
@@ -78,12 +69,12 @@ impl<C: Connection> Serving<C> {
             serving.intake) }
         ensures serving { IfOk result (IsServing C.talk) }
     {
-        let Ok(intake) = Intake::new(alloc, first_number(start.since)) else {
+        let Ok(intake) = Intake::new(alloc, first_number(start.since())) else {
             return Err(Stop::OutOfMemory);
         };
         Ok(Serving {
             alloc,
-            guests: Guests::new(alloc, own_only(&start.place)),
+            guests: Guests::new(alloc, own_only(&start.place())),
             intake,
             heard: None,
             ticked: 0,
@@ -163,7 +154,7 @@ impl<C: Connection> Serving<C> {
     /// Something came on the connection of this number, or it may be written to: it is heard, and sent what waits.
     fn hear<S: Sockets<Connection = C>>(&mut self, number: usize, sockets: &mut S)
         requires { IsServing C.talk self.old }
-        ensures hears { IsHeard C.talk C.numbered C.reads number self.old self.new }
+        ensures hears { IsHeard C.talk C.origin C.numbered C.reads number self.old self.new }
         ensures same { self.new.intake ≡ self.old.intake }
         ensures serving { IsServing C.talk self.new }
     {
@@ -209,7 +200,7 @@ impl<C: Connection> Serving<C> {
     fn welcome<S: Sockets<Connection = C>>(&mut self, connection: C, sockets: &mut S)
         requires serving { IsServing C.talk self.old }
         requires unsaid { IsUnsaid (C.talk connection) }
-        ensures welcomes { Welcomes C.talk C.numbered C.reads connection self.old self.new }
+        ensures welcomes { Welcomes C.talk C.origin C.numbered C.reads connection self.old self.new }
         ensures same { self.new.intake ≡ self.old.intake }
         ensures serving { IsServing C.talk self.new }
     {
@@ -404,7 +395,10 @@ impl<C: Connection> Serving<C> {
 }
 
 /// Says that the line of this number is no object of ours.
-fn say_other<E: Write>(number: u64, errors: &mut NoticesTo<E>) {
+#[tactic(auto, unfolding(crate::specs::Serving::other_line))]
+fn say_other<E: Write>(number: u64, errors: &mut NoticesTo<E>)
+    ensures { Says errors.old errors.new (other_line number) }
+{
     let mut buffer = Buffer::new();
     let digits = buffer.format(number).as_bytes();
     errors.say(&[b"uecp: line ", digits, b": no object of uecp\n"]);

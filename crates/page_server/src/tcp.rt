@@ -4,13 +4,15 @@ ghost use Rattle.page_server.specs.Guesting.{PassesNone};
 
 use crate::door::{Door, INPUT, LISTENER};
 use crate::input::Input;
+use device_edges::lacks_room;
 use line_feed::Arrival;
 use mio::Token;
 use notices::{Notices, NoticesTo};
 use page::{Accepted, Connection, Passed, Sockets};
+use seats::origin_of;
 use std::alloc::Global;
 use std::io::{Error, ErrorKind, Read, Write};
-use std::net::{Net, Shutdown, TcpListener, TcpStream};
+use std::net::{Net, Shutdown, SocketAddr, TcpListener, TcpStream};
 use std::os::fd::{AsRawFd, RawFd};
 use std::time::{Clock, Instant};
 
@@ -20,15 +22,13 @@ const TIME_MAX: u64 = (1 << 58) - 1;
 /// For how many milliseconds nobody is accepted where the system has nothing for one more.
 const PAUSE: u64 = 1000;
 
-/// The system's codes of that: no memory, too many open files of all or of this process, no buffer (Linux: ENOMEM,
-/// ENFILE, EMFILE, ENOBUFS).
-const OUT_OF_ROOM: [i32; 4] = [12, 23, 24, 105];
-
-/// The connection of a browser, whose calls don't wait. Its number is that of its descriptor.
+/// The connection of a browser, whose calls don't wait. Its number is that of its descriptor, its origin that of the
+/// address that was told as it was accepted.
 #[derive(Drop)]
 pub(crate) struct Browser {
     stream: TcpStream,
     number: usize,
+    origin: u128,
 }
 
 /// Who listens, what is waited for, and the clock of the machine.
@@ -92,10 +92,7 @@ impl<'a, N: Net<Listener = TcpListener, Stream = TcpStream> + Clock> TcpSockets<
             return false;
         }
         self.paused = Some(self.now().saturating_add(PAUSE));
-        match error.raw_os_error() {
-            Some(code) => OUT_OF_ROOM.contains(&code),
-            None => false,
-        }
+        lacks_room(error)
     }
 
     /// Whether nothing is to be told now of who asks.
@@ -106,13 +103,17 @@ impl<'a, N: Net<Listener = TcpListener, Stream = TcpStream> + Clock> TcpSockets<
         }
     }
 
-    /// The connection over this stream, of which is told from now on. None where it can't be.
-    fn browser(&self, stream: TcpStream) -> Option<Browser> {
+    /// The connection over this stream, from this address, of which is told from now on. None where it can't be.
+    fn browser(&self, stream: TcpStream, peer: &SocketAddr) -> Option<Browser> {
         let _ = stream.set_nodelay(true);
         stream.set_nonblocking(true).ok()?;
         let number = usize::try_from(stream.as_raw_fd()).ok()?;
         if self.door.watch(stream.as_raw_fd(), Token(number)) {
-            Some(Browser { stream, number })
+            Some(Browser {
+                stream,
+                number,
+                origin: origin_of(peer.ip()),
+            })
         } else {
             None
         }
@@ -154,7 +155,7 @@ impl<'a, N: Net<Listener = TcpListener, Stream = TcpStream> + Clock> Sockets for
     fn accept(&mut self) -> Accepted<Browser> {
         self.was_asked = true;
         match self.listener.accept() {
-            Ok((stream, _)) => match self.browser(stream) {
+            Ok((stream, peer)) => match self.browser(stream, &peer) {
                 Some(browser) => Accepted::One(browser),
                 None => Accepted::Nobody,
             },
@@ -190,8 +191,14 @@ impl Connection for Browser {
 
     ghost numbered = { λ b. b.number };
 
+    ghost origin = { λ b. b.origin };
+
     fn number(&self) -> usize {
         self.number
+    }
+
+    fn origin(&self) -> u128 {
+        self.origin
     }
 
     fn read(&mut self, buffer: &mut [u8]) -> Passed {

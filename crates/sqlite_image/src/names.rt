@@ -16,6 +16,10 @@ pub trait Names {
     /// asked last.
     fn lead(&mut self) -> bool
         ensures { IsTrue result → lead self.old self.new };
+
+    /// Whether `lead` would say so now; what it sees is not kept for the next time.
+    fn would_lead(&self) -> bool
+        ensures { IsTrue result → ((after : Self) × lead self.now after) };
 }
 
 /// What a name shows of the file to which it leads.
@@ -67,6 +71,13 @@ impl<'a> MachineNames<'a> {
             log,
         })
     }
+
+    /// What the names show now, of the file and of the log, if each leads to a file.
+    fn seen(&self) -> Option<(Sight, Sight)> {
+        let file = seen_at(self.rt, self.file_path.as_str())?;
+        let log = seen_at(self.rt, self.log_path.as_str())?;
+        Some((file, log))
+    }
 }
 
 /// The path of the log: it lies beside the file to which a link leads.
@@ -92,15 +103,19 @@ impl<'a> Names for MachineNames<'a> {
     ghost lead = { λ before after. GoesOn before.file after.file × GoesOn before.log after.log };
 
     fn lead(&mut self) -> bool {
-        let Some(file) = seen_at(self.rt, self.file_path.as_str()) else {
-            return false;
-        };
-        let Some(log) = seen_at(self.rt, self.log_path.as_str()) else {
+        let Some((file, log)) = self.seen() else {
             return false;
         };
         let lead = goes_on(self.file, file) && goes_on(self.log, log);
         self.file = file;
         self.log = log;
         lead
+    }
+
+    fn would_lead(&self) -> bool {
+        match self.seen() {
+            Some((file, log)) => goes_on(self.file, file) && goes_on(self.log, log),
+            None => false,
+        }
     }
 }

@@ -62,7 +62,7 @@ impl<D: Disk, N: Names> Keep<SavedEncoder<RdsStore>> for StoredEncoder<D, N> {
         × (is_some n.fault ≡ true) };
 
     fn save(&mut self, encoder: &Encoder<RdsStore>, _progress: ()) -> Result<(), SaveFailed> {
-        if self.fault.is_some() {
+        if !is_there(&self.names, &mut self.fault) {
             return Err(SaveFailed);
         }
         match self.file.save(encoder, ()) {
@@ -104,7 +104,7 @@ impl<D: Disk, N: Names> Keep<SavedServer> for StoredServer<D, N> {
         ⊎ ⟦<ServerFile<FileStore<D>> as Keep<SavedServer>>⟧.saves m.file v n.file) × (is_some n.fault ≡ true) };
 
     fn save(&mut self, server: &Server, progress: Progress) -> Result<(), SaveFailed> {
-        if self.fault.is_some() {
+        if !is_there(&self.names, &mut self.fault) {
             return Err(SaveFailed);
         }
         match self.file.save(server, progress) {
@@ -123,6 +123,21 @@ impl<D: Disk, N: Names> Keep<SavedServer> for StoredServer<D, N> {
     }
 }
 
+/// Whether a save can be made: none has failed, and the names lead to the file, which was not cut since the last one.
+/// That they don't is noted.
+fn is_there<N: Names>(names: &N, fault: &mut Option<StateFault>) -> bool
+    ensures there { IsTrue result → (fault.old ≡ None) × ((after : N) × N.Names.lead names.now after) }
+    ensures noted { result ≡ false → is_some fault.new ≡ true }
+{
+    if fault.is_some() {
+        return false;
+    }
+    if names.would_lead() {
+        return true;
+    }
+    note_loss(fault)
+}
+
 /// Whether the names lead to the file, now. That they don't is noted.
 fn lead_there<N: Names>(names: &mut N, fault: &mut Option<StateFault>) -> bool
     ensures lead { IsTrue result → N.Names.lead names.old names.new }
@@ -131,6 +146,14 @@ fn lead_there<N: Names>(names: &mut N, fault: &mut Option<StateFault>) -> bool
     if names.lead() {
         return true;
     }
+    note_loss(fault)
+}
+
+/// Notes that the names don't lead to the file, and says no.
+fn note_loss(fault: &mut Option<StateFault>) -> bool
+    ensures no { result ≡ false }
+    ensures noted { is_some fault.new ≡ true }
+{
     *fault = Some(StateFault::Replaced);
     false
 }

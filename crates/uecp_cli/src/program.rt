@@ -20,6 +20,7 @@ ghost use Rattle.uecp_cli.specs.Program.{ListensFor};
 ghost use Rattle.uecp_cli.specs.Program.{DialsFor, HasCome};
 ghost use Rattle.uecp_cli.specs.Kept.{HasServedLines, SaysWhyOf, ServesKeptAs, SendsDone, SendsRefused, SendsStopped};
 ghost use Rattle.uecp_cli.specs.Kept.{SendsKeptAs, SendsNotAll};
+ghost use Rattle.uecp_cli.specs.Apart.{is_on_air};
 ghost use Rattle.uecp_cli.specs.Apart.{ComesOf, ComesOfDevice, ComesOfLines, ComesOfSend, AnswersOnAir};
 ghost use Rattle.uecp_cli.specs.Apart.{DrawsLadder, ReceivesLines};
 
@@ -31,7 +32,7 @@ use commands::{
 };
 use conformance_command::{run_conformance_over_tcp, say_unreached};
 use device_edges::{Idle, Patience, Screened, Screening};
-use device_jobs::{run_device_over_tcp, run_encoder_in};
+use device_jobs::{Beside, run_device_over_tcp, run_encoder_in};
 use ladders::{LadderJob, run_ladder};
 use line_feed::{Arrival, LineFeed};
 use live_edges::{Polled, Watch};
@@ -59,7 +60,7 @@ pub struct Hands<'a, M: Write, F: Write> {
     pub input: RawFd,
     /// Where it is said that a connection is lost while nothing is sent, or was another protocol's.
     pub losses: &'a mut M,
-    /// Where it is said what is waited for.
+    /// Where it is said what is waited for, and that there is no room for who connects.
     pub notices: &'a mut M,
     /// Where it is told what a bad line does.
     pub effects: &'a mut F,
@@ -228,6 +229,7 @@ fn run_asked<
             run_conformance_over_tcp(alloc, options, writer, errors, net)
         }
         Job::Page(options) => {
+            hands.patience.limit(LOG_WAIT, false);
             run_page_over_tcp(alloc, options, reader, hands.input, errors, net)
         }
         Job::Answer { .. }
@@ -382,9 +384,47 @@ fn be_device<
     if options.air.is_some() || options.air_bits {
         return run_on_air_over_tcp(alloc, options, writer, errors, notices, losses, net, states);
     }
-    run_device_over_tcp(
-        alloc, options, writer, errors, effects, notices, net, states,
+    let machine = (net, states);
+    be_good_device(
+        alloc, options, writer, errors, effects, losses, notices, machine,
     )
+}
+
+/// Is the device that is asked for, which is not on the air, and answers the exit status, as `run_device_over_tcp`
+/// says.
+fn be_good_device<
+    W: Write,
+    E: Write,
+    M: Write,
+    F: Write,
+    N: Net<Listener = TcpListener, Stream = TcpStream> + Clock + Files,
+    S: OpenStates,
+>(
+    alloc: Global,
+    options: &EncoderOptions,
+    writer: &mut W,
+    errors: &mut NoticesTo<E>,
+    effects: &mut F,
+    foreign: &mut M,
+    notices: &mut M,
+    machine: (&N, &S),
+) -> u8
+    requires { is_on_air options.now ≡ false }
+    ensures { ComesOfDevice ⟦<TcpStream as Read>⟧.remaining ⟦<Screened<Idle<TcpStream>> as Read>⟧.remaining
+        ⟦<TcpStream as Write>⟧.contents (S.gives_encoder machine.entry.1.now) (S.refuses_encoder machine.entry.1.now)
+        (S.closes_encoder machine.entry.1.now) S.EncoderKeeper.TOGETHER_MAX S.EncoderKeeper.READ_MAX
+        S.EncoderKeeper.leaves
+        S.EncoderKeeper.is_clean S.EncoderKeeper.saves S.EncoderKeeper.fails options.now (W.contents writer.old)
+        (W.contents writer.new)
+        errors.old errors.new result }
+{
+    let beside = Beside {
+        effects: &mut *effects,
+        foreign: &mut *foreign,
+        notices: &mut *notices,
+    };
+    let (net, states) = machine;
+    run_device_over_tcp(alloc, options, writer, errors, beside, net, states)
 }
 
 /// Whether what is told is told in objects.

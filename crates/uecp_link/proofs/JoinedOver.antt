@@ -1,10 +1,10 @@
 -- A pass over one line: what of it has come is so many of its frames and a beginning of the next, and what of the
 -- replies was read is so many of them and a beginning of the next.
-use Rattle.std.proofs.Common.{◌≡◌, ℕ, zero, suc, ◌+◌, ◌-◌, ◌<◌, ◌≤◌, Bool, true, false, List, [], ◌∷◌, ◌++◌, map}
+use Rattle.std.proofs.Common.{◌≡◌, ℕ, zero, suc, ◌+◌, ◌-◌, ◌<◌, ◌≤◌, ◌==◌, Bool, true, false, List, [], ◌∷◌, ◌++◌, map}
 use Rattle.std.proofs.Common.{Contains, Ok, refl, ◌∙◌, ap, sym, subst, arith, inl, inr, ◌⊎◌, append_assoc, append-nil}
 use Rattle.std.specs.Prelude.{filter_map, flat_map, nat_lt}
 use Rattle.std.specs.List.{concat}
-use Rattle.std.proofs.lemmas.Bool.{ltb-false}
+use Rattle.std.proofs.lemmas.Bool.{eqb-true, ltb-false}
 use Rattle.std.proofs.lemmas.List.{map-append}
 use Rattle.std.proofs.lemmas.List.Elements.{Contains-append_cases, Contains-append_right}
 use Rattle.uecp_elements.specs.declared.code.Code.{Code}
@@ -16,17 +16,20 @@ use Rattle.uecp_encoder.specs.Target.{Step}
 use Rattle.uecp_encoder.specs.State.{EncoderState, opening, next_after, after_findings, fed}
 use Rattle.uecp_encoder.specs.Answering.{responses, bytes_sent}
 use Rattle.uecp_encoder.specs.Laws.{Happening, Finds, after_happenings}
-use Rattle.uecp_encoder.specs.Joining.{counters_replied, falling, rising, HasJoined}
+use Rattle.uecp_encoder.specs.Joining.{messages_to, IsPass, counters_replied, falling, rising, HasJoined}
 use Rattle.uecp_encoder.proofs.Public.{joins_lem, findings_open, fed-part}
 use Rattle.uecp_link.specs.Frames.{frame_under}
-use Rattle.uecp_link.specs.Joining.{counters_behind, reply_counter, reply_counters, IsJoinedBy, BringsBoth}
+use Rattle.uecp_link.specs.Joining.{twice, counters_behind, reply_counter, reply_counters, IsJoinedBy, BringsBoth}
 use Rattle.uecp_link.specs.Joining.{JoinsOverALine}
 use Rattle.uecp_link.proofs.Beginnings.{spelled, found_as, Begins, second_empty, begins}
 use Rattle.uecp_link.proofs.Replying.{Rises, no_more, not_there, reply_as, firsts, taken, Replies, replies, after_taken}
 use Rattle.uecp_link.proofs.Replying.{without_taken, address_is, Low, LastHigh, low_not, last_no_more, low_before}
-use Rattle.uecp_link.proofs.Replying.{among_low, among_last, after_more, replied_more, empties_keep}
-use Rattle.uecp_link.proofs.Passing.{whole_behind, part_behind}
-use Rattle.uecp_link.proofs.PassComes.{empties, sent_is, ends_pass, empties_small, Passing, passing, replies_small}
+use Rattle.uecp_link.proofs.Replying.{Among, among_low, among_last, Within, among_within, after_more, replied_more}
+use Rattle.uecp_link.proofs.Replying.{empties_keep}
+use Rattle.uecp_link.proofs.Passing.{later_behind, last_early, last_late}
+use Rattle.uecp_link.proofs.PassComes.{empties, sent_is, Climbs, climbs_pass, ends_pass, empties_small, Passing}
+use Rattle.uecp_link.proofs.PassComes.{passing}
+use Rattle.uecp_link.proofs.PassComes.{replies_small}
 use Rattle.uecp_link.proofs.PassComes.{counters_of}
 use Rattle.uecp_link.proofs.PassComes.{IsCut, cut_map, none_of, is_none}
 
@@ -89,32 +92,75 @@ later_has xs ys c not has = elim (Contains-append_cases xs ys c has) [
   | inr late ↦ late
 ]
 
-not_among : (least most : ℕ) (xs : List ℕ) (c : ℕ) → Rises least most xs → (c < least) ⊎ (most < c) → Contains xs c → ⊥
-not_among least most [] c r out (k, lt, is) = omega arith
-not_among least most (x ∷ xs) c r out (zero, lt, is) = go out
+not_among : (least most : ℕ) (xs : List ℕ) (c : ℕ) → Within least most xs → (c < least) ⊎ (most < c) → Contains xs c
+    → ⊥
+not_among least most [] c w out (k, lt, is) = omega arith
+not_among least most (x ∷ xs) c w out (zero, lt, is) = go out
   where
     go : (c < least) ⊎ (most < c) → ⊥
-    go (inl below) = let a = r.0 in let same : x ≡ c = is in omega arith
-    go (inr above) = let a = r.1 in let same : x ≡ c = is in omega arith
-not_among least most (x ∷ xs) c r out (suc k, lt, is) = not_among (x + 1) most xs c r.2 (wider out) (k, omega arith, is)
-  where
-    wider : (c < least) ⊎ (most < c) → (c < x + 1) ⊎ (most < c)
-    wider (inl below) = let a = r.0 in inl (omega arith)
-    wider (inr above) = inr above
-
-rises_rising : (first many most : ℕ) → first + many ≡ most + 1 → Rises first most (rising first many)
-rises_rising first zero most whole = tt
-rises_rising first (suc many) most whole = (omega arith, omega arith, rises_rising (first + 1) many most (omega arith))
+    go (inl below) = let a = w.0 in let same : x ≡ c = is in omega arith
+    go (inr above) = let a = w.1 in let same : x ≡ c = is in omega arith
+not_among least most (x ∷ xs) c w out (suc k, lt, is) = not_among least most xs c w.2 out (k, omega arith, is)
 
 counters_are : (address : ℕ) (cs : List ℕ) → map (λ f. f.counter) (empties address cs) ≡ cs
 counters_are address [] = refl
 counters_are address (c ∷ cs) = ap (λ l. c ∷ l) (counters_are address cs)
 
-last_rising : (first many : ℕ) → first + many ≡ 255 → LastHigh (rising first many ++ 0x81 ∷ 0xFF ∷ [])
-last_rising first zero whole = inl (omega arith, inr refl)
-last_rising first (suc many) whole = inl (omega arith, last_rising (first + 1) many (omega arith))
+no_frames : (fs : List Frame) → map (λ f. f.counter) fs ≡ [] → fs ≡ []
+no_frames [] h = refl
+no_frames (f ∷ fs) h = absurd (cc)
 
--- behind a counter below 81: the counters rise up to FF
+-- ---- counters up to FE, each twice
+
+within_twice : (least first many : ℕ) → least ≤ first → first + many ≤ 255
+    → Within least 254 (twice (rising first many))
+within_twice least first zero low most = tt
+within_twice least first (suc many) low most = (
+  low,
+  omega arith,
+  (
+    low,
+    omega arith,
+    within_twice least (first + 1) many (omega arith) (omega arith),
+  ),
+)
+
+last_twice : (first many : ℕ) (ys : List ℕ) → first + many ≤ 255 → LastHigh ys
+    → LastHigh (twice (rising first many) ++ ys)
+last_twice first zero ys most last = last
+last_twice first (suc many) ys most last =
+    inl (omega arith, inl (omega arith, last_twice (first + 1) many ys (omega arith) last))
+
+climbs_twice : (least first many : ℕ) → least ≤ first → first + many ≤ 255
+    → Climbs least (twice (rising first many) ++ 0xFF ∷ [])
+climbs_twice least first zero low most = (omega arith, tt)
+climbs_twice least first (suc many) low most =
+    (low, (omega arith, climbs_twice first (first + 1) many (omega arith) (omega arith)))
+
+-- where of the counters the last alone is FF, and that got a reply: all have come, and no reply is left
+ends_with_last : (address : ℕ) (cs : List ℕ) (come to_come : List Frame) (made first later : List ℕ) → LastHigh cs
+    → empties address cs ≡ come ++ to_come → Among made (map (λ f. f.counter) come) → made ≡ first ++ 0xFF ∷ later
+    → (to_come ≡ []) × (later ≡ [])
+ends_with_last address cs come to_come made first later last all among at =
+    let counted : cs ≡ map (λ f. f.counter) come ++ map (λ f. f.counter) to_come =
+    sym (counters_are address cs) ∙ ap (map (λ f. f.counter)) all
+    ∙ map-append (λ (f : Frame). f.counter) come to_come in
+    let all_come : to_come ≡ [] = is_none to_come (λ more.
+    low_not first later (subst Low at (among_low made (map (λ f. f.counter) come) among
+    (low_before (map (λ f. f.counter) come) (map (λ f. f.counter) to_come) cs counted
+    (λ none. more (no_frames to_come none)) last)))) in
+    let here : map (λ f. f.counter) come ≡ cs =
+    ap (map (λ f. f.counter)) (sym (all ∙ ap (λ fs. come ++ fs) all_come ∙ append-nil come))
+    ∙ counters_are address cs in (
+      all_come,
+      last_no_more first later
+          (subst LastHigh at (among_last made (map (λ f. f.counter) come) among (subst LastHigh (sym here) last))),
+    )
+
+come_whole : (come to_come all : List Frame) → all ≡ come ++ to_come → to_come ≡ [] → come ≡ all
+come_whole come to_come all is none = sym (is ∙ ap (λ fs. come ++ fs) none ∙ append-nil come)
+
+-- a whole pass: the counters rise up to FF
 over_whole : {V : Type 0} (step : Step V) → ((v : V) → (step v []).0 ≡ v)
     → (address behind : ℕ) (value : V) (before : List (Happening V)) →
     let e : EncoderState V = after_happenings step (opening address value) before in
@@ -140,41 +186,64 @@ over_whole {V} step same address behind value before come to_come r first later 
       next = j.next;
     }
 
--- behind one of 81 .. FE: those up to FE, and then 81 and FF
-over_part : {V : Type 0} (step : Step V) → ((v : V) → (step v []).0 ≡ v)
+-- behind a counter from 01 on and below 81: those up to FE twice, and then FF
+over_early : {V : Type 0} (step : Step V) → ((v : V) → (step v []).0 ≡ v)
+    → (address behind : ℕ) (value : V) (before : List (Happening V)) →
+    let e : EncoderState V = after_happenings step (opening address value) before in
+    (come to_come : List Frame) (r : Replies step e come) (first later : List ℕ)
+    → behind ≤ 254 → empties address (twice (rising (behind + 1) (254 - behind)) ++ 0xFF ∷ []) ≡ come ++ to_come
+    → Contains (firsts r.made) 0x81 → Contains (firsts r.made) 0xFF → firsts r.made ≡ first ++ 0xFF ∷ later
+    → Over step e r.made come to_come later
+over_early {V} step same address behind value before come to_come r first later most all low high at =
+    let e : EncoderState V = after_happenings step (opening address value) before in
+    let cs : List ℕ = twice (rising (behind + 1) (254 - behind)) ++ 0xFF ∷ [] in
+    let (all_come, no_later) = ends_with_last address cs come to_come (firsts r.made) first later
+    (last_twice (behind + 1) (254 - behind) (0xFF ∷ []) (omega arith) (inr refl)) all r.among at in
+    let come_is : come ≡ empties address cs = come_whole come to_come (empties address cs) all all_come in
+    let j : HasJoined step e (taken come) =
+    joins_lem step same address value before (taken come)
+    (subst (λ fs. IsPass 1 (messages_to address (taken {V = V} fs))) (sym come_is)
+    (climbs_pass V address 1 cs (omega arith)
+    (climbs_twice 1 (behind + 1) (254 - behind) (omega arith) (omega arith))))
+    (subst (λ cs. Contains cs 0x81) (sym r.counters) low)
+    (subst (λ cs. Contains cs 0xFF) (sym r.counters) high) in
+    record {
+      all_come = all_come;
+      no_later = no_later;
+      value = j.value ∙ without_taken step e.value come;
+      kept = j.kept;
+      next = j.next;
+    }
+
+-- behind one of 81 .. FE: those up to FE twice, and then 81 and FF
+over_late : {V : Type 0} (step : Step V) → ((v : V) → (step v []).0 ≡ v)
     → (address behind : ℕ) (value : V) (before : List (Happening V)) →
     let e : EncoderState V = after_happenings step (opening address value) before in
     (come to_come : List Frame) (r : Replies step e come) (first later : List ℕ)
     → 0x81 ≤ behind → behind ≤ 254
-    → empties address (rising (behind + 1) (254 - behind) ++ 0x81 ∷ 0xFF ∷ []) ≡ come ++ to_come
+    → empties address (twice (rising (behind + 1) (254 - behind)) ++ 0x81 ∷ 0xFF ∷ []) ≡ come ++ to_come
     → Contains (firsts r.made) 0x81 → Contains (firsts r.made) 0xFF → firsts r.made ≡ first ++ 0xFF ∷ later
     → Over step e r.made come to_come later
-over_part {V} step same address behind value before come to_come r first later least most all low high at =
+over_late {V} step same address behind value before come to_come r first later least most all low high at =
     let e : EncoderState V = after_happenings step (opening address value) before in
-    let cs : List ℕ = rising (behind + 1) (254 - behind) in
-    let last : LastHigh (cs ++ 0x81 ∷ 0xFF ∷ []) = last_rising (behind + 1) (254 - behind) (omega arith) in
-    let counted : cs ++ 0x81 ∷ 0xFF ∷ [] ≡ map (λ f. f.counter) come ++ map (λ f. f.counter) to_come =
-    sym (counters_are address (cs ++ 0x81 ∷ 0xFF ∷ [])) ∙ ap (map (λ f. f.counter)) all
-    ∙ map-append (λ (f : Frame). f.counter) come to_come in
-    let all_come : to_come ≡ [] = is_none to_come (λ more.
-    low_not first later (subst Low at (among_low (firsts r.made) (map (λ f. f.counter) come) r.among
-    (low_before (map (λ f. f.counter) come) (map (λ f. f.counter) to_come) (cs ++ 0x81 ∷ 0xFF ∷ []) counted
-    (λ none. more (no_frames to_come none)) last)))) in
-    let come_is : come ≡ empties address cs ++ empties address (0x81 ∷ 0xFF ∷ []) =
-    sym (all ∙ ap (λ fs. come ++ fs) all_come ∙ append-nil come)
-    ∙ map-append (λ counter. frame_under address (counter, [])) cs (0x81 ∷ 0xFF ∷ []) in
-    let here : map (λ f. f.counter) come ≡ cs ++ 0x81 ∷ 0xFF ∷ [] =
-    ap (map (λ f. f.counter)) (sym (all ∙ ap (λ fs. come ++ fs) all_come ∙ append-nil come))
-    ∙ counters_are address (cs ++ 0x81 ∷ 0xFF ∷ []) in
+    let cs : List ℕ = twice (rising (behind + 1) (254 - behind)) in
+    let ends : List ℕ = 0x81 ∷ 0xFF ∷ [] in
+    let (all_come, no_later) = ends_with_last address (cs ++ ends) come to_come (firsts r.made) first later
+    (last_twice (behind + 1) (254 - behind) ends (omega arith) (inl (omega arith, inr refl)))
+    all r.among at in
+    let come_is : come ≡ empties address cs ++ empties address ends =
+    come_whole come to_come (empties address (cs ++ ends)) all all_come
+    ∙ map-append (λ counter. frame_under address (counter, [])) cs ends in
     let mid : List (Happening V) = taken (empties address cs) in
-    let end : List (Happening V) = taken (empties address (0x81 ∷ 0xFF ∷ [])) in
+    let end : List (Happening V) = taken (empties address ends) in
     let parts : taken {V = V} come ≡ mid ++ end = ap (λ fs. taken {V = V} fs) come_is
-    ∙ map-append (λ f. Finds (Ok f)) (empties address cs) (empties address (0x81 ∷ 0xFF ∷ [])) in
+    ∙ map-append (λ f. Finds (Ok f)) (empties address cs) (empties address ends) in
     let e2 : EncoderState V = after_happenings step e mid in
     let q : Replies step e (empties address cs) = replies step e (empties address cs) in
-    let few : Rises (behind + 1) 254 (firsts q.made) = q.rise (behind + 1) 254
-    (subst (Rises (behind + 1) 254) (sym (counters_are address cs))
-    (rises_rising (behind + 1) (254 - behind) 254 (omega arith))) in
+    let few : Within (behind + 1) 254 (firsts q.made) =
+    among_within (behind + 1) 254 (firsts q.made) (map (λ f. f.counter) (empties address cs)) q.among
+    (subst (Within (behind + 1) 254) (sym (counters_are address cs))
+    (within_twice (behind + 1) (behind + 1) (254 - behind) (omega arith) (omega arith))) in
     let has : (c : ℕ) → (c < behind + 1) ⊎ (254 < c) → Contains (firsts r.made) c
     → Contains (counters_replied step e2 end) c =
     λ (c : ℕ) out there. later_has (counters_replied step e mid) (counters_replied step e2 end) c
@@ -193,17 +262,12 @@ over_part {V} step same address behind value before come to_come r first later l
     ap (after_happenings step e) parts ∙ after_more step e mid end in
     record {
       all_come = all_come;
-      no_later = last_no_more first later (subst LastHigh at (among_last (firsts r.made) (map (λ f. f.counter) come)
-          r.among (subst LastHigh (sym here) last)));
+      no_later = no_later;
       value = ap (λ (d : EncoderState V). d.value) after ∙ j.value
-          ∙ without_taken step e2.value (empties address (0x81 ∷ 0xFF ∷ [])) ∙ empties_keep step same address e cs;
+          ∙ without_taken step e2.value (empties address ends) ∙ empties_keep step same address e cs;
       kept = ap (λ (d : EncoderState V). map (λ pair. pair.0) d.ring) after ∙ j.kept;
       next = ap (λ (d : EncoderState V). next_after (newest d.ring)) after ∙ j.next;
     }
-  where
-    no_frames : (fs : List Frame) → map (λ f. f.counter) fs ≡ [] → fs ≡ []
-    no_frames [] h = refl
-    no_frames (f ∷ fs) h = absurd (cc)
 
 over_any : {V : Type 0} (step : Step V) → ((v : V) → (step v []).0 ≡ v)
     → (address behind : ℕ) (value : V) (before : List (Happening V)) →
@@ -213,14 +277,19 @@ over_any : {V : Type 0} (step : Step V) → ((v : V) → (step v []).0 ≡ v)
     → Contains (firsts r.made) 0x81 → Contains (firsts r.made) 0xFF → firsts r.made ≡ first ++ 0xFF ∷ later
     → Over step e r.made come to_come later
 over_any {V} step same address behind value before come to_come r first later most all low high at =
-    go (nat_lt behind 0x81) refl
+    go (behind == 0) (nat_lt behind 0x81) refl refl
   where
-    go : (early : Bool) → nat_lt behind 0x81 ≡ early
+    go : (is_whole early : Bool) → (behind == 0) ≡ is_whole → nat_lt behind 0x81 ≡ early
         → Over step (after_happenings step (opening address value) before) r.made come to_come later
-    go true early = over_whole step same address behind value before come to_come r first later most
-        (ap (empties address) (sym (whole_behind behind early)) ∙ all) low high at
-    go false late = over_part step same address behind value before come to_come r first later
-        (ltb-false behind 0x81 late) most (ap (empties address) (sym (part_behind behind late)) ∙ all) low high at
+    go true early none is_early = over_whole step same address 0 value before come to_come r first later (omega arith)
+        (ap (λ n. empties address (counters_behind n)) (sym (eqb-true behind 0 none)) ∙ all) low high at
+    go false true some early = over_early step same address behind value before come to_come r first later most
+        (ap (empties address) (sym (later_behind behind some
+        ∙ ap (λ ys. twice (rising (behind + 1) (254 - behind)) ++ ys) (last_early behind early))) ∙ all) low high at
+    go false false some late = over_late step same address behind value before come to_come r first later
+        (ltb-false behind 0x81 late) most
+        (ap (empties address) (sym (later_behind behind some
+        ∙ ap (λ ys. twice (rising (behind + 1) (254 - behind)) ++ ys) (last_late behind late))) ∙ all) low high at
 
 pub joins_over_a_line_lem : {V : Type 0} (step : Step V) → JoinsOverALine step
 joins_over_a_line_lem {V} step same address behind value before got coming read unread closed most whole answered

@@ -38,10 +38,23 @@ empties_small address (c ∷ cs) = (omega arith, empties_small address cs)
 pub is_message : (address counter : ℕ) → 1 ≤ counter → is_message_to address (frame_under address (counter, [])) ≡ true
 is_message address counter some = rw (reaches_self address, ne_eqb counter 0 (λ e. omega arith)) refl
 
+-- counters of which none is lower than the one before
+abbrev pub Climbs : (least : ℕ) → List ℕ → Type 0
+Climbs least [] = Unit {0}
+Climbs least (c ∷ cs) = (least ≤ c) × Climbs c cs
+
+pub climbs_pass : (V : Type 0) (address least : ℕ) (cs : List ℕ) → 1 ≤ least → Climbs least cs
+    → IsPass least (messages_to address (taken {V = V} (empties address cs)))
+climbs_pass V address least [] some climbs = tt
+climbs_pass V address least (c ∷ cs) some climbs =
+    let low = climbs.0 in
+    let one : 1 ≤ c = omega (arith, some, low) in
+    rw (is_message address c one) (refl, low, climbs_pass V address c cs one climbs.1)
+
 -- the two last frames of a part are a pass by themselves
 pub ends_pass : (V : Type 0) (address : ℕ)
     → IsPass 1 (messages_to address (taken {V = V} (empties address (0x81 ∷ 0xFF ∷ []))))
-ends_pass V address = rw (is_message address 0x81 (omega arith)) (refl, omega arith, (refl, omega arith, tt))
+ends_pass V address = climbs_pass V address 1 (0x81 ∷ 0xFF ∷ []) (omega arith) (omega arith, (omega arith, tt))
 
 -- What a beginning of a pass is.
 pub record Passing (V : Type 0) (address first least : ℕ) (come to_come : List Frame) : Type 0 where

@@ -1,9 +1,11 @@
 -- A pass: its frames, and the reads that end with both replies.
-use Rattle.std.proofs.Common.{◌≡◌, ◌≢◌, ℕ, zero, suc, ◌+◌, ◌-◌, ◌<◌, ◌≤◌, true, false, List, [], ◌∷◌, ◌++◌, length, map}
+use Rattle.std.proofs.Common.{◌≡◌, ◌≢◌, ℕ, zero, suc, ◌+◌, ◌-◌, ◌*◌, ◌/◌, ◌<◌, ◌≤◌, ◌==◌, true, false, List, [], ◌∷◌}
+use Rattle.std.proofs.Common.{◌++◌, length, map, Bool}
 use Rattle.std.proofs.Common.{take}
 use Rattle.std.proofs.Common.{drop, Option, Some, None, Result, Ok, Err, refl, ◌∙◌, ap, sym, subst, arith}
 use Rattle.std.proofs.Common.{length-append, append-nil, take-append-drop}
 use Rattle.std.specs.Prelude.{slice_get, nat_lt}
+use Rattle.std.proofs.lemmas.Bool.{eqb-true}
 use Rattle.std.proofs.lemmas.List.{take-append-le, take_all}
 use Rattle.std.specs.Io.KnownBytes.{Appends}
 use Rattle.uecp_frame.specs.Frame.{spelling}
@@ -22,7 +24,8 @@ use Rattle.uecp_link.specs.declared.joining.Seen.TheVariants.{Neither, Both}
 use Rattle.uecp_link.specs.Frames.{frame_under}
 use Rattle.uecp_link.specs.Server.{ServerState, waiting_among, freed, heard_finding, heard_findings, heard}
 use Rattle.uecp_link.specs.Reading.{Reads, is_closed, write_failures}
-use Rattle.uecp_link.specs.Joining.{counters_behind, frames_behind, sent_behind, reply_counters, IsJoinedBy, BringsBoth}
+use Rattle.uecp_link.specs.Joining.{twice, last_behind, counters_behind, frames_behind, reply_counters}
+use Rattle.uecp_link.specs.Joining.{IsJoinedBy, BringsBoth}
 use Rattle.uecp_link.specs.Joining.{goes_on_behind, highest_of, anew, IsStillNew, RepliesEnd, PassEnds, MakesPass}
 use Rattle.uecp_link.specs.Joining.{replies_after, no_replies, ReadsReplies, ReadSoFar}
 use Rattle.uecp_link.proofs.Answered.{idle_hears}
@@ -42,59 +45,109 @@ length-map_of : {A B : Type 0} (g : A → B) (xs : List A) → length (map g xs)
 length-map_of g [] = refl
 length-map_of g (x ∷ xs) = ap (λ n. suc n) (length-map_of g xs)
 
-risen_front : (first many place : ℕ) (ys : List ℕ) → place < many
-    → slice_get (rising first many ++ ys) place ≡ Some (first + place)
-risen_front first zero place ys below = absurd (omega arith)
-risen_front first (suc many) zero ys below = ap (λ n. Some n) (let e : first ≡ first + 0 = omega arith in e)
-risen_front first (suc many) (suc place) ys below = risen_front (first + 1) many place ys (omega arith)
+-- what stands in a list of which each counter up to FE comes twice
+twice_front : (first many place : ℕ) (ys : List ℕ) → place < 2 * many
+    → slice_get (twice (rising first many) ++ ys) place ≡ Some (first + place / 2)
+twice_front first zero place ys below = absurd (omega arith)
+twice_front first (suc many) zero ys below = ap (λ n. Some n) (let e : first ≡ first + 0 / 2 = omega arith in e)
+twice_front first (suc many) (suc zero) ys below = ap (λ n. Some n) (let e : first ≡ first + 1 / 2 = omega arith in e)
+twice_front first (suc many) (suc (suc place)) ys below = twice_front (first + 1) many place ys (omega arith)
+    ∙ ap (λ n. Some n) (let e : first + 1 + place / 2 ≡ first + suc (suc place) / 2 = omega arith in e)
+
+twice_past : (first many j : ℕ) (ys : List ℕ) → slice_get (twice (rising first many) ++ ys) (2 * many + j)
+    ≡ slice_get ys j
+twice_past first zero j ys = ap (slice_get ys) (let e : 2 * 0 + j ≡ j = omega arith in e)
+twice_past first (suc many) j ys =
+    ap (slice_get (twice (rising first (suc many)) ++ ys))
+    (let e : 2 * suc many + j ≡ suc (suc (2 * many + j)) = omega arith in e)
+    ∙ twice_past (first + 1) many j ys
+
+length-twice : (first many : ℕ) (ys : List ℕ) → length (twice (rising first many) ++ ys) ≡ 2 * many + length ys
+length-twice first zero ys = omega arith
+length-twice first (suc many) ys = let rest = length-twice (first + 1) many ys in omega (arith, rest)
+
+rising_there : (first many place : ℕ) → place < many → slice_get (rising first many) place ≡ Some (first + place)
+rising_there first zero place below = absurd (omega arith)
+rising_there first (suc many) zero below = ap (λ n. Some n) (let e : first ≡ first + 0 = omega arith in e)
+rising_there first (suc many) (suc place) below = rising_there (first + 1) many place (omega arith)
     ∙ ap (λ n. Some n) (let e : first + 1 + place ≡ first + suc place = omega arith in e)
 
-risen_past : (first many j : ℕ) (ys : List ℕ) → slice_get (rising first many ++ ys) (many + j) ≡ slice_get ys j
-risen_past first zero j ys = ap (slice_get ys) (let e : 0 + j ≡ j = omega arith in e)
-risen_past first (suc many) j ys =
-    ap (slice_get (rising first (suc many) ++ ys)) (let e : suc many + j ≡ suc (many + j) = omega arith in e)
-    ∙ risen_past (first + 1) many j ys
+pub length-whole : length (counters_behind 0) ≡ 255
+length-whole = length-rising 1 255
 
-length-risen : (first many : ℕ) (ys : List ℕ) → length (rising first many ++ ys) ≡ many + length ys
-length-risen first zero ys = omega arith
-length-risen first (suc many) ys = let rest = length-risen (first + 1) many ys in omega (arith, rest)
+pub whole_there : (place : ℕ) → place < 255 → slice_get (counters_behind 0) place ≡ Some (place + 1)
+whole_there place below = rising_there 1 255 place below
+    ∙ ap (λ n. Some n) (let e : 1 + place ≡ place + 1 = omega arith in e)
 
--- where 81 comes once
-pub whole_behind : (behind : ℕ) → nat_lt behind 0x81 ≡ true
-    → counters_behind behind ≡ rising (behind + 1) (255 - behind)
-whole_behind behind early = rw early refl
+pub later_behind : (behind : ℕ) → (behind == 0) ≡ false
+    → counters_behind behind ≡ twice (rising (behind + 1) (254 - behind)) ++ last_behind behind
+later_behind behind later = rw later refl
 
--- where it comes once more
-pub part_behind : (behind : ℕ) → nat_lt behind 0x81 ≡ false
-    → counters_behind behind ≡ rising (behind + 1) (254 - behind) ++ 0x81 ∷ 0xFF ∷ []
-part_behind behind late = rw late refl
+pub last_early : (behind : ℕ) → nat_lt behind 0x81 ≡ true → last_behind behind ≡ 0xFF ∷ []
+last_early behind early = rw early refl
 
-pub length-early : (behind : ℕ) → nat_lt behind 0x81 ≡ true → length (counters_behind behind) ≡ 255 - behind
-length-early behind early = ap length (whole_behind behind early) ∙ length-rising (behind + 1) (255 - behind)
+pub last_late : (behind : ℕ) → nat_lt behind 0x81 ≡ false → last_behind behind ≡ 0x81 ∷ 0xFF ∷ []
+last_late behind late = rw late refl
 
-pub length-late : (behind : ℕ) → nat_lt behind 0x81 ≡ false → behind ≤ 254
-    → length (counters_behind behind) ≡ 256 - behind
-length-late behind late most =
-    let long = length-risen (behind + 1) (254 - behind) (0x81 ∷ 0xFF ∷ []) in
-    ap length (part_behind behind late) ∙ (let e : length (rising (behind + 1) (254 - behind) ++ 0x81 ∷ 0xFF ∷ [])
-    ≡ 256 - behind = omega (arith, long) in e)
+pub length-early : (behind : ℕ) → (behind == 0) ≡ false → nat_lt behind 0x81 ≡ true
+    → length (counters_behind behind) ≡ 2 * (254 - behind) + 1
+length-early behind later early = ap length (later_behind behind later)
+    ∙ length-twice (behind + 1) (254 - behind) (last_behind behind)
+    ∙ ap (λ ys. 2 * (254 - behind) + length ys) (last_early behind early)
 
-pub early_there : (behind place : ℕ) → nat_lt behind 0x81 ≡ true → place < 255 - behind
-    → slice_get (counters_behind behind) place ≡ Some (behind + 1 + place)
-early_there behind place early below = ap (λ cs. slice_get cs place) (whole_behind behind early
-    ∙ sym (append-nil (rising (behind + 1) (255 - behind))))
-    ∙ risen_front (behind + 1) (255 - behind) place [] below
+pub length-late : (behind : ℕ) → (behind == 0) ≡ false → nat_lt behind 0x81 ≡ false
+    → length (counters_behind behind) ≡ 2 * (254 - behind) + 2
+length-late behind later late = ap length (later_behind behind later)
+    ∙ length-twice (behind + 1) (254 - behind) (last_behind behind)
+    ∙ ap (λ ys. 2 * (254 - behind) + length ys) (last_late behind late)
 
-pub late_there : (behind place : ℕ) → nat_lt behind 0x81 ≡ false → place < 254 - behind
-    → slice_get (counters_behind behind) place ≡ Some (behind + 1 + place)
-late_there behind place late below = ap (λ cs. slice_get cs place) (part_behind behind late)
-    ∙ risen_front (behind + 1) (254 - behind) place (0x81 ∷ 0xFF ∷ []) below
+pub above_there : (behind place : ℕ) → (behind == 0) ≡ false → place < 2 * (254 - behind)
+    → slice_get (counters_behind behind) place ≡ Some (behind + 1 + place / 2)
+above_there behind place later below = ap (λ cs. slice_get cs place) (later_behind behind later)
+    ∙ twice_front (behind + 1) (254 - behind) place (last_behind behind) below
 
-pub last_there : (behind j place : ℕ) → nat_lt behind 0x81 ≡ false → place ≡ 254 - behind + j
-    → slice_get (counters_behind behind) place ≡ slice_get (0x81 ∷ 0xFF ∷ []) j
-last_there behind j place late at = ap (λ cs. slice_get cs place) (part_behind behind late)
-    ∙ ap (slice_get (rising (behind + 1) (254 - behind) ++ 0x81 ∷ 0xFF ∷ [])) at
-    ∙ risen_past (behind + 1) (254 - behind) j (0x81 ∷ 0xFF ∷ [])
+pub last_there : (behind j place : ℕ) → (behind == 0) ≡ false → place ≡ 2 * (254 - behind) + j
+    → slice_get (counters_behind behind) place ≡ slice_get (last_behind behind) j
+last_there behind j place later at = ap (λ cs. slice_get cs place) (later_behind behind later)
+    ∙ ap (slice_get (twice (rising (behind + 1) (254 - behind)) ++ last_behind behind)) at
+    ∙ twice_past (behind + 1) (254 - behind) j (last_behind behind)
+
+pub few_counters : (behind : ℕ) → length (counters_behind behind) ≤ 600
+few_counters behind = go (behind == 0) (nat_lt behind 0x81) refl refl
+  where
+    go : (is_whole early : Bool) → (behind == 0) ≡ is_whole → nat_lt behind 0x81 ≡ early
+        → length (counters_behind behind) ≤ 600
+    go true early none is_early =
+        let long = ap (λ n. length (counters_behind n)) (eqb-true behind 0 none) ∙ length-whole in omega (arith, long)
+    go false true some early = let long = length-early behind some early in omega (arith, long)
+    go false false some late = let long = length-late behind some late in omega (arith, long)
+
+-- the last is FF
+pub ff_there : (behind place : ℕ) → (behind == 0) ≡ false → place + 1 ≡ length (counters_behind behind)
+    → slice_get (counters_behind behind) place ≡ Some 0xFF
+ff_there behind place later last = go (nat_lt behind 0x81) refl
+  where
+    go : (early : Bool) → nat_lt behind 0x81 ≡ early → slice_get (counters_behind behind) place ≡ Some 0xFF
+    go true early =
+        let long = length-early behind later early in
+        last_there behind 0 place later (omega (arith, long, last))
+        ∙ ap (λ ys. slice_get ys 0) (last_early behind early)
+    go false late =
+        let long = length-late behind later late in
+        last_there behind 1 place later (omega (arith, long, last))
+        ∙ ap (λ ys. slice_get ys 1) (last_late behind late)
+
+-- and before it 81, where those above are through
+pub low_there : (behind place : ℕ) → (behind == 0) ≡ false → 2 * (254 - behind) ≤ place
+    → place + 1 < length (counters_behind behind) → slice_get (counters_behind behind) place ≡ Some 0x81
+low_there behind place later past more = go (nat_lt behind 0x81) refl
+  where
+    go : (early : Bool) → nat_lt behind 0x81 ≡ early → slice_get (counters_behind behind) place ≡ Some 0x81
+    go true early = let long = length-early behind later early in absurd (omega (arith, long, more))
+    go false late =
+        let long = length-late behind later late in
+        last_there behind 0 place later (omega (arith, long, more))
+        ∙ ap (λ ys. slice_get ys 0) (last_late behind late)
 
 got_map : {A : Type 0} (g : ℕ → A) (xs : List ℕ) (place x : ℕ) → slice_get xs place ≡ Some x
     → slice_get (map g xs) place ≡ Some (g x)
@@ -223,70 +276,43 @@ module _ {R : Type 0} (remaining : R → Option (List ℕ)) (s0 s1 : ServerState
 
 -- ---- a whole pass
 
-pub pass_unread : {R W : Type 0} (remaining : R → Option (List ℕ)) (contents : W → Option (List ℕ)) (behind : ℕ)
-    (s s' : ServerState)
-    (r : Metered R) (w0 w1 : Metered W) (turns : ℕ) (sent : List ℕ) (result : Result Joining DriveFault) → s' ≡ anew s
-    → Appends (contents w0.device) (contents w1.device) sent
-    → PassEnds s.address behind [] sent (remaining r.device) turns 0 0 result
-    → w1.failures ≡ write_failures result w0.failures
-    → is_closed result ≡ false → MakesPass remaining contents behind 0 s s' r r w0 w1 turns result
-pass_unread remaining contents behind s s' r w0 w1 turns sent result begins wrote ends failures goes_on = record {
-  read = [];
-  sent = sent;
-  reads = 0;
-  failed = 0;
-  reading = rw goes_on (no_read remaining r);
-  appended = wrote;
-  state = begins ∙ sym (heard_none (anew s));
-  ends = ends;
-  goes_on = sym (ap (λ cs. goes_on_behind behind (highest_of 0 cs)) (counters_none s.address NothingOpen));
-  few_reads = omega arith;
-  write_failures = failures;
-}
-
-pub pass_read : {R W : Type 0} (remaining : R → Option (List ℕ)) (contents : W → Option (List ℕ)) (behind behind' : ℕ)
+pub pass_made : {R W : Type 0} (remaining : R → Option (List ℕ)) (contents : W → Option (List ℕ)) (behind behind' : ℕ)
     (s0 s1 s2 : ServerState)
-    (r0 r1 : Metered R) (w0 w1 : Metered W) (turns : ℕ) (replies : Replies) (result : Result Joining DriveFault)
+    (r0 r1 : Metered R) (w0 w1 : Metered W) (turns : ℕ) (replies : Replies) (sent : List ℕ)
+    (ended told : Result Joining DriveFault)
     → s1 ≡ anew s0
-    → Appends (contents w0.device) (contents w1.device) (sent_behind s0.address behind) → w1.failures ≡ w0.failures
-    → ReadsReplies remaining s1 s2 r0 r1 turns replies result → behind' ≡ goes_on_behind behind replies.highest
-    → MakesPass remaining contents behind behind' s0 s2 r0 r1 w0 w1 turns result
-pass_read remaining contents behind behind' s0 s1 s2 r0 r1 w0 w1 turns replies result begins wrote failures reads on =
-    record {
+    → Appends (contents w0.device) (contents w1.device) sent → PassEnds s0.address behind sent ended told
+    → w1.failures ≡ write_failures told w0.failures
+    → ReadsReplies remaining s1 s2 r0 r1 turns replies ended → behind' ≡ goes_on_behind behind replies.highest
+    → MakesPass remaining contents behind behind' s0 s2 r0 r1 w0 w1 turns told
+pass_made remaining contents behind behind' s0 s1 s2 r0 r1 w0 w1 turns replies sent ended told begins wrote ends
+    failures reads on = record {
       read = reads.read;
-      sent = sent_behind s0.address behind;
+      sent = sent;
       reads = reads.reads;
       failed = reads.failed;
+      ended = ended;
       reading = reads.reading;
       appended = wrote;
       state = reads.state ∙ ap (λ (s : ServerState). heard s reads.read) begins;
-      ends = go result ends;
+      reads_end = subst (λ (s : ServerState). RepliesEnd s.address reads.read (remaining r1.device) turns reads.reads
+          reads.failed ended) begins reads.ends;
+      ends = ends;
       goes_on = on ∙ ap (goes_on_behind behind) (ap (λ (r : Replies). r.highest) reads.replies_are
           ∙ replies-highest no_replies (reply_counters s1.address s1.part reads.read)
           ∙ ap (λ (s : ServerState). highest_of 0 (reply_counters s.address s.part reads.read)) begins);
       few_reads = reads.few_reads;
-      write_failures = kept result ends;
+      write_failures = failures;
     }
-  where
-    ends : RepliesEnd s0.address reads.read (remaining r1.device) turns reads.reads reads.failed result
-    ends = subst (λ (s : ServerState). RepliesEnd s.address reads.read (remaining r1.device) turns reads.reads
-        reads.failed result) begins reads.ends
 
-    go : (result : Result Joining DriveFault) → RepliesEnd s0.address reads.read (remaining r1.device) turns reads.reads
-        reads.failed result → PassEnds s0.address behind reads.read (sent_behind s0.address behind)
-        (remaining r1.device) turns reads.reads reads.failed result
-    go (Ok joining) ends = (refl, ends)
-    go (Err Closed) ends = (refl, ends)
-    go (Err (WriteFailed w)) ends = absurd ends
-    go (Err TriesSpent) ends = ends
-
-    kept : (result : Result Joining DriveFault)
-        → RepliesEnd s0.address reads.read (remaining r1.device) turns reads.reads reads.failed result
-        → w1.failures ≡ write_failures result w0.failures
-    kept (Ok joining) ends = failures
-    kept (Err Closed) ends = failures
-    kept (Err (WriteFailed w)) ends = absurd ends
-    kept (Err TriesSpent) ends = failures
+-- reads fail no write
+pub no_write_failed : {R : Type 0} (remaining : R → Option (List ℕ)) (old new : ServerState) (r0 r1 : Metered R)
+    (turns n : ℕ) (replies : Replies) (ended : Result Joining DriveFault)
+    → ReadsReplies remaining old new r0 r1 turns replies ended → write_failures ended n ≡ n
+no_write_failed remaining old new r0 r1 turns n replies (Ok joining) reads = refl
+no_write_failed remaining old new r0 r1 turns n replies (Err Closed) reads = refl
+no_write_failed remaining old new r0 r1 turns n replies (Err (WriteFailed w)) reads = absurd reads.ends
+no_write_failed remaining old new r0 r1 turns n replies (Err TriesSpent) reads = refl
 
 -- what a pass leaves of the server
 pub still_new : (old new : ServerState) (x : List ℕ) → new ≡ heard (anew old) x → IsStillNew old new

@@ -8,7 +8,6 @@ use Rattle.std.proofs.lemmas.Option.{slice_get-get_or, slice_get_past}
 use Rattle.uecp_elements.specs.declared.code.Code.{Code}
 use Rattle.uecp_elements.specs.declared.code.Code.TheVariants.{Applied}
 use Rattle.uecp_frame.specs.Frame.{spelling}
-use Rattle.std.proofs.lemmas.List.{take_all}
 use Rattle.uecp_frame.specs.Findings.{Closed}
 use Rattle.uecp_encoder.specs.Target.{Step, Taken}
 use Rattle.uecp_encoder.specs.State.{EncoderState, opening}
@@ -25,7 +24,6 @@ use Rattle.uecp_link.specs.Kept.{IsReady, Kept}
 use Rattle.uecp_link.specs.Holds.{LineState, let_go, is_acknowledged, Outcome, IsLine, Holds, once_of, StepsAs, Plays}
 use Rattle.uecp_link.specs.Holds.{history_by, line_from, new_line, world_of}
 use Rattle.uecp_link.specs.Headline.{IsHeadline}
-use Rattle.uecp_link.proofs.Ready.{ready_few}
 use Rattle.uecp_link.proofs.Steps.{sent_le}
 use Rattle.uecp_link.proofs.Folding.{Folded}
 use Rattle.uecp_link.proofs.Goes.{kept_at, kept_same, line_stays}

@@ -98,6 +98,21 @@ among_last (x ∷ xs) (y ∷ ys) (inl (same, a)) (inr none) = inr (among_none xs
 among_last (x ∷ xs) (y ∷ ys) (inr a) (inl (low, l)) = among_last (x ∷ xs) ys a l
 among_last (x ∷ xs) (y ∷ ys) (inr a) (inr none) = absurd (subst (Among (x ∷ xs)) none a)
 
+-- ---- counters from one to another
+
+abbrev pub Within : (least most : ℕ) → List ℕ → Type 0
+Within least most [] = Unit {0}
+Within least most (c ∷ cs) = (least ≤ c) × (c ≤ most) × Within least most cs
+
+pub among_within : (least most : ℕ) (xs ys : List ℕ) → Among xs ys → Within least most ys → Within least most xs
+among_within least most [] ys a w = tt
+among_within least most (x ∷ xs) [] a w = absurd a
+among_within least most (x ∷ xs) (y ∷ ys) (inl (same, a)) w =
+    let low = w.0 in
+    let high = w.1 in
+    (omega (arith, low, same), omega (arith, high, same), among_within least most xs ys a w.2)
+among_within least most (x ∷ xs) (y ∷ ys) (inr a) w = among_within least most (x ∷ xs) ys a w.2
+
 -- ---- replies to frames
 
 abbrev pub reply_as : ℕ → ℕ × Code → Frame

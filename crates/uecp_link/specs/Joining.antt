@@ -28,13 +28,23 @@ use Rattle.uecp_link.specs.Server.{ServerState, reply_from, heard}
 
 -- ---- What is sent.
 
--- The counters of a pass that goes on behind this one, in the order in which their frames are sent: those above it, up
--- to FF; behind 00 all, 01, 02 .. FF. Behind one of 81 .. FE the counter 81 comes once more, before FF: whoever has
--- joined has the replies to both from one connection. (profile; SPB 490, sequence counter)
+-- Each of these twice, one behind the other.
+abbrev pub twice : List ℕ → List ℕ
+twice [] = []
+twice (counter ∷ counters) = counter ∷ counter ∷ twice counters
+
+-- The last counters of a pass that goes on behind this one: FF, and behind one of 81 .. FE the counter 81 once more
+-- before it, as whoever has joined has the replies to both from one connection. So two replies are enough there.
+abbrev pub last_behind : (behind : ℕ) → List ℕ
+last_behind behind = if nat_lt behind 0x81 then 0xFF ∷ [] else 0x81 ∷ 0xFF ∷ []
+
+-- The counters of a pass that goes on behind this one, in the order in which their frames are sent. Behind 00 it is a
+-- whole one: 01, 02 .. FF, each once. Behind another one something was lost before, so those above it come twice, up to
+-- FE: of two frames in a row one may be lost. FF comes once and last, so that behind the reply to it nothing is still
+-- to come. (profile; SPB 490, sequence counter)
 abbrev pub counters_behind : (behind : ℕ) → List ℕ
 counters_behind behind =
-    if nat_lt behind 0x81 then rising (behind + 1) (255 - behind)
-    else rising (behind + 1) (254 - behind) ++ 0x81 ∷ 0xFF ∷ []
+    if behind == 0 then rising 1 255 else twice (rising (behind + 1) (254 - behind)) ++ last_behind behind
 
 -- The frames of such a pass: an empty message under each of these counters. (profile; SPB 490, frame format)
 unfoldable pub frames_behind : (address behind : ℕ) → List (List ℕ)
@@ -111,23 +121,19 @@ RepliesEnd address read unread turns reads failed (Err Closed) =
 RepliesEnd address read unread turns reads failed (Err (WriteFailed w)) = ⊥
 RepliesEnd address read unread turns reads failed (Err TriesSpent) = ⊥
 
--- How a pass ended that went on behind this counter. A write failed: the first w bytes of it were sent, not all, and no
--- read was made. Else it was sent to its end, and the reads ended.
-abbrev pub PassEnds : (address behind : ℕ) → (read sent : List ℕ) → (unread : Option (List ℕ))
-    → (turns reads failed : ℕ) → Result Joining DriveFault → Type 0
-PassEnds address behind read sent unread turns reads failed (Err (WriteFailed w)) =
-    (sent ≡ take w (sent_behind address behind)) × (w < length (sent_behind address behind)) × (read ≡ [])
-    × (reads ≡ 0) × (failed ≡ 0)
-PassEnds address behind read sent unread turns reads failed (Err Closed) =
-    (sent ≡ sent_behind address behind) × RepliesEnd address read unread turns reads failed (Err Closed)
-PassEnds address behind read sent unread turns reads failed (Err TriesSpent) = ⊥
-PassEnds address behind read sent unread turns reads failed (Ok joining) =
-    (sent ≡ sent_behind address behind) × RepliesEnd address read unread turns reads failed (Ok joining)
+-- What comes of a pass that went on behind this counter, where its reads ended so. It was sent to its end, and that is
+-- told; or a write failed: the first w bytes of it were sent, not all, and this is told.
+abbrev pub PassEnds : (address behind : ℕ) → (sent : List ℕ) → (ended told : Result Joining DriveFault) → Type 0
+PassEnds address behind sent ended told =
+    ((sent ≡ sent_behind address behind) × (told ≡ ended))
+    ⊎ ((w : ℕ) × (sent ≡ take w (sent_behind address behind)) × (w < length (sent_behind address behind))
+    × (told ≡ Err (WriteFailed w)))
 
 -- A pass that goes on behind the one counter, and behind the other of which the next goes on, from one state of the
--- server to another, over a reader and a writer before and after it: what was sent and read, by how many reads, and how
--- it ended. The server begins anew and hears all that was read; as it holds nothing, each reply counts as stray. But
--- for `Closed`, no read brought nothing; there one did.
+-- server to another, over a reader and a writer before and after it: what was sent and read, by how many reads, how
+-- these ended, and what is told. Also where a write failed, what came by then is read. The server begins anew and hears
+-- all that was read; as it holds nothing, each reply counts as stray. Where the reads ended as `Closed` one of them
+-- brought nothing, else none did.
 pub record MakesPass {R W : Type 0} (remaining : R → Option (List ℕ)) (contents : W → Option (List ℕ))
     (behind behind' : ℕ) (old new : ServerState) (reader reader' : Metered R) (writer writer' : Metered W) (turns : ℕ)
     (result : Result Joining DriveFault) : Type 0 where
@@ -135,10 +141,12 @@ pub record MakesPass {R W : Type 0} (remaining : R → Option (List ℕ)) (conte
   pub sent : List ℕ
   pub reads : ℕ
   pub failed : ℕ
-  pub reading : Reads remaining reader reader' read reads failed (is_closed result)
+  pub ended : Result Joining DriveFault
+  pub reading : Reads remaining reader reader' read reads failed (is_closed ended)
   pub appended : Appends (contents writer.device) (contents writer'.device) sent
   pub state : new ≡ heard (anew old) read
-  pub ends : PassEnds old.address behind read sent (remaining reader'.device) turns reads failed result
+  pub reads_end : RepliesEnd old.address read (remaining reader'.device) turns reads failed ended
+  pub ends : PassEnds old.address behind sent ended result
   pub goes_on : behind' ≡ goes_on_behind behind (highest_of 0 (reply_counters old.address NothingOpen read))
   pub few_reads : reads ≤ turns
   pub write_failures : writer'.failures ≡ write_failures result writer.failures

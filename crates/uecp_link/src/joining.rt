@@ -55,20 +55,21 @@ struct Replies {
 
 /// Brings the encoder to the end of its counters, so that a server which knows nothing of the counters that the encoder
 /// has kept may begin with 01. The server forgets its last counter and its open part, as a new connection begins; its
-/// counts stay. It writes one pass, an empty message under each of 01, 02 .. FF, each frame once and FF last, and makes
-/// at most `turns` reads of at most 64 bytes, until the replies that were read hold one to 81 and, after it, one to FF,
-/// whatever their codes; a failed read ends them. What was read with the last of these replies is heard to its end. The
-/// server is idle, see [`Server::is_idle`], and stays so: each reply counts as stray, since no message waits for it.
+/// counts stay. It writes one pass, an empty message under each of 01, 02 .. FF, and makes at most `turns` reads of at
+/// most 64 bytes, until the replies that were read hold one to 81 and, after it, one to FF, whatever their codes; a
+/// failed read ends them. What was read with the last of these replies is heard to its end. The server is idle, see
+/// [`Server::is_idle`], and stays so: each reply counts as stray, since no message waits for it.
 ///
 /// A pass wants a connection of its own: by its bytes no reply tells which pass it belongs to. After `Spent` and after
 /// each fault begin a new connection, and call it again over that. `behind`, 00 to FE, is the counter behind which the
-/// pass goes on: 00 for a whole one. It is left as that behind which the next may go on, the highest that was replied
-/// to; 00 where no reply was read. A part behind 81 or a later counter sends 81 once more before FF, so that what joins
-/// is always read on one connection, and what came to the encoder between two parts does no harm. It takes no memory.
+/// pass goes on: 00 for a whole one, in which each frame comes once. It is left as that behind which the next may go
+/// on, the highest that was replied to; 00 where no reply was read. A part sends the frames up to FE twice, as
+/// something was lost before; behind 81 or a later counter it sends 81 once more before FF, so that what joins is
+/// always read on one connection, and what came to the encoder between two parts does no harm. It takes no memory.
 ///
-/// Errors: `WriteFailed` where a write failed or took no byte, with how many bytes of the pass were written; nothing
-/// was read then. `Closed` where the reader came to its end before both replies. It never answers `TriesSpent`. Source:
-/// profile.
+/// Errors: `WriteFailed` where a write failed or took no byte, with how many bytes of the pass were written; what the
+/// reader brings is read then too, so that the next goes on behind it. `Closed` where the reader came to its end before
+/// both replies. It never answers `TriesSpent`. Source: profile.
 ///
 /// ```
 /// let mut behind = 0;
@@ -90,17 +91,17 @@ pub fn join<R: Read, W: Write>(
     ensures idle { server.new.held ≡ [] }
 {
     server.begin_anew();
-    if let Err(written) = write_pass(server.address(), *behind, writer) {
-        *behind = 0;
-        return Err(DriveFault::WriteFailed { written });
-    }
+    let sent = write_pass(server.address(), *behind, writer);
     let mut replies = Replies {
         seen: Seen::Neither,
         highest: 0,
     };
     let ended = read_replies(server, reader, turns, &mut replies);
     *behind = goes_on_behind(*behind, replies.highest);
-    ended
+    match sent {
+        Ok(()) => ended,
+        Err(written) => Err(DriveFault::WriteFailed { written }),
+    }
 }
 
 /// Behind which counter the next part of a pass goes on, where one behind this counter got replies, the highest of them
@@ -117,33 +118,38 @@ fn goes_on_behind(behind: u8, highest: u8) -> u8
 }
 
 /// How many frames a pass has that goes on behind this counter.
-fn count_behind(behind: u8) -> u8
+fn count_behind(behind: u8) -> u16
     requires { behind ≤ 0xFE }
     ensures { result ≡ length (counters_behind behind) }
 {
+    if behind == 0 {
+        return u16::from(COUNTER_MAX);
+    }
+    let above = u16::from(COUNTER_MAX - 1 - behind);
     if behind < OLDEST_KEPT {
-        COUNTER_MAX - behind
+        2 * above + 1
     } else {
-        COUNTER_MAX - behind + 1
+        2 * above + 2
     }
 }
 
 /// The counter of one of these frames.
-fn counter_behind(behind: u8, place: u8) -> u8
+fn counter_behind(behind: u8, place: u16) -> u8
     requires part { behind ≤ 0xFE }
     requires there { place < length (counters_behind behind) }
     ensures { slice_get (counters_behind behind) place ≡ Some result }
 {
-    if behind < OLDEST_KEPT {
-        return behind + 1 + place;
+    if behind == 0 {
+        return place as u8 + 1;
     }
-    let above = COUNTER_MAX - 1 - behind;
-    if place < above {
-        behind + 1 + place
-    } else if place == above {
-        OLDEST_KEPT
-    } else {
+    let above = u16::from(COUNTER_MAX - 1 - behind);
+    if place < 2 * above {
+        return behind + 1 + (place / 2) as u8;
+    }
+    if place + 1 == count_behind(behind) {
         COUNTER_MAX
+    } else {
+        OLDEST_KEPT
     }
 }
 

@@ -21,5 +21,6 @@ pub mod FirstWanted
 pub mod Choosing
 pub mod Placing
 pub mod Faulting
+pub mod Nearing
 pub mod LineStops
 pub mod Public

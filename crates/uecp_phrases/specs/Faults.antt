@@ -1,10 +1,7 @@
 -- At which token a line of phrases says nothing (profile).
-use Rattle.std.specs.Prelude.{◌≡◌, ◌≤◌, ◌<◌, ◌+◌, ◌⊎◌, ℕ, List, [], ◌∷◌, ◌++◌, length, map, max, nat_eq, slice_get}
-use Rattle.std.specs.Prelude.{Option, Some, None}
-use Rattle.std.specs.Char.{to_ascii_lowercase}
-use Rattle.strsim.specs.Edits.{levenshtein_row}
+use Rattle.std.specs.Prelude.{◌≡◌, ◌≤◌, ◌+◌, ◌⊎◌, ℕ, List, [], ◌∷◌, ◌++◌, length}
 use Rattle.rds_text.specs.declared.programme_type.Region.{Region}
-use Rattle.phrase_tokens.specs.Tokens.{Token, Word, Quoted, Semicolon}
+use Rattle.phrase_tokens.specs.Tokens.{Token}
 use Rattle.uecp_phrases.specs.declared.expectation.Expectation.{Expectation}
 use Rattle.uecp_phrases.specs.declared.expectation.Expectation.TheVariants as what
 use Rattle.uecp_phrases.specs.Lines.{phrases_in, AddsBytes, AddEach}
@@ -56,29 +53,3 @@ pub record IsToldAt (region : Region) (tokens : List Token) (expected : Expectat
   pub fault : IsFault region said phrase
   pub place : index + left ≡ begins_behind before + length phrase
   pub unsaid : IsUnsaid region said phrase expected left
-
--- ---- The nearest word.
-
--- The letters of a word, or of a text between quotes.
-abbrev pub letters_of : Token → List ℕ
-letters_of (Word w) = w
-letters_of (Quoted bytes) = bytes
-letters_of Semicolon = []
-
--- Those of the token of an index, and none behind the last.
-abbrev pub letters_at : List Token → (index : ℕ) → List ℕ
-letters_at tokens index = letters_or_none (slice_get tokens index)
-  where
-    letters_or_none : Option Token → List ℕ
-    letters_or_none None = []
-    letters_or_none (Some token) = letters_of token
-
--- How many letters are added, left out or changed to make the one of the other, whatever their case: the distance of
--- Levenshtein.
-abbrev pub distance : (letters word : List ℕ) → ℕ
-distance letters word =
-    levenshtein_row nat_eq (map to_ascii_lowercase letters) (map to_ascii_lowercase word) (length word)
-
--- At most two letters differ, and not all.
-abbrev pub IsNear : (letters word : List ℕ) → Type 0
-IsNear letters word = (distance letters word ≤ 2) × (distance letters word < max (length letters) (length word))

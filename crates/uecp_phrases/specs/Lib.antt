@@ -7,3 +7,4 @@ pub mod Written
 pub mod Laws
 pub mod Expecting
 pub mod Stops
+pub mod Nearest

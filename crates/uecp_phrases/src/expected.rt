@@ -1,8 +1,9 @@
 //! What was expected where a line of phrases says nothing (profile).
-ghost use Rattle.std.specs.Prelude.{◌≤◌, ◌-◌, length, IfOk, IfSome};
+ghost use Rattle.std.specs.Prelude.{◌≤◌, ◌-◌, length, IfOk, option_map};
 ghost use Rattle.phrase_tokens.specs.View.{tokens_of};
 ghost use Rattle.uecp_phrases.specs.Lines.{SayNothing};
-ghost use Rattle.uecp_phrases.specs.Faults.{IsFaultAt, IsToldAt, letters_at, IsNear};
+ghost use Rattle.uecp_phrases.specs.Faults.{IsFaultAt, IsToldAt};
+ghost use Rattle.uecp_phrases.specs.Nearest.{OffersAt};
 
 use crate::expectation::Expectation;
 use crate::line::line_read;
@@ -35,8 +36,8 @@ pub fn expected_in(alloc: Global, region: Region, tokens: &[Token]) -> Result<Ex
         → IsFaultAt region (tokens_of tokens.now) e.index) }
     ensures told { IfOk result (λ e. SayNothing region (tokens_of tokens.now)
         → IsToldAt region (tokens_of tokens.now) e.what e.index) }
-    ensures near { IfOk result (λ e. IfSome e.nearest (λ word. IsNear (letters_at (tokens_of tokens.now) e.index)
-        word.now)) }
+    ensures near { IfOk result (λ e. OffersAt region e.what (tokens_of tokens.now) e.index
+        (option_map (λ word. word.now) e.nearest)) }
 {
     let Stop { left, what } = fault_in(region, tokens);
     let index = tokens.len() - left;

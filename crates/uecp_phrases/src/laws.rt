@@ -1,6 +1,7 @@
 //! The laws of phrases, each as the contract of a function that does nothing (profile).
 ghost use Rattle.uecp_phrases.specs.Laws.{IsSaidAsWritten, IsWritable, IsOneMeaning, IsRawSaid, IsMessageSaid};
 ghost use Rattle.uecp_phrases.specs.Laws.{IsLineWritable, TextsTurn, IsFirstStop};
+ghost use Rattle.uecp_phrases.specs.Nearest.{OfferedMayStand};
 
 /// What is written of an element is a phrase, and adds that element's spelling.
 #[tactic(auto, using(crate::proofs::Said::said_as_written))]
@@ -43,4 +44,9 @@ pub fn texts_turn()
 /// No line goes on to say a message behind a token of which it is told that something else may stand there.
 pub fn first_stop()
     ensures { IsFirstStop }
+{}
+
+/// Each word that is offered in place of another may stand there.
+pub fn offered_may_stand()
+    ensures { OfferedMayStand }
 {}

@@ -1,16 +1,17 @@
 //! All who ask (profile).
-ghost use Rattle.std.specs.Prelude.{◌≡◌, ◌⊎◌, ◌<◌, [], leb, length, slice_index_or, IfSome, IfNone, IsTrue};
+ghost use Rattle.std.specs.Prelude.{◌≡◌, ◌⊎◌, ◌<◌, ◌≤◌, [], leb, length, slice_index_or, IfSome, IfNone, IsTrue};
 ghost use Rattle.page.specs.declared.guests.guest.Guest.{Guest as GuestValue};
 ghost use Rattle.page.specs.ClientView.{source_of};
 ghost use Rattle.page.specs.Intake.{board_of};
 ghost use Rattle.page.specs.Talk.{IsUnsaid};
-ghost use Rattle.page.specs.Places.{RestsIn, OfNone, IsFirst, IsGiven, NoneGives, HasPlace, ComesIn, OwedStay};
+ghost use Rattle.seats.specs.Seats.{OfNone, IsFirst, IsSeatGiven, NoSeatGiven};
+ghost use Rattle.page.specs.EventPlaces.{seats_of, HasRoom, AreHeard, GivesEvents, HearsOne};
+ghost use Rattle.page.specs.Places.{RestsIn, IsGiven, NoneGives, HasPlace, ComesIn, OwedStay};
 ghost use Rattle.page.specs.Visits.{
   guests_of,
   live_in,
   AllServed,
   HasNone,
-  HearsOne,
   HearsThen,
   AllDo,
   TakesTurn,
@@ -20,8 +21,11 @@ use crate::clients::{Phase, Site};
 use crate::events::History;
 use crate::guests::connection::Connection;
 use crate::guests::guest::{Deed, Guest};
+use crate::guests::room::{Kind, Room};
 use crate::guests::sockets::Sockets;
 use crate::intake::Intake;
+use arrayvec::ArrayVec;
+use seats::{Seat, place_given};
 use std::alloc::Global;
 
 /// How many ask at a time.
@@ -48,12 +52,18 @@ impl<C: Connection> Guests<C> {
         }
     }
 
-    /// Whether no more may get events.
+    /// Whether all places of those who get events are taken.
     pub fn is_full(&self) -> bool
         ensures { result ≡ leb 64 (live_in (guests_of self.now)) }
     {
-        let live = self.guests.iter().filter(|guest| guest.is_live()).count();
-        live >= LIVE_MAX
+        self.live() >= LIVE_MAX
+    }
+
+    /// How many get events.
+    fn live(&self) -> usize
+        ensures { result ≡ live_in (guests_of self.now) }
+    {
+        self.guests.iter().filter(|guest| guest.is_live()).count()
     }
 
     /// Whether something waits to be sent to one of them.
@@ -62,8 +72,9 @@ impl<C: Connection> Guests<C> {
     }
 
     /// One more asks. Where all places are taken one gives its own, and is let go: who was answered and took all of
-    /// that, or else who has waited longest of those who have not asked. Where none does, or without memory, the
-    /// connection of the one more is closed.
+    /// that, or else who has waited longest of those who have not asked. Where all are owed something it is who has
+    /// waited longest of those from whose origin most ask, if fewer do from the one more's. Where none gives it, or
+    /// without memory, the connection of the one more is closed.
     pub fn add<S: Sockets<Connection = C>>(
         &mut self,
         alloc: Global,
@@ -73,13 +84,14 @@ impl<C: Connection> Guests<C> {
     )
         requires unsaid { IsUnsaid (C.talk connection) }
         requires served { AllServed C.talk history.now self.old }
-        ensures comes { ComesIn connection (guests_of self.old) (guests_of self.new) }
-        ensures stays { OwedStay (guests_of self.old) (guests_of self.new) }
+        ensures comes { ComesIn C.origin connection (guests_of self.old) (guests_of self.new) }
+        ensures stays { OwedStay C.origin (C.origin connection) (guests_of self.old) (guests_of self.new) }
         ensures served { AllServed C.talk history.now self.new }
         ensures own_only { self.new.own_only ≡ self.old.own_only }
     {
+        let origin = connection.origin();
         let guest = Guest::new(alloc, connection);
-        if !self.make_place(history, sockets) {
+        if !self.make_place(origin, history, sockets) {
             sockets.close(guest.leave());
             return;
         }
@@ -89,10 +101,16 @@ impl<C: Connection> Guests<C> {
         }
     }
 
-    /// Whether there is a place for one more: where all are taken one gives its own, and is let go.
-    fn make_place<S: Sockets<Connection = C>>(&mut self, history: &History, sockets: &mut S) -> bool
+    /// Whether there is a place for one more that comes from there: where all are taken one gives its own, and is let
+    /// go.
+    fn make_place<S: Sockets<Connection = C>>(
+        &mut self,
+        origin: u128,
+        history: &History,
+        sockets: &mut S,
+    ) -> bool
         requires { AllServed C.talk history.now self.old }
-        ensures place { HasPlace (guests_of self.old) result (guests_of self.new) }
+        ensures place { HasPlace C.origin origin (guests_of self.old) result (guests_of self.new) }
         ensures free { IsTrue result → length (guests_of self.new) < 128 }
         ensures served { AllServed C.talk history.now self.new }
         ensures own_only { self.new.own_only ≡ self.old.own_only }
@@ -100,7 +118,7 @@ impl<C: Connection> Guests<C> {
         if self.guests.len() < GUESTS_MAX {
             return true;
         }
-        let Some(place) = self.place_given() else {
+        let Some(place) = self.place_given(origin) else {
             return false;
         };
         let guest = self.guests.remove(place);
@@ -108,15 +126,32 @@ impl<C: Connection> Guests<C> {
         true
     }
 
-    /// Where the one stands who gives its place.
-    fn place_given(&self) -> Option<usize>
-        ensures some { IfSome result (λ place. IsGiven place (guests_of self.now)) }
-        ensures none { IfNone result (NoneGives (guests_of self.now)) }
+    /// Where the one stands who gives its place to one that comes from there.
+    fn place_given(&self, origin: u128) -> Option<usize>
+        requires { length (guests_of self.now) ≤ 128 }
+        ensures some { IfSome result (λ place. IsGiven C.origin origin place (guests_of self.now)) }
+        ensures none { IfNone result (NoneGives C.origin origin (guests_of self.now)) }
     {
         match self.first_resting(Phase::Closing) {
             Some(place) => Some(place),
-            None => self.first_resting(Phase::Asking),
+            None => match self.first_resting(Phase::Asking) {
+                Some(place) => Some(place),
+                None => self.seat_given(Kind::Connections, origin),
+            },
         }
+    }
+
+    /// Where the one stands who gives its place of this kind to one that comes from there, as `seats` has it.
+    fn seat_given(&self, kind: Kind, origin: u128) -> Option<usize>
+        requires { length (guests_of self.now) ≤ 128 }
+        ensures some { IfSome result (λ place. IsSeatGiven origin place (seats_of C.origin kind (guests_of self.now))) }
+        ensures none { IfNone result (NoSeatGiven origin (seats_of C.origin kind (guests_of self.now))) }
+    {
+        let mut all: ArrayVec<Seat, GUESTS_MAX> = ArrayVec::new();
+        for guest in &self.guests {
+            all.push(guest.seat(kind));
+        }
+        place_given(all.as_slice(), origin)
     }
 
     /// Where the first stands who is in this phase, and for whom nothing waits.
@@ -133,7 +168,8 @@ impl<C: Connection> Guests<C> {
     }
 
     /// Something came on the connection of this number: it is heard, and answered from what came in; the last message
-    /// came so many seconds ago.
+    /// came so many seconds ago. Where it gets events from then on, and all places of those were taken, one of them
+    /// gives its own, and is let go.
     pub fn hear<S: Sockets<Connection = C>>(
         &mut self,
         alloc: Global,
@@ -146,14 +182,52 @@ impl<C: Connection> Guests<C> {
         ensures served { AllServed C.talk (board_of intake.now).past self.new }
         ensures own_only { self.new.own_only ≡ self.old.own_only }
         ensures hears { (HasNone C.numbered number (guests_of self.old) × (self.new ≡ self.old))
-            ⊎ HearsOne C.talk C.numbered C.reads number (board_of intake.now).shown (board_of intake.now).past seconds
-            self.old.own_only (guests_of self.old) (guests_of self.new) }
+            ⊎ HearsOne C.talk C.origin C.numbered C.reads number (board_of intake.now).shown
+            (board_of intake.now).past seconds self.old.own_only (guests_of self.old) (guests_of self.new) }
     {
         let Some(place) = self.place_of(number) else {
             return;
         };
-        let site = intake.site(seconds, self.own_only, self.is_full());
-        if !hear(&mut self.guests[place], alloc, &site, sockets) {
+        let room = self.room_for(self.guests[place].connection.origin());
+        let site = intake.site(seconds, self.own_only, room.is_full());
+        if hear(&mut self.guests[place], alloc, &site, sockets) {
+            self.give_events(room, intake.history(), sockets);
+        } else {
+            let guest = self.guests.remove(place);
+            sockets.close(guest.leave());
+        }
+    }
+
+    /// Where a place of events is for one more that comes from there.
+    fn room_for(&self, origin: u128) -> Room
+        requires { length (guests_of self.now) ≤ 128 }
+        ensures { HasRoom C.origin origin (guests_of self.now) result }
+    {
+        if !self.is_full() {
+            return Room::Free;
+        }
+        match self.seat_given(Kind::Events, origin) {
+            Some(place) => Room::Given(place),
+            None => Room::Full,
+        }
+    }
+
+    /// Where one more gets events than may the one that gives its place is let go.
+    fn give_events<S: Sockets<Connection = C>>(
+        &mut self,
+        room: Room,
+        history: &History,
+        sockets: &mut S,
+    )
+        requires { AreHeard C.talk room self.old.own_only history.now (guests_of self.old) }
+        ensures gives { GivesEvents room (guests_of self.old) (guests_of self.new) }
+        ensures served { AllServed C.talk history.now self.new }
+        ensures own_only { self.new.own_only ≡ self.old.own_only }
+    {
+        if self.live() <= LIVE_MAX {
+            return;
+        }
+        if let Room::Given(place) = room {
             let guest = self.guests.remove(place);
             sockets.close(guest.leave());
         }

@@ -25,9 +25,16 @@ pub trait Connection {
     // The number by which it is told of.
     ghost numbered: { Self → ℕ };
 
+    // From where it comes.
+    ghost origin: { Self → ℕ };
+
     /// By which number it is told of where something came on it: no other that is open has this one.
     fn number(&self) -> usize
         ensures { result ≡ numbered self.now };
+
+    /// From where it comes: the origin of the address of its other end, as `origin_of` of `seats` has it.
+    fn origin(&self) -> u128
+        ensures { result ≡ origin self.now };
 
     /// Reads once what came, into the beginning of a buffer.
     fn read(&mut self, buffer: &mut [u8]) -> Passed

@@ -1,5 +1,6 @@
 //! One who asks: its connection, and what it is for (profile).
 ghost use Rattle.std.specs.Prelude.{◌≡◌, ◌↔◌, IsTrue, [], length};
+ghost use Rattle.page.specs.EventPlaces.{waits, seat_of};
 ghost use Rattle.page.specs.ClientView.{standing_of, source_of, came_of};
 ghost use Rattle.page.specs.Life.{IsNew};
 ghost use Rattle.page.specs.Places.{RestsIn};
@@ -8,6 +9,8 @@ ghost use Rattle.page.specs.Visits.{HearsOnce, Does, SendsNow, Ticks, gets_event
 use crate::clients::{Client, Phase, Site};
 use crate::events::History;
 use crate::guests::connection::{Connection, Passed};
+use crate::guests::room::Kind;
+use seats::Seat;
 use std::alloc::Global;
 
 /// How many bytes are read at once.
@@ -81,9 +84,29 @@ impl<C: Connection> Guest<C> {
 
     /// Whether something waits to be sent.
     pub(crate) fn is_behind(&self) -> bool
-        ensures { IsTrue result ↔ ((standing_of self.now.client).output ≡ [] → ⊥) }
+        ensures some { IsTrue result ↔ ((standing_of self.now.client).output ≡ [] → ⊥) }
+        ensures value { result ≡ waits (standing_of self.now.client) }
     {
         self.client.waiting() > 0
+    }
+
+    /// Its seat among those of whom a place of this kind is looked for.
+    pub(crate) fn seat(&self, kind: Kind) -> Seat
+        ensures { result ≡ seat_of C.origin kind self.now }
+    {
+        let origin = self.connection.origin();
+        match kind {
+            Kind::Events => Seat {
+                origin,
+                is_taken: self.is_live(),
+                is_behind: self.is_behind(),
+            },
+            Kind::Connections => Seat {
+                origin,
+                is_taken: true,
+                is_behind: false,
+            },
+        }
     }
 
     /// Reads once what came, and hears it. Whether it is to be kept.

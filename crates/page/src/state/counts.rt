@@ -3,9 +3,10 @@ ghost use Rattle.std.specs.Prelude.{◌≡◌, ◌+◌, ◌-◌, ◌^◌, min};
 ghost use Rattle.serde_json.specs.View.{view};
 ghost use Rattle.page.specs.Members.{says};
 ghost use Rattle.page.specs.Counts.{counted, no_counts, one_more, is_message, is_repeat, is_refusal, is_kind};
+ghost use Rattle.page.specs.Counts.{lines_not_told};
 ghost use Rattle.page.specs.StateView.{counts_of};
 
-use crate::state::members::{flag_at, says};
+use crate::state::members::{flag_at, number_or_0, says};
 use serde_json::Value;
 
 /// What was counted; no more than 2^64 - 1 of anything.
@@ -25,6 +26,8 @@ pub struct Counts {
     pub dropped: u64,
     /// Connections.
     pub connections: u64,
+    /// Lines that an end could not tell, since nobody read them.
+    pub not_told: u64,
 }
 
 impl Counts {
@@ -40,6 +43,7 @@ impl Counts {
             refusals: 0,
             dropped: 0,
             connections: 0,
+            not_told: 0,
         }
     }
 
@@ -53,6 +57,7 @@ impl Counts {
         add(is_refusal(value), &mut self.refusals);
         add(is_kind(value, "dropped"), &mut self.dropped);
         add(is_kind(value, "connection"), &mut self.connections);
+        self.not_told = self.not_told.saturating_add(lines_not_told(value));
     }
 }
 
@@ -94,4 +99,15 @@ fn is_refusal(value: &Value) -> bool
 {
     let is_new = is_kind(value, "answered") && says(value, "answer", "new");
     (is_new || is_kind(value, "answer")) && !says(value, "code", "00")
+}
+
+/// How many lines an end could not tell, as it says.
+fn lines_not_told(value: &Value) -> u64
+    ensures { result ≡ lines_not_told (view value.now) }
+{
+    if is_kind(value, "not_told") {
+        number_or_0(value, "lines")
+    } else {
+        0
+    }
 }

@@ -23,6 +23,7 @@ pub fn metrics_text(
     put_counter("uecp_refusals_total", counts.refusals, &mut text)?;
     put_counter("uecp_dropped_segments_total", counts.dropped, &mut text)?;
     put_counter("uecp_connections_total", counts.connections, &mut text)?;
+    put_counter("uecp_not_told_lines_total", counts.not_told, &mut text)?;
     put_since(seconds, &mut text)?;
     Ok(text)
 }

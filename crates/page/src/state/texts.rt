@@ -95,6 +95,7 @@ fn put_counts(
     put(members, alloc, "dropped", Value::from(counts.dropped))?;
     put(members, alloc, "lines", Value::from(counts.lines))?;
     put(members, alloc, "messages", Value::from(counts.messages))?;
+    put(members, alloc, "not_told", Value::from(counts.not_told))?;
     put(members, alloc, "others", Value::from(counts.others))?;
     put(members, alloc, "refusals", Value::from(counts.refusals))?;
     put(members, alloc, "repeats", Value::from(counts.repeats))?;

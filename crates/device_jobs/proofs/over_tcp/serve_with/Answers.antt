@@ -14,6 +14,7 @@ returns-then-is_empty-clause-serves g c = λ none.
       (
         subst (λ (l : Listens). IsPlaceOf c.args.job.now l.place) (sym same) c.requires.place,
         ap (λ (l : Listens). l.idle) same ∙ c.requires.idle,
+        ap (λ (l : Listens). l.notice.is_told) same ∙ c.requires.unsaid,
         ap (λ (s : Screening Listens). s.notice.is_told) c.new-screening.ensures,
       ),
       c.serve_told.ensures.serves,

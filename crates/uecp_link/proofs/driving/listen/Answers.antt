@@ -1,6 +1,4 @@
-use Rattle.std.proofs.Common.{rules, arith, ◌≤◌, ◌≡◌, ◌∙◌, length, take, sym, subst}
-use Rattle.std.specs.Io.KnownBytes.{Consumes}
-use Rattle.uecp_encoder.specs.Metered.{counted}
+use Rattle.std.proofs.Common.{rules, arith, ◌≤◌, ◌≡◌, ◌∙◌, length, take, sym}
 use Rattle.uecp_link.proofs.Answered.{acknowledged_as, few_wait}
 use Rattle.uecp_link.proofs.Reading.{one_read, failed_read, last_read}
 use Rattle.uecp_link.proofs.Tries.{waits_none, waits_on, nothing_came, read_failed, input_ended, reply_came}

@@ -1,4 +1,4 @@
-use Rattle.std.proofs.Common.{◌≡◌, ℕ, ◌+◌, List, [], ◌++◌, take, Some, refl, ◌∙◌, ap, sym, arith, rules}
+use Rattle.std.proofs.Common.{◌≡◌, ℕ, ◌+◌, List, [], ◌++◌, take, Some, ◌∙◌, ap, sym, arith, rules}
 use Rattle.std.specs.Prelude.{slice_get}
 use Rattle.std.specs.List.{concat}
 use Rattle.uecp_frame.specs.Frame.{spelling}
@@ -8,7 +8,7 @@ use Rattle.uecp_link.specs.Frames.{frame_under}
 use Rattle.uecp_link.specs.Joining.{frames_behind}
 use Rattle.uecp_link.proofs.FeedingLemmas.{fed_none}
 use Rattle.uecp_link.proofs.Windowing.{frames_more}
-use Rattle.uecp_link.proofs.Passing.{early_there, frame_there, frames_all}
+use Rattle.uecp_link.proofs.Passing.{whole_there, frame_there, frames_all}
 use Rattle.uecp_link.proofs.replacement.give_pass.Goals as goal
 
 pub loop-before-preserved : goal.loop-before-preserved
@@ -17,8 +17,7 @@ loop-before-preserved g c =
     let place : ℕ = c.loop-before.before in
     let f : List ℕ = spelling (frame_under c.args.address (place + 1, [])) in
     let here : slice_get fs place ≡ Some f = frame_there c.args.address 0 place (place + 1)
-    (early_there 0 place refl (omega arith) ∙ ap (λ n. Some n)
-    (let e : 0 + 1 + place ≡ place + 1 = omega arith in e)) in
+    (whole_there place (omega arith)) in
     let sent : c.as_slice.result.now ≡ f = search rules in
     let more : concat (take (place + 1) fs) ≡ concat (take place fs) ++ f = frames_more fs place f here in
     c.give_cut.ensures.state ∙ ap (λ bs. fed g.T.Target.step c.loop-before.encoder bs) sent

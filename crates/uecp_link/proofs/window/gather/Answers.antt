@@ -1,6 +1,4 @@
-use Rattle.std.proofs.Common.{rules, arith, ◌≡◌, ◌≢◌, ◌≤◌, [], refl, length, take, subst}
-use Rattle.std.specs.Io.KnownBytes.{Consumes}
-use Rattle.uecp_encoder.specs.Metered.{counted}
+use Rattle.std.proofs.Common.{rules, arith, ◌≡◌, ◌≢◌, ◌≤◌, [], refl, length, take}
 use Rattle.uecp_link.proofs.Reading.{no_read, one_read, failed_read, last_read}
 use Rattle.uecp_link.proofs.Windowing.{gathered_none, gathered_on, gathers_more, gathers_quiet}
 use Rattle.uecp_link.proofs.window.gather.Goals as goal

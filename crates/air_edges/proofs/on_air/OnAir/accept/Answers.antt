@@ -7,7 +7,7 @@ pub returns-in-Some : goal.returns-in-Some
 returns-in-Some g c =
     subst (λ (b : Bool). Accepts g.S.Sockets.joins b c.args.self.now c.add.new.self) (sym c.if-not-came.false)
     (subst (λ (e : Edge g.row.S.Denot g.row.H.Denot). Accepts g.S.Sockets.joins true e c.add.new.self) c.self.view_is
-    (c.join.new.self, inr (c.in-Some.output, c.in-Some.ensures, c.add.ensures)))
+    (c.join.new.self, inr (c.in-Some.output, c.in-Some.origin, c.in-Some.ensures, c.add.ensures)))
 
 pub returns-in-None : goal.returns-in-None
 returns-in-None g c =

@@ -14,8 +14,9 @@ pub returns-then-not-came : goal.returns-then-not-came
 returns-then-not-came g c =
     let s = g.S.Sockets in
     let look = looks s.reads s.waits s.opens s.joins c.args.is_open c.args.now c.wait_limit-limit.result _
-    c.args.self.now c.accept.new.self _ c.wait.new.self c.self.view_is c.requires.early c.wait_limit-limit.ensures
-    c.in-Some.ensures c.accept.ensures in
+    c.args.self.now c.tell_out.new.self c.accept.new.self _ c.wait.new.self c.self.view_is c.requires.early
+    c.wait_limit-limit.ensures
+    c.in-Some.ensures c.tell_out.ensures c.accept.ensures in
     let none : c.in-Some.came.studio ≡ false = search rules in
     (c.in-Some.came, c.accept.new.self, look, inl (none, refl))
 
@@ -23,8 +24,9 @@ pub returns-then-is_open : goal.returns-then-is_open
 returns-then-is_open g c =
     let s = g.S.Sockets in
     let look = looks s.reads s.waits s.opens s.joins c.args.is_open c.args.now c.wait_limit-limit.result _
-    c.args.self.now c.accept.new.self _ c.wait.new.self c.self.view_is c.requires.early c.wait_limit-limit.ensures
-    c.in-Some.ensures c.accept.ensures in
+    c.args.self.now c.tell_out.new.self c.accept.new.self _ c.wait.new.self c.self.view_is c.requires.early
+    c.wait_limit-limit.ensures
+    c.in-Some.ensures c.tell_out.ensures c.accept.ensures in
     let some : c.in-Some.came.studio ≡ true = search rules in
     let after = ap {A = Edge g.row.S.Denot g.row.H.Denot} (λ e. record e { heard = c.args.now }) c.self-2.view_is in
     (c.in-Some.came, c.accept.new.self, look, c.if-is_open.true, some, after)
@@ -33,8 +35,9 @@ pub returns-in-Some-open : goal.returns-in-Some-open
 returns-in-Some-open g c =
     let s = g.S.Sockets in
     let look = looks s.reads s.waits s.opens s.joins c.args.is_open c.args.now c.wait_limit-limit.result _
-    c.args.self.now c.accept.new.self _ c.wait.new.self c.self.view_is c.requires.early c.wait_limit-limit.ensures
-    c.in-Some.ensures c.accept.ensures in
+    c.args.self.now c.tell_out.new.self c.accept.new.self _ c.wait.new.self c.self.view_is c.requires.early
+    c.wait_limit-limit.ensures
+    c.in-Some.ensures c.tell_out.ensures c.accept.ensures in
     let some : c.in-Some.came.studio ≡ true = search rules in
     let opens = subst (λ (e : Edge g.row.S.Denot g.row.H.Denot). s.opens e.sockets (Some (
       c.in-Some-open.input,
@@ -50,8 +53,9 @@ pub returns-in-None-open : goal.returns-in-None-open
 returns-in-None-open g c =
     let s = g.S.Sockets in
     let look = looks s.reads s.waits s.opens s.joins c.args.is_open c.args.now c.wait_limit-limit.result _
-    c.args.self.now c.accept.new.self _ c.wait.new.self c.self.view_is c.requires.early c.wait_limit-limit.ensures
-    c.in-Some.ensures c.accept.ensures in
+    c.args.self.now c.tell_out.new.self c.accept.new.self _ c.wait.new.self c.self.view_is c.requires.early
+    c.wait_limit-limit.ensures
+    c.in-Some.ensures c.tell_out.ensures c.accept.ensures in
     let some : c.in-Some.came.studio ≡ true = search rules in
     let opens = subst (λ (e : Edge g.row.S.Denot g.row.H.Denot). s.opens e.sockets None c.open.new.self)
     c.self-2.view_is c.in-None-open.ensures in

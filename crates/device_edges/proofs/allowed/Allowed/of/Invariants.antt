@@ -1,4 +1,4 @@
-use Rattle.std.proofs.Common.{◌≡◌, map}
+use Rattle.std.proofs.Common.{map}
 use Rattle.std.specs.List.{AllZip}
 use Rattle.device_edges.specs.Allowed.{IsNetworkText}
 use Rattle.device_edges.proofs.allowed.Allowed.of.Given as goal

@@ -25,26 +25,28 @@ close-requires-in-Err g c =
 pub returns-then-not-make_place-clause-comes : goal.returns-then-not-make_place-clause-comes
 returns-then-not-make_place-clause-comes g c =
     let others = c.make_place.new.self.guests.items in
-    comes_not c.args.connection c.args.self.now.guests.items others others c.make_place.result
-    c.make_place.ensures.place refl
+    comes_not g.C.Connection.origin c.args.connection c.origin-origin.result c.args.self.now.guests.items others others
+    c.make_place.result c.origin-origin.ensures c.make_place.ensures.place refl
 
 pub returns-then-not-make_place-clause-stays : goal.returns-then-not-make_place-clause-stays
 returns-then-not-make_place-clause-stays g c =
     let others = c.make_place.new.self.guests.items in
-    owed_stay c.args.connection c.args.self.now.guests.items others
-    (comes_not c.args.connection c.args.self.now.guests.items others others c.make_place.result
-    c.make_place.ensures.place refl)
+    owed_stay g.C.Connection.origin c.args.connection c.args.self.now.guests.items others
+    (comes_not g.C.Connection.origin c.args.connection c.origin-origin.result c.args.self.now.guests.items others others
+    c.make_place.result c.origin-origin.ensures c.make_place.ensures.place refl)
 
 pub returns-in-Err-clause-comes : goal.returns-in-Err-clause-comes
 returns-in-Err-clause-comes g c =
-    comes_not c.args.connection c.args.self.now.guests.items c.make_place.new.self.guests.items
-    c.push.new.self.items c.make_place.result c.make_place.ensures.place c.in-Err.ensures.items
+    comes_not g.C.Connection.origin c.args.connection c.origin-origin.result c.args.self.now.guests.items
+    c.make_place.new.self.guests.items c.push.new.self.items c.make_place.result c.origin-origin.ensures
+    c.make_place.ensures.place c.in-Err.ensures.items
 
 pub returns-in-Err-clause-stays : goal.returns-in-Err-clause-stays
 returns-in-Err-clause-stays g c =
-    owed_stay c.args.connection c.args.self.now.guests.items c.push.new.self.items
-    (comes_not c.args.connection c.args.self.now.guests.items c.make_place.new.self.guests.items
-    c.push.new.self.items c.make_place.result c.make_place.ensures.place c.in-Err.ensures.items)
+    owed_stay g.C.Connection.origin c.args.connection c.args.self.now.guests.items c.push.new.self.items
+    (comes_not g.C.Connection.origin c.args.connection c.origin-origin.result c.args.self.now.guests.items
+    c.make_place.new.self.guests.items c.push.new.self.items c.make_place.result c.origin-origin.ensures
+    c.make_place.ensures.place c.in-Err.ensures.items)
 
 pub returns-in-Ok-clause-comes : goal.returns-in-Ok-clause-comes
 returns-in-Ok-clause-comes g c =
@@ -54,9 +56,9 @@ returns-in-Ok-clause-comes g c =
       came = c.new-guest.ensures.came;
       ticks = c.new-guest.ensures.ticks;
     } in
-    comes_in c.args.connection c.args.self.now.guests.items c.make_place.new.self.guests.items
-    c.push.new.self.items c.make_place.result c.new-guest.result c.make_place.ensures.place c.if-not-make_place.false
-    fresh c.in-Ok.ensures.items
+    comes_in g.C.Connection.origin c.args.connection c.origin-origin.result c.args.self.now.guests.items
+    c.make_place.new.self.guests.items c.push.new.self.items c.make_place.result c.new-guest.result
+    c.origin-origin.ensures c.make_place.ensures.place c.if-not-make_place.false fresh c.in-Ok.ensures.items
 
 pub returns-in-Ok-clause-stays : goal.returns-in-Ok-clause-stays
 returns-in-Ok-clause-stays g c =
@@ -66,10 +68,10 @@ returns-in-Ok-clause-stays g c =
       came = c.new-guest.ensures.came;
       ticks = c.new-guest.ensures.ticks;
     } in
-    owed_stay c.args.connection c.args.self.now.guests.items c.push.new.self.items
-    (comes_in c.args.connection c.args.self.now.guests.items c.make_place.new.self.guests.items
-    c.push.new.self.items c.make_place.result c.new-guest.result c.make_place.ensures.place c.if-not-make_place.false
-    fresh c.in-Ok.ensures.items)
+    owed_stay g.C.Connection.origin c.args.connection c.args.self.now.guests.items c.push.new.self.items
+    (comes_in g.C.Connection.origin c.args.connection c.origin-origin.result c.args.self.now.guests.items
+    c.make_place.new.self.guests.items c.push.new.self.items c.make_place.result c.new-guest.result
+    c.origin-origin.ensures c.make_place.ensures.place c.if-not-make_place.false fresh c.in-Ok.ensures.items)
 
 pub returns-in-Ok-clause-served : goal.returns-in-Ok-clause-served
 returns-in-Ok-clause-served g c =

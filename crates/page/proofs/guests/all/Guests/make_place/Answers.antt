@@ -9,7 +9,8 @@ use Rattle.page.proofs.guests.all.Guests.make_place.Goals as goal
 pub remove-guest-requires : goal.remove-guest-requires
 remove-guest-requires g c =
     let more : c.in-Some.place < length c.args.self.now.guests.items =
-    given_within c.args.self.now.guests.items c.in-Some.place c.in-Some.ensures.some in
+    given_within g.C.Connection.origin c.args.origin c.in-Some.place c.args.self.now.guests.items
+    c.in-Some.ensures.some in
     search (rules, arith)
 
 pub close-requires : goal.close-requires
@@ -20,7 +21,7 @@ close-requires g c =
     let now = c.args.self.now.guests.items in
     let place = c.in-Some.place in
     let d = c.remove-guest.result in
-    let more = given_within now place c.in-Some.ensures.some in
+    let more = given_within g.C.Connection.origin c.args.origin place now c.in-Some.ensures.some in
     let lives = left_lived talk own_only past now place d c.requires more in
     let is : c.remove-guest.result ≡ get_or now place d = c.remove-guest.ensures.value in
     lived talk own_only past (get_or now place d) c.leave.result lives
@@ -34,8 +35,9 @@ returns-clause-place g c =
     let full : 128 ≤ length now = search (rules, arith) in
     inr (
       full,
-      subst (λ (xs : List (Guest g.row.C.Denot)). GivesPlace now xs) (sym c.remove-guest.ensures.by_index.2)
-          (gives_place now place d c.in-Some.ensures.some),
+      subst (λ (xs : List (Guest g.row.C.Denot)). GivesPlace g.C.Connection.origin c.args.origin now xs)
+          (sym c.remove-guest.ensures.by_index.2)
+          (gives_place g.C.Connection.origin c.args.origin place now d c.in-Some.ensures.some),
     )
 
 pub returns-clause-free : goal.returns-clause-free
@@ -43,7 +45,7 @@ returns-clause-free g c some =
     let now = c.args.self.now.guests.items in
     let place = c.in-Some.place in
     let d = c.remove-guest.result in
-    let more = given_within now place c.in-Some.ensures.some in
+    let more = given_within g.C.Connection.origin c.args.origin place now c.in-Some.ensures.some in
     let left = left_fewer now place d more in
     let is = ap length c.remove-guest.ensures.by_index.2 in
     let few = c.requires.few in
@@ -57,6 +59,6 @@ returns-clause-served g c =
     let now = c.args.self.now.guests.items in
     let place = c.in-Some.place in
     let d = c.remove-guest.result in
-    let more = given_within now place c.in-Some.ensures.some in
+    let more = given_within g.C.Connection.origin c.args.origin place now c.in-Some.ensures.some in
     subst (λ (xs : List (Guest g.row.C.Denot)). AreServed talk own_only past xs) (sym c.remove-guest.ensures.by_index.2)
     (left_served talk own_only past now place d c.requires more)
