@@ -9,8 +9,8 @@ use Rattle.air_edges.specs.Pace as pace
 use Rattle.air_edges.specs.Edge.{Edge, IsEarly, TellsOut, Accepts, Looks, LookBrings, LookPasses, Brings, Passes}
 use Rattle.air_edges.specs.Edge.{PassesFor}
 use Rattle.air_edges.specs.Edge.{wait_limit, is_silent}
-use Rattle.air_serving.specs.declared.moments.Moment.{Moment}
-use Rattle.air_serving.specs.declared.moments.Moment.TheVariants.{Readable, Due, Over}
+use Rattle.device_serving.specs.declared.air.moments.Moment.{Moment}
+use Rattle.device_serving.specs.declared.air.moments.Moment.TheVariants.{Readable, Due, Over}
 
 both : (a b : Bool) → (a && b) ≡ true → (a ≡ true) × (b ≡ true)
 both true b is = (refl, is)

@@ -6,8 +6,8 @@ use Rattle.rds_groups.specs.declared.group.Group.{Group}
 use Rattle.uecp_text.specs.Written.{Begins}
 use Rattle.device_edges.specs.Place.{room_line}
 use Rattle.seats.specs.Seats.{IsSeatGiven, NoSeatGiven}
-use Rattle.air_serving.specs.declared.moments.Moment.{Moment}
-use Rattle.air_serving.specs.declared.moments.Moment.TheVariants.{Connected, Readable, Due, Over}
+use Rattle.device_serving.specs.declared.air.moments.Moment.{Moment}
+use Rattle.device_serving.specs.declared.air.moments.Moment.TheVariants.{Connected, Readable, Due, Over}
 use Rattle.air_edges.specs.declared.form.AirForm.{AirForm}
 use Rattle.air_edges.specs.declared.hears.Taken.{Taken}
 use Rattle.air_edges.specs.declared.sockets.Came.{Came}

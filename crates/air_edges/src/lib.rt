@@ -2,7 +2,8 @@
 //! and for the time of the next group.
 //!
 //! - [`Pace`]: when the next group is due.
-//! - [`OnAir`]: a [`Moments`](air_serving::Moments) over [`Sockets`]; [`AirForm`] says in which form the groups go out.
+//! - [`OnAir`]: a [`Moments`](device_serving::Moments) over [`Sockets`]; [`AirForm`] says in which form the groups go
+//!   out.
 //! - [`Sockets`]: what the machine gives: a clock, one wait, and connections; [`Came`] is what came. [`Hears`] is the
 //!   connection to one who listens, and [`Taken`] what it took.
 //! - [`TcpSockets`]: the same over TCP, at its [`Addresses`]; [`ScreenedSockets`]: the same over others, with nothing

@@ -2,3 +2,5 @@
 mod Ending
 mod Kept
 mod Stretches
+pub mod AirEnding
+pub mod AirStatuses

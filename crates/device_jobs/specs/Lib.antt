@@ -4,3 +4,5 @@ pub mod Serving
 pub mod Kept
 pub mod Connections
 pub mod OverTcp
+pub mod AirServing
+pub mod AirOverTcp

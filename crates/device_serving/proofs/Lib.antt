@@ -3,3 +3,6 @@ pub mod Outliving
 pub mod InOrder
 pub mod Endings
 pub mod Public
+pub mod AirTallying
+pub mod AirChain
+pub mod AirOutliving

@@ -4,3 +4,6 @@ pub mod ConnectionLines
 pub mod Logging
 pub mod DeviceRun
 pub mod Laws
+pub mod AirLines
+pub mod AirParts
+pub mod AirRun

@@ -7,6 +7,7 @@
 //! - [`laws::tells_in_order`]: what a log holds is what was told, once and in order.
 #![tactic(auto)]
 
+mod air;
 mod connection_lines;
 mod event_lines;
 pub mod laws;
@@ -14,6 +15,7 @@ mod limits;
 mod log_lines;
 mod run;
 
+pub use air::{Moment, Moments, run_on_air};
 pub use limits::Limits;
 pub use log_lines::{LogFault, LogLines};
 pub use run::{run_device, tell_last, went_after};

@@ -6,7 +6,7 @@
 //! - [`Patient`]: [`Connections`](uecp_net::Connections) over others, a [`Dialler`], which it asks for one again and
 //!   again, with longer and longer pauses; it says when the line is lost, there again, or silent, and [`Patience`] is
 //!   for how long. Their ends are a [`ReadMeter`] and a [`WriteMeter`], which note what waits for a reply, and whether
-//!   one came.
+//!   one came. [`NoticeForm`] is in which form it is said.
 //! - [`keep_alive`]: has the system ask whether somebody is at the other end of a connection.
 #![tactic(auto)]
 
@@ -26,6 +26,7 @@ mod watch;
 pub use alive::keep_alive;
 pub use dialler::Dialler;
 pub use heard::{ReadMeter, WriteMeter};
+pub use notices::NoticeForm;
 pub use patience::Patience;
 pub use patient::Patient;
 pub use polled::Polled;

@@ -92,7 +92,7 @@ impl<'a, 'n, C, T: Clock, W: Write> Patient<'a, 'n, C, T, W> {
         if self.watch.was_lost() {
             let _ = self.said.takes(Notice::Lost);
         } else if self.is_gone && self.said.takes(Notice::Lost) {
-            say_lost(self.clock, self.notices);
+            say_lost(self.watch.form(), self.clock, self.notices);
         }
         self.is_gone = false;
     }
@@ -131,7 +131,7 @@ impl<'a, 'n, C, T: Clock, W: Write> Patient<'a, 'n, C, T, W> {
         ensures says { SaysOn self.old self.new }
     {
         if is_news {
-            say_silent(self.clock, self.notices);
+            say_silent(self.watch.form(), self.clock, self.notices);
         }
     }
 
@@ -140,7 +140,7 @@ impl<'a, 'n, C, T: Clock, W: Write> Patient<'a, 'n, C, T, W> {
         ensures connect { self.new.connect ≡ self.old.connect }
         ensures says { SaysOn self.old self.new }
     {
-        say_given_up(self.clock, self.notices);
+        say_given_up(self.watch.form(), self.clock, self.notices);
     }
 
     /// There is a connection.
@@ -149,7 +149,13 @@ impl<'a, 'n, C, T: Clock, W: Write> Patient<'a, 'n, C, T, W> {
         ensures says { SaysOn self.old self.new }
     {
         if self.said.takes(Notice::There) {
-            say_there(self.clock, self.host, self.port, self.notices);
+            say_there(
+                self.watch.form(),
+                self.clock,
+                self.host,
+                self.port,
+                self.notices,
+            );
         }
         self.watch.line().made(self.address, now(self.clock));
     }
@@ -195,7 +201,14 @@ impl<'a, 'n, C: Dialler, T: Clock, W: Write> Patient<'a, 'n, C, T, W> {
     {
         let fault = self.connect.failed();
         if self.said.takes(Notice::Away(fault)) {
-            say_away(self.clock, self.host, self.port, fault, self.notices);
+            say_away(
+                self.watch.form(),
+                self.clock,
+                self.host,
+                self.port,
+                fault,
+                self.notices,
+            );
         }
         let mut wait = self.watch.line().wait();
         wait.refused(self.patience.retry_every);

@@ -71,7 +71,7 @@ impl<'a, N: Net + Clock, W: Write> Arrival for Polled<'a, N, W> {
             return true;
         };
         if milliseconds.is_none() && waiting.loses(self.fd, self.watch) {
-            say_lost(self.net, self.notices);
+            say_lost(self.watch.form(), self.net, self.notices);
         }
         waiting.is_ready(self.fd, milliseconds).unwrap_or(true)
     }

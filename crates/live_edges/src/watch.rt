@@ -1,16 +1,18 @@
 //! A connection that is looked after while no line comes (profile).
 
 use crate::line::Line;
+use crate::notices::NoticeForm;
 use std::cell::Cell;
 use std::net::TcpStream;
 
 /// The connection that a [`Patient`](crate::Patient) has given out, for a [`Polled`](crate::Polled) that looks after it
-/// while it waits for a line; and what waits on it, which its two ends note. All borrow it, and no contract says what
-/// it holds.
+/// while it waits for a line; what waits on it, which its two ends note; and in which form it is said what becomes of
+/// it. All borrow it, and no contract says what it holds.
 #[derive(Drop)]
 pub struct Watch {
     state: Cell<Watched>,
     line: Line,
+    form: NoticeForm,
 }
 
 /// What there is to be looked after.
@@ -26,12 +28,18 @@ enum Watched {
 }
 
 impl Watch {
-    /// There is no connection yet.
-    pub fn new() -> Watch {
+    /// There is no connection yet. What becomes of one is said in this form.
+    pub fn new(form: NoticeForm) -> Watch {
         Watch {
             state: Cell::new(Watched::Nothing),
             line: Line::new(),
+            form,
         }
+    }
+
+    /// In which form it is said what becomes of a connection.
+    pub(crate) fn form(&self) -> NoticeForm {
+        self.form
     }
 
     /// Nobody looks after a connection any more.

@@ -13,8 +13,8 @@ use Rattle.http1.specs.Server.{writing, planned_response, after_response}
 use Rattle.page.specs.declared.clients.client.Phase.TheVariants.{Closing}
 use Rattle.page.specs.declared.clients.html.TheConstants.{HTML, POLICY}
 use Rattle.page.specs.declared.clients.request.Route.{Route}
-use Rattle.page.specs.declared.clients.request.Route.TheVariants.{Page, Events, State, Metrics, NotFound, NotGet}
-use Rattle.page.specs.declared.clients.request.Route.TheVariants.{Foreign}
+use Rattle.page.specs.declared.clients.request.Route.TheVariants.{Page, Events, State, Metrics, Health, NotFound}
+use Rattle.page.specs.declared.clients.request.Route.TheVariants.{OtherMethod, Foreign}
 use Rattle.page.specs.State.{State as Shown}
 use Rattle.page.specs.Texts.{state_data, metrics}
 use Rattle.page.specs.Events.{Past, is_gap, due}
@@ -52,8 +52,9 @@ answer_of source Events = plain 503 (codes "Service Unavailable") (codes "64 get
 answer_of source State = given (codes "application/json") (compact_text (state_data source.shown))
 answer_of source Metrics =
     given (codes "text/plain; version=0.0.4; charset=utf-8") (metrics source.shown.counts source.seconds)
+answer_of source Health = given (codes "text/plain; charset=utf-8") (codes "ok\n")
 answer_of source NotFound = plain 404 (codes "Not Found") (codes "no such page\n")
-answer_of source NotGet = plain 405 (codes "Method Not Allowed") (codes "only GET is served\n")
+answer_of source OtherMethod = plain 405 (codes "Method Not Allowed") (codes "only GET and HEAD are served\n")
 answer_of source Foreign =
     plain 421 (codes "Misdirected Request") (codes "only the machine's own names are served here\n")
 
@@ -97,8 +98,9 @@ opens source Events = not source.is_full
 opens source Page = false
 opens source State = false
 opens source Metrics = false
+opens source Health = false
 opens source NotFound = false
-opens source NotGet = false
+opens source OtherMethod = false
 opens source Foreign = false
 
 -- What one is told who asks for this, and who names that event as the last.

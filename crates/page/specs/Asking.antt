@@ -5,21 +5,23 @@ use Rattle.std.specs.Char.{to_ascii_lowercase}
 use Rattle.std.specs.List.{list_all, starts_with, find}
 use Rattle.std.specs.Str.{bytes_eq}
 use Rattle.page.specs.declared.clients.request.Route.{Route}
-use Rattle.page.specs.declared.clients.request.Route.TheVariants.{Page, Events, State, Metrics, NotFound, NotGet}
-use Rattle.page.specs.declared.clients.request.Route.TheVariants.{Foreign}
+use Rattle.page.specs.declared.clients.request.Route.TheVariants.{Page, Events, State, Metrics, Health, NotFound}
+use Rattle.page.specs.declared.clients.request.Route.TheVariants.{OtherMethod, Foreign}
 
--- Which of the four pages a target names, to the letter.
+-- Which of the five pages a target names, to the letter.
 abbrev pub page_of : (target : List ℕ) → Route
 page_of target =
     if bytes_eq target (codes "/") then Page
     else if bytes_eq target (codes "/events") then Events
     else if bytes_eq target (codes "/state") then State
     else if bytes_eq target (codes "/metrics") then Metrics
+    else if bytes_eq target (codes "/healthz") then Health
     else NotFound
 
--- What a method and a target ask for: a page, where the method is GET.
+-- What a method and a target ask for: a page, where the method is GET, or HEAD, to which no body is sent.
 abbrev pub route_of : (method target : List ℕ) → Route
-route_of method target = if bytes_eq method (codes "GET") then page_of target else NotGet
+route_of method target =
+    if bytes_eq method (codes "GET") || bytes_eq method (codes "HEAD") then page_of target else OtherMethod
 
 abbrev pub is_digit : ℕ → Bool
 is_digit byte = nat_le 48 byte && nat_le byte 57

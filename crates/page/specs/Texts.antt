@@ -44,27 +44,39 @@ state_data s = object (member (codes "counts") (counts_data s.counts)
     (member (codes "kind") (string (codes "state")) (member (codes "services") (array (services_data s.services))
     no_members)))))
 
--- A value of this name, behind a line that says which kind of value it is.
-unfoldable pub valued : (name which : List ℕ) → ℕ → List ℕ
-valued name which n =
-    codes "# TYPE " ++ (name ++ (which ++ (name ++ (codes " " ++ (decimal n ++ codes "\n")))))
+-- A line that says what a value is.
+unfoldable pub helped : (name help : List ℕ) → List ℕ
+helped name help = codes "# HELP " ++ (name ++ (codes " " ++ (help ++ codes "\n")))
+
+-- A value of this name, behind a line that says of which kind it is.
+unfoldable pub typed : (name which : List ℕ) → ℕ → List ℕ
+typed name which n = codes "# TYPE " ++ (name ++ (which ++ (name ++ (codes " " ++ (decimal n ++ codes "\n")))))
+
+-- The same behind a line that says what it is.
+abbrev pub valued : (name help which : List ℕ) → ℕ → List ℕ
+valued name help which n = helped name help ++ typed name which n
 
 -- A count that rises, and a value that may fall.
-abbrev pub counter : (name : List ℕ) → ℕ → List ℕ
-counter name n = valued name (codes " counter\n") n
+abbrev pub counter : (name help : List ℕ) → ℕ → List ℕ
+counter name help n = valued name help (codes " counter\n") n
 
-abbrev pub gauge : (name : List ℕ) → ℕ → List ℕ
-gauge name n = valued name (codes " gauge\n") n
+abbrev pub gauge : (name help : List ℕ) → ℕ → List ℕ
+gauge name help n = valued name help (codes " gauge\n") n
 
 abbrev pub since : Option ℕ → List ℕ
 since None = []
-since (Some seconds) = gauge (codes "uecp_last_message_seconds") seconds
+since (Some seconds) = gauge (codes "uecp_last_message_seconds") (codes "Seconds since the last message.") seconds
 
 -- The metrics: the counts, and how many seconds ago the last message came, where one did.
 abbrev pub metrics : Counts → (seconds : Option ℕ) → List ℕ
 metrics c seconds =
-    counter (codes "uecp_lines_total") c.lines ++ (counter (codes "uecp_other_lines_total") c.others
-    ++ (counter (codes "uecp_messages_total") c.messages ++ (counter (codes "uecp_repeats_total") c.repeats
-    ++ (counter (codes "uecp_refusals_total") c.refusals ++ (counter (codes "uecp_dropped_segments_total") c.dropped
-    ++ (counter (codes "uecp_connections_total") c.connections
-    ++ (counter (codes "uecp_not_told_lines_total") c.not_told ++ since seconds)))))))
+    counter (codes "uecp_lines_total") (codes "Objects that were taken.") c.lines
+    ++ (counter (codes "uecp_other_lines_total") (codes "Lines that are no object of ours.") c.others
+    ++ (counter (codes "uecp_messages_total") (codes "Messages that were told.") c.messages
+    ++ (counter (codes "uecp_repeats_total") (codes "Messages that came again.") c.repeats
+    ++ (counter (codes "uecp_refusals_total") (codes "Messages that were refused with a code.") c.refusals
+    ++ (counter (codes "uecp_dropped_segments_total") (codes "Segments that were no frame.") c.dropped
+    ++ (counter (codes "uecp_connections_total") (codes "Connections to an encoder.") c.connections
+    ++ (counter (codes "uecp_not_told_lines_total") (codes "Lines that an end could not tell, as nobody read them.")
+    c.not_told
+    ++ since seconds)))))))

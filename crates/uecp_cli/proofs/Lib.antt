@@ -1,2 +1,4 @@
 pub mod Ending
+pub mod Options
+pub mod Causes
 pub mod Watched

@@ -1,5 +1,5 @@
--- What comes of the commands whose values are made of their options: groups on the air, a ladder, an encoder that is a
--- device, `send`, a display, conformance cases, and a page (profile).
+-- What comes of a command by its options: groups on the air, a ladder, both ends, `send`, a display, conformance cases,
+-- and a page (profile).
 use Rattle.std.specs.Prelude.{◌≡◌, ◌⊎◌, ◌≤◌, ◌||◌, ℕ, Bool, true, false, IsTrue, List, Option, None, is_some}
 use Rattle.std.specs.Prelude.{MatchOption, Result}
 use Rattle.rds_store.specs.Value.{Store}
@@ -10,7 +10,7 @@ use Rattle.device_edges.specs.Place.{Listens, ComesTo, GoesFrom}
 use Rattle.device_edges.specs.Screen.{Screen, Screening, Notice, OpensScreened, ClosesScreened}
 use Rattle.device_jobs.specs.Serving.{HasServedDevice}
 use Rattle.device_jobs.specs.OverTcp.{HasServedTcp}
-use Rattle.on_air_jobs.specs.OverTcp.{HasAiredTcp}
+use Rattle.device_jobs.specs.AirOverTcp.{HasAiredTcp}
 use Rattle.page_server.specs.Serving.{EndsWith}
 use Rattle.uecp_link.specs.Server.{ServerState}
 use Rattle.uecp_net.specs.declared.saved.keep.Progress.{Progress}
@@ -23,8 +23,8 @@ use Rattle.commands.specs.declared.answer_options.AnswerOptions.{AnswerOptions}
 use Rattle.commands.specs.declared.line_options.LadderForm.{LadderForm}
 use Rattle.commands.specs.declared.line_options.LineOptions.{LineOptions}
 use Rattle.commands.specs.declared.job.Job.{Job}
-use Rattle.commands.specs.declared.job.Job.TheVariants.{AnswerWith, LineWith, EncoderWith, Send, Receive, Conformance}
-use Rattle.commands.specs.declared.job.Job.TheVariants.{Page}
+use Rattle.commands.specs.declared.job.Job.TheVariants.{AnswerWith, LineWith, Encoder, EncoderWith, Server}
+use Rattle.commands.specs.declared.job.Job.TheVariants.{ServerWith, Send, Receive, Conformance, Page}
 use Rattle.uecp_jobs.specs.Setups.{Options}
 use Rattle.uecp_jobs.specs.Setups as setup
 use Rattle.air_jobs.specs.AirJobs as air
@@ -38,6 +38,7 @@ use Rattle.uecp_text.specs.Faults.{error_lines}
 use Rattle.uecp_text.specs.declared.run_fault.RunFault.TheVariants.{OutOfMemory}
 use Rattle.conformance_command.specs.Dialling.{DialsQuietly, DialsQuietlyAgain}
 use Rattle.conformance_command.specs.OverTcp.{RunsBuiltIn}
+use Rattle.uecp_cli.specs.Ends.{ComesOfServer, ServesThere, ServesPlain}
 use Rattle.notices.specs.Told.{Told, Says}
 
 -- The encoder that these options describe.
@@ -105,16 +106,24 @@ module _ {I O K : Type 0} (remaining : I → Option (List ℕ)) (contents : O �
       × HasSentTcp (λ poll milliseconds there poll'. Unit {0}) remaining contents gives refuses ends leaves is_clean
       saves fails o poll said unread held held' told told' status
 
-  -- So where it is asked for.
+  -- So where it is asked for; and what comes of `server`, where that is.
   abbrev pub ComesOfLines : Job → (status : ℕ) → (unread unread' held held' : Option (List ℕ)) → (told told' : Told)
       → Type 0
   ComesOfLines (Send o) status unread unread' held held' told told' =
       ComesOfSend o unread held held' told told' status
+  ComesOfLines (Server site encoder host port tries timeout turns reconnects window) status unread unread' held held'
+      told told' =
+      ComesOfServer remaining contents gives refuses ends leaves is_clean saves fails
+      (Server site encoder host port tries timeout turns reconnects window) status unread unread' held held' told told'
+  ComesOfLines (ServerWith o) status unread unread' held held' told told' =
+      ComesOfServer remaining contents gives refuses ends leaves is_clean saves fails (ServerWith o) status unread
+      unread' held held' told told'
   ComesOfLines job status unread unread' held held' told told' = Unit {0}
 
 -- What comes of the others, whatever the status is, over the sockets of the machine, where states are kept so.
-module _ {I J O K : Type 0} (remaining : I → Option (List ℕ)) (screened : Screen J → Option (List ℕ))
-    (contents : O → Option (List ℕ)) (gives : List ℕ → EncoderState Store → K → Type 0)
+module _ {I J O K : Type 0} (remaining : I → Option (List ℕ))
+    (screened : Screen J → Option (List ℕ)) (contents : O → Option (List ℕ))
+    (gives : List ℕ → EncoderState Store → K → Type 0)
     (refuses : List ℕ → StateFault → Type 0) (ends : K → Result (Unit {0}) StateFault → Type 0) (most room : ℕ)
     (leaves : K → Kept Store → Type 0) (is_clean : K → Type 0) (saves fails : K → Kept Store → K → Type 0) where
   -- The encoder is a device with a good line: it served over connections that came where the options have it listen.
@@ -138,20 +147,29 @@ module _ {I J O K : Type 0} (remaining : I → Option (List ℕ)) (screened : Sc
       (IsTrue (is_on_air o) → IsOnAir o held told told' status)
       × (is_on_air o ≡ false → o.faults ≡ None → ServesDevice o held held' told told' status)
 
-  abbrev pub ComesOf : Job → (status : ℕ) → (unread unread' held held' : Option (List ℕ)) → (told told' : Told) → Type 0
-  ComesOf (AnswerWith o) status unread unread' held held' told told' =
-      MatchOption o.air (Unit {0}) (AnswersOnAir o status unread unread' held held' told told')
-  ComesOf (LineWith o) status unread unread' held held' told told' =
-      MatchOption o.ladder (Unit {0}) (DrawsLadder o status unread unread' held held' told told')
-  ComesOf (EncoderWith o) status unread unread' held held' told told' =
-      IsTrue (is_device o) → ComesOfDevice o held held' told told' status
-  ComesOf (Receive o) status unread unread' held held' told told' =
-      (IsTrue o.bits → ReceivesBits o.form o.time status unread unread' held held' told told')
-      × (o.bits ≡ false → ReceivesLines o status unread held held' told told')
-  ComesOf (Conformance o) status unread unread' held held' told told' =
-      (status ≤ 1 → RunsBuiltIn DialsQuietlyAgain
-      (λ (d : DialsQuietly) (input : I) (output : O) (d' : DialsQuietly). d' ≡ d) remaining contents o held held' status
-      × (told' ≡ told))
-      × (status ≡ 2 → held' ≡ held)
-  ComesOf (Page o) status unread unread' held held' told told' = status ≤ 1 → EndsWith unread unread' status
-  ComesOf job status unread unread' held held' told told' = Unit {0}
+  -- So of a command, where connections of an encoder that is no device are screened so.
+  module _ (judged : Screen I → Option (List ℕ)) where
+    abbrev pub ComesOf : Job → (status : ℕ) → (unread unread' held held' : Option (List ℕ)) → (told told' : Told)
+        → Type 0
+    ComesOf (AnswerWith o) status unread unread' held held' told told' =
+        MatchOption o.air (Unit {0}) (AnswersOnAir o status unread unread' held held' told told')
+    ComesOf (LineWith o) status unread unread' held held' told told' =
+        MatchOption o.ladder (Unit {0}) (DrawsLadder o status unread unread' held held' told told')
+    ComesOf (Encoder site encoder sets services port connections turns) status unread unread' held held' told told' =
+        ServesThere remaining contents (Encoder site encoder sets services port connections turns) status held held'
+        told told'
+    ComesOf (EncoderWith o) status unread unread' held held' told told' =
+        (IsTrue (is_device o) → ComesOfDevice o held held' told told' status)
+        × (is_device o ≡ false → ServesPlain judged contents gives refuses ends most room leaves is_clean saves fails o
+        status held held' told told')
+    ComesOf (Receive o) status unread unread' held held' told told' =
+        (IsTrue o.bits → ReceivesBits o.form o.time status unread unread' held held' told told')
+        × (o.bits ≡ false → ReceivesLines o status unread held held' told told')
+    ComesOf (Conformance o) status unread unread' held held' told told' =
+        (status ≤ 1 → RunsBuiltIn DialsQuietlyAgain
+        (λ (d : DialsQuietly) (input : I) (output : O) (d' : DialsQuietly). d' ≡ d) remaining contents o held held'
+        status
+        × (told' ≡ told))
+        × (status ≡ 2 → held' ≡ held)
+    ComesOf (Page o) status unread unread' held held' told told' = status ≤ 1 → EndsWith unread unread' status
+    ComesOf job status unread unread' held held' told told' = Unit {0}

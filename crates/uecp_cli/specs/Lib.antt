@@ -1,4 +1,5 @@
 -- The definitions that the program's contracts cite.
 pub mod Kept
+pub mod Ends
 pub mod Apart
 pub mod Program

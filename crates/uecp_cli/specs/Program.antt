@@ -7,8 +7,7 @@ use Rattle.clap.specs.declared.error.kind.ErrorKind.{ErrorKind}
 use Rattle.clap.specs.declared.error.kind.ErrorKind.TheVariants.{DisplayHelp, DisplayVersion}
 use Rattle.uecp_text.specs.declared.run_fault.RunFault.{RunFault}
 use Rattle.uecp_text.specs.Faults.{Fails, error_lines}
-use Rattle.uecp_net.specs.Tcp.{Dials}
-use Rattle.commands.specs.Jobs.{in_full, is_device}
+use Rattle.commands.specs.Jobs.{is_device}
 use Rattle.commands.specs.declared.job.Job.{Job}
 use Rattle.commands.specs.declared.job.Job.TheVariants.{AnswerWith, LineWith, Encoder, EncoderWith, Server, ServerWith}
 use Rattle.commands.specs.declared.job.Job.TheVariants.{Send, Watch, State, Receive, Conformance, Page}
@@ -27,23 +26,7 @@ use Rattle.uecp_jobs.specs.EncoderRun.{HasServed, HasStopped}
 use Rattle.uecp_jobs.specs.ServerRun.{AreAcknowledged, AreAcknowledgedBefore, AreNotAcknowledged}
 use Rattle.uecp_cli.specs.Kept.{HasServedLines, SaysWhyOf, ServesKeptAs, SendsDone, SendsRefused, SendsStopped}
 use Rattle.uecp_cli.specs.Kept.{SendsKeptAs, HasTold, HasNotTold}
-use Rattle.uecp_cli.specs.Apart.{ComesOf}
 use Rattle.notices.specs.Told.{Told, Says}
-
--- ---- where connections come from
--- Connections are accepted on the port of the job.
-abbrev pub ListensFor : Job → (port : ℕ) → Type 0
-ListensFor (Encoder site encoder sets services port connections turns) listened = listened ≡ port
-ListensFor job listened = ⊥
-
--- The host and the port of the job are dialled, with its limit of time, and no connection was refused yet.
-abbrev pub FullDials : Job → Dials → Type 0
-FullDials (ServerWith o) dials =
-    dials ≡ record { host = string_bytes o.host; port = o.port; timeout = o.timeout; failed = None }
-FullDials job dials = ⊥
-
-abbrev pub DialsFor : Job → Dials → Type 0
-DialsFor job dials = FullDials (in_full job) dials
 
 -- ---- what comes of a job
 -- What comes of these is told by the calls that do them, and not here: groups on the air, a ladder, a device, what goes

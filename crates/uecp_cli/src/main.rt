@@ -48,6 +48,7 @@ fn main(rt: HostRuntime) -> ExitCode {
     ));
     let mut writer = LinesOut::new(alloc, &output, &patience, Voice::Log);
     let mut effects = LinesOut::new(alloc, &output, &patience, Voice::Log);
+    let mut objects = LinesOut::new(alloc, &output, &patience, Voice::Log);
     let mut losses = LinesOut::new(alloc, &beside, &patience, Voice::Notices);
     let mut notices = LinesOut::new(alloc, &beside, &patience, Voice::Notices);
     let mut errors = NoticesTo::new(LinesOut::new(alloc, &beside, &patience, Voice::Reasons));
@@ -56,6 +57,7 @@ fn main(rt: HostRuntime) -> ExitCode {
         losses: &mut losses,
         notices: &mut notices,
         effects: &mut effects,
+        objects: &mut objects,
         patience: &patience,
     };
     let status = run(&rt, &mut writer, &mut errors, hands);

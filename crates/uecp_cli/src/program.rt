@@ -16,8 +16,8 @@ ghost use Rattle.command_line.specs.Usages.{AskForText, SaysFailure};
 ghost use Rattle.receive_command.specs.Bits.{ReceivesBits};
 ghost use Rattle.uecp_cli.specs.Program.{AskApart, HasDone, HasRefused, HasKept, HasRefusedWords, HasBrokenOff};
 ghost use Rattle.uecp_cli.specs.Program.{HasNoJob, IsApart, IsJobDone, IsJobRefused, IsJobStopped, IsJobKept};
-ghost use Rattle.uecp_cli.specs.Program.{ListensFor};
-ghost use Rattle.uecp_cli.specs.Program.{DialsFor, HasCome};
+ghost use Rattle.uecp_cli.specs.Program.{HasCome};
+ghost use Rattle.uecp_cli.specs.Ends.{DialsFor, ListensFor, SendsDialled, SendsOver, ServesPlain};
 ghost use Rattle.uecp_cli.specs.Kept.{HasServedLines, SaysWhyOf, ServesKeptAs, SendsDone, SendsRefused, SendsStopped};
 ghost use Rattle.uecp_cli.specs.Kept.{SendsKeptAs, SendsNotAll};
 ghost use Rattle.uecp_cli.specs.Apart.{is_on_air};
@@ -32,12 +32,11 @@ use commands::{
 };
 use conformance_command::{run_conformance_over_tcp, say_unreached};
 use device_edges::{Idle, Patience, Screened, Screening};
-use device_jobs::{Beside, run_device_over_tcp, run_encoder_in};
+use device_jobs::{Beside, run_device_over_tcp, run_encoder_in, run_on_air_over_tcp};
 use ladders::{LadderJob, run_ladder};
 use line_feed::{Arrival, LineFeed};
-use live_edges::{Polled, Watch};
+use live_edges::{NoticeForm, Polled, Watch};
 use notices::{NoticesTo, fail};
-use on_air_jobs::run_on_air_over_tcp;
 use page_server::run_page_over_tcp;
 use receive_command::{run_receive, run_receive_bits};
 use send_commands::{Dialling, Teller, run_send_over_tcp};
@@ -62,8 +61,10 @@ pub struct Hands<'a, M: Write, F: Write> {
     pub losses: &'a mut M,
     /// Where it is said what is waited for, and that there is no room for who connects.
     pub notices: &'a mut M,
-    /// Where it is told what a bad line does.
+    /// Where it is told, behind what is written, what a bad line does; or in objects what is said on `losses`.
     pub effects: &'a mut F,
+    /// The same in objects of what is said on `notices`.
+    pub objects: &'a mut F,
     /// For how long those are waited for who read what is written and said.
     pub patience: &'a Patience,
 }
@@ -120,17 +121,19 @@ pub fn run_words<
         S.EncoderKeeper.is_clean (S.gives_server states.now) S.ServerKeeper.leaves S.ServerKeeper.is_clean
         (map string_bytes words.now) (R.remaining reader.old) (R.remaining reader.new) (W.contents writer.old)
         (W.contents writer.new)) }
-    // Whatever the status is, this comes of groups on the air, a ladder, an encoder that is a device, a display,
-    // conformance cases, and a page; or the words gave no job.
+    // Whatever the status is, this comes of groups on the air, a ladder, an encoder, a display, conformance cases, and
+    // a page; or the words gave no job.
     ensures comes { AskForText (map string_bytes words.now)
         ⊎ (HasNoJob (map string_bytes words.now) errors.old errors.new
-        ⊎ HasCome (ComesOf ⟦<TcpStream as Read>⟧.remaining ⟦<Screened<Idle<TcpStream>> as Read>⟧.remaining
-        ⟦<TcpStream as Write>⟧.contents (S.gives_encoder states.now) (S.refuses_encoder states.now)
+        ⊎ HasCome (ComesOf ⟦<TcpStream as Read>⟧.remaining
+        ⟦<Screened<Idle<TcpStream>> as Read>⟧.remaining ⟦<TcpStream as Write>⟧.contents (S.gives_encoder states.now)
+        (S.refuses_encoder states.now)
         (S.closes_encoder states.now) S.EncoderKeeper.TOGETHER_MAX S.EncoderKeeper.READ_MAX S.EncoderKeeper.leaves
-        S.EncoderKeeper.is_clean S.EncoderKeeper.saves S.EncoderKeeper.fails) (map string_bytes words.now) result
+        S.EncoderKeeper.is_clean S.EncoderKeeper.saves S.EncoderKeeper.fails
+        ⟦<Screened<TcpStream> as Read>⟧.remaining) (map string_bytes words.now) result
         (R.remaining reader.old) (R.remaining reader.new) (W.contents writer.old) (W.contents writer.new)
         errors.old errors.new) }
-    // And this of `send`.
+    // And this of `server` and `send`.
     ensures sends { AskForText (map string_bytes words.now)
         ⊎ (HasNoJob (map string_bytes words.now) errors.old errors.new
         ⊎ HasCome (ComesOfLines ⟦<TcpStream as Read>⟧.remaining ⟦<TcpStream as Write>⟧.contents
@@ -186,7 +189,8 @@ fn run_asked<
         ⟦<Screened<Idle<TcpStream>> as Read>⟧.remaining
         ⟦<TcpStream as Write>⟧.contents (S.gives_encoder states.now) (S.refuses_encoder states.now)
         (S.closes_encoder states.now) S.EncoderKeeper.TOGETHER_MAX S.EncoderKeeper.READ_MAX S.EncoderKeeper.leaves
-        S.EncoderKeeper.is_clean S.EncoderKeeper.saves S.EncoderKeeper.fails job.now result (R.remaining reader.old)
+        S.EncoderKeeper.is_clean S.EncoderKeeper.saves S.EncoderKeeper.fails
+        ⟦<Screened<TcpStream> as Read>⟧.remaining job.now result (R.remaining reader.old)
         (R.remaining reader.new)
         (W.contents writer.old) (W.contents writer.new) errors.old errors.new }
     ensures sends { ComesOfLines ⟦<TcpStream as Read>⟧.remaining
@@ -327,6 +331,11 @@ fn serve<
         S.EncoderKeeper.is_clean S.EncoderKeeper.saves S.EncoderKeeper.fails options.now (W.contents writer.old)
         (W.contents writer.new)
         errors.old errors.new result }
+    ensures plain { is_device options.now ≡ false → ServesPlain ⟦<Screened<TcpStream> as Read>⟧.remaining
+        ⟦<TcpStream as Write>⟧.contents (S.gives_encoder states.now) (S.refuses_encoder states.now)
+        (S.closes_encoder states.now) S.EncoderKeeper.TOGETHER_MAX S.EncoderKeeper.READ_MAX S.EncoderKeeper.leaves
+        S.EncoderKeeper.is_clean S.EncoderKeeper.saves S.EncoderKeeper.fails options.now result (W.contents writer.old)
+        (W.contents writer.new) errors.old errors.new }
 {
     if is_device(options) {
         return be_device(alloc, options, writer, errors, hands, net, states);
@@ -375,6 +384,7 @@ fn be_device<
         losses,
         notices,
         effects,
+        objects: _,
         patience,
     } = hands;
     patience.limit(
@@ -427,6 +437,14 @@ fn be_good_device<
     run_device_over_tcp(alloc, options, writer, errors, beside, net, states)
 }
 
+/// In which form it is said what becomes of a line, where answers are told so.
+fn notice_form(form: Form) -> NoticeForm {
+    match form {
+        Form::Json => NoticeForm::Objects,
+        Form::Lines | Form::Words(_) => NoticeForm::Lines,
+    }
+}
+
 /// Whether what is told is told in objects.
 fn is_objects(form: Form) -> bool {
     match form {
@@ -465,6 +483,11 @@ fn send_input<
         (W.contents writer.old) (W.contents writer.new) errors.old errors.new }
     ensures kept { (result ≡ 0) ⊎ (result ≡ 1) → SendsKeptAs (S.gives_server states.now) S.ServerKeeper.leaves
         S.ServerKeeper.is_clean options.now (R.remaining reader.old) (R.remaining reader.new) }
+    ensures dialled { SendsDialled ⟦<TcpStream as Read>⟧.remaining ⟦<TcpStream as Write>⟧.contents
+        (S.gives_server states.now) (S.refuses_server states.now) (S.closes_server states.now)
+        S.ServerKeeper.leaves S.ServerKeeper.is_clean S.ServerKeeper.saves S.ServerKeeper.fails options.now result
+        (R.remaining reader.old) (R.remaining reader.new) (W.contents writer.old) (W.contents writer.new)
+        errors.old errors.new }
 {
     let mut dialing = dialing_of(net, job);
     let status = send_over(
@@ -511,6 +534,10 @@ fn send_over<R: Read, W: Write, E: Write, S: OpenStates, C: Connections>(
         (W.contents writer.old) (W.contents writer.new) errors.old errors.new }
     ensures kept { (result ≡ 0) ⊎ (result ≡ 1) → SendsKeptAs (S.gives_server states.now) S.ServerKeeper.leaves
         S.ServerKeeper.is_clean options.now (R.remaining reader.old) (R.remaining reader.new) }
+    ensures over { SendsOver C.opens C.closes C.Input.remaining C.Output.contents (S.gives_server states.now)
+        (S.refuses_server states.now) (S.closes_server states.now) S.ServerKeeper.leaves S.ServerKeeper.is_clean
+        S.ServerKeeper.saves S.ServerKeeper.fails options.now connect.old connect.new result (R.remaining reader.old)
+        (R.remaining reader.new) (W.contents writer.old) (W.contents writer.new) errors.old errors.new }
 {
     match &options.state {
         Some(path) => run_server_in(
@@ -558,10 +585,50 @@ fn send<
         input,
         losses,
         notices,
-        effects: _,
+        effects,
+        objects,
         patience: _,
     } = hands;
-    let watch = Watch::new();
+    let machine = (net, states, input);
+    if is_objects(options.form) {
+        return send_over_line(
+            alloc, options, reader, writer, errors, effects, objects, machine,
+        );
+    }
+    send_over_line(
+        alloc, options, reader, writer, errors, losses, notices, machine,
+    )
+}
+
+/// Does that where a connection that is lost while nothing is sent is told on `losses`, and all else of the line on
+/// `notices`.
+fn send_over_line<
+    R: Read,
+    W: Write,
+    E: Write,
+    M: Write,
+    N: Net<Listener = TcpListener, Stream = TcpStream> + Clock + Files,
+    S: OpenStates,
+>(
+    alloc: Global,
+    options: &SendOptions,
+    reader: &mut R,
+    writer: &mut W,
+    errors: &mut NoticesTo<E>,
+    losses: &mut M,
+    notices: &mut M,
+    machine: (&N, &S, RawFd),
+) -> u8
+    requires { IsLiveInRange options.now }
+    ensures { ComesOfSend ⟦<TcpStream as Read>⟧.remaining ⟦<TcpStream as Write>⟧.contents
+        (S.gives_server machine.entry.1.now) (S.refuses_server machine.entry.1.now)
+        (S.closes_server machine.entry.1.now) S.ServerKeeper.leaves S.ServerKeeper.is_clean S.ServerKeeper.saves
+        S.ServerKeeper.fails options.now
+        (R.remaining reader.old) (W.contents writer.old)
+        (W.contents writer.new) errors.old errors.new result }
+{
+    let (net, states, input) = machine;
+    let watch = Watch::new(notice_form(options.form));
     let arrival = Polled::new(alloc, net, input, &watch, &mut *losses);
     let mut teller = Teller::new(alloc, net, writer);
     let dialling = Dialling { net, watch: &watch };

@@ -55,8 +55,16 @@ impl Client {
             Route::Events => self.open_events(asked.last, site),
             Route::State => self.tell_state(alloc, site),
             Route::Metrics => self.tell_metrics(alloc, site),
+            Route::Health => self.whole(200, b"OK", PLAIN, b"ok\n"),
             Route::NotFound => self.whole(404, b"Not Found", PLAIN, b"no such page\n"),
-            Route::NotGet => self.whole(405, b"Method Not Allowed", PLAIN, b"only GET is served\n"),
+            Route::OtherMethod => {
+                self.whole(
+                    405,
+                    b"Method Not Allowed",
+                    PLAIN,
+                    b"only GET and HEAD are served\n",
+                )
+            }
             Route::Foreign => {
                 self.whole(
                     421,

@@ -14,10 +14,12 @@ pub enum Route {
     State,
     /// The counts, for monitoring systems.
     Metrics,
+    /// Whether it is well, for whoever looks after the process.
+    Health,
     /// There is no such page.
     NotFound,
-    /// The method is not GET.
-    NotGet,
+    /// The method is neither GET nor HEAD.
+    OtherMethod,
     /// The host is another than the machine's own.
     Foreign,
 }
@@ -26,10 +28,10 @@ pub enum Route {
 pub fn route_of(method: &[u8], target: &[u8]) -> Route
     ensures { result ≡ route_of method.now target.now }
 {
-    if method == b"GET".as_slice() {
+    if method == b"GET".as_slice() || method == b"HEAD".as_slice() {
         page_of(target)
     } else {
-        Route::NotGet
+        Route::OtherMethod
     }
 }
 
@@ -45,6 +47,8 @@ fn page_of(target: &[u8]) -> Route
         Route::State
     } else if target == b"/metrics".as_slice() {
         Route::Metrics
+    } else if target == b"/healthz".as_slice() {
+        Route::Health
     } else {
         Route::NotFound
     }

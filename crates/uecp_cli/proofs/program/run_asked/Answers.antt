@@ -27,8 +27,37 @@ returns-in-Encoder-clause-failed g c = λ three.
           inr (rw is ((ended.fault, not_failed ended.fault _ fails refl, (outcomes, few, begun), ended.said), refl))
     ]
 
+pub returns-in-Encoder-clause-comes : goal.returns-in-Encoder-clause-comes
+returns-in-Encoder-clause-comes g c =
+    let is = c.in-Encoder.is in
+    rw is (
+      c.local_of-local.result,
+      c.run_encoder_over.new.connect,
+      rw is at c.local_of-local.ensures,
+      (λ zero. rw is at ((c.run_encoder_over.ensures.done zero).0)),
+      (λ three. rw is at (c.run_encoder_over.ensures.failed three)),
+    )
+
 pub returns-in-EncoderWith-clause-comes : goal.returns-in-EncoderWith-clause-comes
-returns-in-EncoderWith-clause-comes g c = rw c.in-EncoderWith.is c.serve.ensures.comes
+returns-in-EncoderWith-clause-comes g c = rw c.in-EncoderWith.is (c.serve.ensures.comes, c.serve.ensures.plain)
+
+pub returns-in-Server-clause-sends : goal.returns-in-Server-clause-sends
+returns-in-Server-clause-sends g c =
+    let is = c.in-Server.is in
+    let run = c.run_server_over.ensures in
+    rw is (
+      c.dialing_of-dialing.result,
+      c.run_server_over.new.connect,
+      rw is at c.dialing_of-dialing.ensures,
+      (
+        (λ zero. rw is at ((run.sent zero).0)),
+        (λ one. rw is at (run.sent_before one)),
+        (λ three. rw is at (run.not_sent three)),
+      ),
+    )
+
+pub returns-in-ServerWith-clause-sends : goal.returns-in-ServerWith-clause-sends
+returns-in-ServerWith-clause-sends g c = rw c.in-ServerWith.is c.send_input.ensures.dialled
 
 pub returns-in-Page-clause-comes : goal.returns-in-Page-clause-comes
 returns-in-Page-clause-comes g c = rw c.in-Page.is c.run_page_over_tcp.ensures.ended

@@ -1,5 +1,6 @@
 use Rattle.std.proofs.Common.{inl}
-use Rattle.page.specs.declared.clients.request.Route.TheVariants.{Page, NotFound, NotGet, Foreign}
+use Rattle.page.specs.declared.clients.request.Route.TheVariants.{Page, Health, NotFound, OtherMethod}
+use Rattle.page.specs.declared.clients.request.Route.TheVariants.{Foreign}
 use Rattle.page.specs.ClientView.{source_of, standing_of}
 use Rattle.page.proofs.Told.{answered_as, with_body}
 use Rattle.page.proofs.clients.client.Client.answer.Goals as goal
@@ -10,17 +11,23 @@ returns-in-Page-clause-replies c =
     (standing_of c.whole.new.self) c.in-Page.is c.whole.ensures.closes
     (inl (with_body _ _ _ _ _ _ c.whole.ensures.told c.as_bytes.ensures.value))
 
+pub returns-in-Health-clause-replies : goal.returns-in-Health-clause-replies
+returns-in-Health-clause-replies c =
+    answered_as (source_of c.args.site.now) c.args.self.now.server _ Health _ (standing_of c.args.self.now)
+    (standing_of c.whole-in-Health.new.self) c.in-Health.is c.whole-in-Health.ensures.closes
+    (inl c.whole-in-Health.ensures.told)
+
 pub returns-in-NotFound-clause-replies : goal.returns-in-NotFound-clause-replies
 returns-in-NotFound-clause-replies c =
     answered_as (source_of c.args.site.now) c.args.self.now.server _ NotFound _ (standing_of c.args.self.now)
     (standing_of c.whole-in-NotFound.new.self) c.in-NotFound.is c.whole-in-NotFound.ensures.closes
     (inl c.whole-in-NotFound.ensures.told)
 
-pub returns-in-NotGet-clause-replies : goal.returns-in-NotGet-clause-replies
-returns-in-NotGet-clause-replies c =
-    answered_as (source_of c.args.site.now) c.args.self.now.server _ NotGet _ (standing_of c.args.self.now)
-    (standing_of c.whole-in-NotGet.new.self) c.in-NotGet.is c.whole-in-NotGet.ensures.closes
-    (inl c.whole-in-NotGet.ensures.told)
+pub returns-in-OtherMethod-clause-replies : goal.returns-in-OtherMethod-clause-replies
+returns-in-OtherMethod-clause-replies c =
+    answered_as (source_of c.args.site.now) c.args.self.now.server _ OtherMethod _ (standing_of c.args.self.now)
+    (standing_of c.whole-in-OtherMethod.new.self) c.in-OtherMethod.is c.whole-in-OtherMethod.ensures.closes
+    (inl c.whole-in-OtherMethod.ensures.told)
 
 pub returns-in-Foreign-clause-replies : goal.returns-in-Foreign-clause-replies
 returns-in-Foreign-clause-replies c =
