@@ -10,7 +10,7 @@ import subprocess
 TOP = os.path.dirname(os.path.dirname(os.path.abspath(__file__)))
 NAME = "belgocsid"
 DOCUMENTS = ("README.md", "CHANGELOG.md")
-UNITS = ("uecp-send@.service", "uecp-send@.socket", "uecp-encoder@.service", "uecp-page.service", "uecp-page.socket")
+UNITS = ("uecp-send@.service", "uecp-send@.socket", "uecp-encoder@.service", "uecp-page.service", "uecp-page.socket", "uecp-page-feed.service")
 LIBRARY = ("libuecp.a", "libuecp.so.0", "uecp.h", "uecp.pc")
 PATTERN = re.compile(r"\blogic=\S.*")
 

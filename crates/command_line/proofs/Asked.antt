@@ -51,7 +51,7 @@ pub faulty_of : (a : App) (words : List Text) (e : Error) → a ≡ uecp_app
 faulty_of a words e is h = subst (λ (x : App). is_simple_and_free x ≡ true → HasKind (fault_of x words) e) is h free_app
 
 -- ---- the name and the rows of what was met
-both_met : {Z : Type 0} (o : Option (Box SubCommand Z)) (name : Text) (rows : List Row)
+pub both_met : {Z : Type 0} (o : Option (Box SubCommand Z)) (name : Text) (rows : List Row)
     → Some name ≡ option_map (λ b. (out-SubCommand (box_value b)).name.now) o
     → Some rows ≡ option_map (λ p. p.1) (subcommand_rows o) → subcommand_rows o ≡ Some (name, rows)
 both_met None name rows e f = cc

@@ -2,5 +2,6 @@ pub mod Options
 pub mod Apps
 pub mod Asked
 pub mod Helps
+pub mod Names
 pub mod Examples
 pub mod Refusals

@@ -346,6 +346,10 @@ maybe_number name least greatest = record (number_option name least greatest Non
 abbrev pub state_option : Rule
 state_option = maybe_word (codes "state")
 
+-- The option with the name of a line, which may be left out.
+abbrev pub name_option : Rule
+name_option = maybe_word (codes "name")
+
 -- The option with the file of a station's lines, which may be left out.
 abbrev pub station_option : Rule
 station_option = maybe_word (codes "station")
@@ -411,7 +415,7 @@ playing_command =
 -- The command `receive`.
 abbrev pub receiving_command : Shape
 receiving_command = command_with (codes "receive")
-    (flag (codes "bits") ∷ flag (codes "rbds") ∷ flag (codes "json") ∷ flag (codes "no-time") ∷ [])
+    (flag (codes "bits") ∷ flag (codes "rbds") ∷ flag (codes "json") ∷ name_option ∷ flag (codes "no-time") ∷ [])
 
 -- The command `page`.
 abbrev pub paging_command : Shape
@@ -435,7 +439,7 @@ showing_command = command_with (codes "show") form_flags
 
 -- The command `watch`.
 abbrev pub watching_command : Shape
-watching_command = command_with (codes "watch") (form_flags ++ flag (codes "no-time") ∷ [])
+watching_command = command_with (codes "watch") (form_flags ++ name_option ∷ flag (codes "no-time") ∷ [])
 
 -- The command `make`.
 abbrev pub making_command : Shape
@@ -454,9 +458,9 @@ serving_options = maybe_word (codes "listen") ∷ maybe_number (codes "port") 1 
 abbrev pub listening_command : Shape
 listening_command =
     command_with (codes "encoder")
-    (encoder_options ++ serving_options ++ form_flags ++ flag (codes "no-time") ∷ maybe_word (codes "faults")
-    ∷ number_option (codes "seed") 0 1000000000 (Some (codes "0")) ∷ maybe_number (codes "air") 1 65535
-    ∷ flag (codes "air-bits") ∷ state_option ∷ [])
+    (encoder_options ++ serving_options ++ form_flags ++ name_option ∷ flag (codes "no-time")
+    ∷ maybe_word (codes "faults") ∷ number_option (codes "seed") 0 1000000000 (Some (codes "0"))
+    ∷ maybe_number (codes "air") 1 65535 ∷ flag (codes "air-bits") ∷ state_option ∷ [])
 
 -- The options of a server's bounds.
 abbrev pub bound_options : List Rule
@@ -483,7 +487,7 @@ live_command = command_with (codes "send") (place_options ++ word_option (codes 
     ∷ number_option (codes "retry-every") 1 3600 (Some (codes "30"))
     ∷ number_option (codes "give-up") 0 1000000 (Some (codes "0"))
     ∷ number_option (codes "silent") 1 86400 (Some (codes "60"))
-    ∷ flag (codes "rbds") ∷ flag (codes "json") ∷ flag (codes "strict") ∷ flag (codes "join")
+    ∷ flag (codes "rbds") ∷ flag (codes "json") ∷ name_option ∷ flag (codes "strict") ∷ flag (codes "join")
     ∷ flag (codes "rejoin")
     ∷ state_option ∷ station_option ∷ [])
 

@@ -5,3 +5,4 @@ pub mod CommandLine
 pub mod Rows
 pub mod FileLines
 pub mod Settled
+pub mod Naming

@@ -37,6 +37,13 @@ const JSON: OptionRow = OptionRow::Flag("json", "Lines of JSON, one object each"
 /// The flag against the time.
 const UNTIMED: OptionRow = OptionRow::Flag("no-time", "Without the time before what is told");
 
+/// The name of the line.
+const NAME: OptionRow = OptionRow::MaybeWord(
+    "name",
+    "NAME",
+    "With --json, the name of the line, which stands in each object: 1 to 64 characters of ASCII, no quote and no backslash",
+);
+
 /// Where the encoder listens.
 const HOST: OptionRow = OptionRow::WordOr(
     "host",
@@ -160,6 +167,7 @@ pub(crate) const ENCODER_COMMAND: CommandRow = CommandRow {
         WORDS,
         RBDS,
         JSON,
+        NAME,
         UNTIMED,
         OptionRow::MaybeWord(
             "faults",
@@ -226,6 +234,7 @@ pub(crate) const SEND_COMMAND: CommandRow = CommandRow {
         OptionRow::Number(SILENT),
         NAMES,
         JSON,
+        NAME,
         OptionRow::Flag("strict", "End at a line that is refused"),
         OptionRow::Flag(
             "join",
@@ -253,6 +262,7 @@ pub(crate) const WATCH_COMMAND: CommandRow = CommandRow {
         WORDS,
         RBDS,
         JSON,
+        NAME,
         OptionRow::Flag("no-time", "Without the time before what was read"),
     ],
 };
@@ -277,6 +287,7 @@ pub(crate) const RECEIVE_COMMAND: CommandRow = CommandRow {
         ),
         NAMES,
         JSON,
+        NAME,
         UNTIMED,
     ],
 };

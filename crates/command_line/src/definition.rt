@@ -15,9 +15,9 @@ use std::alloc::{AllocError, Global};
 /// The version. `packaging/stamp` writes the commit over the word in brackets once the program is built.
 const VERSION: &str = "1.0.0 (unreleased)";
 
-/// What the exit statuses say, below the list of commands.
-const STATUSES: &str =
-    "Each command but encoder, state and conformance reads standard input to its end, at most 1 MiB (1,048,576 bytes);\nwatch, send, receive and page go on as it comes, and have no limit.\n'uecp COMMAND --help' has its options and an example.\nExit status: 0 done, 1 an input line was refused, 2 the command line or the services were refused,\n3 memory, reading, writing, a connection or a state failed.";
+/// Who uses which command, what is read, and what the exit statuses say, below the list of commands.
+const GUIDE: &str =
+    "At the studio: send, server. At the transmitter: encoder. On the line: watch, conformance. On the air: receive.\nTo look: page, state. With no line at all: make, show, answer, line.\n\nEach command but encoder, state and conformance reads standard input to its end, at most 1 MiB (1,048,576 bytes);\nwatch, send, receive and page go on as it comes, and have no limit.\n'uecp COMMAND --help' has its options and an example.\nExit status: 0 done, 1 an input line was refused, 2 the command line or the services were refused,\n3 memory, reading, writing, a connection or a state failed, 4 send: the encoder refused a message, or it is unknown.";
 
 /// The program's commands and options, with their ranges, defaults and helpful texts.
 pub fn program<'a>(alloc: Global) -> Result<Command<'a>, AllocError>
@@ -27,7 +27,7 @@ pub fn program<'a>(alloc: Global) -> Result<Command<'a>, AllocError>
         .bin_name("uecp")?
         .version(VERSION)
         .about("Both ends of an RDS encoder's control line (UECP)")
-        .after_help(STATUSES)
+        .after_help(GUIDE)
         .subcommand_required(true);
     with_commands(alloc, program, &command_rows())
 }

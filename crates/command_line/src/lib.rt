@@ -3,6 +3,7 @@
 //! - [`parse`]: the words of a command line as a [`Job`], or why they ask for none, a [`Usage`]; [`refuse`] says that.
 //! - [`program`]: the commands and their options, as clap takes them.
 //! - [`settle`]: the words with the options of the file that they name.
+//! - [`line_name`]: the name that they give to their line, which stands in each object that is told.
 //!
 //! It does nothing of what is asked for.
 #![tactic(auto)]
@@ -18,6 +19,7 @@ mod encoder_options;
 mod file_fault;
 mod forms;
 mod matched;
+mod naming;
 mod numbers;
 mod option_row;
 mod page_options;
@@ -31,6 +33,7 @@ mod usage;
 
 pub use commands::Job;
 pub use definition::program;
+pub use naming::line_name;
 pub use parsing::parse;
 pub use refusing::refuse;
 pub use settling::settle;

@@ -3,5 +3,6 @@ pub mod AllowLists
 pub mod Asking
 pub mod FirstBytes
 pub mod Lobbies
+pub mod Namings
 pub mod Readings
 pub mod Screens

@@ -4,5 +4,6 @@ pub mod Screen
 pub mod Lobby
 pub mod Allowed
 pub mod Outlet
+pub mod Naming
 pub mod Readings
 pub mod Door

@@ -14,7 +14,8 @@
 //!   [`hold_few`]: what the system holds for one that takes nothing.
 //! - [`Outlet`]: where whole lines go out to a reader that is waited for no longer than so long: each [`Fate`], and how
 //!   a gap is told ([`Wording`]). [`Taker`] says whether the reader takes more, as a [`Descriptor`] does by a poll. To
-//!   one outlet several [`LinesOut`] write, each with its [`Voice`], under one [`Patience`].
+//!   one outlet several [`LinesOut`] write, each with its [`Voice`], under one [`Patience`], and with the name of the
+//!   line in each object that goes out.
 #![tactic(auto)]
 
 mod accepting;
@@ -29,6 +30,7 @@ mod idle;
 pub mod laws;
 mod lines_out;
 mod lobby;
+mod naming;
 mod notice;
 mod outlet;
 mod room;
@@ -42,7 +44,7 @@ pub use allowed::{AllowFault, Allowed, Network};
 pub use descriptor::Descriptor;
 pub use entrance::{Entrance, hold_few};
 pub use idle::Idle;
-pub use lines_out::{LinesOut, Patience, Voice};
+pub use lines_out::{LineName, LinesOut, Patience, Voice};
 pub use notice::{NO_ROOM, OnceNotice};
 pub use outlet::{Fate, Outlet, Taker, Wording};
 pub use room::{Ready, Yielding, lacks_room};

@@ -36,14 +36,14 @@ pub enum Fate {
 
 /// How it is told how many lines were left out: what stands before the number, and behind it.
 #[derive(Debug, Drop)]
-pub struct Wording {
+pub struct Wording<'a> {
     /// Before it.
-    pub before: &'static str,
+    pub before: &'a str,
     /// Behind it, with the end of the line.
-    pub behind: &'static str,
+    pub behind: &'a str,
 }
 
-impl Model for Wording {
+impl<'a> Model for Wording<'a> {
     ghost use Rattle.device_edges.specs.Outlet.{Wording};
 
     ghost Value = { Wording };
@@ -86,7 +86,12 @@ impl<W: Write, T: Taker> Outlet<W, T> {
     /// at once where it has stopped already.
     ///
     /// Errors: the writer failed, as where nobody reads any more; or memory was wanting.
-    pub fn tell(&mut self, text: &[u8], wording: &Wording, milliseconds: u64) -> io::Result<Fate>
+    pub fn tell(
+        &mut self,
+        text: &[u8],
+        wording: &Wording<'_>,
+        milliseconds: u64,
+    ) -> io::Result<Fate>
         ensures comes { IfOk result (λ fate. Comes wording.now fate text.now self.old self.new) }
         ensures stops { OnErr result (Stops wording.now text.now self.old self.new) }
         ensures waits { result ≡ Ok LeftOut → HasStopped T.answers (patience self.old milliseconds) }
@@ -127,7 +132,7 @@ impl<W: Write, T: Taker> Outlet<W, T> {
 
     /// Nothing more will come: what is owed and how many lines were left out goes out where the reader takes it now.
     /// How many lines were not told in the end.
-    pub fn close(&mut self, wording: &Wording) -> u64
+    pub fn close(&mut self, wording: &Wording<'_>) -> u64
         ensures untold { result ≡ untold self.new }
         ensures stands { Stops wording.now [] self.old self.new }
     {
@@ -157,7 +162,7 @@ impl<W: Write, T: Taker> Outlet<W, T> {
     }
 
     /// Owes this text, behind how many lines were left out.
-    fn owe(&mut self, text: &[u8], wording: &Wording) -> io::Result<()>
+    fn owe(&mut self, text: &[u8], wording: &Wording<'_>) -> io::Result<()>
         requires { self.old.owed ≡ [] }
         ensures held { self.new.held ≡ self.old.held }
         ensures owes { OnOk result ((self.new.owed ≡ gap wording.now self.old.left_out ++ text.now)
@@ -216,7 +221,7 @@ fn lines_of(text: &[u8]) -> usize
 }
 
 /// Puts a text down behind how many lines were left out.
-fn put_text(wording: &Wording, left_out: u64, text: &[u8], owed: &mut Vec<u8>) -> io::Result<()>
+fn put_text(wording: &Wording<'_>, left_out: u64, text: &[u8], owed: &mut Vec<u8>) -> io::Result<()>
     requires { owed.old.items ≡ [] }
     ensures { OnOk result (owed.new.items ≡ gap wording.now left_out ++ text.now) }
 {

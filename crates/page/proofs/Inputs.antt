@@ -1,5 +1,5 @@
 -- What came of the bytes of an input.
-use Rattle.std.proofs.Common.{◌≡◌, ◌≢◌, ℕ, Bool, true, false, List, [], ◌∷◌, ◌++◌, Option, Some, None, refl, ◌∙◌, ap}
+use Rattle.std.proofs.Common.{◌≡◌, ◌≢◌, ℕ, List, [], ◌∷◌, ◌++◌, Option, Some, None, refl}
 use Rattle.std.proofs.Common.{sym, subst, append-nil, ◌⊎◌, inl, inr}
 use Rattle.page.specs.declared.intake.open_line.Cut.{Cut}
 use Rattle.page.specs.declared.intake.open_line.Cut.TheVariants.{Line, TooLong, Nothing}
@@ -7,7 +7,7 @@ use Rattle.page.specs.declared.intake.taking.Taken.{Taken}
 use Rattle.page.specs.declared.intake.taking.Intake.{Intake}
 use Rattle.page.specs.Lines.{Cutting, Cuts, IsLast, Stands, AreAll, out_of, nothing_read}
 use Rattle.page.specs.Intake.{Board, board_of, TakesIn}
-use Rattle.page.specs.Input.{at_start, cutting_of, bytes_left, TakesAll, IntakeOf, AllTaken, Brings, TakesNext}
+use Rattle.page.specs.Input.{at_start, cutting_of, bytes_left, TakesAll, IntakeOf, Brings, TakesNext}
 use Rattle.page.specs.Input.{TakesLast, GoesOn, Ends}
 use Rattle.page.proofs.Handing.{stands_bytes, stands_cut, stands_first, all_lines_at_end}
 

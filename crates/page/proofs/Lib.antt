@@ -1,5 +1,9 @@
 pub mod Among
 pub mod Whole
+pub mod Cards
+pub mod Lasts
+pub mod Placing
+pub mod Growing
 pub mod Digits
 pub mod Streams
 pub mod Schedules

@@ -1,17 +1,15 @@
 -- Whether a line of an input was no object of ours.
-use Rattle.std.proofs.Common.{◌≡◌, ◌≢◌, ℕ, ◌<◌, Bool, true, false, List, [], ◌∷◌, length, Option, Some, None, refl, ◌∙◌}
-use Rattle.std.proofs.Common.{suc, sym, subst, arith, All, Any}
+use Rattle.std.proofs.Common.{◌≡◌, ℕ, Bool, true, false, List, [], ◌∷◌, Option, Some, None, refl, ◌∙◌}
+use Rattle.std.proofs.Common.{suc, sym, subst, arith}
 use Rattle.std.proofs.lemmas.List.Elements.{All-nil, All-cons}
 use Rattle.serde_json.specs.Data.{Data}
 use Rattle.serde_json.specs.Read.{read}
 use Rattle.json.specs.Lex.{lex, punctuate}
 use Rattle.json.specs.Json.{value}
-use Rattle.page.specs.declared.state.page.Took.{Took}
 use Rattle.page.specs.declared.state.page.Took.TheVariants.{Ours, Other}
-use Rattle.page.specs.declared.intake.taking.Taken.{Taken}
 use Rattle.page.specs.Taking.{IsOurs}
 use Rattle.page.specs.Lines.{AreAll}
-use Rattle.page.specs.Intake.{Board, TakesIn}
+use Rattle.page.specs.Intake.{Board}
 use Rattle.page.specs.Input.{at_start, bytes_left, TakesAll, AllTaken, IsOurLine, HasOther}
 
 -- no bytes are no object

@@ -1,5 +1,5 @@
 -- A line that is taken becomes an event for all who ask, or none.
-use Rattle.std.proofs.Common.{◌≡◌, ◌⊎◌, ℕ, List, [], Option, Some, None, refl, sym, ap, subst, inl, inr}
+use Rattle.std.proofs.Common.{◌≡◌, ◌⊎◌, ℕ, List, [], Option, Some, None, sym, ap, subst, inl, inr}
 use Rattle.page.specs.declared.state.page.Took.{Took}
 use Rattle.page.specs.declared.state.page.Took.TheVariants.{Ours}
 use Rattle.page.specs.declared.state.page.Took.TheVariants.{Other as OtherLine}

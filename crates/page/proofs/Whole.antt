@@ -5,8 +5,11 @@ use Rattle.serde_json.specs.Data.{item}
 use Rattle.serde_json.specs.View.{items_of}
 use Rattle.serde_json.specs.Written.{has_float, items_have_float}
 use Rattle.page.specs.Shown.{Service}
+use Rattle.page.specs.Link.{Linked, Refusal}
+use Rattle.page.specs.ControlLine.{Line}
 use Rattle.page.specs.State.{State}
-use Rattle.page.specs.Texts.{text_data, flag_data, number_data, service_data, services_data, state_data}
+use Rattle.page.specs.Texts.{text_data, flag_data, number_data, service_data, services_data, link_data, since_data}
+use Rattle.page.specs.Texts.{refused_data, line_data, lines_data, state_data}
 
 no_text : (o : Option (List ℕ)) → has_float (text_data o) ≡ false
 no_text None = refl
@@ -27,20 +30,59 @@ no_services : (ss : List Service) → items_have_float (services_data ss) ≡ fa
 no_services [] = refl
 no_services (s ∷ ss) = rw (no_service s, no_services ss) refl
 
-pub no_float : (s : State) → has_float (state_data s) ≡ false
-no_float s = rw (no_services s.services) refl
+no_link : (o : Option Linked) → has_float (link_data o) ≡ false
+no_link None = refl
+no_link (Some l) = refl
 
--- the objects of services
+no_since : (o : Option Linked) → has_float (since_data o) ≡ false
+no_since None = refl
+no_since (Some l) = no_text l.since
+
+no_refused : (o : Option Refusal) → has_float (refused_data o) ≡ false
+no_refused None = refl
+no_refused (Some r) = rw (no_text r.meaning, no_text r.time) refl
+
+no_line : (l : Line) → has_float (line_data l) ≡ false
+no_line l = rw (no_link l.linked, no_refused l.refused, no_services l.air.services, no_since l.linked) refl
+
+no_lines : (ls : List Line) → items_have_float (lines_data ls) ≡ false
+no_lines [] = refl
+no_lines (l ∷ ls) = rw (no_line l, no_lines ls) refl
+
+pub no_float : (s : State) → has_float (state_data s) ≡ false
+no_float s = rw (no_lines s.lines) refl
+
+-- the objects of services, and of control lines
 pub each_service : {X : Type 0} (f : X → Service) (xs : List X)
     → items_of (map (λ x. service_data (f x)) xs) ≡ services_data (map f xs)
 each_service f [] = refl
 each_service f (x ∷ xs) = ap (item (service_data (f x))) (each_service f xs)
 
-pub nine : (t0 t1 t2 t3 t4 t5 t6 t7 t8 t9 p1 p2 p3 p4 p5 p6 p7 p8 p9 : List ℕ) → t0 ≡ [] → t1 ≡ t0 ++ p1
-    → t2 ≡ t1 ++ p2 → t3 ≡ t2 ++ p3 → t4 ≡ t3 ++ p4 → t5 ≡ t4 ++ p5 → t6 ≡ t5 ++ p6 → t7 ≡ t6 ++ p7 → t8 ≡ t7 ++ p8
-    → t9 ≡ t8 ++ p9 → t9 ≡ p1 ++ (p2 ++ (p3 ++ (p4 ++ (p5 ++ (p6 ++ (p7 ++ (p8 ++ p9)))))))
-nine t0 t1 t2 t3 t4 t5 t6 t7 t8 t9 p1 p2 p3 p4 p5 p6 p7 p8 p9 h0 h1 h2 h3 h4 h5 h6 h7 h8 h9 =
-    h9 ∙ ap (λ t. t ++ p9) (h8 ∙ ap (λ t. t ++ p8) (h7 ∙ ap (λ t. t ++ p7) (h6
-    ∙ ap (λ t. t ++ p6) (h5 ∙ ap (λ t. t ++ p5) (h4 ∙ ap (λ t. t ++ p4)
-    (h3 ∙ ap (λ t. t ++ p3) (h2 ∙ ap (λ t. t ++ p2) (h1 ∙ ap (λ t. t ++ p1) h0))))))))
+pub each_line : {X : Type 0} (f : X → Line) (xs : List X)
+    → items_of (map (λ x. line_data (f x)) xs) ≡ lines_data (map f xs)
+each_line f [] = refl
+each_line f (x ∷ xs) = ap (item (line_data (f x))) (each_line f xs)
+
+-- what was added in parts
+pub in_two : (t0 t1 t2 p1 p2 : List ℕ) → t1 ≡ t0 ++ p1 → t2 ≡ t1 ++ p2 → t2 ≡ t0 ++ (p1 ++ p2)
+in_two t0 t1 t2 p1 p2 h1 h2 = h2 ∙ ap (λ t. t ++ p2) h1 ∙ append_assoc t0 p1 p2
+
+pub in_three : (t0 t1 t2 t3 p1 p2 p3 : List ℕ) → t1 ≡ t0 ++ p1 → t2 ≡ t1 ++ p2 → t3 ≡ t2 ++ p3
+    → t3 ≡ t0 ++ (p1 ++ (p2 ++ p3))
+in_three t0 t1 t2 t3 p1 p2 p3 h1 h2 h3 =
+    h3 ∙ ap (λ t. t ++ p3) (in_two t0 t1 t2 p1 p2 h1 h2) ∙ simp append_assoc
+
+pub in_five : (t0 t1 t2 t3 t4 t5 p1 p2 p3 p4 p5 : List ℕ) → t0 ≡ [] → t1 ≡ t0 ++ p1 → t2 ≡ t1 ++ p2 → t3 ≡ t2 ++ p3
+    → t4 ≡ t3 ++ p4 → t5 ≡ t4 ++ p5 → t5 ≡ p1 ++ (p2 ++ (p3 ++ (p4 ++ p5)))
+in_five t0 t1 t2 t3 t4 t5 p1 p2 p3 p4 p5 h0 h1 h2 h3 h4 h5 =
+    h5 ∙ ap (λ t. t ++ p5) (h4 ∙ ap (λ t. t ++ p4) (h3 ∙ ap (λ t. t ++ p3) (h2 ∙ ap (λ t. t ++ p2)
+    (h1 ∙ ap (λ t. t ++ p1) h0))))
+    ∙ simp append_assoc
+
+pub in_seven : (t0 t1 t2 t3 t4 t5 t6 t7 p1 p2 p3 p4 p5 p6 p7 : List ℕ) → t1 ≡ t0 ++ p1 → t2 ≡ t1 ++ p2
+    → t3 ≡ t2 ++ p3 → t4 ≡ t3 ++ p4 → t5 ≡ t4 ++ p5 → t6 ≡ t5 ++ p6 → t7 ≡ t6 ++ p7
+    → t7 ≡ t0 ++ (p1 ++ (p2 ++ (p3 ++ (p4 ++ (p5 ++ (p6 ++ p7))))))
+in_seven t0 t1 t2 t3 t4 t5 t6 t7 p1 p2 p3 p4 p5 p6 p7 h1 h2 h3 h4 h5 h6 h7 =
+    h7 ∙ ap (λ t. t ++ p7) (h6 ∙ ap (λ t. t ++ p6) (h5 ∙ ap (λ t. t ++ p5) (h4 ∙ ap (λ t. t ++ p4)
+    (h3 ∙ ap (λ t. t ++ p3) (h2 ∙ ap (λ t. t ++ p2) h1)))))
     ∙ simp append_assoc

@@ -51,7 +51,7 @@ answer_of source Page = given (codes "text/html; charset=utf-8") HTML.now
 answer_of source Events = plain 503 (codes "Service Unavailable") (codes "64 get the events already\n")
 answer_of source State = given (codes "application/json") (compact_text (state_data source.shown))
 answer_of source Metrics =
-    given (codes "text/plain; version=0.0.4; charset=utf-8") (metrics source.shown.counts source.seconds)
+    given (codes "text/plain; version=0.0.4; charset=utf-8") (metrics source.shown source.seconds)
 answer_of source Health = given (codes "text/plain; charset=utf-8") (codes "ok\n")
 answer_of source NotFound = plain 404 (codes "Not Found") (codes "no such page\n")
 answer_of source OtherMethod = plain 405 (codes "Method Not Allowed") (codes "only GET and HEAD are served\n")

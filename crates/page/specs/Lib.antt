@@ -2,7 +2,11 @@
 pub mod Members
 pub mod Shown
 pub mod Counts
+pub mod Air
+pub mod Link
+pub mod ControlLine
 pub mod State
+pub mod CardLaws
 pub mod Taking
 pub mod StateView
 pub mod Texts

@@ -1,5 +1,6 @@
 -- What a member of an object of JSON says (profile).
-use Rattle.std.specs.Prelude.{ℕ, ◌==◌, Bool, true, false, List, codes, Option, Some, None, option_and_then, unwrap_or}
+use Rattle.std.specs.Prelude.{ℕ, ◌==◌, Bool, true, false, List, [], codes, Option, Some, None, option_and_then}
+use Rattle.std.specs.Prelude.{unwrap_or}
 use Rattle.std.specs.Prelude.{◌&&◌}
 use Rattle.std.specs.Str.{bytes_eq}
 use Rattle.serde_json.specs.Data.{Data}
@@ -41,3 +42,7 @@ has_kind (Some text) = true
 
 abbrev pub is_ours : Data → Bool
 is_ours d = is_format_1 (number_at (codes "format") d) && has_kind (text_at (codes "kind") d)
+
+-- The name of the control line that an object is of; empty where it names none.
+abbrev pub name_of : Data → List ℕ
+name_of d = unwrap_or (text_at (codes "line") d) []

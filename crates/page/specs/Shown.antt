@@ -1,8 +1,8 @@
--- What services have, by what the elements of messages say, and what a receiver tells (profile).
+-- What services have, by what the elements of messages say, and what a receiver or a store tells (profile).
 use Rattle.std.specs.Prelude.{ℕ, ◌-◌, ◌==◌, Bool, ◌&&◌, ◌||◌, List, [], ◌∷◌, codes, Option, Some, None, option_and_then}
 use Rattle.std.specs.Prelude.{if◌then◌else◌}
-use Rattle.serde_json.specs.Data.{Data}
-use Rattle.serde_json.specs.Find.{get}
+use Rattle.serde_json.specs.Data.{Data, Items, no_items, item}
+use Rattle.serde_json.specs.Find.{get, as_array}
 use Rattle.page.specs.Members.{text_at, flag_at, number_at, says, is_flag}
 
 -- What was told last of a service of a data set: its PI, name, RadioText, TP, TA and programme type; None of what was
@@ -38,28 +38,46 @@ is_element name d = says (codes "element") name d
 abbrev pub is_shown : Data → Bool
 is_shown d = says (codes "kind") (codes "shown") d
 
+-- An object tells what a store has of a service.
+abbrev pub is_stored : Data → Bool
+is_stored d = says (codes "kind") (codes "service") d
+
 -- It tells something of a service.
 abbrev pub tells : Data → Bool
 tells d =
     is_element (codes "pi") d || is_element (codes "ps") d || is_element (codes "traffic") d
-    || is_element (codes "pty") d || is_element (codes "rt") d || is_shown d
+    || is_element (codes "pty") d || is_element (codes "rt") d || is_shown d || is_stored d
 
 -- What an element says of RadioText: an empty one where it is cleared, else its text.
 abbrev pub element_text : Data → Option (List ℕ)
 element_text d = if is_flag (flag_at (codes "clear") d) then Some [] else text_at (codes "text") d
 
--- A service once a receiver told all that it shows of it.
-abbrev pub all_told : Data → Service → Service
-all_told d s = record s {
+-- The RadioText that a receiver shows, and the one that a store has: the last of its texts.
+abbrev pub shown_text : Data → Option (List ℕ)
+shown_text d = option_and_then (text_at (codes "text")) (get (codes "rt") d)
+
+abbrev pub last_item : Items → Option Data
+last_item no_items = None
+last_item (item d no_items) = Some d
+last_item (item d (item e es)) = last_item (item e es)
+
+abbrev pub stored_text : Data → Option (List ℕ)
+stored_text d = option_and_then (text_at (codes "text"))
+    (option_and_then last_item (option_and_then as_array (get (codes "texts") d)))
+
+-- A service once all was told of it, with this RadioText.
+abbrev pub all_told : (rt : Option (List ℕ)) → Data → Service → Service
+all_told rt d s = record s {
   pi = text_at (codes "pi") d;
   name = text_at (codes "text") d;
-  rt = option_and_then (text_at (codes "text")) (get (codes "rt") d);
+  rt = rt;
   tp = flag_at (codes "tp") d;
   ta = flag_at (codes "ta") d;
   pty = number_at (codes "type") d;
 }
 
--- A service once this was told of it: by an element what that says; by a receiver all that it shows.
+-- A service once this was told of it: by an element what that says; by a receiver all that it shows; by a store all
+-- that it has.
 abbrev pub told : Data → Service → Service
 told d s =
     if is_element (codes "pi") d then record s { pi = text_at (codes "pi") d }
@@ -67,14 +85,20 @@ told d s =
     else if is_element (codes "traffic") d then record s { tp = flag_at (codes "tp") d; ta = flag_at (codes "ta") d }
     else if is_element (codes "pty") d then record s { pty = number_at (codes "type") d }
     else if is_element (codes "rt") d then record s { rt = element_text d }
-    else if is_shown d then all_told d s
+    else if is_shown d then all_told (shown_text d) d s
+    else if is_stored d then all_told (stored_text d) d s
     else s
 
 abbrev pub is_of : (set service : ℕ) → Service → Bool
 is_of set service s = s.set == set && s.service == service
 
--- Of services this one once that was told of it; a new one comes last, where there is room for so many more.
-abbrev pub told_among : (room set service : ℕ) → Data → List Service → List Service
-told_among room set service d [] = if room == 0 then [] else told d (new_service set service) ∷ []
-told_among room set service d (s ∷ ss) =
-    if is_of set service s then told d s ∷ ss else s ∷ told_among (room - 1) set service d ss
+-- The first of these that is the one, once that was told of it; where none is, a new one comes last, told the same,
+-- where there is room for so many more.
+abbrev pub told_among : {X : Type 0} → (room : ℕ) → (is_it : X → Bool) → (tell : X → X) → (new : X) → List X → List X
+told_among room is_it tell new [] = if room == 0 then [] else tell new ∷ []
+told_among room is_it tell new (x ∷ xs) =
+    if is_it x then tell x ∷ xs else x ∷ told_among (room - 1) is_it tell new xs
+
+-- Of services, 128 at most, this one once that was told of it.
+abbrev pub told_service : (set service : ℕ) → Data → List Service → List Service
+told_service set service d ss = told_among 128 (is_of set service) (told d) (new_service set service) ss

@@ -1,81 +1,46 @@
--- What a live page shows: the fold of the objects that came (profile).
-use Rattle.std.specs.Prelude.{ℕ, ◌==◌, Bool, true, false, ◌&&◌, List, [], ◌∷◌, codes, Option, Some, None}
-use Rattle.std.specs.Prelude.{option_and_then, unwrap_or}
-use Rattle.std.specs.Prelude.{if◌then◌else◌}
-use Rattle.serde_json.specs.Data.{Data, Items, no_items, item}
-use Rattle.serde_json.specs.Find.{get, as_array}
-use Rattle.page.specs.Members.{number_at, number_or_0, says}
-use Rattle.page.specs.Shown.{Service, is_element, is_shown, tells, told_among}
-use Rattle.page.specs.Counts.{Counts, no_counts, counted, one_more, is_kind}
+-- What a live page shows: a card for each control line (profile).
+use Rattle.std.specs.Prelude.{ℕ, ◌==◌, ◌-◌, Bool, true, ◌||◌, not, List, [], ◌∷◌}
+use Rattle.serde_json.specs.Data.{Data}
+use Rattle.page.specs.Members.{name_of}
+use Rattle.page.specs.Shown.{told_among}
+use Rattle.page.specs.Counts.{one_more, is_told}
+use Rattle.page.specs.ControlLine.{Line, new_line, is_named, line_after}
 
--- The data set that was selected, 0 before; the services; whether answers to frames are told; the frame that waits for
--- its answer; the counts.
+-- The control lines, in the order in which something was first told of them, 128 at most; how many lines of input were
+-- no object of ours; how many objects were of a further control line, which are shown nowhere; how many messages were
+-- told, of whatever control line, and by whichever end.
 pub record State : Type 0 where
-  pub current : ℕ
-  pub services : List Service
-  pub answers : Bool
-  pub frame : Option Data
-  pub counts : Counts
+  pub lines : List Line
+  pub others : ℕ
+  pub further : ℕ
+  pub messages : ℕ
 
 abbrev pub at_first : State
-at_first = record { current = 0; services = []; answers = false; frame = None; counts = no_counts }
+at_first = record { lines = []; others = 0; further = 0; messages = 0 }
 
--- The data set of which something is told; 0 stands for the selected one.
-abbrev pub set_of : State → Data → ℕ
-set_of s d = if number_or_0 (codes "set") d == 0 then s.current else number_or_0 (codes "set") d
+-- Of control lines this one once that was told of it; a new one comes last, where there is room for so many more.
+abbrev pub told_line : (room : ℕ) → (name : List ℕ) → Data → List Line → List Line
+told_line room name d ls = told_among room (is_named name) (line_after d) (new_line name) ls
 
--- Behind an element, or what a receiver shows: a set is selected, or something is told of a service; of 128 at most.
-abbrev pub after_telling : Data → State → State
-after_telling d s =
-    if is_element (codes "select") d then record s { current = unwrap_or (number_at (codes "set") d) s.current }
-    else if tells d then record s {
-      services = told_among 128 (set_of s d) (number_or_0 (codes "service") d) d
-          s.services;
-    }
-    else s
+-- It is one of these, or there is room for it.
+abbrev pub has_place : (room : ℕ) → (name : List ℕ) → List Line → Bool
+has_place room name [] = not (room == 0)
+has_place room name (l ∷ ls) = is_named name l || has_place (room - 1) name ls
 
--- Behind elements, in order.
-abbrev pub after_items : Items → State → State
-after_items no_items s = s
-after_items (item d ds) s = after_items ds (after_telling d s)
-
-abbrev pub after_elements : Option Items → State → State
-after_elements None s = s
-after_elements (Some ds) s = after_items ds s
-
--- Behind a message that was applied.
-abbrev pub after_message : Data → State → State
-after_message d s = after_elements (option_and_then as_array (get (codes "elements") d)) s
-
-abbrev pub after_waiting : Option Data → State → State
-after_waiting None s = s
-after_waiting (Some d) s = after_message d s
-
--- An answer says that a message was applied.
-abbrev pub is_applied : Data → Bool
-is_applied d = says (codes "answer") (codes "new") d && says (codes "code") (codes "00") d
-
--- Behind an answer the frame waits no more; it is shown where it was applied.
-abbrev pub after_answer : Data → State → State
-after_answer d s = if is_applied d then after_waiting s.frame (record s { frame = None }) else record s { frame = None }
-
--- What is shown behind an object: what a frame says, at once, or where answers are told once it was applied; and what a
--- receiver tells. Answers are told once a connection was.
-abbrev pub after_kind : Data → State → State
-after_kind d s =
-    if is_kind (codes "frame") d then (if s.answers then record s { frame = Some d } else after_message d s)
-    else if is_kind (codes "answered") d then after_answer d s
-    else if is_kind (codes "connection") d then record s { answers = true; frame = None }
-    else if is_shown d then after_telling d s
-    else s
+-- An object was told of the control line that it names; or it is of a further one.
+abbrev pub told_in : Data → State → State
+told_in d s = record s {
+  lines = told_line 128 (name_of d) d s.lines;
+  further = one_more (not (has_place 128 (name_of d) s.lines)) s.further;
+}
 
 -- Behind an object of ours.
 abbrev pub after : Data → State → State
-after d s = after_kind d (record s { counts = counted d s.counts })
+after d s = told_in d (record s { messages = one_more (is_told d) s.messages })
 
--- Behind another line.
+-- Behind another line of input.
 abbrev pub after_other : State → State
-after_other s = record s { counts = record (s.counts) { others = one_more true s.counts.others } }
+after_other s = record s { others = one_more true s.others }
 
 -- The fold: what is shown behind objects, in the order in which they came.
 abbrev pub shown_of : List Data → State → State

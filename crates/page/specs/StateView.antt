@@ -3,9 +3,16 @@ use Rattle.std.specs.Prelude.{map, option_map, string_bytes}
 use Rattle.serde_json.specs.View.{view}
 use Rattle.page.specs.declared.state.row.Row.{Row}
 use Rattle.page.specs.declared.state.counts.Counts.{Counts as Counted}
+use Rattle.page.specs.declared.state.air.Air.{Air as AirKept}
+use Rattle.page.specs.declared.state.link.Linked.{Linked as LinkKept}
+use Rattle.page.specs.declared.state.link.Refusal.{Refusal as RefusalKept}
+use Rattle.page.specs.declared.state.line.Line.{Line as LineKept}
 use Rattle.page.specs.declared.state.page.Page.{Page}
 use Rattle.page.specs.Shown.{Service}
 use Rattle.page.specs.Counts.{Counts}
+use Rattle.page.specs.Air.{Air}
+use Rattle.page.specs.Link.{Linked, Refusal}
+use Rattle.page.specs.ControlLine.{Line}
 use Rattle.page.specs.State.{State}
 
 abbrev pub service_of : Row → Service
@@ -23,8 +30,10 @@ service_of r = record {
 abbrev pub counts_of : Counted → Counts
 counts_of c = record {
   lines = c.lines;
-  others = c.others;
+  sent = c.sent;
+  sent_refusals = c.sent_refusals;
   messages = c.messages;
+  empty = c.empty;
   repeats = c.repeats;
   refusals = c.refusals;
   dropped = c.dropped;
@@ -32,11 +41,34 @@ counts_of c = record {
   not_told = c.not_told;
 }
 
+abbrev pub air_of : AirKept → Air
+air_of a = record {
+  current = a.current;
+  services = map service_of a.rows.items;
+  answers = a.answers;
+  frame = option_map view a.frame;
+}
+
+abbrev pub linked_of : LinkKept → Linked
+linked_of l = record { link = l.link; since = option_map string_bytes l.since }
+
+abbrev pub refusal_of : RefusalKept → Refusal
+refusal_of r = record { meaning = option_map string_bytes r.meaning; time = option_map string_bytes r.time }
+
+abbrev pub line_of : LineKept → Line
+line_of l = record {
+  name = string_bytes l.name;
+  air = air_of l.air;
+  counts = counts_of l.counts;
+  linked = option_map linked_of l.linked;
+  refused = option_map refusal_of l.refused;
+  failed = l.failed;
+}
+
 abbrev pub state_of : Page → State
 state_of p = record {
-  current = p.current;
-  services = map service_of p.rows.items;
-  answers = p.answers;
-  frame = option_map view p.frame;
-  counts = counts_of p.counts;
+  lines = map line_of p.lines.items;
+  others = p.others;
+  further = p.further;
+  messages = p.messages;
 }

@@ -1,9 +1,16 @@
 -- What is told of the state: as JSON, and as metrics (profile; the text form of Prometheus, version 0.0.4).
-use Rattle.std.specs.Prelude.{ℕ, Bool, List, [], ◌∷◌, ◌++◌, codes, decimal, Option, Some, None}
+use Rattle.std.specs.Prelude.{ℕ, ◌==◌, Bool, List, [], ◌∷◌, ◌++◌, codes, decimal, Option, Some, None}
+use Rattle.std.specs.Prelude.{option_map, flat_map, if◌then◌else◌}
 use Rattle.serde_json.specs.Data.{Data, null, boolean, number, unsigned, string, array, object, Items, no_items, item}
 use Rattle.serde_json.specs.Data.{no_members, member}
 use Rattle.page.specs.Shown.{Service}
 use Rattle.page.specs.Counts.{Counts}
+use Rattle.page.specs.declared.state.metrics.Metric.{Metric}
+use Rattle.page.specs.declared.state.metrics.Metric.TheVariants.{Lines, Sent, SentRefusals, Messages, Repeats}
+use Rattle.page.specs.declared.state.metrics.Metric.TheVariants.{Refusals, Dropped, Connections, NotTold, Connected}
+use Rattle.page.specs.declared.state.metrics.Metric.TheVariants.{Refused}
+use Rattle.page.specs.Link.{Linked, Refusal, link_kind, is_bad}
+use Rattle.page.specs.ControlLine.{Line}
 use Rattle.page.specs.State.{State}
 
 abbrev pub text_data : Option (List ℕ) → Data
@@ -31,52 +38,153 @@ services_data (s ∷ ss) = item (service_data s) (services_data ss)
 
 abbrev pub counts_data : Counts → Data
 counts_data c = object (member (codes "connections") (number (unsigned c.connections))
-    (member (codes "dropped") (number (unsigned c.dropped)) (member (codes "lines") (number (unsigned c.lines))
-    (member (codes "messages") (number (unsigned c.messages))
-    (member (codes "not_told") (number (unsigned c.not_told)) (member (codes "others") (number (unsigned c.others))
+    (member (codes "dropped") (number (unsigned c.dropped)) (member (codes "empty") (number (unsigned c.empty))
+    (member (codes "lines") (number (unsigned c.lines)) (member (codes "messages") (number (unsigned c.messages))
+    (member (codes "not_told") (number (unsigned c.not_told))
     (member (codes "refusals") (number (unsigned c.refusals)) (member (codes "repeats") (number (unsigned c.repeats))
-    no_members))))))))
+    (member (codes "sent") (number (unsigned c.sent))
+    (member (codes "sent_refusals") (number (unsigned c.sent_refusals)) no_members))))))))))
+
+-- What was told of the connection: the kind of the objects that tell it, and since when; null where nothing was.
+abbrev pub link_data : Option Linked → Data
+link_data None = null
+link_data (Some l) = string (link_kind l.link)
+
+abbrev pub since_data : Option Linked → Data
+since_data None = null
+since_data (Some l) = text_data l.since
+
+abbrev pub refused_data : Option Refusal → Data
+refused_data None = null
+refused_data (Some r) =
+    object (member (codes "meaning") (text_data r.meaning) (member (codes "time") (text_data r.time) no_members))
+
+-- A control line as an object.
+abbrev pub line_data : Line → Data
+line_data l = object (member (codes "counts") (counts_data l.counts)
+    (member (codes "current") (number (unsigned l.air.current)) (member (codes "failed") (boolean l.failed)
+    (member (codes "line") (string l.name) (member (codes "link") (link_data l.linked)
+    (member (codes "refused") (refused_data l.refused)
+    (member (codes "services") (array (services_data l.air.services))
+    (member (codes "since") (since_data l.linked) no_members))))))))
+
+abbrev pub lines_data : List Line → Items
+lines_data [] = no_items
+lines_data (l ∷ ls) = item (line_data l) (lines_data ls)
 
 -- The state as an object of the kind `state`.
 abbrev pub state_data : State → Data
-state_data s = object (member (codes "counts") (counts_data s.counts)
-    (member (codes "current") (number (unsigned s.current)) (member (codes "format") (number (unsigned 1))
-    (member (codes "kind") (string (codes "state")) (member (codes "services") (array (services_data s.services))
+state_data s = object (member (codes "format") (number (unsigned 1))
+    (member (codes "further") (number (unsigned s.further)) (member (codes "kind") (string (codes "state"))
+    (member (codes "lines") (array (lines_data s.lines)) (member (codes "others") (number (unsigned s.others))
     no_members)))))
 
--- A line that says what a value is.
-unfoldable pub helped : (name help : List ℕ) → List ℕ
-helped name help = codes "# HELP " ++ (name ++ (codes " " ++ (help ++ codes "\n")))
+-- Two lines that say what the metric of this name is, and of which kind.
+unfoldable pub headed : (name help which : List ℕ) → List ℕ
+headed name help which = codes "# HELP " ++ (name ++ (codes " " ++ (help ++ (codes "\n# TYPE " ++ (name ++ which)))))
 
--- A value of this name, behind a line that says of which kind it is.
-unfoldable pub typed : (name which : List ℕ) → ℕ → List ℕ
-typed name which n = codes "# TYPE " ++ (name ++ (which ++ (name ++ (codes " " ++ (decimal n ++ codes "\n")))))
+-- A value of a label: a backslash, a double quote and a line feed are written with a backslash before them.
+abbrev pub escaped_byte : ℕ → List ℕ
+escaped_byte b =
+    if b == 92 then codes "\\\\" else if b == 34 then codes "\\\"" else if b == 10 then codes "\\n" else b ∷ []
 
--- The same behind a line that says what it is.
+abbrev pub escaped : List ℕ → List ℕ
+escaped text = flat_map escaped_byte text
+
+-- The labels of a control line, with what stands behind its name; a value, which ends the line.
+unfoldable pub labels : (line more : List ℕ) → List ℕ
+labels line more = codes "{line=\"" ++ (escaped line ++ (codes "\"" ++ (more ++ codes "}")))
+
+unfoldable pub ended : ℕ → List ℕ
+ended n = codes " " ++ (decimal n ++ codes "\n")
+
+-- A value of the metric of this name for a control line.
+abbrev pub labelled : (name line more : List ℕ) → ℕ → List ℕ
+labelled name line more n = name ++ (labels line more ++ ended n)
+
+-- 1 where it is so, else 0.
+abbrev pub is_connected : Linked → ℕ
+is_connected l = if is_bad l.link then 0 else 1
+
+abbrev pub is_refused : Option Refusal → ℕ
+is_refused None = 0
+is_refused (Some r) = 1
+
+-- What a metric says of a control line; None where nothing was told of it.
+abbrev pub value_of : Metric → Line → Option ℕ
+value_of Lines l = Some l.counts.lines
+value_of Sent l = Some l.counts.sent
+value_of SentRefusals l = Some l.counts.sent_refusals
+value_of Messages l = Some l.counts.messages
+value_of Repeats l = Some l.counts.repeats
+value_of Refusals l = Some l.counts.refusals
+value_of Dropped l = Some l.counts.dropped
+value_of Connections l = Some l.counts.connections
+value_of NotTold l = Some l.counts.not_told
+value_of Connected l = option_map is_connected l.linked
+value_of Refused l = Some (is_refused l.refused)
+
+abbrev pub sample_of : (name more line : List ℕ) → Option ℕ → List ℕ
+sample_of name more line None = []
+sample_of name more line (Some n) = labelled name line more n
+
+abbrev pub sample : (name more : List ℕ) → Metric → Line → List ℕ
+sample name more metric l = sample_of name more l.name (value_of metric l)
+
+-- One for each control line.
+abbrev pub samples : (name more : List ℕ) → Metric → List Line → List ℕ
+samples name more metric ls = flat_map (sample name more metric) ls
+
+-- A metric of each control line.
+abbrev pub metric_of : (name help which : List ℕ) → Metric → List Line → List ℕ
+metric_of name help which metric ls = headed name help which ++ samples name [] metric ls
+
+-- A count that both ends tell of each control line.
+abbrev pub both_of : (name help : List ℕ) → (studio encoder : Metric) → List Line → List ℕ
+both_of name help studio encoder ls =
+    headed name help (codes " counter\n") ++ (samples name (codes ",end=\"studio\"") studio ls
+    ++ samples name (codes ",end=\"encoder\"") encoder ls)
+
+abbrev pub count_of : (name help : List ℕ) → Metric → List Line → List ℕ
+count_of name help metric ls = metric_of name help (codes " counter\n") metric ls
+
+abbrev pub gauge_of : (name help : List ℕ) → Metric → List Line → List ℕ
+gauge_of name help metric ls = metric_of name help (codes " gauge\n") metric ls
+
+-- A metric of the page as a whole.
 abbrev pub valued : (name help which : List ℕ) → ℕ → List ℕ
-valued name help which n = helped name help ++ typed name which n
-
--- A count that rises, and a value that may fall.
-abbrev pub counter : (name help : List ℕ) → ℕ → List ℕ
-counter name help n = valued name help (codes " counter\n") n
-
-abbrev pub gauge : (name help : List ℕ) → ℕ → List ℕ
-gauge name help n = valued name help (codes " gauge\n") n
+valued name help which n = headed name help which ++ (name ++ ended n)
 
 abbrev pub since : Option ℕ → List ℕ
 since None = []
-since (Some seconds) = gauge (codes "uecp_last_message_seconds") (codes "Seconds since the last message.") seconds
+since (Some seconds) =
+    valued (codes "uecp_last_message_seconds") (codes "Seconds since the last message.") (codes " gauge\n") seconds
 
--- The metrics: the counts, and how many seconds ago the last message came, where one did.
-abbrev pub metrics : Counts → (seconds : Option ℕ) → List ℕ
-metrics c seconds =
-    counter (codes "uecp_lines_total") (codes "Objects that were taken.") c.lines
-    ++ (counter (codes "uecp_other_lines_total") (codes "Lines that are no object of ours.") c.others
-    ++ (counter (codes "uecp_messages_total") (codes "Messages that were told.") c.messages
-    ++ (counter (codes "uecp_repeats_total") (codes "Messages that came again.") c.repeats
-    ++ (counter (codes "uecp_refusals_total") (codes "Messages that were refused with a code.") c.refusals
-    ++ (counter (codes "uecp_dropped_segments_total") (codes "Segments that were no frame.") c.dropped
-    ++ (counter (codes "uecp_connections_total") (codes "Connections to an encoder.") c.connections
-    ++ (counter (codes "uecp_not_told_lines_total") (codes "Lines that an end could not tell, as nobody read them.")
-    c.not_told
-    ++ since seconds)))))))
+-- What was counted of each control line.
+abbrev pub counted_texts : List Line → List ℕ
+counted_texts ls =
+    count_of (codes "uecp_lines_total") (codes "Objects that were taken.") Lines ls
+    ++ (both_of (codes "uecp_messages_total") (codes "Messages that an end of the line told.") Sent Messages ls
+    ++ (both_of (codes "uecp_refusals_total") (codes "Messages that were refused with a code.") SentRefusals Refusals ls
+    ++ (count_of (codes "uecp_repeats_total") (codes "Messages that came again.") Repeats ls
+    ++ (count_of (codes "uecp_dropped_segments_total") (codes "Segments that were no frame.") Dropped ls
+    ++ (count_of (codes "uecp_connections_total") (codes "Connections to an encoder.") Connections ls
+    ++ count_of (codes "uecp_not_told_lines_total") (codes "Lines that an end could not tell, as nobody read them.")
+    NotTold ls)))))
+
+-- How each stands now.
+abbrev pub standing_texts : List Line → List ℕ
+standing_texts ls =
+    gauge_of (codes "uecp_connected") (codes "1 where the studio's end is connected, else 0.") Connected ls
+    ++ gauge_of (codes "uecp_refused") (codes "1 where the last message was refused, else 0.") Refused ls
+
+-- The metrics: of each control line, of the lines of input that are of none, and how many seconds ago the last message
+-- came, where one did.
+abbrev pub metrics : State → (seconds : Option ℕ) → List ℕ
+metrics s seconds =
+    counted_texts s.lines ++ (standing_texts s.lines
+    ++ (valued (codes "uecp_other_lines_total") (codes "Lines that are no object of ours.") (codes " counter\n")
+    s.others
+    ++ (valued (codes "uecp_further_total") (codes "Objects of control lines that are shown nowhere.")
+    (codes " counter\n") s.further
+    ++ since seconds)))

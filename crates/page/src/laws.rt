@@ -1,12 +1,34 @@
-//! Laws of the events of a page, each the contract of a function that does nothing.
+//! Laws of a page, each the contract of a function that does nothing.
 ghost use Rattle.std.specs.Prelude.{◌≡◌};
 ghost use Rattle.page.specs.Stream.{part_text, gap, alive};
 ghost use Rattle.page.specs.Laws.{TakenAsSent, EachOnce, BeginningOnce, OwedNewer};
+ghost use Rattle.page.specs.CardLaws.{LineAlone, LineOnce, StoreClears, CountedOnce};
 ghost use Rattle.page.specs.Life.{WholeLife};
 ghost use Rattle.page.specs.Lines.{EachLineOnce, AllLinesAtEnd};
 ghost use Rattle.page.specs.Input.{RefusedExactly};
 
 use crate::events::{ALIVE, GAP};
+
+/// What is shown of a control line is what the objects that name it make of it, whatever was told of others; it is not
+/// shown only where none named it, or where objects were of a further one. So two transmitters are never mixed.
+pub fn line_alone()
+    ensures { LineAlone }
+{}
+
+/// No control line is shown twice.
+pub fn line_once()
+    ensures { LineOnce }
+{}
+
+/// Behind a store, and whatever comes behind that, nothing is on the air that was told before.
+pub fn store_clears()
+    ensures { StoreClears }
+{}
+
+/// No object counts as a message under both ends, and what was sent rises by nothing but an answer.
+pub fn counted_once()
+    ensures { CountedOnce }
+{}
 
 /// A browser takes each line from a stream, under its number, once and in order, and nothing else.
 pub fn taken_as_sent()

@@ -1,11 +1,14 @@
-//! What a live page of a station shows: a fold of the lines of JSON that `encoder`, `watch`, `receive`, `answer` and
-//! `send` write. No IO and no clock.
+//! What a live page shows, a card for each control line: a fold of the lines of JSON that `encoder`, `watch`,
+//! `receive`, `answer` and `send` write. No IO and no clock.
 //!
 //! - [`Page`]: what is shown, and what was counted; takes a line at a time.
 //! - [`Took`]: what a line was.
 //! - [`state_text`], [`metrics_text`]: what is shown as JSON, and the counts as monitoring systems read them.
 
+mod air;
 mod counts;
+mod line;
+mod link;
 mod members;
 mod metrics;
 mod page;
@@ -13,7 +16,6 @@ mod row;
 mod services;
 mod texts;
 
-pub use counts::Counts;
 pub use metrics::metrics_text;
-pub use page::{Page, SERVICES_MAX, Took};
+pub use page::{LINES_MAX, Page, SERVICES_MAX, Took};
 pub use texts::state_text;

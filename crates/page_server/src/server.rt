@@ -329,11 +329,11 @@ impl<C: Connection> Serving<C> {
     ) -> Result<bool, Stop>
         requires { IsServing C.talk self.old }
         ensures goes_on { IfOk result (λ _. GoesOn [] self.old.intake self.new.intake) }
-        ensures heard { IfOk result (λ _. (board_of self.new.intake).shown.counts.messages
-            ≡ (board_of self.old.intake).shown.counts.messages → self.new.heard ≡ self.old.heard) }
+        ensures heard { IfOk result (λ _. (board_of self.new.intake).shown.messages
+            ≡ (board_of self.old.intake).shown.messages → self.new.heard ≡ self.old.heard) }
         ensures serving { IsServing C.talk self.new }
     {
-        let before = self.intake.page().counts().messages;
+        let before = self.intake.page().messages();
         match self.intake.take_next(self.alloc) {
             Err(_) => Err(Stop::OutOfMemory),
             Ok(None) => Ok(false),
@@ -354,11 +354,11 @@ impl<C: Connection> Serving<C> {
         requires serving { IsServing C.talk self.old }
         ensures ended { IfOk result (λ progress. progress ≡ Progress.Ended) }
         ensures ends { IfOk result (λ _. Ends [] self.old.intake self.new.intake) }
-        ensures heard { IfOk result (λ _. (board_of self.new.intake).shown.counts.messages
-            ≡ (board_of self.old.intake).shown.counts.messages → self.new.heard ≡ self.old.heard) }
+        ensures heard { IfOk result (λ _. (board_of self.new.intake).shown.messages
+            ≡ (board_of self.old.intake).shown.messages → self.new.heard ≡ self.old.heard) }
         ensures serving { IsServing C.talk self.new }
     {
-        let before = self.intake.page().counts().messages;
+        let before = self.intake.page().messages();
         match self.intake.take_last(self.alloc) {
             Err(_) => return Err(Stop::OutOfMemory),
             Ok(None) => {}
@@ -378,7 +378,7 @@ impl<C: Connection> Serving<C> {
     )
         requires { IsServing C.talk self.old }
         ensures same { self.new.intake ≡ self.old.intake }
-        ensures heard { (board_of self.old.intake).shown.counts.messages ≡ before → self.new.heard ≡ self.old.heard }
+        ensures heard { (board_of self.old.intake).shown.messages ≡ before → self.new.heard ≡ self.old.heard }
         ensures event { taken ≡ Taken.Event → AllDo C.talk Deed.CatchUp (board_of self.old.intake).past
             (guests_of self.old.guests) (guests_of self.new.guests) }
         ensures serving { IsServing C.talk self.new }
@@ -388,7 +388,7 @@ impl<C: Connection> Serving<C> {
             Taken::Event => self.all(Deed::CatchUp, sockets),
             Taken::Unsent => {}
         }
-        if self.intake.page().counts().messages != before {
+        if self.intake.page().messages() != before {
             self.heard = Some(sockets.now());
         }
     }

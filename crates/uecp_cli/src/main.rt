@@ -13,12 +13,13 @@ mod program;
 
 use crate::program::{Hands, run_words};
 use clap::error;
-use command_line::{Usage, program, refuse, settle};
-use device_edges::{Descriptor, LinesOut, Outlet, Patience, Voice};
+use command_line::{Usage, line_name, program, refuse, settle};
+use device_edges::{Descriptor, LineName, LinesOut, Outlet, Patience, Voice};
 use itoa::Buffer;
 use notices::{Notices, NoticesTo};
 use sqlite_image::{MachineFiles, Wary};
 use state_jobs::{OpenStates, StatesInFiles};
+use std::alloc::Global;
 use std::cell::RefCell;
 use std::env;
 use std::io::{ErrorKind, Input, Lock, Read, Write};
@@ -46,49 +47,68 @@ fn main(rt: HostRuntime) -> ExitCode {
         rt.stderr().lock(),
         Descriptor::new(STANDARD_ERROR),
     ));
-    let mut writer = LinesOut::new(alloc, &output, &patience, Voice::Log);
-    let mut effects = LinesOut::new(alloc, &output, &patience, Voice::Log);
-    let mut objects = LinesOut::new(alloc, &output, &patience, Voice::Log);
-    let mut losses = LinesOut::new(alloc, &beside, &patience, Voice::Notices);
-    let mut notices = LinesOut::new(alloc, &beside, &patience, Voice::Notices);
-    let mut errors = NoticesTo::new(LinesOut::new(alloc, &beside, &patience, Voice::Reasons));
-    let hands = Hands {
-        input: STANDARD_INPUT,
-        losses: &mut losses,
-        notices: &mut notices,
-        effects: &mut effects,
-        objects: &mut objects,
-        patience: &patience,
+    let mut losses = LinesOut::new(alloc, &beside, &patience, Voice::Notices, None);
+    let mut notices = LinesOut::new(alloc, &beside, &patience, Voice::Notices, None);
+    let reasons = LinesOut::new(alloc, &beside, &patience, Voice::Reasons, None);
+    let mut errors = NoticesTo::new(reasons);
+    let mut nameless = LinesOut::new(alloc, &output, &patience, Voice::Log, None);
+    let status = match asked(&rt, &mut nameless, &mut errors) {
+        Ok((words, name)) => {
+            let name = name.as_ref();
+            let mut writer = LinesOut::new(alloc, &output, &patience, Voice::Log, name);
+            let mut effects = LinesOut::new(alloc, &output, &patience, Voice::Log, name);
+            let mut objects = LinesOut::new(alloc, &output, &patience, Voice::Log, name);
+            let hands = Hands {
+                input: STANDARD_INPUT,
+                losses: &mut losses,
+                notices: &mut notices,
+                effects: &mut effects,
+                objects: &mut objects,
+                patience: &patience,
+            };
+            let status = run(&rt, words.as_slice(), &mut writer, &mut errors, hands);
+            say_untold(writer.close(), &mut errors);
+            status
+        }
+        Err(status) => status,
     };
-    let status = run(&rt, &mut writer, &mut errors, hands);
-    say_untold(writer.close(), &mut errors);
     let _untold = errors.into_inner().close();
     ExitCode::from(status)
 }
 
-/// Does what the words of the command line ask for, with the hands that the machine gives, and answers the exit status.
+/// The words of the command line, with the options of the file that they name, and the name of their line, if they give
+/// one; or the exit status where there are none, which was said, or where that file was looked at alone.
+fn asked<W: Write, E: Write>(
+    rt: &HostRuntime,
+    writer: &mut W,
+    errors: &mut NoticesTo<E>,
+) -> Result<(Vec<String>, Option<LineName>), u8> {
+    let words = settled_words(rt, writer, errors)?;
+    match name_of(rt.alloc(), words.as_slice()) {
+        Ok(name) => Ok((words, name)),
+        Err(usage) => Err(refuse(&usage, writer, errors)),
+    }
+}
+
+/// The name that these words give to their line, if they do.
+fn name_of(alloc: Global, words: &[String]) -> Result<Option<LineName>, Usage> {
+    match line_name(alloc, words)? {
+        Some(name) => Ok(Some(LineName::new(alloc, name)?)),
+        None => Ok(None),
+    }
+}
+
+/// Does what these words ask for, with the hands that the machine gives, and answers the exit status.
 fn run<W: Write, E: Write, M: Write, F: Write>(
     rt: &HostRuntime,
+    words: &[String],
     writer: &mut W,
     errors: &mut NoticesTo<E>,
     hands: Hands<'_, M, F>,
 ) -> u8 {
-    match settled_words(rt, writer, errors) {
-        Ok(words) => {
-            let states = StatesInFiles::new(MachineFiles::new(rt, Wary));
-            let mut reader = rt.stdin().lock();
-            run_asked(
-                rt,
-                words.as_slice(),
-                &mut reader,
-                writer,
-                errors,
-                hands,
-                &states,
-            )
-        }
-        Err(status) => status,
-    }
+    let states = StatesInFiles::new(MachineFiles::new(rt, Wary));
+    let mut reader = rt.stdin().lock();
+    run_asked(rt, words, &mut reader, writer, errors, hands, &states)
 }
 
 /// Does what these words ask for, with its states in whatever opens them.

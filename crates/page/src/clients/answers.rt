@@ -118,7 +118,7 @@ impl Client {
         ensures closes { self.new.phase ≡ Phase.Closing }
         ensures came { self.new.input.items ≡ self.old.input.items }
     {
-        match metrics_text(alloc, &site.page.counts(), site.seconds) {
+        match metrics_text(alloc, site.page, site.seconds) {
             Ok(text) => self.whole(200, b"OK", METRICS, text.as_slice()),
             Err(_) => self.no_memory(),
         }

@@ -3,8 +3,8 @@
 
 /// What a browser may load for it, and from where (Content Security Policy Level 3).
 pub(crate) const POLICY: &[u8] = b"default-src 'none'; \
-    script-src 'sha256-UmbbTbaDRmzK9xTDVg0T+0L5+kNt3Gqqv57Bw96OYYY='; \
-    style-src 'sha256-i18OPkPEQHGoY1Dhs9Z51KFBE+QgTrYq8BDMKmYQ0/o='; \
+    script-src 'sha256-hphncPFoMhfYAEB2BhXmZw842GSOkJovVXhPsRDwqb0='; \
+    style-src 'sha256-Whk7X6C8pvGtaFWsNPpJ4w4zvmyQ5Ger3iUq5Pak9g8='; \
     connect-src 'self'; \
     img-src data:; \
     base-uri 'none'; \
@@ -25,15 +25,30 @@ pub const HTML: &str = r##"<!DOCTYPE html>
 body { font: 1rem/1.45 sans-serif; margin: 0 auto; max-width: 80rem; padding: 0.75rem; color: #111; background: #fff; }
 h1 { font-size: 1.4rem; margin: 0 0 0.25rem; }
 h2 { font-size: 1.15rem; margin: 1.25rem 0 0.5rem; }
-#services { display: grid; grid-template-columns: repeat(auto-fill, minmax(min(100%, 20rem), 1fr)); gap: 0.75rem; }
+#alarms { max-height: none; border: 0; }
+#alarms li { display: flex; flex-wrap: wrap; gap: 0 0.75rem; margin: 0.5rem 0 0; padding: 0.5rem 0.75rem;
+  font-size: 1rem; color: #5f1410; background: #fde8e6; border: 1px solid #b3261e; border-left-width: 6px;
+  border-radius: 0.3rem; }
+#alarms span { flex: 1 1 12rem; min-width: 0; }
+#services, .cards { display: grid; gap: 0.75rem;
+  grid-template-columns: repeat(auto-fill, minmax(min(100%, 20rem), 1fr)); }
+#services > section { min-width: 0; }
+#services > .wide { grid-column: 1 / -1; }
+.line { display: flex; flex-wrap: wrap; justify-content: space-between; gap: 0 0.75rem; margin: 0 0 0.3rem; }
+.line h3 { font-size: 1.15rem; font-weight: bold; min-width: 0; overflow-wrap: anywhere; }
+.line p { margin: 0; }
+.bad .line p { color: #b3261e; font-weight: bold; }
 article { border: 2px solid #555; border-radius: 0.4rem; padding: 0.6rem 0.8rem; min-width: 0; }
-h3 { font-size: 1rem; font-weight: normal; margin: 0; }
+.gone article { color: #333; border-style: dashed;
+  background: repeating-linear-gradient(135deg, #ddd 0 10px, #ccc 10px 20px); }
+.known { font-weight: bold; margin: 0.2rem 0 0; }
+h3, h4 { font-size: 1rem; font-weight: normal; margin: 0; }
 .name { font: bold 2rem/1.2 monospace; margin: 0.2rem 0; white-space: pre-wrap; overflow-wrap: anywhere; }
 .rt { font-family: monospace; margin: 0.2rem 0; white-space: pre-wrap; overflow-wrap: anywhere; min-height: 1.45em; }
 .rest { margin: 0.2rem 0 0; }
 .band { display: flex; justify-content: space-between; gap: 0.5rem; margin: 0.4rem 0; padding: 0.3rem 0.6rem;
   border-radius: 0.3rem; color: #1c1500; background: #ffc400; font-weight: bold; }
-.band[hidden] { display: none; }
+.band[hidden], .known[hidden], .line [hidden] { display: none; }
 table { border-collapse: collapse; width: 100%; max-width: 34rem; }
 th, td { text-align: left; padding: 0.2rem 0.5rem 0.2rem 0; border-bottom: 1px solid #999; font-weight: normal; }
 td { text-align: right; font-variant-numeric: tabular-nums; }
@@ -43,6 +58,8 @@ ol { list-style: none; margin: 0; padding: 0; max-height: 24rem; overflow-y: aut
 ol:focus-visible, button:focus-visible, summary:focus-visible { outline: 3px solid #06c; outline-offset: 2px; }
 li { display: grid; grid-template-columns: 5rem 7rem 1fr; gap: 0 0.5rem; padding: 0.2rem 0.4rem; font-size: 0.9rem;
   overflow-wrap: anywhere; border-bottom: 1px solid #ccc; border-left: 6px solid transparent; }
+.named li { grid-template-columns: 5rem 6rem 7rem 1fr; }
+.named li > .about { grid-column: 3; }
 li time { font-variant-numeric: tabular-nums; }
 li.bad { border-left-color: #b3261e; }
 li details { min-width: 0; }
@@ -51,11 +68,15 @@ pre { font: 0.8rem/1.4 monospace; margin: 0.2rem 0; white-space: pre-wrap; }
 button { font: inherit; padding: 0.25rem 0.75rem; }
 @media (max-width: 34rem) {
   li { grid-template-columns: 5rem 1fr; }
+  .named li { grid-template-columns: 5rem 1fr 1fr; }
   li details { grid-column: 1 / -1; }
 }
 @media (prefers-color-scheme: dark) {
   body { color: #eee; background: #111; }
   article { border-color: #aaa; }
+  .gone article { color: #ccc; background: repeating-linear-gradient(135deg, #333 0 10px, #2a2a2a 10px 20px); }
+  .bad .line p { color: #ff8a80; }
+  #alarms li { color: #ffd9d5; background: #33191a; border-color: #ff8a80; }
   li { border-bottom-color: #444; }
   li.bad { border-left-color: #ff8a80; }
   ol:focus-visible, button:focus-visible, summary:focus-visible { outline-color: #7bf; }
@@ -69,6 +90,7 @@ button { font: inherit; padding: 0.25rem 0.75rem; }
 <p id="heard">nothing was told yet</p>
 </header>
 <main>
+<div role="status" aria-label="Alarms"><ol id="alarms"></ol></div>
 <h2>Services</h2>
 <div id="services"><p>nothing was told of a service yet</p></div>
 <h2>Counts</h2>
@@ -85,8 +107,12 @@ button { font: inherit; padding: 0.25rem 0.75rem; }
 "use strict";
 const SHOWN_MAX = 100;
 const AFTER = 200;
-const COUNTS = [["messages", "messages"], ["repeats", "came again"], ["refusals", "refused"],
-  ["dropped", "segments dropped"], ["connections", "connections"], ["lines", "lines"], ["others", "other lines"]];
+const REPLAY = 2000;
+const OPEN_MAX = 128;
+const COUNTS = [["sent", "messages sent"], ["sent_refusals", "sent, and refused"],
+  ["messages", "messages come"], ["refusals", "come, and refused"], ["repeats", "come again"],
+  ["empty", "empty messages come"], ["dropped", "segments dropped"], ["connections", "connections"],
+  ["not_told", "lines not told"], ["lines", "lines"], ["others", "other lines"], ["further", "lines of no card"]];
 const TYPES = ["None", "News", "Current Affairs", "Information", "Sport", "Education", "Drama", "Cultures",
   "Science", "Varied Speech", "Pop Music", "Rock Music", "Easy Listening", "Light Classics M",
   "Serious Classics", "Other Music", "Weather & Metr", "Finance", "Children's Progs", "Social Affairs",
@@ -101,7 +127,8 @@ const made = (name, kind, text) => {
 };
 const two = number => String(number).padStart(2, "0");
 const clock_of = time => two(time.getHours()) + ":" + two(time.getMinutes()) + ":" + two(time.getSeconds());
-let held = false, waiting = [], asked = false, again = false, before = [], on_since = new Map();
+let held = false, waiting = [], asked = false, again = false, before = [], opened = 0, unheard = null;
+let lines = null, unknown = new Set(), on_since = new Map(), empties = new Map();
 
 function set_text(element, text) { if (element.textContent !== text) element.textContent = text; }
 function title_of(s) {
@@ -116,6 +143,15 @@ function rest_of(s) {
 function type_of(number) {
   return number + (TYPES[number] === undefined ? "" : " " + TYPES[number]);
 }
+// Since when something is so; nothing where that was not told.
+function since_of(text) {
+  const time = new Date(typeof text === "string" ? text : NaN), now = new Date();
+  if (Number.isNaN(time.getTime())) return "";
+  const day = time.toDateString() === now.toDateString() ? "" : time.getFullYear() + "-" + two(time.getMonth() + 1)
+    + "-" + two(time.getDate()) + " ";
+  return "since " + day + two(time.getHours()) + ":" + two(time.getMinutes());
+}
+function joined_by(separator, ...parts) { return parts.filter(text => text).join(separator); }
 function quoted(text) { return "\u201C" + text + "\u201D"; }
 function whole(number, one, more) { return number + " " + (number === 1 ? one : more); }
 
@@ -140,7 +176,7 @@ function frame_said(o) {
   const words = parts.map(([e, [, text]]) => place_of(e) + text).join(", ");
   const bad = o.fault === null || o.fault === undefined ? "" : "fault " + o.fault.code + " at " + o.fault.place;
   const about = parts.length > 0 ? parts[0][1][0] : "frame";
-  return [about, [words, bad].filter(text => text).join(", ") || "an empty message", bad !== ""];
+  return [about, joined_by(", ", words, bad) || "an empty message", bad !== ""];
 }
 function about_of(o) { return o.code === "00" ? "applied" : "refusal"; }
 function coded(o) { return o.code === "00" ? "applied" : "refused: " + o.meaning; }
@@ -162,6 +198,11 @@ function shown_of(o) {
   const name = o.text === undefined || o.text === null ? "no name" : quoted(o.text);
   return "a receiver shows " + name + ", " + (o.rt ? quoted(o.rt.text) : "no text") + ", TA " + (o.ta ? "on" : "off");
 }
+function stored_of(o) {
+  const rt = Array.isArray(o.texts) && o.texts.length > 0 ? o.texts[o.texts.length - 1].text : null;
+  return "the store has " + place_of(o) + (typeof o.text === "string" ? quoted(o.text) : "no name")
+    + (typeof rt === "string" ? ", " + quoted(rt) : ", no text");
+}
 // Of each kind of object what it is about, its words, and whether it is of something that went wrong.
 const KINDS = {
   frame: frame_said,
@@ -182,6 +223,9 @@ const KINDS = {
   station_refused: o => ["refusal", "message " + o.number + " of the station was refused: " + o.meaning, true],
   unknown: o => ["connection", "message " + o.number + ": not known whether it was applied", true],
   shown: o => ["receiver", shown_of(o), false],
+  store: o => ["store", "the store: set " + o.current + " of " + o.sets + " is current", false],
+  service: o => ["store", stored_of(o), false],
+  queued: o => ["store", "a group of type " + o.type + " waits", false],
   bad_line: o => ["line", String(o.text), true],
   not_told: o => ["line", whole(o.lines, "line was", "lines were") + " not told", true],
   connected: o => ["connection", "connected to " + o.host + " port " + o.port, false],
@@ -195,53 +239,158 @@ function other_of(o) {
   const kind = String(o.kind).replaceAll("_", " ");
   return [kind, typeof o.text === "string" ? o.text : kind, false];
 }
+// When an event was: its own time; else that at which it came, unless it may have come with those that were kept.
+function time_of(o) {
+  const told = new Date(typeof o.time === "string" ? o.time : NaN), now = Date.now();
+  if (!Number.isNaN(told.getTime())) return clock_of(told);
+  return now - opened < REPLAY ? "" : clock_of(new Date(now));
+}
 function said_of(text) {
-  const o = JSON.parse(text), told = new Date(typeof o.time === "string" ? o.time : NaN);
-  const [about, words, bad] = (KINDS[o.kind] ?? other_of)(o);
-  return { kind: o.kind, about, words, bad, text, time: clock_of(Number.isNaN(told.getTime()) ? new Date() : told) };
+  const o = JSON.parse(text), [about, words, bad] = (KINDS[o.kind] ?? other_of)(o);
+  const line = typeof o.line === "string" ? o.line : "", is_empty = o.kind === "frame" && o.message === "";
+  return { kind: o.kind, line, about, words, bad, text, time: time_of(o), is_empty };
 }
 function row_of(said) {
   const row = made("li", said.bad ? "bad" : "", ""), more = made("details", "", "");
   more.append(made("summary", "", said.words), made("pre", "", said.text));
-  row.append(made("time", "", said.time), made("span", "", said.about), more);
+  row.append(made("time", "", said.time));
+  if (said.line) row.append(made("span", "of", said.line));
+  row.append(made("span", "about", said.about), more);
+  said.row = row;
   return row;
+}
+// Empty messages that come one behind another, and their answers, are one row. Whether this is told by that one.
+function is_in_empties(said) {
+  const open = empties.get(said.line);
+  if (!said.is_empty) {
+    const is_its_answer = open !== undefined && open.waits && said.kind === "answered" && !said.bad;
+    if (is_its_answer) open.waits = false;
+    else if (said.kind !== "time") empties.delete(said.line);
+    return is_its_answer;
+  }
+  if (open === undefined || !(open.said.row?.isConnected ?? waiting.includes(open.said))) {
+    if (empties.size >= OPEN_MAX) empties.clear();
+    empties.set(said.line, { said, count: 1, waits: true });
+    return false;
+  }
+  open.count += 1;
+  open.waits = true;
+  open.said.words = open.count + " empty messages, as an encoder is joined";
+  open.said.row?.querySelector("summary").replaceChildren(open.said.words);
+  return true;
+}
+const LINKS = { connected: "connected", no_connection: "no connection", lost: "the connection is lost",
+  answers_nothing: "answers nothing", line_given_up: "given up" };
+function is_bad_link(l) { return l.link !== null && l.link !== "connected"; }
+function link_words(l) { return l.link === null ? "" : joined_by(" ", LINKS[l.link] ?? l.link, since_of(l.since)); }
+// What is wrong with lines: of which, what, and since when.
+function alarms_of(lines) {
+  const alarms = [];
+  for (const l of lines) {
+    if (is_bad_link(l)) alarms.push([l.line, LINKS[l.link] ?? l.link, since_of(l.since)]);
+    if (l.refused !== null) {
+      alarms.push([l.line, "a message was refused: " + (l.refused.meaning ?? "?"), since_of(l.refused.time)]);
+    }
+    if (l.failed) alarms.push([l.line, "the encoder could not save its state", ""]);
+  }
+  return alarms;
+}
+function show_alarms(alarms) {
+  const list = at("alarms"), keys = alarms.map(alarm => JSON.stringify(alarm));
+  for (const row of [...list.children]) if (!keys.includes(row.dataset.key)) row.remove();
+  alarms.forEach(([line, words, since], place) => {
+    if (list.children[place]?.dataset.key === keys[place]) return;
+    const row = made("li", "", "");
+    row.dataset.key = keys[place];
+    row.append(made("b", "", line), made("span", "", words), made("time", "", since));
+    list.insertBefore(row, list.children[place] ?? null);
+  });
+}
+function show_title(alarms, some) {
+  const words = joined_by(", ", alarms === 0 ? "" : whole(alarms, "alarm", "alarms"), some ? "TA on" : "");
+  const title = joined_by(" \u2013 ", words, "uecp page");
+  if (document.title !== title) document.title = title;
 }
 function show_bands() {
   let some = false;
   for (const card of document.querySelectorAll("article")) {
-    const since = on_since.get(card.children[0].textContent), band = card.children[1];
+    const since = on_since.get(card.dataset.key), band = card.children[1];
     band.hidden = since === undefined;
     if (since === undefined) continue;
     some = true;
     const seconds = Math.floor((Date.now() - since) / 1000);
-    set_text(band.children[1], Math.floor(seconds / 60) + ":" + two(seconds % 60));
+    set_text(band.children[1], since === null ? "" : Math.floor(seconds / 60) + ":" + two(seconds % 60));
   }
-  const title = some ? "TA on \u2013 uecp page" : "uecp page";
-  if (document.title !== title) document.title = title;
+  show_title(at("alarms").children.length, some);
 }
-function show_services(services) {
-  const box = at("services");
-  if (services.length === 0) return;
-  while (box.firstElementChild && box.firstElementChild.tagName !== "ARTICLE") box.firstElementChild.remove();
-  services.forEach((s, place) => {
-    let card = box.children[place];
-    if (card === undefined) {
-      card = made("article", "", "");
-      const band = made("p", "band", "");
-      band.append(made("span", "", "Traffic announcement"), made("span", "", ""));
-      card.append(made("h3", "", ""), band, made("p", "name", ""), made("p", "rt", ""), made("p", "rest", ""));
-      box.append(card);
-    }
-    const title = title_of(s);
-    if (s.ta !== true) on_since.delete(title);
-    else if (!on_since.has(title)) on_since.set(title, Date.now());
+function new_section(l) {
+  const section = made("section", "", ""), head = made("div", "line", "");
+  head.append(made("h3", "", l.line), made("p", "", ""));
+  head.children[0].hidden = l.line === "";
+  section.dataset.line = l.line;
+  section.append(head, made("div", "cards", ""));
+  return section;
+}
+function new_card(l) {
+  const card = made("article", "", ""), band = made("p", "band", "");
+  band.append(made("span", "", "Traffic announcement"), made("span", "", ""));
+  card.append(made(l.line === "" ? "h3" : "h4", "", ""), band, made("p", "name", ""), made("p", "rt", ""));
+  card.append(made("p", "rest", ""), made("p", "known", ""));
+  return card;
+}
+// A traffic announcement is shown as on where that is known, and with its time where it was seen to begin.
+function keep_band(key, is_on, was_known) {
+  if (!is_on) on_since.delete(key);
+  else if (!on_since.has(key)) on_since.set(key, was_known ? Date.now() : null);
+}
+function show_cards(l, box, gone, was_known) {
+  l.services.forEach((s, place) => {
+    if (box.children[place] === undefined) box.append(new_card(l));
+    const card = box.children[place], title = title_of(s);
+    card.dataset.key = JSON.stringify([l.line, title]);
+    keep_band(card.dataset.key, s.ta === true && gone === null, was_known);
     set_text(card.children[0], title);
     set_text(card.children[2], s.name ?? "");
     set_text(card.children[3], s.rt ?? "");
     set_text(card.children[4], rest_of(s));
+    set_text(card.children[5], gone ?? "");
+    card.children[5].hidden = gone === null;
   });
-  while (box.children.length > services.length) box.lastElementChild.remove();
+  while (box.children.length > l.services.length) {
+    on_since.delete(box.lastElementChild.dataset.key);
+    box.lastElementChild.remove();
+  }
+}
+// Of a line that is not connected, and of all where nothing is heard, it is not known what is on the air.
+function gone_of(l) {
+  if (is_bad_link(l)) return joined_by(" ", "not known", since_of(l.since));
+  return unheard === null ? null : joined_by(" ", "not known", since_of(unheard));
+}
+function show_line(l, place, is_first) {
+  const box = at("services"), gone = gone_of(l);
+  let section = [...box.children].find(section => section.dataset.line === l.line);
+  if (section === undefined) section = new_section(l);
+  if (box.children[place] !== section) box.insertBefore(section, box.children[place] ?? null);
+  section.classList.toggle("wide", l.services.length > 1);
+  section.classList.toggle("bad", is_bad_link(l));
+  section.classList.toggle("gone", gone !== null);
+  set_text(section.children[0].children[1], link_words(l));
+  show_cards(l, section.children[1], gone, !is_first && !unknown.has(l.line));
+  if (gone === null) unknown.delete(l.line); else unknown.add(l.line);
+}
+function show_lines(told) {
+  const box = at("services"), is_first = lines === null;
+  lines = told.sort((a, b) => a.line < b.line ? -1 : a.line > b.line ? 1 : 0);
+  if (lines.length > 0) while (box.firstElementChild?.tagName === "P") box.firstElementChild.remove();
+  lines.forEach((l, place) => show_line(l, place, is_first));
+  while (lines.length > 0 && box.children.length > lines.length) box.lastElementChild.remove();
+  show_alarms(alarms_of(lines));
   show_bands();
+}
+function counts_of(state) {
+  const counts = { others: state.others, further: state.further };
+  for (const [key] of COUNTS) counts[key] ??= state.lines.reduce((sum, l) => sum + l.counts[key], 0);
+  return counts;
 }
 function show_counts(counts) {
   const now = Date.now();
@@ -269,8 +418,8 @@ async function ask() {
   try {
     const answer = await fetch("/state", { cache: "no-store" });
     const state = await answer.json();
-    show_services(state.services);
-    show_counts(state.counts);
+    show_lines(state.lines);
+    show_counts(counts_of(state));
   } catch (error) {
     again = true;
   }
@@ -279,6 +428,7 @@ async function ask() {
 function show_events() {
   if (held) return;
   const list = at("events");
+  if (waiting.some(said => said.line)) list.classList.add("named");
   const some = waiting.slice(-SHOWN_MAX).reverse().map(row_of);
   waiting = [];
   list.prepend(...some);
@@ -295,16 +445,20 @@ at("hold").addEventListener("click", event => {
   if (!held) show_events();
 });
 const source = new EventSource("/events");
-source.onopen = () => { set_text(at("link"), "connected"); ask(); };
-source.onerror = () => set_text(at("link"), "no connection; it is tried again");
+source.onopen = () => { opened = Date.now(); unheard = null; set_text(at("link"), "connected"); ask(); };
+source.onerror = () => {
+  unheard ??= new Date().toISOString();
+  set_text(at("link"), "no connection; it is tried again");
+  if (lines !== null) show_lines(lines);
+};
 source.onmessage = event => {
   const said = said_of(event.data);
-  if (said.kind !== "time") note(said);
-  set_text(at("heard"), "the last event: " + said.time);
+  if (!is_in_empties(said) && said.kind !== "time") note(said);
+  set_text(at("heard"), "the last event: " + (said.time || "it is not known when"));
   ask();
 };
 source.addEventListener("gap", () => {
-  note({ about: "line", words: "events are gone", bad: true, text: "", time: clock_of(new Date()) });
+  note({ line: "", about: "line", words: "events are gone", bad: true, text: "", time: clock_of(new Date()) });
 });
 setInterval(ask, 10000);
 setInterval(show_bands, 1000);

@@ -1,33 +1,37 @@
-//! What is counted (profile).
+//! What is counted of a control line (profile).
 ghost use Rattle.std.specs.Prelude.{◌≡◌, ◌+◌, ◌-◌, ◌^◌, min};
 ghost use Rattle.serde_json.specs.View.{view};
 ghost use Rattle.page.specs.Members.{says};
-ghost use Rattle.page.specs.Counts.{counted, no_counts, one_more, is_message, is_repeat, is_refusal, is_kind};
-ghost use Rattle.page.specs.Counts.{lines_not_told};
+ghost use Rattle.page.specs.Counts.{counted, no_counts, one_more, is_sent, is_message, is_empty, is_repeat, is_kind};
+ghost use Rattle.page.specs.Counts.{is_told, is_new_answer, has_bad_code, lines_not_told};
 ghost use Rattle.page.specs.StateView.{counts_of};
 
 use crate::state::members::{flag_at, number_or_0, says};
 use serde_json::Value;
 
-/// What was counted; no more than 2^64 - 1 of anything.
+/// What was counted of a control line; no more than 2^64 - 1 of anything.
 #[derive(Clone, Copy, Debug, PartialEq, Eq)]
-pub struct Counts {
-    /// Lines that were objects of ours.
-    pub lines: u64,
-    /// Other lines.
-    pub others: u64,
-    /// Messages: frames, and where no frame is told what became of a message.
-    pub messages: u64,
+pub(crate) struct Counts {
+    /// Objects.
+    pub(crate) lines: u64,
+    /// Messages that the studio's end told the answer to.
+    pub(crate) sent: u64,
+    /// Those of them that were refused.
+    pub(crate) sent_refusals: u64,
+    /// Messages that the encoder's end told.
+    pub(crate) messages: u64,
+    /// Empty messages that it told.
+    pub(crate) empty: u64,
     /// Messages that came again.
-    pub repeats: u64,
-    /// Messages that were refused.
-    pub refusals: u64,
+    pub(crate) repeats: u64,
+    /// Messages that it refused.
+    pub(crate) refusals: u64,
     /// Segments that were no frame.
-    pub dropped: u64,
+    pub(crate) dropped: u64,
     /// Connections.
-    pub connections: u64,
+    pub(crate) connections: u64,
     /// Lines that an end could not tell, since nobody read them.
-    pub not_told: u64,
+    pub(crate) not_told: u64,
 }
 
 impl Counts {
@@ -37,8 +41,10 @@ impl Counts {
     {
         Counts {
             lines: 0,
-            others: 0,
+            sent: 0,
+            sent_refusals: 0,
             messages: 0,
+            empty: 0,
             repeats: 0,
             refusals: 0,
             dropped: 0,
@@ -51,10 +57,14 @@ impl Counts {
     pub(crate) fn count(&mut self, value: &Value)
         ensures { counts_of self.new ≡ counted (view value.now) (counts_of self.old) }
     {
+        let is_bad = has_bad_code(value);
         add(true, &mut self.lines);
+        add(is_sent(value), &mut self.sent);
+        add(is_sent(value) && is_bad, &mut self.sent_refusals);
         add(is_message(value), &mut self.messages);
+        add(is_empty(value), &mut self.empty);
         add(is_repeat(value), &mut self.repeats);
-        add(is_refusal(value), &mut self.refusals);
+        add(is_new_answer(value) && is_bad, &mut self.refusals);
         add(is_kind(value, "dropped"), &mut self.dropped);
         add(is_kind(value, "connection"), &mut self.connections);
         self.not_told = self.not_told.saturating_add(lines_not_told(value));
@@ -77,11 +87,33 @@ pub(crate) fn is_kind(value: &Value, kind: &str) -> bool
     says(value, "kind", kind)
 }
 
-/// Whether it tells of a message: a frame, or what became of one where no frame is told.
+/// Whether the studio's end tells what became of a message that it sent.
+pub(crate) fn is_sent(value: &Value) -> bool
+    ensures { result ≡ is_sent (view value.now) }
+{
+    is_kind(value, "answer")
+}
+
+/// Whether the encoder's end tells a frame with no message in it.
+fn is_empty(value: &Value) -> bool
+    ensures { result ≡ is_empty (view value.now) }
+{
+    is_kind(value, "frame") && says(value, "message", "")
+}
+
+/// Whether the encoder's end tells a message: by its frame, or by its reply where no frame is told.
 fn is_message(value: &Value) -> bool
     ensures { result ≡ is_message (view value.now) }
 {
-    is_kind(value, "frame") || is_kind(value, "reply") || is_kind(value, "answer")
+    let is_full = is_kind(value, "frame") && !says(value, "message", "");
+    is_full || is_kind(value, "reply")
+}
+
+/// Whether an end tells a message, either of them.
+pub(crate) fn is_told(value: &Value) -> bool
+    ensures { result ≡ is_told (view value.now) }
+{
+    is_sent(value) || is_message(value)
 }
 
 /// Whether it tells that a message came again.
@@ -93,12 +125,18 @@ fn is_repeat(value: &Value) -> bool
     is_again || is_kept
 }
 
-/// Whether it tells that a message was refused.
-fn is_refusal(value: &Value) -> bool
-    ensures { result ≡ is_refusal (view value.now) }
+/// Whether the encoder's end tells what became of a message that had not come before.
+pub(crate) fn is_new_answer(value: &Value) -> bool
+    ensures { result ≡ is_new_answer (view value.now) }
 {
-    let is_new = is_kind(value, "answered") && says(value, "answer", "new");
-    (is_new || is_kind(value, "answer")) && !says(value, "code", "00")
+    is_kind(value, "answered") && says(value, "answer", "new")
+}
+
+/// Whether a message was refused: its code is not 00.
+pub(crate) fn has_bad_code(value: &Value) -> bool
+    ensures { result ≡ has_bad_code (view value.now) }
+{
+    !says(value, "code", "00")
 }
 
 /// How many lines an end could not tell, as it says.

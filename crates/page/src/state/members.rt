@@ -1,7 +1,7 @@
 //! What a member of an object of JSON says (profile).
 ghost use Rattle.std.specs.Prelude.{◌≡◌, IfOk, option_map, string_bytes};
 ghost use Rattle.serde_json.specs.View.{view};
-ghost use Rattle.page.specs.Members.{text_at, flag_at, number_at, number_or_0, says, is_ours};
+ghost use Rattle.page.specs.Members.{text_at, flag_at, number_at, number_or_0, says, is_ours, name_of};
 
 use serde_json::Value;
 use std::alloc::{AllocError, Global};
@@ -52,4 +52,11 @@ pub(crate) fn is_ours(value: &Value) -> bool
     ensures { result ≡ is_ours (view value.now) }
 {
     number_at(value, "format") == Some(1) && value.get("kind").and_then(Value::as_str).is_some()
+}
+
+/// The name of the control line that an object is of; empty where it names none.
+pub(crate) fn name_of(value: &Value) -> &str
+    ensures { result.now ≡ name_of (view value.now) }
+{
+    value.get("line").and_then(Value::as_str).unwrap_or("")
 }

@@ -1,20 +1,24 @@
-//! What is shown, as a fold of the lines that come (profile).
-ghost use Rattle.std.specs.Prelude.{◌≡◌, IfOk, OnOk, map};
+//! What is shown: a card for each control line, a fold of the objects that come (profile).
+ghost use Rattle.std.specs.Prelude.{◌≡◌, ◌++◌, ◌∷◌, [], IfOk, OnOk, map};
 ghost use Rattle.serde_json.specs.View.{view};
-ghost use Rattle.page.specs.StateView.{state_of, counts_of, service_of};
-ghost use Rattle.page.specs.State.{at_first, after, after_other, after_kind, after_answer, after_message};
-ghost use Rattle.page.specs.State.{after_telling};
+ghost use Rattle.page.specs.StateView.{state_of, line_of};
+ghost use Rattle.page.specs.Members.{name_of};
+ghost use Rattle.page.specs.ControlLine.{new_line, line_after};
+ghost use Rattle.page.specs.State.{at_first, after, after_other, told_in};
 ghost use Rattle.page.specs.Taking.{Takes};
 
-use crate::state::counts::{Counts, add, is_kind};
-use crate::state::members::{is_ours, number_at, number_or_0, says};
-use crate::state::row::{Row, is_element};
-use crate::state::services::{tell_of, tells};
+use crate::state::counts::{add, is_told};
+use crate::state::line::Line;
+use crate::state::members::{is_ours, name_of};
 use serde_json::Value;
 use std::alloc::{AllocError, Global};
 
-/// How many services are kept: 8 of each of 8 data sets, and as many more under the numbers that stand for several.
+/// How many services are kept of a control line: 8 of each of 8 data sets, and as many more under the numbers that
+/// stand for several.
 pub const SERVICES_MAX: usize = 128;
+
+/// How many control lines are kept.
+pub const LINES_MAX: usize = 128;
 
 /// What a line was.
 #[derive(Debug, Drop)]
@@ -25,14 +29,13 @@ pub enum Took {
     Other,
 }
 
-/// What is shown, and what was counted. Contracts see it as [`state_of`](../specs/View.antt) has it.
+/// What is shown, and what was counted. Contracts see it as [`state_of`](../specs/StateView.antt) has it.
 #[derive(Drop)]
 pub struct Page {
-    current: u64,
-    rows: Vec<Row>,
-    answers: bool,
-    frame: Option<Value>,
-    counts: Counts,
+    lines: Vec<Line>,
+    others: u64,
+    further: u64,
+    messages: u64,
 }
 
 impl Page {
@@ -41,11 +44,10 @@ impl Page {
         ensures { state_of result ≡ at_first }
     {
         Page {
-            current: 0,
-            rows: Vec::new(alloc),
-            answers: false,
-            frame: None,
-            counts: Counts::new(),
+            lines: Vec::new(alloc),
+            others: 0,
+            further: 0,
+            messages: 0,
         }
     }
 
@@ -77,111 +79,79 @@ impl Page {
     fn pass_over(&mut self)
         ensures { state_of self.new ≡ after_other (state_of self.old) }
     {
-        add(true, &mut self.counts.others);
+        add(true, &mut self.others);
     }
 
-    /// Takes an object of ours.
+    /// Takes an object of ours: by the control line that it names. A new one comes last, where there is room; else the
+    /// object is counted, and changes nothing else.
     ///
     /// Errors: where memory is refused it may have been taken in part.
     pub fn take_object(&mut self, alloc: Global, value: Value) -> Result<(), AllocError>
         ensures { OnOk result (state_of self.new ≡ after (view value) (state_of self.old)) }
     {
-        self.counts.count(&value);
-        self.show(alloc, value)
+        add(is_told(&value), &mut self.messages);
+        self.tell(alloc, value)
     }
 
-    /// Shows what an object tells.
-    fn show(&mut self, alloc: Global, value: Value) -> Result<(), AllocError>
-        ensures { OnOk result (state_of self.new ≡ after_kind (view value) (state_of self.old)) }
+    /// An object is told of the control line that it names; or it is of a further one.
+    ///
+    /// Errors: where memory is refused it may have been told in part.
+    fn tell(&mut self, alloc: Global, value: Value) -> Result<(), AllocError>
+        ensures { OnOk result (state_of self.new ≡ told_in (view value) (state_of self.old)) }
     {
-        if is_kind(&value, "frame") {
-            if self.answers {
-                self.frame = Some(value);
-                return Ok(());
+        for place in 0..self.lines.len() {
+            if self.lines[place].is_named(name_of(&value)) {
+                return self.lines[place].take(alloc, value);
             }
-            return self.apply(alloc, &value);
         }
-        if is_kind(&value, "answered") {
-            return self.answer(alloc, &value);
+        if self.lines.len() < LINES_MAX {
+            return self.begin(alloc, value);
         }
-        if is_kind(&value, "connection") {
-            self.answers = true;
-            self.frame = None;
-            return Ok(());
-        }
-        if is_kind(&value, "shown") {
-            return self.tell(alloc, &value);
-        }
+        add(true, &mut self.further);
         Ok(())
     }
 
-    /// The frame that waits was answered: it is shown where it was applied, and waits no more.
-    fn answer(&mut self, alloc: Global, value: &Value) -> Result<(), AllocError>
-        ensures { OnOk result (state_of self.new ≡ after_answer (view value.now) (state_of self.old)) }
+    /// Takes an object of a control line that is new.
+    ///
+    /// Errors: where memory is refused it may have been taken in part.
+    fn begin(&mut self, alloc: Global, value: Value) -> Result<(), AllocError>
+        ensures { OnOk result (state_of self.new ≡ record (state_of self.old) {
+          lines = (state_of self.old).lines
+              ++ line_after (view value) (new_line (name_of (view value))) ∷ [];
+        }) }
     {
-        let frame = self.frame.take();
-        if !says(value, "answer", "new") || !says(value, "code", "00") {
-            return Ok(());
-        }
-        match frame {
-            Some(frame) => self.apply(alloc, &frame),
-            None => Ok(()),
-        }
-    }
-
-    /// Shows what the elements of a message tell, in order.
-    fn apply(&mut self, alloc: Global, value: &Value) -> Result<(), AllocError>
-        ensures { OnOk result (state_of self.new ≡ after_message (view value.now) (state_of self.old)) }
-    {
-        let Some(elements) = value.get("elements").and_then(Value::as_array) else {
-            return Ok(());
-        };
-        for element in elements {
-            self.tell(alloc, element)?;
-        }
+        let name = String::from_str(alloc, name_of(&value))?;
+        let mut line = Line::new(alloc, name);
+        line.take(alloc, value)?;
+        self.lines.push(line)?;
         Ok(())
     }
 
-    /// Shows what an element tells, or a receiver.
-    fn tell(&mut self, alloc: Global, value: &Value) -> Result<(), AllocError>
-        ensures { OnOk result (state_of self.new ≡ after_telling (view value.now) (state_of self.old)) }
+    /// The control lines, in the order in which something was first told of them.
+    pub(crate) fn lines(&self) -> &[Line]
+        ensures { map line_of result.now ≡ (state_of self.now).lines }
     {
-        if is_element(value, "select") {
-            self.current = number_at(value, "set").unwrap_or(self.current);
-            return Ok(());
-        }
-        if !tells(value) {
-            return Ok(());
-        }
-        let named = number_or_0(value, "set");
-        let set = if named == 0 { self.current } else { named };
-        tell_of(
-            alloc,
-            set,
-            number_or_0(value, "service"),
-            value,
-            &mut self.rows,
-        )
+        self.lines.as_slice()
     }
 
-    /// What was counted.
-    pub fn counts(&self) -> Counts
-        ensures { counts_of result ≡ (state_of self.now).counts }
+    /// How many messages were told, of whatever control line, and by whichever end.
+    pub fn messages(&self) -> u64
+        ensures { result ≡ (state_of self.now).messages }
     {
-        self.counts
+        self.messages
     }
 
-    /// What each service has, in the order in which they came.
-    pub(crate) fn rows(&self) -> &[Row]
-        ensures { map service_of result.now ≡ (state_of self.now).services }
+    /// How many lines of input were no object of ours.
+    pub(crate) fn others(&self) -> u64
+        ensures { result ≡ (state_of self.now).others }
     {
-        self.rows.as_slice()
+        self.others
     }
 
-    /// The data set that was selected, 0 before.
-    pub(crate) fn current(&self) -> u64
-        ensures { result ≡ (state_of self.now).current }
+    /// How many objects were of a further control line, which are shown nowhere.
+    pub(crate) fn further(&self) -> u64
+        ensures { result ≡ (state_of self.now).further }
     {
-        self.current
+        self.further
     }
 }

@@ -1,7 +1,9 @@
 //! What was told last of a service of a data set (profile).
-ghost use Rattle.std.specs.Prelude.{◌≡◌, OnOk, IfOk, option_map, string_bytes};
-ghost use Rattle.serde_json.specs.View.{view};
-ghost use Rattle.page.specs.Shown.{new_service, is_element, is_of, told, all_told, element_text};
+ghost use Rattle.std.specs.Prelude.{◌≡◌, OnOk, IfOk, option_map, option_and_then, string_bytes, codes};
+ghost use Rattle.serde_json.specs.View.{view, items_view};
+ghost use Rattle.page.specs.Members.{text_at};
+ghost use Rattle.page.specs.Shown.{new_service, is_element, is_of, is_shown, is_stored, told, all_told, element_text};
+ghost use Rattle.page.specs.Shown.{shown_text, stored_text, last_item};
 ghost use Rattle.page.specs.StateView.{service_of};
 
 use crate::state::members::{flag_at, number_at, says, text_at};
@@ -70,28 +72,75 @@ impl Row {
             self.pty = number_at(value, "type");
         } else if is_element(value, "rt") {
             self.rt = element_text(alloc, value)?;
-        } else if says(value, "kind", "shown") {
-            self.show(alloc, value)?;
+        } else if is_shown(value) {
+            let rt = shown_text(alloc, value)?;
+            self.show(alloc, rt, value)?;
+        } else if is_stored(value) {
+            let rt = stored_text(alloc, value)?;
+            self.show(alloc, rt, value)?;
         }
         Ok(())
     }
 
-    /// All that a receiver shows is told of it.
+    /// All is told of it, with this RadioText.
     ///
     /// Errors: where memory is refused it may have been told in part.
-    fn show(&mut self, alloc: Global, value: &Value) -> Result<(), AllocError>
-        ensures { OnOk result (service_of self.new ≡ all_told (view value.now) (service_of self.old)) }
+    fn show(&mut self, alloc: Global, rt: Option<String>, value: &Value) -> Result<(), AllocError>
+        ensures { OnOk result (service_of self.new
+            ≡ all_told (option_map string_bytes rt) (view value.now) (service_of self.old)) }
     {
         self.pi = text_at(alloc, value, "pi")?;
         self.name = text_at(alloc, value, "text")?;
-        self.rt = match value.get("rt") {
-            Some(rt) => text_at(alloc, rt, "text")?,
-            None => None,
-        };
+        self.rt = rt;
         self.tp = flag_at(value, "tp");
         self.ta = flag_at(value, "ta");
         self.pty = number_at(value, "type");
         Ok(())
+    }
+}
+
+/// Whether an object tells what a receiver shows.
+pub(crate) fn is_shown(value: &Value) -> bool
+    ensures { result ≡ is_shown (view value.now) }
+{
+    says(value, "kind", "shown")
+}
+
+/// Whether an object tells what a store has of a service.
+pub(crate) fn is_stored(value: &Value) -> bool
+    ensures { result ≡ is_stored (view value.now) }
+{
+    says(value, "kind", "service")
+}
+
+/// The RadioText that a receiver shows.
+fn shown_text(alloc: Global, value: &Value) -> Result<Option<String>, AllocError>
+    ensures { IfOk result (λ text. option_map string_bytes text ≡ shown_text (view value.now)) }
+{
+    match value.get("rt") {
+        Some(rt) => text_at(alloc, rt, "text"),
+        None => Ok(None),
+    }
+}
+
+/// The RadioText that a store has: the last of its texts.
+fn stored_text(alloc: Global, value: &Value) -> Result<Option<String>, AllocError>
+    ensures { IfOk result (λ text. option_map string_bytes text ≡ stored_text (view value.now)) }
+{
+    match value.get("texts").and_then(Value::as_array) {
+        Some(texts) => last_text(alloc, texts.as_slice()),
+        None => Ok(None),
+    }
+}
+
+/// What the last of these says.
+fn last_text(alloc: Global, texts: &[Value]) -> Result<Option<String>, AllocError>
+    ensures { IfOk result (λ text. option_map string_bytes text
+        ≡ option_and_then (text_at (codes "text")) (last_item (items_view texts.now))) }
+{
+    match texts.last() {
+        Some(text) => text_at(alloc, text, "text"),
+        None => Ok(None),
     }
 }
 

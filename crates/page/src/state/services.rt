@@ -1,12 +1,11 @@
 //! What is told of services (profile).
 ghost use Rattle.std.specs.Prelude.{◌≡◌, ◌≤◌, ◌⊎◌, OnOk, length, map};
 ghost use Rattle.serde_json.specs.View.{view};
-ghost use Rattle.page.specs.Shown.{tells, told_among};
+ghost use Rattle.page.specs.Shown.{tells, told_service};
 ghost use Rattle.page.specs.StateView.{service_of};
 
-use crate::state::members::says;
 use crate::state::page::SERVICES_MAX;
-use crate::state::row::{Row, is_element};
+use crate::state::row::{Row, is_element, is_shown, is_stored};
 use serde_json::Value;
 use std::alloc::{AllocError, Global};
 
@@ -19,7 +18,8 @@ pub(crate) fn tells(value: &Value) -> bool
         || is_element(value, "traffic")
         || is_element(value, "pty")
         || is_element(value, "rt")
-        || says(value, "kind", "shown")
+        || is_shown(value)
+        || is_stored(value)
 }
 
 /// This is told of a service; a new one comes last, where there is room.
@@ -33,7 +33,7 @@ pub(crate) fn tell_of(
     rows: &mut Vec<Row>,
 ) -> Result<(), AllocError>
     ensures { OnOk result (map service_of rows.new.items
-        ≡ told_among 128 set service (view value.now) (map service_of rows.old.items)) }
+        ≡ told_service set service (view value.now) (map service_of rows.old.items)) }
 {
     for place in 0..rows.len() {
         if rows[place].is_of(set, service) {

@@ -1,13 +1,16 @@
 //! The state as JSON (profile).
-ghost use Rattle.std.specs.Prelude.{◌≡◌, IfOk, OnOk, option_map, map, string_bytes};
+ghost use Rattle.std.specs.Prelude.{◌≡◌, IfOk, OnOk, Some, option_map, map, string_bytes};
 ghost use Rattle.serde_json.specs.View.{view, members_view};
 ghost use Rattle.serde_json.specs.Written.{compact_text};
 ghost use Rattle.page.specs.Texts.{text_data, flag_data, number_data, service_data, counts_data};
-ghost use Rattle.page.specs.Texts.{services_data, state_data};
+ghost use Rattle.page.specs.Texts.{services_data, link_data, since_data, refused_data, line_data, lines_data};
+ghost use Rattle.page.specs.Texts.{state_data};
 ghost use Rattle.serde_json.specs.Data.{array, object, no_members};
-ghost use Rattle.page.specs.StateView.{service_of, counts_of, state_of};
+ghost use Rattle.page.specs.StateView.{service_of, counts_of, linked_of, refusal_of, line_of, state_of};
 
 use crate::state::counts::Counts;
+use crate::state::line::Line;
+use crate::state::link::{Linked, Refusal};
 use crate::state::page::Page;
 use crate::state::row::Row;
 use serde_json::{Map, Value, json, put};
@@ -93,12 +96,19 @@ fn put_counts(
         Value::from(counts.connections),
     )?;
     put(members, alloc, "dropped", Value::from(counts.dropped))?;
+    put(members, alloc, "empty", Value::from(counts.empty))?;
     put(members, alloc, "lines", Value::from(counts.lines))?;
     put(members, alloc, "messages", Value::from(counts.messages))?;
     put(members, alloc, "not_told", Value::from(counts.not_told))?;
-    put(members, alloc, "others", Value::from(counts.others))?;
     put(members, alloc, "refusals", Value::from(counts.refusals))?;
     put(members, alloc, "repeats", Value::from(counts.repeats))?;
+    put(members, alloc, "sent", Value::from(counts.sent))?;
+    put(
+        members,
+        alloc,
+        "sent_refusals",
+        Value::from(counts.sent_refusals),
+    )?;
     Ok(())
 }
 
@@ -109,6 +119,94 @@ fn services_value(alloc: Global, rows: &[Row]) -> Result<Value, AllocError>
     let mut list = Vec::new(alloc);
     for row in rows {
         list.push(service_value(alloc, row)?)?;
+    }
+    Ok(Value::Array(list))
+}
+
+/// What was told of the connection: the kind of the objects that tell it, or null.
+fn link_value(alloc: Global, linked: &Option<Linked>) -> Result<Value, AllocError>
+    ensures { IfOk result (λ value. view value ≡ link_data (option_map linked_of linked.now)) }
+{
+    match linked {
+        Some(linked) => Value::try_from_str(alloc, linked.link.kind()),
+        None => Ok(Value::Null),
+    }
+}
+
+/// Since when that is so, or null.
+fn since_value(alloc: Global, linked: &Option<Linked>) -> Result<Value, AllocError>
+    ensures { IfOk result (λ value. view value ≡ since_data (option_map linked_of linked.now)) }
+{
+    match linked {
+        Some(linked) => text_value(alloc, &linked.since),
+        None => Ok(Value::Null),
+    }
+}
+
+/// The last message, where it was refused, or null.
+fn refused_value(alloc: Global, refused: &Option<Refusal>) -> Result<Value, AllocError>
+    ensures { IfOk result (λ value. view value ≡ refused_data (option_map refusal_of refused.now)) }
+{
+    match refused {
+        Some(refusal) => refusal_value(alloc, refusal),
+        None => Ok(Value::Null),
+    }
+}
+
+/// A message that was refused as an object.
+fn refusal_value(alloc: Global, refusal: &Refusal) -> Result<Value, AllocError>
+    ensures { IfOk result (λ value. view value ≡ refused_data (Some (refusal_of refusal.now))) }
+{
+    let mut members = Map::new(alloc);
+    let list = &mut members;
+    put(list, alloc, "meaning", text_value(alloc, &refusal.meaning)?)?;
+    put(list, alloc, "time", text_value(alloc, &refusal.time)?)?;
+    Ok(Value::Object(members))
+}
+
+/// A control line as an object.
+fn line_value(alloc: Global, line: &Line) -> Result<Value, AllocError>
+    ensures { IfOk result (λ value. view value ≡ line_data (line_of line.now)) }
+{
+    let mut members = Map::new(alloc);
+    put_line(alloc, line, &mut members)?;
+    Ok(Value::Object(members))
+}
+
+/// Puts the members of a control line into an object that has none.
+fn put_line(alloc: Global, line: &Line, members: &mut Map<String, Value>) -> Result<(), AllocError>
+    requires empty { members_view members.old.entries ≡ no_members }
+    ensures { OnOk result (object (members_view members.new.entries) ≡ line_data (line_of line.now)) }
+{
+    let services = services_value(alloc, line.air.rows())?;
+    put(members, alloc, "counts", counts_value(alloc, &line.counts)?)?;
+    put(members, alloc, "current", Value::from(line.air.current()))?;
+    put(members, alloc, "failed", Value::Bool(line.failed))?;
+    put(
+        members,
+        alloc,
+        "line",
+        Value::try_from_str(alloc, line.name.as_str())?,
+    )?;
+    put(members, alloc, "link", link_value(alloc, &line.linked)?)?;
+    put(
+        members,
+        alloc,
+        "refused",
+        refused_value(alloc, &line.refused)?,
+    )?;
+    put(members, alloc, "services", services)?;
+    put(members, alloc, "since", since_value(alloc, &line.linked)?)?;
+    Ok(())
+}
+
+/// Control lines as an array.
+fn lines_value(alloc: Global, lines: &[Line]) -> Result<Value, AllocError>
+    ensures { IfOk result (λ value. view value ≡ array (lines_data (map line_of lines.now))) }
+{
+    let mut list = Vec::new(alloc);
+    for line in lines {
+        list.push(line_value(alloc, line)?)?;
     }
     Ok(Value::Array(list))
 }
@@ -127,21 +225,11 @@ fn put_state(alloc: Global, page: &Page, members: &mut Map<String, Value>) -> Re
     requires empty { members_view members.old.entries ≡ no_members }
     ensures { OnOk result (object (members_view members.new.entries) ≡ state_data (state_of page.now)) }
 {
-    put(
-        members,
-        alloc,
-        "counts",
-        counts_value(alloc, &page.counts())?,
-    )?;
-    put(members, alloc, "current", Value::from(page.current()))?;
     put(members, alloc, "format", Value::from(1u8))?;
+    put(members, alloc, "further", Value::from(page.further()))?;
     put(members, alloc, "kind", Value::try_from_str(alloc, "state")?)?;
-    put(
-        members,
-        alloc,
-        "services",
-        services_value(alloc, page.rows())?,
-    )?;
+    put(members, alloc, "lines", lines_value(alloc, page.lines())?)?;
+    put(members, alloc, "others", Value::from(page.others()))?;
     Ok(())
 }
 

@@ -1,10 +1,18 @@
-use Rattle.page.proofs.Whole.{nine}
+use Rattle.std.proofs.Common.{◌++◌, ◌∙◌, ap}
+use Rattle.std.specs.Prelude.{codes}
+use Rattle.page.specs.Texts.{counted_texts, standing_texts, valued}
+use Rattle.page.proofs.Whole.{in_five}
 use Rattle.page.proofs.state.metrics.metrics_text.Goals as goal
 
 pub returns : goal.returns
 returns c =
-    nine _ _ _ _ _ _ _ _ _ _ _ _ _ _ _ _ _ _ _ c.new-text.ensures.items c.in_ok-put_counter.ensures
-    c.in_ok-put_counter-2.ensures
-    c.in_ok-put_counter-3.ensures c.in_ok-put_counter-4.ensures c.in_ok-put_counter-5.ensures
-    c.in_ok-put_counter-6.ensures
-    c.in_ok-put_counter-7.ensures c.in_ok-put_counter-8.ensures c.in_ok-put_since.ensures
+    in_five _ _ _ _ _ _ _ _ _ _ _ c.new-text.ensures.items
+    (c.in_ok-put_counted.ensures ∙ ap (λ ls. c.new-text.result.items ++ counted_texts ls) c.lines.ensures)
+    (c.in_ok-put_standing.ensures ∙ ap (λ ls. c.put_counted.new.text.items ++ standing_texts ls) c.lines-2.ensures)
+    (c.in_ok-put_value.ensures ∙ ap (λ n. c.put_standing.new.text.items
+    ++ valued (codes "uecp_other_lines_total") (codes "Lines that are no object of ours.") (codes " counter\n") n)
+    c.others.ensures)
+    (c.in_ok-put_value-2.ensures ∙ ap (λ n. c.put_value.new.text.items
+    ++ valued (codes "uecp_further_total") (codes "Objects of control lines that are shown nowhere.")
+    (codes " counter\n") n) c.further.ensures)
+    c.in_ok-put_since.ensures

@@ -3,13 +3,14 @@ use Rattle.std.proofs.Common.{rules, ◌≡◌, ◌<◌, ◌≤◌, true, false,
 use Rattle.std.proofs.lemmas.Result.{on_ok_weaker}
 use Rattle.serde_json.specs.View.{view}
 use Rattle.page.specs.StateView.{service_of}
-use Rattle.page.specs.Shown.{is_of, told}
-use Rattle.page.proofs.Among.{none_yet, not_this, this, same_read, one_more_row, no_room}
+use Rattle.page.specs.Shown.{is_of, told, new_service}
+use Rattle.page.proofs.Among.{none_yet, not_this, this, same_read, one_more, no_room}
 use Rattle.page.proofs.state.services.tell_of.Goals as goal
 
 pub loop-place-init : goal.loop-place-init
 loop-place-init c = record {
-  rest = none_yet service_of c.args.set c.args.service (view c.args.value.now)
+  rest = none_yet service_of (is_of c.args.set c.args.service)
+      (told (view c.args.value.now)) (new_service c.args.set c.args.service)
       c.args.rows.now.items;
   same = refl;
 }
@@ -23,7 +24,8 @@ returns-then-is_of c =
     same_read c.loop-place.rows.items c.loop-place.place c.index_mut.result.now c.index.result.now within
     c.index_mut.ensures.value c.index.ensures in
     on_ok_weaker c.tell.result (λ told_now.
-    this service_of c.args.set c.args.service (view c.args.value.now) c.loop-place.place c.loop-place.rows.items _
+    this service_of (is_of c.args.set c.args.service)
+    (told (view c.args.value.now)) (new_service c.args.set c.args.service) c.loop-place.place c.loop-place.rows.items _
     c.index.result.now c.tell.new.self within c.index.ensures is
     (told_now ∙ ap (λ r. told (view c.args.value.now) (service_of r)) same) refl
     ∙ sym c.loop-place.invariant.rest) c.tell.ensures
@@ -35,7 +37,8 @@ loop-place-preserved c =
     cc (c.is_of.ensures, c.if-is_of.false) in
     record {
       rest = c.loop-place.invariant.rest
-          ∙ not_this service_of c.args.set c.args.service (view c.args.value.now) c.loop-place.place
+          ∙ not_this service_of (is_of c.args.set c.args.service)
+          (told (view c.args.value.now)) (new_service c.args.set c.args.service) c.loop-place.place
           c.loop-place.rows.items c.index.result.now within c.index.ensures other;
       same = c.loop-place.invariant.same;
     }
@@ -44,7 +47,8 @@ pub returns-in_ok-push : goal.returns-in_ok-push
 returns-in_ok-push c =
     let end : c.loop-place.place ≡ length c.loop-place.rows.items = search rules in
     let room : c.loop-place.place < 128 = search rules in
-    one_more_row service_of c.args.set c.args.service (view c.args.value.now) c.loop-place.place c.loop-place.rows.items
+    one_more service_of (is_of c.args.set c.args.service)
+    (told (view c.args.value.now)) (new_service c.args.set c.args.service) c.loop-place.place c.loop-place.rows.items
     c.push.new.self.items c.tell-then-len-lt-SERVICES_MAX.new.self end room
     (c.in_ok-tell.ensures ∙ ap (told (view c.args.value.now)) c.new-row.ensures) c.in_ok-push.ensures.items
     ∙ sym c.loop-place.invariant.rest
@@ -53,5 +57,7 @@ pub returns-else-len-lt-SERVICES_MAX : goal.returns-else-len-lt-SERVICES_MAX
 returns-else-len-lt-SERVICES_MAX c =
     let end : c.loop-place.place ≡ length c.loop-place.rows.items = search rules in
     let full : 128 ≤ c.loop-place.place = search rules in
-    no_room service_of c.args.set c.args.service (view c.args.value.now) c.loop-place.place c.loop-place.rows.items end
+    no_room service_of (is_of c.args.set c.args.service)
+    (told (view c.args.value.now)) (new_service c.args.set c.args.service) c.loop-place.place c.loop-place.rows.items
+    end
     full ∙ sym c.loop-place.invariant.rest

@@ -1,5 +1,5 @@
 -- Each turn puts events behind what waits, and writes a beginning of that.
-use Rattle.std.proofs.Common.{refl, ◌∙◌, sym, rules, arith, ◌≡◌, ◌≤◌, ◌+◌, length, ℕ}
+use Rattle.std.proofs.Common.{refl, ◌∙◌, rules, arith, ◌≡◌, ◌≤◌, ◌+◌, length}
 use Rattle.std.proofs.lemmas.Result.{err_from_is_err_and}
 use Rattle.page.specs.ClientView.{standing_of}
 use Rattle.page.specs.Delivering.{IsServed}

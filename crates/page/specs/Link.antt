@@ -1,0 +1,77 @@
+-- What the ends of a control line tell of it: its connection, the last refusal, a save that failed (profile).
+use Rattle.std.specs.Prelude.{ℕ, Bool, true, false, ◌&&◌, ◌||◌, List, codes, Option, Some, None, if◌then◌else◌}
+use Rattle.serde_json.specs.Data.{Data}
+use Rattle.page.specs.declared.state.link.Link.{Link}
+use Rattle.page.specs.declared.state.link.Link.TheVariants.{Connected, NoConnection, Lost, AnswersNothing, GivenUp}
+use Rattle.page.specs.Members.{text_at, says}
+use Rattle.page.specs.Counts.{is_kind, is_sent, is_new_answer, has_bad_code}
+
+-- What was told last of the connection, and the time of the object since which that is so; None where it had none.
+pub record Linked : Type 0 where
+  pub link : Link
+  pub since : Option (List ℕ)
+
+-- The meaning and the time that were told of a message that was refused.
+pub record Refusal : Type 0 where
+  pub meaning : Option (List ℕ)
+  pub time : Option (List ℕ)
+
+-- The kind of the objects that tell it.
+abbrev pub link_kind : Link → List ℕ
+link_kind Connected = codes "connected"
+link_kind NoConnection = codes "no_connection"
+link_kind Lost = codes "lost"
+link_kind AnswersNothing = codes "answers_nothing"
+link_kind GivenUp = codes "line_given_up"
+
+-- What an object tells of the connection.
+abbrev pub link_told : Data → Option Link
+link_told d =
+    if is_kind (link_kind Connected) d then Some Connected
+    else if is_kind (link_kind NoConnection) d then Some NoConnection
+    else if is_kind (link_kind Lost) d then Some Lost
+    else if is_kind (link_kind AnswersNothing) d then Some AnswersNothing
+    else if is_kind (link_kind GivenUp) d then Some GivenUp
+    else None
+
+-- Nothing goes over the line.
+abbrev pub is_bad : Link → Bool
+is_bad Connected = false
+is_bad NoConnection = true
+is_bad Lost = true
+is_bad AnswersNothing = true
+is_bad GivenUp = true
+
+-- Since when it is so: where it was bad and still is, since it began to be bad; else since this object.
+abbrev pub since_when : Link → Data → Option Linked → Option (List ℕ)
+since_when link d None = text_at (codes "time") d
+since_when link d (Some before) =
+    if is_bad link && is_bad before.link then before.since else text_at (codes "time") d
+
+abbrev pub linked_so : Option Link → Data → Option Linked → Option Linked
+linked_so None d before = before
+linked_so (Some link) d before = Some (record { link = link; since = since_when link d before })
+
+-- What is known of the connection behind an object.
+abbrev pub linked_after : Data → Option Linked → Option Linked
+linked_after d before = linked_so (link_told d) d before
+
+-- An end tells what became of a message that it had not told of before.
+abbrev pub is_verdict : Data → Bool
+is_verdict d = is_sent d || is_new_answer d
+
+-- The last message that was told of, where it was refused.
+abbrev pub refused_after : Data → Option Refusal → Option Refusal
+refused_after d before =
+    if is_verdict d then (if has_bad_code d then Some (record {
+      meaning = text_at (codes "meaning") d;
+      time = text_at (codes "time") d;
+    }) else None)
+    else before
+
+-- The encoder could not save its state; over once it is connected again, or tells its store.
+abbrev pub failed_after : Data → Bool → Bool
+failed_after d before =
+    if is_kind (codes "connection_end") d && says (codes "end") (codes "state_failed") d then true
+    else if is_kind (codes "connection") d || is_kind (codes "store") d then false
+    else before

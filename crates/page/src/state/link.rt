@@ -1,0 +1,168 @@
+//! What the ends of a control line tell of it: its connection, the last refusal, a save that failed (profile).
+ghost use Rattle.std.specs.Prelude.{◌≡◌, IfOk, option_map, string_bytes};
+ghost use Rattle.serde_json.specs.View.{view};
+ghost use Rattle.page.specs.Link.{link_kind, link_told, is_bad, since_when, linked_after, is_verdict, refused_after};
+ghost use Rattle.page.specs.Link.{failed_after};
+ghost use Rattle.page.specs.StateView.{linked_of, refusal_of};
+
+use crate::state::counts::{has_bad_code, is_kind, is_new_answer, is_sent};
+use crate::state::members::{says, text_at};
+use serde_json::Value;
+use std::alloc::{AllocError, Global};
+
+/// What the studio's end told of the connection to an encoder.
+#[derive(Clone, Copy, Debug, PartialEq, Eq)]
+pub(crate) enum Link {
+    /// There is one.
+    Connected,
+    /// None could be made.
+    NoConnection,
+    /// It was lost.
+    Lost,
+    /// The encoder answers nothing.
+    AnswersNothing,
+    /// No more are made.
+    GivenUp,
+}
+
+/// What was told of the connection last.
+#[derive(Drop)]
+pub(crate) struct Linked {
+    /// How it is.
+    pub(crate) link: Link,
+    /// The time that was told when it began to be so.
+    pub(crate) since: Option<String>,
+}
+
+/// A message that was refused.
+#[derive(Drop)]
+pub(crate) struct Refusal {
+    /// What its code means.
+    pub(crate) meaning: Option<String>,
+    /// When that was told.
+    pub(crate) time: Option<String>,
+}
+
+impl Link {
+    /// The kind of the objects that tell it.
+    pub(crate) fn kind(self) -> &'static str
+        ensures { result.now ≡ link_kind self }
+    {
+        match self {
+            Link::Connected => "connected",
+            Link::NoConnection => "no_connection",
+            Link::Lost => "lost",
+            Link::AnswersNothing => "answers_nothing",
+            Link::GivenUp => "line_given_up",
+        }
+    }
+
+    /// Whether nothing goes over the line.
+    pub(crate) fn is_bad(self) -> bool
+        ensures { result ≡ is_bad self }
+    {
+        match self {
+            Link::Connected => false,
+            Link::NoConnection | Link::Lost | Link::AnswersNothing | Link::GivenUp => true,
+        }
+    }
+
+    /// What an object tells of the connection.
+    fn told_by(value: &Value) -> Option<Link>
+        ensures { result ≡ link_told (view value.now) }
+    {
+        if is_kind(value, "connected") {
+            Some(Link::Connected)
+        } else if is_kind(value, "no_connection") {
+            Some(Link::NoConnection)
+        } else if is_kind(value, "lost") {
+            Some(Link::Lost)
+        } else if is_kind(value, "answers_nothing") {
+            Some(Link::AnswersNothing)
+        } else if is_kind(value, "line_given_up") {
+            Some(Link::GivenUp)
+        } else {
+            None
+        }
+    }
+}
+
+/// What is known of the connection behind an object.
+pub(crate) fn linked_after(
+    alloc: Global,
+    value: &Value,
+    before: Option<Linked>,
+) -> Result<Option<Linked>, AllocError>
+    ensures { IfOk result (λ behind. option_map linked_of behind
+        ≡ linked_after (view value.now) (option_map linked_of before)) }
+{
+    match Link::told_by(value) {
+        Some(link) => {
+            let since = since_when(alloc, link, value, before)?;
+            Ok(Some(Linked { link, since }))
+        }
+        None => Ok(before),
+    }
+}
+
+/// Since when it is so: where it was bad and still is, since it began to be bad; else since this object.
+fn since_when(
+    alloc: Global,
+    link: Link,
+    value: &Value,
+    before: Option<Linked>,
+) -> Result<Option<String>, AllocError>
+    ensures { IfOk result (λ since. option_map string_bytes since
+        ≡ since_when link (view value.now) (option_map linked_of before)) }
+{
+    match before {
+        Some(before) => {
+            if link.is_bad() && before.link.is_bad() {
+                Ok(before.since)
+            } else {
+                text_at(alloc, value, "time")
+            }
+        }
+        None => text_at(alloc, value, "time"),
+    }
+}
+
+/// Whether an end tells what became of a message that it had not told of before.
+fn is_verdict(value: &Value) -> bool
+    ensures { result ≡ is_verdict (view value.now) }
+{
+    is_sent(value) || is_new_answer(value)
+}
+
+/// The last message that was told of, where it was refused.
+pub(crate) fn refused_after(
+    alloc: Global,
+    value: &Value,
+    before: Option<Refusal>,
+) -> Result<Option<Refusal>, AllocError>
+    ensures { IfOk result (λ behind. option_map refusal_of behind
+        ≡ refused_after (view value.now) (option_map refusal_of before)) }
+{
+    if !is_verdict(value) {
+        return Ok(before);
+    }
+    if !has_bad_code(value) {
+        return Ok(None);
+    }
+    let meaning = text_at(alloc, value, "meaning")?;
+    let time = text_at(alloc, value, "time")?;
+    Ok(Some(Refusal { meaning, time }))
+}
+
+/// Whether the encoder could not save its state, and was not connected again and told no store since.
+pub(crate) fn failed_after(value: &Value, before: bool) -> bool
+    ensures { result ≡ failed_after (view value.now) before }
+{
+    if is_kind(value, "connection_end") && says(value, "end", "state_failed") {
+        true
+    } else if is_kind(value, "connection") || is_kind(value, "store") {
+        false
+    } else {
+        before
+    }
+}
