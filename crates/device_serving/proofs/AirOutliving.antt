@@ -24,6 +24,7 @@ use Rattle.device_serving.specs.AirLines.{ReadsOnce, is_over}
 use Rattle.device_serving.specs.AirRun.{OnAir, Connects, GoesOnOrEnds, KeepsOn, ReadsLine, ReadsOpen, KeepsIf}
 use Rattle.device_serving.specs.AirRun.{HangsUp, Does, DoesNext, GoesOnFor, Ends, DoesAll, Serves}
 use Rattle.device_serving.specs.AirRun.{RunsOnAir, OutlivesRun}
+use Rattle.device_serving.specs.DeviceRun.{tells_first}
 
 module _ {K M I O : Type 0} (most room : ℕ) (leaves : K → Kept Store → Type 0) (is_clean : K → Type 0)
     (saves fails : K → Kept Store → K → Type 0) (waits : M → Bool → Moment I O → M → Type 0)
@@ -236,11 +237,17 @@ module _ {K M I O : Type 0} (most room : ℕ) (leaves : K → Kept Store → Typ
   abbrev Runs : (store : Bool) → (x x' : OnAir K M I O) → Went → Type 0
   Runs = RunsOnAir most room leaves is_clean saves fails waits closes sends remaining contents turns
 
+  told_only : (x x' : OnAir K M I O) (end : Went) → x' ≡ record x { log = x'.log } → After x x' end
+  told_only x x' end is =
+      stays x x' end (ap (λ (z : OnAir K M I O). z.keeper) is) (ap (λ (z : OnAir K M I O). kept_of z.encoder) is)
+
   pub after_run : (store : Bool) (x x' : OnAir K M I O) (end : Went) → Runs store x x' end → After x x' end
-  after_run store x x' end (inl (y, served, (told, is))) =
-      both x y x' end (serves x y goes served)
-      (stays y x' end (ap (λ (z : OnAir K M I O). z.keeper) is) (ap (λ (z : OnAir K M I O). kept_of z.encoder) is))
-  after_run store x x' end (inr (stop, served, is)) = ended_at x x' end stop is (serves x x' (stopped stop) served)
+  after_run store x x' end (inl (w, (begun, same), (inl (y, served, (told, is))))) =
+      both x w x' end (told_only x w goes same)
+      (both w y x' end (serves w y goes served) (told_only y x' end is))
+  after_run store x x' end (inl (w, (begun, same), (inr (stop, served, is)))) =
+      both x w x' end (told_only x w goes same) (ended_at w x' end stop is (serves w x' (stopped stop) served))
+  after_run store x x' end (inr (stop, (begun, same), is)) = told_only x x' end same
 
   -- ---- Its status.
 
@@ -288,7 +295,10 @@ module _ {K M I O : Type 0} (most room : ℕ) (leaves : K → Kept Store → Typ
 
   pub run_status : (store : Bool) (x x' : OnAir K M I O) (stop : KeptStop) → Runs store x x' (stopped stop)
       → stop_status stop ≡ 3
-  run_status store x x' stop (inl (y, served, (told, same))) =
+  run_status store x x' stop (inl (w, first, (inl (y, served, (told, same))))) =
       store_status store y.encoder.value y.log x'.log stop told
-  run_status store x x' stop (inr (why, (y, (many, z, so, last), hangs), is)) =
+  run_status store x x' stop (inl (w, first, (inr (why, (y, (many, z, so, last), hangs), is)))) =
       ap stop_status (same_stop stop why is) ∙ ends_status many z y why last
+  run_status store x x' stop (inr (why, (told, same), is)) =
+      ap stop_status (same_stop stop why is)
+      ∙ store_status (tells_first x.log) x.encoder.value x.log x'.log why told

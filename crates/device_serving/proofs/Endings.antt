@@ -1,6 +1,6 @@
 -- What a run tells whose log tells no event: how each connection ended, and nothing else. And the loan of a log's
 -- writer stays.
-use Rattle.std.proofs.Common.{◌≡◌, ◌<◌, ◌≤◌, ℕ, zero, suc, ◌+◌, ◌^◌, Bool, true, false, List, [], ◌∷◌, length}
+use Rattle.std.proofs.Common.{◌≡◌, ◌<◌, ◌≤◌, ◌&&◌, ℕ, zero, suc, ◌+◌, ◌^◌, Bool, true, false, List, [], ◌∷◌, length}
 use Rattle.std.proofs.Common.{Option, Some, None, Ok, Err, refl, sym, ap, subst, ◌∙◌, inl, inr, arith, nat_le}
 use Rattle.std.specs.Io.KnownBytes.{Appends}
 use Rattle.std.proofs.KnownBytes.{Appends-nil, Appends-trans}
@@ -21,7 +21,7 @@ use Rattle.device_serving.specs.EventLines.{event_lines}
 use Rattle.device_serving.specs.ConnectionLines.{opened_lines, ended_lines, endings_lines}
 use Rattle.device_serving.specs.Logging.{Log, IsTimeOf, WritesOn, LogsWhere, Logs, LogsEvent, one_more}
 use Rattle.device_serving.specs.DeviceRun.{Standing, ServesAndTells, ServesNext, ServesFrom, TellsStore}
-use Rattle.device_serving.specs.DeviceRun.{RunsDevice, went_after, stop_of}
+use Rattle.device_serving.specs.DeviceRun.{RunsDevice, are_objects, tells_first, went_after, stop_of}
 use Rattle.device_serving.proofs.InOrder.{wrote_on}
 use Rattle.kept_jobs.proofs.Public.{goes, stopped}
 
@@ -192,25 +192,40 @@ module _ {K C I O : Type 0} (most room : ℕ) (leaves : K → Kept Store → Typ
 
   pub run_loan : (asked : Bool) (x x' : Standing Store K C) (went : Went) → Runs asked x x' went
       → x'.log.loan ≡ x.log.loan
-  run_loan asked x x' went (inl (y, served, last)) =
+  run_loan asked x x' went (inl (w, first, (inl (y, served, last)))) =
       store_loan asked y.encoder.value y.log x'.log went last.tells
-      ∙ from_loan most room store_step leaves is_clean saves fails opens closes remaining contents turns connections x y
-      goes served
-  run_loan asked x x' went (inr (stop, served, is)) =
-      from_loan most room store_step leaves is_clean saves fails opens closes remaining contents turns connections x x'
-      (stopped stop) served
+      ∙ from_loan most room store_step leaves is_clean saves fails opens closes remaining contents turns connections w y
+      goes served ∙ store_loan (tells_first x.log) x.encoder.value x.log w.log goes first.tells
+  run_loan asked x x' went (inl (w, first, (inr (stop, served, is)))) =
+      from_loan most room store_step leaves is_clean saves fails opens closes remaining contents turns connections w x'
+      (stopped stop) served ∙ store_loan (tells_first x.log) x.encoder.value x.log w.log goes first.tells
+  run_loan asked x x' went (inr (stop, first, is)) =
+      store_loan (tells_first x.log) x.encoder.value x.log x'.log (stopped stop) first.tells
+
+  -- a log that tells no event does not tell the store first
+  not_first : (l l' : Log) (store : Store) (went : Went) → l.told ≡ false → TellsStore (tells_first l) store l l' went
+      → l' ≡ l
+  not_first l l' store went quiet tells =
+      let none : tells_first l ≡ false = ap (λ b. b && are_objects l.form) quiet in
+      (subst (λ b. TellsStore b store l l' went) none tells).0
 
   -- a whole run that came to its end and tells no store
   pub run_told : (x x' : Standing Store K C) → x.log.told ≡ false → x.log.timed ≡ false → x.log.number ≡ 0
       → connections < 2 ^ 64 → Runs false x x' goes
       → (endings : List Ended) × (length endings ≡ connections)
       × Appends x.log.held x'.log.held (endings_lines x.log.form 1 endings)
-  run_told x x' quiet untimed none small (inl (y, served, last)) =
+  run_told x x' quiet untimed none small (inl (w, first, (inl (y, served, last)))) =
+      let begun : w.log ≡ x.log = not_first x.log w.log x.encoder.value goes quiet first.tells in
+      let fresh : w.log.number ≡ 0 = ap (λ (l : Log). l.number) begun ∙ none in
       let told = from_told most room store_step leaves is_clean saves fails opens closes remaining contents turns
-      connections 1 x y quiet untimed (omega (arith, none)) (omega (arith, small)) served in
-      let same : x'.log ≡ y.log = last.tells.0 in (
+      connections 1 w y (ap (λ (l : Log). l.told) begun ∙ quiet) (ap (λ (l : Log). l.timed) begun ∙ untimed)
+      (omega (arith, fresh)) (omega (arith, small)) served in
+      let same : x'.log ≡ y.log = last.tells.0 in
+      let P : Log → Type 0 = λ l. Appends l.held x'.log.held (endings_lines l.form 1 told.0) in (
         told.0,
         told.1,
-        subst (λ (l : Log). Appends x.log.held l.held (endings_lines x.log.form 1 told.0)) (sym same) told.2,
+        subst P begun
+            (subst (λ (l : Log). Appends w.log.held l.held (endings_lines w.log.form 1 told.0)) (sym same) told.2),
       )
-  run_told x x' quiet untimed none small (inr (stop, served, is)) = cc
+  run_told x x' quiet untimed none small (inl (w, first, (inr (stop, served, is)))) = cc
+  run_told x x' quiet untimed none small (inr (stop, first, is)) = cc

@@ -15,7 +15,7 @@ use Rattle.device_serving.specs.DeviceRun.{ended_so}
 use Rattle.device_serving.specs.declared.log_lines.LogFault.{LogFault}
 use Rattle.device_serving.specs.declared.log_lines.LogFault.TheVariants.{OutOfMemory, Writing}
 use Rattle.device_serving.specs.DeviceRun.{Standing, ServesOne, KeepsOn, ServesAndTells, ServesNext, ServesFrom}
-use Rattle.device_serving.specs.DeviceRun.{OutlivesRun, TellsStore, RunsDevice, went, went_after, stop_of}
+use Rattle.device_serving.specs.DeviceRun.{OutlivesRun, TellsStore, RunsDevice, tells_first, went, went_after, stop_of}
 use Rattle.device_serving.specs.Logging.{Log}
 use Rattle.kept_jobs.proofs.Public.{goes, goes_not_stopped, same_status, same_stop, stopped}
 
@@ -165,21 +165,35 @@ module _ {K C I O : Type 0} (most room : ℕ) (leaves : K → Kept Store → Typ
   AfterRun = After most room store_step leaves is_clean saves fails opens closes remaining contents turns
 
   pub after_run : (x x' : Standing Store K C) (end : Went) → Runs x x' end → AfterRun x x' end
-  after_run x x' end (inl (y, served, last)) =
-      both most room store_step leaves is_clean saves fails opens closes remaining contents turns x y x' end
-      (after_from most room store_step leaves is_clean saves fails opens closes remaining contents turns connections x y
+  after_run x x' end (inl (w, first, (inl (y, served, last)))) =
+      both most room store_step leaves is_clean saves fails opens closes remaining contents turns x w x' end
+      (stays most room store_step leaves is_clean saves fails opens closes remaining contents turns x w goes
+      first.keeper
+      first.encoder)
+      (both most room store_step leaves is_clean saves fails opens closes remaining contents turns w y x' end
+      (after_from most room store_step leaves is_clean saves fails opens closes remaining contents turns connections w y
       goes served)
       (stays most room store_step leaves is_clean saves fails opens closes remaining contents turns y x' end last.keeper
-      last.encoder)
-  after_run x x' end (inr (stop, served, is)) =
-      ended_at most room store_step leaves is_clean saves fails opens closes remaining contents turns x x' end stop is
-      (after_from most room store_step leaves is_clean saves fails opens closes remaining contents turns connections x
-      x' (stopped stop) served)
+      last.encoder))
+  after_run x x' end (inl (w, first, (inr (stop, served, is)))) =
+      both most room store_step leaves is_clean saves fails opens closes remaining contents turns x w x' end
+      (stays most room store_step leaves is_clean saves fails opens closes remaining contents turns x w goes
+      first.keeper
+      first.encoder)
+      (ended_at most room store_step leaves is_clean saves fails opens closes remaining contents turns w x' end stop is
+      (after_from most room store_step leaves is_clean saves fails opens closes remaining contents turns connections w
+      x' (stopped stop) served))
+  after_run x x' end (inr (stop, first, is)) =
+      stays most room store_step leaves is_clean saves fails opens closes remaining contents turns x x' end first.keeper
+      first.encoder
 
   pub run_status : (x x' : Standing Store K C) (stop : KeptStop) → Runs x x' (stopped stop) → stop_status stop ≡ 3
-  run_status x x' stop (inl (y, served, last)) =
+  run_status x x' stop (inl (w, first, (inl (y, served, last)))) =
       store_status asked y.encoder.value y.log x'.log stop last.tells
-  run_status x x' stop (inr (why, served, is)) =
+  run_status x x' stop (inl (w, first, (inr (why, served, is)))) =
       ap stop_status (same_stop stop why is)
-      ∙ from_status most room store_step leaves is_clean saves fails opens closes remaining contents turns connections x
+      ∙ from_status most room store_step leaves is_clean saves fails opens closes remaining contents turns connections w
       x' why served
+  run_status x x' stop (inr (why, first, is)) =
+      ap stop_status (same_stop stop why is)
+      ∙ store_status (tells_first x.log) x.encoder.value x.log x'.log why first.tells

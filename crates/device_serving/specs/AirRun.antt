@@ -18,7 +18,7 @@ use Rattle.kept_jobs.specs.declared.stop.KeptStop.TheVariants.{Run, StateFailed}
 use Rattle.kept_jobs.specs.Stops.{Went, Then}
 use Rattle.device_serving.specs.ConnectionLines.{ended_lines}
 use Rattle.device_serving.specs.Logging.{Log, Logs, LogsEvent, LogsOpening}
-use Rattle.device_serving.specs.DeviceRun.{TellsStore, went_after}
+use Rattle.device_serving.specs.DeviceRun.{TellsStore, went_after, tells_first}
 use Rattle.device_serving.specs.declared.air.line.Sent.{Sent}
 use Rattle.device_serving.specs.declared.air.line.OpenLine.{OpenLine}
 use Rattle.device_serving.specs.declared.air.moments.Moment.{Moment}
@@ -143,9 +143,9 @@ HangsUp closes None x x' = x' ≡ x
 HangsUp closes (Some line) x x' =
     closes x.moments line.input line.output x'.moments × (x' ≡ record x { moments = x'.moments; line = None })
 
--- The store was told at the end, where that is asked for, and nothing else changed.
-abbrev pub TellsLast : {K M I O : Type 0} → (asked : Bool) → (x x' : OnAir K M I O) → Went → Type 0
-TellsLast asked x x' end =
+-- The store was told, where that is asked for, and nothing else changed.
+abbrev pub TellsOnly : {K M I O : Type 0} → (asked : Bool) → (x x' : OnAir K M I O) → Went → Type 0
+TellsOnly asked x x' end =
     TellsStore asked x.encoder.value x.log x'.log end × (x' ≡ record x { log = x'.log })
 
 module _ {K M I O : Type 0} (most room : ℕ) (leaves : K → Kept Store → Type 0) (is_clean : K → Type 0)
@@ -187,10 +187,10 @@ module _ {K M I O : Type 0} (most room : ℕ) (leaves : K → Kept Store → Typ
   abbrev pub Serves : (x x' : OnAir K M I O) → Went → Type 0
   Serves x x' went = (y : OnAir K M I O) × DoesAll x y went × HangsUp closes y.line y x'
 
-  -- A whole run: so many connections and the groups of the store, and then the store is told, where that is asked for;
-  -- or it stopped before.
+  -- A whole run: the store is told, where the log tells it first; then so many connections and the groups of the store;
+  -- and then the store is told, where that is asked for; or it stopped before.
   abbrev pub RunsOnAir : (store : Bool) → (x x' : OnAir K M I O) → Went → Type 0
-  RunsOnAir store = Then Serves (TellsLast store)
+  RunsOnAir store = Then (λ x y. TellsOnly (tells_first x.log) x y) (Then Serves (TellsOnly store))
 
   -- ---- What a crash leaves.
 

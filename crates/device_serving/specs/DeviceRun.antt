@@ -1,5 +1,5 @@
 -- What an encoder does as a device, and how it ends; a reader has to believe it (profile).
-use Rattle.std.specs.Prelude.{◌≡◌, ◌⊎◌, ℕ, zero, suc, Bool, true, false, List, Option, Some, None, Ok, Err}
+use Rattle.std.specs.Prelude.{◌≡◌, ◌⊎◌, ◌&&◌, ℕ, zero, suc, Bool, true, false, List, Option, Some, None, Ok, Err}
 use Rattle.uecp_frame.specs.Findings.{Closed}
 use Rattle.uecp_encoder.specs.Target.{Step}
 use Rattle.uecp_encoder.specs.State.{EncoderState}
@@ -12,6 +12,8 @@ use Rattle.kept_jobs.specs.declared.stop.KeptStop.TheVariants.{Run, StateFailed}
 use Rattle.kept_jobs.specs.Stops.{Went, Then}
 use Rattle.rds_store.specs.Value.{Store}
 use Rattle.rds_store.specs.Step.{step as store_step}
+use Rattle.output_forms.specs.declared.form.Form.{Form}
+use Rattle.output_forms.specs.declared.form.Form.TheVariants.{Lines, Words, Json}
 use Rattle.output_forms.specs.Forms.{store_lines}
 use Rattle.uecp_net.specs.Sessions.{ServingTold}
 use Rattle.device_serving.specs.declared.log_lines.LogFault.{LogFault}
@@ -52,6 +54,16 @@ went_after (Some fault) ended = Err (stop_of fault)
 abbrev pub TellsStore : (asked : Bool) → Store → (l l' : Log) → Went → Type 0
 TellsStore true store l l' end = WritesLog (store_lines l.form true store) l l' × (end ≡ went l'.fault)
 TellsStore false store l l' end = (l' ≡ l) × (end ≡ went l'.fault)
+
+abbrev pub are_objects : Form → Bool
+are_objects Lines = false
+are_objects (Words region) = false
+are_objects Json = true
+
+-- A log tells the store before the first connection where it tells each event in objects: so whoever reads them knows
+-- what the encoder has before a message changes it.
+abbrev pub tells_first : Log → Bool
+tells_first l = l.told && are_objects l.form
 
 module _ {V K C I O : Type 0} (most room : ℕ) (step : Step V) (leaves : K → Kept V → Type 0) (is_clean : K → Type 0)
     (saves fails : K → Kept V → K → Type 0) (opens : C → Option (I × O) → C → Type 0) (closes : C → I → O → C → Type 0)
@@ -104,19 +116,23 @@ module _ {V K C I O : Type 0} (most room : ℕ) (step : Step V) (leaves : K → 
   abbrev pub OutlivesRun : (x' : Standing V K C) → Kept V → Type 0
   OutlivesRun x' left = (left ≡ kept_of x'.encoder) ⊎ LastOutlives x' left
 
-  -- The store was told at the end, and nothing else changed.
-  pub record TellsLast (asked : Bool) (store : Store) (x x' : Standing V K C) (end : Went) : Type 0 where
+  -- The store was told, where that is asked for, and nothing else changed.
+  pub record TellsOnly (asked : Bool) (store : Store) (x x' : Standing V K C) (end : Went) : Type 0 where
     pub encoder : x'.encoder ≡ x.encoder
     pub keeper : x'.keeper ≡ x.keeper
     pub connect : x'.connect ≡ x.connect
     pub tells : TellsStore asked store x.log x'.log end
 
--- A whole run: so many connections, and then the store, where that is asked for; or it stopped before.
+-- A whole run: the store, where the log tells it first; so many connections; and then the store, where that is asked
+-- for; or it stopped before.
 abbrev pub RunsDevice : {K C I O : Type 0} → (most room : ℕ) → (leaves : K → Kept Store → Type 0) → (is_clean : K → Type
     0) → (saves fails : K → Kept Store → K → Type 0) → (opens : C → Option (I × O) → C → Type 0)
     → (closes : C → I → O → C → Type 0) → (remaining : I → Option (List ℕ)) → (contents : O → Option (List ℕ))
     → (turns connections : ℕ) → (store : Bool) → (x x' : Standing Store K C) → Went → Type 0
 RunsDevice most room leaves is_clean saves fails opens closes remaining contents turns connections store x x' end =
-    Then (ServesFrom most room store_step leaves is_clean saves fails opens closes remaining contents turns connections)
-    (λ y z. TellsLast most room store_step leaves is_clean saves fails opens closes remaining contents turns store
-    y.encoder.value y z) x x' end
+    Then (λ w y. TellsOnly most room store_step leaves is_clean saves fails opens closes remaining contents turns
+    (tells_first w.log) w.encoder.value w y)
+    (Then (ServesFrom most room store_step leaves is_clean saves fails opens closes remaining contents turns
+    connections)
+    (λ y z. TellsOnly most room store_step leaves is_clean saves fails opens closes remaining contents turns store
+    y.encoder.value y z)) x x' end

@@ -2,7 +2,7 @@
 //! target, keeper, source of connections, clock and writer.
 //!
 //! - [`LogLines`]: where the lines go, and in which form; [`LogFault`] is why it ended.
-//! - [`run_device`]: serves one connection after another; [`went_after`] and [`tell_last`] say how a run goes on after
+//! - [`run_device`]: serves one connection after another; [`went_after`] and [`tell_store`] say how a run goes on after
 //!   one, and at its end.
 //! - [`laws::tells_in_order`]: what a log holds is what was told, once and in order.
 #![tactic(auto)]
@@ -18,4 +18,4 @@ mod run;
 pub use air::{Moment, Moments, run_on_air};
 pub use limits::Limits;
 pub use log_lines::{LogFault, LogLines};
-pub use run::{run_device, tell_last, went_after};
+pub use run::{run_device, tell_store, went_after};

@@ -5,6 +5,7 @@ ghost use Rattle.json_lines.specs.Stamps.{is_plain};
 ghost use Rattle.device_serving.specs.Logging.{Log, IsTimeOf, WritesLog, Logs, LogsEvent, LogsOpening};
 ghost use Rattle.device_serving.specs.EventLines.{event_lines};
 ghost use Rattle.device_serving.specs.ConnectionLines.{opened_lines, ended_lines};
+ghost use Rattle.device_serving.specs.DeviceRun.{tells_first};
 ghost use Rattle.output_forms.specs.Forms.{store_lines};
 
 use crate::connection_lines::{put_ended, put_opened};
@@ -95,6 +96,13 @@ impl<'a, W: Write, C: Clock> LogLines<'a, W, C> {
         ensures { result ≡ self.now.fault }
     {
         self.fault
+    }
+
+    /// Whether it tells the store before the first connection: where it tells each event in objects.
+    pub(crate) fn tells_first(&self) -> bool
+        ensures { result ≡ tells_first self.now }
+    {
+        self.events && matches!(self.form, Form::Json)
     }
 
     /// The writer back.

@@ -20,10 +20,10 @@ use uecp_encoder::{BatchLimits, Encoder, Keep, KeptFault, SavedEncoder, Served, 
 use uecp_net::{Connections, serve_connection_with};
 use uecp_text::RunFault;
 
-/// Serves so many connections, one after another, and tells what the log is to tell; then, where that is asked for, the
-/// lines of the store. Answers the exit status: 0 done, 3 there was no connection to be had, the encoder could not be
-/// saved, or memory or writing failed. Where a line can't be written the connection is served to its end, and none is
-/// opened after it.
+/// Where the log tells each event in objects, tells the lines of the store first. Serves so many connections, one after
+/// another, and tells what the log is to tell; then, where that is asked for, the lines of the store. Answers the exit
+/// status: 0 done, 3 there was no connection to be had, the encoder could not be saved, or memory or writing failed.
+/// Where a line can't be written the connection is served to its end, and none is opened after it.
 ///
 /// What is kept at the start is to be this encoder: a new one is saved first.
 ///
@@ -95,7 +95,8 @@ pub fn run_device<
     }
 }
 
-/// Serves the connections, and then tells the lines of the store where that is asked for.
+/// Tells the lines of the store where the log tells them first, serves the connections, and then tells the lines where
+/// that is asked for.
 fn serve_and_store<
     K: Keep<SavedEncoder<RdsStore>> + BatchLimits,
     W: Write,
@@ -121,6 +122,7 @@ fn serve_and_store<
           log = log.new;
         }) result }
 {
+    tell_store(log.tells_first(), encoder, log)?;
     serve_connections(
         limits.connections,
         limits.turns,
@@ -129,18 +131,18 @@ fn serve_and_store<
         log,
         connect,
     )?;
-    tell_last(limits.store, encoder, log)
+    tell_store(limits.store, encoder, log)
 }
 
 /// Tells the lines of the store where that is asked for, and says whether the run goes on.
-pub fn tell_last<W: Write, Clk: Clock>(
-    store: bool,
+pub fn tell_store<W: Write, Clk: Clock>(
+    asked: bool,
     encoder: &Encoder<RdsStore>,
     log: &mut LogLines<'_, W, Clk>,
 ) -> Result<(), KeptStop>
-    ensures tells { TellsStore store encoder.now.value log.old log.new result }
+    ensures tells { TellsStore asked encoder.now.value log.old log.new result }
 {
-    if store {
+    if asked {
         log.tell_store(encoder.target());
     }
     went(log)

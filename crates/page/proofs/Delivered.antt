@@ -11,7 +11,7 @@ use Rattle.page.specs.declared.guests.connection.Passed.TheVariants.{Bytes, NotN
 use Rattle.page.specs.Events.{Event, Past, kept, from}
 use Rattle.page.specs.Sending.{Standing, FewWait, IsLive, Delivers, Writes, owed, event_bytes}
 use Rattle.page.specs.Talk.{Talk, Gets}
-use Rattle.page.specs.Delivering.{IsSent, IsServed, WritesOnce}
+use Rattle.page.specs.Delivering.{IsSent, IsCaughtUp, IsServed, WritesOnce}
 
 pub nothing_sent : (past : Past) (x : Standing) → Delivers past [] [] x x
 nothing_sent past x = record {
@@ -220,14 +220,15 @@ Told past a c x z Ends = (events : List Event) × (written : List ℕ) × Gets w
 
 -- it takes no more now
 pub told_not_now : (past : Past) (a b c : Talk) (x y z : Standing) (count : ℕ) → Since past a b x y count
-    → WritesOnce b c y z NotNow → Told past a c x z (λ written. IsServed past written c z)
-told_not_now past a b c x y z count h once =
-    let P : Standing → Type 0 = λ s. IsSent past h.events h.written x s in (
+    → IsCaughtUp past y → WritesOnce b c y z NotNow → Told past a c x z (λ written. IsServed past written c z)
+told_not_now past a b c x y z count h caught once =
+    let P : Standing → Type 0 = λ s. IsSent past h.events h.written x s in
+    let Q : Standing → Type 0 = λ s. IsCaughtUp past s in (
       h.events,
       h.written,
       gets_not_now h.written a b c h.gets once.0,
       subst P (sym once.1) h.sent,
-      inr (inl (ap (λ (t : Talk). t.takes_now) once.0)),
+      (subst Q (sym once.1) caught, inr (inl (ap (λ (t : Talk). t.takes_now) once.0))),
     )
 
 -- it takes none any more
@@ -243,33 +244,21 @@ pub more_wait : (x y : Standing) (e : Event) → y.output ≡ x.output ++ event_
 more_wait x y e output writing few =
     (x.output, e, output ∙ ap (λ w. x.output ++ event_bytes w e) (sym writing), few)
 
--- nothing waits, and nothing is owed
+-- nothing waits
 pub told_all : (past : Past) (a b : Talk) (x y : Standing) (count : ℕ) → Since past a b x y count
-    → length y.output ≡ 0 → (IsLive y → (owed past y ≡ []) ⊎ (65536 ≤ length y.output))
-    → Told past a b x y (λ written. IsServed past written b y)
-told_all past a b x y count h none all = (
-  h.events,
-  h.written,
-  h.gets,
-  h.sent,
-  inl (
-    no_bytes y.output none,
-    λ live. elim (all live) [
-      | inl owed ↦ owed
-      | inr full ↦ absurd (omega (arith, none, full))
-    ],
-  ),
-)
+    → IsCaughtUp past y → length y.output ≡ 0 → Told past a b x y (λ written. IsServed past written b y)
+told_all past a b x y count h caught none =
+    (h.events, h.written, h.gets, h.sent, (caught, inl (no_bytes y.output none)))
 
 -- 16 writes were made
-pub told_long : (past : Past) (a b : Talk) (x y : Standing) (count : ℕ) → Since past a b x y count → 16 ≤ count
-    → Told past a b x y (λ written. IsServed past written b y)
-told_long past a b x y count h most = (
+pub told_long : (past : Past) (a b : Talk) (x y : Standing) (count : ℕ) → Since past a b x y count
+    → IsCaughtUp past y → 16 ≤ count → Told past a b x y (λ written. IsServed past written b y)
+told_long past a b x y count h caught most = (
   h.events,
   h.written,
   h.gets,
   h.sent,
-  inr (inr (let long : 16 ≤ length h.written = omega (arith, h.long, most) in long)),
+  (caught, inr (inr (let long : 16 ≤ length h.written = omega (arith, h.long, most) in long))),
 )
 
 pub told_so_far : (past : Past) (a b : Talk) (x y : Standing) (count : ℕ) → Since past a b x y count

@@ -1,6 +1,7 @@
 pub mod Among
 pub mod Whole
 pub mod Cards
+pub mod Mains
 pub mod Lasts
 pub mod Placing
 pub mod Growing
@@ -14,6 +15,7 @@ pub mod Heard
 pub mod Lives
 pub mod Visiting
 pub mod Visitors
+pub mod Caught
 pub mod Rounds
 pub mod Places
 pub mod Seating

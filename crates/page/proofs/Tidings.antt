@@ -1,5 +1,5 @@
 -- A line that is taken becomes an event for all who ask, or none.
-use Rattle.std.proofs.Common.{◌≡◌, ◌⊎◌, ℕ, List, [], Option, Some, None, sym, ap, subst, inl, inr}
+use Rattle.std.proofs.Common.{◌≡◌, ◌⊎◌, ℕ, List, [], Option, Some, None, refl, sym, ap, subst, inl, inr}
 use Rattle.page.specs.declared.state.page.Took.{Took}
 use Rattle.page.specs.declared.state.page.Took.TheVariants.{Ours}
 use Rattle.page.specs.declared.state.page.Took.TheVariants.{Other as OtherLine}
@@ -42,6 +42,22 @@ last : (before behind : Intake) (taken : Option Taken) → TakesLast before behi
     → Grows (board_of before).past (board_of behind).past
 last before behind None takes = inl (ap (λ (b : Board). b.past) takes.1)
 last before behind (Some taken) (cut, some, cuts, takes) = taken_in _ (board_of before) (board_of behind) taken takes
+
+-- No line became an event, and what is kept is as it was.
+not_added : (text : List ℕ) (past past' : Past) (taken : Taken) → Adds text past past' taken → (taken ≡ Event → ⊥)
+    → past' ≡ past
+not_added text past past' Event adds none = absurd (none refl)
+not_added text past past' Unsent adds none = adds.0
+not_added text past past' (Other number) adds none = absurd adds
+
+no_event : (took : Took) (before behind : Board) (taken : Taken) → Comes took before behind taken
+    → (taken ≡ Event → ⊥) → behind.past ≡ before.past
+no_event (Ours text) before behind taken comes none = not_added _ before.past behind.past taken comes.0 none
+no_event OtherLine before behind taken comes none = comes.1
+
+pub kept_in : (line : List ℕ) (before behind : Board) (taken : Taken) → TakesIn line before behind taken
+    → (taken ≡ Event → ⊥) → behind.past ≡ before.past
+kept_in line before behind taken (took, takes, comes, count) none = no_event took before behind taken comes none
 
 module _ {C : Type 0} (talk : C → Talk) where
   pub served_as : (past past' : Past) (guests : Guests C) → past' ≡ past → AllServed talk past guests

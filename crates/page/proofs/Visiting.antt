@@ -22,7 +22,7 @@ use Rattle.page.specs.ClientView.{standing_of, came_of}
 use Rattle.page.specs.Life.{Life, IsNew, born, Turn, Becomes, Runs, line_comes, bytes_come, is_sent, is_assured}
 use Rattle.page.specs.Life.{is_ended}
 use Rattle.page.specs.Talk.{Talk, IsKnown, IsUnsaid, Gives, Gets, IsShut}
-use Rattle.page.specs.Delivering.{IsSent, IsServed}
+use Rattle.page.specs.Delivering.{IsSent, IsCaughtUp, IsServed}
 use Rattle.page.specs.Visits.{Lives, GuestLives, HasLived, IsStill, HearsRead, HearsOnce, SendsOn, SendsNow}
 use Rattle.page.specs.Visits.{Ticks, Does, TakesTurn, IsAskedWith, MayGo, HearsThen}
 use Rattle.page.proofs.Delivered.{gets_none, sent_of_caught}
@@ -269,8 +269,7 @@ module _ {C : Type 0} (talk : C → Talk) where
       → (standing_of g'.client).phase ≡ (standing_of g.client).phase
       → ((IsLive (standing_of g.client) → ⊥) → standing_of g'.client ≡ standing_of g.client)
       → came_of g'.client ≡ came_of g.client
-      → OnOk r (IsLive (standing_of g'.client) → (owed past (standing_of g'.client) ≡ [])
-      ⊎ (65536 ≤ length (standing_of g'.client).output))
+      → OnOk r (IsCaughtUp past (standing_of g'.client))
       → keeps ≡ is_ok r → g' ≡ record g { client = g'.client } → Does talk CatchUp past g keeps g'
   does_caught past g g' r keeps sends phase idle came all kept same =
       let caught = sent_of_caught past (standing_of g.client) (standing_of g'.client) sends phase idle in
@@ -284,7 +283,7 @@ module _ {C : Type 0} (talk : C → Talk) where
           ticks = ap (λ (h : Guest C). h.ticks) same;
         },
         same,
-        λ stays live. on_ok r _ all (sym kept ∙ stays) live,
+        λ stays. on_ok r _ all (sym kept ∙ stays),
       )
 
   pub sends_now : (past : Past) (g g' : Guest C) (said : Talk) (keeps : Bool) (events : List Event)
@@ -306,9 +305,8 @@ module _ {C : Type 0} (talk : C → Talk) where
         takes_now = b;
         is_shut = said'.is_shut;
       } in
-      let R : Bool → Type 0 = λ b. ((standing_of g'.client).output ≡ [])
-      × (IsLive (standing_of g'.client) → owed past (standing_of g'.client) ≡ []) ⊎ (b ≡ false)
-      ⊎ (16 ≤ length written) in
+      let R : Bool → Type 0 = λ b. IsCaughtUp past (standing_of g'.client)
+      × (((standing_of g'.client).output ≡ []) ⊎ (b ≡ false) ⊎ (16 ≤ length written)) in
       record {
         events = events;
         written = written;

@@ -140,7 +140,7 @@ module _ {C : Type 0} (talk : C → Talk) where
       let more = all_seam P kept rest g h.1 in
       ((h.0, more.0), more.1, more.2)
 
-  all_join : (P : Guest C → Type 0) (kept rest : List (Guest C)) → AllByRecursion P kept → AllByRecursion P rest
+  pub all_join : (P : Guest C → Type 0) (kept rest : List (Guest C)) → AllByRecursion P kept → AllByRecursion P rest
       → AllByRecursion P (kept ++ rest)
   all_join P [] rest h k = k
   all_join P (x ∷ kept) rest h k = (h.0, all_join P kept rest h.1 k)

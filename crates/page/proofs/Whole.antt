@@ -43,7 +43,8 @@ no_refused None = refl
 no_refused (Some r) = rw (no_text r.meaning, no_text r.time) refl
 
 no_line : (l : Line) → has_float (line_data l) ≡ false
-no_line l = rw (no_link l.linked, no_refused l.refused, no_services l.air.services, no_since l.linked) refl
+no_line l =
+    rw (no_text l.heard, no_link l.linked, no_refused l.refused, no_services l.air.services, no_since l.linked) refl
 
 no_lines : (ls : List Line) → items_have_float (lines_data ls) ≡ false
 no_lines [] = refl

@@ -62,11 +62,11 @@ answer_of source Foreign =
 abbrev pub no_memory : Answer
 no_memory = plain 503 (codes "Service Unavailable") (codes "out of memory\n")
 
--- The fields of each answer's head: its media type, and what keeps a browser from keeping it, from guessing another
--- type, and from running or loading what the page does not name.
+-- The fields of each answer's head: its media type, the methods that are served, and what keeps a browser from keeping
+-- it, from guessing another type, and from running or loading what the page does not name.
 abbrev pub answer_fields : (kind : List ℕ) → List Header
 answer_fields kind =
-    (codes "content-type", kind) ∷ (codes "cache-control", codes "no-store")
+    (codes "content-type", kind) ∷ (codes "allow", codes "GET, HEAD") ∷ (codes "cache-control", codes "no-store")
     ∷ (codes "content-security-policy", POLICY.now) ∷ (codes "x-content-type-options", codes "nosniff")
     ∷ (codes "connection", codes "close") ∷ []
 

@@ -3,7 +3,9 @@ use Rattle.std.specs.Prelude.{◌≡◌, ◌≢◌, ◌⊎◌, ℕ, true, false,
 use Rattle.std.specs.Prelude.{filter, find}
 use Rattle.std.specs.Str.{bytes_eq}
 use Rattle.serde_json.specs.Data.{Data}
-use Rattle.page.specs.Members.{name_of}
+use Rattle.page.specs.Members.{name_of, number_or_0}
+use Rattle.page.specs.Shown.{is_element, is_stored, tells, told, new_service}
+use Rattle.page.specs.Air.{Air, set_of, after_telling}
 use Rattle.page.specs.Counts.{Counts, counted, is_kind, is_sent}
 use Rattle.page.specs.ControlLine.{Line, new_line, is_named, line_after, line_behind}
 use Rattle.page.specs.State.{State, at_first, shown_of}
@@ -40,6 +42,15 @@ abbrev pub StoreClears : Type 0
 StoreClears = (d : Data) (l l' : Line) → is_kind (codes "store") d ≡ true → l.air.answers ≡ l'.air.answers
     → ((line_after d l).air.services ≡ []) × ((line_after d l).air.frame ≡ None)
     × ((ds : List Data) → (line_behind (d ∷ ds) l).air ≡ (line_behind (d ∷ ds) l').air)
+
+-- Law: behind a store, the service of a set that is told first is the main one there: what is told by 0 and what is
+-- told by its number are told of that one service.
+abbrev pub MainOnce : Type 0
+MainOnce = (d e : Data) (s : Air) → s.services ≡ [] → is_stored d ≡ true → is_element (codes "select") d ≡ false
+    → tells e ≡ true → is_element (codes "select") e ≡ false → set_of s e ≡ set_of s d
+    → let n = number_or_0 (codes "service") d in let m = number_or_0 (codes "service") e in
+    ((m ≡ 0) ⊎ (m ≡ n))
+    → (after_telling e (after_telling d s)).services ≡ told e (told d (new_service (set_of s d) n true)) ∷ []
 
 -- Law: no object counts as a message under both ends, and what was sent rises by nothing but an answer.
 abbrev pub CountedOnce : Type 0

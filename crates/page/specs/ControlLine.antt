@@ -4,10 +4,10 @@ use Rattle.std.specs.Str.{bytes_eq}
 use Rattle.serde_json.specs.Data.{Data}
 use Rattle.page.specs.Counts.{Counts, no_counts, counted}
 use Rattle.page.specs.Air.{Air, no_air, air_after}
-use Rattle.page.specs.Link.{Linked, Refusal, linked_after, refused_after, failed_after}
+use Rattle.page.specs.Link.{Linked, Refusal, linked_after, refused_after, failed_after, heard_after}
 
 -- Its name, empty where objects name none; what is on the air; the counts; its connection; the last message, where it
--- was refused; whether a save failed.
+-- was refused; whether a save failed; the time that was told last.
 pub record Line : Type 0 where
   pub name : List ℕ
   pub air : Air
@@ -15,11 +15,19 @@ pub record Line : Type 0 where
   pub linked : Option Linked
   pub refused : Option Refusal
   pub failed : Bool
+  pub heard : Option (List ℕ)
 
 -- Nothing was told of it yet.
 abbrev pub new_line : (name : List ℕ) → Line
-new_line name =
-    record { name = name; air = no_air; counts = no_counts; linked = None; refused = None; failed = false }
+new_line name = record {
+  name = name;
+  air = no_air;
+  counts = no_counts;
+  linked = None;
+  refused = None;
+  failed = false;
+  heard = None;
+}
 
 abbrev pub is_named : (name : List ℕ) → Line → Bool
 is_named name l = bytes_eq l.name name
@@ -33,6 +41,7 @@ line_after d l = record {
   linked = linked_after d l.linked;
   refused = refused_after d l.refused;
   failed = failed_after d l.failed;
+  heard = heard_after d l.heard;
 }
 
 -- Behind objects, in the order in which they came.

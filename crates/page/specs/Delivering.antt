@@ -20,8 +20,12 @@ pub record IsSent (past : Past) (events : List Event) (written : List ℕ) (x x'
   pub live : IsLive x → Delivers past events written x x'
   pub idle : (IsLive x → ⊥) → (events ≡ []) × Writes written x x'
 
--- It was sent all that there is for it: nothing waits, and it is owed no event. Or it takes no more now; or these bytes
--- were written by 16 writes, so that others have their turn.
+-- All that it is owed waits, or 64 KiB of it do. So where nothing waits it is owed nothing.
+abbrev pub IsCaughtUp : Past → Standing → Type 0
+IsCaughtUp past x = IsLive x → (owed past x ≡ []) ⊎ (65536 ≤ length x.output)
+
+-- It was sent all that there is for it: nothing waits. Or it takes no more now; or these bytes were written by 16
+-- writes, so that others have their turn. What it is owed waits then.
 abbrev pub IsServed : Past → (written : List ℕ) → (said : Talk) → Standing → Type 0
 IsServed past written said x =
-    ((x.output ≡ []) × (IsLive x → owed past x ≡ [])) ⊎ (said.takes_now ≡ false) ⊎ (16 ≤ length written)
+    IsCaughtUp past x × ((x.output ≡ []) ⊎ (said.takes_now ≡ false) ⊎ (16 ≤ length written))

@@ -56,6 +56,14 @@ linked_so (Some link) d before = Some (record { link = link; since = since_when 
 abbrev pub linked_after : Data → Option Linked → Option Linked
 linked_after d before = linked_so (link_told d) d before
 
+-- The time that was told last.
+abbrev pub newest : Option (List ℕ) → (before : Option (List ℕ)) → Option (List ℕ)
+newest None before = before
+newest (Some time) before = Some time
+
+abbrev pub heard_after : Data → Option (List ℕ) → Option (List ℕ)
+heard_after d before = newest (text_at (codes "time") d) before
+
 -- An end tells what became of a message that it had not told of before.
 abbrev pub is_verdict : Data → Bool
 is_verdict d = is_sent d || is_new_answer d

@@ -1,15 +1,17 @@
 -- What services have, by what the elements of messages say, and what a receiver or a store tells (profile).
-use Rattle.std.specs.Prelude.{ℕ, ◌-◌, ◌==◌, Bool, ◌&&◌, ◌||◌, List, [], ◌∷◌, codes, Option, Some, None, option_and_then}
-use Rattle.std.specs.Prelude.{if◌then◌else◌}
+use Rattle.std.specs.Prelude.{ℕ, ◌-◌, ◌==◌, Bool, not, ◌&&◌, ◌||◌, List, [], ◌∷◌, codes, Option, Some, None}
+use Rattle.std.specs.Prelude.{option_and_then, if◌then◌else◌}
+use Rattle.std.specs.List.{list_any}
 use Rattle.serde_json.specs.Data.{Data, Items, no_items, item}
 use Rattle.serde_json.specs.Find.{get, as_array}
 use Rattle.page.specs.Members.{text_at, flag_at, number_at, says, is_flag}
 
--- What was told last of a service of a data set: its PI, name, RadioText, TP, TA and programme type; None of what was
--- not told, or is shown no more.
+-- What was told last of a service of a data set: whether it is the main one there, its PI, name, RadioText, TP, TA and
+-- programme type; None of what was not told, or is shown no more.
 pub record Service : Type 0 where
   pub set : ℕ
   pub service : ℕ
+  pub main : Bool
   pub pi : Option (List ℕ)
   pub name : Option (List ℕ)
   pub rt : Option (List ℕ)
@@ -18,10 +20,11 @@ pub record Service : Type 0 where
   pub pty : Option ℕ
 
 -- Nothing was told of it yet.
-abbrev pub new_service : (set service : ℕ) → Service
-new_service set service = record {
+abbrev pub new_service : (set service : ℕ) → (main : Bool) → Service
+new_service set service main = record {
   set = set;
   service = service;
+  main = main;
   pi = None;
   name = None;
   rt = None;
@@ -89,8 +92,20 @@ told d s =
     else if is_stored d then all_told (stored_text d) d s
     else s
 
+-- A service of a set is meant: by its number, or the main one by 0.
 abbrev pub is_of : (set service : ℕ) → Service → Bool
-is_of set service s = s.set == set && s.service == service
+is_of set service s = s.set == set && (s.service == service || (service == 0 && s.main))
+
+abbrev pub is_in : (set : ℕ) → Service → Bool
+is_in set s = s.set == set
+
+-- A service that was not told of before is the main one of its set: of a message the one that is meant by 0; of a store
+-- the one that is listed first.
+abbrev pub is_main : (set service : ℕ) → Data → List Service → Bool
+is_main set service d ss = service == 0 || (is_stored d && not (list_any (is_in set) ss))
+
+abbrev pub new_one : (set service : ℕ) → Data → List Service → Service
+new_one set service d ss = new_service set service (is_main set service d ss)
 
 -- The first of these that is the one, once that was told of it; where none is, a new one comes last, told the same,
 -- where there is room for so many more.
@@ -101,4 +116,4 @@ told_among room is_it tell new (x ∷ xs) =
 
 -- Of services, 128 at most, this one once that was told of it.
 abbrev pub told_service : (set service : ℕ) → Data → List Service → List Service
-told_service set service d ss = told_among 128 (is_of set service) (told d) (new_service set service) ss
+told_service set service d ss = told_among 128 (is_of set service) (told d) (new_one set service d ss) ss

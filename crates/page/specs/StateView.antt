@@ -19,6 +19,7 @@ abbrev pub service_of : Row → Service
 service_of r = record {
   set = r.set;
   service = r.service;
+  main = r.is_main;
   pi = option_map string_bytes r.pi;
   name = option_map string_bytes r.name;
   rt = option_map string_bytes r.rt;
@@ -63,6 +64,7 @@ line_of l = record {
   linked = option_map linked_of l.linked;
   refused = option_map refusal_of l.refused;
   failed = l.failed;
+  heard = option_map string_bytes l.heard;
 }
 
 abbrev pub state_of : Page → State

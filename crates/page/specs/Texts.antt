@@ -27,10 +27,11 @@ number_data (Some n) = number (unsigned n)
 
 -- A service as an object, its members in the order of their names.
 abbrev pub service_data : Service → Data
-service_data s = object (member (codes "name") (text_data s.name) (member (codes "pi") (text_data s.pi)
-    (member (codes "pty") (number_data s.pty) (member (codes "rt") (text_data s.rt)
-    (member (codes "service") (number (unsigned s.service)) (member (codes "set") (number (unsigned s.set))
-    (member (codes "ta") (flag_data s.ta) (member (codes "tp") (flag_data s.tp) no_members))))))))
+service_data s = object (member (codes "main") (boolean s.main) (member (codes "name") (text_data s.name)
+    (member (codes "pi") (text_data s.pi) (member (codes "pty") (number_data s.pty)
+    (member (codes "rt") (text_data s.rt) (member (codes "service") (number (unsigned s.service))
+    (member (codes "set") (number (unsigned s.set)) (member (codes "ta") (flag_data s.ta)
+    (member (codes "tp") (flag_data s.tp) no_members)))))))))
 
 abbrev pub services_data : List Service → Items
 services_data [] = no_items
@@ -63,10 +64,10 @@ refused_data (Some r) =
 abbrev pub line_data : Line → Data
 line_data l = object (member (codes "counts") (counts_data l.counts)
     (member (codes "current") (number (unsigned l.air.current)) (member (codes "failed") (boolean l.failed)
-    (member (codes "line") (string l.name) (member (codes "link") (link_data l.linked)
-    (member (codes "refused") (refused_data l.refused)
+    (member (codes "heard") (text_data l.heard) (member (codes "line") (string l.name)
+    (member (codes "link") (link_data l.linked) (member (codes "refused") (refused_data l.refused)
     (member (codes "services") (array (services_data l.air.services))
-    (member (codes "since") (since_data l.linked) no_members))))))))
+    (member (codes "since") (since_data l.linked) no_members)))))))))
 
 abbrev pub lines_data : List Line → Items
 lines_data [] = no_items

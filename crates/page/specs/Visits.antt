@@ -19,7 +19,7 @@ use Rattle.page.specs.Hearing.{Hears}
 use Rattle.page.specs.ClientView.{standing_of, came_of}
 use Rattle.page.specs.Life.{IsNew, born, Turn, line_comes, bytes_come, is_sent, is_assured, is_ended, Runs}
 use Rattle.page.specs.Talk.{Talk, IsKnown, IsUnsaid, Gives, Gets}
-use Rattle.page.specs.Delivering.{IsSent, IsServed}
+use Rattle.page.specs.Delivering.{IsSent, IsCaughtUp, IsServed}
 
 -- A request was heard as one where this says whether the machine's own names alone are served.
 abbrev pub IsAskedWith : (own_only : Bool) → Turn → Type 0
@@ -82,6 +82,10 @@ guests_of guests = guests.guests.items
 -- How many of these get events.
 abbrev pub live_in : {C : Type 0} → List (Guest C) → ℕ
 live_in guests = count_by (λ g. gets_events (standing_of g.client).phase) guests
+
+-- All that each of these is owed waits, or 64 KiB of it do.
+abbrev pub AreCaughtUp : {C : Type 0} → Past → List (Guest C) → Type 0
+AreCaughtUp past guests = AllByRecursion (λ g. IsCaughtUp past (standing_of g.client)) guests
 
 -- No connection has the number.
 abbrev pub HasNone : {C : Type 0} → (numbered : C → ℕ) → (number : ℕ) → List (Guest C) → Type 0
@@ -153,9 +157,7 @@ module _ {C : Type 0} (talk : C → Talk) where
   -- anything does. A tick goes by. No more events come.
   abbrev pub Does : Deed → Past → (g : Guest C) → (keeps : Bool) → (g' : Guest C) → Type 0
   Does CatchUp past g keeps g' = (events : List Event) × SendsOn past events [] g g'
-      × (g' ≡ record g { client = g'.client })
-      × (keeps ≡ true → IsLive (standing_of g'.client) → (owed past (standing_of g'.client) ≡ [])
-      ⊎ (65536 ≤ length (standing_of g'.client).output))
+      × (g' ≡ record g { client = g'.client }) × (keeps ≡ true → IsCaughtUp past (standing_of g'.client))
   Does Deliver past g keeps g' = (((standing_of g.client).output ≡ []) × (keeps ≡ true) × (g' ≡ g))
       ⊎ SendsNow past g keeps g'
   Does Tick past g keeps g' = Ticks g keeps g'

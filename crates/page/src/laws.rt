@@ -2,7 +2,7 @@
 ghost use Rattle.std.specs.Prelude.{◌≡◌};
 ghost use Rattle.page.specs.Stream.{part_text, gap, alive};
 ghost use Rattle.page.specs.Laws.{TakenAsSent, EachOnce, BeginningOnce, OwedNewer};
-ghost use Rattle.page.specs.CardLaws.{LineAlone, LineOnce, StoreClears, CountedOnce};
+ghost use Rattle.page.specs.CardLaws.{LineAlone, LineOnce, StoreClears, MainOnce, CountedOnce};
 ghost use Rattle.page.specs.Life.{WholeLife};
 ghost use Rattle.page.specs.Lines.{EachLineOnce, AllLinesAtEnd};
 ghost use Rattle.page.specs.Input.{RefusedExactly};
@@ -23,6 +23,12 @@ pub fn line_once()
 /// Behind a store, and whatever comes behind that, nothing is on the air that was told before.
 pub fn store_clears()
     ensures { StoreClears }
+{}
+
+/// Behind a store, the service of a set that is told first is the main one there: what is told by 0 and what is told by
+/// its number are told of that one service.
+pub fn main_once()
+    ensures { MainOnce }
 {}
 
 /// No object counts as a message under both ends, and what was sent rises by nothing but an answer.

@@ -6,7 +6,7 @@ use Rattle.page.specs.declared.guests.connection.Passed.{Passed}
 use Rattle.page.specs.declared.guests.connection.Passed.TheVariants.{Bytes, NotNow, Gone}
 use Rattle.page.specs.declared.guests.guest.Guest.{Guest}
 use Rattle.page.specs.declared.guests.guest.Deed.TheVariants.{Deliver, Tick}
-use Rattle.page.specs.Visits.{guests_of, AllServed, AllDo, HasNone}
+use Rattle.page.specs.Visits.{guests_of, AreCaughtUp, AllServed, AllDo, HasNone}
 use Rattle.page.specs.EventPlaces.{HearsOne}
 use Rattle.page.specs.Places.{ComesIn}
 use Rattle.page_server.specs.declared.server.Serving.{Serving}
@@ -16,6 +16,11 @@ abbrev pub PassesNone : Passed → Type 0
 PassesNone (Bytes count) = ⊥
 PassesNone NotNow = Unit {0}
 PassesNone Gone = Unit {0}
+
+-- All that each of those who ask is owed of the events that are kept now waits to be sent, or 64 KiB of it do. So
+-- nobody waits for an event that is kept until another comes.
+abbrev pub AllCaughtUp : {C : Type 0} → Serving C → Type 0
+AllCaughtUp s = AreCaughtUp (board_of s.intake).past (guests_of s.guests)
 
 module _ {C : Type 0} (talk : C → Talk) where
   -- All who ask live, with the events that are kept now; and they are no more than may ask, nor get events.

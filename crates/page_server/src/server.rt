@@ -1,13 +1,13 @@
 //! A page is served for as long as lines come: what is read, which lines are taken, and who is heard and sent what.
 //! What a socket gives or takes is the machine's matter (profile).
 
-ghost use Rattle.std.specs.Prelude.{◌≡◌, false, [], IfOk, IsTrue, ◌↔◌, option_map};
+ghost use Rattle.std.specs.Prelude.{◌≡◌, ◌⊎◌, false, [], IfOk, IsTrue, ◌↔◌, option_map};
 ghost use Rattle.std.specs.Duration.{as_nanos};
 ghost use Rattle.page.specs.Intake.{board_of, IsLoopback, first_number};
 ghost use Rattle.page.specs.Input.{cutting_of, IntakeOf, GoesOn, Ends};
 ghost use Rattle.page_server.specs.Serving.{ReadsAll, Moves, other_line};
 ghost use Rattle.notices.specs.Told.{Says};
-ghost use Rattle.page_server.specs.Guesting.{IsServing, IsHeard, Welcomes, Settles};
+ghost use Rattle.page_server.specs.Guesting.{AllCaughtUp, IsServing, IsHeard, Welcomes, Settles};
 ghost use Rattle.page.specs.Talk.{IsUnsaid};
 ghost use Rattle.page.specs.Visits.{guests_of, AllDo};
 
@@ -68,6 +68,7 @@ impl<C: Connection> Serving<C> {
         ensures begins { IfOk result (λ serving. IntakeOf (first_number (option_map as_nanos start.now.since)) []
             serving.intake) }
         ensures serving { IfOk result (IsServing C.talk) }
+        ensures caught_up { IfOk result AllCaughtUp }
     {
         let Ok(intake) = Intake::new(alloc, first_number(start.since())) else {
             return Err(Stop::OutOfMemory);
@@ -89,11 +90,13 @@ impl<C: Connection> Serving<C> {
         errors: &mut NoticesTo<E>,
         sockets: &mut S,
     ) -> Result<bool, Stop>
-        requires { IsServing C.talk self.old }
+        requires serving { IsServing C.talk self.old }
+        requires caught_up { AllCaughtUp self.old }
         ensures all { IfOk result (λ _. ReadsAll (R.remaining reader.old) (R.remaining reader.new) self.old.intake
             self.new.intake) }
         ensures refused { IfOk result (λ refused. refused ≡ (board_of self.new.intake).refused) }
         ensures serving { IsServing C.talk self.new }
+        ensures caught_up { AllCaughtUp self.new }
     {
         self.take_all(reader, errors, sockets)?;
         self.send_rest(errors, sockets)?;
@@ -107,10 +110,12 @@ impl<C: Connection> Serving<C> {
         errors: &mut NoticesTo<E>,
         sockets: &mut S,
     ) -> Result<(), Stop>
-        requires { IsServing C.talk self.old }
+        requires serving { IsServing C.talk self.old }
+        requires caught_up { AllCaughtUp self.old }
         ensures reads { IfOk result (λ _. ReadsAll (R.remaining reader.old) (R.remaining reader.new) self.old.intake
             self.new.intake) }
         ensures serving { IsServing C.talk self.new }
+        ensures caught_up { AllCaughtUp self.new }
     {
         let mut numbers = Vec::new(self.alloc);
         let mut at_once = true;
@@ -135,9 +140,11 @@ impl<C: Connection> Serving<C> {
         errors: &mut NoticesTo<E>,
         sockets: &mut S,
     ) -> Result<(), Stop>
-        requires { IsServing C.talk self.old }
+        requires serving { IsServing C.talk self.old }
+        requires caught_up { AllCaughtUp self.old }
         ensures same { self.new.intake ≡ self.old.intake }
         ensures serving { IsServing C.talk self.new }
+        ensures caught_up { AllCaughtUp self.new }
     {
         let Some(asks) = sockets.wait(limit, numbers) else {
             return Err(Stop::Listening);
@@ -153,10 +160,12 @@ impl<C: Connection> Serving<C> {
 
     /// Something came on the connection of this number, or it may be written to: it is heard, and sent what waits.
     fn hear<S: Sockets<Connection = C>>(&mut self, number: usize, sockets: &mut S)
-        requires { IsServing C.talk self.old }
+        requires serving { IsServing C.talk self.old }
+        requires caught_up { AllCaughtUp self.old }
         ensures hears { IsHeard C.talk C.origin C.numbered C.reads number self.old self.new }
         ensures same { self.new.intake ≡ self.old.intake }
         ensures serving { IsServing C.talk self.new }
+        ensures caught_up { AllCaughtUp self.new }
     {
         let seconds = match self.heard {
             Some(heard) => Some(sockets.now().saturating_sub(heard) / 1000),
@@ -173,9 +182,11 @@ impl<C: Connection> Serving<C> {
         errors: &mut NoticesTo<E>,
         sockets: &mut S,
     )
-        requires { IsServing C.talk self.old }
+        requires serving { IsServing C.talk self.old }
+        requires caught_up { AllCaughtUp self.old }
         ensures same { self.new.intake ≡ self.old.intake }
         ensures serving { IsServing C.talk self.new }
+        ensures caught_up { AllCaughtUp self.new }
     {
         for _one in 0..ACCEPTS_MAX {
             match sockets.accept() {
@@ -199,10 +210,12 @@ impl<C: Connection> Serving<C> {
     /// another takes its place.
     fn welcome<S: Sockets<Connection = C>>(&mut self, connection: C, sockets: &mut S)
         requires serving { IsServing C.talk self.old }
+        requires caught_up { AllCaughtUp self.old }
         requires unsaid { IsUnsaid (C.talk connection) }
         ensures welcomes { Welcomes C.talk C.origin C.numbered C.reads connection self.old self.new }
         ensures same { self.new.intake ≡ self.old.intake }
         ensures serving { IsServing C.talk self.new }
+        ensures caught_up { AllCaughtUp self.new }
     {
         let number = connection.number();
         self.guests
@@ -217,6 +230,7 @@ impl<C: Connection> Serving<C> {
             (guests_of self.new.guests) }
         ensures same { self.new ≡ record self.old { guests = self.new.guests } }
         ensures serving { IsServing C.talk self.new }
+        ensures caught_up { ((deed ≡ Deed.CatchUp) ⊎ AllCaughtUp self.old) → AllCaughtUp self.new }
     {
         self.guests
             .all(self.alloc, self.intake.history(), deed, sockets);
@@ -224,10 +238,12 @@ impl<C: Connection> Serving<C> {
 
     /// What waits is sent, as far as each takes it; and where enough time has gone by, each who asks is looked at.
     fn settle<S: Sockets<Connection = C>>(&mut self, sockets: &mut S)
-        requires { IsServing C.talk self.old }
+        requires serving { IsServing C.talk self.old }
+        requires caught_up { AllCaughtUp self.old }
         ensures same { self.new.intake ≡ self.old.intake }
         ensures settles { Settles C.talk S.reads sockets.old self.old self.new }
         ensures serving { IsServing C.talk self.new }
+        ensures caught_up { AllCaughtUp self.new }
     {
         let now = sockets.now();
         self.all(Deed::Deliver, sockets);
@@ -244,9 +260,11 @@ impl<C: Connection> Serving<C> {
         errors: &mut NoticesTo<E>,
         sockets: &mut S,
     ) -> Result<(), Stop>
-        requires { IsServing C.talk self.old }
+        requires serving { IsServing C.talk self.old }
+        requires caught_up { AllCaughtUp self.old }
         ensures same { self.new.intake ≡ self.old.intake }
         ensures serving { IsServing C.talk self.new }
+        ensures caught_up { AllCaughtUp self.new }
     {
         self.all(Deed::End, sockets);
         let last = sockets.now().saturating_add(LAST);
@@ -283,10 +301,12 @@ impl<C: Connection> Serving<C> {
         errors: &mut NoticesTo<E>,
         sockets: &mut S,
     ) -> Result<Progress, Stop>
-        requires { IsServing C.talk self.old }
+        requires serving { IsServing C.talk self.old }
+        requires caught_up { AllCaughtUp self.old }
         ensures moves { IfOk result (Moves (R.remaining reader.old) (R.remaining reader.new) self.old.intake
             self.new.intake) }
         ensures serving { IsServing C.talk self.new }
+        ensures caught_up { AllCaughtUp self.new }
     {
         if !self.intake.is_cut() {
             return self.take_read(errors, sockets);
@@ -307,10 +327,12 @@ impl<C: Connection> Serving<C> {
         errors: &mut NoticesTo<E>,
         sockets: &mut S,
     ) -> Result<Progress, Stop>
-        requires { IsServing C.talk self.old }
+        requires serving { IsServing C.talk self.old }
+        requires caught_up { AllCaughtUp self.old }
         ensures more { IfOk result (λ progress. progress ≡ Progress.More) }
         ensures goes_on { IfOk result (λ _. GoesOn [] self.old.intake self.new.intake) }
         ensures serving { IsServing C.talk self.new }
+        ensures caught_up { AllCaughtUp self.new }
     {
         for _line in 0..LINES_MAX {
             if !self.take_next(errors, sockets)? {
@@ -327,11 +349,13 @@ impl<C: Connection> Serving<C> {
         errors: &mut NoticesTo<E>,
         sockets: &mut S,
     ) -> Result<bool, Stop>
-        requires { IsServing C.talk self.old }
+        requires serving { IsServing C.talk self.old }
+        requires caught_up { AllCaughtUp self.old }
         ensures goes_on { IfOk result (λ _. GoesOn [] self.old.intake self.new.intake) }
         ensures heard { IfOk result (λ _. (board_of self.new.intake).shown.messages
             ≡ (board_of self.old.intake).shown.messages → self.new.heard ≡ self.old.heard) }
         ensures serving { IsServing C.talk self.new }
+        ensures caught_up { AllCaughtUp self.new }
     {
         let before = self.intake.page().messages();
         match self.intake.take_next(self.alloc) {
@@ -352,11 +376,13 @@ impl<C: Connection> Serving<C> {
     ) -> Result<Progress, Stop>
         requires cut { (cutting_of self.old.intake).ahead ≡ [] }
         requires serving { IsServing C.talk self.old }
+        requires caught_up { AllCaughtUp self.old }
         ensures ended { IfOk result (λ progress. progress ≡ Progress.Ended) }
         ensures ends { IfOk result (λ _. Ends [] self.old.intake self.new.intake) }
         ensures heard { IfOk result (λ _. (board_of self.new.intake).shown.messages
             ≡ (board_of self.old.intake).shown.messages → self.new.heard ≡ self.old.heard) }
         ensures serving { IsServing C.talk self.new }
+        ensures caught_up { AllCaughtUp self.new }
     {
         let before = self.intake.page().messages();
         match self.intake.take_last(self.alloc) {
@@ -376,12 +402,14 @@ impl<C: Connection> Serving<C> {
         errors: &mut NoticesTo<E>,
         sockets: &mut S,
     )
-        requires { IsServing C.talk self.old }
+        requires serving { IsServing C.talk self.old }
+        requires caught_up { (taken ≡ Taken.Event → ⊥) → AllCaughtUp self.old }
         ensures same { self.new.intake ≡ self.old.intake }
         ensures heard { (board_of self.old.intake).shown.messages ≡ before → self.new.heard ≡ self.old.heard }
         ensures event { taken ≡ Taken.Event → AllDo C.talk Deed.CatchUp (board_of self.old.intake).past
             (guests_of self.old.guests) (guests_of self.new.guests) }
         ensures serving { IsServing C.talk self.new }
+        ensures caught_up { AllCaughtUp self.new }
     {
         match taken {
             Taken::Other(number) => say_other(number, errors),

@@ -19,7 +19,7 @@ use crate::air::moments::{Moment, Moments};
 use crate::air::tally::{Turn, read_once};
 use crate::limits::Limits;
 use crate::log_lines::LogLines;
-use crate::run::{tell_last, went_after};
+use crate::run::{tell_store, went_after};
 use carousel::Carousel;
 use kept_jobs::{KeptStop, fail_run};
 use notices::NoticesTo;
@@ -32,7 +32,8 @@ use uecp_text::RunFault;
 /// How many moments a run waits for at most.
 const MOMENTS_MAX: u64 = 1 << 63;
 
-/// Serves so many connections, one after another, and meanwhile sends the groups of the encoder's store, each when it
+/// Where the log tells each event in objects, tells the lines of the store first. Serves so many connections, one after
+/// another, and meanwhile sends the groups of the encoder's store, each when it
 /// is due; tells what the log is to tell; then, where that is asked for, the lines of the store. Answers the exit
 /// status: 0 done, 3 nothing more was to be waited for, the encoder could not be saved, or memory or writing failed.
 ///
@@ -135,7 +136,8 @@ pub fn run_on_air<
     }
 }
 
-/// Serves and sends, and then tells the lines of the store where that is asked for.
+/// Tells the lines of the store where the log tells them first; serves and sends; and then tells the lines of the store
+/// where that is asked for.
 fn serve_and_store<K: Keep<SavedEncoder<RdsStore>> + BatchLimits, W: Write, Clk: Clock, M: Moments>(
     limits: Limits,
     encoder: &mut Encoder<RdsStore>,
@@ -164,6 +166,7 @@ fn serve_and_store<K: Keep<SavedEncoder<RdsStore>> + BatchLimits, W: Write, Clk:
           left = left;
         }) result }
 {
+    tell_store(log.tells_first(), encoder, log)?;
     serve_all(
         limits.connections,
         limits.turns,
@@ -173,7 +176,7 @@ fn serve_and_store<K: Keep<SavedEncoder<RdsStore>> + BatchLimits, W: Write, Clk:
         carousel,
         moments,
     )?;
-    tell_last(limits.store, encoder, log)
+    tell_store(limits.store, encoder, log)
 }
 
 /// Serves and sends up to the end, and then gives back the connection that is open, if one is.

@@ -184,6 +184,10 @@ impl Client {
                 value: kind,
             },
             Header {
+                name: b"allow",
+                value: b"GET, HEAD",
+            },
+            Header {
                 name: b"cache-control",
                 value: b"no-store",
             },

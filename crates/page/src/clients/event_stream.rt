@@ -7,7 +7,7 @@ ghost use Rattle.page.specs.Stream.{part_text, carries};
 ghost use Rattle.page.specs.declared.clients.event_stream.EndOfEvents.TheVariants.{Lost};
 ghost use Rattle.page.specs.Sending.{Delivers, FewWait, IsLive, SaysAlive, Ends, owed};
 ghost use Rattle.page.specs.Talk.{Gets};
-ghost use Rattle.page.specs.Delivering.{IsSent, IsServed};
+ghost use Rattle.page.specs.Delivering.{IsSent, IsCaughtUp, IsServed};
 ghost use Rattle.page.specs.ClientView.{standing_of, came_of};
 
 use crate::clients::client::{Client, Phase};
@@ -42,8 +42,7 @@ impl Client {
             → (events : List Event) × Delivers history.now events [] (standing_of self.old) (standing_of self.new) }
         ensures phase { (standing_of self.new).phase ≡ (standing_of self.old).phase }
         ensures lost { result ≡ Err Lost → (standing_of self.new).due < history.now.first }
-        ensures all { OnOk result (IsLive (standing_of self.new)
-            → (owed history.now (standing_of self.new) ≡ []) ⊎ (65536 ≤ length (standing_of self.new).output)) }
+        ensures all { OnOk result (IsCaughtUp history.now (standing_of self.new)) }
         ensures few { ((standing_of self.new).output ≡ (standing_of self.old).output) ⊎ FewWait (standing_of self.new) }
         ensures idle { (IsLive (standing_of self.old) → ⊥) → standing_of self.new ≡ standing_of self.old }
         ensures came { came_of self.new ≡ came_of self.old }
@@ -100,7 +99,8 @@ impl Client {
     }
 
     /// Puts the events that it is owed behind what waits, and writes what waits, until nothing does or the connection
-    /// takes no more for now; 16 times at most. Where it gets no events it only writes.
+    /// takes no more for now; 16 times at most. Whatever it is owed then still waits. Where it gets no events it only
+    /// writes.
     ///
     /// Errors: as [`EndOfEvents`] has them; then it is to be closed.
     pub fn deliver<C: Connection>(
@@ -115,8 +115,8 @@ impl Client {
             × OnOk result (IsServed history.now written (C.talk connection.new) (standing_of self.new)) }
         ensures came { came_of self.new ≡ came_of self.old }
     {
+        self.catch_up(alloc, history)?;
         for _write in 0..WRITES_MAX {
-            self.catch_up(alloc, history)?;
             if self.waiting() == 0 {
                 return Ok(());
             }
@@ -129,6 +129,7 @@ impl Client {
                 Passed::NotNow => return Ok(()),
                 Passed::Gone => return Err(EndOfEvents::Gone),
             }
+            self.catch_up(alloc, history)?;
         }
         Ok(())
     }

@@ -126,6 +126,7 @@ const made = (name, kind, text) => {
   return element;
 };
 const two = number => String(number).padStart(2, "0");
+const hexadecimal = number => two(number.toString(16).toUpperCase());
 const clock_of = time => two(time.getHours()) + ":" + two(time.getMinutes()) + ":" + two(time.getSeconds());
 let held = false, waiting = [], asked = false, again = false, before = [], opened = 0, unheard = null;
 let lines = null, unknown = new Set(), on_since = new Map(), empties = new Map();
@@ -133,7 +134,7 @@ let lines = null, unknown = new Set(), on_since = new Map(), empties = new Map()
 function set_text(element, text) { if (element.textContent !== text) element.textContent = text; }
 function title_of(s) {
   const set = s.set === 0 ? "current set" : s.set === 254 ? "other sets" : s.set === 255 ? "all sets" : "set " + s.set;
-  return set + ", " + (s.service === 0 ? "main service" : "service " + s.service);
+  return set + ", " + (s.main ? "main service" : "service") + (s.service === 0 ? "" : " " + hexadecimal(s.service));
 }
 function rest_of(s) {
   const type = s.pty === null ? "" : type_of(s.pty);
@@ -143,13 +144,15 @@ function rest_of(s) {
 function type_of(number) {
   return number + (TYPES[number] === undefined ? "" : " " + TYPES[number]);
 }
-// Since when something is so; nothing where that was not told.
-function since_of(text) {
+// Since when something is so, and when a line was heard last; nothing where that was not told.
+function since_of(text) { return told_at("since ", text, time => two(time.getHours()) + ":" + two(time.getMinutes())); }
+function heard_of(l) { return told_at("last heard ", l.heard, clock_of); }
+function told_at(words, text, written) {
   const time = new Date(typeof text === "string" ? text : NaN), now = new Date();
   if (Number.isNaN(time.getTime())) return "";
   const day = time.toDateString() === now.toDateString() ? "" : time.getFullYear() + "-" + two(time.getMonth() + 1)
     + "-" + two(time.getDate()) + " ";
-  return "since " + day + two(time.getHours()) + ":" + two(time.getMinutes());
+  return words + day + written(time);
 }
 function joined_by(separator, ...parts) { return parts.filter(text => text).join(separator); }
 function quoted(text) { return "\u201C" + text + "\u201D"; }
@@ -168,8 +171,8 @@ const ELEMENTS = {
   ack: e => ["reply", e.code === "00" ? "a reply: applied" : "a reply: code " + e.code],
 };
 function place_of(e) {
-  const named = (name, number) => number === undefined || number === 0 ? "" : name + " " + number + " ";
-  return e.element === "select" ? "" : named("set", e.set) + named("service", e.service);
+  const named = (name, number, text) => number === undefined || number === 0 ? "" : name + " " + text(number) + " ";
+  return e.element === "select" ? "" : named("set", e.set, String) + named("service", e.service, hexadecimal);
 }
 function frame_said(o) {
   const parts = (o.elements ?? []).map(e => [e, (ELEMENTS[e.element] ?? (e => ["frame", e.element]))(e)]);
@@ -347,7 +350,7 @@ function show_cards(l, box, gone, was_known) {
   l.services.forEach((s, place) => {
     if (box.children[place] === undefined) box.append(new_card(l));
     const card = box.children[place], title = title_of(s);
-    card.dataset.key = JSON.stringify([l.line, title]);
+    card.dataset.key = JSON.stringify([l.line, s.set, s.main || s.service]);
     keep_band(card.dataset.key, s.ta === true && gone === null, was_known);
     set_text(card.children[0], title);
     set_text(card.children[2], s.name ?? "");
@@ -374,7 +377,7 @@ function show_line(l, place, is_first) {
   section.classList.toggle("wide", l.services.length > 1);
   section.classList.toggle("bad", is_bad_link(l));
   section.classList.toggle("gone", gone !== null);
-  set_text(section.children[0].children[1], link_words(l));
+  set_text(section.children[0].children[1], joined_by(", ", link_words(l), heard_of(l)));
   show_cards(l, section.children[1], gone, !is_first && !unknown.has(l.line));
   if (gone === null) unknown.delete(l.line); else unknown.add(l.line);
 }
@@ -454,6 +457,7 @@ source.onerror = () => {
 source.onmessage = event => {
   const said = said_of(event.data);
   if (!is_in_empties(said) && said.kind !== "time") note(said);
+  if (said.kind === "store") unknown.add(said.line);
   set_text(at("heard"), "the last event: " + (said.time || "it is not known when"));
   ask();
 };

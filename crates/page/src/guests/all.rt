@@ -9,6 +9,7 @@ ghost use Rattle.page.specs.EventPlaces.{seats_of, HasRoom, AreHeard, GivesEvent
 ghost use Rattle.page.specs.Places.{RestsIn, IsGiven, NoneGives, HasPlace, ComesIn, OwedStay};
 ghost use Rattle.page.specs.Visits.{
   guests_of,
+  AreCaughtUp,
   live_in,
   AllServed,
   HasNone,
@@ -87,6 +88,8 @@ impl<C: Connection> Guests<C> {
         ensures comes { ComesIn C.origin connection (guests_of self.old) (guests_of self.new) }
         ensures stays { OwedStay C.origin (C.origin connection) (guests_of self.old) (guests_of self.new) }
         ensures served { AllServed C.talk history.now self.new }
+        ensures caught_up { AreCaughtUp history.now (guests_of self.old)
+            → AreCaughtUp history.now (guests_of self.new) }
         ensures own_only { self.new.own_only ≡ self.old.own_only }
     {
         let origin = connection.origin();
@@ -180,6 +183,8 @@ impl<C: Connection> Guests<C> {
     )
         requires { AllServed C.talk (board_of intake.now).past self.old }
         ensures served { AllServed C.talk (board_of intake.now).past self.new }
+        ensures caught_up { AreCaughtUp (board_of intake.now).past (guests_of self.old)
+            → AreCaughtUp (board_of intake.now).past (guests_of self.new) }
         ensures own_only { self.new.own_only ≡ self.old.own_only }
         ensures hears { (HasNone C.numbered number (guests_of self.old) × (self.new ≡ self.old))
             ⊎ HearsOne C.talk C.origin C.numbered C.reads number (board_of intake.now).shown
@@ -257,6 +262,8 @@ impl<C: Connection> Guests<C> {
     )
         requires { AllServed C.talk history.now self.old }
         ensures served { AllServed C.talk history.now self.new }
+        ensures caught_up { ((deed ≡ Deed.CatchUp) ⊎ AreCaughtUp history.now (guests_of self.old))
+            → AreCaughtUp history.now (guests_of self.new) }
         ensures own_only { self.new.own_only ≡ self.old.own_only }
         ensures all { AllDo C.talk deed history.now (guests_of self.old) (guests_of self.new) }
     {

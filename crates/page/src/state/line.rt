@@ -6,7 +6,7 @@ ghost use Rattle.page.specs.ControlLine.{new_line, is_named, line_after};
 
 use crate::state::air::Air;
 use crate::state::counts::Counts;
-use crate::state::link::{Linked, Refusal, failed_after, linked_after, refused_after};
+use crate::state::link::{Linked, Refusal, failed_after, heard_after, linked_after, refused_after};
 use serde_json::Value;
 use std::alloc::{AllocError, Global};
 
@@ -25,6 +25,8 @@ pub(crate) struct Line {
     pub(crate) refused: Option<Refusal>,
     /// Whether a save failed.
     pub(crate) failed: bool,
+    /// The time that was told last.
+    pub(crate) heard: Option<String>,
 }
 
 impl Line {
@@ -39,6 +41,7 @@ impl Line {
             linked: None,
             refused: None,
             failed: false,
+            heard: None,
         }
     }
 
@@ -59,6 +62,7 @@ impl Line {
         self.linked = linked_after(alloc, &value, self.linked.take())?;
         self.refused = refused_after(alloc, &value, self.refused.take())?;
         self.failed = failed_after(&value, self.failed);
+        self.heard = heard_after(alloc, &value, self.heard.take())?;
         self.air.take(alloc, value)
     }
 }

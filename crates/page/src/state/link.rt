@@ -2,7 +2,7 @@
 ghost use Rattle.std.specs.Prelude.{◌≡◌, IfOk, option_map, string_bytes};
 ghost use Rattle.serde_json.specs.View.{view};
 ghost use Rattle.page.specs.Link.{link_kind, link_told, is_bad, since_when, linked_after, is_verdict, refused_after};
-ghost use Rattle.page.specs.Link.{failed_after};
+ghost use Rattle.page.specs.Link.{failed_after, heard_after};
 ghost use Rattle.page.specs.StateView.{linked_of, refusal_of};
 
 use crate::state::counts::{has_bad_code, is_kind, is_new_answer, is_sent};
@@ -164,5 +164,22 @@ pub(crate) fn failed_after(value: &Value, before: bool) -> bool
         false
     } else {
         before
+    }
+}
+
+/// The time that was told last behind an object.
+///
+/// Errors: where memory is refused.
+pub(crate) fn heard_after(
+    alloc: Global,
+    value: &Value,
+    before: Option<String>,
+) -> Result<Option<String>, AllocError>
+    ensures { IfOk result (λ heard. option_map string_bytes heard
+        ≡ heard_after (view value.now) (option_map string_bytes before)) }
+{
+    match text_at(alloc, value, "time")? {
+        Some(time) => Ok(Some(time)),
+        None => Ok(before),
     }
 }

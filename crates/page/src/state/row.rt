@@ -2,8 +2,8 @@
 ghost use Rattle.std.specs.Prelude.{◌≡◌, OnOk, IfOk, option_map, option_and_then, string_bytes, codes};
 ghost use Rattle.serde_json.specs.View.{view, items_view};
 ghost use Rattle.page.specs.Members.{text_at};
-ghost use Rattle.page.specs.Shown.{new_service, is_element, is_of, is_shown, is_stored, told, all_told, element_text};
-ghost use Rattle.page.specs.Shown.{shown_text, stored_text, last_item};
+ghost use Rattle.page.specs.Shown.{new_service, is_element, is_of, is_in, is_shown, is_stored, told, all_told};
+ghost use Rattle.page.specs.Shown.{element_text, shown_text, stored_text, last_item};
 ghost use Rattle.page.specs.StateView.{service_of};
 
 use crate::state::members::{flag_at, number_at, says, text_at};
@@ -15,8 +15,10 @@ use std::alloc::{AllocError, Global};
 pub(crate) struct Row {
     /// The data set's number.
     pub(crate) set: u64,
-    /// The programme service's number.
+    /// The programme service's number; 0 of a main one whose number was not told.
     pub(crate) service: u64,
+    /// Whether it is the main one of the set.
+    pub(crate) is_main: bool,
     /// The PI, four hexadecimal digits.
     pub(crate) pi: Option<String>,
     /// What the name says.
@@ -33,12 +35,13 @@ pub(crate) struct Row {
 
 impl Row {
     /// Nothing was told of it yet.
-    pub(crate) fn new(set: u64, service: u64) -> Row
-        ensures { service_of result ≡ new_service set service }
+    pub(crate) fn new(set: u64, service: u64, is_main: bool) -> Row
+        ensures { service_of result ≡ new_service set service is_main }
     {
         Row {
             set,
             service,
+            is_main,
             pi: None,
             name: None,
             rt: None,
@@ -48,11 +51,18 @@ impl Row {
         }
     }
 
-    /// Whether it is this service of this data set.
+    /// Whether it is of this data set.
+    pub(crate) fn is_in(&self, set: u64) -> bool
+        ensures { result ≡ is_in set (service_of self.now) }
+    {
+        self.set == set
+    }
+
+    /// Whether it is this service of this data set, of which 0 means the main one.
     pub(crate) fn is_of(&self, set: u64, service: u64) -> bool
         ensures { result ≡ is_of set service (service_of self.now) }
     {
-        self.set == set && self.service == service
+        self.set == set && (self.service == service || (service == 0 && self.is_main))
     }
 
     /// This is told of it.

@@ -1,7 +1,8 @@
 //! What is told of services (profile).
 ghost use Rattle.std.specs.Prelude.{◌≡◌, ◌≤◌, ◌⊎◌, OnOk, length, map};
 ghost use Rattle.serde_json.specs.View.{view};
-ghost use Rattle.page.specs.Shown.{tells, told_service};
+ghost use Rattle.std.specs.List.{list_any};
+ghost use Rattle.page.specs.Shown.{tells, is_in, is_main, told_service};
 ghost use Rattle.page.specs.StateView.{service_of};
 
 use crate::state::page::SERVICES_MAX;
@@ -20,6 +21,21 @@ pub(crate) fn tells(value: &Value) -> bool
         || is_element(value, "rt")
         || is_shown(value)
         || is_stored(value)
+}
+
+/// Whether one of these is of this data set.
+fn has_set(rows: &[Row], set: u64) -> bool
+    ensures { result ≡ list_any (λ row. is_in set (service_of row)) rows.now }
+{
+    rows.iter().any(|row| row.is_in(set))
+}
+
+/// Whether a service of which nothing was told before is the main one of its set: of a message the one that is meant by
+/// 0, of a store the one that is listed first.
+fn is_main(set: u64, service: u64, value: &Value, rows: &[Row]) -> bool
+    ensures { result ≡ is_main set service (view value.now) (map service_of rows.now) }
+{
+    service == 0 || (is_stored(value) && !has_set(rows, set))
 }
 
 /// This is told of a service; a new one comes last, where there is room.
@@ -41,7 +57,8 @@ pub(crate) fn tell_of(
         }
     }
     if rows.len() < SERVICES_MAX {
-        let mut row = Row::new(set, service);
+        let is_main = is_main(set, service, value, rows.as_slice());
+        let mut row = Row::new(set, service, is_main);
         row.tell(alloc, value)?;
         rows.push(row)?;
     }

@@ -60,6 +60,7 @@ fn put_service(alloc: Global, row: &Row, members: &mut Map<String, Value>) -> Re
     requires empty { members_view members.old.entries ≡ no_members }
     ensures { OnOk result (object (members_view members.new.entries) ≡ service_data (service_of row.now)) }
 {
+    put(members, alloc, "main", Value::Bool(row.is_main))?;
     put(members, alloc, "name", text_value(alloc, &row.name)?)?;
     put(members, alloc, "pi", text_value(alloc, &row.pi)?)?;
     put(members, alloc, "pty", number_value(row.pty))?;
@@ -182,6 +183,7 @@ fn put_line(alloc: Global, line: &Line, members: &mut Map<String, Value>) -> Res
     put(members, alloc, "counts", counts_value(alloc, &line.counts)?)?;
     put(members, alloc, "current", Value::from(line.air.current()))?;
     put(members, alloc, "failed", Value::Bool(line.failed))?;
+    put(members, alloc, "heard", text_value(alloc, &line.heard)?)?;
     put(
         members,
         alloc,

@@ -1,10 +1,11 @@
 use Rattle.std.proofs.Common.{◌≡◌}
-use Rattle.page_server.specs.Guesting.{IsServing}
+use Rattle.page_server.specs.Guesting.{AllCaughtUp, IsServing}
 use Rattle.page_server.proofs.server.Serving.send_rest.Given as goal
 
--- nothing more was taken of the input, and all who ask live
+-- nothing more was taken of the input, and all who ask live and are caught up
 abbrev pub invariant-loop-turn : goal.invariant-loop-turn
 invariant-loop-turn g l = record {
   same : l.self.intake ≡ l.fn.self.intake;
   serving : IsServing g.C.Connection.talk l.self;
+  caught_up : AllCaughtUp l.self;
 }

@@ -6,7 +6,8 @@ use Rattle.page_server.proofs.server.Serving.take_all.Goals as goal
 pub loop-turn-init : goal.loop-turn-init
 loop-turn-init g c = record {
   reads = nothing_read (g.R.Read.remaining c.args.reader.now) c.args.self.now.intake;
-  serving = c.requires;
+  serving = c.requires.serving;
+  caught_up = c.requires.caught_up;
 }
 
 pub returns-in-Ended-clause-reads : goal.returns-in-Ended-clause-reads
@@ -35,4 +36,5 @@ loop-turn-preserved g c =
           (moves_from between new c.turn.new.self.intake i k c.in_ok-progress.progress c.in_ok-turn.ensures.same
           c.in_ok-progress.ensures.moves)));
       serving = c.settle.ensures.serving;
+      caught_up = c.settle.ensures.caught_up;
     }

@@ -1,4 +1,4 @@
--- Each turn puts events behind what waits, and writes a beginning of that.
+-- Each turn writes a beginning of what waits, and puts events behind that.
 use Rattle.std.proofs.Common.{refl, ◌∙◌, rules, arith, ◌≡◌, ◌≤◌, ◌+◌, length}
 use Rattle.std.proofs.lemmas.Result.{err_from_is_err_and}
 use Rattle.page.specs.ClientView.{standing_of}
@@ -7,77 +7,63 @@ use Rattle.page.proofs.Delivered.{since_begun, since_caught, since_written, sinc
 use Rattle.page.proofs.Delivered.{told_all, told_long, told_so_far, on_err}
 use Rattle.page.proofs.clients.client.Client.deliver.Goals as goal
 
-pub loop-write-init : goal.loop-write-init
-loop-write-init g c = record {
-  since = since_begun c.args.history.now (g.C.Connection.talk c.args.connection.now) (standing_of c.args.self.now);
-  came = refl;
-}
-
 pub returns-in_err-catch_up-clause-sends : goal.returns-in_err-catch_up-clause-sends
 returns-in_err-catch_up-clause-sends g c =
-    let h = since_caught c.args.history.now _ _ (standing_of c.args.self.now) (standing_of c.loop-write.self)
-    (standing_of c.catch_up.new.self) c.loop-write._write c.loop-write.invariant.since c.in_err-catch_up.ensures.sends
+    let past = c.args.history.now in
+    let said = g.C.Connection.talk c.args.connection.now in
+    let x = standing_of c.args.self.now in
+    let y = standing_of c.catch_up.new.self in
+    let h = since_caught past said said x x y 0 (since_begun past said x) c.in_err-catch_up.ensures.sends
     c.in_err-catch_up.ensures.phase c.in_err-catch_up.ensures.idle in
     let p = err_from_is_err_and c.from_residual.result c.from_residual.ensures.1 in
+    on_err c.from_residual.result p.0 past said said x y (λ written. IsServed past written said y) p.1
+    (told_so_far past said said x y 0 h)
+
+pub loop-write-init : goal.loop-write-init
+loop-write-init g c =
+    let past = c.args.history.now in
     let said = g.C.Connection.talk c.args.connection.now in
-    let said' = g.C.Connection.talk c.loop-write.connection in
-    on_err c.from_residual.result p.0 c.args.history.now said said' (standing_of c.args.self.now)
-    (standing_of c.catch_up.new.self)
-    (λ written. IsServed c.args.history.now written said' (standing_of c.catch_up.new.self)) p.1
-    (told_so_far c.args.history.now said said' (standing_of c.args.self.now) (standing_of c.catch_up.new.self)
-    c.loop-write._write h)
+    let x = standing_of c.args.self.now in
+    record {
+      since = since_caught past said said x x (standing_of c.catch_up.new.self) 0 (since_begun past said x)
+          c.in_ok-catch_up.ensures.sends c.in_ok-catch_up.ensures.phase c.in_ok-catch_up.ensures.idle;
+      caught_up = c.in_ok-catch_up.ensures.all;
+      came = c.in_ok-catch_up.ensures.came;
+    }
 
-pub returns-then-waiting-eq0-clause-sends : goal.returns-then-waiting-eq0-clause-sends
-returns-then-waiting-eq0-clause-sends g c =
-    let h = since_caught c.args.history.now _ _ (standing_of c.args.self.now) (standing_of c.loop-write.self)
-    (standing_of c.catch_up.new.self) c.loop-write._write c.loop-write.invariant.since c.in_ok-catch_up.ensures.sends
-    c.in_ok-catch_up.ensures.phase c.in_ok-catch_up.ensures.idle in
-    let none : length (standing_of c.catch_up.new.self).output ≡ 0 = search rules in
-    told_all c.args.history.now _ _ (standing_of c.args.self.now) (standing_of c.catch_up.new.self)
-    c.loop-write._write h none c.in_ok-catch_up.ensures.all
-
-pub returns-in-NotNow-clause-sends : goal.returns-in-NotNow-clause-sends
-returns-in-NotNow-clause-sends g c =
-    let h = since_caught c.args.history.now _ _ (standing_of c.args.self.now) (standing_of c.loop-write.self)
-    (standing_of c.catch_up.new.self) c.loop-write._write c.loop-write.invariant.since c.in_ok-catch_up.ensures.sends
-    c.in_ok-catch_up.ensures.phase c.in_ok-catch_up.ensures.idle in
-    told_not_now c.args.history.now _ _ _ (standing_of c.args.self.now) (standing_of c.catch_up.new.self)
-    (standing_of c.write_to.new.self) c.loop-write._write h c.in-NotNow.ensures.writes
-
-pub returns-in-Gone-clause-sends : goal.returns-in-Gone-clause-sends
-returns-in-Gone-clause-sends g c =
-    let h = since_caught c.args.history.now _ _ (standing_of c.args.self.now) (standing_of c.loop-write.self)
-    (standing_of c.catch_up.new.self) c.loop-write._write c.loop-write.invariant.since c.in_ok-catch_up.ensures.sends
-    c.in_ok-catch_up.ensures.phase c.in_ok-catch_up.ensures.idle in
-    told_gone c.args.history.now _ _ _ (standing_of c.args.self.now) (standing_of c.catch_up.new.self)
-    (standing_of c.write_to.new.self) c.loop-write._write h c.in-Gone.ensures.writes
-
-pub returns-then-count-eq0-clause-sends : goal.returns-then-count-eq0-clause-sends
-returns-then-count-eq0-clause-sends g c =
-    let h = since_caught c.args.history.now _ _ (standing_of c.args.self.now) (standing_of c.loop-write.self)
-    (standing_of c.catch_up.new.self) c.loop-write._write c.loop-write.invariant.since c.in_ok-catch_up.ensures.sends
-    c.in_ok-catch_up.ensures.phase c.in_ok-catch_up.ensures.idle in
-    let k = since_written c.args.history.now _ _ _ (standing_of c.args.self.now) (standing_of c.catch_up.new.self)
-    (standing_of c.write_to.new.self) c.loop-write._write c.in-Bytes.count h c.in-Bytes.ensures.writes in
-    told_so_far c.args.history.now _ _ (standing_of c.args.self.now) (standing_of c.write_to.new.self)
-    (c.loop-write._write + c.in-Bytes.count) k
-
-pub returns-clause-sends : goal.returns-clause-sends
-returns-clause-sends g c =
-    let most : 16 ≤ c.loop-write._write = search (rules, arith) in
-    told_long c.args.history.now _ _ (standing_of c.args.self.now) (standing_of c.loop-write.self)
-    c.loop-write._write c.loop-write.invariant.since most
+pub returns-in_err-catch_up-2-clause-sends : goal.returns-in_err-catch_up-2-clause-sends
+returns-in_err-catch_up-2-clause-sends g c =
+    let past = c.args.history.now in
+    let said = g.C.Connection.talk c.args.connection.now in
+    let said' = g.C.Connection.talk c.write_to.new.connection in
+    let x = standing_of c.args.self.now in
+    let z = standing_of c.write_to.new.self in
+    let y = standing_of c.catch_up-in-loop-write.new.self in
+    let count = c.loop-write._write + c.in-Bytes.count in
+    let k = since_written past said _ said' x (standing_of c.loop-write.self) z c.loop-write._write c.in-Bytes.count
+    c.loop-write.invariant.since c.in-Bytes.ensures.writes in
+    let h = since_caught past said said' x z y count k c.in_err-catch_up-2.ensures.sends
+    c.in_err-catch_up-2.ensures.phase c.in_err-catch_up-2.ensures.idle in
+    let p = err_from_is_err_and c.from_residual-in_err-catch_up-2.result c.from_residual-in_err-catch_up-2.ensures.1 in
+    on_err c.from_residual-in_err-catch_up-2.result p.0 past said said' x y (λ written. IsServed past written said' y)
+    p.1 (told_so_far past said said' x y count h)
 
 pub loop-write-preserved : goal.loop-write-preserved
 loop-write-preserved g c =
-    let h = since_caught c.args.history.now _ _ (standing_of c.args.self.now) (standing_of c.loop-write.self)
-    (standing_of c.catch_up.new.self) c.loop-write._write c.loop-write.invariant.since c.in_ok-catch_up.ensures.sends
-    c.in_ok-catch_up.ensures.phase c.in_ok-catch_up.ensures.idle in
-    let k = since_written c.args.history.now _ _ _ (standing_of c.args.self.now) (standing_of c.catch_up.new.self)
-    (standing_of c.write_to.new.self) c.loop-write._write c.in-Bytes.count h c.in-Bytes.ensures.writes in
-    let more : c.loop-write._write + 1 ≤ c.loop-write._write + c.in-Bytes.count = search (rules, arith) in
+    let past = c.args.history.now in
+    let said = g.C.Connection.talk c.args.connection.now in
+    let said' = g.C.Connection.talk c.write_to.new.connection in
+    let x = standing_of c.args.self.now in
+    let z = standing_of c.write_to.new.self in
+    let y = standing_of c.catch_up-in-loop-write.new.self in
+    let count = c.loop-write._write + c.in-Bytes.count in
+    let k = since_written past said _ said' x (standing_of c.loop-write.self) z c.loop-write._write c.in-Bytes.count
+    c.loop-write.invariant.since c.in-Bytes.ensures.writes in
+    let h = since_caught past said said' x z y count k c.in_ok-catch_up-2.ensures.sends
+    c.in_ok-catch_up-2.ensures.phase c.in_ok-catch_up-2.ensures.idle in
+    let more : c.loop-write._write + 1 ≤ count = search (rules, arith) in
     record {
-      since = since_fewer c.args.history.now _ _ (standing_of c.args.self.now) (standing_of c.write_to.new.self)
-          (c.loop-write._write + c.in-Bytes.count) (c.loop-write._write + 1) k more;
-      came = c.write_to.ensures.came ∙ c.in_ok-catch_up.ensures.came ∙ c.loop-write.invariant.came;
+      since = since_fewer past said said' x y count (c.loop-write._write + 1) h more;
+      caught_up = c.in_ok-catch_up-2.ensures.all;
+      came = c.in_ok-catch_up-2.ensures.came ∙ c.write_to.ensures.came ∙ c.loop-write.invariant.came;
     }

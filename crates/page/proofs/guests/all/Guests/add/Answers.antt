@@ -7,6 +7,7 @@ use Rattle.page.specs.Places.{IsFresh}
 use Rattle.page.proofs.Visiting.{lives_new, lived_new}
 use Rattle.page.proofs.Visitors.{served_more}
 use Rattle.page.proofs.Places.{comes_not, comes_in, owed_stay}
+use Rattle.page.proofs.Caught.{caught_comes}
 use Rattle.page.proofs.guests.all.Guests.add.Goals as goal
 
 pub close-requires : goal.close-requires
@@ -44,6 +45,14 @@ returns-in-Err-clause-comes g c =
 pub returns-in-Err-clause-stays : goal.returns-in-Err-clause-stays
 returns-in-Err-clause-stays g c =
     owed_stay g.C.Connection.origin c.args.connection c.args.self.now.guests.items c.push.new.self.items
+    (comes_not g.C.Connection.origin c.args.connection c.origin-origin.result c.args.self.now.guests.items
+    c.make_place.new.self.guests.items c.push.new.self.items c.make_place.result c.origin-origin.ensures
+    c.make_place.ensures.place c.in-Err.ensures.items)
+
+pub returns-in-Err-clause-caught_up : goal.returns-in-Err-clause-caught_up
+returns-in-Err-clause-caught_up g c =
+    caught_comes g.C.Connection.talk c.args.history.now g.C.Connection.origin c.args.connection
+    c.args.self.now.guests.items c.push.new.self.items
     (comes_not g.C.Connection.origin c.args.connection c.origin-origin.result c.args.self.now.guests.items
     c.make_place.new.self.guests.items c.push.new.self.items c.make_place.result c.origin-origin.ensures
     c.make_place.ensures.place c.in-Err.ensures.items)
@@ -87,3 +96,17 @@ returns-in-Ok-clause-served g c =
     (standing_of guest.client) (came_of guest.client) unsaid c.new-guest.ensures.is_new c.new-guest.ensures.came in
     subst (λ (xs : List (Guest g.row.C.Denot)). AreServed talk own_only past xs) (sym c.in-Ok.ensures.items)
     (served_more talk own_only past items guest c.make_place.ensures.served room lives c.new-guest.ensures.is_new.0)
+
+pub returns-in-Ok-clause-caught_up : goal.returns-in-Ok-clause-caught_up
+returns-in-Ok-clause-caught_up g c =
+    let fresh : IsFresh c.args.connection c.new-guest.result = record {
+      connection_is = c.new-guest.ensures.connection;
+      is_new = c.new-guest.ensures.is_new;
+      came = c.new-guest.ensures.came;
+      ticks = c.new-guest.ensures.ticks;
+    } in
+    caught_comes g.C.Connection.talk c.args.history.now g.C.Connection.origin c.args.connection
+    c.args.self.now.guests.items c.push.new.self.items
+    (comes_in g.C.Connection.origin c.args.connection c.origin-origin.result c.args.self.now.guests.items
+    c.make_place.new.self.guests.items c.push.new.self.items c.make_place.result c.new-guest.result
+    c.origin-origin.ensures c.make_place.ensures.place c.if-not-make_place.false fresh c.in-Ok.ensures.items)

@@ -3,6 +3,7 @@ use Rattle.std.proofs.Common.{arith}
 use Rattle.page.specs.declared.guests.guest.Guest.{Guest}
 use Rattle.page.specs.Visits.{TakesTurn}
 use Rattle.page.proofs.Visiting.{lived}
+use Rattle.page.proofs.Caught.{caught_all}
 use Rattle.page.proofs.Rounds.{HasDone, none_done, all_done, one_stays, one_goes, gone_lived, get_set}
 use Rattle.page.proofs.guests.all.Guests.all.Goals as goal
 
@@ -67,3 +68,13 @@ returns-clause-all g c =
     let over : length c.loop-place.self.guests.items ≤ c.loop-place.place = search (rules, arith) in
     all_done g.C.Connection.talk c.args.self.now.own_only c.args.deed c.args.history.now c.args.self.now.guests.items
     c.loop-place.self.guests.items c.loop-place.place c.loop-place.invariant.done over
+
+pub returns-clause-caught_up : goal.returns-clause-caught_up
+returns-clause-caught_up g c =
+    let talk = g.C.Connection.talk in
+    let before = c.args.self.now.guests.items in
+    let after = c.loop-place.self.guests.items in
+    let over : length after ≤ c.loop-place.place = search (rules, arith) in
+    caught_all talk c.args.history.now c.args.deed before after
+    (all_done talk c.args.self.now.own_only c.args.deed c.args.history.now before after c.loop-place.place
+    c.loop-place.invariant.done over)
