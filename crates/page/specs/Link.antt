@@ -24,16 +24,6 @@ link_kind Lost = codes "lost"
 link_kind AnswersNothing = codes "answers_nothing"
 link_kind GivenUp = codes "line_given_up"
 
--- What an object tells of the connection.
-abbrev pub link_told : Data → Option Link
-link_told d =
-    if is_kind (link_kind Connected) d then Some Connected
-    else if is_kind (link_kind NoConnection) d then Some NoConnection
-    else if is_kind (link_kind Lost) d then Some Lost
-    else if is_kind (link_kind AnswersNothing) d then Some AnswersNothing
-    else if is_kind (link_kind GivenUp) d then Some GivenUp
-    else None
-
 -- Nothing goes over the line.
 abbrev pub is_bad : Link → Bool
 is_bad Connected = false
@@ -41,6 +31,26 @@ is_bad NoConnection = true
 is_bad Lost = true
 is_bad AnswersNothing = true
 is_bad GivenUp = true
+
+abbrev pub was_bad : Option Linked → Bool
+was_bad None = false
+was_bad (Some before) = is_bad before.link
+
+-- An answer came over the line, or the encoder was joined.
+abbrev pub is_heard : Data → Bool
+is_heard d = is_sent d || is_kind (codes "joined") d
+
+-- What an object tells of the connection: by its kind; or where nothing went over the line, that something does, since
+-- something was heard.
+abbrev pub link_told : (bad : Bool) → Data → Option Link
+link_told bad d =
+    if is_kind (link_kind Connected) d then Some Connected
+    else if is_kind (link_kind NoConnection) d then Some NoConnection
+    else if is_kind (link_kind Lost) d then Some Lost
+    else if is_kind (link_kind AnswersNothing) d then Some AnswersNothing
+    else if is_kind (link_kind GivenUp) d then Some GivenUp
+    else if bad && is_heard d then Some Connected
+    else None
 
 -- Since when it is so: where it was bad and still is, since it began to be bad; else since this object.
 abbrev pub since_when : Link → Data → Option Linked → Option (List ℕ)
@@ -54,7 +64,7 @@ linked_so (Some link) d before = Some (record { link = link; since = since_when 
 
 -- What is known of the connection behind an object.
 abbrev pub linked_after : Data → Option Linked → Option Linked
-linked_after d before = linked_so (link_told d) d before
+linked_after d before = linked_so (link_told (was_bad before) d) d before
 
 -- The time that was told last.
 abbrev pub newest : Option (List ℕ) → (before : Option (List ℕ)) → Option (List ℕ)

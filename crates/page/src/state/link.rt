@@ -2,7 +2,7 @@
 ghost use Rattle.std.specs.Prelude.{◌≡◌, IfOk, option_map, string_bytes};
 ghost use Rattle.serde_json.specs.View.{view};
 ghost use Rattle.page.specs.Link.{link_kind, link_told, is_bad, since_when, linked_after, is_verdict, refused_after};
-ghost use Rattle.page.specs.Link.{failed_after, heard_after};
+ghost use Rattle.page.specs.Link.{failed_after, heard_after, was_bad, is_heard};
 ghost use Rattle.page.specs.StateView.{linked_of, refusal_of};
 
 use crate::state::counts::{has_bad_code, is_kind, is_new_answer, is_sent};
@@ -67,9 +67,10 @@ impl Link {
         }
     }
 
-    /// What an object tells of the connection.
-    fn told_by(value: &Value) -> Option<Link>
-        ensures { result ≡ link_told (view value.now) }
+    /// What an object tells of the connection: by its kind; or where nothing went over the line, that something does,
+    /// since something was heard.
+    fn told_by(value: &Value, was_bad: bool) -> Option<Link>
+        ensures { result ≡ link_told was_bad (view value.now) }
     {
         if is_kind(value, "connected") {
             Some(Link::Connected)
@@ -81,10 +82,29 @@ impl Link {
             Some(Link::AnswersNothing)
         } else if is_kind(value, "line_given_up") {
             Some(Link::GivenUp)
+        } else if was_bad && is_heard(value) {
+            Some(Link::Connected)
         } else {
             None
         }
     }
+}
+
+/// Whether nothing went over the line, by what was told before.
+fn was_bad(before: &Option<Linked>) -> bool
+    ensures { result ≡ was_bad (option_map linked_of before.now) }
+{
+    match before {
+        Some(before) => before.link.is_bad(),
+        None => false,
+    }
+}
+
+/// Whether an answer came over the line, or the encoder was joined.
+fn is_heard(value: &Value) -> bool
+    ensures { result ≡ is_heard (view value.now) }
+{
+    is_sent(value) || is_kind(value, "joined")
 }
 
 /// What is known of the connection behind an object.
@@ -96,7 +116,7 @@ pub(crate) fn linked_after(
     ensures { IfOk result (λ behind. option_map linked_of behind
         ≡ linked_after (view value.now) (option_map linked_of before)) }
 {
-    match Link::told_by(value) {
+    match Link::told_by(value, was_bad(&before)) {
         Some(link) => {
             let since = since_when(alloc, link, value, before)?;
             Ok(Some(Linked { link, since }))
