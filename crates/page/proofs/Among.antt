@@ -1,7 +1,7 @@
 -- The first of these that is the one that is told of.
 use Rattle.std.proofs.Common.{◌≡◌, ℕ, zero, suc, ◌+◌, ◌-◌, ◌<◌, ◌≤◌, ◌==◌, ◌||◌, Bool, true, false, cond, List, [], ◌∷◌}
 use Rattle.std.specs.List.{list_any}
-use Rattle.std.proofs.Common.{◌++◌, length, take, drop, map, get_or, refl, ◌∙◌, ap, sym, arith}
+use Rattle.std.proofs.Common.{◌++◌, length, take, drop, map, get_or, refl, ◌∙◌, ap, sym, subst, arith}
 use Rattle.std.proofs.Math.ListN.{set}
 use Rattle.std.proofs.lemmas.List.{append-nil, append_assoc, get_or_read, length-map, map-set, map-append, set_split}
 use Rattle.std.proofs.lemmas.List.{take_more, drop_more, drop_all, take_all}
@@ -100,3 +100,37 @@ no_room f is_it tell new k xs h full =
     let test : (128 - k == 0) ≡ true = grind (arith, full) in
     sym (none_at_all f is_it tell new k xs long ∙ ap (λ t. map f xs ++ cond t [] (tell new ∷ [])) test
     ∙ append-nil (map f xs))
+
+-- of each of the first so many what is made of it
+pub each : {Y : Type 0} → (Y → Y) → ℕ → List Y → List Y
+each g zero ys = ys
+each g (suc k) [] = []
+each g (suc k) (y ∷ ys) = g y ∷ each g k ys
+
+pub each_more : {X Y : Type 0} (f : X → Y) (g : Y → Y) (k : ℕ) (ys : List Y) (xs : List X) (x x' : X)
+    → map f xs ≡ each g k ys → k < length xs → x ≡ get_or xs k x → f x' ≡ g (f x)
+    → map f (set xs k x') ≡ each g (suc k) ys
+unfolding each
+each_more f g zero ys [] x x' so h is told = absurd (omega (arith, h))
+each_more {X} {Y} f g zero ys (z ∷ xs) x x' so h is told =
+    let P : List Y → Type 0 = λ l. f x' ∷ map f xs ≡ each g 1 l in
+    subst P so (ap (λ y. y ∷ map f xs) (told ∙ ap (λ w. g (f w)) is))
+each_more f g (suc k) ys [] x x' so h is told = absurd (omega (arith, h))
+each_more f g (suc k) [] (z ∷ xs) x x' so h is told = absurd (cc so)
+each_more f g (suc k) (y ∷ ys) (z ∷ xs) x x' so h is told =
+    let less : k < length xs = omega (arith, h) in
+    ap (λ l. get_or l 0 (f z) ∷ map f (set xs k x')) so
+    ∙ ap (λ l. g y ∷ l) (each_more f g k ys xs x x' (ap (drop 1) so) less is told)
+
+pub each_all : {Y : Type 0} (g : Y → Y) (k : ℕ) (ys : List Y) → length ys ≤ k → each g k ys ≡ map g ys
+unfolding each
+each_all g zero [] h = refl
+each_all g zero (y ∷ ys) h = absurd (omega (arith, h))
+each_all g (suc k) [] h = refl
+each_all g (suc k) (y ∷ ys) h =
+    let less : length ys ≤ k = omega (arith, h) in
+    ap (λ l. g y ∷ l) (each_all g k ys less)
+
+pub each_none : {Y : Type 0} (g : Y → Y) (ys : List Y) → ys ≡ each g 0 ys
+unfolding each
+each_none g ys = refl

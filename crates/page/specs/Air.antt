@@ -5,7 +5,7 @@ use Rattle.std.specs.Prelude.{if◌then◌else◌}
 use Rattle.serde_json.specs.Data.{Data, Items, no_items, item}
 use Rattle.serde_json.specs.Find.{get, as_array}
 use Rattle.page.specs.Members.{number_at, number_or_0, says}
-use Rattle.page.specs.Shown.{Service, is_element, is_shown, is_stored, tells, told_service}
+use Rattle.page.specs.Shown.{Service, is_element, is_shown, is_stored, tells, told_services}
 use Rattle.page.specs.Counts.{is_kind}
 
 -- The data set that was selected, 0 before; the services; whether answers to frames are told; the frame that waits for
@@ -24,12 +24,12 @@ no_air = record { current = 0; services = []; answers = false; frame = None }
 abbrev pub set_of : Air → Data → ℕ
 set_of s d = if number_or_0 (codes "set") d == 0 then s.current else number_or_0 (codes "set") d
 
--- Behind an element, or what a receiver shows: a set is selected, or something is told of a service; of 128 at most.
+-- Behind an element, or what a receiver shows: a set is selected, or something is told of the services that are meant.
 abbrev pub after_telling : Data → Air → Air
 after_telling d s =
     if is_element (codes "select") d then record s { current = unwrap_or (number_at (codes "set") d) s.current }
     else if tells d then record s {
-      services = told_service (set_of s d) (number_or_0 (codes "service") d) d s.services;
+      services = told_services s.current (set_of s d) (number_or_0 (codes "service") d) d s.services;
     }
     else s
 

@@ -4,7 +4,7 @@ use Rattle.std.specs.Prelude.{filter, find}
 use Rattle.std.specs.Str.{bytes_eq}
 use Rattle.serde_json.specs.Data.{Data}
 use Rattle.page.specs.Members.{name_of, number_or_0}
-use Rattle.page.specs.Shown.{is_element, is_stored, tells, told, new_service}
+use Rattle.page.specs.Shown.{is_element, is_stored, tells, told, names_set, new_service}
 use Rattle.page.specs.Air.{Air, set_of, after_telling}
 use Rattle.page.specs.Counts.{Counts, counted, is_kind, is_sent}
 use Rattle.page.specs.ControlLine.{Line, new_line, is_named, line_after, line_behind}
@@ -44,10 +44,11 @@ StoreClears = (d : Data) (l l' : Line) → is_kind (codes "store") d ≡ true �
     × ((ds : List Data) → (line_behind (d ∷ ds) l).air ≡ (line_behind (d ∷ ds) l').air)
 
 -- Law: behind a store, the service of a set that is told first is the main one there: what is told by 0 and what is
--- told by its number are told of that one service.
+-- told by its number are told of that one service, whether the set is named itself or is one of those that are meant.
 abbrev pub MainOnce : Type 0
 MainOnce = (d e : Data) (s : Air) → s.services ≡ [] → is_stored d ≡ true → is_element (codes "select") d ≡ false
-    → tells e ≡ true → is_element (codes "select") e ≡ false → set_of s e ≡ set_of s d
+    → tells e ≡ true → is_element (codes "select") e ≡ false
+    → names_set s.current (set_of s e) (set_of s d) ≡ true
     → let n = number_or_0 (codes "service") d in let m = number_or_0 (codes "service") e in
     ((m ≡ 0) ⊎ (m ≡ n))
     → (after_telling e (after_telling d s)).services ≡ told e (told d (new_service (set_of s d) n true)) ∷ []

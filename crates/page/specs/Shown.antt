@@ -1,6 +1,6 @@
 -- What services have, by what the elements of messages say, and what a receiver or a store tells (profile).
 use Rattle.std.specs.Prelude.{ℕ, ◌-◌, ◌==◌, Bool, not, ◌&&◌, ◌||◌, List, [], ◌∷◌, codes, Option, Some, None}
-use Rattle.std.specs.Prelude.{option_and_then, if◌then◌else◌}
+use Rattle.std.specs.Prelude.{◌++◌, length, map, nat_lt, option_and_then, if◌then◌else◌}
 use Rattle.std.specs.List.{list_any}
 use Rattle.serde_json.specs.Data.{Data, Items, no_items, item}
 use Rattle.serde_json.specs.Find.{get, as_array}
@@ -92,9 +92,13 @@ told d s =
     else if is_stored d then all_told (stored_text d) d s
     else s
 
--- A service of a set is meant: by its number, or the main one by 0.
-abbrev pub is_of : (set service : ℕ) → Service → Bool
-is_of set service s = s.set == set && (s.service == service || (service == 0 && s.main))
+-- A data set is meant by this number: 255 means all, and 254 all but the current one.
+abbrev pub names_set : (current set k : ℕ) → Bool
+names_set current set k = set == k || (set == 255 || (set == 254 && not (k == current)))
+
+-- A service is meant: in a set that is, by its number, or the main one by 0.
+abbrev pub is_meant : (current set service : ℕ) → Service → Bool
+is_meant current set service s = names_set current set s.set && (s.service == service || (service == 0 && s.main))
 
 abbrev pub is_in : (set : ℕ) → Service → Bool
 is_in set s = s.set == set
@@ -114,6 +118,16 @@ told_among room is_it tell new [] = if room == 0 then [] else tell new ∷ []
 told_among room is_it tell new (x ∷ xs) =
     if is_it x then tell x ∷ xs else x ∷ told_among (room - 1) is_it tell new xs
 
--- Of services, 128 at most, this one once that was told of it.
-abbrev pub told_service : (set service : ℕ) → Data → List Service → List Service
-told_service set service d ss = told_among 128 (is_of set service) (told d) (new_one set service d ss) ss
+-- A service once that was told of it, if it is meant.
+abbrev pub told_if : (current set service : ℕ) → Data → Service → Service
+told_if current set service d s = if is_meant current set service s then told d s else s
+
+-- Services with one more, of 128 at most.
+abbrev pub with_new : (set service : ℕ) → Data → List Service → List Service
+with_new set service d ss = if nat_lt (length ss) 128 then ss ++ told d (new_one set service d ss) ∷ [] else ss
+
+-- Services once that was told of those that are meant; where none is, a new one comes last.
+abbrev pub told_services : (current set service : ℕ) → Data → List Service → List Service
+told_services current set service d ss =
+    if list_any (is_meant current set service) ss then map (told_if current set service d) ss
+    else with_new set service d ss

@@ -26,7 +26,7 @@ pub fn store_clears()
 {}
 
 /// Behind a store, the service of a set that is told first is the main one there: what is told by 0 and what is told by
-/// its number are told of that one service.
+/// its number are told of that one service, whether the set is named itself or is one of those that are meant.
 pub fn main_once()
     ensures { MainOnce }
 {}

@@ -115,6 +115,7 @@ impl Air {
         let set = if named == 0 { self.current } else { named };
         tell_of(
             alloc,
+            self.current,
             set,
             number_or_0(value, "service"),
             value,

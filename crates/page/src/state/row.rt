@@ -2,13 +2,20 @@
 ghost use Rattle.std.specs.Prelude.{◌≡◌, OnOk, IfOk, option_map, option_and_then, string_bytes, codes};
 ghost use Rattle.serde_json.specs.View.{view, items_view};
 ghost use Rattle.page.specs.Members.{text_at};
-ghost use Rattle.page.specs.Shown.{new_service, is_element, is_of, is_in, is_shown, is_stored, told, all_told};
-ghost use Rattle.page.specs.Shown.{element_text, shown_text, stored_text, last_item};
+ghost use Rattle.page.specs.Shown.{new_service, is_element, names_set, is_meant, is_in, is_shown, is_stored, told};
+ghost use Rattle.page.specs.Shown.{all_told};
+ghost use Rattle.page.specs.Shown.{told_if, element_text, shown_text, stored_text, last_item};
 ghost use Rattle.page.specs.StateView.{service_of};
 
 use crate::state::members::{flag_at, number_at, says, text_at};
 use serde_json::Value;
 use std::alloc::{AllocError, Global};
+
+/// The number that means all data sets (SPB 490, DSN).
+const ALL_SETS: u64 = 255;
+
+/// The number that means all but the current one.
+const OTHER_SETS: u64 = 254;
 
 /// What was told last of a service of a data set. None of what was not told, or is shown no more.
 #[derive(Drop)]
@@ -58,11 +65,32 @@ impl Row {
         self.set == set
     }
 
-    /// Whether it is this service of this data set, of which 0 means the main one.
-    pub(crate) fn is_of(&self, set: u64, service: u64) -> bool
-        ensures { result ≡ is_of set service (service_of self.now) }
+    /// Whether it is meant: in a data set that is, by its number, or the main one by 0.
+    pub(crate) fn is_meant(&self, current: u64, set: u64, service: u64) -> bool
+        ensures { result ≡ is_meant current set service (service_of self.now) }
     {
-        self.set == set && (self.service == service || (service == 0 && self.is_main))
+        names_set(current, set, self.set)
+            && (self.service == service || (service == 0 && self.is_main))
+    }
+
+    /// This is told of it, if it is meant.
+    ///
+    /// Errors: where memory is refused it may have been told in part.
+    pub(crate) fn tell_if(
+        &mut self,
+        alloc: Global,
+        current: u64,
+        set: u64,
+        service: u64,
+        value: &Value,
+    ) -> Result<(), AllocError>
+        ensures { OnOk result (service_of self.new
+            ≡ told_if current set service (view value.now) (service_of self.old)) }
+    {
+        if self.is_meant(current, set, service) {
+            return self.tell(alloc, value);
+        }
+        Ok(())
     }
 
     /// This is told of it.
@@ -107,6 +135,13 @@ impl Row {
         self.pty = number_at(value, "type");
         Ok(())
     }
+}
+
+/// Whether a data set is meant by this number: 255 means all, and 254 all but the current one.
+fn names_set(current: u64, set: u64, one: u64) -> bool
+    ensures { result ≡ names_set current set one }
+{
+    set == one || (set == ALL_SETS || (set == OTHER_SETS && !(one == current)))
 }
 
 /// Whether an object tells what a receiver shows.
