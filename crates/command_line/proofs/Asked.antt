@@ -21,12 +21,13 @@ use Rattle.commands.specs.Jobs.{in_full, in_short}
 use Rattle.command_line.specs.declared.command_name.CommandName.{CommandName}
 use Rattle.command_line.specs.declared.command_name.CommandName.TheVariants as command
 use Rattle.command_line.specs.declared.usage.Usage.{Usage}
-use Rattle.command_line.specs.declared.usage.Usage.TheVariants.{OutOfMemory}
+use Rattle.command_line.specs.declared.usage.Usage.TheVariants.{Refused, NotAList, OutOfMemory}
 use Rattle.command_line.specs.Ranges.{IsFullInRange, IsInRange, IsPlaceInRange, IsSetupInRange, Lies}
 use Rattle.command_line.specs.Usages.{SaysError}
 use Rattle.command_line.specs.CommandLine.{AreOptions, Asks, IsFullOf, IsMaybe, IsOption, IsPlace}
 use Rattle.command_line.specs.CommandLine.{RefusesLine, RefusesList, RefusesJobOf, RefusesWords, command_word}
 use Rattle.command_line.specs.CommandLine.{services_text, uecp_app}
+use Rattle.command_line.specs.TitleLines.{RefusesTitles}
 use Rattle.command_line.proofs.Helps.{one_named}
 
 -- ---- by what clap's clauses say of a parse
@@ -113,13 +114,29 @@ refuses_line words m name rows why e f met is_line (inl list) =
 refuses_line words m name rows why e f met is_line (inr (error, is, kind, no_form)) =
     subst (RefusesWords words) (sym is) (inr (
       kind,
-      record {
+      inl (record {
         rows = rows;
         command = sym met ∙ both_met (out-ArgMatches m).subcommand name rows e f
             ∙ ap (λ (n : Text). Some (n, rows)) is_line;
         no_form = no_form;
-      },
+      }),
     ))
+
+-- what the matches of `send` ask for was refused
+refuses_titles : (words : List Text) (m : ArgMatches) (rows : List Row) (why : Usage)
+    → Some (codes "send") ≡ subcommand_name_of m → Some rows ≡ option_map (λ p. p.1) (subcommand_rows_of m)
+    → subcommand_rows_of m ≡ subcommand_of uecp_app words → RefusesTitles rows why → RefusesWords words why
+refuses_titles words m rows why e f met (inl out) = subst (RefusesWords words) (sym out) tt
+refuses_titles words m rows (Refused error) e f met (inr (kind, no_titles)) = inr (
+  kind,
+  inr (record {
+    rows = rows;
+    command = sym met ∙ both_met (out-ArgMatches m).subcommand (codes "send") rows e f;
+    no_titles = no_titles;
+  }),
+)
+refuses_titles words m rows NotAList e f met (inr (never, no_titles)) = absurd never
+refuses_titles words m rows OutOfMemory e f met (inr (memory, no_titles)) = tt
 
 -- what the matches of a command ask for was refused
 no_memory : (words : List Text) (why : Usage) → why ≡ OutOfMemory → RefusesWords words why
@@ -137,7 +154,7 @@ refuses_job words m command.Line rows why e f met refused =
 refuses_job words m command.Show rows why e f met refused = no_memory words why refused
 refuses_job words m command.Make rows why e f met refused = no_memory words why refused
 refuses_job words m command.Server rows why e f met refused = no_memory words why refused
-refuses_job words m command.Send rows why e f met refused = no_memory words why refused
+refuses_job words m command.Send rows why e f met refused = refuses_titles words m rows why e f met refused
 refuses_job words m command.Watch rows why e f met refused = no_memory words why refused
 refuses_job words m command.State rows why e f met refused = no_memory words why refused
 refuses_job words m command.Receive rows why e f met refused = no_memory words why refused

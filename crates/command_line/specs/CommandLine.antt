@@ -36,6 +36,8 @@ use Rattle.output_forms.specs.declared.form.Form.{Form}
 use Rattle.output_forms.specs.declared.form.Form.TheVariants.{Lines, Words, Json}
 use Rattle.rds_text.specs.declared.programme_type.Region.{Region}
 use Rattle.rds_text.specs.declared.programme_type.Region.TheVariants.{Europe, NorthAmerica}
+pub use Rattle.command_line.specs.OptionTexts.{IsFlag, word_text}
+use Rattle.command_line.specs.TitleLines.{HasNoTitles, IsTitles, RefusesTitles}
 use Rattle.command_line.specs.declared.numbers.NumberOption.{NumberOption}
 use Rattle.command_line.specs.declared.command_name.CommandName.{CommandName}
 use Rattle.command_line.specs.declared.command_name.CommandName.TheVariants as command
@@ -67,16 +69,6 @@ pub record IsMaybe (text : Option (List ℕ)) (least greatest : ℕ) (number : O
   pub absent : text ≡ None → number ≡ None
   pub range : IfSome number (λ n. (least ≤ n) × (n ≤ greatest))
   pub spelled : (t : List ℕ) (n : ℕ) → text ≡ Some t → Spells t n → least ≤ n → n ≤ greatest → number ≡ Some n
-
--- A flag is set where its text is "true", and not where it is "false" or where there is none.
-pub record IsFlag (text : Option (List ℕ)) (is_set : Bool) : Type 0 where
-  pub given : text ≡ Some (codes "true") → is_set ≡ true
-  pub denied : text ≡ Some (codes "false") → is_set ≡ false
-  pub absent : text ≡ None → is_set ≡ false
-
--- The text of an option that is a word, or its default where it is not given.
-abbrev pub word_text : (name default : List ℕ) → List Row → List ℕ
-word_text name default rows = unwrap_or (first_of name rows) default
 
 -- The text of the option `services`.
 abbrev pub services_text : List Row → List ℕ
@@ -189,6 +181,7 @@ pub record IsLive (rows : List Row) (job : SendOptions) : Type 0 where
   pub is_give_up : IsOption (one_of (codes "give-up") rows) 0 1000000 job.give_up
   pub is_silent : IsOption (one_of (codes "silent") rows) 1 86400 job.silent
   pub is_region : IsRegion rows job.region
+  pub is_titles : IsTitles rows job.titles
   pub is_form : IsToldIn rows job.form
   pub is_strict : IsFlag (one_of (codes "strict") rows) job.strict
   pub is_join : IsFlag (one_of (codes "join") rows) job.join
@@ -256,6 +249,7 @@ pub record IsReceive (rows : List Row) (job : ReceiveOptions) : Type 0 where
 pub record IsPage (rows : List Row) (job : PageOptions) : Type 0 where
   pub is_listen : option_map string_bytes job.listen ≡ first_of (codes "listen") rows
   pub is_port : IsMaybe (one_of (codes "port") rows) 1 65535 job.port
+  pub is_stale : IsMaybe (one_of (codes "stale") rows) 1 86400 job.stale
 
 -- The cases are run as the matches of the command `conformance` ask for.
 pub record IsConformance (rows : List Row) (job : ConformanceOptions) : Type 0 where
@@ -299,12 +293,13 @@ command_word command.Receive = codes "receive"
 command_word command.Conformance = codes "conformance"
 command_word command.Page = codes "page"
 
--- Why what the matches of this command ask for was refused: it has a list of services that is none, or a ladder's form
--- that is none. Or there was no memory.
+-- Why what the matches of this command ask for was refused: it has a list of services that is none, a ladder's form
+-- that is none, or lines that are neither phrases nor titles. Or there was no memory.
 abbrev pub RefusesJobOf : CommandName → (rows : List Row) → Usage → Type 0
 RefusesJobOf command.Answer rows why = RefusesList (services_text rows) why
 RefusesJobOf command.Encoder rows why = RefusesList (services_text rows) why
 RefusesJobOf command.Line rows why = RefusesLine rows why
+RefusesJobOf command.Send rows why = RefusesTitles rows why
 RefusesJobOf other rows why = why ≡ OutOfMemory
 
 -- ---- the command line that the program takes
@@ -420,7 +415,7 @@ receiving_command = command_with (codes "receive")
 -- The command `page`.
 abbrev pub paging_command : Shape
 paging_command = command_with (codes "page")
-    (maybe_word (codes "listen") ∷ maybe_number (codes "port") 1 65535 ∷ [])
+    (maybe_word (codes "listen") ∷ maybe_number (codes "port") 1 65535 ∷ maybe_number (codes "stale") 1 86400 ∷ [])
 
 -- Where the encoder listens whose rules are tried, which has to be named.
 abbrev pub place_argument : Rule
@@ -489,7 +484,8 @@ live_command = command_with (codes "send") (place_options ++ word_option (codes 
     ∷ number_option (codes "silent") 1 86400 (Some (codes "60"))
     ∷ flag (codes "rbds") ∷ flag (codes "json") ∷ name_option ∷ flag (codes "strict") ∷ flag (codes "join")
     ∷ flag (codes "rejoin")
-    ∷ state_option ∷ station_option ∷ [])
+    ∷ state_option ∷ station_option ∷ word_option (codes "input") (Some (codes "phrases"))
+    ∷ maybe_word (codes "prefix") ∷ maybe_word (codes "service") ∷ flag (codes "fit") ∷ [])
 
 -- The command `state`.
 abbrev pub looking_command : Shape
@@ -540,9 +536,20 @@ pub record GivesNoForm (words : List (List ℕ)) : Type 0 where
   pub command : subcommand_of uecp_app words ≡ Some (codes "line", rows)
   pub no_form : HasNoForm rows
 
--- Why the words were refused: they have a fault of this kind, or give no list, or no form. Or there was no memory.
+-- The words ask for lines that are neither phrases nor titles.
+pub record GivesNoTitles (words : List (List ℕ)) : Type 0 where
+  pub rows : List Row
+  pub command : subcommand_of uecp_app words ≡ Some (codes "send", rows)
+  pub no_titles : HasNoTitles rows
+
+-- The words give a word that is none of those that its option has: a ladder's form, or what lines are.
+abbrev pub GivesNoChoice : (words : List (List ℕ)) → Type 0
+GivesNoChoice words = GivesNoForm words ⊎ GivesNoTitles words
+
+-- Why the words were refused: they have a fault of this kind, or give no list, no form, or no titles. Or there was no
+-- memory.
 abbrev pub RefusesWords : (words : List (List ℕ)) → Usage → Type 0
 RefusesWords words (Refused error) = IsAmong (kind_of error) (fault_of uecp_app words)
-    ⊎ ((kind_of error ≡ InvalidValue) × GivesNoForm words)
+    ⊎ ((kind_of error ≡ InvalidValue) × GivesNoChoice words)
 RefusesWords words NotAList = GivesNoList words
 RefusesWords words OutOfMemory = Unit {0}

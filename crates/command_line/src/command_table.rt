@@ -3,7 +3,7 @@
 use crate::command_row::CommandRow;
 use crate::numbers::{
     AIR_GROUPS, AIR_PORT, CASE_SILENT, CASE_TIMEOUT, CONNECTIONS, ENCODER, GIVE_UP, IDLE, LOG_WAIT,
-    PAGE_PORT, PORT, QUIET, RECONNECTS, RETRY_EVERY, SEED, SERVE_TURNS, SETS, SILENT, SITE,
+    PAGE_PORT, PORT, QUIET, RECONNECTS, RETRY_EVERY, SEED, SERVE_TURNS, SETS, SILENT, SITE, STALE,
     TIMEOUT, TRIES, TRY_TURNS, WINDOW, YIELD,
 };
 use crate::option_row::OptionRow;
@@ -250,6 +250,26 @@ pub(crate) const SEND_COMMAND: CommandRow = CommandRow {
             "FILE",
             "The file with the lines that make the station, sent behind each join; it asks for --rejoin too",
         ),
+        OptionRow::WordOr(
+            "input",
+            "LINES",
+            "What the lines are: phrases, or titles, each a RadioText whatever stands in it",
+            "phrases",
+        ),
+        OptionRow::MaybeWord(
+            "prefix",
+            "TEXT",
+            "With titles, what stands before each: at most 32 characters of the RDS set",
+        ),
+        OptionRow::MaybeWord(
+            "service",
+            "NUMBER",
+            "With titles, whose RadioText it is, two hexadecimal digits; 00, the main service's, where it is left out",
+        ),
+        OptionRow::Flag(
+            "fit",
+            "With titles, make one that is no RadioText as it stands fit: take the nearest characters, cut it behind a word",
+        ),
     ],
 };
 
@@ -333,5 +353,6 @@ pub(crate) const PAGE_COMMAND: CommandRow = CommandRow {
             "The IP address at which it listens; 127.0.0.1 where it is not given",
         ),
         OptionRow::MaybeNumber(PAGE_PORT),
+        OptionRow::MaybeNumber(STALE),
     ],
 };

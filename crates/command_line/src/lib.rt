@@ -29,6 +29,7 @@ mod refusing;
 mod send_options;
 mod services;
 mod settling;
+mod title_options;
 mod usage;
 
 pub use commands::Job;

@@ -96,6 +96,15 @@ pub const PAGE_PORT: NumberOption = NumberOption {
     help: "The port, 1 to 65535; 8080 where it is not given",
 };
 
+/// After how many seconds in which nothing was told of a control line it is stale for a page.
+pub const STALE: NumberOption = NumberOption {
+    name: "stale",
+    least: 1,
+    most: 86_400,
+    default: None,
+    help: "After how many seconds in which nothing was told of a line it is stale, 1 to 86400; never where it is left out",
+};
+
 /// How many groups `answer` writes of what is on the air.
 pub const AIR_GROUPS: NumberOption = NumberOption {
     name: "air",

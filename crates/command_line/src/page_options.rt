@@ -4,8 +4,8 @@ ghost use Rattle.clap.specs.Words.{found_of, rows_of};
 ghost use Rattle.command_line.specs.CommandLine.{IsFullOf};
 ghost use Rattle.command_line.specs.declared.usage.Usage.TheVariants.{OutOfMemory};
 
-use crate::matched::given_of;
-use crate::numbers::PAGE_PORT;
+use crate::matched::{given_of, maybe_of};
+use crate::numbers::{PAGE_PORT, STALE};
 use crate::send_options::word_of;
 use crate::usage::Usage;
 use clap::ArgMatches;
@@ -20,5 +20,6 @@ pub fn page_of(alloc: Global, found: &ArgMatches<'_>) -> Result<Job, Usage>
     Ok(Job::Page(PageOptions {
         listen: word_of(alloc, found, "listen")?,
         port: given_of(found, &PAGE_PORT),
+        stale: maybe_of(found, &STALE),
     }))
 }

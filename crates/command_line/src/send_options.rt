@@ -5,16 +5,17 @@ ghost use Rattle.clap.specs.Walk.{first_of};
 ghost use Rattle.clap.specs.Words.{found_of, rows_of};
 ghost use Rattle.commands.specs.Host.{NamesHost};
 ghost use Rattle.command_line.specs.CommandLine.{IsFullOf, IsLive, IsRegion, IsRejoin, IsToldIn, host_text};
-ghost use Rattle.command_line.specs.declared.usage.Usage.TheVariants.{OutOfMemory};
+ghost use Rattle.command_line.specs.TitleLines.{IsTitles, RefusesTitles};
 
 use crate::forms::flag_of;
 use crate::matched::{host_of, number_of, short_of, small_of};
 use crate::numbers::{
     ENCODER, GIVE_UP, PORT, RETRY_EVERY, SILENT, SITE, TIMEOUT, TRIES, TRY_TURNS, WINDOW,
 };
+use crate::title_options::titles_of;
 use crate::usage::Usage;
 use clap::ArgMatches;
-use commands::{Job, SendOptions};
+use commands::{Job, SendOptions, TitleOptions};
 use rds_text::Region;
 use std::alloc::{AllocError, Global};
 use uecp_jobs::Form;
@@ -22,12 +23,13 @@ use uecp_jobs::Form;
 /// What the command `send` asks for.
 pub fn send_of(alloc: Global, found: &ArgMatches<'_>) -> Result<Job, Usage>
     ensures job { IfOk result (IsFullOf (codes "send") (rows_of (found_of found.now))) }
-    ensures refused { IfErr result (λ why. why ≡ OutOfMemory) }
+    ensures refused { IfErr result (RefusesTitles (rows_of (found_of found.now))) }
 {
     let host = host_of(alloc, found)?;
     let state = word_of(alloc, found, "state")?;
     let station = word_of(alloc, found, "station")?;
-    Ok(Job::Send(with_words(found, host, state, station)))
+    let titles = titles_of(alloc, found)?;
+    Ok(Job::Send(with_words(found, host, state, station, titles)))
 }
 
 /// The options of the command, with its words.
@@ -36,10 +38,12 @@ fn with_words(
     host: String,
     state: Option<String>,
     station: Option<String>,
+    titles: Option<TitleOptions>,
 ) -> SendOptions
     requires host { NamesHost (host_text (rows_of (found_of found.now))) (string_bytes host) }
     requires state { option_map string_bytes state ≡ first_of (codes "state") (rows_of (found_of found.now)) }
     requires station { option_map string_bytes station ≡ first_of (codes "station") (rows_of (found_of found.now)) }
+    requires titles { IsTitles (rows_of (found_of found.now)) titles }
     ensures { IsLive (rows_of (found_of found.now)) result }
 {
     SendOptions {
@@ -52,6 +56,7 @@ fn with_words(
         turns: number_of(found, &TRY_TURNS),
         window: small_of(found, &WINDOW),
         region: region_of(found),
+        titles,
         form: told_in(found),
         strict: flag_of(found, "strict"),
         join: flag_of(found, "join"),

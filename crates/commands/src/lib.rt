@@ -26,6 +26,6 @@ pub use line_options::{LadderForm, LineOptions};
 pub use page_options::PageOptions;
 pub use receive_options::{ReceiveOptions, ShownForm};
 pub use script_options::{MakeOptions, ShowOptions, WatchOptions};
-pub use send_options::SendOptions;
+pub use send_options::{SendOptions, TitleOptions};
 pub use server_options::ServerOptions;
 pub use short::{in_short, is_device};

@@ -7,4 +7,7 @@ pub struct PageOptions {
     pub listen: Option<String>,
     /// The port on which it listens, 1 to 65535, where it is given apart; 8080 where neither has one.
     pub port: Option<u16>,
+    /// After how many seconds in which nothing was told of a control line that line is stale, 1 to 86400; never where
+    /// it is left out.
+    pub stale: Option<u32>,
 }

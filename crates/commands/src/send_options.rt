@@ -22,8 +22,10 @@ pub struct SendOptions {
     pub turns: u32,
     /// How many messages are on their way at once, 1 to 8.
     pub window: u8,
-    /// Of which region the programme types of its lines are.
+    /// Of which region the programme types of its lines are, and of the station's.
     pub region: Region,
+    /// How its lines are titles; None where they are phrases.
+    pub titles: Option<TitleOptions>,
     /// In which form it is told what comes of the messages.
     pub form: Form,
     /// Whether the run ends at a line that is refused.
@@ -42,4 +44,15 @@ pub struct SendOptions {
     pub state: Option<String>,
     /// The file with the lines that make the station what it is, if there is one.
     pub station: Option<String>,
+}
+
+/// How the lines of `send` are titles, each a RadioText.
+#[derive(Debug, Drop, PartialEq, Eq)]
+pub struct TitleOptions {
+    /// What stands before each title, in at most 32 bytes of the basic character set.
+    pub prefix: Vec<u8>,
+    /// The programme service whose RadioText it is, 0 for the main one.
+    pub service: u8,
+    /// Whether a title that is no RadioText as it stands is made to fit.
+    pub fit: bool,
 }

@@ -3,12 +3,11 @@ use Rattle.std.proofs.Common.{◌≡◌, ℕ, Bool, ◌<◌, ◌≤◌, ◌+◌,
 use Rattle.std.proofs.Common.{subst, inl, inr, append_assoc, append-nil, length-append, true, false, ◌||◌}
 use Rattle.std.proofs.Math.Nat.{le_of_lt}
 use Rattle.std.specs.Prelude.{Option, Some, None, Result, Ok, Err}
-use Rattle.rds_text.specs.declared.programme_type.Region.{Region}
+use Rattle.line_batches.specs.declared.intake.Input.{Input}
 use Rattle.uecp_text.specs.declared.run_fault.RunFault.TheVariants as run
 use Rattle.line_feed.specs.declared.feed.Next.{Next}
 use Rattle.line_feed.specs.declared.feed_fault.FeedFault.{FeedFault}
 use Rattle.line_batches.specs.declared.intake.Given.{Given}
-use Rattle.line_batches.specs.declared.intake.Given.TheVariants.{Gives}
 use Rattle.line_batches.specs.declared.taking.After.{After}
 use Rattle.line_batches.specs.declared.taking.After.TheVariants.{GoesOn, Ends}
 use Rattle.line_batches.specs.Intake.{FeedIntake, message_of, messages_in, is_refusal, has_refused}
@@ -40,13 +39,13 @@ refused_then ((l, g) ∷ more) line given none is =
 
 module _ {D : Type 0} (remaining : D → Option (List ℕ)) (takes : D → Result Next FeedFault → List ℕ → D → Type 0)
     (says : D → Bool → D → Type 0) where
-  lines_then : (region : Region) (size : ℕ) (messages : List (List ℕ)) (taken : List (List ℕ × Given))
+  lines_then : (input : Input) (size : ℕ) (messages : List (List ℕ)) (taken : List (List ℕ × Given))
       (x y z w : FeedIntake D) (line : List ℕ) (given : Given)
-      → TakesOn remaining takes says region size messages taken x y
+      → TakesOn remaining takes says input size messages taken x y
       → ComesToMore remaining takes says size (messages ++ messages_in taken) y z
-      → TakesNext remaining takes says region line given z w
-      → TakesOn remaining takes says region size messages (taken ++ (line, given) ∷ []) x w
-  lines_then region size messages [] x y z w line given same more one = (
+      → TakesNext remaining takes says input line given z w
+      → TakesOn remaining takes says input size messages (taken ++ (line, given) ∷ []) x w
+  lines_then input size messages [] x y z w line given same more one = (
     z,
     w,
     subst (λ (u : FeedIntake D). ComesToMore remaining takes says size messages u z) same
@@ -54,31 +53,31 @@ module _ {D : Type 0} (remaining : D → Option (List ℕ)) (takes : D → Resul
     one,
     refl,
   )
-  lines_then region size messages ((l, g) ∷ rest) x y z w line given (u, v, comes, next, on) more one = (
+  lines_then input size messages ((l, g) ∷ rest) x y z w line given (u, v, comes, next, on) more one = (
     u,
     v,
     comes,
     next,
-    lines_then region size (messages ++ message_of g) rest v y z w line given on
+    lines_then input size (messages ++ message_of g) rest v y z w line given on
         (subst (λ ms. ComesToMore remaining takes says size ms y z)
         (sym (append_assoc messages (message_of g) (messages_in rest))) more) one,
   )
 
   -- So many lines that were taken so far give the messages of a batch, which has room for another, and comes to a
   -- further line; and none was refused where that would end the run.
-  pub record HasTaken (region : Region) (size : ℕ) (strict : Bool) (count : ℕ) (x x' : FeedIntake D)
+  pub record HasTaken (input : Input) (size : ℕ) (strict : Bool) (count : ℕ) (x x' : FeedIntake D)
       (batch : List (List ℕ)) : Type 0 where
     pub taken : List (List ℕ × Given)
     pub last : FeedIntake D
-    pub lines : TakesOn remaining takes says region size [] taken x last
+    pub lines : TakesOn remaining takes says input size [] taken x last
     pub more : ComesToMore remaining takes says size (messages_in taken) last x'
     pub messages : batch ≡ messages_in taken
     pub room : length batch < size
     pub passed : NoneRefused strict taken
     pub number : length taken ≡ count
 
-  module _ (region : Region) (size : ℕ) (strict : Bool) (x : FeedIntake D) where
-    pub none_taken : (batch : List (List ℕ)) → batch ≡ [] → 1 ≤ size → HasTaken region size strict 0 x x batch
+  module _ (input : Input) (size : ℕ) (strict : Bool) (x : FeedIntake D) where
+    pub none_taken : (batch : List (List ℕ)) → batch ≡ [] → 1 ≤ size → HasTaken input size strict 0 x x batch
     none_taken batch empty some = record {
       taken = [];
       last = x;
@@ -90,7 +89,7 @@ module _ {D : Type 0} (remaining : D → Option (List ℕ)) (takes : D → Resul
       number = refl;
     }
 
-    module _ (count : ℕ) (y : FeedIntake D) (batch : List (List ℕ)) (has : HasTaken region size strict count x y batch)
+    module _ (count : ℕ) (y : FeedIntake D) (batch : List (List ℕ)) (has : HasTaken input size strict count x y batch)
         (z : FeedIntake D) (batch' : List (List ℕ)) where
       one_more : (line : List ℕ) (given : Given) → batch' ≡ batch ++ message_of given
           → batch' ≡ messages_in (has.taken ++ (line, given) ∷ [])
@@ -102,12 +101,12 @@ module _ {D : Type 0} (remaining : D → Option (List ℕ)) (takes : D → Resul
       none_more line given passed = λ is_strict.
           refused_then has.taken line given (has.passed is_strict) (passed is_strict)
 
-      pub grows : TakesInto remaining takes says region size strict y z batch batch' None
-          → HasTaken region size strict (count + 1) x z batch'
+      pub grows : TakesInto remaining takes says input size strict y z batch batch' None
+          → HasTaken input size strict (count + 1) x z batch'
       grows (inl (line, given, u, one, inl (put, (goes, room, passed)), same)) = record {
         taken = has.taken ++ (line, given) ∷ [];
         last = u;
-        lines = lines_then region size [] has.taken x has.last y u line given has.lines has.more one;
+        lines = lines_then input size [] has.taken x has.last y u line given has.lines has.more one;
         more = (
           subst (λ ms. GoesFurther remaining takes says size ms u.feed z.feed) (one_more line given put) goes,
           same,
@@ -124,7 +123,7 @@ module _ {D : Type 0} (remaining : D → Option (List ℕ)) (takes : D → Resul
       ends_so : (line : List ℕ) (given : Given) (u : FeedIntake D) (after : After)
           → EndsAt remaining takes says size strict given batch' after u.feed z.feed
           → z ≡ record u { feed = z.feed } → batch' ≡ messages_in (has.taken ++ (line, given) ∷ [])
-          → EndsBatch remaining takes says region size strict (has.taken ++ (line, given) ∷ []) u z after
+          → EndsBatch remaining takes says input size strict (has.taken ++ (line, given) ∷ []) u z after
       ends_so line given u GoesOn (whole, passed) same are = (
         subst (λ ms. IsWhole remaining takes says size ms u.feed z.feed) are whole,
         same,
@@ -139,11 +138,11 @@ module _ {D : Type 0} (remaining : D → Option (List ℕ)) (takes : D → Resul
       ends_so line given u (Ends (Err fault)) never same are = absurd never
 
       abbrev Ended : After → Type 0
-      Ended after = EndsBatch remaining takes says region size strict has.taken has.last z after
+      Ended after = EndsBatch remaining takes says input size strict has.taken has.last z after
 
       -- behind the lines of before
       stops : (after why : After) → after ≡ why → batch' ≡ batch → Ended why
-          → TakesBatch remaining takes says region size strict batch' after x z
+          → TakesBatch remaining takes says input size strict batch' after x z
       stops after why is same ended = (
         has.taken,
         has.last,
@@ -153,31 +152,30 @@ module _ {D : Type 0} (remaining : D → Option (List ℕ)) (takes : D → Resul
         subst Ended (sym is) ended,
       )
 
-      pub is_done : (after : After) → TakesInto remaining takes says region size strict y z batch batch' (Some after)
-          → TakesBatch remaining takes says region size strict batch' after x z
+      pub is_done : (after : After) → TakesInto remaining takes says input size strict y z batch batch' (Some after)
+          → TakesBatch remaining takes says input size strict batch' after x z
       is_done after (inl (line, given, u, one, inl (put, ends), same)) = (
         has.taken ++ (line, given) ∷ [],
         u,
-        lines_then region size [] has.taken x has.last y u line given has.lines has.more one,
+        lines_then input size [] has.taken x has.last y u line given has.lines has.more one,
         one_more line given put,
         ends.0,
         ends_so line given u after ends.1 same (one_more line given put),
       )
-      is_done after (inl (line, given, u, one, inr (same, is, (message, gives), stays), so)) =
+      is_done after (inl (line, given, u, one, inr (same, is, is_message, stays), so)) =
           let there : u ≡ z = sym (so ∙ ap (λ f. record u { feed = f }) stays) in
-          let lost : TakesNext remaining takes says region line (Gives message) y z =
-          subst (λ g. TakesNext remaining takes says region line g y z) gives
-          (subst (λ (v : FeedIntake D). TakesNext remaining takes says region line given y v) there one) in
+          let lost : TakesNext remaining takes says input line given y z =
+          subst (λ (v : FeedIntake D). TakesNext remaining takes says input line given y v) there one in
           stops after (Ends (Err run.OutOfMemory)) (some_same is) same
-          (y, has.more, inr (inl (refl, (line, message, lost))), has.passed)
+          (y, has.more, inr (inl (refl, (line, given, lost, is_message))), has.passed)
       is_done after (inr (same, inl (found, is))) =
           stops after (Ends (Ok tt)) (some_same is) same (inl (y, has.more, found, has.passed))
       is_done after (inr (same, inr (fault, is, fails))) =
           stops after (Ends (Err fault)) (some_same is) same (y, has.more, inl fails, has.passed)
 
-    pub gives_up : (count : ℕ) (y : FeedIntake D) (batch : List (List ℕ)) → HasTaken region size strict count x y batch
+    pub gives_up : (count : ℕ) (y : FeedIntake D) (batch : List (List ℕ)) → HasTaken input size strict count x y batch
         → count ≡ 2 ^ 64 - 1
-        → TakesBatch remaining takes says region size strict batch (Ends (Err run.Reading)) x y
+        → TakesBatch remaining takes says input size strict batch (Ends (Err run.Reading)) x y
     gives_up count y batch has all = (
       has.taken,
       has.last,

@@ -4,7 +4,7 @@ use Rattle.std.proofs.Common.{inr, ◌⊎◌, true, false, append_assoc, arith}
 use Rattle.std.specs.Prelude.{Option, None, Result, Ok, Err}
 use Rattle.std.specs.Io.KnownBytes.{Keeps}
 use Rattle.std.proofs.KnownBytes.{Keeps-refl, Keeps-trans}
-use Rattle.rds_text.specs.declared.programme_type.Region.{Region}
+use Rattle.line_batches.specs.declared.intake.Input.{Input}
 use Rattle.uecp_text.specs.declared.run_fault.RunFault.{RunFault}
 use Rattle.uecp_text.specs.declared.run_fault.RunFault.TheVariants as run
 use Rattle.line_feed.specs.declared.feed.Next.{Next}
@@ -21,9 +21,9 @@ use Rattle.line_batches.specs.Batches.{ComesToMore, GoesFurther, IsWhole, Answer
 use Rattle.line_batches.specs.Laws.{IsAfter, IsSeen, NoneWaits, WasThere}
 
 -- ---- What was left before is left where all was kept.
-line_kept : (region : Region) (line : List ℕ) (given : Given) (a c : Intake) (u : Option (List ℕ)) → Keeps a.unread u
-    → TakesLine region line given (record a { unread = u }) c → TakesLine region line given a c
-line_kept region line given a c u kept one = record {
+line_kept : (input : Input) (line : List ℕ) (given : Given) (a c : Intake) (u : Option (List ℕ)) → Keeps a.unread u
+    → TakesLine input line given (record a { unread = u }) c → TakesLine input line given a c
+line_kept input line given a c u kept one = record {
   between = one.between;
   taken = kept_line a.unread u one.between line kept one.taken;
   waits = one.waits;
@@ -33,9 +33,9 @@ line_kept region line given a c u kept one = record {
   said = one.said;
 }
 
-end_kept : (region : Region) (a c : Intake) (u : Option (List ℕ)) → Keeps a.unread u
-    → TakesOne region (record a { unread = u }) c None → TakesOne region a c None
-end_kept region a c u kept (stays, (same, over)) = (stays, (Keeps-trans a.unread u c.unread kept same, over))
+end_kept : (input : Input) (a c : Intake) (u : Option (List ℕ)) → Keeps a.unread u
+    → TakesOne input (record a { unread = u }) c None → TakesOne input a c None
+end_kept input a c u kept (stays, (same, over)) = (stays, (Keeps-trans a.unread u c.unread kept same, over))
 
 fails_kept : (a c : Intake) (u : Option (List ℕ)) (fault : RunFault) → Keeps a.unread u
     → FailsToTake (record a { unread = u }) c fault → FailsToTake a c fault
@@ -47,12 +47,12 @@ fails_kept a c u run.OutOfMemory kept (stays, inr (line, first)) =
 fails_kept a c u fault kept (stays, never) = absurd never
 
 -- behind the last of some lines it was looked whether another is there
-last_waits : (region : Region) (taken : List (List ℕ × Given)) (a b : Intake) (u : Option (List ℕ)) → Keeps b.unread u
-    → taken ≢ [] → TakesLines region taken a b → TakesLines region taken a (record b { unread = u })
-last_waits region [] a b u kept some lines = absurd (some refl)
-last_waits region ((line, given) ∷ []) a b u kept some (w, first, same) =
-    let one : TakesLine region line given a b =
-    subst (λ (i : Intake). TakesLine region line given a i) (sym same) first in (
+last_waits : (input : Input) (taken : List (List ℕ × Given)) (a b : Intake) (u : Option (List ℕ)) → Keeps b.unread u
+    → taken ≢ [] → TakesLines input taken a b → TakesLines input taken a (record b { unread = u })
+last_waits input [] a b u kept some lines = absurd (some refl)
+last_waits input ((line, given) ∷ []) a b u kept some (w, first, same) =
+    let one : TakesLine input line given a b =
+    subst (λ (i : Intake). TakesLine input line given a i) (sym same) first in (
       record b { unread = u },
       record {
         between = one.between;
@@ -65,8 +65,8 @@ last_waits region ((line, given) ∷ []) a b u kept some (w, first, same) =
       },
       refl,
     )
-last_waits region ((line, given) ∷ next ∷ more) a b u kept some (w, one, rest) =
-    (w, one, last_waits region (next ∷ more) w b u kept (λ none. cc) rest)
+last_waits input ((line, given) ∷ next ∷ more) a b u kept some (w, one, rest) =
+    (w, one, last_waits input (next ∷ more) w b u kept (λ none. cc) rest)
 
 module _ {D : Type 0} (remaining : D → Option (List ℕ)) (takes : D → Result Next FeedFault → List ℕ → D → Type 0)
     (says : D → Bool → D → Type 0) where
@@ -91,30 +91,30 @@ module _ {D : Type 0} (remaining : D → Option (List ℕ)) (takes : D → Resul
       → ComesToMore remaining takes says size messages x y → at y ≡ record (at x) { unread = remaining y.feed }
   seen_more size messages x y (goes, same) = ap at same
 
-  line_seen : (region : Region) (size : ℕ) (messages : List (List ℕ)) (line : List ℕ) (given : Given)
+  line_seen : (input : Input) (size : ℕ) (messages : List (List ℕ)) (line : List ℕ) (given : Given)
       (x y z : FeedIntake D) → ComesToMore remaining takes says size messages x y
-      → TakesNext remaining takes says region line given y z → TakesLine region line given (at x) (at z)
-  line_seen region size messages line given x y z comes (one, call) =
-      line_kept region line given (at x) (at z) (remaining y.feed)
+      → TakesNext remaining takes says input line given y z → TakesLine input line given (at x) (at z)
+  line_seen input size messages line given x y z comes (one, call) =
+      line_kept input line given (at x) (at z) (remaining y.feed)
       (keeps_further size messages x.feed y.feed comes.0)
-      (subst (λ (i : Intake). TakesLine region line given i (at z)) (seen_more size messages x y comes) one)
+      (subst (λ (i : Intake). TakesLine input line given i (at z)) (seen_more size messages x y comes) one)
 
-  lines_seen : (region : Region) (size : ℕ) (messages : List (List ℕ)) (taken : List (List ℕ × Given))
-      (x y : FeedIntake D) → TakesOn remaining takes says region size messages taken x y
-      → TakesLines region taken (at x) (at y)
-  lines_seen region size messages [] x y same = ap at same
-  lines_seen region size messages ((line, given) ∷ more) x y (u, v, comes, next, on) = (
+  lines_seen : (input : Input) (size : ℕ) (messages : List (List ℕ)) (taken : List (List ℕ × Given))
+      (x y : FeedIntake D) → TakesOn remaining takes says input size messages taken x y
+      → TakesLines input taken (at x) (at y)
+  lines_seen input size messages [] x y same = ap at same
+  lines_seen input size messages ((line, given) ∷ more) x y (u, v, comes, next, on) = (
     at v,
-    line_seen region size messages line given x u v comes next,
-    lines_seen region size (messages ++ message_of given) more v y on,
+    line_seen input size messages line given x u v comes next,
+    lines_seen input size (messages ++ message_of given) more v y on,
   )
 
-  end_seen : (region : Region) (size : ℕ) (messages : List (List ℕ)) (x y z : FeedIntake D)
-      → ComesToMore remaining takes says size messages x y → FindsEnd remaining takes says region y z
-      → TakesOne region (at x) (at z) None
-  end_seen region size messages x y z comes (one, call) =
-      end_kept region (at x) (at z) (remaining y.feed) (keeps_further size messages x.feed y.feed comes.0)
-      (subst (λ (i : Intake). TakesOne region i (at z) None) (seen_more size messages x y comes) one)
+  end_seen : (input : Input) (size : ℕ) (messages : List (List ℕ)) (x y z : FeedIntake D)
+      → ComesToMore remaining takes says size messages x y → FindsEnd remaining takes says input y z
+      → TakesOne input (at x) (at z) None
+  end_seen input size messages x y z comes (one, call) =
+      end_kept input (at x) (at z) (remaining y.feed) (keeps_further size messages x.feed y.feed comes.0)
+      (subst (λ (i : Intake). TakesOne input i (at z) None) (seen_more size messages x y comes) one)
 
   fails_seen : (size : ℕ) (messages : List (List ℕ)) (x y z : FeedIntake D) (fault : RunFault)
       → ComesToMore remaining takes says size messages x y → FailsNext remaining takes says y z fault
@@ -131,61 +131,61 @@ module _ {D : Type 0} (remaining : D → Option (List ℕ)) (takes : D → Resul
       (subst (λ (v : FeedIntake D). FailsToTake (at x) (at v) run.Reading) (sym same)
       (seen_more size messages x y comes, inl (keeps_further size messages x.feed y.feed comes.0)))
 
-  abbrev Way : Region → (strict : Bool) → List (List ℕ × Given) → (y x' : Intake) → After → Type 0
-  Way region strict taken y x' after =
-      (IsAfter region strict taken y x' after)
-      ⊎ ((fault : RunFault) × (after ≡ Ends (Err fault)) × (FailsToTake y x' fault ⊎ LosesMessage region y x' fault)
+  abbrev Way : Input → (strict : Bool) → List (List ℕ × Given) → (y x' : Intake) → After → Type 0
+  Way input strict taken y x' after =
+      (IsAfter input strict taken y x' after)
+      ⊎ ((fault : RunFault) × (after ≡ Ends (Err fault)) × (FailsToTake y x' fault ⊎ LosesMessage input y x' fault)
       × NoneRefused strict taken)
 
   -- the lines of a batch up to its end, and why it ends there
-  ended_seen : (region : Region) (size : ℕ) (strict : Bool) (taken : List (List ℕ × Given)) (x y x' : FeedIntake D)
-      (after : After) → TakesOn remaining takes says region size [] taken x y
-      → EndsBatch remaining takes says region size strict taken y x' after
-      → (i : Intake) × TakesLines region taken (at x) i × Way region strict taken i (at x') after
-  ended_seen region size strict taken x y x' GoesOn on (whole, same, passed) = (
+  ended_seen : (input : Input) (size : ℕ) (strict : Bool) (taken : List (List ℕ × Given)) (x y x' : FeedIntake D)
+      (after : After) → TakesOn remaining takes says input size [] taken x y
+      → EndsBatch remaining takes says input size strict taken y x' after
+      → (i : Intake) × TakesLines input taken (at x) i × Way input strict taken i (at x') after
+  ended_seen input size strict taken x y x' GoesOn on (whole, same, passed) = (
     at x',
-    subst (λ (i : Intake). TakesLines region taken (at x) i) (sym (ap at same))
-        (last_waits region taken (at x) (at y) (remaining x'.feed)
+    subst (λ (i : Intake). TakesLines input taken (at x) i) (sym (ap at same))
+        (last_waits input taken (at x) (at y) (remaining x'.feed)
         (keeps_whole size (messages_in taken) y.feed x'.feed whole) (λ none. whole.0 (ap messages_in none))
-        (lines_seen region size [] taken x y on)),
+        (lines_seen input size [] taken x y on)),
     inl (whole.0, passed, refl),
   )
-  ended_seen region size strict taken x y x' (Ends (Ok done)) on (inl (z, comes, found, passed)) = (
+  ended_seen input size strict taken x y x' (Ends (Ok done)) on (inl (z, comes, found, passed)) = (
     at y,
-    lines_seen region size [] taken x y on,
-    inl (inl (end_seen region size (messages_in taken) y z x' comes found, passed)),
+    lines_seen input size [] taken x y on,
+    inl (inl (end_seen input size (messages_in taken) y z x' comes found, passed)),
   )
-  ended_seen region size strict taken x y x' (Ends (Ok done)) on (inr (is_strict, refused, same)) =
-      (at y, lines_seen region size [] taken x y on, inl (inr (is_strict, refused, ap at same)))
-  ended_seen region size strict taken x y x' (Ends (Err fault)) on (z, comes, inl fails, passed) = (
+  ended_seen input size strict taken x y x' (Ends (Ok done)) on (inr (is_strict, refused, same)) =
+      (at y, lines_seen input size [] taken x y on, inl (inr (is_strict, refused, ap at same)))
+  ended_seen input size strict taken x y x' (Ends (Err fault)) on (z, comes, inl fails, passed) = (
     at y,
-    lines_seen region size [] taken x y on,
+    lines_seen input size [] taken x y on,
     inr (fault, refl, inl (fails_seen size (messages_in taken) y z x' fault comes fails), passed),
   )
-  ended_seen region size strict taken x y x' (Ends (Err fault)) on
+  ended_seen input size strict taken x y x' (Ends (Err fault)) on
       (z, comes, inr (inl (is, (line, message, next))), passed) = (
         at y,
-        lines_seen region size [] taken x y on,
+        lines_seen input size [] taken x y on,
         inr (
           fault,
           refl,
-          inr (is, (line, message, line_seen region size (messages_in taken) line _ y z x' comes next)),
+          inr (is, (line, message, line_seen input size (messages_in taken) line _ y z x' comes next)),
           passed,
         ),
       )
-  ended_seen region size strict taken x y x' (Ends (Err fault)) on (z, comes, inr (inr (is, number, same)), passed) = (
+  ended_seen input size strict taken x y x' (Ends (Err fault)) on (z, comes, inr (inr (is, number, same)), passed) = (
     at y,
-    lines_seen region size [] taken x y on,
+    lines_seen input size [] taken x y on,
     inr (fault, refl, inl (none_seen size (messages_in taken) y z x' fault comes is same), passed),
   )
 
   pub is_seen : IsSeen remaining takes says
-  is_seen region size strict messages after x x' (taken, y, on, are, few, ends) =
-      let (i, lines, way) = ended_seen region size strict taken x y x' after on ends in
+  is_seen input size strict messages after x x' (taken, y, on, are, few, ends) =
+      let (i, lines, way) = ended_seen input size strict taken x y x' after on ends in
       (taken, i, lines, are, few, way)
 
   pub none_waits : NoneWaits remaining takes says
-  none_waits region size strict messages x x' (taken, y, on, are, few, (whole, same, passed)) short =
+  none_waits input size strict messages x x' (taken, y, on, are, few, (whole, same, passed)) short =
       by whole
     where
       by : IsWhole remaining takes says size (messages_in taken) y.feed x'.feed
@@ -197,20 +197,20 @@ module _ {D : Type 0} (remaining : D → Option (List ℕ)) (takes : D → Resul
       ))
       by (some, inr asked) = (y.feed, asked)
 
-  there_behind : (region : Region) (size : ℕ) (messages : List (List ℕ)) (before later : List (List ℕ × Given))
+  there_behind : (input : Input) (size : ℕ) (messages : List (List ℕ)) (before later : List (List ℕ × Given))
       (line : List ℕ) (given : Given) (x x' : FeedIntake D)
-      → TakesOn remaining takes says region size messages (before ++ (line, given) ∷ later) x x'
+      → TakesOn remaining takes says input size messages (before ++ (line, given) ∷ later) x x'
       → messages ++ messages_in before ≢ []
       → (y : FeedIntake D) × (z : FeedIntake D) × (z' : FeedIntake D)
-      × Answers remaining takes says true y.feed z.feed × TakesNext remaining takes says region line given z z'
-  there_behind region size messages [] later line given x x' (u, v, (inl (none, stays), same), next, on) some =
+      × Answers remaining takes says true y.feed z.feed × TakesNext remaining takes says input line given z z'
+  there_behind input size messages [] later line given x x' (u, v, (inl (none, stays), same), next, on) some =
       absurd (some (ap (λ ms. ms ++ []) none))
-  there_behind region size messages [] later line given x x' (u, v, (inr (has, few, asked), same), next, on) some =
+  there_behind input size messages [] later line given x x' (u, v, (inr (has, few, asked), same), next, on) some =
       (x, u, v, asked, next)
-  there_behind region size messages ((l, g) ∷ before) later line given x x' (u, v, comes, next, on) some =
-      there_behind region size (messages ++ message_of g) before later line given v x' on
+  there_behind input size messages ((l, g) ∷ before) later line given x x' (u, v, comes, next, on) some =
+      there_behind input size (messages ++ message_of g) before later line given v x' on
       (λ none. some (sym (append_assoc messages (message_of g) (messages_in before)) ∙ none))
 
   pub was_there : WasThere remaining takes says
-  was_there region size before later line given x x' on some =
-      there_behind region size [] before later line given x x' on some
+  was_there input size before later line given x x' on some =
+      there_behind input size [] before later line given x x' on some

@@ -2,7 +2,7 @@
 use Rattle.std.specs.Prelude.{◌≡◌, ◌≢◌, ◌⊎◌, ℕ, ◌≤◌, ◌<◌, ◌-◌, ◌^◌, Bool, true, false, List, [], ◌∷◌, ◌++◌, length}
 use Rattle.std.specs.Prelude.{Option, Some, None, Result, Ok, Err}
 use Rattle.std.specs.Io.KnownBytes.{Keeps}
-use Rattle.rds_text.specs.declared.programme_type.Region.{Region}
+use Rattle.line_batches.specs.declared.intake.Input.{Input}
 use Rattle.uecp_text.specs.declared.text_fault.TextFault.{TextFault}
 use Rattle.uecp_text.specs.declared.run_fault.RunFault.{RunFault}
 use Rattle.uecp_text.specs.declared.run_fault.RunFault.TheVariants.{OutOfMemory, Reading}
@@ -10,10 +10,11 @@ use Rattle.line_feed.specs.declared.feed.Next.{Next}
 use Rattle.line_feed.specs.declared.feed.Next.TheVariants.{End}
 use Rattle.line_feed.specs.declared.feed_fault.FeedFault.{FeedFault}
 use Rattle.line_batches.specs.declared.intake.Given.{Given}
-use Rattle.line_batches.specs.declared.intake.Given.TheVariants.{Gives, Refused}
+use Rattle.line_batches.specs.declared.intake.Given.TheVariants.{Refused}
 use Rattle.line_batches.specs.declared.taking.After.{After}
 use Rattle.line_batches.specs.declared.taking.After.TheVariants.{GoesOn, Ends}
 use Rattle.line_batches.specs.Intake.{Intake, FeedIntake, TakesLine, TakesOne, FailsToTake, message_of, messages_in}
+use Rattle.line_batches.specs.Intake.{IsMessage}
 use Rattle.line_batches.specs.Intake.{seen}
 use Rattle.line_batches.specs.Intake.{is_refusal, has_refused}
 
@@ -27,9 +28,9 @@ EndsRefused taken = (before : List (List ℕ × Given)) × (line : List ℕ) × 
     × (taken ≡ before ++ (line, Refused fault) ∷ []) × (has_refused before ≡ false)
 
 -- The next line was taken and counted, and there was no memory to hold its message, which is lost.
-abbrev pub LosesMessage : Region → (x x' : Intake) → RunFault → Type 0
-LosesMessage region x x' fault = (fault ≡ OutOfMemory)
-    × ((line : List ℕ) × (message : List ℕ) × TakesLine region line (Gives message) x x')
+abbrev pub LosesMessage : Input → (x x' : Intake) → RunFault → Type 0
+LosesMessage input x x' fault = (fault ≡ OutOfMemory)
+    × ((line : List ℕ) × (given : Given) × TakesLine input line given x x' × IsMessage given)
 
 -- ---- When a further line is taken. A feed stands somewhere, and has calls that tell whether a line is there, and that
 -- take one.
@@ -59,19 +60,19 @@ module _ {D : Type 0} (remaining : D → Option (List ℕ)) (takes : D → Resul
   -- ---- One call for the next line.
 
   -- The next line was taken, which gives this.
-  abbrev pub TakesNext : Region → (line : List ℕ) → Given → (x x' : FeedIntake D) → Type 0
-  TakesNext region line given x x' = TakesLine region line given (seen remaining x) (seen remaining x')
+  abbrev pub TakesNext : Input → (line : List ℕ) → Given → (x x' : FeedIntake D) → Type 0
+  TakesNext input line given x x' = TakesLine input line given (seen remaining x) (seen remaining x')
       × ((next : Next) × (held : List ℕ) × takes x.feed (Ok next) held x'.feed)
 
   -- None was, and the input is at its end.
-  abbrev pub FindsEnd : Region → (x x' : FeedIntake D) → Type 0
-  FindsEnd region x x' = TakesOne region (seen remaining x) (seen remaining x') None
+  abbrev pub FindsEnd : Input → (x x' : FeedIntake D) → Type 0
+  FindsEnd input x x' = TakesOne input (seen remaining x) (seen remaining x') None
       × ((held : List ℕ) × takes x.feed (Ok End) held x'.feed)
 
   -- One of the two. (private)
-  abbrev pub TakesGiven : Region → (x x' : FeedIntake D) → Option Given → Type 0
-  TakesGiven region x x' None = FindsEnd region x x'
-  TakesGiven region x x' (Some given) = (line : List ℕ) × TakesNext region line given x x'
+  abbrev pub TakesGiven : Input → (x x' : FeedIntake D) → Option Given → Type 0
+  TakesGiven input x x' None = FindsEnd input x x'
+  TakesGiven input x x' (Some given) = (line : List ℕ) × TakesNext input line given x x'
 
   -- No line gives anything, for this.
   abbrev pub FailsNext : (x x' : FeedIntake D) → RunFault → Type 0
@@ -79,45 +80,45 @@ module _ {D : Type 0} (remaining : D → Option (List ℕ)) (takes : D → Resul
       × ((answer : Result Next FeedFault) × (held : List ℕ) × takes x.feed answer held x'.feed)
 
   -- The next line was taken, and there was no memory to hold its message, which is lost.
-  abbrev pub LosesNext : Region → (x x' : FeedIntake D) → RunFault → Type 0
-  LosesNext region x x' fault = (fault ≡ OutOfMemory)
-      × ((line : List ℕ) × (message : List ℕ) × TakesNext region line (Gives message) x x')
+  abbrev pub LosesNext : Input → (x x' : FeedIntake D) → RunFault → Type 0
+  LosesNext input x x' fault = (fault ≡ OutOfMemory)
+      × ((line : List ℕ) × (given : Given) × TakesNext input line given x x' × IsMessage given)
 
   -- ---- A batch.
 
   -- Lines were taken one after another into a batch that has these messages, each where the batch came to a further
   -- one; and nothing else was taken or asked.
-  abbrev pub TakesOn : Region → (size : ℕ) → (messages : List (List ℕ)) → List (List ℕ × Given) → (x x' : FeedIntake D)
+  abbrev pub TakesOn : Input → (size : ℕ) → (messages : List (List ℕ)) → List (List ℕ × Given) → (x x' : FeedIntake D)
       → Type 0
-  TakesOn region size messages [] x x' = x' ≡ x
-  TakesOn region size messages ((line, given) ∷ more) x x' =
-      (y : FeedIntake D) × (z : FeedIntake D) × ComesToMore size messages x y × TakesNext region line given y z
-      × TakesOn region size (messages ++ message_of given) more z x'
+  TakesOn input size messages [] x x' = x' ≡ x
+  TakesOn input size messages ((line, given) ∷ more) x x' =
+      (y : FeedIntake D) × (z : FeedIntake D) × ComesToMore size messages x y × TakesNext input line given y z
+      × TakesOn input size (messages ++ message_of given) more z x'
 
   -- Why a batch ends there: it is whole, and the run goes on; or the input is at its end, or a line was refused where
   -- that ends the run; or the next line could not be read, or memory was wanting for it or for its message, or 2^64 - 1
   -- lines were taken, and the run ends for that.
-  abbrev pub EndsBatch : Region → (size : ℕ) → (strict : Bool) → List (List ℕ × Given) → (x x' : FeedIntake D) → After
+  abbrev pub EndsBatch : Input → (size : ℕ) → (strict : Bool) → List (List ℕ × Given) → (x x' : FeedIntake D) → After
       → Type 0
-  EndsBatch region size strict taken x x' GoesOn =
+  EndsBatch input size strict taken x x' GoesOn =
       IsWhole size (messages_in taken) x.feed x'.feed × (x' ≡ record x { feed = x'.feed }) × NoneRefused strict taken
-  EndsBatch region size strict taken x x' (Ends (Ok done)) =
-      ((y : FeedIntake D) × ComesToMore size (messages_in taken) x y × FindsEnd region y x' × NoneRefused strict taken)
+  EndsBatch input size strict taken x x' (Ends (Ok done)) =
+      ((y : FeedIntake D) × ComesToMore size (messages_in taken) x y × FindsEnd input y x' × NoneRefused strict taken)
       ⊎ ((strict ≡ true) × EndsRefused taken × (x' ≡ x))
-  EndsBatch region size strict taken x x' (Ends (Err fault)) =
+  EndsBatch input size strict taken x x' (Ends (Err fault)) =
       (y : FeedIntake D) × ComesToMore size (messages_in taken) x y
-      × (FailsNext y x' fault ⊎ LosesNext region y x' fault
+      × (FailsNext y x' fault ⊎ LosesNext input y x' fault
       ⊎ ((fault ≡ Reading) × (length taken ≡ 2 ^ 64 - 1) × (x' ≡ y)))
       × NoneRefused strict taken
 
   -- Lines were taken that give these messages, at most so many, and then this comes: while the batch has no message it
   -- waits for a line; behind that it takes a further line only where the feed says that one is there, and ends short of
   -- as many only where the feed says that none is, or where no line is to be taken any more.
-  abbrev pub TakesBatch : Region → (size : ℕ) → (strict : Bool) → (messages : List (List ℕ)) → After
+  abbrev pub TakesBatch : Input → (size : ℕ) → (strict : Bool) → (messages : List (List ℕ)) → After
       → (x x' : FeedIntake D) → Type 0
-  TakesBatch region size strict messages after x x' =
-      (taken : List (List ℕ × Given)) × (y : FeedIntake D) × TakesOn region size [] taken x y
-      × (messages ≡ messages_in taken) × (length messages ≤ size) × EndsBatch region size strict taken y x' after
+  TakesBatch input size strict messages after x x' =
+      (taken : List (List ℕ × Given)) × (y : FeedIntake D) × TakesOn input size [] taken x y
+      × (messages ≡ messages_in taken) × (length messages ≤ size) × EndsBatch input size strict taken y x' after
 
   -- ---- One line of it.
 
@@ -148,14 +149,14 @@ module _ {D : Type 0} (remaining : D → Option (List ℕ)) (takes : D → Resul
   PutsGiven size strict given batch batch' after d d' =
       ((batch' ≡ batch ++ message_of given) × IsAfterLine size strict given batch' after d d')
       ⊎ ((batch' ≡ batch) × (after ≡ Some (Ends (Err OutOfMemory)))
-      × ((message : List ℕ) × (given ≡ Gives message)) × (d' ≡ d))
+      × IsMessage given × (d' ≡ d))
 
   -- The next line was taken into a batch that has room for its message, and this comes after it. Or no line was taken,
   -- since the input is at its end, or for this fault. (private)
-  abbrev pub TakesInto : Region → (size : ℕ) → (strict : Bool) → (x x' : FeedIntake D) → (batch batch' : List (List ℕ))
+  abbrev pub TakesInto : Input → (size : ℕ) → (strict : Bool) → (x x' : FeedIntake D) → (batch batch' : List (List ℕ))
       → Option After → Type 0
-  TakesInto region size strict x x' batch batch' after =
-      ((line : List ℕ) × (given : Given) × (y : FeedIntake D) × TakesNext region line given x y
+  TakesInto input size strict x x' batch batch' after =
+      ((line : List ℕ) × (given : Given) × (y : FeedIntake D) × TakesNext input line given x y
       × PutsGiven size strict given batch batch' after y.feed x'.feed × (x' ≡ record y { feed = x'.feed }))
-      ⊎ ((batch' ≡ batch) × ((FindsEnd region x x' × (after ≡ Some (Ends (Ok tt))))
+      ⊎ ((batch' ≡ batch) × ((FindsEnd input x x' × (after ≡ Some (Ends (Ok tt))))
       ⊎ ((fault : RunFault) × (after ≡ Some (Ends (Err fault))) × FailsNext x x' fault)))

@@ -1,6 +1,7 @@
 -- How lines are taken from an input as they come (profile).
 use Rattle.std.specs.Prelude.{◌≡◌, ◌⊎◌, ℕ, ◌+◌, ◌-◌, ◌^◌, min, Bool, true, false, ◌||◌, ◌<◌, List, [], ◌∷◌, ◌++◌}
-use Rattle.std.specs.Prelude.{length, Option, Some, None}
+use Rattle.std.specs.Prelude.{length, Option, Some, None, codes, decimal}
+use Rattle.std.specs.String.{string_bytes}
 use Rattle.std.specs.Io.KnownBytes.{Keeps, IsAtEnd}
 use Rattle.rds_text.specs.declared.programme_type.Region.{Region}
 use Rattle.uecp_text.specs.declared.text_fault.TextFault.{TextFault}
@@ -12,10 +13,17 @@ use Rattle.uecp_text.specs.Input.{said}
 use Rattle.uecp_text.specs.Run.{fault_at}
 use Rattle.line_feed.specs.declared.feed_fault.FeedFault.TheVariants as feed
 use Rattle.line_feed.specs.Lines.{IsFirstLine, IsUntaken}
+use Rattle.line_batches.specs.declared.intake.Input.{Input}
+use Rattle.line_batches.specs.declared.intake.Input.TheVariants.{Phrases, Titles as TitlesOf}
 use Rattle.line_batches.specs.declared.intake.Given.{Given}
 use Rattle.line_batches.specs.declared.intake.Given.TheVariants.{Nothing, Gives, Refused}
+use Rattle.titles.specs.declared.title.Titles.{Titles}
+use Rattle.titles.specs.declared.title.Title.TheVariants as title
+use Rattle.titles.specs.Titles.{GivesTitle, IsRefused}
 use Rattle.phrase_scripts.specs.Lines.{Begins as Heads, Says, SaysLine, SaysNothing, IsUnsaid}
 use Rattle.notices.specs.Told.{Told, Says as IsSaid}
+
+-- ---- A line of phrases.
 
 -- A text is refused for this: it says nothing; or it is the heading of a frame, which is no matter of a server.
 abbrev pub RefusesText : Region → (text : List ℕ) → TextFault → Type 0
@@ -26,25 +34,40 @@ RefusesText region text fault =
 -- What a text gives.
 abbrev pub ReadsText : Region → (text : List ℕ) → Given → Type 0
 ReadsText region text Nothing = ⊥
-ReadsText region text (Gives message) = SaysLine region text (Says message)
+ReadsText region text (Gives message fitted) = SaysLine region text (Says message) × (fitted ≡ None)
 ReadsText region text (Refused fault) = RefusesText region text fault
 
--- What a line gives that is not too long: nothing where it says nothing, being empty or a comment; or what its text
--- gives.
-abbrev pub Reads : Region → (line : List ℕ) → Given → Type 0
-Reads region line given =
+-- What a line of phrases gives: nothing where it says nothing, being empty or a comment; or what its text gives.
+abbrev pub ReadsPhrases : Region → (line : List ℕ) → Given → Type 0
+ReadsPhrases region line given =
     ((said line ≡ None) × (given ≡ Nothing))
     ⊎ ((text : List ℕ) × (said line ≡ Some text) × ReadsText region text given)
 
+-- ---- A line that is a title.
+
+-- What it gives: the message of its text as it stands or was made to fit, or nothing; or it is refused.
+abbrev pub ReadsTitle : Titles → (line : List ℕ) → Given → Type 0
+ReadsTitle titles line Nothing = GivesTitle titles line title.Nothing
+ReadsTitle titles line (Gives message None) = GivesTitle titles line (title.Stands message)
+ReadsTitle titles line (Gives message (Some fitted)) = GivesTitle titles line (title.Fits message fitted)
+ReadsTitle titles line (Refused fault) = IsUnsaid fault × IsRefused titles line
+
+-- ---- A line.
+
+-- What a line gives that is not too long, by what the lines of the input are.
+abbrev pub Reads : Input → (line : List ℕ) → Given → Type 0
+Reads (Phrases region) line given = ReadsPhrases region line given
+Reads (TitlesOf titles) line given = ReadsTitle titles line given
+
 -- What a line gives: as it reads; or a refusal, where it is too long.
-abbrev pub GivesOne : Region → (line : List ℕ) → Given → Type 0
-GivesOne region line given = Reads region line given ⊎ ((65536 < length line) × (given ≡ Refused MessageTooLong))
+abbrev pub GivesOne : Input → (line : List ℕ) → Given → Type 0
+GivesOne input line given = Reads input line given ⊎ ((65536 < length line) × (given ≡ Refused MessageTooLong))
 
 -- The next line was taken, and gives this; or none was, and the input is at its end.
-abbrev pub NextGives : Region → (unread unread' : Option (List ℕ)) → Option Given → Type 0
-NextGives region unread unread' None = Keeps unread unread' × IsAtEnd unread'
-NextGives region unread unread' (Some given) =
-    (line : List ℕ) × IsFirstLine unread unread' line × GivesOne region line given
+abbrev pub NextGives : Input → (unread unread' : Option (List ℕ)) → Option Given → Type 0
+NextGives input unread unread' None = Keeps unread unread' × IsAtEnd unread'
+NextGives input unread unread' (Some given) =
+    (line : List ℕ) × IsFirstLine unread unread' line × GivesOne input line given
 
 -- No line gives anything, for this: a read failed, and no line was taken; or memory was wanting for a line, and where
 -- it was wanting for what that says, the line is lost.
@@ -72,11 +95,19 @@ pub record FeedIntake (D : Type 0) : Type 0 where
 abbrev pub seen : {D : Type 0} → (remaining : D → Option (List ℕ)) → FeedIntake D → Intake
 seen remaining x = record { unread = remaining x.feed; lines = x.lines; refused = x.refused; said = x.said }
 
--- What is said of a line that gives this: of one that is refused its number and its fault, as far as that could be
--- written, and of another nothing.
+-- The line that is said of a title that was made to fit: its number, and its text as it was sent.
+abbrev pub fitted_line : (number : ℕ) → (fitted : List ℕ) → List ℕ
+fitted_line number fitted =
+    codes "uecp: line " ++ (decimal number ++ (codes ": fitted to \"" ++ (fitted ++ codes "\"\n")))
+
+-- What is said of a line that gives this: of one that is refused its number and its fault, and of a title that was made
+-- to fit its number and its text, as far as that could be written; and of another nothing.
 abbrev pub SaysOf : Given → (number : ℕ) → (said said' : Told) → Type 0
 SaysOf (Refused fault) number said said' = IsSaid said said' (error_lines (fault_at number fault))
-SaysOf given number said said' = said' ≡ said
+SaysOf (Gives message (Some fitted)) number said said' =
+    IsSaid said said' (fitted_line number (string_bytes fitted))
+SaysOf (Gives message None) number said said' = said' ≡ said
+SaysOf Nothing number said said' = said' ≡ said
 
 -- Whether the line was refused.
 abbrev pub is_refusal : Given → Bool
@@ -89,25 +120,29 @@ has_refused [] = false
 has_refused ((line, given) ∷ more) = is_refusal given || has_refused more
 
 -- One line was taken, which gives this, and that was said; then it was looked whether another is there.
-pub record TakesLine (region : Region) (line : List ℕ) (given : Given) (x x' : Intake) : Type 0 where
+pub record TakesLine (input : Input) (line : List ℕ) (given : Given) (x x' : Intake) : Type 0 where
   pub between : Option (List ℕ)
   pub taken : IsFirstLine x.unread between line
   pub waits : Keeps between x'.unread
-  pub gives : GivesOne region line given
+  pub gives : GivesOne input line given
   pub lines : x'.lines ≡ min (x.lines + 1) (2 ^ 64 - 1)
   pub refused : x'.refused ≡ x.refused || is_refusal given
   pub said : SaysOf given x'.lines x.said x'.said
 
 -- Lines were taken one after another, and nothing else was.
-abbrev pub TakesLines : Region → List (List ℕ × Given) → (x x' : Intake) → Type 0
-TakesLines region [] x x' = x' ≡ x
-TakesLines region ((line, given) ∷ more) x x' =
-    (y : Intake) × TakesLine region line given x y × TakesLines region more y x'
+abbrev pub TakesLines : Input → List (List ℕ × Given) → (x x' : Intake) → Type 0
+TakesLines input [] x x' = x' ≡ x
+TakesLines input ((line, given) ∷ more) x x' =
+    (y : Intake) × TakesLine input line given x y × TakesLines input more y x'
 
 -- the message that a line gives, if it gives one
 abbrev pub message_of : Given → List (List ℕ)
-message_of (Gives message) = message ∷ []
+message_of (Gives message fitted) = message ∷ []
 message_of given = []
+
+-- the line gives a message
+abbrev pub IsMessage : Given → Type 0
+IsMessage given = (message : List ℕ) × (message_of given ≡ message ∷ [])
 
 -- the messages that these lines give, in order
 abbrev pub messages_in : List (List ℕ × Given) → List (List ℕ)
@@ -119,9 +154,9 @@ abbrev pub StaysBut : (x x' : Intake) → Type 0
 StaysBut x x' = x' ≡ record x { unread = x'.unread }
 
 -- A line was taken, which gives this; or none was, and the input is at its end.
-abbrev pub TakesOne : Region → (x x' : Intake) → Option Given → Type 0
-TakesOne region x x' None = StaysBut x x' × NextGives region x.unread x'.unread None
-TakesOne region x x' (Some given) = (line : List ℕ) × TakesLine region line given x x'
+abbrev pub TakesOne : Input → (x x' : Intake) → Option Given → Type 0
+TakesOne input x x' None = StaysBut x x' × NextGives input x.unread x'.unread None
+TakesOne input x x' (Some given) = (line : List ℕ) × TakesLine input line given x x'
 
 -- Nothing is said and nothing counted, since no line gives anything, for this.
 abbrev pub FailsToTake : (x x' : Intake) → RunFault → Type 0

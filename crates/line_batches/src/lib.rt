@@ -1,12 +1,13 @@
 //! Batches of messages from lines as they come: what a line gives, and which lines make a batch.
 //!
 //! - [`take_batch`]: waits for a line that gives a message, and takes with it those that are there already.
-//! - [`Given`]: what a line gives, a message, nothing, or a refusal that was said.
+//! - [`Input`]: what lines are, phrases or titles; [`Given`]: what one gives, a message, nothing, or a refusal that was
+//!   said.
 #![tactic(auto)]
 
 mod intake;
 pub mod laws;
 mod taking;
 
-pub use intake::Given;
+pub use intake::{Given, Input};
 pub use taking::{After, Reading, Tally, take_batch};

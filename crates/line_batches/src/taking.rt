@@ -4,15 +4,16 @@ ghost use Rattle.std.specs.Prelude.{Result, Ok, None, IfOk, IfErr, IfSome, IfNon
 ghost use Rattle.line_feed.specs.declared.feed.Next.{Next as Came};
 ghost use Rattle.line_feed.specs.declared.feed.Next.TheVariants.{End};
 ghost use Rattle.line_feed.specs.declared.feed_fault.FeedFault.{FeedFault as Fault};
-ghost use Rattle.line_batches.specs.Intake.{NextGives, NextFails, SaysOf, is_refusal};
+ghost use Rattle.line_batches.specs.Intake.{NextGives, NextFails, SaysOf, fitted_line, is_refusal};
+ghost use Rattle.notices.specs.Told.{Says};
 ghost use Rattle.line_batches.specs.declared.taking.After.TheVariants.{GoesOn};
 ghost use Rattle.line_batches.specs.Batches.{TakesBatch, TakesInto, TakesGiven, FailsNext, PutsGiven, GoesFurther};
 ghost use Rattle.line_batches.specs.Batches.{IsWhole};
 
-use crate::intake::{Given, read_line};
+use crate::intake::{Given, Input, read_line};
+use itoa::Buffer;
 use line_feed::{Feed, FeedFault, Next};
 use notices::{Notices, NoticesTo};
-use rds_text::Region;
 use std::alloc::Global;
 use std::io::Write;
 use uecp_frame::Message;
@@ -38,9 +39,9 @@ pub enum After {
 
 /// How lines are read.
 #[derive(Clone, Copy, Debug)]
-pub struct Reading {
-    /// Of which region the programme types are.
-    pub region: Region,
+pub struct Reading<'a> {
+    /// What they are.
+    pub input: Input<'a>,
     /// How many messages a batch has at most, 1 to 8.
     pub size: usize,
     /// Whether the run ends at a line that is refused.
@@ -51,7 +52,7 @@ pub struct Reading {
 /// The batch is empty at the start.
 pub fn take_batch<F: Feed, E: Write>(
     alloc: Global,
-    reading: &Reading,
+    reading: &Reading<'_>,
     feed: &mut F,
     line: &mut Vec<u8>,
     errors: &mut NoticesTo<E>,
@@ -60,7 +61,7 @@ pub fn take_batch<F: Feed, E: Write>(
 ) -> After
     requires empty { batch.old.items ≡ [] }
     requires some { 1 ≤ reading.now.size }
-    ensures { TakesBatch F.remaining F.takes F.says reading.now.region reading.now.size reading.now.strict
+    ensures { TakesBatch F.remaining F.takes F.says reading.now.input reading.now.size reading.now.strict
         batch.new.items result (record {
           feed = feed.old;
           lines = tally.old.lines;
@@ -84,7 +85,7 @@ pub fn take_batch<F: Feed, E: Write>(
 /// Takes the next line into the batch, and tells what comes after the batch where it ends there.
 fn take_one<F: Feed, E: Write>(
     alloc: Global,
-    reading: &Reading,
+    reading: &Reading<'_>,
     feed: &mut F,
     line: &mut Vec<u8>,
     errors: &mut NoticesTo<E>,
@@ -92,7 +93,7 @@ fn take_one<F: Feed, E: Write>(
     batch: &mut Vec<Message>,
 ) -> Option<After>
     requires room { length batch.old.items < reading.now.size }
-    ensures { TakesInto F.remaining F.takes F.says reading.now.region reading.now.size reading.now.strict (record {
+    ensures { TakesInto F.remaining F.takes F.says reading.now.input reading.now.size reading.now.strict (record {
       feed = feed.old;
       lines = tally.old.lines;
       refused = tally.old.refused;
@@ -104,7 +105,7 @@ fn take_one<F: Feed, E: Write>(
       said = errors.new;
     }) batch.old.items batch.new.items result }
 {
-    match take_line(alloc, reading.region, feed, line, errors, tally) {
+    match take_line(alloc, &reading.input, feed, line, errors, tally) {
         Err(fault) => Some(After::Ends(Err(fault))),
         Ok(None) => Some(After::Ends(Ok(()))),
         Ok(Some(given)) => put_given(given, reading, feed, batch),
@@ -114,7 +115,7 @@ fn take_one<F: Feed, E: Write>(
 /// Puts the message that a line gives into the batch, and tells what comes after the batch where it ends there.
 fn put_given<F: Feed>(
     given: Given,
-    reading: &Reading,
+    reading: &Reading<'_>,
     feed: &mut F,
     batch: &mut Vec<Message>,
 ) -> Option<After>
@@ -124,7 +125,7 @@ fn put_given<F: Feed>(
 {
     match given {
         Given::Nothing => go_on(reading.size, batch, feed),
-        Given::Gives(message) => match batch.push(message) {
+        Given::Gives(message, _) => match batch.push(message) {
             Ok(()) => go_on(reading.size, batch, feed),
             Err(_) => Some(After::Ends(Err(RunFault::OutOfMemory))),
         },
@@ -173,13 +174,13 @@ fn is_whole<F: Feed>(size: usize, batch: &Vec<Message>, feed: &mut F) -> bool
 /// Errors: `Reading`; `OutOfMemory`, and then the line may be lost.
 fn take_line<F: Feed, E: Write>(
     alloc: Global,
-    region: Region,
+    input: &Input<'_>,
     feed: &mut F,
     line: &mut Vec<u8>,
     errors: &mut NoticesTo<E>,
     tally: &mut Tally,
 ) -> Result<Option<Given>, RunFault>
-    ensures taken { IfOk result (TakesGiven F.remaining F.takes F.says region (record {
+    ensures taken { IfOk result (TakesGiven F.remaining F.takes F.says input.now (record {
       feed = feed.old;
       lines = tally.old.lines;
       refused = tally.old.refused;
@@ -202,7 +203,7 @@ fn take_line<F: Feed, E: Write>(
       said = errors.new;
     })) }
 {
-    let Some(given) = next_given(alloc, region, feed, line)? else {
+    let Some(given) = next_given(alloc, input, feed, line)? else {
         return Ok(None);
     };
     count_line(&given, errors, tally);
@@ -214,11 +215,11 @@ fn take_line<F: Feed, E: Write>(
 /// Errors: `Reading`; `OutOfMemory`, and then the line may be lost.
 fn next_given<F: Feed>(
     alloc: Global,
-    region: Region,
+    input: &Input<'_>,
     feed: &mut F,
     line: &mut Vec<u8>,
 ) -> Result<Option<Given>, RunFault>
-    ensures gives { IfOk result (NextGives region (F.remaining feed.old) (F.remaining feed.new)) }
+    ensures gives { IfOk result (NextGives input.now (F.remaining feed.old) (F.remaining feed.new)) }
     ensures failed { IfErr result (NextFails (F.remaining feed.old) (F.remaining feed.new)) }
     ensures took { IfOk result (λ given. (next : Came) × (held : List ℕ) × F.takes feed.old (Ok next) held feed.new
         × (given ≡ None → next ≡ End)) }
@@ -230,22 +231,36 @@ fn next_given<F: Feed>(
         Err(FeedFault::OutOfMemory) => Err(RunFault::OutOfMemory),
         Ok(Next::End) => Ok(None),
         Ok(Next::TooLong) => Ok(Some(Given::Refused(TextFault::MessageTooLong))),
-        Ok(Next::Line) => match read_line(alloc, region, line.as_slice()) {
+        Ok(Next::Line) => match read_line(alloc, input, line.as_slice()) {
             Ok(given) => Ok(Some(given)),
             Err(_) => Err(RunFault::OutOfMemory),
         },
     }
 }
 
-/// Counts a line, and says what is wrong with one that is refused.
+/// Counts a line, and says what is wrong with one that is refused, and what was sent of a title that was made to fit.
 fn count_line<E: Write>(given: &Given, errors: &mut NoticesTo<E>, tally: &mut Tally)
     ensures lines { tally.new.lines ≡ min (tally.old.lines + 1) (2 ^ 64 - 1) }
     ensures refused { tally.new.refused ≡ tally.old.refused || is_refusal given.now }
     ensures said { SaysOf given.now tally.new.lines errors.old errors.new }
 {
     tally.lines = tally.lines.saturating_add(1);
-    if let Given::Refused(fault) = given {
-        tally.refused = true;
-        errors.report(&fault.at(tally.lines));
+    match given {
+        Given::Refused(fault) => {
+            tally.refused = true;
+            errors.report(&fault.at(tally.lines));
+        }
+        Given::Gives(_, Some(fitted)) => say_fitted(tally.lines, fitted.as_str(), errors),
+        _ => {}
     }
+}
+
+/// Says what was sent of the title of the line of this number, which was made to fit.
+fn say_fitted<E: Write>(number: usize, fitted: &str, errors: &mut NoticesTo<E>)
+    ensures { Says errors.old errors.new (fitted_line number fitted.now) }
+{
+    let mut buffer = Buffer::new();
+    let digits = buffer.format(number).as_bytes();
+    let fitted = fitted.as_bytes();
+    errors.say(&[b"uecp: line ", digits, b": fitted to \"", fitted, b"\"\n"]);
 }

@@ -31,7 +31,15 @@ pub fn no_text(text: &[u8]) -> TextFault
 }
 
 /// The fault of a line whose character at that column can't be read.
-pub fn unread(characters: &[char], column: usize, reason: Unread) -> TextFault
+pub(crate) fn unread(characters: &[char], column: usize, reason: Unread) -> TextFault
+    ensures { IsUnsaid result }
+{
+    unsaid_at(characters, column, said_of(reason))
+}
+
+/// The fault of a line whose character at that column, counted from 1, is at fault: what is said of it, where it is
+/// printed as it is; else that a printable character was expected.
+pub fn unsaid_at(characters: &[char], column: usize, what: &'static str) -> TextFault
     ensures { IsUnsaid result }
 {
     let character = characters.get(column.saturating_sub(1)).copied();
@@ -39,7 +47,7 @@ pub fn unread(characters: &[char], column: usize, reason: Unread) -> TextFault
         Some(character) if is_printed(character) => TextFault::Unsaid(Unsaid {
             column,
             character: Some(character),
-            what: said_of(reason),
+            what,
             nearest: None,
         }),
         _ => TextFault::Unsaid(Unsaid {
@@ -68,7 +76,7 @@ fn said_of(reason: Unread) -> &'static str {
 }
 
 /// The fault of a line whose tokens tell nothing.
-pub fn unsaid(
+pub(crate) fn unsaid(
     alloc: Global,
     region: Region,
     characters: &[char],

@@ -93,7 +93,7 @@ module _ {D C I O K : Type 0} (unread : D → Option (List ℕ))
   by_sight options c c' x k' held' feed said end applied went lives =
       from_seen opens closes remaining contents leaves is_clean saves fails (seen unread)
       (over.FromFeed unread takes says) InSight
-      (λ reading messages after i i'. is_seen unread takes says reading.region reading.size reading.strict messages
+      (λ reading messages after i i'. is_seen unread takes says reading.input reading.size reading.strict messages
       after i i') options c c' (fed_at x feed said) k' held' end applied went lives
 
   pub done_is_kept_lem : DoneIsKept unread takes says opens closes remaining contents leaves is_clean saves fails
@@ -156,7 +156,7 @@ module _ {D C I O K : Type 0} (unread : D → Option (List ℕ))
         (t.again, t.once, t.tells),
         t.appended,
         status_where_done went (seen unread end) applied said' status t.lines t.answers on
-            (refused_in_all options.reading.region options.reading.strict t.lines (at_start (unread feed) said) t.mid
+            (refused_in_all options.reading.input options.reading.strict t.lines (at_start (unread feed) said) t.mid
             (seen unread end) refl t.takes t.ends) t.applied ended,
       )
 

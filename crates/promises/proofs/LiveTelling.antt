@@ -6,7 +6,7 @@ use Rattle.std.specs.Io.KnownBytes.{Appends}
 use Rattle.std.specs.List.{list_all}
 use Rattle.std.proofs.lemmas.List.{length-map}
 use Rattle.std.proofs.lemmas.List.Folds.{list_all-append}
-use Rattle.rds_text.specs.declared.programme_type.Region.{Region}
+use Rattle.line_batches.specs.declared.intake.Input.{Input}
 use Rattle.uecp_elements.specs.declared.code.Code.{Code}
 use Rattle.uecp_text.specs.declared.run_fault.RunFault.TheVariants as run
 use Rattle.uecp_text.proofs.Public.{appends_nothing, appends_then}
@@ -194,12 +194,12 @@ module _ {C I O K : Type 0} (opens : C → Option (I × O) → C → Type 0) (cl
 
   -- ---- Turns.
 
-  module _ (region : Region) (size : ℕ) (strict : Bool) where
+  module _ (input : Input) (size : ℕ) (strict : Bool) where
     abbrev LiveAt : Type 0
     LiveAt = Live (SenderOver C I O) K
 
     abbrev OneTurn : (x x' : LiveAt) → After → Went → Type 0
-    OneTurn = Turn opens closes remaining contents leaves is_clean saves fails form region size strict
+    OneTurn = Turn opens closes remaining contents leaves is_clean saves fails form input size strict
 
     told_turn : (x x' : LiveAt) (after : After) (went : Went) → x.sends.runs.sender.server.held ≡ [] → x.unknown ≡ 0
         → OneTurn x x' after went → Onward went x'.unknown
@@ -211,7 +211,7 @@ module _ {C I O K : Type 0} (opens : C → Option (I × O) → C → Type 0) (cl
     turn_idle : (x x' : LiveAt) (after : After) → x.sends.runs.sender.server.held ≡ [] → OneTurn x x' after goes
         → x'.sends.runs.sender.server.held ≡ []
     turn_idle x x' after idle turn =
-        let (taken, mid, part, next) = turn_part opens closes remaining contents leaves is_clean saves fails form region
+        let (taken, mid, part, next) = turn_part opens closes remaining contents leaves is_clean saves fails form input
         size
         strict x x' after goes turn in part.called.idle refl idle
 
@@ -222,7 +222,7 @@ module _ {C I O K : Type 0} (opens : C → Option (I × O) → C → Type 0) (cl
       pub none : y.unknown ≡ 0
 
     told_going : (n : ℕ) (x y : LiveAt) → x.sends.runs.sender.server.held ≡ [] → x.unknown ≡ 0
-        → GoesOnFor opens closes remaining contents leaves is_clean saves fails form region size strict n x y → Going x
+        → GoesOnFor opens closes remaining contents leaves is_clean saves fails form input size strict n x y → Going x
         y
     told_going zero x y idle none same = subst (λ (z : LiveAt). Going x z) (sym same) (record {
       told = told_none x.sends x.applied 0 refl;
@@ -231,7 +231,7 @@ module _ {C I O K : Type 0} (opens : C → Option (I × O) → C → Type 0) (cl
     })
     told_going (suc n) x z idle none (y, before, turn) =
         let so = told_going n x y idle none before in
-        let zero_is = turn_unknown opens closes remaining contents leaves is_clean saves fails form region size strict y
+        let zero_is = turn_unknown opens closes remaining contents leaves is_clean saves fails form input size strict y
         z GoesOn so.none turn in record {
           told = told_on x.sends y.sends z.sends x.applied y.applied z.applied 0 so.told
               (subst (λ u. Told y.sends z.sends y.applied z.applied u) zero_is
@@ -241,7 +241,7 @@ module _ {C I O K : Type 0} (opens : C → Option (I × O) → C → Type 0) (cl
         }
 
     pub told_turns : (x x' : LiveAt) (went : Went) → x.sends.runs.sender.server.held ≡ [] → x.unknown ≡ 0
-        → RunsTurns opens closes remaining contents leaves is_clean saves fails form region size strict x x' went
+        → RunsTurns opens closes remaining contents leaves is_clean saves fails form input size strict x x' went
         → Onward went x'.unknown → Told x.sends x'.sends x.applied x'.applied x'.unknown
     told_turns x x' went idle none (n, y, before, inl (inl (end, turn, is))) onward =
         let so = told_going n x y idle none before in
@@ -259,12 +259,12 @@ module _ {C I O K : Type 0} (opens : C → Option (I × O) → C → Type 0) (cl
 
     -- a run that goes on leaves none outstanding
     pub turns_unknown : (x x' : LiveAt) (went : Went) → x.sends.runs.sender.server.held ≡ [] → x.unknown ≡ 0
-        → RunsTurns opens closes remaining contents leaves is_clean saves fails form region size strict x x' went
+        → RunsTurns opens closes remaining contents leaves is_clean saves fails form input size strict x x' went
         → goes ≡ went → x'.unknown ≡ 0
     turns_unknown x x' went idle none (n, y, before, inl (inl (end, turn, is))) on =
         let so = told_going n x y idle none before in turn_unknown opens closes remaining contents leaves is_clean saves
         fails
-        form region size strict y x' (Ends end) so.none turn
+        form input size strict y x' (Ends end) so.none turn
     turns_unknown x x' went idle none (n, y, before, inl (inr (after, stop, turn, is))) on =
         absurd (goes_not_stopped stop (on ∙ is))
     turns_unknown x x' went idle none (n, y, before, inr (all, same, is)) on =

@@ -2,7 +2,7 @@
 use Rattle.std.proofs.Common.{arith, ◌≤◌, ◌≡◌, ◌⊎◌, ℕ, zero, suc, Bool, List, [], ◌++◌, length, Option, Ok, Err, refl}
 use Rattle.std.proofs.Common.{sym, ap, subst, ◌∙◌, inl, inr}
 use Rattle.std.specs.Prelude.{Result}
-use Rattle.rds_text.specs.declared.programme_type.Region.{Region}
+use Rattle.line_batches.specs.declared.intake.Input.{Input}
 use Rattle.uecp_text.specs.declared.run_fault.RunFault.{RunFault}
 use Rattle.uecp_text.specs.declared.run_fault.RunFault.TheVariants as run
 use Rattle.uecp_net.specs.Sending.{SenderOver}
@@ -30,7 +30,7 @@ use Rattle.promises.proofs.Calls.{Called, called_none, called_on, called_stops, 
 
 module _ {C I O K : Type 0} (opens : C → Option (I × O) → C → Type 0) (closes : C → I → O → C → Type 0)
     (remaining : I → Option (List ℕ)) (contents : O → Option (List ℕ)) (leaves : K → KeptServer → Type 0)
-    (is_clean : K → Type 0) (saves fails : K → KeptServer → K → Type 0) (form : Form) (region : Region) (size : ℕ)
+    (is_clean : K → Type 0) (saves fails : K → KeptServer → K → Type 0) (form : Form) (input : Input) (size : ℕ)
     (strict : Bool)
   where
     abbrev At : Type 0
@@ -45,13 +45,13 @@ module _ {C I O K : Type 0} (opens : C → Option (I × O) → C → Type 0) (cl
     -- why a batch ended
     abbrev Next : List (List ℕ × Given) → (y z : Intake) → After → Type 0
     Next taken y z after =
-        IsAfter region strict taken y z after
-        ⊎ ((fault : RunFault) × (after ≡ Ends (Err fault)) × (FailsToTake y z fault ⊎ LosesMessage region y z fault)
+        IsAfter input strict taken y z after
+        ⊎ ((fault : RunFault) × (after ≡ Ends (Err fault)) × (FailsToTake y z fault ⊎ LosesMessage input y z fault)
         × NoneRefused strict taken)
 
     -- lines were taken up to there, and what they gave was sent
     pub record Part (lines : List (List ℕ × Given)) (x : LiveAt) (mid : Intake) (x' : At) (went : Went) : Type 0 where
-      pub takes : TakesLines region lines x.takes mid
+      pub takes : TakesLines input lines x.takes mid
       pub called : Called opens closes remaining contents leaves is_clean saves fails (length (messages_in lines))
           x.sends
           x' went
@@ -65,7 +65,7 @@ module _ {C I O K : Type 0} (opens : C → Option (I × O) → C → Type 0) (cl
     part_on : (a b : List (List ℕ × Given)) (x y : LiveAt) (mid : Intake) (x' : At) (went : Went)
         → Part a x y.takes y.sends goes → Part b y mid x' went → Part (a ++ b) x mid x' went
     part_on a b x y mid x' went one rest = record {
-      takes = lines_on region a b x.takes y.takes mid one.takes rest.takes;
+      takes = lines_on input a b x.takes y.takes mid one.takes rest.takes;
       called = subst (λ n. IsCalled n x.sends x' went) (sym (messages_count a b))
           (called_on opens closes remaining contents leaves is_clean saves fails (length (messages_in a))
           (length (messages_in b)) x.sends y.sends x' went one.called rest.called);
@@ -80,7 +80,7 @@ module _ {C I O K : Type 0} (opens : C → Option (I × O) → C → Type 0) (cl
     }
 
     pub turn_part : (x x' : LiveAt) (after : After) (went : Went)
-        → Turn opens closes remaining contents leaves is_clean saves fails form region size strict x x' after went
+        → Turn opens closes remaining contents leaves is_clean saves fails form input size strict x x' after went
         → (lines : List (List ℕ × Given)) × (mid : Intake) × Part lines x mid x'.sends went
         × Next lines mid x'.takes after
     turn_part x x' after went turn =
@@ -98,14 +98,14 @@ module _ {C I O K : Type 0} (opens : C → Option (I × O) → C → Type 0) (cl
         )
 
     goes_on_part : (n : ℕ) (x y : LiveAt)
-        → GoesOnFor opens closes remaining contents leaves is_clean saves fails form region size strict n x y
+        → GoesOnFor opens closes remaining contents leaves is_clean saves fails form input size strict n x y
         → (lines : List (List ℕ × Given)) × Part lines x y.takes y.sends goes × NoneRefused strict lines
     goes_on_part zero x y same =
         ([], subst (λ (z : LiveAt). Part [] x z.takes z.sends goes) (sym same) (part_none x), λ is_strict. refl)
     goes_on_part (suc n) x z (y, before, turn) =
         let (a, one, none) = goes_on_part n x y before in
         let (b, mid, part, next) = turn_part y z GoesOn goes turn in
-        let (same, none_more) = goes_on_after region strict b mid z.takes next in (
+        let (same, none_more) = goes_on_after input strict b mid z.takes next in (
           a ++ b,
           part_on a b x y z.takes z.sends goes one (subst (λ k. Part b y k z.sends goes) (sym same) part),
           none_on strict a b none none_more,
@@ -117,9 +117,9 @@ module _ {C I O K : Type 0} (opens : C → Option (I × O) → C → Type 0) (cl
       pub mid : Intake
       pub part : Part lines x mid x'.sends went
       pub passes : Passes strict lines
-      pub pauses : Pauses region mid x'.takes
-      pub done : goes ≡ went → ComesToEnd region strict lines mid x'.takes
-      pub behind : x.unknown ≡ 0 → 1 ≤ x'.unknown → Stands region strict lines mid x'.takes x'.behind
+      pub pauses : Pauses input mid x'.takes
+      pub done : goes ≡ went → ComesToEnd input strict lines mid x'.takes
+      pub behind : x.unknown ≡ 0 → 1 ≤ x'.unknown → Stands input strict lines mid x'.takes x'.behind
 
     turns_end : (a b : List (List ℕ × Given)) (x y x' : LiveAt) (mid : Intake) (end : Result (Unit {0}) RunFault)
         (went : Went) → Part a x y.takes y.sends goes → Part b y mid x'.sends goes → Next b mid x'.takes (Ends end)
@@ -128,16 +128,16 @@ module _ {C I O K : Type 0} (opens : C → Option (I × O) → C → Type 0) (cl
       lines = a ++ b;
       mid = mid;
       part = subst (λ w. Part (a ++ b) x mid x'.sends w) (sym is) (part_on a b x y mid x'.sends goes one part);
-      passes = passes_on strict a b before (passes_after region strict b mid x'.takes (Ends (Ok done)) next);
-      pauses = pauses_after region strict b mid x'.takes (Ends (Ok done)) next;
-      done = λ on. ends_on region strict a b mid x'.takes before (comes_to_end region strict b mid x'.takes done next);
+      passes = passes_on strict a b before (passes_after input strict b mid x'.takes (Ends (Ok done)) next);
+      pauses = pauses_after input strict b mid x'.takes (Ends (Ok done)) next;
+      done = λ on. ends_on input strict a b mid x'.takes before (comes_to_end input strict b mid x'.takes done next);
       behind = λ zero_was some. absurd (let zero_is = unknown zero_was in omega (arith, zero_is, some));
     }
     turns_end a b x y x' mid (Err fault) went one part (inl never) is before unknown = absurd never
     turns_end a b x y x' mid (Err fault) went one part (inr (other, same, why, passed)) is before unknown =
         let fault_is : other ≡ fault = sym (same_fault fault other same) in
         let three : stop_status (Run fault) ≡ 3 = subst (λ f. stop_status (Run f) ≡ 3) fault_is
-        (taking_status region mid x'.takes other why) in
+        (taking_status input mid x'.takes other why) in
         record {
           lines = a ++ b;
           mid = mid;
@@ -150,15 +150,15 @@ module _ {C I O K : Type 0} (opens : C → Option (I × O) → C → Type 0) (cl
         }
 
     pub turned : (x x' : LiveAt) (went : Went)
-        → RunsTurns opens closes remaining contents leaves is_clean saves fails form region size strict x x' went
+        → RunsTurns opens closes remaining contents leaves is_clean saves fails form input size strict x x' went
         → Turned x x' went
     turned x x' went (n, y, before, inl (inl (end, turn, is))) =
         let (a, one, none) = goes_on_part n x y before in
         let (b, mid, part, next) = turn_part y x' (Ends end) goes turn in
         turns_end a b x y x' mid end went one part next is none
-        (λ zero_was. turn_unknown opens closes remaining contents leaves is_clean saves fails form region size strict y
+        (λ zero_was. turn_unknown opens closes remaining contents leaves is_clean saves fails form input size strict y
         x'
-        (Ends end) (going_unknown opens closes remaining contents leaves is_clean saves fails form region size strict n
+        (Ends end) (going_unknown opens closes remaining contents leaves is_clean saves fails form input size strict n
         x
         y zero_was before) turn)
     turned x x' went (n, y, before, inl (inr (after, stop, turn, is))) =
@@ -169,11 +169,11 @@ module _ {C I O K : Type 0} (opens : C → Option (I × O) → C → Type 0) (cl
           mid = mid;
           part = subst (λ w. Part (a ++ b) x mid x'.sends w) (sym is)
               (part_on a b x y mid x'.sends (stopped stop) one part);
-          passes = passes_on strict a b none (passes_after region strict b mid x'.takes after next);
-          pauses = pauses_after region strict b mid x'.takes after next;
+          passes = passes_on strict a b none (passes_after input strict b mid x'.takes after next);
+          pauses = pauses_after input strict b mid x'.takes after next;
           done = λ on. absurd (goes_not_stopped stop (on ∙ is));
-          behind = λ zero_was some. subst (λ d. Stands region strict (a ++ b) mid x'.takes d) (sym turn.behind)
-              (stands_on region strict a b mid x'.takes after none (stands_after region strict b mid x'.takes after
+          behind = λ zero_was some. subst (λ d. Stands input strict (a ++ b) mid x'.takes d) (sym turn.behind)
+              (stands_on input strict a b mid x'.takes after none (stands_after input strict b mid x'.takes after
               next));
         }
     turned x x' went (n, y, before, inr (all, same, is)) =
@@ -189,6 +189,6 @@ module _ {C I O K : Type 0} (opens : C → Option (I × O) → C → Type 0) (cl
           done = λ on. absurd (goes_not_stopped (Run run.Reading) (on ∙ is));
           behind = λ zero_was some.
               absurd (let zero_is : x'.unknown ≡ 0 = ap (λ (z : LiveAt). z.unknown) same
-              ∙ going_unknown opens closes remaining contents leaves is_clean saves fails form region size strict n x y
+              ∙ going_unknown opens closes remaining contents leaves is_clean saves fails form input size strict n x y
               zero_was before in omega (arith, zero_is, some));
         }

@@ -1,7 +1,7 @@
 -- A run whose batches are taken from a feed, by what is seen of the input.
 use Rattle.std.proofs.Common.{ℕ, zero, suc, Bool, true, List, ap, inl, inr}
 use Rattle.std.specs.Prelude.{Option, Ok, Err}
-use Rattle.rds_text.specs.declared.programme_type.Region.{Region}
+use Rattle.line_batches.specs.declared.intake.Input.{Input}
 use Rattle.uecp_link.specs.Server.{ServerState}
 use Rattle.uecp_net.specs.Sending.{SenderOver}
 use Rattle.uecp_net.specs.Keeping.{KeptServer}
@@ -21,22 +21,22 @@ Live S K = over.Live Intake S K
 
 -- what is seen of a batch
 abbrev pub InSight : Reading → (messages : List (List ℕ)) → After → (x x' : Intake) → Type 0
-InSight reading = SeesBatch reading.region reading.size reading.strict
+InSight reading = SeesBatch reading.input reading.size reading.strict
 
 module _ {C I O K : Type 0} (opens : C → Option (I × O) → C → Type 0) (closes : C → I → O → C → Type 0)
     (remaining : I → Option (List ℕ)) (contents : O → Option (List ℕ)) (leaves : K → KeptServer → Type 0)
     (is_clean : K → Type 0) (saves fails : K → KeptServer → K → Type 0) where
-  module _ (form : Form) (region : Region) (size : ℕ) (strict : Bool) where
+  module _ (form : Form) (input : Input) (size : ℕ) (strict : Bool) where
     abbrev pub Turn : (x x' : Live (SenderOver C I O) K) → After → Went → Type 0
-    Turn = over.Turn (SeesBatch region size strict) opens closes remaining contents leaves is_clean saves fails form
+    Turn = over.Turn (SeesBatch input size strict) opens closes remaining contents leaves is_clean saves fails form
 
     abbrev pub GoesOnFor : (turns : ℕ) → (x x' : Live (SenderOver C I O) K) → Type 0
     GoesOnFor =
-        over.GoesOnFor (SeesBatch region size strict) opens closes remaining contents leaves is_clean saves fails form
+        over.GoesOnFor (SeesBatch input size strict) opens closes remaining contents leaves is_clean saves fails form
 
     abbrev pub RunsTurns : (x x' : Live (SenderOver C I O) K) → Went → Type 0
     RunsTurns =
-        over.RunsTurns (SeesBatch region size strict) opens closes remaining contents leaves is_clean saves fails form
+        over.RunsTurns (SeesBatch input size strict) opens closes remaining contents leaves is_clean saves fails form
 
   abbrev pub RunsOn : LiveOptions → (behind : After) → (x x' : Live (SenderOver C I O) K) → Went → Type 0
   RunsOn = over.RunsOn InSight opens closes remaining contents leaves is_clean saves fails

@@ -3,7 +3,7 @@ use Rattle.std.proofs.Common.{◌≡◌, ℕ, Bool, true, false, ◌||◌, List,
 use Rattle.std.proofs.Common.{inl, inr}
 use Rattle.std.specs.Prelude.{Option}
 use Rattle.std.specs.List.{list_all}
-use Rattle.rds_text.specs.declared.programme_type.Region.{Region}
+use Rattle.line_batches.specs.declared.intake.Input.{Input}
 use Rattle.uecp_elements.specs.declared.code.Code.{Code}
 use Rattle.line_batches.specs.declared.intake.Given.{Given}
 use Rattle.line_batches.specs.Intake.{Intake, TakesLines, is_refusal, has_refused}
@@ -19,24 +19,24 @@ or_false : (a : Bool) → (a || false) ≡ a
 or_false true = refl
 or_false false = refl
 
-refused_lines : (region : Region) (lines : List (List ℕ × Given)) (x y : Intake) → TakesLines region lines x y
+refused_lines : (input : Input) (lines : List (List ℕ × Given)) (x y : Intake) → TakesLines input lines x y
     → y.refused ≡ (x.refused || has_refused lines)
-refused_lines region [] x y same = ap (λ (i : Intake). i.refused) same ∙ sym (or_false x.refused)
-refused_lines region ((line, given) ∷ more) x y (w, one, rest) =
-    refused_lines region more w y rest ∙ ap (λ r. r || has_refused more) one.refused
+refused_lines input [] x y same = ap (λ (i : Intake). i.refused) same ∙ sym (or_false x.refused)
+refused_lines input ((line, given) ∷ more) x y (w, one, rest) =
+    refused_lines input more w y rest ∙ ap (λ r. r || has_refused more) one.refused
     ∙ or_assoc x.refused (is_refusal given) (has_refused more)
 
-refused_ending : (region : Region) (strict : Bool) (lines : List (List ℕ × Given)) (x y : Intake)
-    → ComesToEnd region strict lines x y → y.refused ≡ x.refused
-refused_ending region strict lines x y (inl ((stays, next), none)) = ap (λ (i : Intake). i.refused) stays
-refused_ending region strict lines x y (inr (is_strict, refused, same)) = ap (λ (i : Intake). i.refused) same
+refused_ending : (input : Input) (strict : Bool) (lines : List (List ℕ × Given)) (x y : Intake)
+    → ComesToEnd input strict lines x y → y.refused ≡ x.refused
+refused_ending input strict lines x y (inl ((stays, next), none)) = ap (λ (i : Intake). i.refused) stays
+refused_ending input strict lines x y (inr (is_strict, refused, same)) = ap (λ (i : Intake). i.refused) same
 
 -- at the end of a run that began with none
-pub refused_in_all : (region : Region) (strict : Bool) (lines : List (List ℕ × Given)) (x y z : Intake)
-    → x.refused ≡ false → TakesLines region lines x y → ComesToEnd region strict lines y z
+pub refused_in_all : (input : Input) (strict : Bool) (lines : List (List ℕ × Given)) (x y z : Intake)
+    → x.refused ≡ false → TakesLines input lines x y → ComesToEnd input strict lines y z
     → has_refused lines ≡ z.refused
-refused_in_all region strict lines x y z none takes ends =
-    sym (refused_ending region strict lines y z ends ∙ refused_lines region lines x y takes
+refused_in_all input strict lines x y z none takes ends =
+    sym (refused_ending input strict lines y z ends ∙ refused_lines input lines x y takes
     ∙ ap (λ r. r || has_refused lines) none)
 
 pub status_so : (lines : List (List ℕ × Given)) (answers : List (Option Code)) (status : ℕ) (refused applied : Bool)

@@ -215,12 +215,12 @@ module _ {C I O K : Type 0} (opens : C → Option (I × O) → C → Type 0) (cl
     record One (by : Bool) (x x' : LiveWas) (went : Went) : Type 0 where
       pub lines : List (List ℕ × Given)
       pub mid : Intake
-      pub takes : TakesLines options.reading.region lines x.takes mid
+      pub takes : TakesLines options.reading.input lines x.takes mid
       pub passes : Passes options.reading.strict lines
-      pub pauses : Pauses options.reading.region mid x'.takes
-      pub done : goes ≡ went → ComesToEnd options.reading.region options.reading.strict lines mid x'.takes
+      pub pauses : Pauses options.reading.input mid x'.takes
+      pub done : goes ≡ went → ComesToEnd options.reading.input options.reading.strict lines mid x'.takes
       pub behind : x.unknown ≡ 0 → 1 ≤ x'.unknown
-          → Stands options.reading.region options.reading.strict lines mid x'.takes x'.behind
+          → Stands options.reading.input options.reading.strict lines mid x'.takes x'.behind
       pub clean : is_clean x'.sends.keeper → is_clean x.sends.keeper
       pub settled : goes ≡ went → IsKeptOf x.sends → is_clean x'.sends.keeper → IsKeptOf x'.sends
       pub counted : x'.sends.progress.taken ≡ x.sends.progress.taken + length (messages_in lines)
@@ -291,13 +291,13 @@ module _ {C I O K : Type 0} (opens : C → Option (I × O) → C → Type 0) (cl
     pub record Senders (again : ℕ) (x x' : LiveWas) (went : Went) : Type 0 where
       pub lines : List (List ℕ × Given)
       pub mid : Intake
-      pub takes : TakesLines options.reading.region lines x.takes mid
+      pub takes : TakesLines options.reading.input lines x.takes mid
       pub once : options.rejoin ≡ false → again ≡ 0
       pub passes : Passes options.reading.strict lines
-      pub pauses : Pauses options.reading.region mid x'.takes
-      pub done : goes ≡ went → ComesToEnd options.reading.region options.reading.strict lines mid x'.takes
+      pub pauses : Pauses options.reading.input mid x'.takes
+      pub done : goes ≡ went → ComesToEnd options.reading.input options.reading.strict lines mid x'.takes
       pub behind : 1 ≤ x'.unknown
-          → Stands options.reading.region options.reading.strict lines mid x'.takes x'.behind
+          → Stands options.reading.input options.reading.strict lines mid x'.takes x'.behind
       pub clean : is_clean x'.sends.keeper → is_clean x.sends.keeper
       pub settled : goes ≡ went → IsKeptOf x.sends → is_clean x'.sends.keeper → IsKeptOf x'.sends
       pub counted : x'.sends.progress.taken ≡ x0.progress.taken + length (messages_in lines)
@@ -374,17 +374,17 @@ module _ {C I O K : Type 0} (opens : C → Option (I × O) → C → Type 0) (cl
 
     -- where the end was found behind what is outstanding, it is an end
     end_is : (lines : List (List ℕ × Given)) (mid end : Intake) (ends : Result (Unit {0}) RunFault)
-        → Stands options.reading.region options.reading.strict lines mid end (Ends ends) → goes ≡ ended_as ends
-        → ComesToEnd options.reading.region options.reading.strict lines mid end
+        → Stands options.reading.input options.reading.strict lines mid end (Ends ends) → goes ≡ ended_as ends
+        → ComesToEnd options.reading.input options.reading.strict lines mid end
     end_is lines mid end (Ok done) stands on = stands
     end_is lines mid end (Err fault) stands on = absurd (goes_not_stopped (Run fault) on)
 
     end_status : (lines : List (List ℕ × Given)) (mid end : Intake) (ends : Result (Unit {0}) RunFault)
-        → Stands options.reading.region options.reading.strict lines mid end (Ends ends) → (stop : KeptStop)
+        → Stands options.reading.input options.reading.strict lines mid end (Ends ends) → (stop : KeptStop)
         → ended_as ends ≡ stopped stop → stop_status stop ≡ 3
     end_status lines mid end (Ok done) stands stop is = not_so stop (sym is)
     end_status lines mid end (Err fault) stands stop is =
-        same_status stop (Run fault) (taking_status options.reading.region mid end fault stands) (sym is)
+        same_status stop (Run fault) (taking_status options.reading.input mid end fault stands) (sym is)
 
     next_by : (n : ℕ) (address : ℕ) (d c' : C) (x y x' : LiveWas) (w : Was) (stopped_so went : Went)
         → address ≡ x0.runs.address → options.rejoin ≡ true → 1 ≤ y.unknown → Senders n x y stopped_so
@@ -401,19 +401,19 @@ module _ {C I O K : Type 0} (opens : C → Option (I × O) → C → Type 0) (cl
         let now : w.progress.taken ≡ x0.progress.taken + earlier =
         ap (λ (p : Progress). p.taken) renews.progress ∙ before.counted in
         let (there, none) =
-        subst (λ b. Stands options.reading.region options.reading.strict before.lines before.mid y.takes b) is_on
+        subst (λ b. Stands options.reading.input options.reading.strict before.lines before.mid y.takes b) is_on
         (before.behind some) in
         record {
           lines = before.lines ++ r.lines;
           mid = r.mid;
-          takes = lines_on options.reading.region before.lines r.lines x.takes before.mid r.mid before.takes
-              (subst (λ i. TakesLines options.reading.region r.lines i r.mid) there r.takes);
+          takes = lines_on options.reading.input before.lines r.lines x.takes before.mid r.mid before.takes
+              (subst (λ i. TakesLines options.reading.input r.lines i r.mid) there r.takes);
           once = not_once n rejoin;
           passes = passes_on options.reading.strict before.lines r.lines none r.passes;
           pauses = r.pauses;
-          done = λ on. ends_on options.reading.region options.reading.strict before.lines r.lines r.mid x'.takes
+          done = λ on. ends_on options.reading.input options.reading.strict before.lines r.lines r.mid x'.takes
               none (r.done on);
-          behind = λ more. stands_on options.reading.region options.reading.strict before.lines r.lines r.mid x'.takes
+          behind = λ more. stands_on options.reading.input options.reading.strict before.lines r.lines r.mid x'.takes
               x'.behind none (r.behind refl more);
           clean = λ clean. before.clean (renews.clean (r.clean clean));
           settled = λ on settled clean. r.settled on (renewed y.unknown y.sends w renews (r.clean clean)) clean;
@@ -433,10 +433,10 @@ module _ {C I O K : Type 0} (opens : C → Option (I × O) → C → Type 0) (cl
         let earlier = length (messages_in before.lines) in
         let now : w.progress.taken ≡ x0.progress.taken + earlier =
         ap (λ (p : Progress). p.taken) renews.progress ∙ before.counted in
-        let stands : Stands options.reading.region options.reading.strict before.lines before.mid x'.takes (Ends end) =
-        subst (λ i. Stands options.reading.region options.reading.strict before.lines before.mid i (Ends end))
+        let stands : Stands options.reading.input options.reading.strict before.lines before.mid x'.takes (Ends end) =
+        subst (λ i. Stands options.reading.input options.reading.strict before.lines before.mid i (Ends end))
         (sym r.takes)
-        (subst (λ b. Stands options.reading.region options.reading.strict before.lines before.mid y.takes b) is_end
+        (subst (λ b. Stands options.reading.input options.reading.strict before.lines before.mid y.takes b) is_end
         (before.behind some)) in
         let none_more_is : earlier + 0 ≡ earlier = sym (none_more earlier) in
         record {
@@ -445,7 +445,7 @@ module _ {C I O K : Type 0} (opens : C → Option (I × O) → C → Type 0) (cl
           takes = before.takes;
           once = not_once n rejoin;
           passes = before.passes;
-          pauses = stands_pausing options.reading.region options.reading.strict before.lines before.mid x'.takes
+          pauses = stands_pausing options.reading.input options.reading.strict before.lines before.mid x'.takes
               (Ends end) stands;
           done = λ on. end_is before.lines before.mid x'.takes end stands (r.done on);
           behind = λ more. absurd (let zero_is : x'.unknown ≡ 0 = r.none in omega (arith, zero_is, more));
@@ -525,10 +525,10 @@ module _ {C I O K : Type 0} (opens : C → Option (I × O) → C → Type 0) (cl
   pub record Whole (options : LiveOptions) (x : LiveWas) (k' : K) (end : Intake) (went : Went) : Type 0 where
     pub lines : List (List ℕ × Given)
     pub mid : Intake
-    pub takes : TakesLines options.reading.region lines x.takes mid
+    pub takes : TakesLines options.reading.input lines x.takes mid
     pub passes : Passes options.reading.strict lines
-    pub pauses : Pauses options.reading.region mid end
-    pub done : goes ≡ went → ComesToEnd options.reading.region options.reading.strict lines mid end
+    pub pauses : Pauses options.reading.input mid end
+    pub done : goes ≡ went → ComesToEnd options.reading.input options.reading.strict lines mid end
     pub has_taken : goes ≡ went → IsKeptOf x.sends → is_clean k' → (left : KeptServer) → leaves k' left
         → HasTaken x.sends.progress (length (messages_in lines)) left
     pub outlives : IsKeptOf x.sends → is_clean k' → (left : KeptServer) → leaves k' left

@@ -61,12 +61,12 @@ module _ {C I O K : Type 0} (opens : C → Option (I × O) → C → Type 0) (cl
   pub record Ran (due : Bool) (x x' : LiveAt) (went : Went) : Type 0 where
     pub lines : List (List ℕ × Given)
     pub mid : Intake
-    pub takes : TakesLines options.reading.region lines x.takes mid
+    pub takes : TakesLines options.reading.input lines x.takes mid
     pub passes : Passes options.reading.strict lines
-    pub pauses : Pauses options.reading.region mid x'.takes
-    pub done : goes ≡ went → ComesToEnd options.reading.region options.reading.strict lines mid x'.takes
+    pub pauses : Pauses options.reading.input mid x'.takes
+    pub done : goes ≡ went → ComesToEnd options.reading.input options.reading.strict lines mid x'.takes
     pub behind : x.unknown ≡ 0 → 1 ≤ x'.unknown
-        → Stands options.reading.region options.reading.strict lines mid x'.takes x'.behind
+        → Stands options.reading.input options.reading.strict lines mid x'.takes x'.behind
     pub clean : is_clean x'.sends.keeper → is_clean x.sends.keeper
     pub settled : goes ≡ went → IsKeptAt x.sends → is_clean x'.sends.keeper → IsKeptAt x'.sends
     pub counted : x'.sends.progress.taken ≡ x.sends.progress.taken + length (messages_in lines)
@@ -80,11 +80,11 @@ module _ {C I O K : Type 0} (opens : C → Option (I × O) → C → Type 0) (cl
   ran_so : (due : Bool) (x : LiveAt) (y : At) (x' : LiveAt) (went : Went) (lines : List (List ℕ × Given))
       (mid : Intake)
       → IsMaking due x.sends y goes → IsCalled (length (messages_in lines)) y x'.sends went
-      → TakesLines options.reading.region lines x.takes mid → Passes options.reading.strict lines
-      → Pauses options.reading.region mid x'.takes
-      → (goes ≡ went → ComesToEnd options.reading.region options.reading.strict lines mid x'.takes)
+      → TakesLines options.reading.input lines x.takes mid → Passes options.reading.strict lines
+      → Pauses options.reading.input mid x'.takes
+      → (goes ≡ went → ComesToEnd options.reading.input options.reading.strict lines mid x'.takes)
       → (x.unknown ≡ 0 → 1 ≤ x'.unknown
-      → Stands options.reading.region options.reading.strict lines mid x'.takes x'.behind)
+      → Stands options.reading.input options.reading.strict lines mid x'.takes x'.behind)
       → (goes ≡ went → x'.sends.runs.sender.server.held ≡ []) → Ran due x x' went
   ran_so due x y x' went lines mid made called takes passes pauses done behind idle = record {
     lines = lines;
@@ -114,7 +114,7 @@ module _ {C I O K : Type 0} (opens : C → Option (I × O) → C → Type 0) (cl
       → MakesOnce opens closes remaining contents leaves is_clean saves fails options due x y goes
       → RunsOn opens closes remaining contents leaves is_clean saves fails options GoesOn y x' went → Ran due x x' went
   ran_on due x y x' went on (made, takes, unknown, keeps) (inl (z, (settles, takes_on, stays), turns)) =
-      let t = turned opens closes remaining contents leaves is_clean saves fails options.form options.reading.region
+      let t = turned opens closes remaining contents leaves is_clean saves fails options.form options.reading.input
       options.reading.size options.reading.strict z x' went turns in
       let call = settles_call opens closes remaining contents leaves is_clean saves fails options.form y.sends z.sends
       y.applied z.applied y.unknown z.unknown goes settles in
@@ -126,7 +126,7 @@ module _ {C I O K : Type 0} (opens : C → Option (I × O) → C → Type 0) (cl
       (subst (λ n. IsCalled n y.sends x'.sends went) (none_before (length (messages_in t.lines)))
       (called_on opens closes remaining contents leaves is_clean saves fails 0 (length (messages_in t.lines)) y.sends
       z.sends x'.sends went call t.part.called))
-      (subst (λ k. TakesLines options.reading.region t.lines k t.mid) (takes_on ∙ takes) t.part.takes) t.passes t.pauses
+      (subst (λ k. TakesLines options.reading.input t.lines k t.mid) (takes_on ∙ takes) t.part.takes) t.passes t.pauses
       t.done
       (λ none some. t.behind (none_unsettled opens closes remaining contents leaves is_clean saves fails options.form
       y.sends z.sends y.applied z.applied y.unknown z.unknown (unknown ∙ none) settles) some)
@@ -140,7 +140,7 @@ module _ {C I O K : Type 0} (opens : C → Option (I × O) → C → Type 0) (cl
       (subst (λ w. IsCalled 0 y.sends x'.sends w) (sym is) call) refl (inl (λ is_strict. refl)) (inl (takes_on ∙ takes))
       (λ on. absurd (goes_not_stopped stop (on ∙ is)))
       (λ none some. subst
-      (λ d. Stands options.reading.region options.reading.strict [] x.takes x'.takes d) (sym (stays ∙ keeps ∙ on))
+      (λ d. Stands options.reading.input options.reading.strict [] x.takes x'.takes d) (sym (stays ∙ keeps ∙ on))
       (takes_on ∙ takes, λ is_strict. refl)) (λ on. absurd (goes_not_stopped stop (on ∙ is)))
 
   left_making : (due : Bool) (x : At) (left : KeptServer) → (left ≡ kept_at x) ⊎ FirstOf due x left

@@ -324,7 +324,7 @@ module _ {C I O K : Type 0} (opens : C → Option (I × O) → C → Type 0) (cl
         let still = settles_idle opens closes remaining contents leaves is_clean saves fails options.form y.sends
         z.sends y.applied z.applied y.unknown z.unknown goes settles.0 refl in
         let t = told_turns opens closes remaining contents leaves is_clean saves fails options.form
-        options.reading.region options.reading.size options.reading.strict z x' went still f.none turns onward in
+        options.reading.input options.reading.size options.reading.strict z x' went still f.none turns onward in
         let taken = f.taken in record {
           front = f.text;
           codes = t.codes;
@@ -377,7 +377,7 @@ module _ {C I O K : Type 0} (opens : C → Option (I × O) → C → Type 0) (cl
         let f = front by x y z idle none made settles in
         let still = settles_idle opens closes remaining contents leaves is_clean saves fails options.form y.sends
         z.sends y.applied z.applied y.unknown z.unknown goes settles.0 refl in
-        turns_unknown opens closes remaining contents leaves is_clean saves fails options.form options.reading.region
+        turns_unknown opens closes remaining contents leaves is_clean saves fails options.form options.reading.input
         options.reading.size options.reading.strict z x' went still f.none turns on
     on_unknown by x y x' GoesOn went idle none made (inr (stop, settles, is)) on =
         absurd (goes_not_stopped stop (on ∙ is))

@@ -1,7 +1,7 @@
 -- The exit statuses of runs that stop.
 use Rattle.std.proofs.Common.{◌≡◌, ◌⊎◌, ℕ, Bool, true, false, List, Option, Ok, Err, if◌then◌else◌, refl, sym, ap}
 use Rattle.std.proofs.Common.{inl, inr}
-use Rattle.rds_text.specs.declared.programme_type.Region.{Region}
+use Rattle.line_batches.specs.declared.intake.Input.{Input}
 use Rattle.uecp_text.specs.declared.run_fault.RunFault.{RunFault}
 use Rattle.uecp_text.specs.declared.run_fault.RunFault.TheVariants as run
 use Rattle.uecp_text.specs.Faults.{status_of}
@@ -64,12 +64,12 @@ joined_status form lines (Err (kept.Outstanding reason)) held held' stop tells =
 joined_status form lines (Err kept.StateFailed) held held' stop (same, is) = same_status stop StateFailed refl is
 
 -- a read that fails, and want of memory, have status 3
-pub taking_status : (region : Region) (x x' : Intake) (fault : RunFault)
-    → FailsToTake x x' fault ⊎ LosesMessage region x x' fault → stop_status (Run fault) ≡ 3
-taking_status region x x' fault (inr (is, lost)) = ap status_of is
-taking_status region x x' run.Reading (inl fails) = refl
-taking_status region x x' run.OutOfMemory (inl fails) = refl
-taking_status region x x' fault (inl (stays, fails)) = absurd fails
+pub taking_status : (input : Input) (x x' : Intake) (fault : RunFault)
+    → FailsToTake x x' fault ⊎ LosesMessage input x x' fault → stop_status (Run fault) ≡ 3
+taking_status input x x' fault (inr (is, lost)) = ap status_of is
+taking_status input x x' run.Reading (inl fails) = refl
+taking_status input x x' run.OutOfMemory (inl fails) = refl
+taking_status input x x' fault (inl (stays, fails)) = absurd fails
 
 -- a run that came to its end has not the status 3
 pub tally_not : (refused applied : Bool) → tally_status refused applied ≡ 3 → ⊥

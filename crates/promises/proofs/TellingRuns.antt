@@ -349,9 +349,9 @@ module _ {C I O K : Type 0} (opens : C → Option (I × O) → C → Type 0) (cl
     pub lines : List (List ℕ × Given)
     pub again : ℕ
     pub mid : Intake
-    pub takes : TakesLines options.reading.region lines x.takes mid
+    pub takes : TakesLines options.reading.input lines x.takes mid
     pub once : options.rejoin ≡ false → again ≡ 0
-    pub ends : ComesToEnd options.reading.region options.reading.strict lines mid end
+    pub ends : ComesToEnd options.reading.input options.reading.strict lines mid end
     pub answers : List (Option Code)
     pub text : List ℕ
     pub number : length answers ≡ length (messages_in lines)

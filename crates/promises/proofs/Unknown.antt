@@ -1,7 +1,7 @@
 -- What is outstanding where a run goes on.
 use Rattle.std.proofs.Common.{◌≡◌, ℕ, zero, suc, Bool, List, Ok, Err, refl, ap, ◌∙◌, inl, inr}
 use Rattle.std.specs.Prelude.{Option, length, ◌+◌, ◌-◌}
-use Rattle.rds_text.specs.declared.programme_type.Region.{Region}
+use Rattle.line_batches.specs.declared.intake.Input.{Input}
 use Rattle.uecp_link.specs.Server.{counters_waiting}
 use Rattle.uecp_net.specs.Sending.{SenderOver, submitted_all}
 use Rattle.uecp_net.specs.declared.saved.batch.KeptOutstanding.TheVariants as kept
@@ -63,15 +63,15 @@ module _ {C I O K : Type 0} (opens : C → Option (I × O) → C → Type 0) (cl
           absurd (goes_not_stopped (stop_for x'.runs.sender.server.counts reason) is)
       by (Err kept.StateFailed) (same, is) are = absurd (goes_not_stopped StateFailed is)
 
-  module _ (region : Region) (size : ℕ) (strict : Bool) where
+  module _ (input : Input) (size : ℕ) (strict : Bool) where
     pub turn_unknown : (x x' : LiveAt) (after : After) → x.unknown ≡ 0
-        → Turn opens closes remaining contents leaves is_clean saves fails form region size strict x x' after goes
+        → Turn opens closes remaining contents leaves is_clean saves fails form input size strict x x' after goes
         → x'.unknown ≡ 0
     turn_unknown x x' after none turn =
         none_unknown turn.messages x.sends x'.sends x.applied x'.applied x.unknown x'.unknown goes none turn.sends refl
 
     pub going_unknown : (n : ℕ) (x y : LiveAt) → x.unknown ≡ 0
-        → GoesOnFor opens closes remaining contents leaves is_clean saves fails form region size strict n x y
+        → GoesOnFor opens closes remaining contents leaves is_clean saves fails form input size strict n x y
         → y.unknown ≡ 0
     going_unknown zero x y none same = ap (λ (z : LiveAt). z.unknown) same ∙ none
     going_unknown (suc n) x z none (y, before, turn) = turn_unknown y z GoesOn (going_unknown n x y none before) turn

@@ -1,6 +1,6 @@
 -- Which lines a whole run took from its input (profile).
 use Rattle.std.specs.Prelude.{◌≡◌, ◌⊎◌, ℕ, Bool, true, false, List, [], ◌∷◌, Option, None}
-use Rattle.rds_text.specs.declared.programme_type.Region.{Region}
+use Rattle.line_batches.specs.declared.intake.Input.{Input}
 use Rattle.uecp_text.specs.declared.run_fault.RunFault.{RunFault}
 use Rattle.line_batches.specs.declared.intake.Given.{Given}
 use Rattle.line_batches.specs.declared.taking.After.{After}
@@ -11,16 +11,16 @@ use Rattle.notices.specs.Told.{Told}
 
 -- How the taking of lines comes to a stop: nothing was done; or the input was found at its end; or the next line could
 -- not be read, or memory was wanting for it; or it was taken, and there was no memory for its message, which is lost.
-abbrev pub Pauses : Region → (x x' : Intake) → Type 0
-Pauses region x x' =
-    (x' ≡ x) ⊎ TakesOne region x x' None
-    ⊎ ((fault : RunFault) × (FailsToTake x x' fault ⊎ LosesMessage region x x' fault))
+abbrev pub Pauses : Input → (x x' : Intake) → Type 0
+Pauses input x x' =
+    (x' ≡ x) ⊎ TakesOne input x x' None
+    ⊎ ((fault : RunFault) × (FailsToTake x x' fault ⊎ LosesMessage input x x' fault))
 
 -- The input is at its end, and none of these lines was refused where that ends the run; or the last of them was, and no
 -- other, and that ends the run.
-abbrev pub ComesToEnd : Region → (strict : Bool) → List (List ℕ × Given) → (x x' : Intake) → Type 0
-ComesToEnd region strict lines x x' =
-    (TakesOne region x x' None × NoneRefused strict lines) ⊎ ((strict ≡ true) × EndsRefused lines × (x' ≡ x))
+abbrev pub ComesToEnd : Input → (strict : Bool) → List (List ℕ × Given) → (x x' : Intake) → Type 0
+ComesToEnd input strict lines x x' =
+    (TakesOne input x x' None × NoneRefused strict lines) ⊎ ((strict ≡ true) × EndsRefused lines × (x' ≡ x))
 
 -- Where a line that is refused ends the run, none of these was, or the last and no other.
 abbrev pub Passes : (strict : Bool) → List (List ℕ × Given) → Type 0
@@ -46,9 +46,9 @@ pub record TakesSome (options : LiveOptions) (unread unread' : Option (List ℕ)
     : Type 0 where
   pub last : Intake
   pub end : Intake
-  pub taken : TakesLines options.reading.region lines (at_start unread said) last
+  pub taken : TakesLines options.reading.input lines (at_start unread said) last
   pub passes : Passes options.reading.strict lines
-  pub pauses : Pauses options.reading.region last end
+  pub pauses : Pauses options.reading.input last end
   pub is_unread : unread' ≡ end.unread
 
 -- A run took these lines, and with them it came to the end of its input, or with `strict` to a line that was refused.
@@ -57,6 +57,6 @@ pub record TakesAll (options : LiveOptions) (unread unread' : Option (List ℕ))
     : Type 0 where
   pub last : Intake
   pub end : Intake
-  pub taken : TakesLines options.reading.region lines (at_start unread said) last
-  pub ends : ComesToEnd options.reading.region options.reading.strict lines last end
+  pub taken : TakesLines options.reading.input lines (at_start unread said) last
+  pub ends : ComesToEnd options.reading.input options.reading.strict lines last end
   pub is_unread : unread' ≡ end.unread

@@ -16,12 +16,22 @@ use Rattle.line_feed.specs.declared.feed.Next.{Next}
 use Rattle.line_feed.specs.declared.feed_fault.FeedFault.{FeedFault}
 use Rattle.sending.specs.Run.{Lives}
 use Rattle.commands.specs.declared.send_options.SendOptions.{SendOptions}
+use Rattle.commands.specs.declared.send_options.TitleOptions.{TitleOptions}
+use Rattle.line_batches.specs.declared.intake.Input.{Input}
+use Rattle.line_batches.specs.declared.intake.Input.TheVariants.{Phrases, Titles as TitlesOf}
 use Rattle.send_commands.specs.LiveIn.{LivesIn, HasNoState}
 
 -- The numbers of a job that can be done.
 pub record IsSendable (job : SendOptions) : Type 0 where
   pub some : 1 ≤ job.window
   pub most : job.window ≤ 8
+
+-- Its lines are phrases with the names of its region; or titles, as its options have them.
+abbrev pub IsInput : SendOptions → Input → Type 0
+IsInput job (Phrases region) = (job.titles ≡ None) × (region ≡ job.region)
+IsInput job (TitlesOf titles) =
+    (options : TitleOptions) × (job.titles ≡ Some options) × (titles.prefix.now ≡ options.prefix.items)
+    × (titles.service ≡ options.service) × (titles.fit ≡ options.fit)
 
 -- The options of its run are those of the job; connections are made again as often as they can be counted, also where
 -- one is silent.
@@ -32,7 +42,9 @@ pub record IsFor (job : SendOptions) (station : List (List ℕ)) (options : Live
     reconnects = 2 ^ 32 - 1;
     reconnect_silent = true;
   }
-  pub reading : options.reading ≡ record { region = job.region; size = job.window; strict = job.strict }
+  pub is_input : IsInput job options.reading.input
+  pub is_size : options.reading.size ≡ job.window
+  pub is_strict : options.reading.strict ≡ job.strict
   pub join : options.join ≡ job.join
   pub rejoin : options.rejoin ≡ job.rejoin
   pub form : options.form ≡ job.form

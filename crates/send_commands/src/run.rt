@@ -1,18 +1,19 @@
 //! The job `send`. Source: profile.
 ghost use Rattle.std.specs.Prelude.{◌≡◌, ◌≤◌, IsTrue};
 ghost use Rattle.uecp_frame.specs.Address.{is_exact};
-ghost use Rattle.send_commands.specs.Job.{IsSendable, IsFor, HasSentLive, SendsTo};
+ghost use Rattle.send_commands.specs.Job.{IsSendable, IsFor, IsInput, HasSentLive, SendsTo};
 
 use crate::live_in::run_live_in;
 use commands::SendOptions;
 use kept_jobs::Start;
-use line_batches::Reading;
+use line_batches::{Input, Reading};
 use line_feed::Feed;
 use notices::{NoticesTo, fail};
 use sending::{LiveOptions, Teller, run_live};
 use state_jobs::OpenStates;
 use std::io::Write;
 use std::time::Clock;
+use titles::Titles;
 use uecp_encoder::NotSaved;
 use uecp_frame::{Address, Message};
 use uecp_jobs::address_of;
@@ -58,7 +59,7 @@ pub fn run_send<S: OpenStates, F: Feed, W: Write, E: Write, C: Connections, T: C
 }
 
 /// The options of a run.
-fn options_of<'a>(job: &SendOptions, station: &'a [Message]) -> LiveOptions<'a>
+fn options_of<'a>(job: &'a SendOptions, station: &'a [Message]) -> LiveOptions<'a>
     ensures { IsFor job.now station.now result }
 {
     LiveOptions {
@@ -69,7 +70,7 @@ fn options_of<'a>(job: &SendOptions, station: &'a [Message]) -> LiveOptions<'a>
             reconnect_silent: true,
         },
         reading: Reading {
-            region: job.region,
+            input: input_of(job),
             size: usize::from(job.window),
             strict: job.strict,
         },
@@ -77,6 +78,20 @@ fn options_of<'a>(job: &SendOptions, station: &'a [Message]) -> LiveOptions<'a>
         rejoin: job.rejoin,
         form: job.form,
         station,
+    }
+}
+
+/// What the lines of the job are.
+fn input_of(job: &SendOptions) -> Input<'_>
+    ensures { IsInput job.now result }
+{
+    match &job.titles {
+        None => Input::Phrases(job.region),
+        Some(options) => Input::Titles(Titles {
+            prefix: options.prefix.as_slice(),
+            service: options.service,
+            fit: options.fit,
+        }),
     }
 }
 

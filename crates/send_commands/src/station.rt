@@ -1,7 +1,7 @@
 //! The lines that make a station what it is (profile).
 ghost use Rattle.std.specs.Prelude.{◌≡◌};
 
-use line_batches::{After, Reading, Tally, take_batch};
+use line_batches::{After, Input, Reading, Tally, take_batch};
 use line_feed::{Arrival, LineFeed};
 use notices::NoticesTo;
 use rds_text::Region;
@@ -64,7 +64,7 @@ fn messages_of<R: Read + Drop, E: Write>(
         return Err(StationFault::OutOfMemory);
     };
     let reading = Reading {
-        region,
+        input: Input::Phrases(region),
         size: STATION_MAX + 1,
         strict: true,
     };

@@ -124,7 +124,7 @@ EndsAs went applied refused said said' status =
 abbrev pub FromFeed : {D : Type 0} → (unread : D → Option (List ℕ))
     → (takes : D → Result Next FeedFault → List ℕ → D → Type 0) → (says : D → Bool → D → Type 0) → Reading
     → (messages : List (List ℕ)) → After → (x x' : FeedIntake D) → Type 0
-FromFeed unread takes says reading = TakesBatch unread takes says reading.region reading.size reading.strict
+FromFeed unread takes says reading = TakesBatch unread takes says reading.input reading.size reading.strict
 
 -- ---- What is outstanding is given up.
 

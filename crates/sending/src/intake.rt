@@ -72,7 +72,7 @@ impl<'f, 'e, F: Feed, E: Write> Intake<'f, 'e, F, E> {
 
     /// Takes lines up to as many messages as a batch may have, and tells what comes after it: it waits for the first,
     /// and then takes those that are there. The batch is empty at the start.
-    pub(crate) fn take(&mut self, reading: &Reading, batch: &mut Vec<Message>) -> After
+    pub(crate) fn take(&mut self, reading: &Reading<'_>, batch: &mut Vec<Message>) -> After
         requires empty { batch.old.items ≡ [] }
         requires some { 1 ≤ reading.now.size }
         ensures takes { FromFeed F.remaining F.takes F.says reading.now batch.new.items result self.old.at self.new.at }

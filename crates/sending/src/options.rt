@@ -10,7 +10,7 @@ pub struct LiveOptions<'a> {
     /// What its sender may spend.
     pub limits: Limits,
     /// How its lines are read.
-    pub reading: Reading,
+    pub reading: Reading<'a>,
     /// Whether its encoder is joined even where it was joined before. What waits is then given up.
     pub join: bool,
     /// Whether an encoder is taken for a new one where messages are outstanding and each try was spent: it is joined,

@@ -18,7 +18,7 @@ use Rattle.uecp_encoder.specs.Keeping as serving
 use Rattle.uecp_net.specs.declared.saved.keep.Progress.{Progress}
 use Rattle.uecp_net.specs.Keeping as sending
 use Rattle.state_files.specs.declared.reading.Found.{Found}
-use Rattle.command_line.specs.CommandLine.{uecp_app, Asks, GivesNoForm, GivesNoList}
+use Rattle.command_line.specs.CommandLine.{uecp_app, Asks, GivesNoChoice, GivesNoList}
 use Rattle.command_line.specs.Usages.{no_list_line, SaysFailure}
 use Rattle.uecp_watch.specs.Watching.{Watches}
 use Rattle.uecp_jobs.specs.Jobs.{IsDone, IsRefused, IsUndescribed, HasFailed}
@@ -151,13 +151,13 @@ abbrev pub HasCome : (comes : Job → (status : ℕ) → (unread unread' held he
 HasCome comes words status unread unread' held held' told told' =
     (job : Job) × Asks words job × comes job status unread unread' held held' told told'
 
--- The words ask for nothing that can be done: they are mistaken, or give a list of services that is none or a form of a
--- ladder that is none, or ask for a job whose options describe no encoder. The first and the third are said by clap,
--- and the others were said on standard error.
+-- The words ask for nothing that can be done: they are mistaken, or give a list of services that is none or a word that
+-- is none of those that its option has, or ask for a job whose options describe no encoder. The first and the third are
+-- said by clap, and the others were said on standard error.
 abbrev pub HasRefusedWords : (words : List (List ℕ)) → (told told' : Told) → Type 0
 HasRefusedWords words told told' =
     AreMistaken words ⊎ ((GivesNoList words × Says told told' no_list_line)
-    ⊎ (GivesNoForm words ⊎ ((job : Job) × Asks words job × IsUndescribed job (Says told told'))))
+    ⊎ (GivesNoChoice words ⊎ ((job : Job) × Asks words job × IsUndescribed job (Says told told'))))
 
 -- The words gave no job: they are refused, and nothing that they ask for can be done; or memory was wanting, or the
 -- text that they ask for could not be written. That was said.

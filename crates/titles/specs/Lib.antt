@@ -1,0 +1,5 @@
+-- The definitions that the contracts of titles cite.
+pub mod Nearest
+pub mod Fitting
+pub mod Cut
+pub mod Titles
