@@ -1,1 +1,4 @@
 -- The lemmas of titles.
+mod Leading
+mod Standing
+mod Cutting
