@@ -1,9 +1,8 @@
 -- What is added to a text one after another, by what is left of a list.
-use Rattle.std.proofs.Common.{◌≡◌, ◌+◌, ◌<◌, ℕ, Bool, true, false, List, [], ◌∷◌, ◌++◌, length, take, drop, refl, sym}
-use Rattle.std.proofs.Common.{ap, ◌∙◌, subst, get_or, inl, inr}
-use Rattle.std.proofs.lemmas.List.{append_assoc, append-nil, drop_more, take-append-drop}
-use Rattle.unicode_normalization.specs.Lookups.{is_combining_mark}
-use Rattle.titles.specs.Fitting.{AreFitted, AreTold, AreToldOrNot, IsFitted, IsOneUntold, IsTold, IsUntold, Puts, Tells}
+use Rattle.std.proofs.Common.{◌≡◌, ◌+◌, ◌<◌, ◌≤◌, ℕ, List, [], ◌∷◌, ◌++◌, length, take, drop, refl, sym}
+use Rattle.std.proofs.Common.{ap, ◌∙◌, subst, get_or}
+use Rattle.std.proofs.lemmas.List.{append_assoc, append-nil, drop_all, drop_more, take-append-drop}
+use Rattle.titles.specs.Fitting.{AreFitted, AreParts, IsFitted, IsNoPart, IsOneNoPart, IsPart, Puts}
 
 -- Whatever what is left adds to this text makes what all add.
 abbrev pub Leads : (rest whole : List ℕ → Type 0) → (before now : List ℕ) → Type 0
@@ -23,39 +22,48 @@ pub leads_end : (rest whole : List ℕ → Type 0) (before now : List ℕ) → r
     → Puts whole before now
 leads_end rest whole before now none leads = subst (Puts whole before) (append-nil now) (leads [] none)
 
+-- ---- where a list has an item
+here : (cs : List ℕ) (i item : ℕ) → i < length cs → item ≡ get_or cs i item → drop i cs ≡ item ∷ drop (i + 1) cs
+here cs i item lt is = drop_more cs i item lt ∙ ap (λ k. k ∷ drop (i + 1) cs) (sym is)
+
 -- ---- of characters that are made to fit
-pub fitted_on : (cs : List ℕ) (i : ℕ) (whole : List ℕ → Type 0) (before now next : List ℕ) → i < length cs
-    → Leads (AreFitted (drop i cs)) whole before now → Puts (IsFitted (get_or cs i 0)) now next
+pub fitted_on : (cs : List ℕ) (i item : ℕ) (whole : List ℕ → Type 0) (before now next : List ℕ) → i < length cs
+    → item ≡ get_or cs i item → Leads (AreFitted (drop i cs)) whole before now → Puts (IsFitted item) now next
     → Leads (AreFitted (drop (i + 1) cs)) whole before next
-fitted_on cs i whole before now next lt leads put =
-    leads_on (IsFitted (get_or cs i 0)) (AreFitted (drop (i + 1) cs)) (AreFitted (get_or cs i 0 ∷ drop (i + 1) cs)) whole
+fitted_on cs i item whole before now next lt is leads put =
+    leads_on (IsFitted item) (AreFitted (drop (i + 1) cs)) (AreFitted (item ∷ drop (i + 1) cs)) whole
     before now next (λ first more one rest. (first, more, refl, one, rest))
-    (subst (λ k. Leads (AreFitted k) whole before now) (drop_more cs i 0 lt) leads) put
+    (subst (λ k. Leads (AreFitted k) whole before now) (here cs i item lt is) leads) put
+
+pub fitted_end : (cs : List ℕ) (i : ℕ) (before now : List ℕ) → length cs ≤ i
+    → Leads (AreFitted (drop i cs)) (AreFitted cs) before now → Puts (AreFitted cs) before now
+fitted_end cs i before now all leads =
+    leads_end (AreFitted []) (AreFitted cs) before now refl
+    (subst (λ k. Leads (AreFitted k) (AreFitted cs) before now) (drop_all i cs all) leads)
 
 -- ---- of the parts of a character
-pub told_on : (cs : List ℕ) (i : ℕ) (whole : List ℕ → Type 0) (before now next : List ℕ) → i < length cs
-    → is_combining_mark (get_or cs i 0) ≡ false → Leads (AreTold (drop i cs)) whole before now
-    → Puts (IsTold (get_or cs i 0)) now next → Leads (AreTold (drop (i + 1) cs)) whole before next
-told_on cs i whole before now next lt plain leads put =
-    leads_on (IsTold (get_or cs i 0)) (AreTold (drop (i + 1) cs)) (AreTold (get_or cs i 0 ∷ drop (i + 1) cs)) whole
-    before now next (λ first more one rest. inr (plain, (first, more, refl, one, rest)))
-    (subst (λ k. Leads (AreTold k) whole before now) (drop_more cs i 0 lt) leads) put
+pub parts_on : (cs : List ℕ) (i item : ℕ) (whole : List ℕ → Type 0) (before now next : List ℕ) → i < length cs
+    → item ≡ get_or cs i item → Leads (AreParts (drop i cs)) whole before now → Puts (IsPart item) now next
+    → Leads (AreParts (drop (i + 1) cs)) whole before next
+parts_on cs i item whole before now next lt is leads put =
+    leads_on (IsPart item) (AreParts (drop (i + 1) cs)) (AreParts (item ∷ drop (i + 1) cs)) whole
+    before now next (λ first more one rest. (first, more, refl, one, rest))
+    (subst (λ k. Leads (AreParts k) whole before now) (here cs i item lt is) leads) put
 
-pub mark_on : (cs : List ℕ) (i : ℕ) (whole : List ℕ → Type 0) (before now : List ℕ) → i < length cs
-    → is_combining_mark (get_or cs i 0) ≡ true → Leads (AreTold (drop i cs)) whole before now
-    → Leads (AreTold (drop (i + 1) cs)) whole before now
-mark_on cs i whole before now lt mark leads = λ tail left.
-    subst (λ k. Leads (AreTold k) whole before now) (drop_more cs i 0 lt) leads tail (inl (mark, left))
+pub parts_end : (cs : List ℕ) (i : ℕ) (before now : List ℕ) → length cs ≤ i
+    → Leads (AreParts (drop i cs)) (AreParts cs) before now → Puts (AreParts cs) before now
+parts_end cs i before now all leads =
+    leads_end (AreParts []) (AreParts cs) before now refl
+    (subst (λ k. Leads (AreParts k) (AreParts cs) before now) (drop_all i cs all) leads)
 
-pub one_untold : (cs : List ℕ) (i : ℕ) → i < length cs → is_combining_mark (get_or cs i 0) ≡ false
-    → IsUntold (get_or cs i 0) → IsOneUntold cs
-one_untold cs i lt plain untold = (
+pub one_no_part : (cs : List ℕ) (i item : ℕ) → i < length cs → item ≡ get_or cs i item → IsNoPart item
+    → IsOneNoPart cs
+one_no_part cs i item lt is none = (
   take i cs,
   drop (i + 1) cs,
-  get_or cs i 0,
-  sym (take-append-drop i cs) ∙ ap (λ k. take i cs ++ k) (drop_more cs i 0 lt),
-  plain,
-  untold,
+  item,
+  sym (take-append-drop i cs) ∙ ap (λ k. take i cs ++ k) (here cs i item lt is),
+  none,
 )
 
 -- ---- of some bytes

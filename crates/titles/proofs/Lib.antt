@@ -1,4 +1,5 @@
 -- The lemmas of titles.
+mod Given
 mod Leading
 mod Standing
 mod Cutting

@@ -19,19 +19,24 @@ IsTold character bytes =
 abbrev pub IsUntold : (character : ℕ) → Type 0
 IsUntold character = IsNotInSet character × (nearest character ≡ None)
 
--- These bytes tell the characters, each by itself and in order, but for marks, which are left out.
-abbrev pub AreTold : (characters bytes : List ℕ) → Type 0
-AreTold [] bytes = bytes ≡ []
-AreTold (c ∷ others) bytes =
-    ((is_combining_mark c ≡ true) × AreTold others bytes)
-    ⊎ ((is_combining_mark c ≡ false) × ((first more : List ℕ) × (bytes ≡ first ++ more) × IsTold c first
-    × AreTold others more))
+-- What a part of a character is: nothing, where it is a mark, as an accent; else what tells it.
+abbrev pub IsPart : (part : ℕ) → (bytes : List ℕ) → Type 0
+IsPart part bytes =
+    ((is_combining_mark part ≡ true) × (bytes ≡ [])) ⊎ ((is_combining_mark part ≡ false) × IsTold part bytes)
 
--- Nothing tells one of them, and that is no mark.
-abbrev pub IsOneUntold : (characters : List ℕ) → Type 0
-IsOneUntold characters =
-    (before after : List ℕ) × (c : ℕ) × (characters ≡ before ++ c ∷ after) × (is_combining_mark c ≡ false)
-    × IsUntold c
+-- It is no mark, and nothing tells it.
+abbrev pub IsNoPart : (part : ℕ) → Type 0
+IsNoPart part = (is_combining_mark part ≡ false) × IsUntold part
+
+-- What parts are, each by itself and in order.
+abbrev pub AreParts : (parts bytes : List ℕ) → Type 0
+AreParts [] bytes = bytes ≡ []
+AreParts (part ∷ others) bytes =
+    (first more : List ℕ) × (bytes ≡ first ++ more) × IsPart part first × AreParts others more
+
+-- One of them is none.
+abbrev pub IsOneNoPart : (parts : List ℕ) → Type 0
+IsOneNoPart parts = (before after : List ℕ) × (part : ℕ) × (parts ≡ before ++ part ∷ after) × IsNoPart part
 
 -- What a character is where it is made to fit: what tells it; where nothing does what tells its parts, without marks,
 -- as of a letter with accents (Unicode, compatibility decomposition); and where nothing tells one of these a question
@@ -39,8 +44,8 @@ IsOneUntold characters =
 abbrev pub IsFitted : (character : ℕ) → (bytes : List ℕ) → Type 0
 IsFitted character bytes =
     IsTold character bytes
-    ⊎ (IsUntold character × (AreTold (nfkd (character ∷ [])) bytes
-    ⊎ (IsOneUntold (nfkd (character ∷ [])) × (bytes ≡ codes "?"))))
+    ⊎ (IsUntold character × (AreParts (nfkd (character ∷ [])) bytes
+    ⊎ (IsOneNoPart (nfkd (character ∷ [])) × (bytes ≡ codes "?"))))
 
 -- What characters are, each by itself and in order.
 abbrev pub AreFitted : (characters bytes : List ℕ) → Type 0
@@ -59,7 +64,12 @@ abbrev pub Tells : (character : ℕ) → (is_told : Bool) → (before after : Li
 Tells character true before after = Puts (IsTold character) before after
 Tells character false before after = IsUntold character × (after ≡ before)
 
--- What tells characters was added; or something, since nothing tells one of them. (private)
-abbrev pub AreToldOrNot : (characters : List ℕ) → (are_told : Bool) → (before after : List ℕ) → Type 0
-AreToldOrNot characters true before after = Puts (AreTold characters) before after
-AreToldOrNot characters false before after = IsOneUntold characters × Puts (λ bytes. Unit {0}) before after
+-- What a part is was added; or nothing, since it is none. (private)
+abbrev pub PutsPart : (part : ℕ) → (is_part : Bool) → (before after : List ℕ) → Type 0
+PutsPart part true before after = Puts (IsPart part) before after
+PutsPart part false before after = IsNoPart part × (after ≡ before)
+
+-- What parts are was added; or something, since one is none. (private)
+abbrev pub PutsParts : (parts : List ℕ) → (are_parts : Bool) → (before after : List ℕ) → Type 0
+PutsParts parts true before after = Puts (AreParts parts) before after
+PutsParts parts false before after = IsOneNoPart parts × Puts (λ bytes. Unit {0}) before after

@@ -1,7 +1,7 @@
 //! A text that is made to fit the basic character set (profile).
 ghost use Rattle.std.specs.Prelude.{◌≡◌, ◌∷◌, [], ◌++◌, IfOk, OnOk, chars};
 ghost use Rattle.unicode_normalization.specs.Forms.{nfc, nfkd};
-ghost use Rattle.titles.specs.Fitting.{AreFitted, AreToldOrNot, IsFitted, IsUntold, Puts, Tells};
+ghost use Rattle.titles.specs.Fitting.{AreFitted, IsFitted, Puts, PutsPart, PutsParts, Tells};
 
 use crate::nearest::nearest_to;
 use rds_text::byte_of;
@@ -57,16 +57,26 @@ fn put_fitted(alloc: Global, character: char, text: &mut Vec<u8>) -> Result<(), 
     Ok(())
 }
 
-/// Adds what these parts of a character are, but for marks; and answers whether something tells each.
+/// Adds what these parts of a character are, each by itself; and answers whether something tells each.
 fn put_parts(parts: &[char], text: &mut Vec<u8>) -> Result<bool, AllocError>
-    ensures { IfOk result (λ are_told. AreToldOrNot parts.now are_told text.old.items text.new.items) }
+    ensures { IfOk result (λ are_parts. PutsParts parts.now are_parts text.old.items text.new.items) }
 {
     for part in parts {
-        if !is_combining_mark(*part) && !put_told(*part, text)? {
+        if !put_part(*part, text)? {
             return Ok(false);
         }
     }
     Ok(true)
+}
+
+/// Adds what a part of a character is: nothing, where it is a mark, else what tells it. Whether something does.
+fn put_part(part: char, text: &mut Vec<u8>) -> Result<bool, AllocError>
+    ensures { IfOk result (λ is_part. PutsPart part is_part text.old.items text.new.items) }
+{
+    if is_combining_mark(part) {
+        return Ok(true);
+    }
+    put_told(part, text)
 }
 
 /// Adds what tells a character, where something does: its own byte, where it is in the set, else the nearest. Whether

@@ -3,6 +3,7 @@ ghost use Rattle.std.specs.Prelude.{◌≡◌, option_map};
 ghost use Rattle.titles.specs.Nearest.{nearest, is_blank, is_apostrophe, is_quote, is_dash, is_unseen, nearest_letters};
 
 /// What is nearest to a character that is not in the set, where something is near.
+#[tactic(auto, unfolding(crate::specs::Nearest::nearest))]
 pub(crate) fn nearest_to(character: char) -> Option<&'static [u8]>
     ensures { option_map (λ text. text.now) result ≡ nearest character }
 {

@@ -203,12 +203,11 @@ fn put_written(byte: u8, shown: &mut String) -> Result<(), AllocError>
 
 /// The fault of a title whose character at this place is not in the set, or has no room.
 fn fault_at(characters: &[char], place: usize) -> TextFault
-    requires { place < length characters.now }
     ensures { IsUnsaid result }
 {
-    let what = match byte_of(characters[place]) {
-        Some(_) => TOO_LONG,
-        None => NOT_IN_SET,
+    let what = match characters.get(place) {
+        Some(character) if byte_of(*character).is_none() => NOT_IN_SET,
+        _ => TOO_LONG,
     };
-    unsaid_at(characters, place + 1, what)
+    unsaid_at(characters, place.saturating_add(1), what)
 }
