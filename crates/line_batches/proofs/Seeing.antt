@@ -163,13 +163,13 @@ module _ {D : Type 0} (remaining : D → Option (List ℕ)) (takes : D → Resul
     inr (fault, refl, inl (fails_seen size (messages_in taken) y z x' fault comes fails), passed),
   )
   ended_seen input size strict taken x y x' (Ends (Err fault)) on
-      (z, comes, inr (inl (is, (line, message, next))), passed) = (
+      (z, comes, inr (inl (is, (line, given, next, is_message))), passed) = (
         at y,
         lines_seen input size [] taken x y on,
         inr (
           fault,
           refl,
-          inr (is, (line, message, line_seen input size (messages_in taken) line _ y z x' comes next)),
+          inr (is, (line, given, line_seen input size (messages_in taken) line given y z x' comes next, is_message)),
           passed,
         ),
       )

@@ -1,6 +1,6 @@
 //! Lines are taken as they come, and make a batch. Source: profile.
 ghost use Rattle.std.specs.Prelude.{◌≡◌, ◌≤◌, ◌+◌, ◌-◌, ◌^◌, ◌||◌, ◌<◌, true, false, length, min, ℕ, List, []};
-ghost use Rattle.std.specs.Prelude.{Result, Ok, None, IfOk, IfErr, IfSome, IfNone};
+ghost use Rattle.std.specs.Prelude.{Result, Ok, None, IfOk, IfErr, IfSome, IfNone, codes, ◌++◌};
 ghost use Rattle.line_feed.specs.declared.feed.Next.{Next as Came};
 ghost use Rattle.line_feed.specs.declared.feed.Next.TheVariants.{End};
 ghost use Rattle.line_feed.specs.declared.feed_fault.FeedFault.{FeedFault as Fault};
@@ -125,7 +125,7 @@ fn put_given<F: Feed>(
 {
     match given {
         Given::Nothing => go_on(reading.size, batch, feed),
-        Given::Gives(message, _) => match batch.push(message) {
+        Given::Gives(message, _fitted) => match batch.push(message) {
             Ok(()) => go_on(reading.size, batch, feed),
             Err(_) => Some(After::Ends(Err(RunFault::OutOfMemory))),
         },
@@ -261,6 +261,13 @@ fn say_fitted<E: Write>(number: usize, fitted: &str, errors: &mut NoticesTo<E>)
 {
     let mut buffer = Buffer::new();
     let digits = buffer.format(number).as_bytes();
-    let fitted = fitted.as_bytes();
+    say_line(digits, fitted.as_bytes(), errors);
+}
+
+/// Says the line of a number, in digits, and of the text that was sent.
+fn say_line<'a, E: Write>(digits: &'a [u8], fitted: &'a [u8], errors: &mut NoticesTo<E>)
+    ensures { Says errors.old errors.new
+        (codes "uecp: line " ++ (digits.now ++ (codes ": fitted to \"" ++ (fitted.now ++ codes "\"\n")))) }
+{
     errors.say(&[b"uecp: line ", digits, b": fitted to \"", fitted, b"\"\n"]);
 }
