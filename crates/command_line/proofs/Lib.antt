@@ -1,4 +1,5 @@
 pub mod Options
+pub mod TitleTexts
 pub mod Apps
 pub mod Asked
 pub mod Helps

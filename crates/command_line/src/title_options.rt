@@ -1,5 +1,5 @@
 //! How the lines of the command `send` are titles (profile).
-ghost use Rattle.std.specs.Prelude.{◌≡◌, ℕ, List, Some, codes, IfOk, IfErr, IfSome, IfNone};
+ghost use Rattle.std.specs.Prelude.{◌≡◌, ℕ, List, Some, codes, is_some, IfOk, IfErr, IfSome, IfNone};
 ghost use Rattle.clap.specs.Words.{first_of, found_of, rows_of};
 ghost use Rattle.command_line.specs.TitleLines.{HasNoTitles, IsPrefix, IsService, IsTitles};
 ghost use Rattle.command_line.specs.TitleLines.{IsRefusal, RefusesTitles, input_text};
@@ -38,14 +38,21 @@ pub(crate) fn titles_of(
     }
 }
 
+/// Whether an option with a word is given.
+fn has_word(found: &ArgMatches<'_>, name: &str) -> bool
+    ensures { result ≡ is_some (first_of name.now (rows_of (found_of found.now))) }
+{
+    found.get_str(name).is_some()
+}
+
 /// Nothing, where nothing is asked for that is a title's.
 fn no_titles(alloc: Global, found: &ArgMatches<'_>) -> Result<Option<TitleOptions>, Usage>
     requires { input_text (rows_of (found_of found.now)) ≡ codes "phrases" }
     ensures titles { IfOk result (IsTitles (rows_of (found_of found.now))) }
     ensures refused { IfErr result (RefusesTitles (rows_of (found_of found.now))) }
 {
-    let has_prefix = found.get_str("prefix").is_some();
-    let has_service = found.get_str("service").is_some();
+    let has_prefix = has_word(found, "prefix");
+    let has_service = has_word(found, "service");
     if has_prefix || has_service || flag_of(found, "fit") {
         return Err(refusal(alloc, "input: --prefix, --service and --fit are for titles"));
     }
@@ -81,9 +88,17 @@ fn prefix_of(alloc: Global, found: &ArgMatches<'_>) -> Result<Option<Vec<u8>>, A
     ensures none { IfOk result (λ read. IfNone read ((bytes : List ℕ)
         → IsPrefix (first_of (codes "prefix") (rows_of (found_of found.now))) bytes → ⊥)) }
 {
-    let Some(text) = found.get_str("prefix") else {
-        return Ok(Some(Vec::new(alloc)));
-    };
+    match found.get_str("prefix") {
+        Some(text) => prefix_in(alloc, text),
+        None => Ok(Some(Vec::new(alloc))),
+    }
+}
+
+/// The bytes of a text that stands before each title.
+fn prefix_in(alloc: Global, text: &str) -> Result<Option<Vec<u8>>, AllocError>
+    ensures some { IfOk result (λ read. IfSome read (λ bytes. IsPrefix (Some text.now) bytes.items)) }
+    ensures none { IfOk result (λ read. IfNone read ((bytes : List ℕ) → IsPrefix (Some text.now) bytes → ⊥)) }
+{
     match text_of(alloc, text)? {
         Some(bytes) if bytes.len() <= PREFIX_MAX => Ok(Some(bytes)),
         _ => Ok(None),
