@@ -53,6 +53,9 @@ def option_of(line):
     return Option(short, long, value, with_default[1] if with_default else text or "", with_default[2] if with_default else None)
 
 
+HEADING = r"[A-Z][a-z]*( [a-z]+)*:"  # of a list in a help text
+
+
 def pairs_of(lines):
     """A name and its text, of lines as '  NAME  TEXT'."""
     return [tuple((line.strip() + "  ").split("  ", 1)) for line in lines]
@@ -65,9 +68,10 @@ def parts_of(text):
     for line in lines[1:]:
         if line.startswith("Usage: "):
             usage = line.removeprefix("Usage: ")
-        elif re.fullmatch(r"(Commands|Arguments|Options):", line):
-            head = line[:-1]
-            lists[head] = []
+        elif re.fullmatch(HEADING, line) and not after:
+            # options stand under headings where a command has many
+            head = line[:-1] if line in ("Commands:", "Arguments:") else "Options"
+            lists.setdefault(head, [])
         elif head and line.startswith("  "):
             lists[head].append(line)
         elif line or after:

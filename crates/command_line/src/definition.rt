@@ -19,6 +19,9 @@ const VERSION: &str = "1.0.0 (unreleased)";
 const GUIDE: &str =
     "At the studio: send, server. At the transmitter: encoder. On the line: watch, conformance. On the air: receive.\nTo look: page, state. With no line at all: make, show, answer, line.\n\nEach command but encoder, state and conformance reads standard input to its end, at most 1 MiB (1,048,576 bytes);\nwatch, send, receive and page go on as it comes, and have no limit.\n'uecp COMMAND --help' has its options and an example.\nExit status: 0 done, 1 an input line was refused, 2 the command line or the services were refused,\n3 memory, reading, writing, a connection or a state failed, 4 send: the encoder refused a message, or it is unknown.";
 
+/// How many options `--help` shows at most with no headings.
+const PLAIN_MAX: usize = 8;
+
 /// The program's commands and options, with their ranges, defaults and helpful texts.
 pub fn program<'a>(alloc: Global) -> Result<Command<'a>, AllocError>
     ensures { IfOk result (λ program. app_of program ≡ uecp_app) }
@@ -55,22 +58,24 @@ fn command_of<'a>(alloc: Global, row: &CommandRow) -> Result<Command<'a>, AllocE
     let command = Command::new(alloc, row.name)
         .about(row.about)
         .after_help(row.after);
-    let command = with_options(alloc, command, row.options)?;
-    with_options(alloc, command, FILE_OPTIONS)
+    let has_headings = row.options.len() > PLAIN_MAX;
+    let command = with_options(alloc, command, row.options, has_headings)?;
+    with_options(alloc, command, FILE_OPTIONS, has_headings)
 }
 
-/// The command with these options too.
+/// The command with these options too; under headings, where they are to be.
 fn with_options<'a>(
     alloc: Global,
     command: Command<'a>,
     options: &[OptionRow],
+    has_headings: bool,
 ) -> Result<Command<'a>, AllocError>
     ensures { IfOk result (λ whole. shape_of whole
         ≡ with_rules (shape_of command.entry) (map rule_of_row options.now)) }
 {
     let mut whole = command;
     for row in options {
-        whole = whole.arg(row_argument(alloc, row))?;
+        whole = whole.arg(row_argument(alloc, row, has_headings))?;
     }
     Ok(whole)
 }

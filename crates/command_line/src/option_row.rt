@@ -28,8 +28,67 @@ pub(crate) enum OptionRow {
     Argument(&'static str, &'static str, &'static str),
 }
 
-/// The argument of a row.
-pub(crate) fn row_argument<'a>(alloc: Global, row: &OptionRow) -> Arg<'a>
+impl OptionRow {
+    /// The name of the option or argument.
+    fn name(&self) -> &'static str {
+        match self {
+            OptionRow::Flag(name, _) => name,
+            OptionRow::Number(option) | OptionRow::MaybeNumber(option) => option.name,
+            OptionRow::MaybeWord(name, _, _) => name,
+            OptionRow::WordOr(name, _, _, _) => name,
+            OptionRow::MaybeWordOr(name, _, _, _) => name,
+            OptionRow::Argument(name, _, _) => name,
+        }
+    }
+}
+
+/// The argument of a row; under the heading of its option, where the options of its command stand under headings.
+pub(crate) fn row_argument<'a>(alloc: Global, row: &OptionRow, has_headings: bool) -> Arg<'a>
+    ensures rule { rule_of result ≡ rule_of_row row.now }
+    ensures own { result.global ≡ false }
+{
+    let argument = plain_argument(alloc, row);
+    match heading_of(row.name()) {
+        Some(heading) if has_headings => argument.help_heading(heading),
+        _ => argument,
+    }
+}
+
+/// The heading under which `--help` shows an option; None under the one that all commands have.
+fn heading_of(name: &str) -> Option<&'static str> {
+    match name {
+        "site" | "encoder" | "sets" | "services" => Some("Encoder"),
+        "listen"
+        | "host"
+        | "port"
+        | "connections"
+        | "turns"
+        | "forever"
+        | "idle"
+        | "yield"
+        | "allow"
+        | "tries"
+        | "timeout"
+        | "window"
+        | "reconnects"
+        | "reconnect-silent"
+        | "retry-every"
+        | "give-up"
+        | "silent"
+        | "quiet" => Some("Connection"),
+        "input" | "prefix" | "service" | "fit" | "strict" => Some("Lines"),
+        "words" | "rbds" | "json" | "name" | "no-time" => Some("Form"),
+        "log" | "log-wait" | "store" | "final-store" | "verbose" | "ladder" => Some("Output"),
+        "state" | "join" | "rejoin" | "station" => Some("State"),
+        "air" | "air-bits" => Some("On the air"),
+        "faults" | "seed" => Some("Bad line"),
+        "config" | "check-config" => Some("File of options"),
+        _ => None,
+    }
+}
+
+/// The argument of a row, under no heading.
+fn plain_argument<'a>(alloc: Global, row: &OptionRow) -> Arg<'a>
     ensures rule { rule_of result ≡ rule_of_row row.now }
     ensures own { result.global ≡ false }
 {
