@@ -51,9 +51,9 @@ fn no_titles(alloc: Global, found: &ArgMatches<'_>) -> Result<Option<TitleOption
     ensures titles { IfOk result (IsTitles (rows_of (found_of found.now))) }
     ensures refused { IfErr result (RefusesTitles (rows_of (found_of found.now))) }
 {
-    let has_prefix = has_word(found, "prefix");
-    let has_service = has_word(found, "service");
-    if has_prefix || has_service || flag_of(found, "fit") {
+    let prefix = has_word(found, "prefix");
+    let service = has_word(found, "service");
+    if prefix || service || flag_of(found, "fit") {
         return Err(refusal(alloc, "input: --prefix, --service and --fit are for titles"));
     }
     Ok(None)

@@ -3,20 +3,25 @@ use Rattle.std.specs.Prelude.{None}
 use Rattle.clap.specs.Words.{found_of, one_of, rows_of}
 use Rattle.command_line.specs.OptionTexts.{IsFlag}
 use Rattle.command_line.proofs.TitleTexts.{no_text}
-use Rattle.command_line.proofs.title_options.no_titles.Goals.{then-has_prefix-via-then-has_prefix, then-has_prefix-via-else-has_prefix+then-has_service, then-has_prefix-via-else-has_prefix+else-has_service+then-flag_of}
+use Rattle.command_line.proofs.title_options.no_titles.Goals.{then-prefix-via-then-prefix}
+use Rattle.command_line.proofs.title_options.no_titles.Goals.{then-prefix-via-else-prefix+then-service}
+use Rattle.command_line.proofs.title_options.no_titles.Goals.{then-prefix-via-else-prefix+else-service+then-flag_of}
 use Rattle.command_line.proofs.title_options.no_titles.Goals as goal
 
-pub returns-then-has_prefix-clause-refused : goal.returns-then-has_prefix-clause-refused
-returns-then-has_prefix-clause-refused c =
-    elim c.then-has_prefix.branch [
-      | then-has_prefix-via-then-has_prefix w ↦
-          inr (c.refusal.ensures, inr (inl (c.requires, inl (sym c.has_word-has_prefix.ensures ∙ w.if-has_prefix.true))))
-      | then-has_prefix-via-else-has_prefix+then-has_service w ↦
+pub returns-then-prefix-clause-refused : goal.returns-then-prefix-clause-refused
+returns-then-prefix-clause-refused c =
+    elim c.then-prefix.branch [
+      | then-prefix-via-then-prefix w ↦
           inr (
             c.refusal.ensures,
-            inr (inl (c.requires, inr (inl (sym c.has_word-has_service.ensures ∙ w.if-has_service.true)))),
+            inr (inl (c.requires, inl (sym c.has_word-prefix.ensures ∙ w.if-prefix.true))),
           )
-      | then-has_prefix-via-else-has_prefix+else-has_service+then-flag_of w ↦
+      | then-prefix-via-else-prefix+then-service w ↦
+          inr (
+            c.refusal.ensures,
+            inr (inl (c.requires, inr (inl (sym c.has_word-service.ensures ∙ w.if-service.true)))),
+          )
+      | then-prefix-via-else-prefix+else-service+then-flag_of w ↦
           inr (
             c.refusal.ensures,
             inr (inl (
@@ -30,7 +35,7 @@ returns-then-has_prefix-clause-refused c =
 pub returns-clause-titles : goal.returns-clause-titles
 returns-clause-titles c = (
   c.requires,
-  no_text _ (sym c.has_word-has_prefix.ensures ∙ c.if-has_prefix.false),
-  no_text _ (sym c.has_word-has_service.ensures ∙ c.if-has_service.false),
+  no_text _ (sym c.has_word-prefix.ensures ∙ c.if-prefix.false),
+  no_text _ (sym c.has_word-service.ensures ∙ c.if-service.false),
   subst (IsFlag (one_of (codes "fit") (rows_of (found_of c.args.found.now)))) c.if-flag_of.false c.flag_of.ensures,
 )

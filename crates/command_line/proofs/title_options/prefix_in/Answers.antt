@@ -1,7 +1,8 @@
 use Rattle.std.proofs.Common.{rules, ◌≤◌, ℕ, List, [], chars, length, arith}
 use Rattle.titles.specs.Titles.{NoneStands, Stands}
 use Rattle.command_line.proofs.TitleTexts.{no_prefix}
-use Rattle.command_line.proofs.title_options.prefix_in.Goals.{in_default-via-in-Some+else-len-le-PREFIX_MAX, in_default-via-in_default}
+use Rattle.command_line.proofs.title_options.prefix_in.Goals.{in_default-via-in-Some+else-len-le-PREFIX_MAX}
+use Rattle.command_line.proofs.title_options.prefix_in.Goals.{in_default-via-in_default}
 use Rattle.command_line.proofs.title_options.prefix_in.Goals as goal
 
 pub returns-in_default-clause-none : goal.returns-in_default-clause-none
