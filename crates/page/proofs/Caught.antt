@@ -10,6 +10,7 @@ use Rattle.page.specs.declared.guests.guest.Guest.{Guest}
 use Rattle.page.specs.declared.guests.guest.Deed.{Deed}
 use Rattle.page.specs.declared.guests.guest.Deed.TheVariants.{CatchUp, Deliver, Tick, End}
 use Rattle.page.specs.declared.guests.room.Room.{Room}
+use Rattle.page.specs.declared.state.silence.Moment.{Moment}
 use Rattle.page.specs.Events.{Past}
 use Rattle.page.specs.State.{State}
 use Rattle.page.specs.Answers.{Source}
@@ -110,10 +111,10 @@ module _ {C : Type 0} (talk : C → Talk) (past : Past) where
 
   -- one is heard
   pub caught_heard : (origin numbered : C → ℕ) (reads : C → List ℕ → Passed → C → Type 0) (number : ℕ) (shown : State)
-      (seconds : Option ℕ) (own_only : Bool) (gs gs' : List (Guest C))
-      → HearsOne talk origin numbered reads number shown past seconds own_only gs gs' → AreCaughtUp past gs
+      (moment : Moment) (own_only : Bool) (gs gs' : List (Guest C))
+      → HearsOne talk origin numbered reads number shown past moment own_only gs gs' → AreCaughtUp past gs
       → AreCaughtUp past gs'
-  caught_heard origin numbered reads number shown seconds own_only gs gs' h all =
+  caught_heard origin numbered reads number shown moment own_only gs gs' h all =
       let P : List (Guest C) → Type 0 = λ xs. AreCaughtUp past xs in
       let parts = all_seam talk Caught h.before h.behind h.one (subst P h.among all) in
       caught_gives h.room h.heard gs' h.gives
