@@ -7,4 +7,7 @@ pub struct PageOptions {
     pub listen: Option<String>,
     /// The port on which it listens, 1 to 65535, where it is given apart; 8080 where neither has one.
     pub port: Option<u16>,
+    /// For how many seconds, 1 to 86,400, nothing was told of a control line that is stale; where it is left out none
+    /// ever is.
+    pub stale: Option<u32>,
 }
