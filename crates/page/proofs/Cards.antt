@@ -151,7 +151,8 @@ goes_first : (is : Bool) (d : Arrived) (ds : List Arrived) (name : List ℕ) (l 
     → card name (shown_of ds (after d s))
     ≡ Some (line_behind (cond is (d ∷ of_line name ds) (of_line name ds)) l)
 goes_first true d ds name l s is found rest =
-    rest (line_after d l) (ap (λ n. find (is_named name) (told_line 128 n d s.lines)) (same_name (name_of d.object) name is)
+    rest (line_after d l) (ap (λ n. find (is_named name) (told_line 128 n d s.lines))
+        (same_name (name_of d.object) name is)
     ∙ told_shown 128 name d l s.lines found)
 goes_first false d ds name l s is found rest =
     rest l (told_other 128 name (name_of d.object) d s.lines is ∙ found)
@@ -202,7 +203,8 @@ or_left_out : {A B C : Type 0} {P : Type 0} → A ⊎ (B × C) → A ⊎ (B × (
 or_left_out (inl a) = inl a
 or_left_out (inr (b, c)) = inr (b, inr c)
 
-comes_with : (is : Bool) (d : Arrived) (ds : List Arrived) (name : List ℕ) (s : State) → bytes_eq (name_of d.object) name ≡ is
+comes_with : (is : Bool) (d : Arrived) (ds : List Arrived) (name : List ℕ) (s : State)
+    → bytes_eq (name_of d.object) name ≡ is
     → card name s ≡ None → (card name (after d s) ≡ None → Comes name ds (after d s))
     → (card name (shown_of ds (after d s)) ≡ Some (line_behind (cond is (d ∷ of_line name ds) (of_line name ds))
     (new_line name)))
@@ -221,7 +223,8 @@ pub line_alone : (ds : List Arrived) (name : List ℕ) → Comes name ds at_firs
 line_alone ds name = comes ds name at_first refl
 
 -- none is there twice
-distinct_end : (full : Bool) (name : List ℕ) (d : Arrived) → AreDistinct (cond full [] (line_after d (new_line name) ∷ []))
+distinct_end : (full : Bool) (name : List ℕ) (d : Arrived)
+    → AreDistinct (cond full [] (line_after d (new_line name) ∷ []))
 distinct_end true name d = tt
 distinct_end false name d = (refl, tt)
 
@@ -259,7 +262,8 @@ cleared d s h =
     let is : text_at (codes "kind") d ≡ Some (codes "store") = is_text (text_at (codes "kind") d) (codes "store") h in
     rw is refl
 
-pub store_clears : (d : Arrived) (l l' : Line) → is_kind (codes "store") d.object ≡ true → l.air.answers ≡ l'.air.answers
+pub store_clears : (d : Arrived) (l l' : Line) → is_kind (codes "store") d.object ≡ true
+    → l.air.answers ≡ l'.air.answers
     → ((line_after d l).air.services ≡ []) × ((line_after d l).air.frame ≡ None)
     × ((ds : List Arrived) → (line_behind (d ∷ ds) l).air ≡ (line_behind (d ∷ ds) l').air)
 store_clears d l l' h same =

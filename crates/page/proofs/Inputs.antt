@@ -53,7 +53,8 @@ is_one cut (inl is) same = absurd (cc)
 is_one cut (inr is) same = absurd (cc)
 
 -- it is the line that was taken
-pub takes_next : (came : ℕ) (i j : Intake) (between : Cutting) (cut : Cut) (taken : Taken) → (cut ≡ Line) ⊎ (cut ≡ TooLong)
+pub takes_next : (came : ℕ) (i j : Intake) (between : Cutting) (cut : Cut) (taken : Taken)
+    → (cut ≡ Line) ⊎ (cut ≡ TooLong)
     → Cuts (cutting_of i) between cut → cutting_of j ≡ between
     → TakesIn between.held.line came (board_of i) (board_of j) taken → TakesNext came i j (Some taken)
 takes_next came i j between cut taken is cuts same takes = (
@@ -63,7 +64,8 @@ takes_next came i j between cut taken is cuts same takes = (
   subst (λ x. TakesIn x.held.line came (board_of i) (board_of j) taken) (sym same) takes,
 )
 
-pub takes_last : (came : ℕ) (i j : Intake) (between : Cutting) (cut : Cut) (taken : Taken) → (cut ≡ Line) ⊎ (cut ≡ TooLong)
+pub takes_last : (came : ℕ) (i j : Intake) (between : Cutting) (cut : Cut) (taken : Taken)
+    → (cut ≡ Line) ⊎ (cut ≡ TooLong)
     → IsLast (cutting_of i).held between.held cut → cutting_of j ≡ between
     → TakesIn between.held.line came (board_of i) (board_of j) taken → TakesLast came i j (Some taken)
 takes_last came i j between cut taken is last same takes = (

@@ -52,7 +52,8 @@ none_of p ls h k d lt = not_true _ (λ t. not_both (list_any p ls) (list_any_at 
 -- the status is by the test
 status_is : (b : Bool) (text : List ℕ) → ℕ
 status_is b text =
-    (cond b (plain 503 (codes "Service Unavailable") text) (given (codes "text/plain; charset=utf-8") (codes "ok\n"))).status
+    (cond b (plain 503 (codes "Service Unavailable") text)
+        (given (codes "text/plain; charset=utf-8") (codes "ok\n"))).status
 
 wrong : (b : Bool) (text : List ℕ) → (status_is b text ≡ 503) ↔ (b ≡ true)
 unfolding status_is

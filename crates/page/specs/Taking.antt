@@ -18,6 +18,7 @@ IsOurs line d = IsUtf8 line × (read line ≡ Some d) × (is_ours d ≡ true)
 -- number with a fraction; or as another line, which is only counted.
 abbrev pub Takes : (line : List ℕ) → (came : ℕ) → (before behind : State) → Took → Type 0
 Takes line came before behind (Ours text) =
-    (d : Data) × IsOurs line d × (behind ≡ after (record { object = d; came = came }) before) × (has_float d ≡ false → string_bytes text ≡ compact_text d)
+    (d : Data) × IsOurs line d × (behind ≡ after (record { object = d; came = came }) before)
+    × (has_float d ≡ false → string_bytes text ≡ compact_text d)
     × (depth d ≤ max_depth → read (string_bytes text) ≡ Some d)
 Takes line came before behind Other = (behind ≡ after_other before) × ((d : Data) → IsOurs line d → ⊥)

@@ -15,13 +15,15 @@ module _ {C : Type 0} (guests : List (Guest C)) (before behind : Intake) (told :
       → AreCaughtUp (board_of behind).past guests
   as_before is caught = subst (λ (p : Past). AreCaughtUp p guests) (sym is) caught
 
-  pub caught_next : (came : ℕ) → told ≡ Some taken → TakesNext came before behind told → AreCaughtUp (board_of before).past guests
+  pub caught_next : (came : ℕ) → told ≡ Some taken → TakesNext came before behind told
+      → AreCaughtUp (board_of before).past guests
       → (taken ≡ Event → ⊥) → AreCaughtUp (board_of behind).past guests
   caught_next came is takes caught none =
       let (cut, some, cuts, takes_in) = subst (λ (t : Option Taken). TakesNext came before behind t) is takes in
       as_before (kept_in _ came (board_of before) (board_of behind) taken takes_in none) caught
 
-  pub caught_last : (came : ℕ) → told ≡ Some taken → TakesLast came before behind told → AreCaughtUp (board_of before).past guests
+  pub caught_last : (came : ℕ) → told ≡ Some taken → TakesLast came before behind told
+      → AreCaughtUp (board_of before).past guests
       → (taken ≡ Event → ⊥) → AreCaughtUp (board_of behind).past guests
   caught_last came is takes caught none =
       let (cut, some, cuts, takes_in) = subst (λ (t : Option Taken). TakesLast came before behind t) is takes in

@@ -3,7 +3,7 @@
 
 /// What a browser may load for it, and from where (Content Security Policy Level 3).
 pub(crate) const POLICY: &[u8] = b"default-src 'none'; \
-    script-src 'sha256-jAxFoPl29uoI3CWSKVYeR28IB8oC5Es6sBqRHgSaydA='; \
+    script-src 'sha256-xzjEK5PIQ1fapCARNIev/HQalf2oh2sUk7U86DoH+M0='; \
     style-src 'sha256-Whk7X6C8pvGtaFWsNPpJ4w4zvmyQ5Ger3iUq5Pak9g8='; \
     connect-src 'self'; \
     img-src data:; \
