@@ -73,9 +73,9 @@ module _ {C : Type 0} (talk : C → Talk) where
     pub live_few : (live_in heard ≤ live_most) ⊎ IsOver room heard
 
   -- Something came on the connection of this number: that one is heard, at this moment, from what is shown and kept
-  -- then, and whether there is a place of events for one that comes from where it comes, which depends on all; and it is
-  -- sent what waits, and kept or let go. Where it gets events from then on, and all places of those were taken, the one that gives it
-  -- its place is let go. The others stand as they stood.
+  -- then, and whether there is a place of events for one that comes from where it comes, which depends on all; and it
+  -- is sent what waits, and kept or let go. Where it gets events from then on, and all places of those were taken, the
+  -- one that gives it its place is let go. The others stand as they stood.
   pub record HearsOne (origin numbered : C → ℕ) (reads : C → List ℕ → Passed → C → Type 0) (number : ℕ) (shown : State)
       (past : Past) (moment : Moment) (own_only : Bool) (guests guests' : List (Guest C)) : Type 0 where
     pub before : List (Guest C)

@@ -14,8 +14,8 @@ use Rattle.page.specs.State.{State, after, after_other}
 abbrev pub IsOurs : (line : List ℕ) → Data → Type 0
 IsOurs line d = IsUtf8 line × (read line ≡ Some d) × (is_ours d ≡ true)
 
--- A line was taken that came then: as an object of ours, and its text written anew says the same, with no space where it has no
--- number with a fraction; or as another line, which is only counted.
+-- A line was taken that came then: as an object of ours, and its text written anew says the same, with no space where
+-- it has no number with a fraction; or as another line, which is only counted.
 abbrev pub Takes : (line : List ℕ) → (came : ℕ) → (before behind : State) → Took → Type 0
 Takes line came before behind (Ours text) =
     (d : Data) × IsOurs line d × (behind ≡ after (record { object = d; came = came }) before)
