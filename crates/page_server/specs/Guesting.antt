@@ -25,10 +25,14 @@ PassesNone Gone = Unit {0}
 abbrev pub AllCaughtUp : {C : Type 0} → Serving C → Type 0
 AllCaughtUp s = AreCaughtUp (board_of s.intake).past (guests_of s.guests)
 
--- The moment at which one is heard where the clock says now: how many whole seconds ago the last message came, where one
--- did, and the limit of what is stale.
+-- How many whole seconds have gone by since then, where it is told.
+abbrev pub seconds_since : (then : Option ℕ) → (now : ℕ) → Option ℕ
+seconds_since then now = option_map (λ t. (now - t) / 1000) then
+
+-- The moment at which one is heard where the clock says now: how many seconds ago the last message came, where one did,
+-- and the limit of what is stale.
 abbrev pub moment_of : {C : Type 0} → Serving C → (now : ℕ) → Moment
-moment_of s now = record { now = now; seconds = option_map (λ heard. (now - heard) / 1000) s.heard; stale = s.stale }
+moment_of s now = record { now = now; seconds = seconds_since s.heard now; stale = s.stale }
 
 -- A line was taken as one that came when the clock was read.
 abbrev pub TakesNow : {S : Type 0} → (takes : (came : ℕ) → (before behind : Intake) → Option Taken → Type 0)

@@ -7,7 +7,7 @@ ghost use Rattle.page.specs.Intake.{board_of, IsLoopback, first_number};
 ghost use Rattle.page.specs.Input.{cutting_of, IntakeOf, TakesNext, TakesLast, GoesOn, Ends};
 ghost use Rattle.page_server.specs.Serving.{ReadsAll, Moves, other_line};
 ghost use Rattle.notices.specs.Told.{Says};
-ghost use Rattle.page_server.specs.Guesting.{AllCaughtUp, moment_of, TakesNow, IsServing, IsHeard, Welcomes, Settles};
+ghost use Rattle.page_server.specs.Guesting.{AllCaughtUp, seconds_since, moment_of, TakesNow, IsServing, IsHeard, Welcomes, Settles};
 ghost use Rattle.page.specs.Talk.{IsUnsaid};
 ghost use Rattle.page.specs.Visits.{guests_of, AllDo};
 
@@ -181,13 +181,9 @@ impl<C: Connection> Serving<C> {
     fn moment(&self, now: u64) -> Moment
         ensures { result ≡ moment_of self.now now }
     {
-        let seconds = match self.heard {
-            Some(heard) => Some(now.saturating_sub(heard) / 1000),
-            None => None,
-        };
         Moment {
             now,
-            seconds,
+            seconds: seconds_since(self.heard, now),
             stale: self.stale,
         }
     }
@@ -442,6 +438,16 @@ impl<C: Connection> Serving<C> {
         if self.intake.page().messages() != before {
             self.heard = Some(came);
         }
+    }
+}
+
+/// How many whole seconds have gone by since then, where it is told.
+fn seconds_since(then: Option<u64>, now: u64) -> Option<u64>
+    ensures { result ≡ seconds_since then now }
+{
+    match then {
+        Some(then) => Some(now.saturating_sub(then) / 1000),
+        None => None,
     }
 }
 
