@@ -1,6 +1,6 @@
 -- Which control lines are stale, and what is told of that.
 use Rattle.std.proofs.Common.{◌≡◌, ◌≢◌, ◌↔◌, ℕ, ◌+◌, ◌-◌, ◌*◌, ◌/◌, ◌<◌, ◌≤◌, Bool, true, false, cond, List, [], ◌∷◌}
-use Rattle.std.proofs.Common.{◌++◌, Option, Some, None, refl, ◌∙◌, ap, sym, subst, arith}
+use Rattle.std.proofs.Common.{◌++◌, get_or, Option, Some, None, refl, ◌∙◌, ap, sym, subst, arith}
 use Rattle.std.specs.Prelude.{nat_le, All, Any, codes}
 use Rattle.std.specs.List.{list_any}
 use Rattle.std.proofs.lemmas.List.Folds.{Any-from_list_any, list_any-from_Any, list_any_none, list_any_at}
@@ -8,7 +8,7 @@ use Rattle.std.proofs.lemmas.Bool.Decides.{nat_tests}
 use Rattle.page.specs.declared.clients.request.Route.TheVariants.{Health}
 use Rattle.page.specs.declared.state.silence.Moment.{Moment}
 use Rattle.page.specs.ControlLine.{Arrived, Line, line_after, line_behind}
-use Rattle.page.specs.Silence.{is_too_long, is_stale}
+use Rattle.page.specs.Silence.{silent, is_too_long, is_stale}
 use Rattle.page.specs.Texts.{stale_texts}
 use Rattle.page.specs.Answers.{Source, Answer, answer_of, given, plain}
 
@@ -68,7 +68,7 @@ well false text = (λ h. refl, λ h. refl)
 no_limit : (moment : Moment) (ls : List Line) → moment.stale ≡ None → list_any (is_stale moment) ls ≡ false
 no_limit moment ls none =
     list_any_none (is_stale moment) ls
-    (λ k d lt. ap (λ o. is_too_long o _) none)
+    (λ k d lt. ap (λ o. is_too_long o (silent moment.now (get_or ls k d))) none)
 
 pub health_exactly : (source : Source) → let status = (answer_of source Health).status in
     ((status ≡ 503) ↔ Any (λ l. is_stale source.moment l ≡ true) source.shown.lines)
