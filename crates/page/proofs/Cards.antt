@@ -152,7 +152,7 @@ goes_first : (is : Bool) (d : Arrived) (ds : List Arrived) (name : List ℕ) (l 
     ≡ Some (line_behind (cond is (d ∷ of_line name ds) (of_line name ds)) l)
 goes_first true d ds name l s is found rest =
     rest (line_after d l) (ap (λ n. find (is_named name) (told_line 128 n d s.lines))
-        (same_name (name_of d.object) name is)
+    (same_name (name_of d.object) name is)
     ∙ told_shown 128 name d l s.lines found)
 goes_first false d ds name l s is found rest =
     rest l (told_other 128 name (name_of d.object) d s.lines is ∙ found)

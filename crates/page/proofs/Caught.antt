@@ -1,10 +1,8 @@
 -- What each is owed waits, whatever is done.
 use Rattle.std.proofs.Common.{◌≡◌, ◌⊎◌, ◌+◌, ℕ, zero, suc, Bool, true, false, List, [], ◌∷◌, ◌++◌, length, take, drop}
-use Rattle.std.proofs.Common.{Option, sym, ap, subst, ◌∙◌, inl, inr, arith, refl}
+use Rattle.std.proofs.Common.{sym, ap, subst, ◌∙◌, inl, inr, arith, refl}
 use Rattle.std.proofs.Common.{if◌then◌else◌}
-use Rattle.std.specs.List.{AllByRecursion}
-use Rattle.page.specs.declared.clients.client.Phase.{Phase}
-use Rattle.page.specs.declared.clients.client.Phase.TheVariants.{Asking, Live, Closing}
+use Rattle.page.specs.declared.clients.client.Phase.TheVariants.{Closing}
 use Rattle.page.specs.declared.guests.connection.Passed.{Passed}
 use Rattle.page.specs.declared.guests.guest.Guest.{Guest}
 use Rattle.page.specs.declared.guests.guest.Deed.{Deed}
@@ -16,9 +14,9 @@ use Rattle.page.specs.State.{State}
 use Rattle.page.specs.Answers.{Source}
 use Rattle.page.specs.ClientView.{standing_of}
 use Rattle.page.specs.Talk.{Talk}
-use Rattle.page.specs.Sending.{Standing, IsLive, SaysAlive, owed}
+use Rattle.page.specs.Sending.{Standing, SaysAlive, owed}
 use Rattle.page.specs.Delivering.{IsCaughtUp}
-use Rattle.page.specs.Visits.{HearsThen, Does, TakesTurn, AllDo, AreCaughtUp}
+use Rattle.page.specs.Visits.{HearsThen, Does, AllDo, AreCaughtUp}
 use Rattle.page.specs.EventPlaces.{GivesEvents, HearsOne}
 use Rattle.page.specs.Places.{HasPlace, ComesIn}
 use Rattle.page.proofs.Visitors.{all_seam, all_join}

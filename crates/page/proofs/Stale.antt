@@ -1,6 +1,6 @@
 -- Which control lines are stale, and what is told of that.
-use Rattle.std.proofs.Common.{◌≡◌, ◌≢◌, ◌↔◌, ℕ, ◌+◌, ◌-◌, ◌*◌, ◌/◌, ◌<◌, ◌≤◌, Bool, true, false, cond, List, [], ◌∷◌}
-use Rattle.std.proofs.Common.{◌++◌, get_or, Option, Some, None, refl, ◌∙◌, ap, sym, subst, arith}
+use Rattle.std.proofs.Common.{◌≡◌, ◌↔◌, ℕ, ◌+◌, ◌-◌, ◌*◌, ◌/◌, ◌<◌, ◌≤◌, Bool, true, false, cond, List, [], ◌∷◌}
+use Rattle.std.proofs.Common.{◌++◌, get_or, Some, None, refl, ◌∙◌, ap, sym, arith}
 use Rattle.std.specs.Prelude.{nat_le, All, Any, codes}
 use Rattle.std.specs.List.{list_any}
 use Rattle.std.proofs.lemmas.List.Folds.{Any-from_list_any, list_any-from_Any, list_any_none, list_any_at}
@@ -10,7 +10,7 @@ use Rattle.page.specs.declared.state.silence.Moment.{Moment}
 use Rattle.page.specs.ControlLine.{Arrived, Line, line_after, line_behind}
 use Rattle.page.specs.Silence.{silent, is_too_long, is_stale}
 use Rattle.page.specs.Texts.{stale_texts}
-use Rattle.page.specs.Answers.{Source, Answer, answer_of, given, plain}
+use Rattle.page.specs.Answers.{Source, answer_of, given, plain}
 
 -- the last object says when
 told_last : (ds : List Arrived) (d : Arrived) (l : Line) → (line_behind (ds ++ d ∷ []) l).told_at ≡ d.came
@@ -53,7 +53,7 @@ none_of p ls h k d lt = not_true _ (λ t. not_both (list_any p ls) (list_any_at 
 status_is : (b : Bool) (text : List ℕ) → ℕ
 status_is b text =
     (cond b (plain 503 (codes "Service Unavailable") text)
-        (given (codes "text/plain; charset=utf-8") (codes "ok\n"))).status
+    (given (codes "text/plain; charset=utf-8") (codes "ok\n"))).status
 
 wrong : (b : Bool) (text : List ℕ) → (status_is b text ≡ 503) ↔ (b ≡ true)
 unfolding status_is

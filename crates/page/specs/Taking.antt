@@ -7,7 +7,6 @@ use Rattle.serde_json.specs.Written.{compact_text, has_float}
 use Rattle.page.specs.declared.state.page.Took.{Took}
 use Rattle.page.specs.declared.state.page.Took.TheVariants.{Ours, Other}
 use Rattle.page.specs.Members.{is_ours}
-use Rattle.page.specs.ControlLine.{Arrived}
 use Rattle.page.specs.State.{State, after, after_other}
 
 -- A line is an object of ours: it is JSON, in UTF-8, that nests no deeper than 127, with our format and a kind.

@@ -10,6 +10,6 @@ returns-in_ok-take-in-Line c =
     let taken = c.in_ok-take-in-Line.field-0 in
     let takes : TakesNext c.args.came i j (Some taken) =
     takes_next c.args.came i j c.cut.new.self c.in_ok-cut.field-0 taken c.in-Line.is c.in_ok-cut.ensures.cuts
-        c.take.ensures.lines
+    c.take.ensures.lines
     c.in_ok-take-in-Line.ensures.takes in
     record { takes = takes; goes_on = goes_on_next c.args.came i j (Some taken) takes; err = tt }
