@@ -1,4 +1,4 @@
-use Rattle.std.proofs.Common.{◌⊎◌, inl, inr, subst}
+use Rattle.std.proofs.Common.{inl, inr, subst}
 use Rattle.page.specs.declared.state.silence.Moment.{Moment}
 use Rattle.page.specs.Intake.{board_of}
 use Rattle.page.specs.Visits.{guests_of}
