@@ -7,7 +7,8 @@ ghost use Rattle.page.specs.Intake.{board_of, IsLoopback, first_number};
 ghost use Rattle.page.specs.Input.{cutting_of, IntakeOf, TakesNext, TakesLast, GoesOn, Ends};
 ghost use Rattle.page_server.specs.Serving.{ReadsAll, Moves, other_line};
 ghost use Rattle.notices.specs.Told.{Says};
-ghost use Rattle.page_server.specs.Guesting.{AllCaughtUp, seconds_since, moment_of, TakesNow, IsServing, IsHeard, Welcomes, Settles};
+ghost use Rattle.page_server.specs.Guesting.{AllCaughtUp, seconds_since, moment_of, TakesNow, IsServing, IsHeard};
+ghost use Rattle.page_server.specs.Guesting.{Welcomes, Settles};
 ghost use Rattle.page.specs.Talk.{IsUnsaid};
 ghost use Rattle.page.specs.Visits.{guests_of, AllDo};
 
@@ -100,6 +101,7 @@ impl<C: Connection> Serving<C> {
         ensures all { IfOk result (λ _. ReadsAll (R.remaining reader.old) (R.remaining reader.new) self.old.intake
             self.new.intake) }
         ensures refused { IfOk result (λ refused. refused ≡ (board_of self.new.intake).refused) }
+        ensures limit { self.new.stale ≡ self.old.stale }
         ensures serving { IsServing C.talk self.new }
         ensures caught_up { AllCaughtUp self.new }
     {
@@ -119,6 +121,7 @@ impl<C: Connection> Serving<C> {
         requires caught_up { AllCaughtUp self.old }
         ensures reads { IfOk result (λ _. ReadsAll (R.remaining reader.old) (R.remaining reader.new) self.old.intake
             self.new.intake) }
+        ensures limit { self.new.stale ≡ self.old.stale }
         ensures serving { IsServing C.talk self.new }
         ensures caught_up { AllCaughtUp self.new }
     {
@@ -148,6 +151,7 @@ impl<C: Connection> Serving<C> {
         requires serving { IsServing C.talk self.old }
         requires caught_up { AllCaughtUp self.old }
         ensures same { self.new.intake ≡ self.old.intake }
+        ensures limit { self.new.stale ≡ self.old.stale }
         ensures serving { IsServing C.talk self.new }
         ensures caught_up { AllCaughtUp self.new }
     {
@@ -169,6 +173,7 @@ impl<C: Connection> Serving<C> {
         requires caught_up { AllCaughtUp self.old }
         ensures hears { IsHeard C.talk C.origin C.numbered C.reads S.reads sockets.old number self.old self.new }
         ensures same { self.new.intake ≡ self.old.intake }
+        ensures limit { self.new.stale ≡ self.old.stale }
         ensures serving { IsServing C.talk self.new }
         ensures caught_up { AllCaughtUp self.new }
     {
@@ -198,6 +203,7 @@ impl<C: Connection> Serving<C> {
         requires serving { IsServing C.talk self.old }
         requires caught_up { AllCaughtUp self.old }
         ensures same { self.new.intake ≡ self.old.intake }
+        ensures limit { self.new.stale ≡ self.old.stale }
         ensures serving { IsServing C.talk self.new }
         ensures caught_up { AllCaughtUp self.new }
     {
@@ -227,6 +233,7 @@ impl<C: Connection> Serving<C> {
         requires unsaid { IsUnsaid (C.talk connection) }
         ensures welcomes { Welcomes C.talk C.origin C.numbered C.reads S.reads connection self.old self.new }
         ensures same { self.new.intake ≡ self.old.intake }
+        ensures limit { self.new.stale ≡ self.old.stale }
         ensures serving { IsServing C.talk self.new }
         ensures caught_up { AllCaughtUp self.new }
     {
@@ -255,6 +262,7 @@ impl<C: Connection> Serving<C> {
         requires caught_up { AllCaughtUp self.old }
         ensures same { self.new.intake ≡ self.old.intake }
         ensures settles { Settles C.talk S.reads sockets.old self.old self.new }
+        ensures limit { self.new.stale ≡ self.old.stale }
         ensures serving { IsServing C.talk self.new }
         ensures caught_up { AllCaughtUp self.new }
     {
@@ -276,6 +284,7 @@ impl<C: Connection> Serving<C> {
         requires serving { IsServing C.talk self.old }
         requires caught_up { AllCaughtUp self.old }
         ensures same { self.new.intake ≡ self.old.intake }
+        ensures limit { self.new.stale ≡ self.old.stale }
         ensures serving { IsServing C.talk self.new }
         ensures caught_up { AllCaughtUp self.new }
     {
@@ -319,6 +328,7 @@ impl<C: Connection> Serving<C> {
         requires caught_up { AllCaughtUp self.old }
         ensures moves { IfOk result (Moves (R.remaining reader.old) (R.remaining reader.new) self.old.intake
             self.new.intake) }
+        ensures limit { self.new.stale ≡ self.old.stale }
         ensures serving { IsServing C.talk self.new }
         ensures caught_up { AllCaughtUp self.new }
     {
@@ -345,6 +355,7 @@ impl<C: Connection> Serving<C> {
         requires caught_up { AllCaughtUp self.old }
         ensures more { IfOk result (λ progress. progress ≡ Progress.More) }
         ensures goes_on { IfOk result (λ _. GoesOn [] self.old.intake self.new.intake) }
+        ensures limit { self.new.stale ≡ self.old.stale }
         ensures serving { IsServing C.talk self.new }
         ensures caught_up { AllCaughtUp self.new }
     {
@@ -369,6 +380,7 @@ impl<C: Connection> Serving<C> {
         ensures taken { IfOk result (λ _. TakesNow TakesNext S.reads sockets.old self.old.intake self.new.intake) }
         ensures heard { IfOk result (λ _. (board_of self.new.intake).shown.messages
             ≡ (board_of self.old.intake).shown.messages → self.new.heard ≡ self.old.heard) }
+        ensures limit { self.new.stale ≡ self.old.stale }
         ensures serving { IsServing C.talk self.new }
         ensures caught_up { AllCaughtUp self.new }
     {
@@ -398,6 +410,7 @@ impl<C: Connection> Serving<C> {
         ensures taken { IfOk result (λ _. TakesNow TakesLast S.reads sockets.old self.old.intake self.new.intake) }
         ensures heard { IfOk result (λ _. (board_of self.new.intake).shown.messages
             ≡ (board_of self.old.intake).shown.messages → self.new.heard ≡ self.old.heard) }
+        ensures limit { self.new.stale ≡ self.old.stale }
         ensures serving { IsServing C.talk self.new }
         ensures caught_up { AllCaughtUp self.new }
     {
@@ -427,6 +440,7 @@ impl<C: Connection> Serving<C> {
         ensures heard { (board_of self.old.intake).shown.messages ≡ before → self.new.heard ≡ self.old.heard }
         ensures event { taken ≡ Taken.Event → AllDo C.talk Deed.CatchUp (board_of self.old.intake).past
             (guests_of self.old.guests) (guests_of self.new.guests) }
+        ensures limit { self.new.stale ≡ self.old.stale }
         ensures serving { IsServing C.talk self.new }
         ensures caught_up { AllCaughtUp self.new }
     {

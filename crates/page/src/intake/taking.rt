@@ -79,8 +79,8 @@ impl Intake {
     }
 
     /// Takes the next line of what was read, once, as one that came then, by the page's clock, in milliseconds, and
-    /// answers what it was; None where no line has ended. Nothing is left of a line that is too long, which is no object
-    /// of ours.
+    /// answers what it was; None where no line has ended. Nothing is left of a line that is too long, which is no
+    /// object of ours.
     ///
     /// Errors: where memory is refused what is shown may have the line in part, and no event came of it.
     pub fn take_next(&mut self, alloc: Global, came: u64) -> Result<Option<Taken>, AllocError>

@@ -51,8 +51,9 @@ impl Page {
         }
     }
 
-    /// Takes a line, with or without its line feed, that came then, by the page's clock, in milliseconds. A line that is
-    /// an object of JSON with our `format` and a `kind` is taken as that; another is counted, and changes nothing else.
+    /// Takes a line, with or without its line feed, that came then, by the page's clock, in milliseconds. A line that
+    /// is an object of JSON with our `format` and a `kind` is taken as that; another is counted, and changes nothing
+    /// else.
     ///
     /// Errors: where memory is refused the line may have been taken in part.
     pub fn take(&mut self, alloc: Global, line: &[u8], came: u64) -> Result<Took, AllocError>
